@@ -1,0 +1,3 @@
+pub mod Scanning
+pub mod Stripping
+pub mod Words

@@ -1,0 +1,81 @@
+-- What the lexer finds behind white space stands in the whole text.
+use Rattle.std.proofs.Common.{◌≡◌, ℕ, ◌+◌, ◌-◌, ◌<◌, ◌≤◌, min, Bool, true, false, List, [], ◌∷◌, ◌++◌, length, take, drop, get_or, sym, refl, ap, ◌∙◌, subst, ⊎_elim, arith, length-take, length-drop}
+use Rattle.std.specs.Prelude.{slice_range}
+use Rattle.std.specs.Char.{is_not_whitespace}
+use Rattle.std.specs.Str.{IsTrimStart, NoCharPasses}
+use Rattle.std.proofs.lemmas.List.{take_min, drop_min, drop-drop}
+use Rattle.std.proofs.lemmas.Str.{byte_from_char}
+use Rattle.std.proofs.lemmas.Bool.{cases_Bool}
+use Rattle.std.proofs.lemmas.Bool.Decides.{nat_tests}
+use Rattle.std.proofs.lemmas.Grind.{common_steps}
+use Rattle.cfgx_syntax.specs.Items.{Item, IsBlank, Stands, IsStuck, StartsNoToken, starts_token}
+use Rattle.cfgx_syntax.specs.Token.{Spells, IsWhole}
+use Rattle.cfgx_syntax.specs.Lexer.{BeginsWith, token_of}
+use Rattle.cfgx_syntax.specs.LexerState.{LexerState}
+use Rattle.cfgx_syntax.specs.declared.lexer.Token.{Token}
+
+-- what begins a token is ASCII
+starts_token-ascii : (c : ℕ) → starts_token c ≡ true → c < 128
+starts_token-ascii c h = grind (arith, nat_tests, common_steps)
+
+-- `rest` is what follows the white space in `inner`, which follows the place in the text
+pub record IsBehind (text inner rest : List ℕ) (place : ℕ) : Type 0 where
+  pub placed : place ≡ length text - length inner
+  pub follows : inner ≡ drop place text
+  pub inside : length inner ≤ length text
+  pub trimmed : IsTrimStart inner rest
+
+module _ (text inner rest : List ℕ) (place : ℕ) (behind : IsBehind text inner rest place) where
+  length_rest : length rest ≡ length inner - behind.trimmed.0
+  length_rest = ap length behind.trimmed.1 ∙ length-drop behind.trimmed.0 inner
+
+  start_is : length text - length rest ≡ place + min behind.trimmed.0 (length inner)
+  start_is = omega (arith, length_rest, behind.placed, behind.inside)
+
+  pub place_le_start : place ≤ length text - length rest
+  place_le_start = omega (arith, start_is)
+
+  pub rest_is : rest ≡ drop (length text - length rest) text
+  rest_is =
+      behind.trimmed.1 ∙ sym (drop_min behind.trimmed.0 inner) ∙ ap (drop (min behind.trimmed.0 (length inner))) behind.follows
+      ∙ drop-drop (min behind.trimmed.0 (length inner)) place text ∙ ap (λ n. drop n text) (sym start_is)
+
+  pub gap_is_blank : IsBlank (slice_range text place (length text - length rest))
+  gap_is_blank =
+      let wide : length text - length rest - place ≡ min behind.trimmed.0 (length inner) = omega (arith, start_is) in
+      let same : take (length text - length rest - place) (drop place text) ≡ take behind.trimmed.0 inner =
+          ap (λ n. take n (drop place text)) wide ∙ ap (take (min behind.trimmed.0 (length inner))) (sym behind.follows) ∙ take_min behind.trimmed.0 inner in
+      subst (NoCharPasses is_not_whitespace) (sym same) behind.trimmed.2
+
+  pub Stands-found : (token : Token) (len : ℕ) → BeginsWith rest token len
+      → Stands text place (record { token = token_of token; start = length text - length rest; end = length text - length rest + len })
+  Stands-found token len begins =
+      let s : ℕ = length text - length rest in
+      let wide : s + len - s ≡ len = omega arith in
+      let bytes : slice_range text s (s + len) ≡ take len rest = ap (λ n. take n (drop s text)) wide ∙ ap (take len) (sym rest_is) in
+      let behind_it : drop (s + len) text ≡ drop len rest = sym (drop-drop len s text) ∙ ap (drop len) (sym rest_is) in
+      record {
+        behind = place_le_start;
+        gap = gap_is_blank;
+        spelled = subst (λ b. Spells b (token_of token)) (sym bytes) begins.spelled;
+        ordered = omega arith;
+        inside = omega (arith, begins.inside, behind.inside, length_rest);
+        whole = subst (IsWhole (token_of token)) (sym behind_it) begins.whole;
+      }
+
+  pub IsStuck-found : 0 < length rest → starts_token (get_or rest 0 0) ≡ false → IsStuck text place (length text - length rest)
+  IsStuck-found some none =
+      let first = behind.trimmed.3.1 some in
+      let other : starts_token first.0 ≡ false =
+          ⊎_elim (λ t. let low = starts_token-ascii first.0 t in
+              let same = byte_from_char rest behind.trimmed.3.0 first.0 first.2 low in
+              ap starts_token (sym same) ∙ none) (λ f. f) (cases_Bool (starts_token first.0)) in
+      record {
+        behind = place_le_start;
+        gap = gap_is_blank;
+        stuck = subst StartsNoToken rest_is (first.0, behind.trimmed.3.0, first.3, first.2, first.1, other);
+      }
+
+-- the state behind what was given
+pub state_at : (text : List ℕ) (n m : ℕ) → n ≡ m → ◌≡◌ {A = LexerState} (record { text = text; place = n }) (record { text = text; place = m })
+state_at text n m e = let f : ℕ → LexerState = λ k. record { text = text; place = k } in ap f e

@@ -1,0 +1,15 @@
+-- How far a `Lexer` has come.
+use Rattle.std.specs.Prelude.{ℕ, List, length}
+
+-- the stripped text, and the place behind the last token that was given: at the end after a refusal or after `None`
+pub record LexerState : Type 0 where
+  pub text : List ℕ
+  pub place : ℕ
+
+-- nothing was given yet
+abbrev pub starting : List ℕ → LexerState
+starting text = record { text = text; place = 0 }
+
+-- nothing is to come
+abbrev pub at_end : LexerState → LexerState
+at_end state = record state { place = length state.text }

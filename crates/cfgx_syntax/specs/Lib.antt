@@ -1,0 +1,5 @@
+pub mod Items
+pub mod Lexer
+pub mod LexerState
+pub mod Text
+pub mod Token

@@ -1,0 +1,58 @@
+-- Tokens, and which bytes spell each: the `ConfigurationPredicate` of the Rust Reference, with the words and punctuation that the crate cfg-expr takes.
+use Rattle.std.specs.Prelude.{◌≡◌, ◌≢◌, ℕ, ◌==◌, ◌||◌, Bool, true, false, List, [], ◌∷◌, codes, IsTrue}
+use Rattle.std.specs.Char.{is_ascii_alphabetic, is_ascii_alphanumeric}
+use Rattle.std.specs.List.{list_all}
+
+pub data Token : Type 0 where
+  key : List ℕ → Token
+  all : Token
+  any : Token
+  not : Token
+  open_paren : Token
+  close_paren : Token
+  comma : Token
+
+-- an ASCII letter or `_`
+abbrev pub starts_word : ℕ → Bool
+starts_word byte = is_ascii_alphabetic byte || byte == 95
+
+-- an ASCII letter, an ASCII digit or `_`
+abbrev pub continues_word : ℕ → Bool
+continues_word byte = is_ascii_alphanumeric byte || byte == 95
+
+-- a letter or `_`, and then letters, digits and `_`
+abbrev pub IsWord : List ℕ → Type 0
+IsWord [] = IsTrue false
+IsWord (first ∷ others) = IsTrue (starts_word first) × IsTrue (list_all continues_word others)
+
+-- a word that names no function
+pub record IsKey (word : List ℕ) : Type 0 where
+  pub spelled : IsWord word
+  pub not_all : word ≢ codes "all"
+  pub not_any : word ≢ codes "any"
+  pub not_not : word ≢ codes "not"
+
+-- the bytes spell the token
+abbrev pub Spells : List ℕ → Token → Type 0
+Spells bytes (Token.key word) = (bytes ≡ word) × IsKey word
+Spells bytes Token.all = bytes ≡ codes "all"
+Spells bytes Token.any = bytes ≡ codes "any"
+Spells bytes Token.not = bytes ≡ codes "not"
+Spells bytes Token.open_paren = bytes ≡ codes "("
+Spells bytes Token.close_paren = bytes ≡ codes ")"
+Spells bytes Token.comma = bytes ≡ codes ","
+
+-- the rest of a text does not go on with a word
+abbrev pub EndsWord : List ℕ → Type 0
+EndsWord [] = IsTrue true
+EndsWord (byte ∷ _) = continues_word byte ≡ false
+
+-- the token is whole in front of the rest of its text: a word runs as far as it can
+abbrev pub IsWhole : Token → List ℕ → Type 0
+IsWhole (Token.key _) rest = EndsWord rest
+IsWhole Token.all rest = EndsWord rest
+IsWhole Token.any rest = EndsWord rest
+IsWhole Token.not rest = EndsWord rest
+IsWhole Token.open_paren rest = IsTrue true
+IsWhole Token.close_paren rest = IsTrue true
+IsWhole Token.comma rest = IsTrue true

@@ -1,0 +1,205 @@
+//! Tokens of a `cfg()` text with the bytes that spell them.
+ghost use Rattle.std.specs.Prelude.{◌≡◌, ◌-◌, ◌≤◌, ◌<◌, true, length, take, drop, IsTrue, slice_index};
+ghost use Rattle.std.specs.List.{prefix_len};
+ghost use Rattle.std.specs.Str.{IsAscii};
+ghost use Rattle.cfgx_syntax.specs.Lexer.{token_of, BeginsAs};
+ghost use Rattle.cfgx_syntax.specs.LexerState.{starting};
+ghost use Rattle.cfgx_syntax.specs.Text.{strip};
+ghost use Rattle.cfgx_syntax.specs.Token.{starts_word, continues_word, IsWord, Spells, EndsWord};
+
+use crate::error::{Failure, ParseError, Reason};
+use std::alloc::{AllocError, Allocator, Global};
+use std::marker::Model;
+use std::ops::Range;
+
+/// A single token of a `cfg()` expression.
+#[derive(Clone, Copy, Debug)]
+pub enum Token<'a> {
+    /// A word that names no function
+    Key(&'a str),
+    /// `all`
+    All,
+    /// `any`
+    Any,
+    /// `not`
+    Not,
+    /// `(`
+    OpenParen,
+    /// `)`
+    CloseParen,
+    /// `,`
+    Comma,
+}
+
+/// A token, and the bytes of the stripped text that spell it.
+#[derive(Clone, Debug, Drop)]
+pub struct LexerToken<'a> {
+    /// The token
+    pub token: Token<'a>,
+    /// Where it stands, in bytes of the stripped text
+    pub span: Range<usize>,
+}
+
+/// What lies between the outer `cfg(` and `)` of the text, where it has both, and otherwise the text.
+pub fn strip(text: &str) -> &str
+    ensures { result.now ≡ strip text.now }
+{
+    let Some(inner) = text.strip_prefix("cfg(") else {
+        return text;
+    };
+    match inner.strip_suffix(')') {
+        Some(kept) => kept,
+        None => text,
+    }
+}
+
+/// Whether the byte may stand first in a word: an ASCII letter or `_`.
+fn starts_word(byte: u8) -> bool
+    ensures { result ≡ starts_word byte }
+{
+    byte.is_ascii_alphabetic() || byte == b'_'
+}
+
+/// Whether the byte may stand in a word: an ASCII letter, an ASCII digit or `_`.
+fn continues_word(byte: u8) -> bool
+    ensures { result ≡ continues_word byte }
+{
+    byte.is_ascii_alphanumeric() || byte == b'_'
+}
+
+/// How many bytes in front of the text may stand in a word.
+fn word_len(text: &str) -> usize
+    ensures { result ≡ prefix_len continues_word text.now }
+{
+    text.as_bytes()
+        .iter()
+        .take_while(|byte| continues_word(**byte))
+        .count()
+}
+
+/// The token that a word spells.
+fn word_token(word: &str) -> Token<'_>
+    requires { IsWord word.now }
+    ensures { Spells word.now (token_of result) }
+{
+    match word {
+        "all" => Token::All,
+        "any" => Token::Any,
+        "not" => Token::Not,
+        key => Token::Key(key),
+    }
+}
+
+/// The token that the text begins with, and how many bytes spell it; `None` where no token can start.
+fn first_token(text: &str) -> Option<(Token<'_>, usize)>
+    requires { 0 < length text.now }
+    ensures { BeginsAs text.now result }
+{
+    let first = text.as_bytes()[0];
+    match first {
+        b'(' => Some((Token::OpenParen, 1)),
+        b')' => Some((Token::CloseParen, 1)),
+        b',' => Some((Token::Comma, 1)),
+        _ if starts_word(first) => {
+            let len = word_len(text);
+            Some((word_token(&text[..len]), len))
+        }
+        _ => None,
+    }
+}
+
+/// Tokens of a text, from left to right.
+///
+/// After a refusal, and after `None`, every further item is `None`.
+#[derive(Drop)]
+pub struct Lexer<'a, A: Allocator = Global> {
+    original: &'a str,
+    /// What follows the last token
+    inner: &'a str,
+    /// What a fault's copy of the text is made with: none after a refusal
+    alloc: Option<A>,
+}
+
+impl<'a, A: Allocator> Model for Lexer<'a, A> {
+    ghost use Rattle.std.specs.Prelude.{◌≡◌, ◌-◌, ◌≤◌, length, drop};
+    ghost use Rattle.std.specs.Option.{ForNone};
+    ghost use Rattle.cfgx_syntax.specs.LexerState.{LexerState};
+
+    ghost Value = { LexerState };
+
+    ghost view = { λ l. record { text = l.original.now; place = length l.original.now - length l.inner.now } };
+
+    ghost invariant = { λ l. (l.inner.now ≡ drop (length l.original.now - length l.inner.now) l.original.now) × (length l.inner.now ≤ length l.original.now) × ForNone l.alloc (length l.inner.now ≡ 0) };
+}
+
+impl<'a, A: Allocator> Lexer<'a, A> {
+    /// A lexer of what `strip` keeps of the text. It takes no memory.
+    pub fn new(alloc: A, text: &'a str) -> Self
+        ensures { result ≡ starting (strip text.now) }
+    {
+        let original = strip(text);
+        Lexer {
+            original,
+            inner: original,
+            alloc: Some(alloc),
+        }
+    }
+
+    /// The number of bytes behind the last token that was given: it falls with each item, and is 0 once nothing is to come.
+    pub fn items_left_bound(&self) -> usize
+        ensures { result ≡ length self.now.text - self.now.place }
+    {
+        self.inner.len()
+    }
+}
+
+/// The fault of a place where no token can start, or want of memory for its copy of the text.
+fn stuck<A: Allocator>(alloc: A, original: &str, place: usize) -> Failure<A>
+    requires { place < length original.now }
+{
+    match String::from_str(alloc, original) {
+        Ok(original) => Failure::Parse(ParseError {
+            original,
+            span: place..place + 1,
+            reason: Reason::Unexpected(&["<key>", "all", "any", "not"]),
+        }),
+        Err(error) => Failure::Memory(error),
+    }
+}
+
+impl<'a, A: Allocator> Iterator for Lexer<'a, A> {
+    type Item = Result<LexerToken<'a>, Failure<A>>;
+
+    ghost use Rattle.std.specs.Prelude.{◌-◌, length};
+    ghost use Rattle.std.specs.Iterator.{at_most};
+    ghost use Rattle.cfgx_syntax.specs.Lexer.{GivesNext};
+
+    ghost next_gives = { GivesNext };
+
+    ghost remaining = { λ l. at_most (length l.text - l.place) };
+
+    fn next(&mut self) -> Option<Self::Item> {
+        let rest = self.inner.trim_start();
+        self.inner = rest;
+        if rest.is_empty() {
+            return None;
+        }
+        let start = self.original.len() - rest.len();
+        match first_token(rest) {
+            Some((token, len)) => {
+                self.inner = &rest[len..];
+                Some(Ok(LexerToken {
+                    token,
+                    span: start..start + len,
+                }))
+            }
+            None => {
+                self.inner = "";
+                let Some(alloc) = self.alloc.take() else {
+                    unreachable!()
+                };
+                Some(Err(stuck(alloc, self.original, start)))
+            }
+        }
+    }
+}
