@@ -1,0 +1,4 @@
+//! A parser and evaluator of Rust `cfg()` expressions.
+#![tactic(auto)]
+
+pub mod expr;
