@@ -1,2 +1,4 @@
 pub mod Lists
 pub mod MachineReads
+pub mod NodeFacts
+pub mod Stacks

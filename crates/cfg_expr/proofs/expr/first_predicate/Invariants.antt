@@ -1,0 +1,13 @@
+-- What was passed over asks nothing.
+use Rattle.std.proofs.Common.{◌≡◌, ℕ, List, length}
+use Rattle.std.specs.List.{AllByRecursion}
+use Rattle.cfg_expr.specs.Nodes.{questions}
+use Rattle.cfg_expr.specs.Expression.{nodes_at, NodeHasCut}
+use Rattle.cfg_expr.proofs.NodeFacts.{SameQuestions}
+use Rattle.cfg_expr.proofs.expr.first_predicate.Given as goal
+
+abbrev pub invariant-loop-node : goal.invariant-loop-node
+invariant-loop-node l = SameQuestions l.nodes l.rest
+
+abbrev pub decreases-loop-node : goal.decreases-loop-node
+decreases-loop-node l = length l.rest

@@ -1,0 +1,9 @@
+use Rattle.std.proofs.Common.{refl}
+use Rattle.cfg_expr.specs.Parsing.{AddsFunction}
+use Rattle.cfg_expr.proofs.Stacks.{ChangesTop-last}
+use Rattle.cfg_expr.proofs.expr.parser.count_function.Goals as goal
+
+pub returns : goal.returns
+returns g c =
+    ChangesTop-last AddsFunction c.args.stack.now.items c.deref_mut.result.now c.in-Some.top.now _ c.deref_mut.ensures.value c.requires.some c.in-Some.ensures.item.1
+    (record { func = refl; functions = refl; predicates = refl })

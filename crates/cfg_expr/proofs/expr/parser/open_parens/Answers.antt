@@ -1,0 +1,9 @@
+use Rattle.std.proofs.Common.{refl}
+use Rattle.cfg_expr.specs.Parsing.{OpensParens}
+use Rattle.cfg_expr.proofs.Stacks.{ChangesTop-last}
+use Rattle.cfg_expr.proofs.expr.parser.open_parens.Goals as goal
+
+pub returns : goal.returns
+returns g c =
+    ChangesTop-last OpensParens c.args.stack.now.items c.deref_mut.result.now c.in-Some.top.now _ c.deref_mut.ensures.value c.requires c.in-Some.ensures.item.1
+    (record { func = refl; functions = refl; predicates = refl })
