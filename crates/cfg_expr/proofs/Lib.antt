@@ -2,3 +2,5 @@ pub mod Lists
 pub mod MachineReads
 pub mod NodeFacts
 pub mod Stacks
+pub mod Sizes
+pub mod Holding

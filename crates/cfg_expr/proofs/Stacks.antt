@@ -1,6 +1,8 @@
 -- A change of the innermost open function.
-use Rattle.std.proofs.Common.{◌≡◌, ℕ, suc, ◌+◌, ◌-◌, ◌<◌, ◌≤◌, List, [], ◌∷◌, ◌++◌, length, take, drop, get_or, sym, refl, ap, ◌∙◌, subst, arith, length-append}
-use Rattle.std.specs.Prelude.{slice_set}
+use borrow.Author.Tests.{true-eqb}
+use Rattle.std.proofs.lemmas.Bool.{false≢true}
+use Rattle.std.proofs.Common.{◌≡◌, Bool, true, false, ℕ, zero, suc, ◌+◌, ◌-◌, ◌<◌, ◌≤◌, List, [], ◌∷◌, ◌++◌, length, take, drop, get_or, sym, refl, ap, ◌∙◌, subst, arith, length-append}
+use Rattle.std.specs.Prelude.{slice_set, ◌==◌}
 use Rattle.std.specs.List.{refill}
 use Rattle.std.proofs.lemmas.List.{take_all, take_more, set_split, drop_all, length-set, take_at, length-take-le}
 use Rattle.cfg_expr.specs.Parsing.{ChangesTop}
@@ -31,3 +33,18 @@ ChangesTop-last R items ws top changed same some is holds =
     let was : ws ≡ front ++ top ∷ [] = last_split ws top long ∙ ap (λ x. front ++ x ∷ []) (sym is) in
     let lengths : length (slice_set ws (length ws - 1) changed) ≡ length items = length-set ws (length ws - 1) changed ∙ ap length same in
     (front, top, changed, sym same ∙ was, refill_same items (slice_set ws (length ws - 1) changed) lengths ∙ set_last ws changed long, holds)
+
+-- the last element, as the code reads it
+pub last_is : {A : Type 0} (items ws : List A) (top : A) → ws ≡ items → 0 < length items → top ≡ get_or ws (length ws - 1) top
+    → items ≡ take (length ws - 1) ws ++ top ∷ []
+last_is items ws top same some is =
+    let long : 0 < length ws = subst (λ l. 0 < length l) (sym same) some in
+    sym same ∙ last_split ws top long ∙ ap (λ x. take (length ws - 1) ws ++ x ∷ []) (sym is)
+
+-- what `is_empty` says of a length
+pub none_left : (n : ℕ) (b : Bool) → b ≡ (n == 0) → b ≡ true → n ≡ 0
+none_left n b is holds = true-eqb n 0 (sym holds ∙ is)
+
+pub some_left : (n : ℕ) (b : Bool) → b ≡ (n == 0) → b ≡ false → 0 < n
+some_left zero b is fails = absurd (false≢true (sym fails ∙ is))
+some_left (suc n) b is fails = omega arith

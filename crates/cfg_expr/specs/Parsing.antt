@@ -1,5 +1,5 @@
 -- What the parser's fields say of the machine that it computes. Internal.
-use Rattle.std.specs.Prelude.{◌≡◌, ℕ, suc, ◌+◌, ◌<◌, ◌^◌, Bool, List, [], ◌∷◌, ◌++◌, length, map, reverse, slice_range, Option, Some, None, option_map, IsSomeAnd, if◌then◌else◌}
+use Rattle.std.specs.Prelude.{◌≡◌, ◌⊎◌, ◌==◌, ℕ, suc, ◌+◌, ◌<◌, ◌^◌, Bool, List, [], ◌∷◌, ◌++◌, length, map, reverse, slice_range, Option, Some, None, option_map, IsSomeAnd, if◌then◌else◌}
 use Rattle.std.specs.List.{AllByRecursion, AllZip, flat_map}
 use Rattle.cfgx_syntax.specs.Items.{Item, Ending, AreItems, ItemsFrom}
 use Rattle.cfgx_syntax.specs.Token as spelled
@@ -114,3 +114,27 @@ pub record OpensParens {A : Type 0} (top changed : FuncAndSpan A) : Type 0 where
   pub func : changed.func ≡ top.func
   pub functions : changed.nest_level ≡ top.nest_level
   pub predicates : changed.predicates.items ≡ top.predicates.items
+
+-- one more function can be counted among the members of the last
+abbrev pub TopHasRoom : {A : Type 0} → List (FuncAndSpan A) → Type 0
+TopHasRoom {A} functions = (front : List (FuncAndSpan A)) (top : FuncAndSpan A) → functions ≡ front ++ top ∷ [] → top.nest_level + 1 < 2 ^ 64
+
+-- a function with so many members
+abbrev pub counted : Func → ℕ → Option Func
+counted func.Not n = if n == 1 then Some func.Not else None
+counted (func.All dummy) n = Some (func.All n)
+counted (func.Any dummy) n = Some (func.Any n)
+
+-- one more member can be counted
+pub record HasRoom {A : Type 0} (parser : Parser A) : Type 0 where
+  pub root : parser.root_count + 1 < 2 ^ 64
+  pub top : TopHasRoom {A = A} parser.func_stack.items
+
+-- one more function is counted in the innermost list
+pub record CountsMember {A : Type 0} (old new : Parser A) : Type 0 where
+  pub original : new.original ≡ old.original
+  pub expr_queue : new.expr_queue ≡ old.expr_queue
+  pub last_token : new.last_token ≡ old.last_token
+  pub pred_key : new.pred_key ≡ old.pred_key
+  pub member : ((old.func_stack.items ≡ []) × (new.func_stack.items ≡ []) × (new.root_count ≡ old.root_count + 1))
+      ⊎ (ChangesTop {A = A} AddsFunction old.func_stack.items new.func_stack.items × (new.root_count ≡ old.root_count))

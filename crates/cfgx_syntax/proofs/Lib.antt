@@ -1,3 +1,4 @@
+pub mod ErrorLemmas
 pub mod Scanning
 pub mod Stripping
 pub mod Words

@@ -1,11 +1,13 @@
 -- What a `Lexer` gives.
-use Rattle.std.specs.Prelude.{◌≡◌, ℕ, ◌<◌, ◌≤◌, false, List, length, take, drop, Option, Some, None, Result, Ok, Err, MatchOption, slice_index}
+use Rattle.std.specs.Prelude.{◌≡◌, ℕ, ◌+◌, ◌<◌, ◌≤◌, false, List, [], ◌∷◌, codes, length, take, drop, Option, Some, None, Result, Ok, Err, MatchOption, slice_index}
 use Rattle.std.specs.Str.{IsCharBoundary}
 use Rattle.cfgx_syntax.specs.Token as spelled
 use Rattle.cfgx_syntax.specs.Token.{Spells, IsWhole}
 use Rattle.cfgx_syntax.specs.Items.{Item, IsBlank, Stands, IsStuck, starts_token}
 use Rattle.cfgx_syntax.specs.LexerState.{LexerState, at_end}
+use Rattle.cfgx_syntax.specs.Error.{Fault, unexpected, fault_of}
 use Rattle.cfgx_syntax.specs.declared.error.Failure.{Failure}
+use Rattle.cfgx_syntax.specs.declared.error.Failure.TheVariants as failure
 use Rattle.cfgx_syntax.specs.declared.lexer.Token.{Token}
 use Rattle.cfgx_syntax.specs.declared.lexer.Token.TheVariants as given
 use Rattle.cfgx_syntax.specs.declared.lexer.LexerToken.{LexerToken}
@@ -23,11 +25,25 @@ token_of given.Comma = spelled.Token.comma
 abbrev pub item_of : LexerToken → Item
 item_of t = record { token = token_of t.token; start = t.span.start; end = t.span.end }
 
--- One call of `next`: the first of the items to come, and then the others are to come; `None` where white space alone is left; a refusal where no token can start, and then nothing is to come.
+-- the fault of a place where no token can start
+abbrev pub stuck_at : List ℕ → ℕ → Fault
+stuck_at text place = record {
+    original = text;
+    start = place;
+    end = place + 1;
+    cause = unexpected (codes "<key>" ∷ codes "all" ∷ codes "any" ∷ codes "not" ∷ []);
+  }
+
+-- the failure is this fault, or want of memory for its copy of the text
+abbrev pub FailsWith : {A : Type 0} → Fault → Failure A → Type 0
+FailsWith fault (failure.Parse error) = fault_of error ≡ fault
+FailsWith fault (failure.Memory error) = Unit {0}
+
+-- One call of `next`: the first of the items to come, and then the others are to come; `None` where white space alone is left; a refusal where no token can start, with that fault, and then nothing is to come.
 abbrev pub GivesNext : {A : Type 0} → LexerState → Option (Result LexerToken (Failure A)) → LexerState → Type 0
 GivesNext old None new = IsBlank (drop old.place old.text) × (new ≡ at_end old)
 GivesNext old (Some (Ok found)) new = Stands old.text old.place (item_of found) × (new ≡ record old { place = found.span.end })
-GivesNext old (Some (Err failure)) new = ((place : ℕ) × IsStuck old.text old.place place) × (new ≡ at_end old)
+GivesNext old (Some (Err failure)) new = ((place : ℕ) × IsStuck old.text old.place place × FailsWith (stuck_at old.text place) failure) × (new ≡ at_end old)
 
 -- the rest of a text begins with this token, which takes so many bytes
 pub record BeginsWith (rest : List ℕ) (token : Token) (len : ℕ) : Type 0 where

@@ -1,3 +1,4 @@
+pub mod Error
 pub mod Items
 pub mod Lexer
 pub mod LexerState

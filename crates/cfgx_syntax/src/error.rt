@@ -1,31 +1,214 @@
-use std::alloc::{AllocError, Allocator, Global};
+//! What is wrong with a cfg text, where, and how it prints.
+
+ghost use Rattle.std.specs.Prelude.{◌≡◌, ◌-◌, ◌<◌, ◌∷◌, ◌++◌, [], Some, codes, map, replicate};
+ghost use Rattle.std.specs.Fmt.{DisplaysOnOk};
+ghost use Rattle.cfgx_syntax.specs.Error.{cause_of, marks, more_terms_text, unexpected_text};
+
+use std::alloc::{AllocError, AllocFailed, Allocator, Global};
+use std::fmt;
 use std::ops::Range;
 
-#[derive(Debug, Drop)]
+mod laws;
+#[cfg(test)]
+mod tests;
+
+/// Why a text is refused.
+#[derive(Clone, Copy, Debug, PartialEq, Eq)]
 pub enum Reason {
+    /// `not` has this many predicates, which is not one.
     InvalidNot(usize),
+    /// Characters that no expression has. No call of this crate answers it.
+    InvalidCharacters,
+    /// A parenthesis is never closed.
     UnclosedParens,
+    /// A parenthesis is closed that was never opened.
     UnopenedParens,
+    /// A quote is never closed.
+    UnclosedQuotes,
+    /// A quote is closed that was never opened. No call of this crate answers it.
+    UnopenedQuotes,
+    /// There is no predicate and no function.
     Empty,
+    /// A term that may not stand here, with the terms that may; none where nothing may.
     Unexpected(&'static [&'static str]),
+    /// A number is not one, or is out of its range.
+    InvalidInteger,
+    /// More than one predicate or function stands at the root.
     MultipleRootPredicates,
+    /// The width of an atomic is neither an integer nor `ptr`.
+    InvalidHasAtomic,
+    /// A built-in name that is not known. No call of this crate answers it.
+    UnknownBuiltin,
 }
 
+/// Why a text was refused, and where in it.
 #[derive(Drop)]
+#[derive_where(Debug, PartialEq, Eq)]
 pub struct ParseError<A: Allocator = Global> {
+    /// The text, without an outer `cfg( )`.
     pub original: String<A>,
+    /// The bytes of `original` that are at fault.
     pub span: Range<usize>,
+    /// What is wrong there.
     pub reason: Reason,
 }
 
+/// The two ways in which a text may be refused.
 #[derive(Drop)]
+#[derive_where(Debug, PartialEq, Eq)]
 pub enum Failure<A: Allocator = Global> {
+    /// The text is faulty.
     Parse(ParseError<A>),
+    /// Memory ran out. Nothing is said of the text.
     Memory(AllocError),
 }
 
+impl<A: Allocator> From<ParseError<A>> for Failure<A> {
+    ghost use Rattle.cfgx_syntax.specs.declared.error.Failure.TheVariants.{Parse};
+
+    ghost from_gives = { λ error failure. failure ≡ Parse error };
+
+    fn from(error: ParseError<A>) -> Failure<A> {
+        Failure::Parse(error)
+    }
+}
+
 impl<A: Allocator> From<AllocError> for Failure<A> {
-    fn from(error: AllocError) -> Self {
+    ghost use Rattle.cfgx_syntax.specs.declared.error.Failure.TheVariants.{Memory};
+
+    ghost from_gives = { λ error failure. failure ≡ Memory error };
+
+    fn from(error: AllocError) -> Failure<A> {
         Failure::Memory(error)
     }
+}
+
+impl<T: Drop, A: Allocator> From<AllocFailed<T>> for Failure<A> {
+    ghost use Rattle.std.specs.Prelude.{alloc_error};
+    ghost use Rattle.cfgx_syntax.specs.declared.error.Failure.TheVariants.{Memory};
+
+    ghost from_gives = { λ _ failure. failure ≡ Memory alloc_error };
+
+    fn from(_error: AllocFailed<T>) -> Failure<A> {
+        Failure::Memory(AllocError)
+    }
+}
+
+impl fmt::Display for Reason {
+    ghost use Rattle.cfgx_syntax.specs.Error.{cause_of, reason_text};
+
+    ghost output = { λ reason. Some (reason_text (cause_of reason)) };
+
+    fn fmt<W: fmt::Write>(&self, f: &mut fmt::Formatter<W>) -> fmt::Result {
+        match self {
+            Reason::InvalidNot(found) => write!(f, "not() takes 1 predicate, found {found}"),
+            Reason::InvalidCharacters => f.write_str("invalid character(s)"),
+            Reason::UnclosedParens => f.write_str("unclosed parens"),
+            Reason::UnopenedParens => f.write_str("unopened parens"),
+            Reason::UnclosedQuotes => f.write_str("unclosed quotes"),
+            Reason::UnopenedQuotes => f.write_str("unopened quotes"),
+            Reason::Empty => f.write_str("empty expression"),
+            Reason::Unexpected(terms) => write_unexpected(f, terms),
+            Reason::InvalidInteger => f.write_str("invalid integer"),
+            Reason::MultipleRootPredicates => f.write_str("multiple root predicates"),
+            Reason::InvalidHasAtomic => f.write_str("expected integer or \"ptr\""),
+            Reason::UnknownBuiltin => f.write_str("unknown built-in"),
+        }
+    }
+}
+
+// Which terms may stand where another one did.
+fn write_unexpected<W: fmt::Write>(f: &mut fmt::Formatter<W>, terms: &[&str]) -> fmt::Result
+    ensures { DisplaysOnOk W.write_str_gives f.old result
+        (Some (unexpected_text (map (λ t. t.now) terms.now))) f.new }
+{
+    let Some((first, others)) = terms.split_first() else {
+        return f.write_str("the term was not expected here");
+    };
+    let Some((second, others)) = others.split_first() else {
+        return write!(f, "expected a `{first}` here");
+    };
+    write!(f, "expected one of `{first}`, `{second}`")?;
+    write_more_terms(f, others)?;
+    f.write_str(" here")
+}
+
+// Each of the terms between back quotes, behind a comma.
+fn write_more_terms<W: fmt::Write>(f: &mut fmt::Formatter<W>, terms: &[&str]) -> fmt::Result
+    ensures { DisplaysOnOk W.write_str_gives f.old result
+        (Some (more_terms_text (map (λ t. t.now) terms.now))) f.new }
+{
+    for term in terms {
+        write!(f, ", `{term}`")?;
+    }
+    Ok(())
+}
+
+impl<A: Allocator> ParseError<A> {
+    ghost use Rattle.cfgx_syntax.specs.Error.{cause_of, description_of};
+
+    /// What is wrong, in a few words: the reason's text without its number and its terms.
+    pub fn description(&self) -> &'static str
+        ensures { result.now ≡ description_of (cause_of self.now.reason) }
+    {
+        match self.reason {
+            Reason::InvalidNot(_) => "not() takes 1 predicate",
+            Reason::InvalidCharacters => "invalid character(s)",
+            Reason::UnclosedParens => "unclosed parens",
+            Reason::UnopenedParens => "unopened parens",
+            Reason::UnclosedQuotes => "unclosed quotes",
+            Reason::UnopenedQuotes => "unopened quotes",
+            Reason::Empty => "empty expression",
+            Reason::Unexpected(_) => "unexpected term",
+            Reason::InvalidInteger => "invalid integer",
+            Reason::MultipleRootPredicates => "multiple root predicates",
+            Reason::InvalidHasAtomic => "expected integer or \"ptr\"",
+            Reason::UnknownBuiltin => "unknown built-in",
+        }
+    }
+}
+
+impl<A: Allocator> fmt::Display for ParseError<A> {
+    ghost use Rattle.cfgx_syntax.specs.Error.{fault_of, error_text};
+
+    ghost output = { λ error. Some (error_text (fault_of error)) };
+
+    fn fmt<W: fmt::Write>(&self, f: &mut fmt::Formatter<W>) -> fmt::Result {
+        f.write_str(self.original.as_str())?;
+        f.write_str("\n")?;
+        write_times(f, ' ', self.span.start)?;
+        write_marks(
+            f,
+            self.span.end.saturating_sub(self.span.start),
+            self.reason,
+        )?;
+        f.write_str(" ")?;
+        f.write(self.reason)
+    }
+}
+
+// The marks below a span of that many bytes.
+fn write_marks<W: fmt::Write>(
+    f: &mut fmt::Formatter<W>,
+    width: usize,
+    reason: Reason,
+) -> fmt::Result
+    ensures { DisplaysOnOk W.write_str_gives f.old result (Some (marks width (cause_of reason))) f.new }
+{
+    match reason {
+        Reason::UnclosedParens | Reason::UnclosedQuotes => f.write_str("-"),
+        Reason::UnopenedParens | Reason::UnopenedQuotes => f.write_str("^"),
+        _ => write_times(f, '^', width),
+    }
+}
+
+// An ASCII character, that many times.
+fn write_times<W: fmt::Write>(f: &mut fmt::Formatter<W>, mark: char, times: usize) -> fmt::Result
+    requires { mark < 128 }
+    ensures { DisplaysOnOk W.write_str_gives f.old result (Some (replicate times mark)) f.new }
+{
+    for _time in 0..times {
+        f.write_char(mark)?;
+    }
+    Ok(())
 }

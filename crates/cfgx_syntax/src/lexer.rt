@@ -2,18 +2,19 @@
 ghost use Rattle.std.specs.Prelude.{◌≡◌, ◌-◌, ◌≤◌, ◌<◌, true, length, take, drop, IsTrue, slice_index};
 ghost use Rattle.std.specs.List.{prefix_len};
 ghost use Rattle.std.specs.Str.{IsAscii};
-ghost use Rattle.cfgx_syntax.specs.Lexer.{token_of, BeginsAs};
+ghost use Rattle.cfgx_syntax.specs.Lexer.{token_of, BeginsAs, FailsWith, stuck_at};
 ghost use Rattle.cfgx_syntax.specs.LexerState.{starting};
 ghost use Rattle.cfgx_syntax.specs.Text.{strip};
 ghost use Rattle.cfgx_syntax.specs.Token.{starts_word, continues_word, IsWord, Spells, EndsWord};
 
 use crate::error::{Failure, ParseError, Reason};
-use std::alloc::{AllocError, Allocator, Global};
+use std::alloc::{Allocator, Global};
+use std::fmt;
 use std::marker::Model;
 use std::ops::Range;
 
 /// A single token of a `cfg()` expression.
-#[derive(Clone, Copy, Debug)]
+#[derive(Clone, Copy, Debug, PartialEq, Eq)]
 pub enum Token<'a> {
     /// A word that names no function
     Key(&'a str),
@@ -29,6 +30,13 @@ pub enum Token<'a> {
     CloseParen,
     /// `,`
     Comma,
+}
+
+/// Prints what `Debug` prints.
+impl fmt::Display for Token<'_> {
+    fn fmt<W: fmt::Write>(&self, f: &mut fmt::Formatter<W>) -> fmt::Result {
+        fmt::Debug::fmt(self, f)
+    }
 }
 
 /// A token, and the bytes of the stripped text that spell it.
@@ -153,9 +161,10 @@ impl<'a, A: Allocator> Lexer<'a, A> {
     }
 }
 
-/// The fault of a place where no token can start, or want of memory for its copy of the text.
+/// The fault of a place where no token can start: one byte, also where a longer character stands there. Its copy of the text can meet want of memory.
 fn stuck<A: Allocator>(alloc: A, original: &str, place: usize) -> Failure<A>
     requires { place < length original.now }
+    ensures { FailsWith (stuck_at original.now place) result }
 {
     match String::from_str(alloc, original) {
         Ok(original) => Failure::Parse(ParseError {

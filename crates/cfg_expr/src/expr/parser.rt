@@ -1,8 +1,8 @@
 //! From a text to the nodes of its tree, in one pass.
-ghost use Rattle.std.specs.Prelude.{◌≡◌, ◌++◌, ◌∷◌, [], ◌<◌, ◌^◌, true, length, map, IsTrue, OnOk, IfOk, IsSomeAnd, Option, option_map, All, ◌+◌};
-ghost use Rattle.cfg_expr.specs.Parsing.{ChangesTop, AddsLeaf, AddsFunction, OpensParens};
+ghost use Rattle.std.specs.Prelude.{◌≡◌, ◌++◌, ◌∷◌, [], ◌<◌, ◌^◌, true, length, map, IsTrue, OnOk, IfOk, IsSomeAnd, Option, option_map, None, ℕ, List};
+ghost use Rattle.cfg_expr.specs.Parsing.{ChangesTop, AddsLeaf, AddsFunction, OpensParens, TopHasRoom, kind_of, counted};
 ghost use Rattle.cfgx_syntax.specs.Lexer.{token_of};
-ghost use Rattle.cfg_expr.specs.Machine.{follows, takes_item, takes_open, takes_comma, takes_close};
+ghost use Rattle.cfg_expr.specs.Machine.{Machine, follows, settle, opened, close_of, step};
 
 use super::lexer::{Lexer, LexerToken, Token};
 use super::{ExprNode, Expression, Func, InnerPredicate, Span};
@@ -16,8 +16,8 @@ use std::default::MadeWith;
 #[derive(Drop)]
 struct FuncAndSpan<A: Memory> {
     func: Func,
-    /// Where its `(` stands, once that was read
-    parens_index: Option<usize>,
+    /// Where its `(` stands: 0, where none can, until that was read
+    parens_index: usize,
     /// Where its name stands
     span: Span,
     /// The predicates among its members, which go behind its member functions
@@ -30,7 +30,7 @@ impl<A: Memory> MadeWith<A> for FuncAndSpan<A> {
     fn made_with(alloc: A) -> Self {
         FuncAndSpan {
             func: Func::Not,
-            parens_index: None,
+            parens_index: 0,
             span: 0..0,
             predicates: SmallVec::new(alloc),
             nest_level: 0,
@@ -100,7 +100,7 @@ fn add_leaf<A: Memory>(
 /// Counts one more function among the members of the innermost open function.
 fn count_function<A: Memory>(stack: &mut SmallVec<FuncAndSpan<A>, 5, A>)
     requires some { 0 < length stack.old.items }
-    requires room { All (λ open_function. open_function.nest_level + 1 < 2 ^ 64) stack.old.items }
+    requires room { TopHasRoom stack.old.items }
     ensures { ChangesTop AddsFunction stack.old.items stack.new.items }
 {
     let Some(top) = stack.last_mut() else {
@@ -117,7 +117,19 @@ fn open_parens<A: Memory>(stack: &mut SmallVec<FuncAndSpan<A>, 5, A>, index: usi
     let Some(top) = stack.last_mut() else {
         unreachable!()
     };
-    top.parens_index = Some(index);
+    top.parens_index = index;
+}
+
+/// The function with its number of members, which for `not` is one.
+fn counted(func: Func, members: usize) -> Option<Func>
+    ensures { result ≡ counted func members }
+{
+    match func {
+        Func::All(_) => Some(Func::All(members)),
+        Func::Any(_) => Some(Func::Any(members)),
+        Func::Not if members == 1 => Some(Func::Not),
+        Func::Not => None,
+    }
 }
 
 /// Writes the predicates behind the nodes.
@@ -125,11 +137,13 @@ fn append<A: Memory>(
     queue: &mut SmallVec<ExprNode, 5, A>,
     predicates: SmallVec<InnerPredicate, 5, A>,
 ) -> Result<(), AllocError>
-    ensures { OnOk result (queue.new.items ≡ queue.old.items ++ map ExprNode.Predicate predicates.items) }
+    ensures items { OnOk result (queue.new.items ≡ queue.old.items ++ map ExprNode.Predicate predicates.items) }
+    ensures bound { OnOk result (length queue.new.items < 2 ^ 64) }
 {
     for predicate in predicates {
         queue.push(ExprNode::Predicate(predicate))?;
     }
+    let _bounded = queue.len();
     Ok(())
 }
 
@@ -147,7 +161,7 @@ fn push_node<A: Memory>(
 }
 
 impl<'a, A: Memory> Parser<'a, A> {
-    ghost use Rattle.cfg_expr.specs.Parsing.{Holds, IsSound};
+    ghost use Rattle.cfg_expr.specs.Parsing.{Holds, IsSound, HasRoom, CountsMember};
 
     /// A fault of the text, or want of memory for its copy.
     fn fault(&self, span: Span, reason: Reason) -> Failure<A> {
@@ -159,5 +173,75 @@ impl<'a, A: Memory> Parser<'a, A> {
             }),
             Err(error) => Failure::Memory(error),
         }
+    }
+
+    /// Ends the predicate that has begun, if one has.
+    fn end_predicate(&mut self) -> Result<(), AllocError>
+        requires { IsSound self.old }
+        ensures { OnOk result ((text : List ℕ) (m : Machine) → Holds text self.old m → Holds text self.new (settle m)) }
+    {
+        let Some(span) = self.pred_key.take() else {
+            return Ok(());
+        };
+        let predicate = InnerPredicate::Flag(span);
+        if self.func_stack.is_empty() {
+            push_node(&mut self.expr_queue, ExprNode::Predicate(predicate))?;
+            self.root_count += 1;
+        } else {
+            add_leaf(&mut self.func_stack, predicate)?;
+        }
+        Ok(())
+    }
+
+    /// Opens a function, whose name stands at the span.
+    fn open(&mut self, func: Func, span: Span) -> Result<(), AllocError>
+        ensures { OnOk result ((text : List ℕ) (m : Machine) → Holds text self.old m → Holds text self.new (opened m (kind_of func))) }
+    {
+        self.func_stack.push(FuncAndSpan {
+            func,
+            parens_index: 0,
+            span,
+            predicates: SmallVec::new(self.alloc),
+            nest_level: 0,
+        })?;
+        Ok(())
+    }
+
+    /// Counts a function that has ended among the members of the innermost list.
+    fn count_member(&mut self)
+        requires { HasRoom self.old }
+        ensures { CountsMember self.old self.new }
+    {
+        if self.func_stack.is_empty() {
+            self.root_count += 1;
+        } else {
+            count_function(&mut self.func_stack);
+        }
+    }
+
+    /// Ends the innermost function at a `)`, whose place is `span`.
+    fn close(&mut self, span: Span) -> Result<(), Failure<A>>
+        requires { IsSound self.old }
+        ensures { OnOk result ((text : List ℕ) (m : Machine) → Holds text self.old m → IsSomeAnd (close_of m.frames m) (Holds text self.new)) }
+    {
+        let Some(top) = self.func_stack.pop() else {
+            return Err(self.fault(span, Reason::UnopenedParens));
+        };
+        let FuncAndSpan {
+            func,
+            parens_index: _,
+            span: name,
+            predicates,
+            nest_level,
+        } = top;
+        let leaves = predicates.len();
+        append(&mut self.expr_queue, predicates)?;
+        let members = nest_level + leaves;
+        let Some(func) = counted(func, members) else {
+            return Err(self.fault(name.start..span.end, Reason::InvalidNot(members)));
+        };
+        push_node(&mut self.expr_queue, ExprNode::Fn(func))?;
+        self.count_member();
+        Ok(())
     }
 }

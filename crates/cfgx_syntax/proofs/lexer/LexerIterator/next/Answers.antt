@@ -17,6 +17,6 @@ returns-in-Some-take-clause-steps g c =
     let behind : IsBehind c.self.inside.original.now c.self.inside.inner.now c.trim_start-rest.result.now (length c.self.inside.original.now - length c.self.inside.inner.now) =
         record { placed = refl; follows = c.self.invariant.0; inside = c.self.invariant.1; trimmed = c.trim_start-rest.ensures.value } in
     rw (← c.self.view_is) (
-      (_, IsStuck-found _ _ _ _ behind (search rules) c.in-None.ensures),
+      (_, IsStuck-found _ _ _ _ behind (search rules) c.in-None.ensures, c.stuck.ensures),
       state_at c.self.inside.original.now _ _ (omega arith),
     )

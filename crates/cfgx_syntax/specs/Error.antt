@@ -1,0 +1,99 @@
+-- Faults of cfg texts, as plain bytes and numbers, and the texts that they print.
+-- Source of the texts: `cfg-expr` 0.20.10, `impl Display for Reason`, `impl Display for ParseError` and `ParseError::description`.
+use Rattle.std.specs.Prelude.{ℕ, ◌-◌, List, [], ◌∷◌, ◌++◌, codes, map, replicate}
+use Rattle.std.specs.List.{flat_map}
+use Rattle.std.specs.Fmt.{decimal}
+use Rattle.std.specs.String.{string_bytes}
+use Rattle.cfgx_syntax.specs.declared.error.Reason.{Reason}
+use Rattle.cfgx_syntax.specs.declared.error.Reason.TheVariants as reason
+use Rattle.cfgx_syntax.specs.declared.error.ParseError.{ParseError}
+
+-- why a text is refused: the program's `Reason`, with the terms of `Unexpected` as bytes, so that no address counts
+pub data Cause : Type 0 where
+  invalid_not : ℕ → Cause
+  invalid_characters : Cause
+  unclosed_parens : Cause
+  unopened_parens : Cause
+  unclosed_quotes : Cause
+  unopened_quotes : Cause
+  empty : Cause
+  unexpected : List (List ℕ) → Cause
+  invalid_integer : Cause
+  multiple_root_predicates : Cause
+  invalid_has_atomic : Cause
+  unknown_builtin : Cause
+
+-- the cause that a reason of the program stands for
+abbrev pub cause_of : Reason → Cause
+cause_of (reason.InvalidNot found) = invalid_not found
+cause_of reason.InvalidCharacters = invalid_characters
+cause_of reason.UnclosedParens = unclosed_parens
+cause_of reason.UnopenedParens = unopened_parens
+cause_of reason.UnclosedQuotes = unclosed_quotes
+cause_of reason.UnopenedQuotes = unopened_quotes
+cause_of reason.Empty = empty
+cause_of (reason.Unexpected terms) = unexpected (map (λ t. t.now) terms.now)
+cause_of reason.InvalidInteger = invalid_integer
+cause_of reason.MultipleRootPredicates = multiple_root_predicates
+cause_of reason.InvalidHasAtomic = invalid_has_atomic
+cause_of reason.UnknownBuiltin = unknown_builtin
+
+-- a term between back quotes
+abbrev pub quoted : List ℕ → List ℕ
+quoted term = codes "`" ++ term ++ codes "`"
+
+-- terms between back quotes, each behind a comma and a space
+abbrev pub more_terms_text : List (List ℕ) → List ℕ
+more_terms_text terms = flat_map (λ term. codes ", " ++ quoted term) terms
+
+-- what `Unexpected` prints, by the length of its list
+abbrev pub unexpected_text : List (List ℕ) → List ℕ
+unexpected_text [] = codes "the term was not expected here"
+unexpected_text (term ∷ []) = codes "expected a " ++ quoted term ++ codes " here"
+unexpected_text (term ∷ others) = codes "expected one of " ++ quoted term ++ more_terms_text others ++ codes " here"
+
+-- what a reason prints
+abbrev pub reason_text : Cause → List ℕ
+reason_text (invalid_not found) = codes "not() takes 1 predicate, found " ++ decimal found
+reason_text invalid_characters = codes "invalid character(s)"
+reason_text unclosed_parens = codes "unclosed parens"
+reason_text unopened_parens = codes "unopened parens"
+reason_text unclosed_quotes = codes "unclosed quotes"
+reason_text unopened_quotes = codes "unopened quotes"
+reason_text empty = codes "empty expression"
+reason_text (unexpected terms) = unexpected_text terms
+reason_text invalid_integer = codes "invalid integer"
+reason_text multiple_root_predicates = codes "multiple root predicates"
+reason_text invalid_has_atomic = codes "expected integer or \"ptr\""
+reason_text unknown_builtin = codes "unknown built-in"
+
+-- the short description of a reason, without numbers and terms
+abbrev pub description_of : Cause → List ℕ
+description_of (invalid_not _) = codes "not() takes 1 predicate"
+description_of (unexpected _) = codes "unexpected term"
+description_of cause = reason_text cause
+
+-- a refusal: the text, the bytes of it that are at fault, from `start` up to `end`, and why
+pub record Fault : Type 0 where
+  pub original : List ℕ
+  pub start : ℕ
+  pub end : ℕ
+  pub cause : Cause
+
+-- the marks below the text, behind the spaces: what was never closed is named from its start, what was never
+-- opened is one place, and every other fault is marked byte for byte
+abbrev pub marks : ℕ → Cause → List ℕ
+marks width unclosed_parens = codes "-"
+marks width unclosed_quotes = codes "-"
+marks width unopened_parens = codes "^"
+marks width unopened_quotes = codes "^"
+marks width cause = replicate width 94
+
+-- what a fault prints: the text, a line feed, a space for each byte before the span, the marks, a space and the reason
+abbrev pub error_text : Fault → List ℕ
+error_text fault = fault.original ++ codes "\n" ++ replicate fault.start 32
+    ++ marks (fault.end - fault.start) fault.cause ++ codes " " ++ reason_text fault.cause
+
+-- the fault that a `ParseError` of the program stands for
+abbrev pub fault_of : {A : Type 0} → ParseError A → Fault
+fault_of e = record { original = string_bytes e.original; start = e.span.start; end = e.span.end; cause = cause_of e.reason }

@@ -1,0 +1,218 @@
+// Printed texts, written out by hand from the rules of the format.
+use super::*;
+use std::alloc::Global;
+use std::test::Fail;
+
+// What a fault of these parts prints.
+fn printed(
+    alloc: Global,
+    text: &str,
+    span: Range<usize>,
+    reason: Reason,
+) -> Result<String, AllocError> {
+    let error = ParseError {
+        original: String::from_str(alloc, text)?,
+        span,
+        reason,
+    };
+    format!(in alloc; "{error}")
+}
+
+// What a fault with this reason says of itself.
+fn described(alloc: Global, reason: Reason) -> &'static str {
+    let error = ParseError {
+        original: String::new(alloc),
+        span: 0..0,
+        reason,
+    };
+    error.description()
+}
+
+const REASONS: [(Reason, &str, &str); 15] = [
+    (
+        Reason::InvalidNot(0),
+        "not() takes 1 predicate, found 0",
+        "not() takes 1 predicate",
+    ),
+    (
+        Reason::InvalidNot(257),
+        "not() takes 1 predicate, found 257",
+        "not() takes 1 predicate",
+    ),
+    (
+        Reason::InvalidCharacters,
+        "invalid character(s)",
+        "invalid character(s)",
+    ),
+    (Reason::UnclosedParens, "unclosed parens", "unclosed parens"),
+    (Reason::UnopenedParens, "unopened parens", "unopened parens"),
+    (Reason::UnclosedQuotes, "unclosed quotes", "unclosed quotes"),
+    (Reason::UnopenedQuotes, "unopened quotes", "unopened quotes"),
+    (Reason::Empty, "empty expression", "empty expression"),
+    (
+        Reason::Unexpected(&[]),
+        "the term was not expected here",
+        "unexpected term",
+    ),
+    (
+        Reason::Unexpected(&["("]),
+        "expected a `(` here",
+        "unexpected term",
+    ),
+    (
+        Reason::Unexpected(&["<key>", "all", "any", "not"]),
+        "expected one of `<key>`, `all`, `any`, `not` here",
+        "unexpected term",
+    ),
+    (Reason::InvalidInteger, "invalid integer", "invalid integer"),
+    (
+        Reason::MultipleRootPredicates,
+        "multiple root predicates",
+        "multiple root predicates",
+    ),
+    (
+        Reason::InvalidHasAtomic,
+        "expected integer or \"ptr\"",
+        "expected integer or \"ptr\"",
+    ),
+    (
+        Reason::UnknownBuiltin,
+        "unknown built-in",
+        "unknown built-in",
+    ),
+];
+
+#[test]
+fn each_reason_has_its_texts(rt: HostRuntime) -> Result<(), Fail> {
+    for (reason, text, description) in REASONS {
+        let shown = format!(in rt.alloc(); "{reason}")?;
+        assert_eq!(rt; shown.as_str(), text);
+        assert_eq!(rt; described(rt.alloc(), reason), description);
+    }
+    Ok(())
+}
+
+// The four ways of marking a span: from its start, at one place, byte for byte, and not at all.
+#[test]
+fn a_fault_prints_its_text_its_marks_and_its_reason(rt: HostRuntime) -> Result<(), Fail> {
+    let rows = [
+        (
+            "key)",
+            3..4,
+            Reason::UnopenedParens,
+            "key)\n   ^ unopened parens",
+        ),
+        (
+            "not(key",
+            3..7,
+            Reason::UnclosedParens,
+            "not(key\n   - unclosed parens",
+        ),
+        (
+            "key = \"abc",
+            6..10,
+            Reason::UnclosedQuotes,
+            "key = \"abc\n      - unclosed quotes",
+        ),
+        (
+            "key\"",
+            3..4,
+            Reason::UnopenedQuotes,
+            "key\"\n   ^ unopened quotes",
+        ),
+        (
+            "foo (",
+            4..5,
+            Reason::Unexpected(&["=", ",", ")"]),
+            "foo (\n    ^ expected one of `=`, `,`, `)` here",
+        ),
+        (
+            "key =",
+            5..5,
+            Reason::Unexpected(&["\"<value>\""]),
+            "key =\n      expected a `\"<value>\"` here",
+        ),
+        (
+            "not(a, b)",
+            0..9,
+            Reason::InvalidNot(2),
+            "not(a, b)\n^^^^^^^^^ not() takes 1 predicate, found 2",
+        ),
+        (
+            "a, target_os",
+            3..12,
+            Reason::Unexpected(&["= \"<target_cfg_value>\""]),
+            "a, target_os\n   ^^^^^^^^^ expected a `= \"<target_cfg_value>\"` here",
+        ),
+        ("", 0..0, Reason::Empty, "\n empty expression"),
+        ("ab", 1..0, Reason::Empty, "ab\n  empty expression"),
+    ];
+    for (text, span, reason, wanted) in rows {
+        let shown = printed(rt.alloc(), text, span, reason)?;
+        assert_eq!(rt; shown.as_str(), wanted);
+    }
+    Ok(())
+}
+
+// U+00E9 takes two bytes, so the mark below the `x` behind it stands two places to the right.
+#[test]
+fn a_span_counts_bytes(rt: HostRuntime) -> Result<(), Fail> {
+    let shown = printed(rt.alloc(), "\u{e9}x", 2..3, Reason::Unexpected(&[]))?;
+    assert_eq!(rt;
+        shown.as_str(),
+        "\u{e9}x\n  ^ the term was not expected here"
+    );
+    Ok(())
+}
+
+#[test]
+fn equality_is_that_of_the_parts(rt: HostRuntime) -> Result<(), Fail> {
+    let terms = ["big", "little"];
+    let copied = Reason::Unexpected(&["big", "little"]);
+    assert_eq!(rt; copied, Reason::Unexpected(&["big", "little"]));
+    assert_ne!(rt; copied, Reason::Unexpected(&["big"]));
+    assert_ne!(rt; Reason::InvalidNot(2), Reason::InvalidNot(3));
+    assert_ne!(rt; Reason::Empty, Reason::UnclosedParens);
+    assert_eq!(rt; terms.len(), 2);
+    let one = ParseError {
+        original: String::from_str(rt.alloc(), "a)")?,
+        span: 1..2,
+        reason: Reason::UnopenedParens,
+    };
+    let same = ParseError {
+        original: String::from_str(rt.alloc(), "a)")?,
+        span: 1..2,
+        reason: Reason::UnopenedParens,
+    };
+    let later = ParseError {
+        original: String::from_str(rt.alloc(), "a)")?,
+        span: 1..3,
+        reason: Reason::UnopenedParens,
+    };
+    assert!(rt; one == same);
+    assert!(rt; one != later);
+    Ok(())
+}
+
+// `?` makes a failure of either of its causes.
+fn parse_failure(alloc: Global) -> Result<(), Failure> {
+    let original = String::from_str(alloc, ")")?;
+    Err(ParseError {
+        original,
+        span: 0..1,
+        reason: Reason::UnopenedParens,
+    })?;
+    Ok(())
+}
+
+#[test]
+fn a_failure_tells_a_fault_from_want_of_memory(rt: HostRuntime) -> Result<(), Fail> {
+    let wanted = ParseError {
+        original: String::from_str(rt.alloc(), ")")?,
+        span: 0..1,
+        reason: Reason::UnopenedParens,
+    };
+    assert!(rt; parse_failure(rt.alloc()) == Err(Failure::Parse(wanted)));
+    assert!(rt; Failure::<Global>::from(AllocError) == Failure::Memory(AllocError));
+    Ok(())
+}
