@@ -197,8 +197,11 @@ written_is text p m h = sym (ap length h.nodes) ∙ length-map p.expr_queue.item
 pub roots_bound : {A : Type 0} (text : List ℕ) (p : Parser A) (m : Machine) → Holds {A = A} text p m → p.root_count ≤ length p.expr_queue.items
 roots_bound {A} text p m h = omega (arith, h.roots, roots_le m.frames m.roots, written_is {A = A} text p m h)
 
--- so it does what the innermost function counts, and the one around it
-top_bound : {A : Type 0} (text : List ℕ) (items : List (FuncAndSpan A)) (frames : List Frame) (roots : List Tree) → AllZip (FrameIs {A = A} text) (reverse items) frames
+-- so it does what the innermost function counts
+pub function_bound : (frame : Frame) (others : List Frame) (roots : List Tree) → function_count frame.members ≤ length (written_nodes (frame ∷ others) roots)
+function_bound frame others roots = omega (arith, length-function_nodes frame.members, length-append (written_nodes others roots) (function_nodes frame.members))
+
+pub top_bound : {A : Type 0} (text : List ℕ) (items : List (FuncAndSpan A)) (frames : List Frame) (roots : List Tree) → AllZip (FrameIs {A = A} text) (reverse items) frames
     → (front : List (FuncAndSpan A)) (top : FuncAndSpan A) → items ≡ front ++ top ∷ [] → top.nest_level ≤ length (written_nodes frames roots)
 top_bound {A} text items frames roots zip front top is =
     let t = Innermost-last {A = A} text items front top frames is zip in

@@ -4,3 +4,4 @@ pub mod NodeFacts
 pub mod Stacks
 pub mod Sizes
 pub mod Holding
+pub mod Closing

@@ -1,5 +1,5 @@
 -- The vectors of the parser fit in memory: a type takes little more than its parts.
-use Rattle.std.proofs.Common.{◌≡◌, ℕ, zero, suc, ◌+◌, ◌-◌, ◌*◌, ◌%◌, ◌<◌, ◌≤◌, ◌^◌, max, sym, refl, subst, arith, mul-le-mul_left, le_refl}
+use Rattle.std.proofs.Common.{◌≡◌, [], ℕ, zero, suc, ◌+◌, ◌-◌, ◌*◌, ◌%◌, ◌<◌, ◌≤◌, ◌^◌, max, sym, refl, subst, arith, mul-le-mul_left, le_refl}
 use Rattle.std.specs.Mem.{FitsInMemory, type_size}
 use Rattle.std.specs.declared.alloc.Allocator.{Ghosts}
 use Rattle.smallvec.specs.contracts.small_vec.SmallVec
@@ -7,11 +7,13 @@ use Rattle.cfg_expr.specs.Size.{IsSmall}
 use Rattle.cfg_expr.specs.contracts.expr.ExprNode
 use Rattle.cfg_expr.specs.contracts.expr.InnerPredicate
 use Rattle.cfg_expr.specs.contracts.expr.parser.FuncAndSpan
-use mir.Syntax.{Ty, ty_struct, ty_enum, ty_array, Tys, tnil, tcons, Tyss, ttnil, ttcons, Width, w8, w16, w32, w64, w128}
+use Rattle.cfg_expr.specs.contracts.expr.parser.Parser
+use mir.Syntax.{erased, Ty, ty_struct, ty_enum, ty_array, Tys, tnil, tcons, Tyss, ttnil, ttcons, Width, w8, w16, w32, w64, w128}
 use Rattle.std.proofs.Math.Nat.{mod-le}
 use mir.Val.{bytes}
 use prog.Memory.{align, aligns, alignss, pad, up, size, end_of, endss}
 use prog.Align.{align_w, aligns_w, alignss_w, align-bytes, aligns-bytes, alignss-bytes}
+use denote.Ref.{NamedLft}
 use denote.RattleType.{RattleType}
 use denote.Param
 
@@ -82,33 +84,38 @@ mutual
   endss_le (variant {τs} fields variants) = omega (arith, end_le fields 1, endss_le variants)
 
 -- the parts of a vector with five inline places: those places, and an allocation
-abbrev SmallVec_parts : (T A : RattleType) (alloc : Ghosts A.Denot) → Parts (Param.layout (SmallVec.the_row T (Param.number 5) (Param.copied 0 A) alloc))
-SmallVec_parts T A alloc =
-    let inline = struct (field (struct (field (array whole) none)) (field whole (field whole none))) in
+abbrev SmallVec_parts : (T A : RattleType) (alloc : Ghosts A.Denot) → Parts (Param.layout T) → Parts (Param.layout (SmallVec.the_row T (Param.number 5) (Param.copied 0 A) alloc))
+SmallVec_parts T A alloc element =
+    let inline = struct (field (struct (field (array element) none)) (field whole (field whole none))) in
     let heap = struct (field whole (field whole (field whole (field whole none)))) in
     struct (field («enum» (variant (field inline none) (variant (field heap none) no_more))) none)
 
-below : (a b n : ℕ) → a ≤ b → b < n → a < n
-below a b n h g = omega arith
+below : {τ : Ty} (parts : Parts τ) (n : ℕ) → room parts < n → size τ < n
+below parts n h = omega (arith, size_le parts)
 
-at_most : (a b n : ℕ) → a ≤ b → b ≤ n → a ≤ n
-at_most a b n h g = omega arith
-
-pub SmallVec-fits : (T A : RattleType) (alloc : Ghosts A.Denot) → type_size T ≤ 2 ^ 40 → type_size A ≤ 2 ^ 32 → FitsInMemory (SmallVec.the_row T (Param.number 5) (Param.copied 0 A) alloc)
-SmallVec-fits T A alloc small few =
-    let r : room (SmallVec_parts T A alloc) < 2 ^ 63 = omega arith in
-    below _ _ (2 ^ 63) (size_le (SmallVec_parts T A alloc)) r
+abbrev queue_parts : (A : RattleType) (alloc : Ghosts A.Denot) → Parts (Param.layout (SmallVec.the_row ExprNode.the_row (Param.number 5) (Param.copied 0 A) alloc))
+queue_parts A alloc = SmallVec_parts ExprNode.the_row A alloc whole
 
 pub queue_fits : (A : RattleType) (alloc : Ghosts A.Denot) → IsSmall A → FitsInMemory (SmallVec.the_row ExprNode.the_row (Param.number 5) (Param.copied 0 A) alloc)
-queue_fits A alloc small = SmallVec-fits ExprNode.the_row A alloc (omega arith) small.0
+queue_fits A alloc small = let few = small.0 in below (queue_parts A alloc) (2 ^ 63) (omega (arith, few))
 
 -- the parts of an open function
 abbrev FuncAndSpan_parts : (A : RattleType) (alloc : Ghosts A.Denot) → Parts (Param.layout (FuncAndSpan.the_row (Param.copied 0 A) alloc))
-FuncAndSpan_parts A alloc = struct (field whole (field whole (field whole (field (SmallVec_parts InnerPredicate.the_row A alloc) (field whole none)))))
+FuncAndSpan_parts A alloc = struct (field whole (field whole (field whole (field (SmallVec_parts InnerPredicate.the_row A alloc whole) (field whole none)))))
+
+abbrev stack_parts : (A : RattleType) (alloc : Ghosts A.Denot) → Parts (Param.layout (SmallVec.the_row (FuncAndSpan.the_row (Param.copied 0 A) alloc) (Param.number 5) (Param.copied 0 A) alloc))
+stack_parts A alloc = SmallVec_parts (FuncAndSpan.the_row (Param.copied 0 A) alloc) A alloc (FuncAndSpan_parts A alloc)
 
 pub stack_fits : (A : RattleType) (alloc : Ghosts A.Denot) → IsSmall A
     → FitsInMemory (SmallVec.the_row (FuncAndSpan.the_row (Param.copied 0 A) alloc) (Param.number 5) (Param.copied 0 A) alloc)
-stack_fits A alloc small =
-    let few = small.0 in
-    let r : room (FuncAndSpan_parts A alloc) ≤ 2 ^ 40 = omega (arith, few) in
-    SmallVec-fits (FuncAndSpan.the_row (Param.copied 0 A) alloc) A alloc (at_most _ _ (2 ^ 40) (size_le (FuncAndSpan_parts A alloc)) r) few
+stack_fits A alloc small = let few = small.0 in below (stack_parts A alloc) (2 ^ 63) (omega (arith, few))
+
+-- a reference takes the same room whatever its lifetime
+abbrev lifetime : NamedLft
+lifetime = record { mir = erased; lft = [] }
+
+abbrev parser_parts : (A : RattleType) (alloc : Ghosts A.Denot) → Parts (Param.layout (Parser.the_row lifetime (Param.copied 0 A) alloc))
+parser_parts A alloc = struct (field whole (field whole (field (stack_parts A alloc) (field (queue_parts A alloc) (field whole (field whole (field whole none)))))))
+
+pub parser_fits : (A : RattleType) (alloc : Ghosts A.Denot) → IsSmall A → FitsInMemory (Parser.the_row lifetime (Param.copied 0 A) alloc)
+parser_fits A alloc small = let few = small.0 in below (parser_parts A alloc) (2 ^ 63) (omega (arith, few))

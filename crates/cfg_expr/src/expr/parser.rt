@@ -4,7 +4,7 @@ ghost use Rattle.cfg_expr.specs.Parsing.{ChangesTop, AddsLeaf, AddsFunction, Ope
 ghost use Rattle.cfgx_syntax.specs.Lexer.{token_of};
 ghost use Rattle.cfg_expr.specs.Machine.{Machine, follows, settle, opened, close_of, step};
 
-use super::lexer::{Lexer, LexerToken, Token};
+use super::lexer::{Lexer, LexerToken, Token, strip};
 use super::{ExprNode, Expression, Func, InnerPredicate, Span};
 use crate::error::{Failure, ParseError, Reason};
 use crate::memory::Memory;
@@ -161,7 +161,7 @@ fn push_node<A: Memory>(
 }
 
 impl<'a, A: Memory> Parser<'a, A> {
-    ghost use Rattle.cfg_expr.specs.Parsing.{Holds, IsSound, HasRoom, CountsMember};
+    ghost use Rattle.cfg_expr.specs.Parsing.{Holds, IsSound, IsPlaced, HasRoom, CountsMember};
 
     /// A fault of the text, or want of memory for its copy.
     fn fault(&self, span: Span, reason: Reason) -> Failure<A> {
@@ -242,6 +242,112 @@ impl<'a, A: Memory> Parser<'a, A> {
         };
         push_node(&mut self.expr_queue, ExprNode::Fn(func))?;
         self.count_member();
+        Ok(())
+    }
+
+    /// Reads one token.
+    fn read(&mut self, lexed: LexerToken<'a>) -> Result<(), Failure<A>>
+        requires sound { IsSound self.old }
+        requires placed { IsPlaced self.old.original.now lexed.token lexed.span }
+        ensures { OnOk result ((text : List ℕ) (m : Machine) → Holds text self.old m → IsSomeAnd (step m (token_of lexed.entry.token)) (Holds text self.new)) }
+    {
+        if !may_follow(self.last_token, lexed.token) {
+            return Err(self.fault(lexed.span, Reason::Unexpected(expected(self.last_token))));
+        }
+        match lexed.token {
+            Token::Key(_) => self.pred_key = Some(lexed.span),
+            Token::All => self.open(Func::All(0), lexed.span)?,
+            Token::Any => self.open(Func::Any(0), lexed.span)?,
+            Token::Not => self.open(Func::Not, lexed.span)?,
+            Token::OpenParen => open_parens(&mut self.func_stack, lexed.span.start),
+            Token::CloseParen => {
+                self.end_predicate()?;
+                self.close(lexed.span)?;
+            }
+            Token::Comma => self.end_predicate()?,
+        }
+        self.last_token = Some(lexed.token);
+        Ok(())
+    }
+
+    /// The fault of a text that ends while a function is open.
+    fn unclosed(&self, top: &FuncAndSpan<A>) -> Failure<A> {
+        if top.parens_index == 0 {
+            self.fault(top.span.start..top.span.end, Reason::Unexpected(&["("]))
+        } else {
+            self.fault(top.parens_index..self.original.len(), Reason::UnclosedParens)
+        }
+    }
+
+    /// The expression at the end of the text.
+    fn finish(mut self) -> Result<Expression<A>, Failure<A>> {
+        if let Some(top) = self.func_stack.last() {
+            return Err(self.unclosed(top));
+        }
+        self.end_predicate()?;
+        let whole = 0..self.original.len();
+        match self.root_count {
+            0 => return Err(self.fault(whole, Reason::Empty)),
+            1 => {}
+            _ => return Err(self.fault(whole, Reason::MultipleRootPredicates)),
+        }
+        let original = String::from_str(self.alloc, self.original)?;
+        let Parser {
+            alloc: _,
+            original: _,
+            func_stack: _,
+            expr_queue,
+            last_token: _,
+            pred_key: _,
+            root_count: _,
+        } = self;
+        Ok(Expression {
+            expr: expr_queue,
+            original,
+        })
+    }
+}
+
+impl<A: Memory> Expression<A> {
+    /// The expression of a text, which may stand in `cfg( )`.
+    pub fn parse(alloc: A, original: &str) -> Result<Self, Failure<A>> {
+        let mut lexer = Lexer::new(alloc, original);
+        let mut parser = Parser {
+            alloc,
+            original: strip(original),
+            func_stack: SmallVec::new(alloc),
+            expr_queue: SmallVec::new(alloc),
+            last_token: None,
+            pred_key: None,
+            root_count: 0,
+        };
+        while let Some(lexed) = lexer.next() {
+            parser.read(lexed?)?;
+        }
+        parser.finish()
+    }
+}
+
+#[cfg(test)]
+mod tests {
+    use super::*;
+    use std::test::Fail;
+
+    #[test]
+    fn smoke(rt: HostRuntime) -> Result<(), Fail> {
+        for text in ["all(a, any(b), c)", "cfg(key)", "all()", "not(a, b)", "key,,", "all(a,,b)", "key1, key2,     ", "all(), any()", "all(any", "not", "any(,)", "key)", "", "feature 8", "a ="] {
+            match Expression::parse(rt.alloc(), text) {
+                Ok(expression) => {
+                    print!(rt; "ok {}: ", expression.original())?;
+                    for predicate in expression.predicates() {
+                        print!(rt; "{predicate:?} ")?;
+                    }
+                    println!(rt; "")?;
+                }
+                Err(Failure::Parse(error)) => println!(rt; "{error}")?,
+                Err(Failure::Memory(_)) => println!(rt; "memory")?,
+            }
+        }
         Ok(())
     }
 }
