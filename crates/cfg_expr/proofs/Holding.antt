@@ -1,15 +1,17 @@
 -- What the parser's fields keep, step by step.
-use Rattle.std.proofs.Common.{◌≡◌, ℕ, zero, suc, ◌+◌, ◌-◌, ◌<◌, ◌≤◌, ◌^◌, Bool, true, false, List, [], ◌∷◌, ◌++◌, length, map, reverse, Option, Some, None, sym, refl, ap, ◌∙◌, subst, arith, append_assoc, length-append}
-use Rattle.std.specs.Prelude.{if◌then◌else◌, slice_range, option_map}
+use Rattle.std.proofs.Common.{◌≡◌, ⊎_elim, ℕ, zero, suc, ◌+◌, ◌-◌, ◌<◌, ◌≤◌, ◌^◌, Bool, true, false, List, [], ◌∷◌, ◌++◌, length, map, reverse, Option, Some, None, sym, refl, ap, ◌∙◌, subst, arith, append_assoc, length-append}
+use Rattle.std.specs.Prelude.{if◌then◌else◌, slice_range, option_map, IsSomeAnd}
 use Rattle.std.specs.List.{AllByRecursion, AllZip, flat_map}
 use Rattle.std.proofs.lemmas.List.{append-nil, reverse-append, map-append, nil_from_length, length-map}
 use Rattle.smallvec.specs.SmallVec.{SmallVec}
+use Rattle.cfgx_syntax.specs.Lexer.{token_of}
+use Rattle.cfgx_syntax.specs.declared.lexer.Token.{Token}
 use Rattle.cfg_expr.specs.Question.{Question}
 use Rattle.cfg_expr.specs.Tree.{Tree, Trees, is_function}
 use Rattle.cfg_expr.specs.Nodes.{Node, postfix}
-use Rattle.cfg_expr.specs.Machine.{Kind, Frame, Machine, add, add_to, settle, settle_of, opened}
+use Rattle.cfg_expr.specs.Machine.{Kind, Frame, Machine, add, add_to, settle, settle_of, opened, apply, step, follows}
 use Rattle.cfg_expr.specs.Expression.{question_at, node_at, nodes_at, IsCut, HasCut, NodeHasCut}
-use Rattle.cfg_expr.specs.Parsing.{kind_of, leaves, function_count, function_nodes, written_nodes, FrameIs, PendingIs, Holds, IsSound, ChangesTop, AddsLeaf, AddsFunction, OpensParens, TopHasRoom}
+use Rattle.cfg_expr.specs.Parsing.{kind_of, leaves, function_count, function_nodes, written_nodes, FrameIs, PendingIs, Holds, IsSound, ChangesTop, AddsLeaf, AddsFunction, OpensParens, MarksTop, TopHasRoom}
 use Rattle.cfg_expr.specs.declared.expr.Func.{Func}
 use Rattle.cfg_expr.specs.declared.expr.ExprNode.{ExprNode}
 use Rattle.cfg_expr.specs.declared.expr.ExprNode.TheVariants as node
@@ -229,3 +231,56 @@ Holds-opened {A} text p m stack func pushed is named empty zero_functions h =
       pending = h.pending;
       last = h.last;
     }
+
+-- a predicate begins
+pub Holds-key : {A : Type 0} (text : List ℕ) (p : Parser A) (m : Machine) (word : List ℕ) (span : Range ℕ) → word ≡ slice_range text span.start span.end → IsCut text span.start span.end
+    → Holds {A = A} text p m → Holds {A = A} text (record p { pred_key = Some span }) (record m { pending = Some (Question.flag word) })
+Holds-key text p m word span is cut h = record {
+    original = h.original; frames = h.frames; nodes = h.nodes; cuts = h.cuts; roots = h.roots; pending = (ap Question.flag (sym is), cut); last = h.last;
+  }
+
+-- the innermost function's `(` is marked
+FrameIs-marked : {A : Type 0} (text : List ℕ) (top changed : FuncAndSpan A) (frame : Frame) → OpensParens {A = A} top changed → FrameIs {A = A} text top frame → FrameIs {A = A} text changed frame
+FrameIs-marked text top changed frame marks is = record {
+    kind = ap kind_of marks.func ∙ is.kind;
+    predicates = ap (map (question_at text)) marks.predicates ∙ is.predicates;
+    cuts = subst (AllByRecursion (HasCut text)) (sym marks.predicates) is.cuts;
+    functions = marks.functions ∙ is.functions;
+  }
+
+marked_frames : {A : Type 0} (text : List ℕ) (old new : List (FuncAndSpan A)) (frames : List Frame) → MarksTop {A = A} old new → AllZip (FrameIs {A = A} text) (reverse old) frames
+    → AllZip (FrameIs {A = A} text) (reverse new) frames
+marked_frames {A} text old new frames marks zip =
+    ⊎_elim (λ e. subst (λ l. AllZip (FrameIs {A = A} text) (reverse l) frames) (e.0 ∙ sym e.1) zip)
+    (λ c. let t = Innermost-last {A = A} text old c.0 c.1 frames c.3 zip in
+        subst (AllZip (FrameIs {A = A} text) (reverse new)) (sym t.frames_are)
+        (Frames-changed {A = A} text c.0 new c.2 t.frame t.others c.4 (FrameIs-marked {A = A} text c.1 c.2 t.frame c.5 t.is) t.rest)) marks
+
+pub Holds-marked : {A : Type 0} (text : List ℕ) (p : Parser A) (m : Machine) (stack : SmallVec (FuncAndSpan A)) → MarksTop {A = A} p.func_stack.items stack.items → Holds {A = A} text p m
+    → Holds {A = A} text (record p { func_stack = stack }) m
+Holds-marked {A} text p m stack marks h = record {
+    original = h.original; frames = marked_frames {A = A} text p.func_stack.items stack.items m.frames marks h.frames; nodes = h.nodes; cuts = h.cuts; roots = h.roots; pending = h.pending; last = h.last;
+  }
+
+-- the last token is noted
+pub Holds-last : {A : Type 0} (text : List ℕ) (p : Parser A) (m : Machine) (token : Token) → Holds {A = A} text p m
+    → Holds {A = A} text (record p { last_token = Some token }) (record m { last = Some (token_of token) })
+Holds-last text p m token h = record { original = h.original; frames = h.frames; nodes = h.nodes; cuts = h.cuts; roots = h.roots; pending = h.pending; last = refl }
+
+IsSomeAnd-map : {A B : Type 0} (f : A → B) (o : Option A) (P : A → Type 0) (Q : B → Type 0) → ((a : A) → P a → Q (f a)) → IsSomeAnd o P → IsSomeAnd (option_map f o) Q
+IsSomeAnd-map f None P Q h holds = absurd holds
+IsSomeAnd-map f (Some a) P Q h holds = h a holds
+
+stepped : (b : Bool) (o : Option Machine) → b ≡ true → o ≡ (if b then o else None)
+stepped b o is = ap (λ c. if c then o else None) (sym is)
+
+pub Holds-step : {A : Type 0} (text : List ℕ) (old new : Parser A) (m : Machine) (token : Token) → follows (option_map token_of old.last_token) (token_of token) ≡ true
+    → IsSomeAnd (apply m (token_of token)) (Holds {A = A} text new) → Holds {A = A} text old m
+    → IsSomeAnd (step m (token_of token)) (Holds {A = A} text (record new { last_token = Some token }))
+Holds-step {A} text old new m token may applied h =
+    let last : Machine → Machine = λ n. record n { last = Some (token_of token) } in
+    let allowed : follows m.last (token_of token) ≡ true = ap (λ l. follows l (token_of token)) (sym h.last) ∙ may in
+    subst (λ o. IsSomeAnd o (Holds {A = A} text (record new { last_token = Some token })))
+    (stepped (follows m.last (token_of token)) (option_map {T = Machine} (λ n. record n { last = Some (token_of token) }) (apply m (token_of token))) allowed)
+    (IsSomeAnd-map {A = Machine} {B = Machine} (λ n. record n { last = Some (token_of token) }) (apply m (token_of token)) (Holds {A = A} text new) (Holds {A = A} text (record new { last_token = Some token }))
+      (λ n. Holds-last {A = A} text new n token) applied)

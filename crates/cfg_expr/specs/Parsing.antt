@@ -138,3 +138,15 @@ pub record CountsMember {A : Type 0} (old new : Parser A) : Type 0 where
   pub pred_key : new.pred_key ≡ old.pred_key
   pub member : ((old.func_stack.items ≡ []) × (new.func_stack.items ≡ []) × (new.root_count ≡ old.root_count + 1))
       ⊎ (ChangesTop {A = A} AddsFunction old.func_stack.items new.func_stack.items × (new.root_count ≡ old.root_count))
+
+-- the last of a stack is marked, where there is one
+abbrev pub MarksTop : {A : Type 0} → List (FuncAndSpan A) → List (FuncAndSpan A) → Type 0
+MarksTop {A} old new = ((old ≡ []) × (new ≡ [])) ⊎ ChangesTop {A = A} OpensParens old new
+
+-- the whole text was read
+pub record HasReadAll {A : Type 0} (parser : Parser A) : Type 0 where
+  pub items : List Item
+  pub are_items : AreItems parser.original.now items Ending.blank
+  pub m : Machine
+  pub runs : run initial (map (λ item. item.token) items) ≡ Some m
+  pub holds : Holds parser.original.now parser m

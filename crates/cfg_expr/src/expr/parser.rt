@@ -1,8 +1,11 @@
 //! From a text to the nodes of its tree, in one pass.
 ghost use Rattle.std.specs.Prelude.{◌≡◌, ◌++◌, ◌∷◌, [], ◌<◌, ◌^◌, true, length, map, IsTrue, OnOk, IfOk, IsSomeAnd, Option, option_map, None, ℕ, List};
-ghost use Rattle.cfg_expr.specs.Parsing.{ChangesTop, AddsLeaf, AddsFunction, OpensParens, TopHasRoom, kind_of, counted};
+ghost use Rattle.cfg_expr.specs.Parsing.{ChangesTop, AddsLeaf, AddsFunction, MarksTop, TopHasRoom, kind_of, counted};
 ghost use Rattle.cfgx_syntax.specs.Lexer.{token_of};
-ghost use Rattle.cfg_expr.specs.Machine.{Machine, follows, settle, opened, close_of, step};
+ghost use Rattle.cfg_expr.specs.Machine.{Machine, follows, settle, opened, close_of, apply, step};
+ghost use Rattle.cfgx_syntax.specs.Text.{strip};
+ghost use Rattle.cfg_expr.specs.Grammar.{HasTree};
+ghost use Rattle.cfg_expr.specs.Tree.{Tree};
 
 use super::lexer::{Lexer, LexerToken, Token, strip};
 use super::{ExprNode, Expression, Func, InnerPredicate, Span};
@@ -111,13 +114,11 @@ fn count_function<A: Memory>(stack: &mut SmallVec<FuncAndSpan<A>, 5, A>)
 
 /// Notes where the `(` of the innermost open function stands.
 fn open_parens<A: Memory>(stack: &mut SmallVec<FuncAndSpan<A>, 5, A>, index: usize)
-    requires { 0 < length stack.old.items }
-    ensures { ChangesTop OpensParens stack.old.items stack.new.items }
+    ensures { MarksTop stack.old.items stack.new.items }
 {
-    let Some(top) = stack.last_mut() else {
-        unreachable!()
-    };
-    top.parens_index = index;
+    if let Some(top) = stack.last_mut() {
+        top.parens_index = index;
+    }
 }
 
 /// The function with its number of members, which for `not` is one.
@@ -161,7 +162,7 @@ fn push_node<A: Memory>(
 }
 
 impl<'a, A: Memory> Parser<'a, A> {
-    ghost use Rattle.cfg_expr.specs.Parsing.{Holds, IsSound, IsPlaced, HasRoom, CountsMember};
+    ghost use Rattle.cfg_expr.specs.Parsing.{Holds, IsSound, IsPlaced, HasRoom, CountsMember, HasReadAll};
 
     /// A fault of the text, or want of memory for its copy.
     fn fault(&self, span: Span, reason: Reason) -> Failure<A> {
@@ -245,28 +246,44 @@ impl<'a, A: Memory> Parser<'a, A> {
         Ok(())
     }
 
+    /// What a token does where it may stand.
+    fn apply(&mut self, lexed: LexerToken<'a>) -> Result<(), Failure<A>>
+        requires sound { IsSound self.old }
+        requires placed { IsPlaced self.old.original.now lexed.token lexed.span }
+        ensures { OnOk result ((text : List ℕ) (m : Machine) → Holds text self.old m → IsSomeAnd (apply m (token_of lexed.entry.token)) (Holds text self.new)) }
+    {
+        match lexed.token {
+            Token::Key(_) => {
+                self.pred_key = Some(lexed.span);
+                Ok(())
+            }
+            Token::All => Ok(self.open(Func::All(0), lexed.span)?),
+            Token::Any => Ok(self.open(Func::Any(0), lexed.span)?),
+            Token::Not => Ok(self.open(Func::Not, lexed.span)?),
+            Token::OpenParen => {
+                open_parens(&mut self.func_stack, lexed.span.start);
+                Ok(())
+            }
+            Token::CloseParen => {
+                self.end_predicate()?;
+                Ok(self.close(lexed.span)?)
+            }
+            Token::Comma => Ok(self.end_predicate()?),
+        }
+    }
+
     /// Reads one token.
     fn read(&mut self, lexed: LexerToken<'a>) -> Result<(), Failure<A>>
         requires sound { IsSound self.old }
         requires placed { IsPlaced self.old.original.now lexed.token lexed.span }
         ensures { OnOk result ((text : List ℕ) (m : Machine) → Holds text self.old m → IsSomeAnd (step m (token_of lexed.entry.token)) (Holds text self.new)) }
     {
-        if !may_follow(self.last_token, lexed.token) {
+        let token = lexed.token;
+        if !may_follow(self.last_token, token) {
             return Err(self.fault(lexed.span, Reason::Unexpected(expected(self.last_token))));
         }
-        match lexed.token {
-            Token::Key(_) => self.pred_key = Some(lexed.span),
-            Token::All => self.open(Func::All(0), lexed.span)?,
-            Token::Any => self.open(Func::Any(0), lexed.span)?,
-            Token::Not => self.open(Func::Not, lexed.span)?,
-            Token::OpenParen => open_parens(&mut self.func_stack, lexed.span.start),
-            Token::CloseParen => {
-                self.end_predicate()?;
-                self.close(lexed.span)?;
-            }
-            Token::Comma => self.end_predicate()?,
-        }
-        self.last_token = Some(lexed.token);
+        self.apply(lexed)?;
+        self.last_token = Some(token);
         Ok(())
     }
 
@@ -280,7 +297,10 @@ impl<'a, A: Memory> Parser<'a, A> {
     }
 
     /// The expression at the end of the text.
-    fn finish(mut self) -> Result<Expression<A>, Failure<A>> {
+    fn finish(mut self) -> Result<Expression<A>, Failure<A>>
+        requires { HasReadAll self }
+        ensures { IfOk result (λ expression. expression ≡ self.entry.original.now) }
+    {
         if let Some(top) = self.func_stack.last() {
             return Err(self.unclosed(top));
         }
@@ -310,8 +330,10 @@ impl<'a, A: Memory> Parser<'a, A> {
 
 impl<A: Memory> Expression<A> {
     /// The expression of a text, which may stand in `cfg( )`.
-    pub fn parse(alloc: A, original: &str) -> Result<Self, Failure<A>> {
-        let mut lexer = Lexer::new(alloc, original);
+    pub fn parse(alloc: A, original: &str) -> Result<Self, Failure<A>>
+        ensures kept { IfOk result (λ expression. expression ≡ strip original.now) }
+        ensures grammar { OnOk result ((tree : Tree) × HasTree (strip original.now) tree) }
+    {
         let mut parser = Parser {
             alloc,
             original: strip(original),
@@ -321,10 +343,11 @@ impl<A: Memory> Expression<A> {
             pred_key: None,
             root_count: 0,
         };
-        while let Some(lexed) = lexer.next() {
+        for lexed in Lexer::new(alloc, original) {
             parser.read(lexed?)?;
         }
-        parser.finish()
+        let expression = parser.finish()?;
+        Ok(expression)
     }
 }
 
