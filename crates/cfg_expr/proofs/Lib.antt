@@ -5,3 +5,5 @@ pub mod Stacks
 pub mod Sizes
 pub mod Holding
 pub mod Closing
+pub mod Finishing
+pub mod Reading

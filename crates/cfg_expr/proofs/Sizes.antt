@@ -119,3 +119,14 @@ parser_parts A alloc = struct (field whole (field whole (field (stack_parts A al
 
 pub parser_fits : (A : RattleType) (alloc : Ghosts A.Denot) → IsSmall A → FitsInMemory (Parser.the_row lifetime (Param.copied 0 A) alloc)
 parser_fits A alloc small = let few = small.0 in below (parser_parts A alloc) (2 ^ 63) (omega (arith, few))
+
+-- the inline places of the stack, which its drop goes over
+pub places_fit : (A : RattleType) (alloc : Ghosts A.Denot) → IsSmall A → 5 * type_size (FuncAndSpan.the_row (Param.copied 0 A) alloc) < 2 ^ 63
+places_fit A alloc small =
+    let few = small.0 in
+    let bound = size_le (FuncAndSpan_parts A alloc) in
+    let r : room (FuncAndSpan_parts A alloc) < 2 ^ 60 = omega (arith, few) in
+    times_below (size_le (FuncAndSpan_parts A alloc)) r
+  where
+    times_below : {s n : ℕ} → s ≤ n → n < 2 ^ 60 → 5 * s < 2 ^ 63
+    times_below h g = omega arith

@@ -10,7 +10,7 @@ use Rattle.cfg_expr.specs.Question.{Question}
 use Rattle.cfg_expr.specs.Tree.{Tree, is_function}
 use Rattle.cfg_expr.specs.Nodes.{Node, postfix}
 use Rattle.cfg_expr.specs.Machine.{Kind, Frame, Machine, initial, run, step}
-use Rattle.cfg_expr.specs.Expression.{question_at, nodes_at, IsCut, HasCut, NodeHasCut}
+use Rattle.cfg_expr.specs.Expression.{question_at, nodes_at, IsCut, HasCut, NodeHasCut, Keeps}
 use Rattle.cfg_expr.specs.declared.expr.Func.{Func}
 use Rattle.cfg_expr.specs.declared.expr.Func.TheVariants as func
 use Rattle.cfg_expr.specs.declared.expr.InnerPredicate.{InnerPredicate}
@@ -150,3 +150,8 @@ pub record HasReadAll {A : Type 0} (parser : Parser A) : Type 0 where
   pub m : Machine
   pub runs : run initial (map (λ item. item.token) items) ≡ Some m
   pub holds : Holds parser.original.now parser m
+
+-- the nodes that are written are a tree of the text
+pub record IsFinished {A : Type 0} (old new : Parser A) : Type 0 where
+  pub original : new.original.now ≡ old.original.now
+  pub keeps : Keeps old.original.now new.expr_queue.items

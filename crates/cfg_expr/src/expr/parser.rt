@@ -162,7 +162,8 @@ fn push_node<A: Memory>(
 }
 
 impl<'a, A: Memory> Parser<'a, A> {
-    ghost use Rattle.cfg_expr.specs.Parsing.{Holds, IsSound, IsPlaced, HasRoom, CountsMember, HasReadAll};
+    ghost use Rattle.cfg_expr.specs.Parsing.{Holds, IsSound, IsPlaced, HasRoom, CountsMember, HasRead, HasReadAll, IsFinished};
+    ghost use Rattle.std.specs.Str.{IsUtf8};
 
     /// A fault of the text, or want of memory for its copy.
     fn fault(&self, span: Span, reason: Reason) -> Failure<A> {
@@ -296,10 +297,10 @@ impl<'a, A: Memory> Parser<'a, A> {
         }
     }
 
-    /// The expression at the end of the text.
-    fn finish(mut self) -> Result<Expression<A>, Failure<A>>
-        requires { HasReadAll self }
-        ensures { IfOk result (λ expression. expression ≡ self.entry.original.now) }
+    /// Ends the text: one tree is left, whose nodes are written.
+    fn finish(&mut self) -> Result<(), Failure<A>>
+        requires { HasReadAll self.old }
+        ensures { OnOk result (IsFinished self.old self.new) }
     {
         if let Some(top) = self.func_stack.last() {
             return Err(self.unclosed(top));
@@ -307,11 +308,28 @@ impl<'a, A: Memory> Parser<'a, A> {
         self.end_predicate()?;
         let whole = 0..self.original.len();
         match self.root_count {
-            0 => return Err(self.fault(whole, Reason::Empty)),
-            1 => {}
-            _ => return Err(self.fault(whole, Reason::MultipleRootPredicates)),
+            0 => Err(self.fault(whole, Reason::Empty)),
+            1 => Ok(()),
+            _ => Err(self.fault(whole, Reason::MultipleRootPredicates)),
         }
-        let original = String::from_str(self.alloc, self.original)?;
+    }
+
+    /// Reads what the lexer gives, to the end of the text.
+    fn read_all(&mut self, lexer: Lexer<'a, A>) -> Result<(), Failure<A>>
+        requires text { IsUtf8 lexer.text }
+        requires none { HasRead lexer.text lexer.place self.old }
+        ensures { OnOk result (IsFinished self.old self.new) }
+    {
+        for lexed in lexer {
+            self.read(lexed?)?;
+        }
+        self.finish()
+    }
+
+    /// The nodes that were written.
+    fn into_nodes(self) -> SmallVec<ExprNode, 5, A>
+        ensures { result ≡ self.entry.expr_queue }
+    {
         let Parser {
             alloc: _,
             original: _,
@@ -321,10 +339,7 @@ impl<'a, A: Memory> Parser<'a, A> {
             pred_key: _,
             root_count: _,
         } = self;
-        Ok(Expression {
-            expr: expr_queue,
-            original,
-        })
+        expr_queue
     }
 }
 
@@ -334,20 +349,22 @@ impl<A: Memory> Expression<A> {
         ensures kept { IfOk result (λ expression. expression ≡ strip original.now) }
         ensures grammar { OnOk result ((tree : Tree) × HasTree (strip original.now) tree) }
     {
+        let text = strip(original);
         let mut parser = Parser {
             alloc,
-            original: strip(original),
+            original: text,
             func_stack: SmallVec::new(alloc),
             expr_queue: SmallVec::new(alloc),
             last_token: None,
             pred_key: None,
             root_count: 0,
         };
-        for lexed in Lexer::new(alloc, original) {
-            parser.read(lexed?)?;
-        }
-        let expression = parser.finish()?;
-        Ok(expression)
+        parser.read_all(Lexer::new(alloc, original))?;
+        let original = String::from_str(alloc, text)?;
+        Ok(Expression {
+            expr: parser.into_nodes(),
+            original,
+        })
     }
 }
 
