@@ -1,8 +1,8 @@
 -- The loop over the tokens: what was given so far is what the text begins with.
 use Rattle.std.proofs.Common.{◌≡◌, ℕ, zero, suc, ◌+◌, ◌-◌, ◌<◌, ◌≤◌, Bool, true, List, [], ◌∷◌, ◌++◌, length, map, take, drop, get_or, Option, Some, None, sym, refl, ap, ◌∙◌, subst, arith, append_assoc, length-take, length-drop, add-zero}
-use Rattle.std.specs.Prelude.{Result, Ok, Err, OnOk, option_and_then, IsSomeAnd, slice_range, codes, IsTrue}
+use Rattle.std.specs.Prelude.{Result, Ok, Err, OnOk, option_map, reverse, option_and_then, IsSomeAnd, slice_range, codes, IsTrue}
 use Rattle.std.specs.Str.{IsUtf8, IsCharBoundary}
-use Rattle.std.specs.List.{list_all}
+use Rattle.std.specs.List.{list_all, AllByRecursion, AllZip}
 use Rattle.std.proofs.lemmas.List.{append-nil, map-append, get_or-take, get_or-drop, length-take-le}
 use Rattle.std.proofs.lemmas.List.Sums.{AllPass-from_list_all}
 use Rattle.cfgx_syntax.proofs.Words.{continues_word-ascii, starts_word-continues}
@@ -11,15 +11,15 @@ use Rattle.cfgx_syntax.specs.Token as spelled
 use Rattle.cfgx_syntax.specs.Token.{starts_word, continues_word, IsWord, IsKey, Spells}
 use Rattle.cfgx_syntax.specs.Items.{Item, Ending, AreItems, ItemsFrom, IsBlank, Stands}
 use Rattle.cfgx_syntax.specs.Lexer.{token_of, item_of, GivesNext}
-use Rattle.cfgx_syntax.specs.LexerState.{LexerState}
+use Rattle.cfgx_syntax.specs.LexerState.{LexerState, starting}
 use Rattle.cfgx_syntax.specs.declared.error.Failure.{Failure}
 use Rattle.cfgx_syntax.specs.declared.lexer.LexerToken.{LexerToken}
 use Rattle.cfgx_syntax.specs.declared.lexer.Token.{Token}
 use Rattle.cfgx_syntax.specs.declared.lexer.Token.TheVariants as given
 use Rattle.std.specs.declared.ops.Range.{Range}
 use Rattle.cfg_expr.specs.Machine.{Machine, initial, run, step}
-use Rattle.cfg_expr.specs.Expression.{IsCut, Keeps}
-use Rattle.cfg_expr.specs.Parsing.{Holds, HasRead, HasReadAll, IsPlaced, IsFinished}
+use Rattle.cfg_expr.specs.Expression.{IsCut, Keeps, nodes_at, NodeHasCut}
+use Rattle.cfg_expr.specs.Parsing.{Holds, HasRead, HasReadAll, IsPlaced, IsFinished, FrameIs, PendingIs}
 use Rattle.cfg_expr.specs.declared.expr.parser.Parser.{Parser}
 use Rattle.cfg_expr.proofs.MachineReads.{run-append}
 
@@ -121,3 +121,24 @@ finished {A} old read new (Ok done) same ends = record {
     keeps = subst (λ t. Keeps t new.expr_queue.items) same ends.keeps;
   }
 finished old read new (Err error) same ends = tt
+
+-- nothing was read yet
+pub HasRead-start : {A : Type 0} (text : List ℕ) (state : LexerState) (p : Parser A) → state ≡ starting text → p.original.now ≡ text → p.func_stack.items ≡ [] → p.expr_queue.items ≡ []
+    → p.last_token ≡ None → p.pred_key ≡ None → p.root_count ≡ 0 → HasRead {A = A} state.text state.place p
+HasRead-start {A} text state p is original stack queue last key root =
+    let start : HasRead {A = A} text 0 p = record {
+        items = [];
+        so_far = λ rest ending follows. follows;
+        m = initial;
+        runs = refl;
+        holds = record {
+          original = original;
+          frames = subst (λ l. AllZip (FrameIs {A = A} text) (reverse l) []) (sym stack) tt;
+          nodes = ap (nodes_at text) queue;
+          cuts = subst (AllByRecursion (NodeHasCut text)) (sym queue) tt;
+          roots = root;
+          pending = subst (λ k. PendingIs text k None) (sym key) tt;
+          last = ap (option_map token_of) last;
+        };
+      } in
+    subst (λ s. HasRead {A = A} s.text s.place p) (sym is) start

@@ -367,27 +367,3 @@ impl<A: Memory> Expression<A> {
         })
     }
 }
-
-#[cfg(test)]
-mod tests {
-    use super::*;
-    use std::test::Fail;
-
-    #[test]
-    fn smoke(rt: HostRuntime) -> Result<(), Fail> {
-        for text in ["all(a, any(b), c)", "cfg(key)", "all()", "not(a, b)", "key,,", "all(a,,b)", "key1, key2,     ", "all(), any()", "all(any", "not", "any(,)", "key)", "", "feature 8", "a ="] {
-            match Expression::parse(rt.alloc(), text) {
-                Ok(expression) => {
-                    print!(rt; "ok {}: ", expression.original())?;
-                    for predicate in expression.predicates() {
-                        print!(rt; "{predicate:?} ")?;
-                    }
-                    println!(rt; "")?;
-                }
-                Err(Failure::Parse(error)) => println!(rt; "{error}")?,
-                Err(Failure::Memory(_)) => println!(rt; "memory")?,
-            }
-        }
-        Ok(())
-    }
-}
