@@ -1,17 +1,17 @@
 -- A function that ends: its predicates' nodes and its own go behind its members', and it is one member more of the list around it.
-use Rattle.std.proofs.Common.{◌≡◌, ◌⊎◌, inl, inr, ⊎_elim, ℕ, zero, suc, ◌+◌, ◌<◌, ◌≤◌, ◌^◌, Bool, true, false, List, [], ◌∷◌, ◌++◌, length, map, reverse, Option, Some, None, sym, refl, ap, ◌∙◌, subst, arith, append_assoc, length-append}
+use Rattle.std.proofs.Common.{◌≡◌, ⊎_elim, ℕ, ◌+◌, ◌<◌, ◌≤◌, ◌^◌, Bool, true, false, List, [], ◌∷◌, ◌++◌, length, map, reverse, Some, None, sym, refl, ap, ◌∙◌, subst, arith, append_assoc, length-append}
 use Rattle.std.specs.Prelude.{if◌then◌else◌, option_map, IsSomeAnd, ◌==◌}
 use Rattle.std.specs.List.{AllByRecursion, AllZip, flat_map}
-use Rattle.std.proofs.lemmas.List.{append-nil, map-append, length-map, length_push}
+use Rattle.std.proofs.lemmas.List.{append-nil, map-append, length-map}
 use borrow.Author.Tests.{true-eqb}
 use Rattle.smallvec.specs.SmallVec.{SmallVec}
 use Rattle.cfgx_syntax.specs.Lexer.{token_of}
 use Rattle.cfg_expr.specs.Question.{Question}
-use Rattle.cfg_expr.specs.Tree.{Tree, Trees, is_function, is_predicate, count}
+use Rattle.cfg_expr.specs.Tree.{Tree, is_function, is_predicate, count}
 use Rattle.cfg_expr.specs.Nodes.{Node, postfix, postfix_by}
 use Rattle.cfg_expr.specs.Machine.{Kind, Frame, Machine, add, add_to, call_of, close_of, trees_of}
 use Rattle.cfg_expr.specs.Expression.{question_at, node_at, nodes_at, HasCut, NodeHasCut}
-use Rattle.cfg_expr.specs.Parsing.{kind_of, leaves, function_count, function_nodes, written_nodes, FrameIs, PendingIs, Holds, ChangesTop, AddsFunction, TopHasRoom, counted, HasRoom, CountsMember}
+use Rattle.cfg_expr.specs.Parsing.{kind_of, leaves, function_count, function_nodes, written_nodes, FrameIs, PendingIs, Holds, ChangesTop, AddsFunction, counted, HasRoom, CountsMember}
 use Rattle.cfg_expr.specs.declared.expr.Func.{Func}
 use Rattle.cfg_expr.specs.declared.expr.Func.TheVariants as func
 use Rattle.cfg_expr.specs.declared.expr.ExprNode.{ExprNode}
@@ -59,19 +59,19 @@ some_same a b e = cc
 
 Call-all : (members : List Tree) → Call Kind.all members (func.All (function_count members + length (leaves members)))
 Call-all members = record {
-    tree = Tree.all (trees_of members);
-    called = refl;
-    functional = refl;
-    nodes = rw (postfix_by-functions members, postfix_by-predicates members, count-members members) refl;
-  }
+  tree = Tree.all (trees_of members);
+  called = refl;
+  functional = refl;
+  nodes = rw (postfix_by-functions members, postfix_by-predicates members, count-members members) refl;
+}
 
 Call-any : (members : List Tree) → Call Kind.any members (func.Any (function_count members + length (leaves members)))
 Call-any members = record {
-    tree = Tree.any (trees_of members);
-    called = refl;
-    functional = refl;
-    nodes = rw (postfix_by-functions members, postfix_by-predicates members, count-members members) refl;
-  }
+  tree = Tree.any (trees_of members);
+  called = refl;
+  functional = refl;
+  nodes = rw (postfix_by-functions members, postfix_by-predicates members, count-members members) refl;
+}
 
 one_node : (member : Tree) → postfix member ≡ function_nodes (member ∷ []) ++ map Node.predicate (leaves (member ∷ []))
 one_node (Tree.leaf question) = refl
@@ -82,11 +82,11 @@ one_node (Tree.not inner) = sym (append-nil (postfix (Tree.not inner) ++ []) ∙
 Call-not : (members : List Tree) → length members ≡ 1 → Call Kind.not members func.Not
 Call-not [] one = absurd (omega arith)
 Call-not (member ∷ []) one = record {
-    tree = Tree.not member;
-    called = refl;
-    functional = refl;
-    nodes = ap (λ l. l ++ Node.function func.Not ∷ []) (one_node member);
-  }
+  tree = Tree.not member;
+  called = refl;
+  functional = refl;
+  nodes = ap (λ l. l ++ Node.function func.Not ∷ []) (one_node member);
+}
 Call-not (member ∷ other ∷ others) one = absurd (omega arith)
 
 counted_not : (b : Bool) (closed : Func) → (if b then Some func.Not else None) ≡ Some closed → (b ≡ true) × (func.Not ≡ closed)
@@ -153,12 +153,12 @@ nodes_of tree functional = ap (λ b. (if b then postfix tree else []) ++ []) fun
 FrameIs-function : {A : Type 0} (text : List ℕ) (tree : Tree) (top changed : FuncAndSpan A) (frame : Frame) → is_function tree ≡ true → AddsFunction {A = A} top changed
     → FrameIs {A = A} text top frame → FrameIs {A = A} text changed (record frame { members = frame.members ++ tree ∷ [] })
 FrameIs-function text tree top changed frame functional adds is = record {
-    kind = ap kind_of adds.func ∙ is.kind;
-    predicates = ap (map (question_at text)) adds.predicates ∙ is.predicates
-        ∙ sym (leaves-append frame.members (tree ∷ []) ∙ ap (λ l. leaves frame.members ++ l) (leaves_of tree functional) ∙ append-nil (leaves frame.members));
-    cuts = subst (AllByRecursion (HasCut text)) (sym adds.predicates) is.cuts;
-    functions = omega (arith, adds.functions, is.functions, function_count-append frame.members (tree ∷ []), count_of tree functional);
-  }
+  kind = ap kind_of adds.func ∙ is.kind;
+  predicates = ap (map (question_at text)) adds.predicates ∙ is.predicates
+      ∙ sym (leaves-append frame.members (tree ∷ []) ∙ ap (λ l. leaves frame.members ++ l) (leaves_of tree functional) ∙ append-nil (leaves frame.members));
+  cuts = subst (AllByRecursion (HasCut text)) (sym adds.predicates) is.cuts;
+  functions = omega (arith, adds.functions, is.functions, function_count-append frame.members (tree ∷ []), count_of tree functional);
+}
 
 -- the parser's fields with one member more of the list around
 add_root : (m : Machine) (others : List Frame) (tree : Tree) → others ≡ [] → add (record m { frames = others }) tree ≡ record m { frames = []; roots = m.roots ++ tree ∷ [] }
@@ -199,7 +199,7 @@ module _ {A : Type 0} (text : List ℕ) (p r : Parser A) (m : Machine) (others :
         nodes = ap (λ q. nodes_at text q.items) counts.expr_queue ∙ nodes ∙ ap (λ f. written_nodes f m.roots ++ postfix tree) top.frames_are
             ∙ append_assoc (written_nodes top.others m.roots) (function_nodes top.frame.members) (postfix tree)
             ∙ ap (λ l. written_nodes top.others m.roots ++ l)
-              (sym (function_nodes-append top.frame.members (tree ∷ []) ∙ ap (λ l. function_nodes top.frame.members ++ l) (nodes_of tree functional)));
+            (sym (function_nodes-append top.frame.members (tree ∷ []) ∙ ap (λ l. function_nodes top.frame.members ++ l) (nodes_of tree functional)));
         cuts = subst (λ q. AllByRecursion (NodeHasCut text) q.items) (sym counts.expr_queue) cuts;
         roots = same ∙ held.roots;
         pending = subst (λ k. PendingIs text k m.pending) (sym counts.pred_key) held.pending;
@@ -227,11 +227,11 @@ Holds-closed {A} text p r m stack queue1 queue2 top closed closes counts h =
     let written : nodes_at text p.expr_queue.items ≡ written_nodes t.others m.roots ++ function_nodes t.frame.members = h.nodes ∙ ap (λ f. written_nodes f m.roots) t.frames_are in
     let nodes = nodes_closed text p.expr_queue.items queue1.items queue2.items top.predicates.items closed _ t.frame.members (leaves t.frame.members) closes.appended closes.pushed written t.is.predicates in
     let whole : nodes_at text queue2.items ≡ written_nodes t.others m.roots ++ postfix call.tree =
-        nodes ∙ together (written_nodes t.others m.roots) (function_nodes t.frame.members) (map Node.predicate (leaves t.frame.members)) (Node.function closed)
-        ∙ ap (λ l. written_nodes t.others m.roots ++ l) (sym call.nodes) in
+    nodes ∙ together (written_nodes t.others m.roots) (function_nodes t.frame.members) (map Node.predicate (leaves t.frame.members)) (Node.function closed)
+    ∙ ap (λ l. written_nodes t.others m.roots ++ l) (sym call.nodes) in
     let cuts = cuts_closed text p.expr_queue.items queue1.items queue2.items top.predicates.items closed closes.appended closes.pushed h.cuts t.is.cuts in
     let closed_is : close_of m.frames m ≡ Some (add (record m { frames = t.others }) call.tree) =
-        ap (λ f. close_of f m) t.frames_are ∙ ap (option_map (add (record m { frames = t.others }))) call.called in
+    ap (λ f. close_of f m) t.frames_are ∙ ap (option_map (add (record m { frames = t.others }))) call.called in
     subst (λ o. IsSomeAnd o (Holds {A = A} text r)) (sym closed_is)
     (Holds-counted {A = A} text p r m t.others call.tree queue2 stack h call.functional t.rest whole cuts counts)
   where
@@ -251,7 +251,7 @@ pub HasRoom-closed : {A : Type 0} (text : List ℕ) (p : Parser A) (m : Machine)
 HasRoom-closed {A} text p m stack queue top popped longer bound h =
     let t = Innermost-last {A = A} text p.func_stack.items stack.items top m.frames popped h.frames in
     let around : length (written_nodes m.frames m.roots) ≡ length (written_nodes t.others m.roots) + length (function_nodes t.frame.members) =
-        ap (λ f. length (written_nodes f m.roots)) t.frames_are ∙ length-append (written_nodes t.others m.roots) (function_nodes t.frame.members) in
+    ap (λ f. length (written_nodes f m.roots)) t.frames_are ∙ length-append (written_nodes t.others m.roots) (function_nodes t.frame.members) in
     record {
       root = omega (arith, roots_bound {A = A} text p m h);
       top = λ front last is. omega (arith, top_bound {A = A} text stack.items t.others m.roots t.rest front last is, around, written_is {A = A} text p m h);

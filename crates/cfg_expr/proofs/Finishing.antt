@@ -1,16 +1,12 @@
 -- At the end of the text: one tree stands at the root, and its nodes are written.
-use Rattle.std.proofs.Common.{◌≡◌, ℕ, ◌+◌, ◌<◌, List, [], ◌∷◌, ◌++◌, length, map, Option, Some, None, sym, refl, ap, ◌∙◌, subst, arith}
-use Rattle.std.specs.List.{AllByRecursion, AllZip}
+use Rattle.std.proofs.Common.{◌≡◌, List, [], ◌∷◌, length, map, Option, Some, None, sym, refl, ap, ◌∙◌, arith}
 use Rattle.std.proofs.lemmas.List.{append-nil}
-use Rattle.cfgx_syntax.specs.Items.{Item, Ending, AreItems}
 use Rattle.cfg_expr.specs.Question.{Question}
 use Rattle.cfg_expr.specs.Tree.{Tree}
-use Rattle.cfg_expr.specs.Grammar.{HasTree}
 use Rattle.cfg_expr.specs.Nodes.{postfix}
-use Rattle.cfg_expr.specs.Machine.{Frame, Machine, initial, run, settle, settle_of, add_to, tree_at, finish}
+use Rattle.cfg_expr.specs.Machine.{Machine, settle, settle_of, add_to, tree_at, finish}
 use Rattle.cfg_expr.specs.Expression.{nodes_at, Keeps}
 use Rattle.cfg_expr.specs.Parsing.{Holds, HasReadAll, IsFinished, written_nodes}
-use Rattle.cfg_expr.specs.declared.expr.ExprNode.{ExprNode}
 use Rattle.cfg_expr.specs.declared.expr.parser.Parser.{Parser}
 use Rattle.cfg_expr.proofs.Holding.{frames_empty}
 use Rattle.cfg_expr.proofs.MachineReads.{IsTree-finish}
@@ -38,11 +34,11 @@ IsFinished-end {A} p q read empty one held =
     let found : finish read.m ≡ Some root.0 = ap (λ f. tree_at f (settle read.m).roots) none ∙ ap (tree_at []) root.1 in
     let spelled = IsTree-finish (map (λ item. item.token) read.items) read.m root.0 read.runs found in
     let nodes : nodes_at p.original.now q.expr_queue.items ≡ postfix root.0 =
-        held.nodes ∙ ap (λ f. written_nodes f (settle read.m).roots) none ∙ ap (written_nodes []) root.1 ∙ append-nil (postfix root.0) in
+    held.nodes ∙ ap (λ f. written_nodes f (settle read.m).roots) none ∙ ap (written_nodes []) root.1 ∙ append-nil (postfix root.0) in
     let keeps : Keeps p.original.now q.expr_queue.items = record {
-        tree = root.0;
-        has_tree = record { items = read.items; are_items = read.are_items; spelled = spelled };
-        nodes_are = nodes;
-        cuts = held.cuts;
-      } in
+      tree = root.0;
+      has_tree = record { items = read.items; are_items = read.are_items; spelled = spelled };
+      nodes_are = nodes;
+      cuts = held.cuts;
+    } in
     record { original = held.original; keeps = keeps }

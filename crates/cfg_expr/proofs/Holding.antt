@@ -1,17 +1,17 @@
 -- What the parser's fields keep, step by step.
-use Rattle.std.proofs.Common.{◌≡◌, ⊎_elim, ℕ, zero, suc, ◌+◌, ◌-◌, ◌<◌, ◌≤◌, ◌^◌, Bool, true, false, List, [], ◌∷◌, ◌++◌, length, map, reverse, Option, Some, None, sym, refl, ap, ◌∙◌, subst, arith, append_assoc, length-append}
+use Rattle.std.proofs.Common.{◌≡◌, ⊎_elim, ℕ, ◌+◌, ◌<◌, ◌≤◌, Bool, true, List, [], ◌∷◌, ◌++◌, length, map, reverse, Option, Some, None, sym, refl, ap, ◌∙◌, subst, arith, append_assoc, length-append}
 use Rattle.std.specs.Prelude.{if◌then◌else◌, slice_range, option_map, IsSomeAnd}
 use Rattle.std.specs.List.{AllByRecursion, AllZip, flat_map}
-use Rattle.std.proofs.lemmas.List.{append-nil, reverse-append, map-append, nil_from_length, length-map}
+use Rattle.std.proofs.lemmas.List.{append-nil, reverse-append, map-append, length-map}
 use Rattle.smallvec.specs.SmallVec.{SmallVec}
 use Rattle.cfgx_syntax.specs.Lexer.{token_of}
 use Rattle.cfgx_syntax.specs.declared.lexer.Token.{Token}
 use Rattle.cfg_expr.specs.Question.{Question}
-use Rattle.cfg_expr.specs.Tree.{Tree, Trees, is_function}
+use Rattle.cfg_expr.specs.Tree.{Tree, is_function}
 use Rattle.cfg_expr.specs.Nodes.{Node, postfix}
-use Rattle.cfg_expr.specs.Machine.{Kind, Frame, Machine, add, add_to, settle, settle_of, opened, apply, step, follows}
+use Rattle.cfg_expr.specs.Machine.{Frame, Machine, add_to, settle, settle_of, opened, apply, step, follows}
 use Rattle.cfg_expr.specs.Expression.{question_at, node_at, nodes_at, IsCut, HasCut, NodeHasCut}
-use Rattle.cfg_expr.specs.Parsing.{kind_of, leaves, function_count, function_nodes, written_nodes, FrameIs, PendingIs, Holds, IsSound, ChangesTop, AddsLeaf, AddsFunction, OpensParens, MarksTop, TopHasRoom}
+use Rattle.cfg_expr.specs.Parsing.{kind_of, leaves, function_count, function_nodes, written_nodes, FrameIs, PendingIs, Holds, ChangesTop, AddsLeaf, OpensParens, MarksTop}
 use Rattle.cfg_expr.specs.declared.expr.Func.{Func}
 use Rattle.cfg_expr.specs.declared.expr.ExprNode.{ExprNode}
 use Rattle.cfg_expr.specs.declared.expr.ExprNode.TheVariants as node
@@ -110,12 +110,12 @@ pending_none text (Some span) pending is held = absurd (cc)
 FrameIs-leaf : {A : Type 0} (text : List ℕ) (predicate : InnerPredicate) (top changed : FuncAndSpan A) (frame : Frame) → AddsLeaf {A = A} predicate top changed → HasCut text predicate
     → FrameIs {A = A} text top frame → FrameIs {A = A} text changed (record frame { members = frame.members ++ Tree.leaf (question_at text predicate) ∷ [] })
 FrameIs-leaf text predicate top changed frame adds cut is = record {
-    kind = ap kind_of adds.func ∙ is.kind;
-    predicates = ap (map (question_at text)) adds.predicates ∙ map-append (question_at text) top.predicates.items (predicate ∷ [])
-        ∙ ap (λ l. l ++ question_at text predicate ∷ []) is.predicates ∙ sym (leaves-append frame.members (Tree.leaf (question_at text predicate) ∷ []));
-    cuts = subst (AllByRecursion (HasCut text)) (sym adds.predicates) (AllByRecursion-append (HasCut text) top.predicates.items (predicate ∷ []) is.cuts (cut, tt));
-    functions = adds.functions ∙ is.functions ∙ sym (function_count-append frame.members (Tree.leaf (question_at text predicate) ∷ []) ∙ omega arith);
-  }
+  kind = ap kind_of adds.func ∙ is.kind;
+  predicates = ap (map (question_at text)) adds.predicates ∙ map-append (question_at text) top.predicates.items (predicate ∷ [])
+      ∙ ap (λ l. l ++ question_at text predicate ∷ []) is.predicates ∙ sym (leaves-append frame.members (Tree.leaf (question_at text predicate) ∷ []));
+  cuts = subst (AllByRecursion (HasCut text)) (sym adds.predicates) (AllByRecursion-append (HasCut text) top.predicates.items (predicate ∷ []) is.cuts (cut, tt));
+  functions = adds.functions ∙ is.functions ∙ sym (function_count-append frame.members (Tree.leaf (question_at text predicate) ∷ []) ∙ omega arith);
+}
 
 -- the machine with its pending predicate ended, in a function and at the root
 settle_in : (m : Machine) (question : Question) (frame : Frame) (others : List Frame) → m.pending ≡ Some question → m.frames ≡ frame ∷ others
@@ -149,8 +149,8 @@ Holds-leaf {A} text p m stack span key is was changes h =
     let settled = settle_in m (question_at text (inner.Flag span)) top.frame top.others (pending.pending_is ∙ ap Some (sym pending.names)) top.frames_are in
     let frames = Frames-changed {A = A} text changes.0 stack.items changes.2 frame top.others changes.4 leaf top.rest in
     let nodes : written_nodes m.frames m.roots ≡ written_nodes (frame ∷ top.others) m.roots =
-        ap (λ f. written_nodes f m.roots) top.frames_are
-        ∙ ap (λ l. written_nodes top.others m.roots ++ l) (sym (function_nodes-append top.frame.members (Tree.leaf (question_at text (inner.Flag span)) ∷ []) ∙ append-nil (function_nodes top.frame.members))) in
+    ap (λ f. written_nodes f m.roots) top.frames_are
+    ∙ ap (λ l. written_nodes top.others m.roots ++ l) (sym (function_nodes-append top.frame.members (Tree.leaf (question_at text (inner.Flag span)) ∷ []) ∙ append-nil (function_nodes top.frame.members))) in
     subst (Holds {A = A} text (record p { func_stack = stack; pred_key = key })) (sym settled)
     (record { original = h.original; frames = frames; nodes = h.nodes ∙ nodes; cuts = h.cuts; roots = h.roots; pending = subst (λ k. PendingIs text k None) (sym was) tt; last = h.last })
 
@@ -163,9 +163,9 @@ Holds-root {A} text p m queue span key is was empty pushed h =
     let question = question_at text (inner.Flag span) in
     let settled = settle_root m (question_at text (inner.Flag span)) (pending.pending_is ∙ ap Some (sym pending.names)) none in
     let nodes : nodes_at text queue.items ≡ written_nodes m.frames (m.roots ++ Tree.leaf question ∷ []) =
-        ap (nodes_at text) pushed ∙ map-append (node_at text) p.expr_queue.items (node.Predicate (inner.Flag span) ∷ [])
-        ∙ ap (λ l. l ++ Node.predicate question ∷ []) (h.nodes ∙ ap (λ f. written_nodes f m.roots) none)
-        ∙ sym (ap (λ f. written_nodes f (m.roots ++ Tree.leaf question ∷ [])) none ∙ flat_map-append postfix m.roots (Tree.leaf question ∷ [])) in
+    ap (nodes_at text) pushed ∙ map-append (node_at text) p.expr_queue.items (node.Predicate (inner.Flag span) ∷ [])
+    ∙ ap (λ l. l ++ Node.predicate question ∷ []) (h.nodes ∙ ap (λ f. written_nodes f m.roots) none)
+    ∙ sym (ap (λ f. written_nodes f (m.roots ++ Tree.leaf question ∷ [])) none ∙ flat_map-append postfix m.roots (Tree.leaf question ∷ [])) in
     let cuts = subst (AllByRecursion (NodeHasCut text)) (sym pushed) (AllByRecursion-append (NodeHasCut text) p.expr_queue.items (node.Predicate (inner.Flag span) ∷ []) h.cuts (pending.cut, tt)) in
     let roots : p.root_count + 1 ≡ length (m.roots ++ Tree.leaf question ∷ []) = ap (λ n. n + 1) h.roots ∙ sym (length-append m.roots (Tree.leaf question ∷ [])) in
     subst (Holds {A = A} text (record p { expr_queue = queue; pred_key = key; root_count = p.root_count + 1 })) (sym settled)
@@ -208,7 +208,7 @@ pub top_bound : {A : Type 0} (text : List ℕ) (items : List (FuncAndSpan A)) (f
 top_bound {A} text items frames roots zip front top is =
     let t = Innermost-last {A = A} text items front top frames is zip in
     let long : length (written_nodes frames roots) ≡ length (written_nodes t.others roots) + length (function_nodes t.frame.members) =
-        ap (λ f. length (written_nodes f roots)) t.frames_are ∙ length-append (written_nodes t.others roots) (function_nodes t.frame.members) in
+    ap (λ f. length (written_nodes f roots)) t.frames_are ∙ length-append (written_nodes t.others roots) (function_nodes t.frame.members) in
     omega (arith, t.is.functions, length-function_nodes t.frame.members, long)
 
 pub Holds-opened : {A : Type 0} (text : List ℕ) (p : Parser A) (m : Machine) (stack : SmallVec (FuncAndSpan A)) (func : Func) (pushed : FuncAndSpan A)
@@ -217,11 +217,11 @@ pub Holds-opened : {A : Type 0} (text : List ℕ) (p : Parser A) (m : Machine) (
 Holds-opened {A} text p m stack func pushed is named empty zero_functions h =
     let frame : Frame = record { kind = kind_of func; members = [] } in
     let new : FrameIs {A = A} text pushed (record { kind = kind_of func; members = [] }) = record {
-        kind = ap kind_of named;
-        predicates = ap (map (question_at text)) empty;
-        cuts = subst (AllByRecursion (HasCut text)) (sym empty) tt;
-        functions = zero_functions;
-      } in
+      kind = ap kind_of named;
+      predicates = ap (map (question_at text)) empty;
+      cuts = subst (AllByRecursion (HasCut text)) (sym empty) tt;
+      functions = zero_functions;
+    } in
     record {
       original = h.original;
       frames = Frames-changed {A = A} text p.func_stack.items stack.items pushed (record { kind = kind_of func; members = [] }) m.frames is new h.frames;
@@ -236,31 +236,43 @@ Holds-opened {A} text p m stack func pushed is named empty zero_functions h =
 pub Holds-key : {A : Type 0} (text : List ℕ) (p : Parser A) (m : Machine) (word : List ℕ) (span : Range ℕ) → word ≡ slice_range text span.start span.end → IsCut text span.start span.end
     → Holds {A = A} text p m → Holds {A = A} text (record p { pred_key = Some span }) (record m { pending = Some (Question.flag word) })
 Holds-key text p m word span is cut h = record {
-    original = h.original; frames = h.frames; nodes = h.nodes; cuts = h.cuts; roots = h.roots; pending = (ap Question.flag (sym is), cut); last = h.last;
-  }
+  original = h.original;
+  frames = h.frames;
+  nodes = h.nodes;
+  cuts = h.cuts;
+  roots = h.roots;
+  pending = (ap Question.flag (sym is), cut);
+  last = h.last;
+}
 
 -- the innermost function's `(` is marked
 FrameIs-marked : {A : Type 0} (text : List ℕ) (top changed : FuncAndSpan A) (frame : Frame) → OpensParens {A = A} top changed → FrameIs {A = A} text top frame → FrameIs {A = A} text changed frame
 FrameIs-marked text top changed frame marks is = record {
-    kind = ap kind_of marks.func ∙ is.kind;
-    predicates = ap (map (question_at text)) marks.predicates ∙ is.predicates;
-    cuts = subst (AllByRecursion (HasCut text)) (sym marks.predicates) is.cuts;
-    functions = marks.functions ∙ is.functions;
-  }
+  kind = ap kind_of marks.func ∙ is.kind;
+  predicates = ap (map (question_at text)) marks.predicates ∙ is.predicates;
+  cuts = subst (AllByRecursion (HasCut text)) (sym marks.predicates) is.cuts;
+  functions = marks.functions ∙ is.functions;
+}
 
 marked_frames : {A : Type 0} (text : List ℕ) (old new : List (FuncAndSpan A)) (frames : List Frame) → MarksTop {A = A} old new → AllZip (FrameIs {A = A} text) (reverse old) frames
     → AllZip (FrameIs {A = A} text) (reverse new) frames
 marked_frames {A} text old new frames marks zip =
     ⊎_elim (λ e. subst (λ l. AllZip (FrameIs {A = A} text) (reverse l) frames) (e.0 ∙ sym e.1) zip)
     (λ c. let t = Innermost-last {A = A} text old c.0 c.1 frames c.3 zip in
-        subst (AllZip (FrameIs {A = A} text) (reverse new)) (sym t.frames_are)
-        (Frames-changed {A = A} text c.0 new c.2 t.frame t.others c.4 (FrameIs-marked {A = A} text c.1 c.2 t.frame c.5 t.is) t.rest)) marks
+    subst (AllZip (FrameIs {A = A} text) (reverse new)) (sym t.frames_are)
+    (Frames-changed {A = A} text c.0 new c.2 t.frame t.others c.4 (FrameIs-marked {A = A} text c.1 c.2 t.frame c.5 t.is) t.rest)) marks
 
 pub Holds-marked : {A : Type 0} (text : List ℕ) (p : Parser A) (m : Machine) (stack : SmallVec (FuncAndSpan A)) → MarksTop {A = A} p.func_stack.items stack.items → Holds {A = A} text p m
     → Holds {A = A} text (record p { func_stack = stack }) m
 Holds-marked {A} text p m stack marks h = record {
-    original = h.original; frames = marked_frames {A = A} text p.func_stack.items stack.items m.frames marks h.frames; nodes = h.nodes; cuts = h.cuts; roots = h.roots; pending = h.pending; last = h.last;
-  }
+  original = h.original;
+  frames = marked_frames {A = A} text p.func_stack.items stack.items m.frames marks h.frames;
+  nodes = h.nodes;
+  cuts = h.cuts;
+  roots = h.roots;
+  pending = h.pending;
+  last = h.last;
+}
 
 -- the last token is noted
 pub Holds-last : {A : Type 0} (text : List ℕ) (p : Parser A) (m : Machine) (token : Token) → Holds {A = A} text p m
@@ -283,4 +295,4 @@ Holds-step {A} text old new m token may applied h =
     subst (λ o. IsSomeAnd o (Holds {A = A} text (record new { last_token = Some token })))
     (stepped (follows m.last (token_of token)) (option_map {T = Machine} (λ n. record n { last = Some (token_of token) }) (apply m (token_of token))) allowed)
     (IsSomeAnd-map {A = Machine} {B = Machine} (λ n. record n { last = Some (token_of token) }) (apply m (token_of token)) (Holds {A = A} text new) (Holds {A = A} text (record new { last_token = Some token }))
-      (λ n. Holds-last {A = A} text new n token) applied)
+    (λ n. Holds-last {A = A} text new n token) applied)

@@ -1,9 +1,9 @@
 -- Lists of items with commas between them, as the parser reads them: from the left, one member after another.
-use Rattle.std.proofs.Common.{◌≡◌, ℕ, zero, suc, ◌+◌, ◌<◌, List, [], ◌∷◌, ◌++◌, replicate, length, sym, refl, ap, ◌∙◌, subst, arith, append_assoc}
+use Rattle.std.proofs.Common.{◌≡◌, ℕ, zero, suc, ◌<◌, List, [], ◌∷◌, ◌++◌, length, sym, refl, ap, ◌∙◌, subst, arith, append_assoc}
 use Rattle.std.proofs.lemmas.List.{append-nil}
 use Rattle.cfgx_syntax.specs.Token.{Token}
-use Rattle.cfg_expr.specs.Tree.{Tree, Trees}
-use Rattle.cfg_expr.specs.Grammar.{commas, Separates, IsItem, IsList, IsTree}
+use Rattle.cfg_expr.specs.Tree.{Tree}
+use Rattle.cfg_expr.specs.Grammar.{commas, IsItem, IsList, IsTree}
 use Rattle.cfg_expr.specs.Machine.{trees_of}
 
 -- the tokens spell these trees, each with at least one comma behind it
@@ -59,8 +59,8 @@ pub Ready-comma : (tokens : List Token) (trees : List Tree) → Ready tokens tre
 Ready-comma tokens [] ready some = absurd (omega arith)
 Ready-comma tokens (tree ∷ []) (item, n, rest, is, spelled, ready) some =
     let longer : (commas (suc n) ++ rest) ++ Token.comma ∷ [] ≡ commas (suc (suc n)) ++ [] =
-        ap (λ l. (commas (suc n) ++ l) ++ Token.comma ∷ []) ready ∙ ap (λ l. l ++ Token.comma ∷ []) (append-nil (commas (suc n)))
-        ∙ commas_more (suc n) ∙ sym (append-nil (commas (suc (suc n)))) in
+    ap (λ l. (commas (suc n) ++ l) ++ Token.comma ∷ []) ready ∙ ap (λ l. l ++ Token.comma ∷ []) (append-nil (commas (suc n)))
+    ∙ commas_more (suc n) ∙ sym (append-nil (commas (suc (suc n)))) in
     (item, suc n, [], ap (λ l. l ++ Token.comma ∷ []) is ∙ append_assoc item (commas (suc n) ++ rest) (Token.comma ∷ []) ∙ ap (λ l. item ++ l) longer, spelled, refl)
 Ready-comma tokens (tree ∷ other ∷ others) (item, n, rest, is, spelled, ready) some =
     (item, n, rest ++ Token.comma ∷ [], rw is (simp append_assoc), spelled, Ready-comma rest (other ∷ others) ready (omega arith))
@@ -84,9 +84,9 @@ Behind-single front item (first ∷ second ∷ others) tree ready spelled one e 
 
 pub Full-behind : (tokens : List Token) (trees : List Tree) → Behind tokens trees → Full tokens trees
 Full-behind tokens trees b = record {
-    list = rw (b.tokens_are, b.trees_are) (Ready-item b.front b.others b.item b.tree b.ready b.spelled);
-    single = λ one e. subst (λ t. IsTree t one) (sym b.tokens_are) (Behind-single b.front b.item b.others b.tree b.ready b.spelled one (sym b.trees_are ∙ e));
-  }
+  list = rw (b.tokens_are, b.trees_are) (Ready-item b.front b.others b.item b.tree b.ready b.spelled);
+  single = λ one e. subst (λ t. IsTree t one) (sym b.tokens_are) (Behind-single b.front b.item b.others b.tree b.ready b.spelled one (sym b.trees_are ∙ e));
+}
 
 pub Ready-behind : (tokens : List Token) (trees : List Tree) → Behind tokens trees → Ready (tokens ++ Token.comma ∷ []) trees
 Ready-behind tokens trees b = rw (b.tokens_are, b.trees_are) (Ready-push b.front b.others b.item b.tree b.ready b.spelled)

@@ -1,11 +1,11 @@
 -- The machine finds trees of the grammar: what it keeps is spelled by the tokens that it took.
 use Rattle.std.proofs.lemmas.Bool.{false≢true}
-use Rattle.std.proofs.Common.{◌≡◌, ◌⊎◌, inl, inr, ⊎_elim, ℕ, zero, suc, ◌+◌, ◌<◌, Bool, true, false, List, [], ◌∷◌, ◌++◌, length, Option, Some, None, sym, refl, ap, ◌∙◌, subst, arith, append_assoc, length-append}
+use Rattle.std.proofs.Common.{◌≡◌, ◌⊎◌, inl, inr, ⊎_elim, ℕ, ◌<◌, Bool, true, false, List, [], ◌∷◌, ◌++◌, length, Option, Some, None, sym, refl, ap, ◌∙◌, subst, arith, append_assoc, length-append}
 use Rattle.std.specs.Prelude.{option_map, option_and_then, if◌then◌else◌}
 use Rattle.std.proofs.lemmas.List.{append-nil}
 use Rattle.cfgx_syntax.specs.Token.{Token}
 use Rattle.cfg_expr.specs.Question.{Question}
-use Rattle.cfg_expr.specs.Tree.{Tree, Trees}
+use Rattle.cfg_expr.specs.Tree.{Tree}
 use Rattle.cfg_expr.specs.Grammar.{IsPredicate, IsItem, IsTree}
 use Rattle.cfg_expr.specs.Machine.{Kind, Frame, Machine, name_of, trees_of, initial, takes_item, takes_open, takes_comma, takes_close, follows, add, settle, settle_of, call_of, close_of, opened, apply, step, run, tree_at, finish}
 use Rattle.cfg_expr.proofs.Lists.{Ready, Behind, Full, Full-ready, Full-behind, Ready-behind, Ready-comma}
@@ -95,15 +95,15 @@ pub Added-add : (frames : List Frame) (roots : List Tree) (last : Option Token) 
     → Around roots frames before → Ready list (current frames roots) → IsItem item tree
     → Added (add (record { frames = frames; roots = roots; pending = None; last = last }) tree) before (list ++ item)
 Added-add [] roots last tree before list item around ready spelled = record {
-    around = around;
-    behind = record { front = list; others = roots; item = item; tree = tree; tokens_are = refl; trees_are = refl; ready = ready; spelled = spelled };
-    settled = refl;
-  }
+  around = around;
+  behind = record { front = list; others = roots; item = item; tree = tree; tokens_are = refl; trees_are = refl; ready = ready; spelled = spelled };
+  settled = refl;
+}
 Added-add (frame ∷ frames) roots last tree before list item around ready spelled = record {
-    around = around;
-    behind = record { front = list; others = frame.members; item = item; tree = tree; tokens_are = refl; trees_are = refl; ready = ready; spelled = spelled };
-    settled = refl;
-  }
+  around = around;
+  behind = record { front = list; others = frame.members; item = item; tree = tree; tokens_are = refl; trees_are = refl; ready = ready; spelled = spelled };
+  settled = refl;
+}
 
 Added-pends : (m : Machine) (tokens : List Token) → Pends m tokens
     → (before : List Token) × (list : List Token) × (tokens ≡ before ++ list) × Added (settle m) before list
@@ -245,8 +245,8 @@ Reads-open m tokens may reads =
     let n = Named-open m.last m tokens may reads in
     let before = tokens ++ Token.open_paren ∷ [] in
     let is : tokens ++ Token.open_paren ∷ [] ≡ n.outer ++ (n.list ++ name_of n.frame.kind ∷ Token.open_paren ∷ []) =
-        ap (λ l. l ++ Token.open_paren ∷ []) n.tokens_are ∙ append_assoc n.outer (n.list ++ name_of n.frame.kind ∷ []) (Token.open_paren ∷ [])
-        ∙ ap (λ l. n.outer ++ l) (append_assoc n.list (name_of n.frame.kind ∷ []) (Token.open_paren ∷ [])) in
+    ap (λ l. l ++ Token.open_paren ∷ []) n.tokens_are ∙ append_assoc n.outer (n.list ++ name_of n.frame.kind ∷ []) (Token.open_paren ∷ [])
+    ∙ ap (λ l. n.outer ++ l) (append_assoc n.list (name_of n.frame.kind ∷ []) (Token.open_paren ∷ [])) in
     let around : Around m.roots (n.frame ∷ n.frames) (tokens ++ Token.open_paren ∷ []) = (n.outer, n.list, is, n.around, n.ready) in
     let members : current m.frames m.roots ≡ [] = ap (λ f. current f m.roots) n.frames_are ∙ n.no_members in
     record {

@@ -1,12 +1,12 @@
 -- Nodes, the questions among them, and the trees that they keep.
-use Rattle.std.proofs.Common.{◌≡◌, ℕ, suc, ◌+◌, ◌-◌, ◌<◌, ◌≤◌, Bool, true, false, cond, List, [], ◌∷◌, ◌++◌, length, map, sym, refl, ap, ◌∙◌, subst, arith, append_assoc, length-append}
+use Rattle.std.proofs.Common.{◌≡◌, ℕ, ◌+◌, Bool, true, false, cond, List, [], ◌∷◌, ◌++◌, length, sym, refl, ap, ◌∙◌, subst}
 use Rattle.std.specs.Prelude.{count_by, if◌then◌else◌}
 use Rattle.std.specs.List.{AllByRecursion}
 use Rattle.std.proofs.lemmas.List.{append-nil}
 use Rattle.cfg_expr.specs.Question.{Question}
 use Rattle.cfg_expr.specs.Tree.{Tree, Trees, is_function, is_predicate as leads, count, asked, asked_by}
 use Rattle.cfg_expr.specs.Nodes.{Node, postfix, postfix_by, questions}
-use Rattle.cfg_expr.specs.Expression.{is_predicate, question_at, node_at, nodes_at, NodeHasCut, HasCut, AsksFirst}
+use Rattle.cfg_expr.specs.Expression.{is_predicate, nodes_at, NodeHasCut, AsksFirst}
 use Rattle.cfg_expr.specs.declared.expr.ExprNode.{ExprNode}
 use Rattle.cfg_expr.specs.declared.expr.ExprNode.TheVariants as node
 use Rattle.cfg_expr.specs.declared.expr.InnerPredicate.{InnerPredicate}
@@ -68,14 +68,14 @@ SameQuestions-start nodes = record { asks = λ text. refl; cuts = λ text cuts. 
 
 pub SameQuestions-more : (nodes rest others : List ExprNode) (func : Func) → rest ≡ node.Fn func ∷ others → SameQuestions nodes rest → SameQuestions nodes others
 SameQuestions-more nodes rest others func is same = record {
-    asks = λ text. same.asks text ∙ ap (λ l. questions (nodes_at text l)) is;
-    cuts = λ text cuts. (subst (AllByRecursion (NodeHasCut text)) is (same.cuts text cuts)).1;
-  }
+  asks = λ text. same.asks text ∙ ap (λ l. questions (nodes_at text l)) is;
+  cuts = λ text cuts. (subst (AllByRecursion (NodeHasCut text)) is (same.cuts text cuts)).1;
+}
 
 pub AsksFirst-found : (text : List ℕ) (nodes rest others : List ExprNode) (first : InnerPredicate) → rest ≡ node.Predicate first ∷ others → SameQuestions nodes rest
     → AsksFirst text nodes first others
 AsksFirst-found text nodes rest others first is same = record {
-    questions_are = same.asks text ∙ ap (λ l. questions (nodes_at text l)) is;
-    cut = λ cuts. (subst (AllByRecursion (NodeHasCut text)) is (same.cuts text cuts)).0;
-    cuts = λ cuts. (subst (AllByRecursion (NodeHasCut text)) is (same.cuts text cuts)).1;
-  }
+  questions_are = same.asks text ∙ ap (λ l. questions (nodes_at text l)) is;
+  cut = λ cuts. (subst (AllByRecursion (NodeHasCut text)) is (same.cuts text cuts)).0;
+  cuts = λ cuts. (subst (AllByRecursion (NodeHasCut text)) is (same.cuts text cuts)).1;
+}

@@ -1,22 +1,20 @@
 -- The loop over the tokens: what was given so far is what the text begins with.
-use Rattle.std.proofs.Common.{◌≡◌, ℕ, zero, suc, ◌+◌, ◌-◌, ◌<◌, ◌≤◌, Bool, true, List, [], ◌∷◌, ◌++◌, length, map, take, drop, get_or, Option, Some, None, sym, refl, ap, ◌∙◌, subst, arith, append_assoc, length-take, length-drop, add-zero}
-use Rattle.std.specs.Prelude.{Result, Ok, Err, OnOk, option_map, reverse, option_and_then, IsSomeAnd, slice_range, codes, IsTrue}
+use Rattle.std.proofs.Common.{◌≡◌, ℕ, zero, suc, ◌+◌, ◌-◌, ◌<◌, ◌≤◌, List, [], ◌∷◌, ◌++◌, length, map, drop, get_or, Option, Some, None, sym, refl, ap, ◌∙◌, subst, arith, append_assoc, length-drop, add-zero}
+use Rattle.std.specs.Prelude.{Result, Ok, Err, OnOk, option_map, reverse, option_and_then, IsSomeAnd, slice_range}
 use Rattle.std.specs.Str.{IsUtf8, IsCharBoundary}
-use Rattle.std.specs.List.{list_all, AllByRecursion, AllZip}
+use Rattle.std.specs.List.{AllByRecursion, AllZip}
 use Rattle.std.proofs.lemmas.List.{append-nil, map-append, get_or-take, get_or-drop, length-take-le}
 use Rattle.std.proofs.lemmas.List.Sums.{AllPass-from_list_all}
 use Rattle.cfgx_syntax.proofs.Words.{continues_word-ascii, starts_word-continues}
 use Rattle.std.proofs.lemmas.Str.{IsCharBoundary-before_ascii, IsCharBoundary-after_ascii}
-use Rattle.cfgx_syntax.specs.Token as spelled
-use Rattle.cfgx_syntax.specs.Token.{starts_word, continues_word, IsWord, IsKey, Spells}
-use Rattle.cfgx_syntax.specs.Items.{Item, Ending, AreItems, ItemsFrom, IsBlank, Stands}
+use Rattle.cfgx_syntax.specs.Token.{continues_word, IsWord, Spells}
+use Rattle.cfgx_syntax.specs.Items.{Ending, AreItems, IsBlank, Stands}
 use Rattle.cfgx_syntax.specs.Lexer.{token_of, item_of, GivesNext}
 use Rattle.cfgx_syntax.specs.LexerState.{LexerState, starting}
 use Rattle.cfgx_syntax.specs.declared.error.Failure.{Failure}
 use Rattle.cfgx_syntax.specs.declared.lexer.LexerToken.{LexerToken}
 use Rattle.cfgx_syntax.specs.declared.lexer.Token.{Token}
 use Rattle.cfgx_syntax.specs.declared.lexer.Token.TheVariants as given
-use Rattle.std.specs.declared.ops.Range.{Range}
 use Rattle.cfg_expr.specs.Machine.{Machine, initial, run, step}
 use Rattle.cfg_expr.specs.Expression.{IsCut, Keeps, nodes_at, NodeHasCut}
 use Rattle.cfg_expr.specs.Parsing.{Holds, HasRead, HasReadAll, IsPlaced, IsFinished, FrameIs, PendingIs}
@@ -32,15 +30,15 @@ HasRead-more {A} text place old new lexed read stands steps =
     more : (o : Option Machine) → step read.m (token_of lexed.token) ≡ o → IsSomeAnd o (Holds {A = A} text new) → HasRead {A = A} text lexed.span.end new
     more None is holds = absurd holds
     more (Some n) is holds = record {
-        items = read.items ++ item_of lexed ∷ [];
-        so_far = λ rest ending follows. subst (λ l. AreItems text l ending) (sym (append_assoc read.items (item_of lexed ∷ []) rest)) (read.so_far (item_of lexed ∷ rest) ending (stands, follows));
-        m = n;
-        runs = ap (run initial) (map-append (λ item. item.token) read.items (item_of lexed ∷ []))
-            ∙ run-append initial (map (λ item. item.token) read.items) (token_of lexed.token ∷ [])
-            ∙ ap (option_and_then (λ k. run k (token_of lexed.token ∷ []))) read.runs
-            ∙ ap (option_and_then (λ k. run k [])) is;
-        holds = holds;
-      }
+      items = read.items ++ item_of lexed ∷ [];
+      so_far = λ rest ending follows. subst (λ l. AreItems text l ending) (sym (append_assoc read.items (item_of lexed ∷ []) rest)) (read.so_far (item_of lexed ∷ rest) ending (stands, follows));
+      m = n;
+      runs = ap (run initial) (map-append (λ item. item.token) read.items (item_of lexed ∷ []))
+          ∙ run-append initial (map (λ item. item.token) read.items) (token_of lexed.token ∷ [])
+          ∙ ap (option_and_then (λ k. run k (token_of lexed.token ∷ []))) read.runs
+          ∙ ap (option_and_then (λ k. run k [])) is;
+      holds = holds;
+    }
 
 pub HasReadAll-end : {A : Type 0} (text : List ℕ) (place : ℕ) (p : Parser A) → HasRead {A = A} text place p → IsBlank (drop place text) → HasReadAll {A = A} p
 HasReadAll-end {A} text place p read blank =
@@ -70,9 +68,9 @@ IsCut-word text word start end utf8 spelled is ordered inside =
     let long : end - start ≡ length word = sym (length-take-le (end - start) (drop start text) (omega (arith, length-drop start text))) ∙ ap length spelled in
     let some = word_some word is in
     let at : (i : ℕ) → i < end - start → get_or text (start + i) 0 < 128 = λ i lt.
-        let same : get_or text (start + i) 0 ≡ get_or word i 0 =
-            sym (get_or-drop start text i 0) ∙ sym (get_or-take (end - start) (drop start text) i 0 lt) ∙ ap (λ l. get_or l i 0) spelled in
-        omega (arith, same, word_byte word is i (omega arith)) in
+    let same : get_or text (start + i) 0 ≡ get_or word i 0 =
+    sym (get_or-drop start text i 0) ∙ sym (get_or-take (end - start) (drop start text) i 0 lt) ∙ ap (λ l. get_or l i 0) spelled in
+    omega (arith, same, word_byte word is i (omega arith)) in
     let first : get_or text start 0 < 128 = subst (λ n. get_or text n 0 < 128) (add-zero start) (at 0 (omega arith)) in
     let behind : start + (end - start - 1) ≡ end - 1 = omega arith in
     let last : get_or text (end - 1) 0 < 128 = subst (λ n. get_or text n 0 < 128) behind (at (end - start - 1) (omega arith)) in
@@ -117,9 +115,9 @@ IsPlaced-at {A} text place parser lexed utf8 read stands =
 -- what `finish` leaves, seen from the start
 pub finished : {A E : Type 0} (old read new : Parser A) (result : Result (Unit {0}) E) → read.original.now ≡ old.original.now → OnOk result (IsFinished {A = A} read new) → OnOk result (IsFinished {A = A} old new)
 finished {A} old read new (Ok done) same ends = record {
-    original = ends.original ∙ same;
-    keeps = subst (λ t. Keeps t new.expr_queue.items) same ends.keeps;
-  }
+  original = ends.original ∙ same;
+  keeps = subst (λ t. Keeps t new.expr_queue.items) same ends.keeps;
+}
 finished old read new (Err error) same ends = tt
 
 -- nothing was read yet
@@ -127,18 +125,18 @@ pub HasRead-start : {A : Type 0} (text : List ℕ) (state : LexerState) (p : Par
     → p.last_token ≡ None → p.pred_key ≡ None → p.root_count ≡ 0 → HasRead {A = A} state.text state.place p
 HasRead-start {A} text state p is original stack queue last key root =
     let start : HasRead {A = A} text 0 p = record {
-        items = [];
-        so_far = λ rest ending follows. follows;
-        m = initial;
-        runs = refl;
-        holds = record {
-          original = original;
-          frames = subst (λ l. AllZip (FrameIs {A = A} text) (reverse l) []) (sym stack) tt;
-          nodes = ap (nodes_at text) queue;
-          cuts = subst (AllByRecursion (NodeHasCut text)) (sym queue) tt;
-          roots = root;
-          pending = subst (λ k. PendingIs text k None) (sym key) tt;
-          last = ap (option_map token_of) last;
-        };
-      } in
+      items = [];
+      so_far = λ rest ending follows. follows;
+      m = initial;
+      runs = refl;
+      holds = record {
+        original = original;
+        frames = subst (λ l. AllZip (FrameIs {A = A} text) (reverse l) []) (sym stack) tt;
+        nodes = ap (nodes_at text) queue;
+        cuts = subst (AllByRecursion (NodeHasCut text)) (sym queue) tt;
+        roots = root;
+        pending = subst (λ k. PendingIs text k None) (sym key) tt;
+        last = ap (option_map token_of) last;
+      };
+    } in
     subst (λ s. HasRead {A = A} s.text s.place p) (sym is) start

@@ -1,5 +1,5 @@
 -- The vectors of the parser fit in memory: a type takes little more than its parts.
-use Rattle.std.proofs.Common.{◌≡◌, [], ℕ, zero, suc, ◌+◌, ◌-◌, ◌*◌, ◌%◌, ◌<◌, ◌≤◌, ◌^◌, max, sym, refl, subst, arith, mul-le-mul_left, le_refl}
+use Rattle.std.proofs.Common.{[], ℕ, zero, ◌+◌, ◌-◌, ◌*◌, ◌%◌, ◌<◌, ◌≤◌, ◌^◌, sym, subst, arith, mul-le-mul_left, le_refl}
 use Rattle.std.specs.Mem.{FitsInMemory, type_size}
 use Rattle.std.specs.declared.alloc.Allocator.{Ghosts}
 use Rattle.smallvec.specs.contracts.small_vec.SmallVec
@@ -11,7 +11,7 @@ use Rattle.cfg_expr.specs.contracts.expr.parser.Parser
 use mir.Syntax.{erased, Ty, ty_struct, ty_enum, ty_array, Tys, tnil, tcons, Tyss, ttnil, ttcons, Width, w8, w16, w32, w64, w128}
 use Rattle.std.proofs.Math.Nat.{mod-le}
 use mir.Val.{bytes}
-use prog.Memory.{align, aligns, alignss, pad, up, size, end_of, endss}
+use prog.Memory.{align, aligns, alignss, up, size, end_of, endss}
 use prog.Align.{align_w, aligns_w, alignss_w, align-bytes, aligns-bytes, alignss-bytes}
 use denote.Ref.{NamedLft}
 use denote.RattleType.{RattleType}

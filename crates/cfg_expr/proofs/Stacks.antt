@@ -1,10 +1,10 @@
 -- A change of the innermost open function.
 use borrow.Author.Tests.{true-eqb}
 use Rattle.std.proofs.lemmas.Bool.{false≢true}
-use Rattle.std.proofs.Common.{◌≡◌, Bool, true, false, ℕ, zero, suc, ◌+◌, ◌-◌, ◌<◌, ◌≤◌, List, [], ◌∷◌, ◌++◌, length, take, drop, get_or, sym, refl, ap, ◌∙◌, subst, arith, length-append}
+use Rattle.std.proofs.Common.{◌≡◌, Bool, true, false, ℕ, zero, suc, ◌+◌, ◌-◌, ◌<◌, List, [], ◌∷◌, ◌++◌, length, take, drop, get_or, sym, ap, ◌∙◌, subst, arith}
 use Rattle.std.specs.Prelude.{slice_set, ◌==◌}
 use Rattle.std.specs.List.{refill}
-use Rattle.std.proofs.lemmas.List.{take_all, take_more, set_split, drop_all, length-set, take_at, length-take-le}
+use Rattle.std.proofs.lemmas.List.{take_all, take_more, set_split, drop_all, length-set, take_at}
 use Rattle.cfg_expr.specs.Parsing.{ChangesTop}
 use Rattle.cfg_expr.specs.declared.expr.parser.FuncAndSpan.{FuncAndSpan}
 

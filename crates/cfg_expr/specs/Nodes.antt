@@ -1,5 +1,5 @@
 -- A tree as the list of nodes in which an `Expression` keeps it.
-use Rattle.std.specs.Prelude.{ℕ, Bool, List, [], ◌∷◌, ◌++◌, if◌then◌else◌}
+use Rattle.std.specs.Prelude.{Bool, List, [], ◌∷◌, ◌++◌, if◌then◌else◌}
 use Rattle.cfg_expr.specs.Question.{Question}
 use Rattle.cfg_expr.specs.Tree.{Tree, Trees, is_function, is_predicate, count}
 use Rattle.cfg_expr.specs.declared.expr.Func.{Func}

@@ -1,15 +1,14 @@
 -- What the parser's fields say of the machine that it computes. Internal.
-use Rattle.std.specs.Prelude.{◌≡◌, ◌⊎◌, ◌==◌, ℕ, suc, ◌+◌, ◌<◌, ◌^◌, Bool, List, [], ◌∷◌, ◌++◌, length, map, reverse, slice_range, Option, Some, None, option_map, IsSomeAnd, if◌then◌else◌}
+use Rattle.std.specs.Prelude.{◌≡◌, ◌⊎◌, ◌==◌, ℕ, suc, ◌+◌, ◌<◌, ◌^◌, List, [], ◌∷◌, ◌++◌, length, map, reverse, slice_range, Option, Some, None, option_map, if◌then◌else◌}
 use Rattle.std.specs.List.{AllByRecursion, AllZip, flat_map}
 use Rattle.cfgx_syntax.specs.Items.{Item, Ending, AreItems, ItemsFrom}
-use Rattle.cfgx_syntax.specs.Token as spelled
 use Rattle.cfgx_syntax.specs.Lexer.{token_of}
 use Rattle.cfgx_syntax.specs.declared.lexer.Token.{Token}
 use Rattle.cfgx_syntax.specs.declared.lexer.Token.TheVariants as given
 use Rattle.cfg_expr.specs.Question.{Question}
 use Rattle.cfg_expr.specs.Tree.{Tree, is_function}
 use Rattle.cfg_expr.specs.Nodes.{Node, postfix}
-use Rattle.cfg_expr.specs.Machine.{Kind, Frame, Machine, initial, run, step}
+use Rattle.cfg_expr.specs.Machine.{Kind, Frame, Machine, initial, run}
 use Rattle.cfg_expr.specs.Expression.{question_at, nodes_at, IsCut, HasCut, NodeHasCut, Keeps}
 use Rattle.cfg_expr.specs.declared.expr.Func.{Func}
 use Rattle.cfg_expr.specs.declared.expr.Func.TheVariants as func

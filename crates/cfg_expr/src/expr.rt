@@ -6,9 +6,8 @@ ghost use Rattle.cfg_expr.specs.Expression.{is_predicate, FindsFirst, HasCut, qu
 
 mod parser;
 
-pub use cfgx_syntax::lexer;
-
 use crate::memory::Memory;
+pub use cfgx_syntax::lexer;
 use smallvec::SmallVec;
 use std::alloc::{Allocator, Global};
 use std::marker::Model;

@@ -293,7 +293,10 @@ impl<'a, A: Memory> Parser<'a, A> {
         if top.parens_index == 0 {
             self.fault(top.span.start..top.span.end, Reason::Unexpected(&["("]))
         } else {
-            self.fault(top.parens_index..self.original.len(), Reason::UnclosedParens)
+            self.fault(
+                top.parens_index..self.original.len(),
+                Reason::UnclosedParens,
+            )
         }
     }
 

@@ -1,7 +1,6 @@
 -- Functions are passed over, and the first predicate is found.
-use Rattle.std.proofs.Common.{◌≡◌, ◌∷◌, [], ap, ◌∙◌, sym}
+use Rattle.std.proofs.Common.{◌∷◌, ap, ◌∙◌}
 use Rattle.std.proofs.lemmas.List.{nil_from_length}
-use Rattle.cfg_expr.specs.declared.expr.ExprNode.TheVariants as node
 use Rattle.cfg_expr.specs.Expression.{nodes_at}
 use Rattle.cfg_expr.specs.Nodes.{questions}
 use Rattle.cfg_expr.proofs.NodeFacts.{SameQuestions-more, AsksFirst-found}

@@ -1,8 +1,5 @@
 -- What was passed over asks nothing.
-use Rattle.std.proofs.Common.{◌≡◌, ℕ, List, length}
-use Rattle.std.specs.List.{AllByRecursion}
-use Rattle.cfg_expr.specs.Nodes.{questions}
-use Rattle.cfg_expr.specs.Expression.{nodes_at, NodeHasCut}
+use Rattle.std.proofs.Common.{length}
 use Rattle.cfg_expr.proofs.NodeFacts.{SameQuestions}
 use Rattle.cfg_expr.proofs.expr.first_predicate.Given as goal
 

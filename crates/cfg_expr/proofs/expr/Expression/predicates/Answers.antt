@@ -1,8 +1,7 @@
 -- The nodes are those of a tree of the text, and ask what it asks.
-use Rattle.std.proofs.Common.{sym, ap, ◌∙◌, subst}
+use Rattle.std.proofs.Common.{ap, ◌∙◌, subst}
 use Rattle.cfg_expr.specs.Grammar.{HasTree}
 use Rattle.cfg_expr.specs.Nodes.{questions}
-use Rattle.cfg_expr.specs.Expression.{nodes_at}
 use Rattle.cfg_expr.proofs.NodeFacts.{count-questions, questions-postfix}
 use Rattle.cfg_expr.proofs.expr.Expression.predicates.Goals as goal
 

@@ -1,5 +1,5 @@
 -- The first predicate among the nodes is the first question.
-use Rattle.std.proofs.Common.{sym, ap, ◌∙◌, subst, length, arith, rules}
+use Rattle.std.proofs.Common.{sym, ap, ◌∙◌, length, arith}
 use Rattle.cfg_expr.proofs.expr.PredicatesIterator.next.Goals as goal
 
 pub returns-in_err-predicate-clause-steps : goal.returns-in_err-predicate-clause-steps

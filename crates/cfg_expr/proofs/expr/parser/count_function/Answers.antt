@@ -1,4 +1,4 @@
-use Rattle.std.proofs.Common.{refl, subst, sym, length, arith}
+use Rattle.std.proofs.Common.{refl, arith}
 use Rattle.cfg_expr.specs.Parsing.{AddsFunction}
 use Rattle.cfg_expr.proofs.Stacks.{ChangesTop-last, last_is}
 use Rattle.cfg_expr.proofs.expr.parser.count_function.Goals as goal

@@ -1,10 +1,6 @@
 -- Each token does what it does to the machine.
-use Rattle.std.proofs.Common.{ap, sym, ◌∙◌, subst, refl}
-use Rattle.std.specs.Prelude.{IsSomeAnd}
-use Rattle.cfgx_syntax.specs.Lexer.{token_of}
-use Rattle.cfg_expr.specs.Machine.{settle, apply}
-use Rattle.cfg_expr.specs.Parsing.{Holds}
-use Rattle.cfg_expr.proofs.Holding.{Holds-key, Holds-marked}
+use Rattle.cfg_expr.specs.Machine.{settle}
+use Rattle.cfg_expr.proofs.Holding.{Holds-marked}
 use Rattle.cfg_expr.proofs.Sizes.{stack_fits, parser_fits}
 use Rattle.cfg_expr.proofs.expr.parser.Parser.apply.Goals as goal
 
@@ -12,9 +8,10 @@ pub open_parens-requires : goal.open_parens-requires
 open_parens-requires g c = stack_fits g.row.A g.A.Allocator g.met.A.Memory.small
 
 pub close-requires : goal.close-requires
-close-requires g c =
-    (parser_fits g.row.A g.A.Allocator g.met.A.Memory.small,
-      (c.requires.sound.0, settle c.requires.sound.1, c.in_ok-end_predicate-in-CloseParen.ensures c.requires.sound.0 c.requires.sound.1 c.requires.sound.2))
+close-requires g c = (
+  parser_fits g.row.A g.A.Allocator g.met.A.Memory.small,
+  (c.requires.sound.0, settle c.requires.sound.1, c.in_ok-end_predicate-in-CloseParen.ensures c.requires.sound.0 c.requires.sound.1 c.requires.sound.2),
+)
 
 pub returns-in_ok-open-in-All : goal.returns-in_ok-open-in-All
 returns-in_ok-open-in-All g c = λ text m h. rw c.in-All.is (c.in_ok-open-in-All.ensures text m h)

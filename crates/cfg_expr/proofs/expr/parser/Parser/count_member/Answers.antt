@@ -1,5 +1,5 @@
 -- The function is counted at the root, or in the innermost open function.
-use Rattle.std.proofs.Common.{refl, inr, inl}
+use Rattle.std.proofs.Common.{refl, inr}
 use Rattle.cfg_expr.proofs.Stacks.{some_left}
 use Rattle.cfg_expr.proofs.Sizes.{stack_fits}
 use Rattle.cfg_expr.proofs.expr.parser.Parser.count_member.Goals as goal

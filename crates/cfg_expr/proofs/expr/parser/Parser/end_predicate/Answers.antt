@@ -1,5 +1,5 @@
 -- The predicate is one more member of the innermost list.
-use Rattle.std.proofs.Common.{◌≡◌, length, ap, sym, ◌∙◌, arith, rules, length-append}
+use Rattle.std.proofs.Common.{◌≡◌, length, ap, sym, ◌∙◌, arith}
 use Rattle.std.proofs.lemmas.List.{nil_from_length, length_push}
 use Rattle.cfg_expr.specs.declared.expr.ExprNode.TheVariants as node
 use Rattle.cfg_expr.specs.declared.expr.InnerPredicate.TheVariants as inner

@@ -1,5 +1,5 @@
 -- No function is open, and one tree is left.
-use Rattle.std.proofs.Common.{◌≡◌, sym, ap, ◌∙◌, arith, length}
+use Rattle.std.proofs.Common.{◌≡◌, ap, arith, length}
 use Rattle.std.proofs.lemmas.List.{nil_from_length}
 use Rattle.cfg_expr.proofs.Finishing.{IsFinished-end}
 use Rattle.cfg_expr.proofs.Sizes.{stack_fits}

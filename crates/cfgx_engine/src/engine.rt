@@ -1,0 +1,74 @@
+//! The engine of the program: its commands, its streams, and the one call that runs it.
+ghost use Rattle.std.specs.Prelude.{◌≡◌, ◌≢◌, ◌+◌, ◌<◌, ◌≤◌, ◌⊎◌, if◌then◌else◌};
+ghost use Rattle.std.specs.Bool.{MatchBool};
+ghost use Rattle.std.specs.Io.KnownBytes.{Appends};
+ghost use Rattle.std.specs.Cow.{cow_str_bytes};
+ghost use Rattle.cfgx_engine.specs.Output.{request_of, texts, Request, ListsPredicates, WritesWhole, WritesFront};
+ghost use Rattle.cfgx_engine.specs.Streams.{TakesFront};
+ghost use Rattle.cfgx_engine.specs.Answer.{output_of};
+
+mod answer;
+pub mod streams;
+
+use answer::{Answer, answer_to};
+use cfg_expr::memory::Memory;
+use std::alloc::Allocator;
+use streams::write_whole;
+pub use streams::{Counted, Sink, Source};
+
+/// The status of a run for which memory was refused, or of which a read, a write or a flush failed.
+const REFUSED: u8 = 3;
+
+/// Runs the command that the words ask for, and answers the status with which the program ends.
+///
+/// `words` are those behind the program's name. What is written is made in memory whole before its first byte goes out;
+/// the usage line takes no memory. Status 0 says that it is done, 1 that a text is faulty, 2 that the words ask for
+/// nothing known, and 3 that memory was refused or that a call of the reader or writer failed. No failed call is tried
+/// again. The rules are in `docs/RULES.md`.
+pub fn run<A: Memory, R: Source, W: Sink>(
+    alloc: A,
+    words: &[&str],
+    reader: &mut R,
+    writer: &mut W,
+) -> u8
+    requires reader { R.failures reader.old < u64.MAX }
+    requires writer { W.failures writer.old < u64.MAX }
+
+    // Status 0: one line for each predicate of the text, in the order in which they are asked.
+    ensures predicates { result ≡ 0 → ListsPredicates (texts words.now) (W.written writer.old) (W.written writer.new) }
+
+    // Any other status than 3: the whole output was written, and no call failed.
+    ensures done { result ≢ 3 → WritesWhole (request_of (texts words.now)) result (W.written writer.old) (W.written writer.new) }
+    ensures done_count { result ≢ 3 → W.failures writer.new ≡ W.failures writer.old }
+
+    // Status 3: either nothing was written, or one call failed and a beginning of the output was.
+    ensures refused { result ≡ 3 → (writer.new ≡ writer.old) ⊎ ((W.failures writer.new ≡ W.failures writer.old + 1)
+        × WritesFront (request_of (texts words.now)) (W.written writer.old) (W.written writer.new)) }
+
+    // Wrong use meets no want of memory.
+    ensures wrong_use { request_of (texts words.now) ≡ Request.wrong_use → result ≡ 3 → W.failures writer.new ≡ W.failures writer.old + 1 }
+    ensures reader { reader.new ≡ reader.old }
+    ensures status { result ≤ 3 }
+{
+    match answer_to(alloc, words) {
+        Ok(answer) => write_answer(writer, &answer),
+        Err(_) => REFUSED,
+    }
+}
+
+// Writes the answer, and gives its status, or that of a failed call.
+fn write_answer<A: Allocator, W: Sink>(writer: &mut W, answer: &Answer<A>) -> u8
+    requires failures { W.failures writer.old < u64.MAX }
+    requires status { answer.now.status < 3 }
+    ensures done { result ≢ 3 → (W.failures writer.new ≡ W.failures writer.old) × (result ≡ answer.now.status)
+        × Appends (W.written writer.old) (W.written writer.new) (cow_str_bytes answer.now.text) }
+    ensures failed { result ≡ 3 → (W.failures writer.new ≡ W.failures writer.old + 1)
+        × TakesFront (W.written writer.old) (W.written writer.new) (cow_str_bytes answer.now.text) }
+    ensures status { result ≤ 3 }
+{
+    if write_whole(writer, answer.text.as_str().as_bytes()) {
+        answer.status
+    } else {
+        REFUSED
+    }
+}

@@ -1,0 +1,192 @@
+// Streams whose failed calls are counted, and the one loop that writes.
+
+ghost use Rattle.std.specs.Prelude.{◌≡◌, ℕ, ◌+◌, ◌<◌, List, Option, length, None, IfSome, IfNone, is_some, if◌then◌else◌};
+ghost use Rattle.std.specs.Bool.{MatchBool};
+ghost use Rattle.std.specs.Io.{ReadsAtMost, WritesAtMost};
+ghost use Rattle.std.specs.Io.KnownBytes.{Appends, Keeps, ReadConsumes, WriteAppends};
+ghost use Rattle.cfgx_engine.specs.Streams.{failures_of, write_failures, Takes, TakesFront};
+
+use std::io;
+use std::marker::Model;
+
+#[cfg(test)]
+mod tests;
+
+/// Where bytes are read from.
+///
+/// Contracts see how many of its calls failed and, where it tells them, the bytes that are still to come.
+pub trait Source {
+    // How many calls failed so far.
+    ghost failures: { Self → ℕ };
+
+    // The bytes that are still to come, in order, or `None` where the source does not tell them.
+    ghost unread: { Self → Option (List ℕ) };
+
+    /// Reads into the front of the buffer and answers how many bytes it read: as many as it has room for, or fewer.
+    /// It answers 0 only at the end, or where the buffer is empty.
+    ///
+    /// An error counts as a failed call, and takes no bytes from the source; what the buffer then holds is not said.
+    fn read(&mut self, buffer: &mut [u8]) -> io::Result<usize>
+        requires { failures self.old < u64.MAX }
+        ensures count { failures self.new ≡ failures self.old + failures_of result }
+        ensures bound { ReadsAtMost result buffer.new }
+        ensures bytes { ReadConsumes (unread self.old) (unread self.new) result buffer.new };
+}
+
+/// Where bytes are written to.
+///
+/// Contracts see how many of its calls failed and, where it tells them, the bytes that were written.
+pub trait Sink {
+    // How many calls failed so far.
+    ghost failures: { Self → ℕ };
+
+    // The bytes that were written, in order, or `None` where the sink does not tell them.
+    ghost written: { Self → Option (List ℕ) };
+
+    /// Writes a beginning of the bytes and answers its length.
+    ///
+    /// An error counts as a failed call, and so does an answer of 0 where there is a byte to write. Neither writes any.
+    fn write(&mut self, bytes: &[u8]) -> io::Result<usize>
+        requires { failures self.old < u64.MAX }
+        ensures count { failures self.new ≡ failures self.old + write_failures result bytes.now }
+        ensures bound { WritesAtMost result bytes.now }
+        ensures bytes { WriteAppends (written self.old) (written self.new) result bytes.now };
+
+    /// Sends on what the sink holds back. An error counts as a failed call. What was written stays as it was.
+    fn flush(&mut self) -> io::Result<()>
+        requires { failures self.old < u64.MAX }
+        ensures count { failures self.new ≡ failures self.old + failures_of result }
+        ensures bytes { Keeps (written self.old) (written self.new) };
+}
+
+/// A reader or a writer of the standard library with a count of its failed calls.
+///
+/// Contracts see the stream and the count. As a source and as a sink it tells no bytes, since nobody can know those of a
+/// terminal or a pipe.
+#[derive(Drop)]
+pub struct Counted<S> {
+    stream: S,
+    failures: u64,
+}
+
+impl<S> Model for Counted<S> {
+    ghost use Rattle.cfgx_engine.specs.Streams.{Counting};
+
+    ghost Value = { Counting S };
+
+    ghost view = { λ counted. record { stream = counted.stream; failures = counted.failures } };
+}
+
+impl<S> Counted<S> {
+    /// Counts the failed calls of the stream from here on. It takes no memory.
+    pub fn new(stream: S) -> Counted<S>
+        ensures { result ≡ record { stream = stream; failures = 0 } }
+    {
+        Counted {
+            stream,
+            failures: 0,
+        }
+    }
+}
+
+impl<S: io::Read> Source for Counted<S> {
+    ghost failures = { λ counted. counted.failures };
+
+    ghost unread = { λ _. None };
+
+    // Beside what each source does, the bytes are those that the stream gave.
+    fn read(&mut self, buffer: &mut [u8]) -> io::Result<usize>
+        requires { self.old.failures < u64.MAX }
+        ensures count { self.new.failures ≡ self.old.failures + failures_of result }
+        ensures bound { ReadsAtMost result buffer.new }
+        ensures stream { ReadConsumes (S.remaining self.old.stream) (S.remaining self.new.stream) result buffer.new }
+    {
+        let answer = self.stream.read(buffer);
+        if answer.is_err() {
+            self.failures += 1;
+        }
+        answer
+    }
+}
+
+impl<S: io::Write> Sink for Counted<S> {
+    ghost failures = { λ counted. counted.failures };
+
+    ghost written = { λ _. None };
+
+    // Beside what each sink does, the bytes are those that the stream took.
+    fn write(&mut self, bytes: &[u8]) -> io::Result<usize>
+        requires { self.old.failures < u64.MAX }
+        ensures count { self.new.failures ≡ self.old.failures + write_failures result bytes.now }
+        ensures bound { WritesAtMost result bytes.now }
+        ensures stream { WriteAppends (S.contents self.old.stream) (S.contents self.new.stream) result bytes.now }
+    {
+        let answer = self.stream.write(bytes);
+        let is_failed = match &answer {
+            Ok(taken) => *taken == 0 && !bytes.is_empty(),
+            Err(_) => true,
+        };
+        if is_failed {
+            self.failures += 1;
+        }
+        answer
+    }
+
+    fn flush(&mut self) -> io::Result<()>
+        requires { self.old.failures < u64.MAX }
+        ensures count { self.new.failures ≡ self.old.failures + failures_of result }
+        ensures stream { Keeps (S.contents self.old.stream) (S.contents self.new.stream) }
+    {
+        let answer = self.stream.flush();
+        if answer.is_err() {
+            self.failures += 1;
+        }
+        answer
+    }
+}
+
+/// Writes all the bytes, in as many calls of `write` as the sink needs, and then flushes once. It answers whether all
+/// went out.
+///
+/// Where there is nothing to write no `write` is made, but the flush is. The first failed call ends it: no call is tried
+/// again, an interrupted one neither. What was written then is a beginning of the bytes.
+pub fn write_whole<W: Sink>(sink: &mut W, bytes: &[u8]) -> bool
+    requires { W.failures sink.old < u64.MAX }
+    ensures count { W.failures sink.new ≡ W.failures sink.old + (if result then 0 else 1) }
+    ensures bytes { MatchBool result (Appends (W.written sink.old) (W.written sink.new) bytes.now)
+        (TakesFront (W.written sink.old) (W.written sink.new) bytes.now) }
+{
+    write_in_turns(sink, bytes) && sink.flush().is_ok()
+}
+
+// Writes until nothing is left, or a call fails. It answers whether nothing is left.
+fn write_in_turns<W: Sink>(sink: &mut W, bytes: &[u8]) -> bool
+    requires { W.failures sink.old < u64.MAX }
+    ensures count { W.failures sink.new ≡ W.failures sink.old + (if result then 0 else 1) }
+    ensures bytes { MatchBool result (Appends (W.written sink.old) (W.written sink.new) bytes.now)
+        (TakesFront (W.written sink.old) (W.written sink.new) bytes.now) }
+{
+    let mut left = bytes;
+    while !left.is_empty() {
+        let Some(behind) = write_once(sink, left) else {
+            return false;
+        };
+        left = behind;
+    }
+    true
+}
+
+// One call of `write`. It answers what is left behind the bytes that went out, or `None` where the call failed.
+fn write_once<'a, W: Sink>(sink: &mut W, bytes: &'a [u8]) -> Option<&'a [u8]>
+    requires room { W.failures sink.old < u64.MAX }
+    requires some { 0 < length bytes.now }
+    ensures count { W.failures sink.new ≡ W.failures sink.old + (if is_some result then 0 else 1) }
+    ensures taken { IfSome result (λ left. Takes (W.written sink.old) (W.written sink.new) bytes.now left.now) }
+    ensures fewer { IfSome result (λ left. length left.now < length bytes.now) }
+    ensures none { IfNone result (Keeps (W.written sink.old) (W.written sink.new)) }
+{
+    match sink.write(bytes) {
+        Ok(0) | Err(_) => None,
+        Ok(taken) => Some(&bytes[taken..]),
+    }
+}

@@ -1,0 +1,273 @@
+// Streams in memory that take and give a little a call, and that fail where they are told to.
+ghost use Rattle.std.specs.Prelude.{◌≡◌, Some};
+
+use super::*;
+use std::alloc::{AllocError, Global};
+use std::io::ErrorKind;
+use std::test::Fail;
+
+// What a failed call answers. An interrupted call is not tried again either.
+fn interrupted() -> io::Error {
+    io::Error::from(ErrorKind::Interrupted)
+}
+
+// A sink that takes at most `each` bytes a call and `room` bytes in all, and whose write of the number `failing_write`,
+// counted from 1, fails. It counts its calls.
+#[derive(Drop)]
+struct Memory {
+    bytes: Vec<u8>,
+    failures: u64,
+    each: usize,
+    room: usize,
+    failing_write: u64,
+    is_flush_failing: bool,
+    writes: u64,
+    empty_writes: u64,
+    flushes: u64,
+}
+
+impl Sink for Memory {
+    ghost failures = { λ memory. memory.failures };
+
+    ghost written = { λ memory. Some memory.bytes.items };
+
+    fn write(&mut self, bytes: &[u8]) -> io::Result<usize> {
+        self.writes = self.writes.saturating_add(1);
+        if bytes.is_empty() {
+            self.empty_writes = self.empty_writes.saturating_add(1);
+            return Ok(0);
+        }
+        if self.writes == self.failing_write {
+            self.failures += 1;
+            return Err(interrupted());
+        }
+        let taken = bytes.len().min(self.each).min(self.room);
+        if taken == 0 {
+            self.failures += 1;
+            return Ok(0);
+        }
+        if self.bytes.extend_from_slice(&bytes[..taken]).is_err() {
+            self.failures += 1;
+            return Err(interrupted());
+        }
+        self.room -= taken;
+        Ok(taken)
+    }
+
+    fn flush(&mut self) -> io::Result<()> {
+        self.flushes = self.flushes.saturating_add(1);
+        if self.is_flush_failing {
+            self.failures += 1;
+            return Err(interrupted());
+        }
+        Ok(())
+    }
+}
+
+fn sink_in_memory(
+    alloc: Global,
+    each: usize,
+    room: usize,
+    failing_write: u64,
+    is_flush_failing: bool,
+) -> Memory
+    ensures { result.failures ≡ 0 }
+{
+    Memory {
+        bytes: Vec::new(alloc),
+        failures: 0,
+        each,
+        room,
+        failing_write,
+        is_flush_failing,
+        writes: 0,
+        empty_writes: 0,
+        flushes: 0,
+    }
+}
+
+const ALL: usize = usize::MAX;
+
+// Each row: the most bytes a call, the room, the failing write, whether the flush fails, the output; and then the
+// answer, what was written, and how many calls of `write` and `flush` were made.
+#[test]
+fn what_was_written_is_the_output_or_a_beginning(rt: HostRuntime) -> Result<(), Fail> {
+    let rows = [
+        (1, ALL, 0, false, "b\na\nc\n", true, "b\na\nc\n", 6, 1),
+        (4, ALL, 0, false, "b\na\nc\n", true, "b\na\nc\n", 2, 1),
+        (2, ALL, 2, false, "b\na\nc\n", false, "b\n", 2, 0),
+        (ALL, ALL, 1, false, "b\na\nc\n", false, "", 1, 0),
+        (ALL, 4, 0, false, "b\na\nc\n", false, "b\na\n", 2, 0),
+        (ALL, ALL, 0, true, "b\na\nc\n", false, "b\na\nc\n", 1, 1),
+        (ALL, ALL, 0, false, "", true, "", 0, 1),
+        (ALL, ALL, 0, true, "", false, "", 0, 1),
+    ];
+    for (
+        each,
+        room,
+        failing_write,
+        is_flush_failing,
+        output,
+        answer,
+        written,
+        writes,
+        flushes,
+    ) in rows {
+        let mut sink = sink_in_memory(rt.alloc(), each, room, failing_write, is_flush_failing);
+        assert_eq!(rt; write_whole(&mut sink, output.as_bytes()), answer);
+        assert_eq!(rt; sink.bytes.as_slice(), written.as_bytes());
+        assert_eq!(rt; sink.failures, if answer { 0 } else { 1 });
+        assert_eq!(rt; sink.writes, writes);
+        assert_eq!(rt; sink.flushes, flushes);
+        assert_eq!(rt; sink.empty_writes, 0);
+    }
+    Ok(())
+}
+
+// A reader of at most `each` bytes a call, whose read of the number `failing_read`, counted from 1, fails.
+#[derive(Drop)]
+struct Pieces<'a> {
+    left: &'a [u8],
+    each: usize,
+    failing_read: u64,
+    reads: u64,
+}
+
+impl io::Read for Pieces<'_> {
+    ghost remaining = { λ pieces. Some pieces.left.now };
+
+    fn read(&mut self, buffer: &mut [u8]) -> io::Result<usize> {
+        self.reads = self.reads.saturating_add(1);
+        if self.reads == self.failing_read {
+            return Err(interrupted());
+        }
+        let count = buffer.len().min(self.each.max(1)).min(self.left.len());
+        let (front, behind) = self.left.split_at(count);
+        buffer[..count].copy_from_slice(front);
+        self.left = behind;
+        Ok(count)
+    }
+}
+
+// Such a reader as a source that tells its bytes.
+#[derive(Drop)]
+struct Told<'a> {
+    pieces: Pieces<'a>,
+    failures: u64,
+}
+
+impl Source for Told<'_> {
+    ghost failures = { λ told. told.failures };
+
+    ghost unread = { λ told. Some told.pieces.left.now };
+
+    fn read(&mut self, buffer: &mut [u8]) -> io::Result<usize> {
+        let answer = io::Read::read(&mut self.pieces, buffer);
+        if answer.is_err() {
+            self.failures += 1;
+        }
+        answer
+    }
+}
+
+#[test]
+fn a_failed_read_takes_no_bytes(rt: HostRuntime) -> Result<(), Fail> {
+    let pieces = Pieces {
+        left: b"abcd",
+        each: 3,
+        failing_read: 2,
+        reads: 0,
+    };
+    let mut source = Told {
+        pieces,
+        failures: 0,
+    };
+    let mut buffer = [0u8; 8];
+    assert_eq!(rt; source.read(&mut buffer).ok(), Some(3));
+    assert!(rt; source.read(&mut buffer).is_err());
+    assert_eq!(rt; source.failures, 1);
+    assert_eq!(rt; source.pieces.left, b"d".as_slice());
+    assert_eq!(rt; source.read(&mut buffer).ok(), Some(1));
+    assert_eq!(rt; source.read(&mut buffer).ok(), Some(0));
+    assert_eq!(rt; source.failures, 1);
+    Ok(())
+}
+
+#[test]
+fn a_counted_reader_counts_its_failed_reads(rt: HostRuntime) -> Result<(), Fail> {
+    let mut source = Counted::new(Pieces {
+        left: b"abcdefg",
+        each: 3,
+        failing_read: 2,
+        reads: 0,
+    });
+    let mut buffer = [0u8; 8];
+    assert_eq!(rt; source.read(&mut buffer).ok(), Some(3));
+    assert_eq!(rt; buffer[0], b'a');
+    assert_eq!(rt; source.failures, 0);
+    assert!(rt; source.read(&mut buffer).is_err());
+    assert_eq!(rt; source.failures, 1);
+    assert_eq!(rt; source.read(&mut buffer).ok(), Some(3));
+    assert_eq!(rt; buffer[0], b'd');
+    assert_eq!(rt; source.read(&mut buffer).ok(), Some(1));
+    assert_eq!(rt; source.read(&mut buffer).ok(), Some(0));
+    assert_eq!(rt; source.failures, 1);
+    Ok(())
+}
+
+// A writer in memory of so many bytes takes none once it is full: a failed write.
+#[test]
+fn a_counted_writer_counts_its_failed_writes(rt: HostRuntime) -> Result<(), Fail> {
+    let mut room = [0u8; 4];
+    let mut sink = Counted::new(&mut room[..]);
+    assert_eq!(rt; sink.write(b"abc").ok(), Some(3));
+    assert_eq!(rt; sink.write(b"").ok(), Some(0));
+    assert_eq!(rt; sink.failures, 0);
+    assert_eq!(rt; sink.write(b"de").ok(), Some(1));
+    assert_eq!(rt; sink.write(b"e").ok(), Some(0));
+    assert_eq!(rt; sink.failures, 1);
+    assert!(rt; sink.flush().is_ok());
+    assert_eq!(rt; sink.failures, 1);
+    Ok(())
+}
+
+// A writer whose calls all fail.
+#[derive(Drop)]
+struct Broken;
+
+impl io::Write for Broken {
+    fn write(&mut self, _bytes: &[u8]) -> io::Result<usize> {
+        Err(interrupted())
+    }
+
+    fn flush(&mut self) -> io::Result<()> {
+        Err(interrupted())
+    }
+}
+
+#[test]
+fn a_counted_writer_counts_errors(rt: HostRuntime) -> Result<(), Fail> {
+    let mut sink = Counted::new(Broken);
+    assert!(rt; sink.write(b"a").is_err());
+    assert_eq!(rt; sink.failures, 1);
+    assert!(rt; sink.flush().is_err());
+    assert_eq!(rt; sink.failures, 2);
+    assert!(rt; !write_whole(&mut sink, b"a"));
+    assert_eq!(rt; sink.failures, 3);
+    assert!(rt; !write_whole(&mut sink, b""));
+    assert_eq!(rt; sink.failures, 4);
+    Ok(())
+}
+
+// A counted writer in memory gets the whole output.
+#[test]
+fn a_counted_writer_takes_the_whole(rt: HostRuntime) -> Result<(), Fail> {
+    let mut room = [0u8; 6];
+    let mut sink = Counted::new(&mut room[..]);
+    assert!(rt; write_whole(&mut sink, b"hello\n"));
+    assert_eq!(rt; sink.failures, 0);
+    assert!(rt; !write_whole(&mut sink, b"more"));
+    assert_eq!(rt; sink.failures, 1);
+    assert_eq!(rt; room.as_slice(), b"hello\n".as_slice());
+    Ok(())
+}

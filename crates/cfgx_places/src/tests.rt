@@ -1,0 +1,181 @@
+//! The texts of the named values, written out apart from the code.
+
+use crate::{Env, Family, Os, Panic};
+
+const OPERATING_SYSTEMS: [&str; 49] = [
+    "aix",
+    "amdhsa",
+    "android",
+    "cuda",
+    "cygwin",
+    "dragonfly",
+    "emscripten",
+    "espidf",
+    "freebsd",
+    "fuchsia",
+    "haiku",
+    "helenos",
+    "hermit",
+    "horizon",
+    "hurd",
+    "illumos",
+    "ios",
+    "l4re",
+    "linux",
+    "lynxos178",
+    "macos",
+    "managarm",
+    "motor",
+    "netbsd",
+    "nto",
+    "nuttx",
+    "openbsd",
+    "psp",
+    "psx",
+    "qnx",
+    "qurt",
+    "redox",
+    "rtems",
+    "solaris",
+    "solid_asp3",
+    "teeos",
+    "trusty",
+    "tvos",
+    "uefi",
+    "unknown",
+    "vexos",
+    "visionos",
+    "vita",
+    "vxworks",
+    "wasi",
+    "watchos",
+    "windows",
+    "xous",
+    "zkvm",
+];
+
+const FAMILIES: [&str; 3] = ["unix", "wasm", "windows"];
+
+const ENVIRONMENTS: [&str; 18] = [
+    "gnu",
+    "macabi",
+    "mlibc",
+    "msvc",
+    "musl",
+    "newlib",
+    "nto70",
+    "nto71",
+    "nto71_iosock",
+    "ohos",
+    "p1",
+    "p2",
+    "p3",
+    "relibc",
+    "sgx",
+    "sim",
+    "uclibc",
+    "v5",
+];
+
+const PANIC_STRATEGIES: [&str; 2] = ["abort", "unwind"];
+
+#[test]
+fn operating_systems_have_their_texts(rt: HostRuntime) {
+    let named: [Os; 49] = [
+        Os::aix(),
+        Os::amdhsa(),
+        Os::android(),
+        Os::cuda(),
+        Os::cygwin(),
+        Os::dragonfly(),
+        Os::emscripten(),
+        Os::espidf(),
+        Os::freebsd(),
+        Os::fuchsia(),
+        Os::haiku(),
+        Os::helenos(),
+        Os::hermit(),
+        Os::horizon(),
+        Os::hurd(),
+        Os::illumos(),
+        Os::ios(),
+        Os::l4re(),
+        Os::linux(),
+        Os::lynxos178(),
+        Os::macos(),
+        Os::managarm(),
+        Os::motor(),
+        Os::netbsd(),
+        Os::nto(),
+        Os::nuttx(),
+        Os::openbsd(),
+        Os::psp(),
+        Os::psx(),
+        Os::qnx(),
+        Os::qurt(),
+        Os::redox(),
+        Os::rtems(),
+        Os::solaris(),
+        Os::solid_asp3(),
+        Os::teeos(),
+        Os::trusty(),
+        Os::tvos(),
+        Os::uefi(),
+        Os::unknown(),
+        Os::vexos(),
+        Os::visionos(),
+        Os::vita(),
+        Os::vxworks(),
+        Os::wasi(),
+        Os::watchos(),
+        Os::windows(),
+        Os::xous(),
+        Os::zkvm(),
+    ];
+    for (value, text) in named.iter().zip(OPERATING_SYSTEMS.iter()) {
+        assert_eq!(rt; value.as_str(), *text);
+    }
+}
+
+#[test]
+fn families_have_their_texts(rt: HostRuntime) {
+    let named: [Family; 3] = [Family::unix(), Family::wasm(), Family::windows()];
+    for (value, text) in named.iter().zip(FAMILIES.iter()) {
+        assert_eq!(rt; value.as_str(), *text);
+    }
+}
+
+#[test]
+fn environments_have_their_texts(rt: HostRuntime) {
+    let named: [Env; 18] = [
+        Env::gnu(),
+        Env::macabi(),
+        Env::mlibc(),
+        Env::msvc(),
+        Env::musl(),
+        Env::newlib(),
+        Env::nto70(),
+        Env::nto71(),
+        Env::nto71_iosock(),
+        Env::ohos(),
+        Env::p1(),
+        Env::p2(),
+        Env::p3(),
+        Env::relibc(),
+        Env::sgx(),
+        Env::sim(),
+        Env::uclibc(),
+        Env::v5(),
+    ];
+    for (value, text) in named.iter().zip(ENVIRONMENTS.iter()) {
+        assert_eq!(rt; value.as_str(), *text);
+    }
+}
+
+#[test]
+fn panic_strategies_have_their_texts(rt: HostRuntime) {
+    let named: [Panic; 2] = [Panic::abort(), Panic::unwind()];
+    for (value, text) in named.iter().zip(PANIC_STRATEGIES.iter()) {
+        assert_eq!(rt; value.as_str(), *text);
+    }
+}

@@ -1,0 +1,175 @@
+//! A text that is borrowed or owned, and compares by its bytes alone.
+
+ghost use Rattle.std.specs.Prelude.{◌≡◌, ◌↔◌, IfOk, IsTrue, List, Some, fold, nat_eq, refl, string_bytes, ℕ};
+ghost use Rattle.std.specs.Cmp.{partial_equiv_from_equiv};
+ghost use Rattle.std.specs.Cmp.Lexicographic.{nat_list_cmp_total, nat_list_eq_equiv, pointwise, slice_cmp, texts_po, texts_ties};
+ghost use Rattle.std.specs.Cmp.Rules.{comparing, hashing};
+ghost use Rattle.std.specs.Fmt.{debug_str, styled_text};
+ghost use Rattle.std.specs.Hash as fed;
+ghost use Rattle.std.specs.Ordering.{nat_cmp};
+ghost use Rattle.std.proofs.Common.{rules};
+
+use std::alloc::{AllocError, Allocator, Global};
+use std::borrow::CowStr;
+use std::cmp::Ordering;
+use std::fmt;
+use std::hash::{Hash, Hasher};
+use std::marker::Model;
+
+/// A type whose values are texts, and which compares, orders and hashes them by their bytes alone,
+/// as Rust's `str` does. So a borrowed and an owned text with equal bytes are equal, compare equal
+/// and hash alike.
+pub trait ByBytes: Ord + Hash {
+    /// The bytes of the text.
+    ghost bytes: { Self → List ℕ };
+
+    ghost equal_by_bytes: { (one other : Self) →
+        (IsTrue (Self.eq one other) ↔ (bytes one ≡ bytes other)) };
+
+    ghost ordered_by_bytes: { (one other : Self) →
+        Self.cmp one other ≡ slice_cmp nat_cmp (bytes one) (bytes other) };
+
+    ghost hashed_by_bytes: { (text : Self) → Self.hash_input text ≡ fed.str (bytes text) };
+}
+
+/// A text, borrowed for `'a` or owned in the allocator `A`.
+///
+/// Which of the two it is shows nowhere: contracts see the list of its bytes, and `==`, the order
+/// and the hash are those of Rust's `str`, which go by the bytes alone.
+#[derive(Drop)]
+pub struct Text<'a, A: Allocator = Global> {
+    text: CowStr<'a, A>,
+}
+
+impl<'a, A: Allocator> Model for Text<'a, A> {
+    ghost use Rattle.std.specs.Prelude.{List, ℕ};
+    ghost use Rattle.std.specs.Cow.{cow_str_bytes};
+
+    ghost Value = { List ℕ };
+
+    ghost view = { λ t. cow_str_bytes t.text };
+}
+
+impl<'a, A: Allocator> Text<'a, A> {
+    /// Owns the text that it is given, and takes no memory.
+    pub fn new(text: String<A>) -> Self
+        ensures { result ≡ string_bytes text }
+    {
+        Text {
+            text: CowStr::Owned(text),
+        }
+    }
+
+    /// Borrows the text that it is given, and takes no memory.
+    pub const fn new_const(text: &'a str) -> Self
+        ensures { result ≡ text.now }
+    {
+        Text {
+            text: CowStr::Borrowed(text),
+        }
+    }
+
+    /// The text.
+    pub fn as_str(&self) -> &str
+        ensures { result.now ≡ self.now }
+    {
+        self.text.as_str()
+    }
+
+    /// A text equal to this one. A borrowed text is borrowed again and takes no memory; an owned
+    /// one is copied into `alloc`.
+    ///
+    /// The error is that `alloc` refused the copy. This text stays as it was either way.
+    pub fn try_clone(&self, alloc: A) -> Result<Self, AllocError>
+        ensures { IfOk result (λ copy. copy ≡ self.now) }
+    {
+        match &self.text {
+            CowStr::Borrowed(text) => Ok(Text::new_const(*text)),
+            CowStr::Owned(text) => Ok(Text::new(String::from_str(alloc, text.as_str())?)),
+        }
+    }
+}
+
+impl<A: Allocator> PartialEq for Text<'_, A> {
+    ghost eq = { pointwise nat_eq };
+
+    ghost laws = { partial_equiv_from_equiv nat_list_eq_equiv };
+
+    fn eq(&self, other: &Self) -> bool
+        ensures value { result ≡ pointwise nat_eq self.now other.now }
+        ensures same_bytes { IsTrue result ↔ (self.now ≡ other.now) }
+    {
+        self.as_str() == other.as_str()
+    }
+}
+
+impl<A: Allocator> Eq for Text<'_, A> {
+    ghost laws = { nat_list_eq_equiv };
+}
+
+impl<A: Allocator> PartialOrd for Text<'_, A> {
+    ghost partial_cmp = { λ one other. Some (slice_cmp nat_cmp one other) };
+
+    ghost laws = { texts_po };
+
+    fn partial_cmp(&self, other: &Self) -> Option<Ordering> {
+        Some(self.cmp(other))
+    }
+}
+
+impl<A: Allocator> Ord for Text<'_, A> {
+    ghost cmp = { slice_cmp nat_cmp };
+
+    ghost total = { nat_list_cmp_total };
+
+    ghost matches_partial_cmp = { λ one other. refl };
+
+    ghost matches_eq = { texts_ties };
+
+    fn cmp(&self, other: &Self) -> Ordering
+        ensures { result ≡ slice_cmp nat_cmp self.now other.now }
+    {
+        self.as_str().cmp(other.as_str())
+    }
+}
+
+impl<A: Allocator> Hash for Text<'_, A> {
+    ghost hash_input = { fed.str };
+
+    ghost respects_eq = { Prim.search (hashing, rules) };
+
+    fn hash<H: Hasher>(&self, state: &mut H)
+        ensures { state.new ≡ fold H.write state.old (fed.str self.now) }
+    {
+        self.as_str().hash(state);
+    }
+}
+
+impl<A: Allocator> ByBytes for Text<'_, A> {
+    ghost bytes = { λ text. text };
+
+    ghost equal_by_bytes = { λ one other. Prim.search (comparing, rules) };
+
+    ghost ordered_by_bytes = { λ one other. refl };
+
+    ghost hashed_by_bytes = { λ text. refl };
+}
+
+impl<A: Allocator> fmt::Display for Text<'_, A> {
+    ghost output = { λ text. Some text };
+
+    ghost styled_output = { λ text style. Some (styled_text style text) };
+
+    fn fmt<W: fmt::Write>(&self, f: &mut fmt::Formatter<W>) -> fmt::Result {
+        f.pad(self.as_str())
+    }
+}
+
+impl<A: Allocator> fmt::Debug for Text<'_, A> {
+    ghost debug_output = { debug_str };
+
+    fn fmt<W: fmt::Write>(&self, f: &mut fmt::Formatter<W>) -> fmt::Result {
+        let text = self.as_str();
+        fmt::Debug::fmt(&text, f)
+    }
+}
