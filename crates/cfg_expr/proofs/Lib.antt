@@ -7,3 +7,4 @@ pub mod Holding
 pub mod Closing
 pub mod Finishing
 pub mod Reading
+pub mod Arranging

@@ -2,7 +2,9 @@ pub mod Expression
 pub mod Grammar
 pub mod Machine
 pub mod Nodes
+pub mod Order
 pub mod Parsing
 pub mod Question
 pub mod Size
 pub mod Tree
+pub mod Worked

@@ -2,5 +2,5 @@
 use Rattle.std.specs.Prelude.{ℕ, List}
 
 pub data Question : Type 0 where
-  -- a bare key that names nothing that the Rust Reference sets
+  -- a bare key: so far every one
   flag : List ℕ → Question

@@ -4,12 +4,16 @@ ghost use Rattle.cfg_expr.specs.Tree.{Tree, asked};
 ghost use Rattle.cfg_expr.specs.Grammar.{HasTree};
 ghost use Rattle.cfg_expr.specs.Expression.{is_predicate, FindsFirst, HasCut, question_of, question_at};
 
+mod laws;
 mod parser;
+#[cfg(test)]
+mod tests;
 
 use crate::memory::Memory;
 pub use cfgx_syntax::lexer;
 use smallvec::SmallVec;
 use std::alloc::{Allocator, Global};
+use std::fmt;
 use std::marker::Model;
 use std::ops::Range;
 
@@ -86,6 +90,13 @@ impl<A: Allocator> Expression<A> {
     }
 }
 
+/// Prints the stripped text as `Debug` prints a text, in parentheses.
+impl<A: Allocator> fmt::Debug for Expression<A> {
+    fn fmt<W: fmt::Write>(&self, f: &mut fmt::Formatter<W>) -> fmt::Result {
+        write!(f, "Expression({:?})", self.original())
+    }
+}
+
 impl<A: Memory> Expression<A> {
     /// The predicates in the order in which they are asked: in each list the functions first, whole, and then the list's own predicates. It takes no memory.
     pub fn predicates(&self) -> Predicates<'_>
@@ -94,7 +105,7 @@ impl<A: Memory> Expression<A> {
         let nodes = self.expr.as_slice();
         Predicates {
             nodes,
-            text: self.original.as_str(),
+            text: self.original(),
             left: count_predicates(nodes),
         }
     }

@@ -1,4 +1,4 @@
-//! A parser and evaluator of Rust `cfg()` expressions.
+//! Rust `cfg()` expressions: reads them, and lists the predicates that they ask.
 #![tactic(auto)]
 
 pub use cfgx_syntax::error;
