@@ -1,5 +1,5 @@
 -- The questions of a function are those of its arranged members.
-use Rattle.std.proofs.Common.{◌≡◌, Bool, true, false, List, [], ◌∷◌, ◌++◌, sym, refl, ap, ◌∙◌, append_assoc}
+use Rattle.std.proofs.Common.{◌≡◌, Bool, true, false, List, [], ◌++◌, sym, refl, ap, ◌∙◌, append_assoc}
 use Rattle.std.specs.Prelude.{if◌then◌else◌}
 use Rattle.cfg_expr.specs.Question.{Question}
 use Rattle.cfg_expr.specs.Tree.{Tree, Trees, is_function, is_predicate, only, followed_by, arranged, asked, asked_by, asked_each}

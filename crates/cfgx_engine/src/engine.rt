@@ -35,18 +35,22 @@ pub fn run<A: Memory, R: Source, W: Sink>(
     requires writer { W.failures writer.old < u64.MAX }
 
     // Status 0: one line for each predicate of the text, in the order in which they are asked.
-    ensures predicates { result ≡ 0 → ListsPredicates (texts words.now) (W.written writer.old) (W.written writer.new) }
+    ensures predicates { result ≡ 0
+        → ListsPredicates (texts words.now) (W.written writer.old) (W.written writer.new) }
 
     // Any other status than 3: the whole output was written, and no call failed.
-    ensures done { result ≢ 3 → WritesWhole (request_of (texts words.now)) result (W.written writer.old) (W.written writer.new) }
+    ensures done { result ≢ 3 → WritesWhole (request_of (texts words.now)) result
+        (W.written writer.old) (W.written writer.new) }
     ensures done_count { result ≢ 3 → W.failures writer.new ≡ W.failures writer.old }
 
     // Status 3: either nothing was written, or one call failed and a beginning of the output was.
-    ensures refused { result ≡ 3 → (writer.new ≡ writer.old) ⊎ ((W.failures writer.new ≡ W.failures writer.old + 1)
+    ensures refused { result ≡ 3 → (writer.new ≡ writer.old)
+        ⊎ ((W.failures writer.new ≡ W.failures writer.old + 1)
         × WritesFront (request_of (texts words.now)) (W.written writer.old) (W.written writer.new)) }
 
     // Wrong use meets no want of memory.
-    ensures wrong_use { request_of (texts words.now) ≡ Request.wrong_use → result ≡ 3 → W.failures writer.new ≡ W.failures writer.old + 1 }
+    ensures wrong_use { request_of (texts words.now) ≡ Request.wrong_use → result ≡ 3
+        → W.failures writer.new ≡ W.failures writer.old + 1 }
     ensures reader { reader.new ≡ reader.old }
     ensures status { result ≤ 3 }
 {
@@ -60,7 +64,8 @@ pub fn run<A: Memory, R: Source, W: Sink>(
 fn write_answer<A: Allocator, W: Sink>(writer: &mut W, answer: &Answer<A>) -> u8
     requires failures { W.failures writer.old < u64.MAX }
     requires status { answer.now.status < 3 }
-    ensures done { result ≢ 3 → (W.failures writer.new ≡ W.failures writer.old) × (result ≡ answer.now.status)
+    ensures done { result ≢ 3 → (W.failures writer.new ≡ W.failures writer.old)
+        × (result ≡ answer.now.status)
         × Appends (W.written writer.old) (W.written writer.new) (cow_str_bytes answer.now.text) }
     ensures failed { result ≡ 3 → (W.failures writer.new ≡ W.failures writer.old + 1)
         × TakesFront (W.written writer.old) (W.written writer.new) (cow_str_bytes answer.now.text) }

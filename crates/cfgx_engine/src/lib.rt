@@ -1,4 +1,4 @@
-// The streams of the program cfgx: where it reads and where it writes, with a count of what failed.
+//! The engine of the program cfgx: its commands and its streams.
 #![tactic(auto)]
 
 pub mod engine;

@@ -1,5 +1,5 @@
 -- What the lexer finds behind white space stands in the whole text.
-use Rattle.std.proofs.Common.{◌≡◌, ℕ, ◌+◌, ◌-◌, ◌<◌, ◌≤◌, min, Bool, true, false, List, [], ◌∷◌, ◌++◌, length, take, drop, get_or, sym, refl, ap, ◌∙◌, subst, ⊎_elim, arith, length-take, length-drop}
+use Rattle.std.proofs.Common.{◌≡◌, ℕ, ◌+◌, ◌-◌, ◌<◌, ◌≤◌, min, true, false, List, length, take, drop, get_or, sym, ap, ◌∙◌, subst, ⊎_elim, arith, length-drop}
 use Rattle.std.specs.Prelude.{slice_range}
 use Rattle.std.specs.Char.{is_not_whitespace}
 use Rattle.std.specs.Str.{IsTrimStart, NoCharPasses}
@@ -8,7 +8,7 @@ use Rattle.std.proofs.lemmas.Str.{byte_from_char}
 use Rattle.std.proofs.lemmas.Bool.{cases_Bool}
 use Rattle.std.proofs.lemmas.Bool.Decides.{nat_tests}
 use Rattle.std.proofs.lemmas.Grind.{common_steps}
-use Rattle.cfgx_syntax.specs.Items.{Item, IsBlank, Stands, IsStuck, StartsNoToken, starts_token}
+use Rattle.cfgx_syntax.specs.Items.{IsBlank, Stands, IsStuck, StartsNoToken, starts_token}
 use Rattle.cfgx_syntax.specs.Token.{Spells, IsWhole}
 use Rattle.cfgx_syntax.specs.Lexer.{BeginsWith, token_of}
 use Rattle.cfgx_syntax.specs.LexerState.{LexerState}
@@ -44,7 +44,7 @@ module _ (text inner rest : List ℕ) (place : ℕ) (behind : IsBehind text inne
   gap_is_blank =
       let wide : length text - length rest - place ≡ min behind.trimmed.0 (length inner) = omega (arith, start_is) in
       let same : take (length text - length rest - place) (drop place text) ≡ take behind.trimmed.0 inner =
-          ap (λ n. take n (drop place text)) wide ∙ ap (take (min behind.trimmed.0 (length inner))) (sym behind.follows) ∙ take_min behind.trimmed.0 inner in
+      ap (λ n. take n (drop place text)) wide ∙ ap (take (min behind.trimmed.0 (length inner))) (sym behind.follows) ∙ take_min behind.trimmed.0 inner in
       subst (NoCharPasses is_not_whitespace) (sym same) behind.trimmed.2
 
   pub Stands-found : (token : Token) (len : ℕ) → BeginsWith rest token len
@@ -67,9 +67,9 @@ module _ (text inner rest : List ℕ) (place : ℕ) (behind : IsBehind text inne
   IsStuck-found some none =
       let first = behind.trimmed.3.1 some in
       let other : starts_token first.0 ≡ false =
-          ⊎_elim (λ t. let low = starts_token-ascii first.0 t in
-              let same = byte_from_char rest behind.trimmed.3.0 first.0 first.2 low in
-              ap starts_token (sym same) ∙ none) (λ f. f) (cases_Bool (starts_token first.0)) in
+      ⊎_elim (λ t. let low = starts_token-ascii first.0 t in
+      let same = byte_from_char rest behind.trimmed.3.0 first.0 first.2 low in
+      ap starts_token (sym same) ∙ none) (λ f. f) (cases_Bool (starts_token first.0)) in
       record {
         behind = place_le_start;
         gap = gap_is_blank;

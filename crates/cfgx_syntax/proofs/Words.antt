@@ -1,8 +1,8 @@
 -- Where a word and a token of one byte end.
-use Rattle.std.proofs.Common.{add-zero, length-take, length-drop, ◌≡◌, ℕ, suc, ◌+◌, ◌-◌, ◌<◌, ◌≤◌, Bool, true, false, List, [], ◌∷◌, length, take, drop, get_or, sym, refl, ap, ◌∙◌, subst, arith, rules}
+use Rattle.std.proofs.Common.{add-zero, length-take, length-drop, ◌≡◌, ℕ, ◌+◌, ◌-◌, ◌<◌, ◌≤◌, Bool, true, false, List, [], ◌∷◌, length, take, drop, get_or, sym, refl, ap, ◌∙◌, subst, arith}
 use Rattle.std.proofs.Math.Numerals.{one-add}
-use Rattle.std.specs.Prelude.{slice_range, IsTrue, ◌||◌, ◌==◌}
-use Rattle.std.specs.List.{list_all, prefix_len, AllPass}
+use Rattle.std.specs.Prelude.{slice_range}
+use Rattle.std.specs.List.{list_all, prefix_len}
 use Rattle.std.specs.Str.{IsUtf8, IsCharBoundary}
 use Rattle.std.proofs.lemmas.List.{get_or-take, get_or-drop}
 use Rattle.std.proofs.lemmas.List.Sums.{prefix_len-le-length, prefix_len_passes, prefix_len_stops, list_all-from_AllPass}
@@ -25,7 +25,7 @@ pub passing_front : (p : ℕ → Bool) (xs : List ℕ) → list_all p (take (pre
 passing_front p xs =
     list_all-from_AllPass p (take (prefix_len p xs) xs)
     (λ k d lt. let in_front : k < prefix_len p xs = omega (arith, simp length-take at lt) in
-        rw get_or-take (prefix_len_passes p xs k d in_front))
+    rw get_or-take (prefix_len_passes p xs k d in_front))
 
 pub EndsWord-from : (rest : List ℕ) → (0 < length rest → continues_word (get_or rest 0 0) ≡ false) → EndsWord rest
 EndsWord-from [] h = refl
@@ -35,7 +35,7 @@ pub EndsWord-behind : (xs : List ℕ) → EndsWord (drop (prefix_len continues_w
 EndsWord-behind xs =
     EndsWord-from (drop (prefix_len continues_word xs) xs)
     (λ some. let inside : prefix_len continues_word xs < length xs = omega (arith, simp length-drop at some) in
-        rw (get_or-drop, add-zero) (prefix_len_stops continues_word xs 0 inside))
+    rw (get_or-drop, add-zero) (prefix_len_stops continues_word xs 0 inside))
 
 -- the word in front of a text that starts with one: it is not empty, and the text may be cut behind it
 pub prefix_len_some : (text : List ℕ) → 0 < length text → starts_word (get_or text 0 0) ≡ true → 0 < prefix_len continues_word text
@@ -74,23 +74,23 @@ pub BeginsWith-byte : (text : List ℕ) (token : declared.Token) (byte : ℕ) �
     → Spells (byte ∷ []) (token_of token) → IsWhole (token_of token) (drop 1 text) → BeginsWith text token 1
 BeginsWith-byte [] token byte utf8 some is low spelled whole = absurd (omega arith)
 BeginsWith-byte (first ∷ rest) token byte utf8 some is low spelled whole = record {
-    spelled = subst (λ b. Spells (b ∷ []) (token_of token)) (sym is) spelled;
-    some = omega arith;
-    inside = omega arith;
-    whole = whole;
-    cut = IsCharBoundary-after_ascii (first ∷ rest) 0 utf8 (omega arith) (omega arith);
-  }
+  spelled = subst (λ b. Spells (b ∷ []) (token_of token)) (sym is) spelled;
+  some = omega arith;
+  inside = omega arith;
+  whole = whole;
+  cut = IsCharBoundary-after_ascii (first ∷ rest) 0 utf8 (omega arith) (omega arith);
+}
 
 -- a text begins with the token that its first word spells
 pub BeginsWith-word : (text : List ℕ) (token : declared.Token) → IsUtf8 text → 0 < length text → starts_word (get_or text 0 0) ≡ true
     → Spells (take (prefix_len continues_word text) text) (token_of token) → BeginsWith text token (prefix_len continues_word text)
 BeginsWith-word text token utf8 some starts spelled = record {
-    spelled = spelled;
-    some = prefix_len_some text some starts;
-    inside = prefix_len-le-length continues_word text;
-    whole = IsWhole-word (drop (prefix_len continues_word text) text) (token_of token) (EndsWord-behind text);
-    cut = IsCharBoundary-behind_word text utf8 some starts;
-  }
+  spelled = spelled;
+  some = prefix_len_some text some starts;
+  inside = prefix_len-le-length continues_word text;
+  whole = IsWhole-word (drop (prefix_len continues_word text) text) (token_of token) (EndsWord-behind text);
+  cut = IsCharBoundary-behind_word text utf8 some starts;
+}
 
 -- what the code's test of the first byte says of the text
 pub starts_text : (text bytes : List ℕ) (b : Bool) → bytes ≡ text → b ≡ starts_word (get_or bytes 0 0) → b ≡ true → starts_word (get_or text 0 0) ≡ true

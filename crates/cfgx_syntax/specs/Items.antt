@@ -1,6 +1,6 @@
 -- The tokens of a text with their places, as a relation on the whole text. Places count bytes from the text's start.
 use Rattle.std.specs.Prelude.{◌≡◌, ℕ, ◌≤◌, ◌==◌, ◌||◌, Bool, true, false, List, [], ◌∷◌, ◌++◌, length, drop, encode_utf8, slice_range}
-use Rattle.std.specs.Char.{IsScalar, is_whitespace, is_not_whitespace}
+use Rattle.std.specs.Char.{IsScalar, is_not_whitespace}
 use Rattle.std.specs.Str.{NoCharPasses}
 use Rattle.cfgx_syntax.specs.Token.{Token, starts_word, Spells, IsWhole}
 

@@ -28,11 +28,11 @@ item_of t = record { token = token_of t.token; start = t.span.start; end = t.spa
 -- the fault of a place where no token can start
 abbrev pub stuck_at : List ℕ → ℕ → Fault
 stuck_at text place = record {
-    original = text;
-    start = place;
-    end = place + 1;
-    cause = unexpected (codes "<key>" ∷ codes "all" ∷ codes "any" ∷ codes "not" ∷ []);
-  }
+  original = text;
+  start = place;
+  end = place + 1;
+  cause = unexpected (codes "<key>" ∷ codes "all" ∷ codes "any" ∷ codes "not" ∷ []);
+}
 
 -- the failure is this fault, or want of memory for its copy of the text
 abbrev pub FailsWith : {A : Type 0} → Fault → Failure A → Type 0

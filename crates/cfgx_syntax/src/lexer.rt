@@ -7,6 +7,10 @@ ghost use Rattle.cfgx_syntax.specs.LexerState.{starting};
 ghost use Rattle.cfgx_syntax.specs.Text.{strip};
 ghost use Rattle.cfgx_syntax.specs.Token.{starts_word, continues_word, IsWord, Spells, EndsWord};
 
+mod laws;
+#[cfg(test)]
+mod tests;
+
 use crate::error::{Failure, ParseError, Reason};
 use std::alloc::{Allocator, Global};
 use std::fmt;

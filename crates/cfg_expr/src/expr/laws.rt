@@ -32,5 +32,4 @@ pub fn are_same_functions(one: Func, other: Func) -> bool
 pub fn asks_as_arranged()
     ensures all { (trees : Trees) → asked (Tree.all trees) ≡ asked_each (arranged trees) }
     ensures any { (trees : Trees) → asked (Tree.any trees) ≡ asked_each (arranged trees) }
-{
-}
+{}

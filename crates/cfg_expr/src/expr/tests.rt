@@ -15,8 +15,7 @@ fn examples()
     ensures written { questions (postfix shallow) ≡ asked shallow }
     ensures listed { IsTree listed_tokens listed }
     ensures in_order { asked listed ≡ Question.flag (codes "a") ∷ Question.flag (codes "b") ∷ [] }
-{
-}
+{}
 
 #[test]
 fn definitions_compute() {
@@ -26,7 +25,10 @@ fn definitions_compute() {
 #[test]
 fn debug_shows_the_stripped_text(rt: HostRuntime) -> Result<(), Fail> {
     let expression = Expression::parse(rt.alloc(), "cfg(all(a))")?;
-    assert_eq!(rt; format!(in rt.alloc(); "{expression:?}")?.as_str(), "Expression(\"all(a)\")");
+    assert_eq!(rt;
+        format!(in rt.alloc(); "{expression:?}")?.as_str(),
+        "Expression(\"all(a)\")"
+    );
     assert_eq!(rt; expression.original(), "all(a)");
     Ok(())
 }

@@ -95,7 +95,8 @@ fn lines<A: Memory>(alloc: A, predicates: Predicates<'_>) -> Result<String<A>, A
 
 /// Adds a predicate's line.
 fn push_line<A: Memory>(written: &mut String<A>, predicate: Predicate<'_>) -> Result<(), AllocError>
-    ensures { OnOk result (string_bytes written.new ≡ string_bytes written.old ++ line (question_of predicate.entry)) }
+    ensures { OnOk result (string_bytes written.new
+        ≡ string_bytes written.old ++ line (question_of predicate.entry)) }
 {
     match predicate {
         Predicate::Flag(key) => written.push_str(key)?,

@@ -13,7 +13,7 @@ invariant_of-result g c =
 pub returns : goal.returns
 returns g c =
     let text = c.original.ensures ∙ sym c.self.view_is in (
-  c.self.invariant.tree,
-  subst (λ text. HasTree text c.self.invariant.tree) c.self.view_is c.self.invariant.has_tree,
-  rw (text, c.as_slice-nodes.ensures) (ap questions c.self.invariant.nodes_are ∙ questions-postfix c.self.invariant.tree),
-)
+      c.self.invariant.tree,
+      subst (λ text. HasTree text c.self.invariant.tree) c.self.view_is c.self.invariant.has_tree,
+      rw (text, c.as_slice-nodes.ensures) (ap questions c.self.invariant.nodes_are ∙ questions-postfix c.self.invariant.tree),
+    )

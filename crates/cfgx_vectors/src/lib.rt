@@ -1,0 +1,22 @@
+//! Tests that cross crates: what `run`, `Expression` and `Lexer` answer to texts whose answers are known from outside.
+#![tactic(auto)]
+
+#[cfg(test)]
+mod accepted;
+#[cfg(test)]
+mod deep;
+#[cfg(test)]
+mod faults;
+#[cfg(test)]
+mod fields;
+#[cfg(test)]
+mod lexer;
+#[cfg(test)]
+mod memory;
+#[cfg(test)]
+mod program;
+pub mod refusing;
+#[cfg(test)]
+mod rust_crate;
+#[cfg(test)]
+mod streams;

@@ -1,0 +1,157 @@
+//! Want of memory: each growth of a call refused in turn.
+use crate::deep::{nested, repeated};
+use crate::refusing::{EVERY, Refusing};
+use crate::streams::{Ended, Memory};
+use cfg_expr::error::{Failure, Reason};
+use cfg_expr::expr::lexer::{Lexer, Token};
+use cfg_expr::{Expression, memory};
+use cfgx_engine::engine::run;
+use std::alloc::Global;
+use std::process::Abort;
+use std::test::Fail;
+
+/// What parsing a text answers.
+#[derive(Clone, Copy, Debug, PartialEq)]
+enum Outcome {
+    /// It is accepted, and asks so many predicates.
+    Accepted(usize),
+    /// It has this fault at these bytes.
+    Refused(usize, usize, Reason),
+    WantOfMemory,
+}
+
+fn parsed<A: memory::Memory>(alloc: A, text: &str) -> Outcome {
+    match Expression::parse(alloc, text) {
+        Ok(expression) => Outcome::Accepted(expression.predicates().left()),
+        Err(Failure::Parse(error)) => {
+            Outcome::Refused(error.span.start, error.span.end, error.reason)
+        }
+        Err(Failure::Memory(_)) => Outcome::WantOfMemory,
+    }
+}
+
+// No text here needs so many growths.
+const MOST_GROWTHS: u64 = 1000;
+
+// Parses the text with the first growth refused, then with the second, until none is refused.
+fn parse_in_turns(
+    rt: &impl Abort,
+    alloc: Global,
+    text: &str,
+    plain: Outcome,
+) -> Result<(), &'static str> {
+    for turn in 1..MOST_GROWTHS {
+        let refusing = Refusing::new(alloc);
+        refusing.refuse(turn);
+        let answer = parsed(&refusing, text);
+        if !refusing.has_refused() {
+            assert_eq!(rt; answer, plain, "{text}");
+            assert!(rt; turn > 1, "{text}");
+            return Ok(());
+        }
+        assert_eq!(rt; answer, Outcome::WantOfMemory, "growth {turn} of {text}");
+        assert_eq!(rt; parsed(alloc, text), plain, "{text}");
+    }
+    Err("too many growths")
+}
+
+// The same of a run, which has then written nothing.
+fn run_in_turns(
+    rt: &impl Abort,
+    alloc: Global,
+    text: &str,
+    status: u8,
+) -> Result<(), &'static str> {
+    let words = ["parse", text];
+    let mut plain = Memory::new(alloc);
+    assert_eq!(rt;
+        run(alloc, &words, &mut Ended, &mut plain),
+        status,
+        "{text}"
+    );
+    for turn in 1..MOST_GROWTHS {
+        let refusing = Refusing::new(alloc);
+        refusing.refuse(turn);
+        let mut sink = Memory::new(alloc);
+        let answer = run(&refusing, &words, &mut Ended, &mut sink);
+        assert_eq!(rt; sink.failures, 0, "{text}");
+        if !refusing.has_refused() {
+            assert_eq!(rt; answer, status, "{text}");
+            assert_eq!(rt; sink.bytes.as_slice(), plain.bytes.as_slice(), "{text}");
+            assert!(rt; turn > 1, "{text}");
+            return Ok(());
+        }
+        assert_eq!(rt; answer, 3, "growth {turn} of {text}");
+        assert!(rt; sink.bytes.is_empty(), "growth {turn} of {text}");
+        assert_eq!(rt; sink.flushes, 0, "growth {turn} of {text}");
+    }
+    Err("too many growths")
+}
+
+const SHORT: [(&str, u8, Outcome); 3] = [
+    ("key)", 1, Outcome::Refused(3, 4, Reason::UnopenedParens)),
+    ("all(a, any(b), c)", 0, Outcome::Accepted(3)),
+    (
+        "a 8 b",
+        1,
+        Outcome::Refused(2, 3, Reason::Unexpected(&["<key>", "all", "any", "not"])),
+    ),
+];
+
+#[test]
+fn is_answered_as_such_for_short_texts(rt: HostRuntime) -> Result<(), Fail> {
+    for (text, status, plain) in SHORT {
+        parse_in_turns(&rt, rt.alloc(), text, plain)?;
+        run_in_turns(&rt, rt.alloc(), text, status)?;
+    }
+    Ok(())
+}
+
+#[test]
+fn is_answered_as_such_for_long_texts(rt: HostRuntime) -> Result<(), Fail> {
+    let wide = repeated(rt.alloc(), "all(", "any(a, b),", 40, ")")?;
+    parse_in_turns(&rt, rt.alloc(), wide.as_str(), Outcome::Accepted(80))?;
+    run_in_turns(&rt, rt.alloc(), wide.as_str(), 0)?;
+    let deep = nested(rt.alloc(), "not(", 40, "a")?;
+    parse_in_turns(&rt, rt.alloc(), deep.as_str(), Outcome::Accepted(1))?;
+    run_in_turns(&rt, rt.alloc(), deep.as_str(), 0)?;
+    let front = repeated(rt.alloc(), "", "not(", 40, "a")?;
+    let open = repeated(rt.alloc(), front.as_str(), ")", 39, "")?;
+    let unclosed = Outcome::Refused(3, 200, Reason::UnclosedParens);
+    parse_in_turns(&rt, rt.alloc(), open.as_str(), unclosed)?;
+    run_in_turns(&rt, rt.alloc(), open.as_str(), 1)?;
+    Ok(())
+}
+
+// Tokens take no memory; a fault's copy of the text does, and its want ends the lexer as the fault does.
+#[test]
+fn ends_the_lexer(rt: HostRuntime) -> Result<(), Fail> {
+    for turn in [1, EVERY] {
+        let refusing = Refusing::new(rt.alloc());
+        refusing.refuse(turn);
+        let mut lexer = Lexer::new(&refusing, "a 8 b");
+        let item = lexer.next().ok_or("no item")??;
+        assert_eq!(rt; item.token, Token::Key("a"));
+        assert_eq!(rt; lexer.items_left_bound(), 4);
+        assert!(rt; matches!(lexer.next(), Some(Err(Failure::Memory(_)))));
+        for _call in 0..3 {
+            assert_eq!(rt; lexer.items_left_bound(), 0);
+            assert!(rt; lexer.next().is_none());
+        }
+    }
+    Ok(())
+}
+
+#[test]
+fn is_not_met_on_wrong_use(rt: HostRuntime) -> Result<(), Fail> {
+    let refusing = Refusing::new(rt.alloc());
+    refusing.refuse(EVERY);
+    let usage = "usage: cfgx parse TEXT | eval TEXT FLAG.. | target TRIPLE TEXT | pick TRIPLE\n";
+    let mut sink = Memory::new(rt.alloc());
+    assert_eq!(rt; run(&refusing, &["parse"], &mut Ended, &mut sink), 2);
+    assert_eq!(rt; sink.bytes.as_slice(), usage.as_bytes());
+    let mut sink = Memory::new(rt.alloc());
+    assert_eq!(rt; run(&refusing, &["parse", "a"], &mut Ended, &mut sink), 3);
+    assert!(rt; sink.bytes.is_empty());
+    Ok(())
+}

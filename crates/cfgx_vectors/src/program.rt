@@ -1,0 +1,49 @@
+//! What a run of the program writes, and its status.
+use crate::streams::{Ended, Memory};
+use cfgx_engine::engine::run;
+use std::test::Fail;
+
+const USAGE: &str =
+    "usage: cfgx parse TEXT | eval TEXT FLAG.. | target TRIPLE TEXT | pick TRIPLE\n";
+
+const ROWS: [(&[&str], &str, u8); 15] = [
+    (&["parse", "all(a, any(b), c)"], "b\na\nc\n", 0),
+    (&["parse", "cfg(key)"], "key\n", 0),
+    (&["parse", "all()"], "", 0),
+    (
+        &["parse", "not(a, b)"],
+        "not(a, b)\n^^^^^^^^^ not() takes 1 predicate, found 2\n",
+        1,
+    ),
+    (&["parse"], USAGE, 2),
+    (&["parse", "key)"], "key)\n   ^ unopened parens\n", 1),
+    (&["parse", "not(key"], "not(key\n   - unclosed parens\n", 1),
+    (
+        &["parse", "foo ("],
+        "foo (\n    ^ expected one of `=`, `,`, `)` here\n",
+        1,
+    ),
+    (&["parse", ""], "\n empty expression\n", 1),
+    (&[], USAGE, 2),
+    (&["parse", "a", "b"], USAGE, 2),
+    (&["Parse", "a"], USAGE, 2),
+    (&["eval", "a"], USAGE, 2),
+    (&["target", "aarch64-apple-ios", "a"], USAGE, 2),
+    (&["pick", "aarch64-apple-ios"], USAGE, 2),
+];
+
+#[test]
+fn writes_its_output_and_ends_with_its_status(rt: HostRuntime) -> Result<(), Fail> {
+    for (words, written, status) in ROWS {
+        let mut sink = Memory::new(rt.alloc());
+        assert_eq!(rt;
+            run(rt.alloc(), words, &mut Ended, &mut sink),
+            status,
+            "{words:?}"
+        );
+        assert_eq!(rt; sink.bytes.as_slice(), written.as_bytes(), "{words:?}");
+        assert_eq!(rt; sink.failures, 0, "{words:?}");
+        assert_eq!(rt; sink.flushes, 1, "{words:?}");
+    }
+    Ok(())
+}

@@ -1,0 +1,128 @@
+//! An allocator for tests, which refuses one growth of its holder's choice.
+ghost use Rattle.std.specs.Prelude.{◌≡◌};
+
+use std::alloc::{AllocError, Allocator};
+use std::cell::Cell;
+
+/// Refuses every growth, as an argument of `Refusing::refuse`.
+pub const EVERY: u64 = u64::MAX;
+
+/// Asks `inner` for each growth but one, or but all, and frees by it. A growth is any block that is wanted, a
+/// first one or one to move to, by whoever holds a `&`.
+#[derive(Drop)]
+pub struct Refusing<B: Allocator> {
+    inner: B,
+    // How many growths from here the refused one is, and 0 where none is ahead.
+    countdown: Cell<u64>,
+}
+
+impl<B: Allocator> Refusing<B> {
+    /// Lets each growth through until `refuse` is called.
+    pub fn new(inner: B) -> Refusing<B> {
+        Refusing {
+            inner,
+            countdown: Cell::new(0),
+        }
+    }
+
+    /// Sets the countdown: the `n`-th growth from now on is refused, 1 being the next one, and those
+    /// before and after it are let through. With 0 all are, and with `EVERY` none is.
+    pub fn refuse(&self, n: u64) {
+        self.countdown.set(n);
+    }
+
+    /// Whether no refusal lies ahead.
+    pub fn has_refused(&self) -> bool {
+        self.countdown.get() == 0
+    }
+
+    // Takes one growth off the countdown. True where that ends it, or where every growth is refused, which no clause can say: a
+    // cell's number is no part of its value.
+    fn ends_countdown(&self) -> bool {
+        let ahead = self.countdown.get();
+        if ahead == EVERY {
+            return true;
+        }
+        if ahead > 0 {
+            self.countdown.set(ahead - 1);
+        }
+        ahead == 1
+    }
+
+    fn inner(&self) -> &B
+        ensures { result.now ≡ self.now.inner }
+    {
+        &self.inner
+    }
+}
+
+unsafe impl<B: Allocator> Allocator for Refusing<B> {
+    // A block is the inner allocator's, and so is the right to free it.
+    ghost dealloc_token = { λ refusing. B.dealloc_token refusing.inner };
+
+    fn allocate(&self, size: usize, align: usize) -> Result<*mut u8, AllocError> {
+        if self.ends_countdown() {
+            return Err(AllocError);
+        }
+        self.inner().allocate(size, align)
+    }
+
+    unsafe fn deallocate(&self, ptr: *mut u8, size: usize, align: usize) {
+        self.inner().deallocate(ptr, size, align);
+    }
+}
+
+#[cfg(test)]
+mod tests {
+    use super::*;
+    use std::alloc::Global;
+    use std::test::Fail;
+
+    const BYTES: u8 = 100;
+
+    // A list that starts with no block and outgrows each block that it gets.
+    fn filled(heap: &Refusing<Global>) -> Result<Vec<u8, &Refusing<Global>>, AllocError> {
+        let mut bytes = Vec::new(heap);
+        for byte in 0..BYTES {
+            bytes.push(byte)?;
+        }
+        Ok(bytes)
+    }
+
+    #[test]
+    fn each_growth_is_refused_in_turn(rt: HostRuntime) -> Result<(), Fail> {
+        let heap = Refusing::new(rt.alloc());
+        let mut refused = 0u64;
+        for n in 1..=u64::from(BYTES) {
+            heap.refuse(n);
+            if filled(&heap).is_ok() {
+                break;
+            }
+            assert!(rt; heap.has_refused(), "growth {n}");
+            refused = n;
+        }
+        assert!(rt; !heap.has_refused());
+        assert!(rt; refused >= 3, "{refused} growths");
+        Ok(())
+    }
+
+    #[test]
+    fn only_one_growth_is_refused(rt: HostRuntime) -> Result<(), Fail> {
+        let heap = Refusing::new(rt.alloc());
+        assert!(rt; heap.has_refused());
+        assert_eq!(rt; filled(&heap)?.len(), usize::from(BYTES));
+        heap.refuse(2);
+        let mut bytes = Vec::with_capacity(&heap, 1)?;
+        bytes.push(7u8)?;
+        assert!(rt; !heap.has_refused());
+        assert!(rt; bytes.push(8).is_err());
+        assert!(rt; heap.has_refused());
+        assert_eq!(rt; bytes.as_slice(), [7].as_slice());
+        bytes.push(8)?;
+        assert_eq!(rt; bytes.as_slice(), [7, 8].as_slice());
+        heap.refuse(1);
+        heap.refuse(0);
+        assert!(rt; filled(&heap).is_ok());
+        Ok(())
+    }
+}
