@@ -1,25 +1,33 @@
 -- The questions of a function are those of its arranged members.
-use Rattle.std.proofs.Common.{◌≡◌, Bool, true, false, List, [], ◌++◌, sym, refl, ap, ◌∙◌, append_assoc}
+use Rattle.std.proofs.Common.{◌≡◌, Bool, true, false, List, [], ◌++◌, sym, refl, ap, ◌∙◌}
+use Rattle.std.proofs.Common.{append_assoc}
 use Rattle.std.specs.Prelude.{if◌then◌else◌}
 use Rattle.cfg_expr.specs.Question.{Question}
-use Rattle.cfg_expr.specs.Tree.{Tree, Trees, is_function, is_predicate, only, followed_by, arranged, asked, asked_by, asked_each}
+use Rattle.cfg_expr.specs.Tree.{Tree, Trees, is_function, is_leaf, only, followed_by, arranged}
+use Rattle.cfg_expr.specs.Tree.{asked, asked_by, asked_each}
 
-asked_each-followed_by : (trees others : Trees) → asked_each (followed_by trees others) ≡ asked_each trees ++ asked_each others
+asked_each-followed_by : (trees others : Trees) → asked_each (followed_by trees others) ≡
+    asked_each trees ++ asked_each others
 asked_each-followed_by Trees.none others = refl
 asked_each-followed_by (Trees.more tree trees) others =
-    ap (λ l. asked tree ++ l) (asked_each-followed_by trees others) ∙ sym (append_assoc (asked tree) (asked_each trees) (asked_each others))
+    ap (λ l. asked tree ++ l) (asked_each-followed_by trees others)
+    ∙ sym (append_assoc (asked tree) (asked_each trees) (asked_each others))
 
-asked_each-kept : (b : Bool) (tree : Tree) (kept : Trees) (rest : List Question) → asked_each kept ≡ rest
+asked_each-kept : (b : Bool) (tree : Tree) (kept : Trees)
+    (rest : List Question) → asked_each kept ≡ rest
     → asked_each (if b then Trees.more tree kept else kept) ≡ (if b then asked tree else []) ++ rest
 asked_each-kept true tree kept rest e = ap (λ l. asked tree ++ l) e
 asked_each-kept false tree kept rest e = e
 
-asked_each-only : (test : Tree → Bool) (trees : Trees) → asked_each (only test trees) ≡ asked_by test trees
+asked_each-only : (test : Tree → Bool) (trees : Trees)
+    → asked_each (only test trees) ≡ asked_by test trees
 asked_each-only test Trees.none = refl
-asked_each-only test (Trees.more tree trees) = asked_each-kept (test tree) tree (only test trees) (asked_by test trees) (asked_each-only test trees)
+asked_each-only test (Trees.more tree trees) = asked_each-kept (test tree) tree (only test trees)
+    (asked_by test trees) (asked_each-only test trees)
 
-pub asked_each-arranged : (trees : Trees) → asked_by is_function trees ++ asked_by is_predicate trees ≡ asked_each (arranged trees)
+pub asked_each-arranged : (trees : Trees) → asked_by is_function trees
+    ++ asked_by is_leaf trees ≡ asked_each (arranged trees)
 asked_each-arranged trees =
-    sym (asked_each-followed_by (only is_function trees) (only is_predicate trees)
-    ∙ ap (λ l. l ++ asked_each (only is_predicate trees)) (asked_each-only is_function trees)
-    ∙ ap (λ l. asked_by is_function trees ++ l) (asked_each-only is_predicate trees))
+    sym (asked_each-followed_by (only is_function trees) (only is_leaf trees)
+    ∙ ap (λ l. l ++ asked_each (only is_leaf trees)) (asked_each-only is_function trees)
+    ∙ ap (λ l. asked_by is_function trees ++ l) (asked_each-only is_leaf trees))

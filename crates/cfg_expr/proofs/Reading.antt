@@ -1,142 +1,243 @@
--- The loop over the tokens: what was given so far is what the text begins with.
-use Rattle.std.proofs.Common.{◌≡◌, ℕ, zero, suc, ◌+◌, ◌-◌, ◌<◌, ◌≤◌, List, [], ◌∷◌, ◌++◌, length, map, drop, get_or, Option, Some, None, sym, refl, ap, ◌∙◌, subst, arith, append_assoc, length-drop, add-zero}
-use Rattle.std.specs.Prelude.{Result, Ok, Err, OnOk, option_map, reverse, option_and_then, IsSomeAnd, slice_range}
-use Rattle.std.specs.Str.{IsUtf8, IsCharBoundary}
-use Rattle.std.specs.List.{AllByRecursion, AllZip}
-use Rattle.std.proofs.lemmas.List.{append-nil, map-append, get_or-take, get_or-drop, length-take-le}
-use Rattle.std.proofs.lemmas.List.Sums.{AllPass-from_list_all}
-use Rattle.cfgx_syntax.proofs.Words.{continues_word-ascii, starts_word-continues}
-use Rattle.std.proofs.lemmas.Str.{IsCharBoundary-before_ascii, IsCharBoundary-after_ascii}
-use Rattle.cfgx_syntax.specs.Token.{continues_word, IsWord, Spells}
-use Rattle.cfgx_syntax.specs.Items.{Ending, AreItems, IsBlank, Stands}
-use Rattle.cfgx_syntax.specs.Lexer.{token_of, item_of, GivesNext}
-use Rattle.cfgx_syntax.specs.LexerState.{LexerState, starting}
+-- What the rest of a text answers, the whole answers: one token after another, as the lexer gives
+-- them.
+use Rattle.std.proofs.Common.{◌≡◌, ℕ, ◌≤◌, List, [], ◌∷◌, length, drop, Some, Result, Ok, Err, sym}
+use Rattle.std.proofs.Common.{refl, ap, ◌∙◌, subst, arith}
+use Rattle.std.specs.Prelude.{slice_range, OnOk}
+use Rattle.cfgx_syntax.specs.Items.{Item, Ending, Stands, EndsAs, ItemsFrom, IsBlank, lexical}
+use Rattle.cfgx_syntax.specs.Error.{Refusal, FailsWith, fault_in}
+use Rattle.cfgx_syntax.specs.LexerState.{LexerState}
+use Rattle.cfgx_syntax.specs.Lexer.{GivesItem, GivesFault, GivesNext, item_of, token_of}
 use Rattle.cfgx_syntax.specs.declared.error.Failure.{Failure}
+use Rattle.cfgx_syntax.specs.declared.error.Failure.TheVariants as failure
 use Rattle.cfgx_syntax.specs.declared.lexer.LexerToken.{LexerToken}
-use Rattle.cfgx_syntax.specs.declared.lexer.Token.{Token}
+use Rattle.cfgx_syntax.specs.Token.{Token, Spells}
+use Rattle.cfgx_syntax.specs.Cut.{CanBeCut}
+use Rattle.cfgx_syntax.specs.declared.lexer.Token as declared
 use Rattle.cfgx_syntax.specs.declared.lexer.Token.TheVariants as given
-use Rattle.cfg_expr.specs.Machine.{Machine, initial, run, step}
-use Rattle.cfg_expr.specs.Expression.{IsCut, Keeps, nodes_at, NodeHasCut}
-use Rattle.cfg_expr.specs.Parsing.{Holds, HasRead, HasReadAll, IsPlaced, IsFinished, FrameIs, PendingIs}
+use Rattle.cfgx_syntax.proofs.Values.{value_inside}
+use Rattle.cfg_expr.specs.nodes.Writes.{IsPlaced, ArePlaced}
+use Rattle.cfgx_syntax.proofs.TokenList.{Stands-same, Stands-no_ending, EndsAs-same}
+use Rattle.cfg_expr.specs.parsing.State.{State}
+use Rattle.cfg_expr.specs.parsing.Step.{and_then, step, run, conclude}
+use Rattle.cfg_expr.specs.parsing.Bounded.{IsHeld, IsBounded}
+use Rattle.cfg_expr.specs.parsing.Parser.{state_of, FailsAs, Reaches, Gives, IsQuoted, IsQuotedAt}
+use Rattle.cfg_expr.specs.parsing.Parser.{ended_as, answer_from, ReadsAll}
 use Rattle.cfg_expr.specs.declared.expr.parser.Parser.{Parser}
-use Rattle.cfg_expr.proofs.MachineReads.{run-append}
+use Rattle.cfg_expr.proofs.Bounded.{IsHeld-step}
 
-pub HasRead-more : {A : Type 0} (text : List ℕ) (place : ℕ) (old new : Parser A) (lexed : LexerToken) → (read : HasRead {A = A} text place old) → Stands text place (item_of lexed)
-    → ((t : List ℕ) (m : Machine) → Holds {A = A} t old m → IsSomeAnd (step m (token_of lexed.token)) (Holds {A = A} t new))
-    → HasRead {A = A} text lexed.span.end new
-HasRead-more {A} text place old new lexed read stands steps =
-    more (step read.m (token_of lexed.token)) refl (steps text read.m read.holds)
+-- what stands next is the first of the items
+pub record Follows (text : List ℕ) (item : Item) (items : List Item)
+    (ending : Ending) : Type 0 where
+  pub rest : List Item
+  pub items_are : items ≡ item ∷ rest
+  pub come : ItemsFrom text item.end rest ending
+
+pub Follows-stands : (text : List ℕ) (place : ℕ) (item : Item) (items : List Item)
+    (ending : Ending) → Stands text place item
+    → ItemsFrom text place items ending → Follows text item items ending
+Follows-stands text place item [] ending stands come =
+    absurd (Stands-no_ending text place item ending stands come)
+Follows-stands text place item (other ∷ others) ending stands come =
+    let same = Stands-same text place other item come.0 stands in
+    record {
+      rest = others;
+      items_are = ap (λ i. i ∷ others) same;
+      come = subst (λ (i : Item). ItemsFrom text i.end others ending) same come.1;
+    }
+
+pub no_more_items : (text : List ℕ) (place : ℕ) (items : List Item)
+    (ending end : Ending) → EndsAs text place end → ItemsFrom text place items ending
+    → (items ≡ []) × (ending ≡ end)
+no_more_items text place [] ending end ends come =
+    (refl, EndsAs-same text place ending end come ends)
+no_more_items text place (item ∷ items) ending end ends come =
+    absurd (Stands-no_ending text place item end come.0 ends)
+
+-- the text of a key or of a value stands at its place
+pub placed_at : (text : List ℕ) (token : Token) (start end : ℕ)
+    → Spells (slice_range text start end) token → end ≤ length text
+    → CanBeCut text token start end → IsPlaced text (record {
+      token = token;
+      start = start;
+      end =
+          end;
+    }) token
+placed_at text (Token.key word) start end spelled inside cut = (spelled.0, cut.spelling)
+placed_at text (Token.value word) start end spelled inside cut =
+    (value_inside text word start end inside spelled.0, cut.value)
+placed_at text Token.equals start end spelled inside cut = tt
+placed_at text Token.all start end spelled inside cut = tt
+placed_at text Token.any start end spelled inside cut = tt
+placed_at text Token.not start end spelled inside cut = tt
+placed_at text Token.open_paren start end spelled inside cut = tt
+placed_at text Token.close_paren start end spelled inside cut = tt
+placed_at text Token.comma start end spelled inside cut = tt
+
+-- a value's span has room for its quotes
+pub IsQuoted-given : (now : LexerState) (lexed : LexerToken)
+    (next : LexerState) → GivesItem now (item_of lexed) next → IsQuoted lexed
+IsQuoted-given now lexed next gives = quoted lexed.token gives.cut
   where
-    more : (o : Option Machine) → step read.m (token_of lexed.token) ≡ o → IsSomeAnd o (Holds {A = A} text new) → HasRead {A = A} text lexed.span.end new
-    more None is holds = absurd holds
-    more (Some n) is holds = record {
-      items = read.items ++ item_of lexed ∷ [];
-      so_far = λ rest ending follows. subst (λ l. AreItems text l ending) (sym (append_assoc read.items (item_of lexed ∷ []) rest)) (read.so_far (item_of lexed ∷ rest) ending (stands, follows));
-      m = n;
-      runs = ap (run initial) (map-append (λ item. item.token) read.items (item_of lexed ∷ []))
-          ∙ run-append initial (map (λ item. item.token) read.items) (token_of lexed.token ∷ [])
-          ∙ ap (option_and_then (λ k. run k (token_of lexed.token ∷ []))) read.runs
-          ∙ ap (option_and_then (λ k. run k [])) is;
-      holds = holds;
-    }
+    quoted : (token : declared.Token) → CanBeCut now.text (token_of token) lexed.span.start
+        lexed.span.end → IsQuotedAt token lexed.span
+    quoted (given.Value text) cut = let inner = cut.value.ordered in omega (arith, inner)
+    quoted (given.Key text) cut = tt
+    quoted given.Equals cut = tt
+    quoted given.All cut = tt
+    quoted given.Any cut = tt
+    quoted given.Not cut = tt
+    quoted given.OpenParen cut = tt
+    quoted given.CloseParen cut = tt
+    quoted given.Comma cut = tt
 
-pub HasReadAll-end : {A : Type 0} (text : List ℕ) (place : ℕ) (p : Parser A) → HasRead {A = A} text place p → IsBlank (drop place text) → HasReadAll {A = A} p
-HasReadAll-end {A} text place p read blank =
-    let items = subst (λ l. AreItems text l Ending.blank) (append-nil read.items) (read.so_far [] Ending.blank blank) in
-    record {
-      items = read.items;
-      are_items = subst (λ t. AreItems t read.items Ending.blank) (sym read.holds.original) items;
-      m = read.m;
-      runs = read.runs;
-      holds = subst (λ t. Holds {A = A} t p read.m) (sym read.holds.original) read.holds;
-    }
+-- where the reader stands in the text
+pub record Leads {A : Type 0} (lexer : LexerState) (now : LexerState)
+    (old parser : Parser A) : Type 0 where
+  pub bounded : IsBounded (state_of {A = A} parser)
+  pub text : now.text ≡ lexer.text
+  pub same_text : parser.original.now ≡ old.original.now
+  pub leads : (items : List Item) (ending : Ending) → ItemsFrom lexer.text lexer.place items ending
+      → (rest : List Item) × ItemsFrom now.text now.place rest ending
+      × (answer_from (state_of {A = A} old) lexer.text items ending ≡ answer_from (state_of {A =
+      A} parser) lexer.text rest ending)
 
--- what a word is made of is ASCII
-word_byte : (word : List ℕ) → IsWord word → (i : ℕ) → i < length word → get_or word i 0 < 128
-word_byte [] is i inside = absurd (omega arith)
-word_byte (first ∷ others) is zero inside = continues_word-ascii first (starts_word-continues first is.0)
-word_byte (first ∷ others) is (suc i) inside =
-    continues_word-ascii (get_or others i 0) (AllPass-from_list_all continues_word others is.1 i 0 (omega arith))
-
-word_some : (word : List ℕ) → IsWord word → 0 < length word
-word_some [] is = absurd (cc)
-word_some (first ∷ others) is = omega arith
-
--- a word that stands in the text can be cut out of it
-IsCut-word : (text word : List ℕ) (start end : ℕ) → IsUtf8 text → slice_range text start end ≡ word → IsWord word → start ≤ end → end ≤ length text → IsCut text start end
-IsCut-word text word start end utf8 spelled is ordered inside =
-    let long : end - start ≡ length word = sym (length-take-le (end - start) (drop start text) (omega (arith, length-drop start text))) ∙ ap length spelled in
-    let some = word_some word is in
-    let at : (i : ℕ) → i < end - start → get_or text (start + i) 0 < 128 = λ i lt.
-    let same : get_or text (start + i) 0 ≡ get_or word i 0 =
-    sym (get_or-drop start text i 0) ∙ sym (get_or-take (end - start) (drop start text) i 0 lt) ∙ ap (λ l. get_or l i 0) spelled in
-    omega (arith, same, word_byte word is i (omega arith)) in
-    let first : get_or text start 0 < 128 = subst (λ n. get_or text n 0 < 128) (add-zero start) (at 0 (omega arith)) in
-    let behind : start + (end - start - 1) ≡ end - 1 = omega arith in
-    let last : get_or text (end - 1) 0 < 128 = subst (λ n. get_or text n 0 < 128) behind (at (end - start - 1) (omega arith)) in
-    let next : end - 1 + 1 ≡ end = omega arith in
-    record {
-      ordered = ordered;
-      inside = inside;
-      opens = IsCharBoundary-before_ascii text start (omega arith) first;
-      closes = subst (IsCharBoundary text) next (IsCharBoundary-after_ascii text (end - 1) utf8 (omega arith) last);
-    }
-
-placed : (text : List ℕ) (token : Token) (start end : ℕ) → IsUtf8 text → Spells (slice_range text start end) (token_of token) → start ≤ end → end ≤ length text
-    → IsPlaced text token (record { start = start; end = end })
-placed text (given.Key word) start end utf8 spelled ordered inside = (sym spelled.0, IsCut-word text word.now start end utf8 spelled.0 spelled.1.spelled ordered inside)
-placed text given.All start end utf8 spelled ordered inside = tt
-placed text given.Any start end utf8 spelled ordered inside = tt
-placed text given.Not start end utf8 spelled ordered inside = tt
-placed text given.OpenParen start end utf8 spelled ordered inside = tt
-placed text given.CloseParen start end utf8 spelled ordered inside = tt
-placed text given.Comma start end utf8 spelled ordered inside = tt
-
-pub IsPlaced-stands : (text : List ℕ) (place : ℕ) (lexed : LexerToken) → IsUtf8 text → Stands text place (item_of lexed) → IsPlaced text lexed.token lexed.span
-IsPlaced-stands text place lexed utf8 stands = placed text lexed.token lexed.span.start lexed.span.end utf8 stands.spelled stands.ordered stands.inside
-
--- the token that `next` gave
-pub token_given : {A : Type 0} (old new : LexerState) (item : Result LexerToken (Failure A)) (lexed : LexerToken) → item ≡ Ok lexed → GivesNext {A = A} old (Some item) new
-    → Stands old.text old.place (item_of lexed) × (new ≡ record old { place = lexed.span.end })
-token_given {A} old new item lexed is steps = subst (λ r. GivesNext {A = A} old (Some r) new) is steps
-
-pub HasRead-next : {A : Type 0} (old new : LexerState) (before after : Parser A) (lexed : LexerToken) → HasRead {A = A} old.text old.place before → Stands old.text old.place (item_of lexed)
-    → new ≡ record old { place = lexed.span.end }
-    → ((t : List ℕ) (m : Machine) → Holds {A = A} t before m → IsSomeAnd (step m (token_of lexed.token)) (Holds {A = A} t after))
-    → HasRead {A = A} new.text new.place after
-HasRead-next {A} old new before after lexed read stands is steps =
-    subst (λ s. HasRead {A = A} s.text s.place after) (sym is) (HasRead-more {A = A} old.text old.place before after lexed read stands steps)
-
-pub IsPlaced-at : {A : Type 0} (text : List ℕ) (place : ℕ) (parser : Parser A) (lexed : LexerToken) → IsUtf8 text → HasRead {A = A} text place parser → Stands text place (item_of lexed)
-    → IsPlaced parser.original.now lexed.token lexed.span
-IsPlaced-at {A} text place parser lexed utf8 read stands =
-    subst (λ t. IsPlaced t lexed.token lexed.span) (sym read.holds.original) (IsPlaced-stands text place lexed utf8 stands)
-
--- what `finish` leaves, seen from the start
-pub finished : {A E : Type 0} (old read new : Parser A) (result : Result (Unit {0}) E) → read.original.now ≡ old.original.now → OnOk result (IsFinished {A = A} read new) → OnOk result (IsFinished {A = A} old new)
-finished {A} old read new (Ok done) same ends = record {
-  original = ends.original ∙ same;
-  keeps = subst (λ t. Keeps t new.expr_queue.items) same ends.keeps;
+pub Leads-start : {A : Type 0} (lexer : LexerState)
+    (parser : Parser A) → IsBounded (state_of {A = A} parser)
+    → Leads {A = A} lexer lexer parser parser
+Leads-start lexer parser bounded = record {
+  bounded = bounded;
+  text = refl;
+  same_text =
+      refl;
+  leads = λ items ending come. (items, come, refl);
 }
-finished old read new (Err error) same ends = tt
 
--- nothing was read yet
-pub HasRead-start : {A : Type 0} (text : List ℕ) (state : LexerState) (p : Parser A) → state ≡ starting text → p.original.now ≡ text → p.func_stack.items ≡ [] → p.expr_queue.items ≡ []
-    → p.last_token ≡ None → p.pred_key ≡ None → p.root_count ≡ 0 → HasRead {A = A} state.text state.place p
-HasRead-start {A} text state p is original stack queue last key root =
-    let start : HasRead {A = A} text 0 p = record {
-      items = [];
-      so_far = λ rest ending follows. follows;
-      m = initial;
-      runs = refl;
-      holds = record {
-        original = original;
-        frames = subst (λ l. AllZip (FrameIs {A = A} text) (reverse l) []) (sym stack) tt;
-        nodes = ap (nodes_at text) queue;
-        cuts = subst (AllByRecursion (NodeHasCut text)) (sym queue) tt;
-        roots = root;
-        pending = subst (λ k. PendingIs text k None) (sym key) tt;
-        last = ap (option_map token_of) last;
-      };
-    } in
-    subst (λ s. HasRead {A = A} s.text s.place p) (sym is) start
+answer_more : (s t : State) (text : List ℕ) (item : Item) (rest : List Item)
+    (ending : Ending) → step s item ≡ Ok t
+    → answer_from s text (item ∷ rest) ending ≡ answer_from t text rest ending
+answer_more s t text item rest ending steps = ap (λ r. and_then
+    (ended_as text (lexical text ending)) (and_then (λ u. run u rest) r)) steps
+
+pub Leads-read : {A : Type 0} (lexer now next : LexerState) (old before after : Parser A)
+    (item : Item) (state : State) → Leads {A = A} lexer now old before
+    → GivesItem now item next → step (state_of {A = A} before) item ≡ Ok state
+    → Reaches {A = A} before after state → Leads {A = A} lexer next old after
+Leads-read {A} lexer now next old before after item state l gives steps reaches =
+    let held : IsHeld (state_of {A = A} after) = subst IsHeld reaches.is
+    (IsHeld-step (state_of {A = A} before) state item steps l.bounded.held) in
+    record {
+      bounded = record { held = held; fits = reaches.fits };
+      text = ap (λ (n : LexerState). n.text) gives.goes_on ∙ l.text;
+      same_text = reaches.same_text ∙ l.same_text;
+      leads = λ items ending come.
+          let so_far = l.leads items ending come in
+          let f = Follows-stands now.text now.place item so_far.0 ending gives.stands so_far.1 in
+          let going : ItemsFrom next.text next.place f.rest ending =
+          subst (λ (n : LexerState). ItemsFrom n.text n.place f.rest ending)
+          (sym gives.goes_on) f.come in
+          let answer = so_far.2 ∙ ap (λ r. answer_from (state_of {A = A} before) lexer.text r
+          ending) f.items_are
+          ∙ answer_more (state_of {A = A} before) state lexer.text item f.rest ending steps
+          ∙ ap (λ s. answer_from s lexer.text f.rest ending) reaches.is in
+          (f.rest, going, answer);
+    }
+
+-- a fault of the rest is the fault of the whole
+pub FailsAs-more : {A : Type 0} (text : List ℕ) (failure : Failure A)
+    (part whole : Result State Refusal)
+    → ((refusal : Refusal) → part ≡ Err refusal → whole ≡ Err refusal) → FailsAs text failure part
+    → FailsAs text failure whole
+FailsAs-more text (failure.Parse error) part whole more fails =
+    (fails.0, more fails.0 fails.1, fails.2)
+FailsAs-more text (failure.Memory error) part whole more fails = tt
+
+pub FailsAs-with : {A : Type 0} (text : List ℕ) (failure : Failure A)
+    (refusal : Refusal) → FailsWith (fault_in text refusal) failure
+    → FailsAs text failure (Err refusal)
+FailsAs-with text (failure.Parse error) refusal fails = (refusal, refl, fails)
+FailsAs-with text (failure.Memory error) refusal fails = tt
+
+-- a token that is refused
+pub ReadsAll-read : {A : Type 0} (lexer now next : LexerState) (old before after : Parser A)
+    (item : Item) (failure : Failure A)
+    → Leads {A = A} lexer now old before → GivesItem now item next
+    → FailsAs before.original.now failure (step (state_of {A = A} before) item)
+    → ReadsAll {A = A} lexer old after (Err failure)
+ReadsAll-read {A} lexer now next old before after item failure l gives fails items ending come =
+    let so_far = l.leads items ending come in
+    let f = Follows-stands now.text now.place item so_far.0 ending gives.stands so_far.1 in
+    let at_item = so_far.2 ∙ ap (λ r. answer_from (state_of {A = A} before) lexer.text r ending)
+    f.items_are in
+    let more : (refusal : Refusal) → step (state_of {A = A} before) item ≡ Err refusal
+    → answer_from (state_of {A = A} old) lexer.text items ending ≡ Err refusal =
+    λ refusal e. at_item ∙ ap (λ r. and_then (ended_as lexer.text (lexical lexer.text ending))
+    (and_then (λ u. run u f.rest) r)) e in
+    subst (λ t. FailsAs t failure (answer_from (state_of {A = A} old) lexer.text items ending))
+    l.same_text (FailsAs-more before.original.now failure _ _ more fails)
+
+-- the lexical fault
+pub ReadsAll-fault : {A : Type 0} (lexer now next : LexerState) (old before after : Parser A)
+    (failure : Failure A)
+    → old.original.now ≡ lexer.text → Leads {A = A} lexer now old before
+    → GivesFault {A = A} now failure next → ReadsAll {A = A} lexer old after (Err failure)
+ReadsAll-fault {A} lexer now next old before after failure text l gives items ending come =
+    let so_far = l.leads items ending come in
+    let last = no_more_items now.text now.place so_far.0 ending gives.ending gives.ends so_far.1 in
+    let refused : lexical lexer.text ending ≡ Some gives.refusal =
+    ap (lexical lexer.text) last.1 ∙ ap (λ t. lexical t gives.ending)
+    (sym l.text) ∙ gives.refused in
+    let answer : answer_from (state_of {A = A} old) lexer.text items ending ≡ Err gives.refusal =
+    so_far.2 ∙ ap (λ r. answer_from (state_of {A = A} before) lexer.text r ending) last.0
+    ∙ ap (λ o. ended_as lexer.text o (state_of {A = A} before)) refused in
+    let fails : FailsAs now.text failure (Err gives.refusal) =
+    FailsAs-with now.text failure gives.refusal gives.fails in
+    subst (λ t. FailsAs t failure (answer_from (state_of {A = A} old) lexer.text items ending))
+    (l.text ∙ sym text) (subst (FailsAs now.text failure) (sym answer) fails)
+
+Gives-text : {A : Type 0} (result : Result (Unit {0}) (Failure A)) (before old after : Parser A)
+    (answer : Result State Refusal)
+    → before.original.now ≡ old.original.now → Gives {A = A} result before after answer
+    → Gives {A = A} result old after answer
+Gives-text {A} (Ok done) before old after answer same gives = (
+  gives.0,
+  gives.1,
+  record {
+    is = gives.2.is;
+    same_text = gives.2.same_text ∙ same;
+    fits =
+        gives.2.fits;
+  },
+)
+Gives-text {A} (Err failure) before old after answer same gives =
+    subst (λ t. FailsAs t failure answer) same gives
+
+-- the end of the text
+pub ReadsAll-end : {A : Type 0} (lexer now : LexerState) (old before after : Parser A)
+    (result : Result (Unit {0}) (Failure A))
+    → old.original.now ≡ lexer.text → Leads {A = A} lexer now old before
+    → IsBlank (drop now.place now.text)
+    → Gives {A = A} result before after (conclude (length before.original.now)
+    (state_of {A = A} before)) → ReadsAll {A = A} lexer old after result
+ReadsAll-end {A} lexer now old before after result text l blank gives items ending come =
+    let so_far = l.leads items ending come in
+    let last = no_more_items now.text now.place so_far.0 ending Ending.blank blank so_far.1 in
+    let at_end : answer_from (state_of {A = A} old) lexer.text items ending ≡ conclude
+    (length before.original.now) (state_of {A = A} before) =
+    so_far.2 ∙ ap (λ r. answer_from (state_of {A = A} before) lexer.text r ending) last.0
+    ∙ ap (λ e. ended_as lexer.text (lexical lexer.text e) (state_of {A = A} before)) last.1
+    ∙ ap (λ t. conclude (length t) (state_of {A = A} before)) (sym (l.same_text ∙ text)) in
+    subst (Gives {A = A} result old after) (sym at_end)
+    (Gives-text {A = A} result before old after _ l.same_text gives)
+
+-- what `next` gave, as the code takes it apart
+pub item_given : {A : Type 0} (old new : LexerState) (item : Result LexerToken (Failure A))
+    (lexed : LexerToken) → item ≡ Ok lexed
+    → GivesNext {A = A} old (Some item) new → GivesItem old (item_of lexed) new
+item_given {A} old new item lexed is steps = subst (λ r. GivesNext {A = A} old (Some r) new) is
+    steps
+
+pub fault_given : {A : Type 0} (old new : LexerState) (item : Result LexerToken (Failure A))
+    (failure : Failure A) → item ≡ Err failure
+    → GivesNext {A = A} old (Some item) new → GivesFault {A = A} old failure new
+fault_given {A} old new item failure is steps = subst (λ r. GivesNext {A = A} old (Some r) new) is
+    steps

@@ -1,22 +1,32 @@
--- Which tokens spell which tree: the grammar of `ConfigurationPredicate` in the Rust Reference, with any number of commas where it has one, as the crate cfg-expr takes them.
-use Rattle.std.specs.Prelude.{◌≡◌, ℕ, ◌<◌, List, [], ◌∷◌, ◌++◌, replicate, map}
+-- Which tokens spell which tree: the grammar of `ConfigurationPredicate` in the Rust Reference,
+-- with any number of commas where it has one, as the crate cfg-expr takes them.
+use Rattle.std.specs.Prelude.{◌≡◌, ℕ, ◌<◌, List, [], ◌∷◌, ◌++◌, replicate, map, Option, Some, None}
 use Rattle.cfgx_syntax.specs.Token.{Token}
 use Rattle.cfgx_syntax.specs.Items.{Item, Ending, AreItems}
 use Rattle.cfg_expr.specs.Question.{Question}
+use Rattle.cfg_expr.specs.Classification.{Class, class}
 use Rattle.cfg_expr.specs.Tree.{Tree, Trees}
 
 abbrev pub commas : ℕ → List Token
 commas n = replicate n Token.comma
 
--- the tokens spell the predicate: every key is a flag
+-- a key, and perhaps `=` and a value
+abbrev pub predicate_tokens : List ℕ → Option (List ℕ) → List Token
+predicate_tokens key None = Token.key key ∷ []
+predicate_tokens key (Some value) = Token.key key ∷ Token.equals ∷ Token.value value ∷ []
+
+-- the tokens spell the predicate
 abbrev pub IsPredicate : List Token → Question → Type 0
-IsPredicate tokens (Question.flag word) = tokens ≡ Token.key word ∷ []
+IsPredicate tokens question =
+    (key : List ℕ) × (value : Option (List ℕ)) × (tokens ≡ predicate_tokens key value)
+    × (class key value ≡ Class.is question)
 
 -- the tokens are a function's name, and its members' tokens in parentheses
 abbrev pub IsCall : Token → List Token → List Token → Type 0
 IsCall name tokens inner = tokens ≡ name ∷ Token.open_paren ∷ (inner ++ Token.close_paren ∷ [])
 
--- n commas stand between a member and those behind it: any number behind the last, else at least one
+-- n commas stand between a member and those behind it: any number behind the last, else at least
+-- one
 abbrev pub Separates : ℕ → Trees → Type 0
 Separates n Trees.none = Unit {0}
 Separates n (Trees.more tree trees) = 0 < n
@@ -25,21 +35,26 @@ abbrev mutual
   -- the tokens spell the tree as one item
   pub IsItem : List Token → Tree → Type 0
   IsItem tokens (Tree.leaf question) = IsPredicate tokens question
-  IsItem tokens (Tree.all trees) = (inner : List Token) × IsCall Token.all tokens inner × IsList inner trees
-  IsItem tokens (Tree.any trees) = (inner : List Token) × IsCall Token.any tokens inner × IsList inner trees
-  IsItem tokens (Tree.not tree) = (item : List Token) × (n : ℕ) × IsCall Token.not tokens (item ++ commas n) × IsItem item tree
+  IsItem tokens (Tree.all trees) = (inner : List Token) × IsCall Token.all tokens inner
+      × IsList inner trees
+  IsItem tokens (Tree.any trees) = (inner : List Token) × IsCall Token.any tokens inner
+      × IsList inner trees
+  IsItem tokens (Tree.not tree) = (item : List Token) × (n : ℕ)
+      × IsCall Token.not tokens (item ++ commas n) × IsItem item tree
 
   -- the tokens spell the trees as a list
   pub IsList : List Token → Trees → Type 0
   IsList tokens Trees.none = tokens ≡ []
   IsList tokens (Trees.more tree trees) =
-      (item : List Token) × (n : ℕ) × (rest : List Token) × (tokens ≡ item ++ (commas n ++ rest)) × Separates n trees × IsItem item tree × IsList rest trees
+      (item : List Token) × (n : ℕ) × (rest : List Token) × (tokens ≡ item ++ (commas n ++ rest))
+      × Separates n trees × IsItem item tree × IsList rest trees
 
 -- the tokens are one item and any number of commas
 abbrev pub IsTree : List Token → Tree → Type 0
 IsTree tokens tree = (item : List Token) × (n : ℕ) × (tokens ≡ item ++ commas n) × IsItem item tree
 
--- a text, already stripped, has this tree: it ends with no place where no token can start, and its tokens spell the tree
+-- a text, already stripped, has this tree: it ends with no place where no token can start, and its
+-- tokens spell the tree
 pub record HasTree (text : List ℕ) (tree : Tree) : Type 0 where
   pub items : List Item
   pub are_items : AreItems text items Ending.blank

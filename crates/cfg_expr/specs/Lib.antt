@@ -1,10 +1,13 @@
-pub mod Expression
+pub mod Answer
+pub mod Classification
 pub mod Grammar
-pub mod Machine
-pub mod Nodes
+pub mod Neighbours
 pub mod Order
-pub mod Parsing
+pub mod Predicate
 pub mod Question
 pub mod Size
+pub mod Spelling
 pub mod Tree
 pub mod Worked
+pub mod nodes
+pub mod parsing

@@ -1,4 +1,5 @@
--- The order of functions: `not` first, then `all`, then `any`, those of one kind by the number of members (the derived order of `Func` in the crate cfg-expr).
+-- The order of functions: `not` first, then `all`, then `any`, those of one kind by the number of
+-- members (the derived order of `Func` in the crate cfg-expr).
 use Rattle.std.specs.Ordering.{nat_cmp}
 use Rattle.std.specs.declared.cmp.Ordering.{Ordering}
 use Rattle.std.specs.declared.cmp.Ordering.TheVariants.{Less, Equal, Greater}

@@ -1,6 +1,28 @@
--- A predicate as it is asked: what it says, and not where its text lies in memory.
+-- A predicate as it is asked: what it says, and not where its text lies in memory. The variants are
+-- those of `Predicate` and `TargetPredicate` in the crate cfg-expr.
 use Rattle.std.specs.Prelude.{ℕ, List}
+use Rattle.cfgx_targets.specs.declared.endian.Endian.{Endian}
+use Rattle.cfgx_targets.specs.declared.atomic.HasAtomic.{HasAtomic}
+
+-- what a predicate asks of a target
+pub data TargetQuestion : Type 0 where
+  abi : List ℕ → TargetQuestion
+  arch : List ℕ → TargetQuestion
+  endian : Endian → TargetQuestion
+  env : List ℕ → TargetQuestion
+  family : List ℕ → TargetQuestion
+  has_atomic : HasAtomic → TargetQuestion
+  os : List ℕ → TargetQuestion
+  panic : List ℕ → TargetQuestion
+  pointer_width : ℕ → TargetQuestion
+  vendor : List ℕ → TargetQuestion
 
 pub data Question : Type 0 where
-  -- a bare key: so far every one
+  target : TargetQuestion → Question
+  test : Question
+  debug_assertions : Question
+  proc_macro : Question
+  feature : List ℕ → Question
+  target_feature : List ℕ → Question
   flag : List ℕ → Question
+  key_value : List ℕ → List ℕ → Question

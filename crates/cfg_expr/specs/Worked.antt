@@ -1,17 +1,122 @@
--- Worked examples on which the definitions are computed by a test.
-use Rattle.std.specs.Prelude.{List, [], ◌∷◌, codes}
+-- Worked examples, on which tests compute the definitions.
+use Rattle.std.specs.Prelude.{ℕ, List, [], ◌∷◌, codes, map, Some, None, Result}
+use Rattle.std.specs.declared.ops.Range.{Range}
+use Rattle.cfgx_syntax.specs.Error.{Cause, Refusal}
+use Rattle.cfgx_syntax.specs.Items.{Item, Ending}
 use Rattle.cfgx_syntax.specs.Token.{Token}
+use Rattle.cfg_expr.specs.Classification.{Class, Part, class}
 use Rattle.cfg_expr.specs.Question.{Question}
 use Rattle.cfg_expr.specs.Tree.{Tree, Trees}
+use Rattle.cfg_expr.specs.nodes.Node.{nothing}
+use Rattle.cfg_expr.specs.parsing.State.{State, initial}
+use Rattle.cfg_expr.specs.parsing.Parser.{answer_from}
+use Rattle.cfg_expr.specs.declared.expr.Func.TheVariants as func
+use Rattle.cfg_expr.specs.declared.expr.nodes.ExprNode.TheVariants as node
+use Rattle.cfg_expr.specs.declared.expr.nodes.InnerPredicate.TheVariants as inner
+
+-- a key that stands alone
+abbrev pub flag : List ℕ → Tree
+flag key = Tree.leaf (Question.flag key)
+
+abbrev pub flags : List (List ℕ) → List Question
+flags keys = map Question.flag keys
+
+abbrev pub one : Tree → Trees
+one tree = Trees.more tree Trees.none
 
 -- `all(a, any(b), c)`
 abbrev pub shallow : Tree
-shallow = Tree.all (Trees.more (Tree.leaf (Question.flag (codes "a"))) (Trees.more (Tree.any (Trees.more (Tree.leaf (Question.flag (codes "b"))) Trees.none))
-    (Trees.more (Tree.leaf (Question.flag (codes "c"))) Trees.none)))
+shallow = Tree.all (Trees.more (flag (codes "a"))
+    (Trees.more (Tree.any (one (flag (codes "b")))) (one (flag (codes "c")))))
+
+-- `all(b, not(c))`
+abbrev pub inside : Tree
+inside = Tree.all (Trees.more (flag (codes "b")) (one (Tree.not (flag (codes "c")))))
+
+-- `any(a, all(b, not(c)), d)`
+abbrev pub nested : Tree
+nested = Tree.any (Trees.more (flag (codes "a")) (Trees.more inside (one (flag (codes "d")))))
 
 -- `all(a,,b)`
 abbrev pub listed : Tree
-listed = Tree.all (Trees.more (Tree.leaf (Question.flag (codes "a"))) (Trees.more (Tree.leaf (Question.flag (codes "b"))) Trees.none))
+listed = Tree.all (Trees.more (flag (codes "a")) (one (flag (codes "b"))))
+
+abbrev pub key_a : Token
+key_a = Token.key (codes "a")
+
+abbrev pub key_b : Token
+key_b = Token.key (codes "b")
 
 abbrev pub listed_tokens : List Token
-listed_tokens = Token.all ∷ Token.open_paren ∷ Token.key (codes "a") ∷ Token.comma ∷ Token.comma ∷ Token.key (codes "b") ∷ Token.close_paren ∷ []
+listed_tokens = Token.all ∷ Token.open_paren ∷ key_a ∷ Token.comma ∷ Token.comma ∷ key_b
+    ∷ Token.close_paren ∷ []
+
+-- `all(a)`
+abbrev pub single : Tree
+single = Tree.all (one (flag (codes "a")))
+
+abbrev pub item : Token → ℕ → ℕ → Item
+item token start end = record { token = token; start = start; end = end }
+
+abbrev pub single_items : List Item
+single_items = item Token.all 0 3 ∷ item Token.open_paren 3 4 ∷ item key_a 4 5
+    ∷ item Token.close_paren 5 6 ∷ []
+
+-- `all(a`
+abbrev pub open_items : List Item
+open_items = item Token.all 0 3 ∷ item Token.open_paren 3 4 ∷ item key_a 4 5 ∷ []
+
+-- `any(,)`
+abbrev pub comma_items : List Item
+comma_items = item Token.any 0 3 ∷ item Token.open_paren 3 4 ∷ item Token.comma 4 5
+    ∷ item Token.close_paren 5 6 ∷ []
+
+-- `not()`
+abbrev pub not_items : List Item
+not_items = item Token.not 0 3 ∷ item Token.open_paren 3 4 ∷ item Token.close_paren 4 5 ∷ []
+
+-- `not(a, feature)`
+abbrev pub two_items : List Item
+two_items = item Token.not 0 3 ∷ item Token.open_paren 3 4 ∷ item key_a 4 5
+    ∷ item Token.comma 5 6 ∷ item (Token.key (codes "feature")) 7 14
+    ∷ item Token.close_paren 14 15 ∷ []
+
+-- `a, b`
+abbrev pub root_items : List Item
+root_items = item key_a 0 1 ∷ item Token.comma 1 2 ∷ item key_b 3 4 ∷ []
+
+-- `a)`
+abbrev pub unopened_items : List Item
+unopened_items = item key_a 0 1 ∷ item Token.close_paren 1 2 ∷ []
+
+-- what the parser answers to a text that is these items and white space
+abbrev pub reads : List ℕ → List Item → Result State Refusal
+reads text items = answer_from initial text items Ending.blank
+
+abbrev pub span : ℕ → ℕ → Range ℕ
+span start end = record { start = start; end = end }
+
+-- what is left of `all(a)`: two nodes, of which the second is asked
+abbrev pub single_read : State
+single_read = record initial {
+  roots = 1;
+  last = Some Token.close_paren;
+  written = record nothing {
+    nodes = node.Fn (func.All 1) 2 ∷ node.Predicate (inner.Other (span 4 5) None) ∷ [];
+    asked = 1 ∷ [];
+  };
+}
+
+-- a key that stands alone, and one that has a value
+abbrev pub lone : List ℕ → Class
+lone key = class key None
+
+abbrev pub given : List ℕ → List ℕ → Class
+given key value = class key (Some value)
+
+-- what is at fault in a key, and in a value
+abbrev pub bad_key : Cause → Class
+bad_key cause = Class.refused cause Part.of_key
+
+abbrev pub bad_value : Cause → Class
+bad_value cause = Class.refused cause Part.of_value

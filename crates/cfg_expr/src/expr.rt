@@ -1,18 +1,27 @@
 //! Conditions, and the predicates that they ask.
-ghost use Rattle.std.specs.Prelude.{◌≡◌, length, count_by};
+ghost use Rattle.std.specs.Prelude.{◌≡◌, IfOk};
+ghost use Rattle.cfgx_syntax.specs.Stripping.{strip};
+ghost use Rattle.cfg_expr.specs.Answer.{Answers};
 ghost use Rattle.cfg_expr.specs.Tree.{Tree, asked};
 ghost use Rattle.cfg_expr.specs.Grammar.{HasTree};
-ghost use Rattle.cfg_expr.specs.Expression.{is_predicate, FindsFirst, HasCut, question_of, question_at};
 
+mod classification;
 mod laws;
+mod nodes;
 mod parser;
+mod predicates;
 #[cfg(test)]
 mod tests;
 
-use crate::memory::Memory;
+use crate::error::Failure;
+use crate::memory::SmallAllocator;
 pub use cfgx_syntax::lexer;
+use lexer::Lexer;
+use nodes::ExprNode;
+use parser::Parser;
+pub use predicates::{Predicate, Predicates, TargetPredicate};
 use smallvec::SmallVec;
-use std::alloc::{Allocator, Global};
+use std::alloc::{AllocError, Allocator, Global};
 use std::fmt;
 use std::marker::Model;
 use std::ops::Range;
@@ -28,57 +37,28 @@ pub enum Func {
     Any(usize),
 }
 
-/// A predicate of a condition.
-#[derive(Clone, Copy, PartialEq, Eq, Debug)]
-pub enum Predicate<'a> {
-    /// A bare key, such as `loom`
-    Flag(&'a str),
-}
-
 /// Bytes of an expression's text.
 pub(crate) type Span = Range<usize>;
-
-/// A predicate by where its parts stand in the text.
-#[derive(Debug, Drop)]
-pub(crate) enum InnerPredicate {
-    Flag(Span),
-}
-
-impl Default for InnerPredicate {
-    fn default() -> Self {
-        InnerPredicate::Flag(0..0)
-    }
-}
-
-/// A node of a condition. A function stands behind its members.
-#[derive(Debug, Drop)]
-pub(crate) enum ExprNode {
-    Fn(Func),
-    Predicate(InnerPredicate),
-}
-
-impl Default for ExprNode {
-    fn default() -> Self {
-        ExprNode::Fn(Func::Not)
-    }
-}
 
 /// A parsed condition, which is seen as its stripped text.
 #[derive(Drop)]
 pub struct Expression<A: Allocator = Global> {
-    pub(crate) expr: SmallVec<ExprNode, 5, A>,
-    pub(crate) original: String<A>,
+    original: String<A>,
+    /// The nodes of its tree, in source order
+    expr: SmallVec<ExprNode, 5, A>,
+    /// The places of its predicates among the nodes, in the order in which they are asked
+    asked: SmallVec<usize, 5, A>,
 }
 
 impl<A: Allocator> Model for Expression<A> {
     ghost use Rattle.std.specs.Prelude.{List, ℕ, string_bytes};
-    ghost use Rattle.cfg_expr.specs.Expression.{Keeps};
+    ghost use Rattle.cfg_expr.specs.nodes.Keeps.{Keeps};
 
     ghost Value = { List ℕ };
 
     ghost view = { λ e. string_bytes e.original };
 
-    ghost invariant = { λ e. Keeps (string_bytes e.original) e.expr.items };
+    ghost invariant = { λ e. Keeps (string_bytes e.original) e.expr.items e.asked.items };
 }
 
 impl<A: Allocator> Expression<A> {
@@ -90,6 +70,35 @@ impl<A: Allocator> Expression<A> {
     }
 }
 
+/// Prints the stripped text.
+impl<A: Allocator> fmt::Display for Expression<A> {
+    ghost use Rattle.std.specs.Prelude.{Some};
+
+    ghost output = { λ text. Some text };
+
+    fn fmt<W: fmt::Write>(&self, f: &mut fmt::Formatter<W>) -> fmt::Result {
+        f.write_str(self.original())
+    }
+}
+
+/// Two expressions are equal where their stripped texts are: `key` and `key,` are not.
+impl<A: Allocator> PartialEq for Expression<A> {
+    ghost use Rattle.std.specs.Prelude.{nat_eq, ◌↔◌, IsTrue};
+    ghost use Rattle.std.specs.Cmp.{partial_equiv_from_equiv};
+    ghost use Rattle.std.specs.Cmp.Lexicographic.{nat_list_eq_equiv, pointwise};
+
+    ghost eq = { pointwise nat_eq };
+
+    ghost laws = { partial_equiv_from_equiv nat_list_eq_equiv };
+
+    fn eq(&self, other: &Self) -> bool
+        ensures value { result ≡ pointwise nat_eq self.now other.now }
+        ensures same_text { IsTrue result ↔ (self.now ≡ other.now) }
+    {
+        self.original() == other.original()
+    }
+}
+
 /// Prints the stripped text as `Debug` prints a text, in parentheses.
 impl<A: Allocator> fmt::Debug for Expression<A> {
     fn fmt<W: fmt::Write>(&self, f: &mut fmt::Formatter<W>) -> fmt::Result {
@@ -97,101 +106,53 @@ impl<A: Allocator> fmt::Debug for Expression<A> {
     }
 }
 
-impl<A: Memory> Expression<A> {
-    /// The predicates in the order in which they are asked: in each list the functions first, whole, and then the list's own predicates. It takes no memory.
+impl<A: SmallAllocator> Expression<A> {
+    /// The expression of a text, which may stand in `cfg( )`.
+    pub fn parse(alloc: A, original: &str) -> Result<Self, Failure<A>>
+        ensures { Answers (strip original.now) result }
+    {
+        let lexer = Lexer::new(alloc, original);
+        let text = lexer.original();
+        let mut parser = Parser::new(alloc, text);
+        parser.read_all(lexer)?;
+        let original = String::from_str(alloc, text)?;
+        let (expr, asked) = parser.into_parts();
+        Ok(Expression {
+            original,
+            expr,
+            asked,
+        })
+    }
+
+    /// What `parse` answers, under the name of Rust's trait, which has no allocator to pass.
+    pub fn from_str(alloc: A, original: &str) -> Result<Self, Failure<A>>
+        ensures { Answers (strip original.now) result }
+    {
+        Self::parse(alloc, original)
+    }
+
+    /// An expression of the same text. This one stays as it was.
+    ///
+    /// The error is that `alloc` refused the copy.
+    pub fn try_clone(&self, alloc: A) -> Result<Self, AllocError>
+        ensures { IfOk result (λ copy. copy ≡ self.now) }
+    {
+        Ok(Expression {
+            original: String::from_str(alloc, self.original.as_str())?,
+            expr: SmallVec::from_clones(alloc, self.expr.as_slice())?,
+            asked: SmallVec::from_slice(alloc, self.asked.as_slice())?,
+        })
+    }
+
+    /// The predicates in the order in which they are asked: in each list the functions first,
+    /// whole, and then the list's own predicates. It takes no memory.
     pub fn predicates(&self) -> Predicates<'_>
         ensures { (tree : Tree) × HasTree self.now tree × (result ≡ asked tree) }
     {
-        let nodes = self.expr.as_slice();
-        Predicates {
-            nodes,
-            text: self.original(),
-            left: count_predicates(nodes),
-        }
-    }
-}
-
-/// How many of the nodes are predicates.
-fn count_predicates(nodes: &[ExprNode]) -> usize
-    ensures { result ≡ count_by is_predicate nodes.now }
-{
-    nodes
-        .iter()
-        .filter(|node| matches!(node, ExprNode::Predicate(_)))
-        .count()
-}
-
-/// The first predicate among the nodes, and the nodes behind it.
-fn first_predicate(nodes: &[ExprNode]) -> Option<(&InnerPredicate, &[ExprNode])>
-    ensures { FindsFirst nodes.now result }
-{
-    let mut rest = nodes;
-    while let Some((node, others)) = rest.split_first() {
-        rest = others;
-        if let ExprNode::Predicate(predicate) = node {
-            return Some((predicate, others));
-        }
-    }
-    None
-}
-
-impl InnerPredicate {
-    /// The predicate of the text in which it stands.
-    fn to_pred<'a>(&self, text: &'a str) -> Predicate<'a>
-        requires { HasCut text.now self.now }
-        ensures { question_of result ≡ question_at text.now self.now }
-    {
-        match self {
-            InnerPredicate::Flag(span) => Predicate::Flag(&text[span.start..span.end]),
-        }
-    }
-}
-
-/// The predicates of an expression, in the order in which they are asked.
-#[derive(Drop)]
-pub struct Predicates<'a> {
-    nodes: &'a [ExprNode],
-    text: &'a str,
-    left: usize,
-}
-
-impl<'a> Model for Predicates<'a> {
-    ghost use Rattle.std.specs.Prelude.{◌≡◌, List, length};
-    ghost use Rattle.std.specs.List.{AllByRecursion};
-    ghost use Rattle.cfg_expr.specs.Question.{Question};
-    ghost use Rattle.cfg_expr.specs.Nodes.{questions};
-    ghost use Rattle.cfg_expr.specs.Expression.{nodes_at, NodeHasCut};
-
-    ghost Value = { List Question };
-
-    ghost view = { λ p. questions (nodes_at p.text.now p.nodes.now) };
-
-    ghost invariant = { λ p. AllByRecursion (NodeHasCut p.text.now) p.nodes.now × (p.left ≡ length (questions (nodes_at p.text.now p.nodes.now))) };
-}
-
-impl Predicates<'_> {
-    /// The number of predicates that are still to come.
-    pub fn left(&self) -> usize
-        ensures { result ≡ length self.now }
-    {
-        self.left
-    }
-}
-
-impl<'a> Iterator for Predicates<'a> {
-    type Item = Predicate<'a>;
-
-    ghost use Rattle.std.specs.Iterator.{YieldsFirstBy, item_count};
-    ghost use Rattle.cfg_expr.specs.Expression.{question_of};
-
-    ghost next_gives = { YieldsFirstBy question_of (λ s. s) };
-
-    ghost remaining = { item_count (λ s. s) };
-
-    fn next(&mut self) -> Option<Predicate<'a>> {
-        let (predicate, others) = first_predicate(self.nodes)?;
-        self.nodes = others;
-        self.left -= 1;
-        Some(predicate.to_pred(self.text))
+        Predicates::new(
+            self.original.as_str(),
+            self.expr.as_slice(),
+            self.asked.as_slice(),
+        )
     }
 }

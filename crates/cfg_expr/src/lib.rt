@@ -7,4 +7,4 @@ pub mod expr;
 pub mod memory;
 
 pub use error::ParseError;
-pub use expr::{Expression, Predicate};
+pub use expr::{Expression, Predicate, TargetPredicate};

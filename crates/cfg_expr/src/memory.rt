@@ -3,20 +3,21 @@ use std::alloc::{Allocator, Global};
 
 /// An allocator's handle that is copied, and that takes few bytes, as a reference does.
 ///
-/// The vectors of an expression hold one beside their inline places, so the bytes that they take depend on it. Every `&A` is such a handle: an allocator of any size is lent.
-pub trait Memory: Allocator + Copy {
+/// The vectors of an expression hold one beside their inline places, so the bytes that they take
+/// depend on it. Every `&A` is such a handle: an allocator of any size is lent.
+pub trait SmallAllocator: Allocator + Copy {
     ghost use Rattle.cfg_expr.specs.Size.{IsSmall};
 
     ghost small: { IsSmall Self.row };
 }
 
-impl Memory for Global {
+impl SmallAllocator for Global {
     ghost use Rattle.std.proofs.Common.{lit≤};
 
     ghost small = { (lit≤ tt, lit≤ tt) };
 }
 
-impl<A: Allocator> Memory for &A {
+impl<A: Allocator> SmallAllocator for &A {
     ghost use Rattle.std.proofs.Common.{lit≤};
 
     ghost small = { (lit≤ tt, lit≤ tt) };

@@ -1,4 +1,5 @@
-//! The program `cfgx`, which shows what is in conditions as `cfg(all(unix, target_arch = "x86_64"))`.
+//! The program `cfgx`, which shows what is in conditions as `cfg(all(unix, target_arch =
+//! "x86_64"))`.
 #![tactic(auto)]
 
 use cfgx_engine::engine::{Counted, run};

@@ -1,6 +1,8 @@
 -- Streams that count their failed calls, and what a caller can tell of their bytes.
--- Source of the rules for one call: the documentation of `std::io::Read::read`, `std::io::Write::write` and `flush`.
-use Rattle.std.specs.Prelude.{◌≡◌, ℕ, List, ◌++◌, length, ◌==◌, ◌&&◌, nat_lt, Option, Result, Ok, Err, if◌then◌else◌}
+-- Source of the rules for one call: the documentation of `std::io::Read::read`,
+-- `std::io::Write::write` and `flush`.
+use Rattle.std.specs.Prelude.{◌≡◌, ℕ, List, ◌++◌, length, ◌==◌, ◌&&◌, nat_lt, Option}
+use Rattle.std.specs.Prelude.{Result, Ok, Err, if◌then◌else◌}
 use Rattle.std.specs.Io.KnownBytes.{Appends}
 
 -- how many calls failed, of one call that answers this: an error is a failure
@@ -13,7 +15,8 @@ abbrev pub write_failures : {E : Type 0} → Result ℕ E → List ℕ → ℕ
 write_failures (Ok taken) bytes = if taken == 0 && nat_lt 0 (length bytes) then 1 else 0
 write_failures (Err _) bytes = 1
 
--- a sink has taken `bytes` up to where `left` begins; it says nothing of a sink that does not tell its bytes
+-- a sink has taken `bytes` up to where `left` begins; it says nothing of a sink that does not tell
+-- its bytes
 pub record Takes (old new : Option (List ℕ)) (bytes left : List ℕ) : Type 0 where
   pub front : List ℕ
   pub whole : front ++ left ≡ bytes

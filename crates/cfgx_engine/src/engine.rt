@@ -3,15 +3,17 @@ ghost use Rattle.std.specs.Prelude.{◌≡◌, ◌≢◌, ◌+◌, ◌<◌, ◌�
 ghost use Rattle.std.specs.Bool.{MatchBool};
 ghost use Rattle.std.specs.Io.KnownBytes.{Appends};
 ghost use Rattle.std.specs.Cow.{cow_str_bytes};
-ghost use Rattle.cfgx_engine.specs.Output.{request_of, texts, Request, ListsPredicates, WritesWhole, WritesFront};
+ghost use Rattle.cfgx_engine.specs.Output.{request_of, texts, Request};
+ghost use Rattle.cfgx_engine.specs.Output.{ListsPredicates, PrintsFault, WritesFront, WritesWhole};
 ghost use Rattle.cfgx_engine.specs.Streams.{TakesFront};
 ghost use Rattle.cfgx_engine.specs.Answer.{output_of};
 
 mod answer;
+mod spelling;
 pub mod streams;
 
 use answer::{Answer, answer_to};
-use cfg_expr::memory::Memory;
+use cfg_expr::memory::SmallAllocator;
 use std::alloc::Allocator;
 use streams::write_whole;
 pub use streams::{Counted, Sink, Source};
@@ -21,11 +23,12 @@ const REFUSED: u8 = 3;
 
 /// Runs the command that the words ask for, and answers the status with which the program ends.
 ///
-/// `words` are those behind the program's name. What is written is made in memory whole before its first byte goes out;
-/// the usage line takes no memory. Status 0 says that it is done, 1 that a text is faulty, 2 that the words ask for
-/// nothing known, and 3 that memory was refused or that a call of the reader or writer failed. No failed call is tried
-/// again. The rules are in `docs/RULES.md`.
-pub fn run<A: Memory, R: Source, W: Sink>(
+/// `words` are those behind the program's name. What is written is made in memory whole before its
+/// first byte goes out; the usage line takes no memory. Status 0 says that it is done, 1 that a
+/// text is faulty, 2 that the words ask for nothing known, and 3 that memory was refused or that a
+/// call of the reader or writer failed. No failed call is tried again. The rules are in
+/// `docs/RULES.md`.
+pub fn run<A: SmallAllocator, R: Source, W: Sink>(
     alloc: A,
     words: &[&str],
     reader: &mut R,
@@ -34,9 +37,14 @@ pub fn run<A: Memory, R: Source, W: Sink>(
     requires reader { R.failures reader.old < u64.MAX }
     requires writer { W.failures writer.old < u64.MAX }
 
-    // Status 0: one line for each predicate of the text, in the order in which they are asked.
+    // Status 0: the text has one tree, and one line was written for each of its predicates, in the
+    // order in which they are asked.
     ensures predicates { result ≡ 0
         → ListsPredicates (texts words.now) (W.written writer.old) (W.written writer.new) }
+
+    // Status 1: the text has no tree, and its fault was written.
+    ensures fault { result ≡ 1
+        → PrintsFault (texts words.now) (W.written writer.old) (W.written writer.new) }
 
     // Any other status than 3: the whole output was written, and no call failed.
     ensures done { result ≢ 3 → WritesWhole (request_of (texts words.now)) result
@@ -46,7 +54,8 @@ pub fn run<A: Memory, R: Source, W: Sink>(
     // Status 3: either nothing was written, or one call failed and a beginning of the output was.
     ensures refused { result ≡ 3 → (writer.new ≡ writer.old)
         ⊎ ((W.failures writer.new ≡ W.failures writer.old + 1)
-        × WritesFront (request_of (texts words.now)) (W.written writer.old) (W.written writer.new)) }
+        × WritesFront (request_of (texts words.now))
+        (W.written writer.old) (W.written writer.new)) }
 
     // Wrong use meets no want of memory.
     ensures wrong_use { request_of (texts words.now) ≡ Request.wrong_use → result ≡ 3

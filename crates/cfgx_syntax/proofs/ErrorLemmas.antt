@@ -1,5 +1,6 @@
 -- Equality of reasons and of faults is that of variants, numbers and texts.
-use Rattle.std.proofs.Common.{◌≡◌, ℕ, Bool, true, false, List, [], ◌∷◌, ◌&&◌, Bor, map, nat_eq, refl, ap, sym, ◌∙◌}
+use Rattle.std.proofs.Common.{◌≡◌, ℕ, Bool, true, false, List, [], ◌∷◌, ◌&&◌, Bor, map, nat_eq}
+use Rattle.std.proofs.Common.{refl, ap, sym, ◌∙◌}
 use Rattle.std.proofs.lemmas.Bool.{eqb-false}
 use Rattle.std.proofs.lemmas.Bool.Decides.{Decides-eqb}
 use Rattle.std.proofs.lemmas.Slice.Eq.{bytes_eq-Decides}
@@ -11,24 +12,33 @@ use Rattle.cfgx_syntax.specs.declared.error.ParseError.{ParseError}
 use Rattle.cfgx_syntax.specs.declared.error.Reason.{Reason}
 use Rattle.cfgx_syntax.specs.declared.error.Reason.TheVariants as reason
 use Rattle.cfgx_syntax.specs.contracts.error.ReasonPartialEq.TheImpl as reason_eq
-use Rattle.cfgx_syntax.specs.Error.{Cause, Fault, cause_of, fault_of, invalid_not, invalid_characters, unclosed_parens, unopened_parens, unclosed_quotes, unopened_quotes, empty, unexpected, invalid_integer, multiple_root_predicates, invalid_has_atomic, unknown_builtin}
+use Rattle.cfgx_syntax.specs.Error.{Cause, Fault, cause_of, fault_of, invalid_not, unexpected}
+use Rattle.cfgx_syntax.specs.Error.{invalid_characters, unclosed_parens, unopened_parens, empty}
+use Rattle.cfgx_syntax.specs.Error.{unclosed_quotes, unopened_quotes, invalid_integer}
+use Rattle.cfgx_syntax.specs.Error.{multiple_root_predicates, invalid_has_atomic, unknown_builtin}
 
 -- what holds of both parts holds of the two tests together
-both_decide : {P Q R : Type 0} (p q : Bool) → Decides p P → Decides q Q → (P → Q → R) → (R → P) → (R → Q) → Decides (p && q) R
+both_decide : {P Q R : Type 0} (p q : Bool) → Decides p P → Decides q Q → (P → Q → R) → (R → P)
+    → (R → Q) → Decides (p && q) R
 both_decide true true hp hq join left right = (λ _. join (hp.0 refl) (hq.0 refl), λ _. refl)
 both_decide true false hp hq join left right = (λ e. cc, λ r. hq.1 (right r))
 both_decide false q hp hq join left right = (λ e. cc, λ r. hp.1 (left r))
 
 pair_decides : {P Q : Type 0} (p q : Bool) → Decides p P → Decides q Q → Decides (p && q) (P × Q)
-pair_decides {P} {Q} p q hp hq = both_decide {R = P × Q} p q hp hq (λ x y. (x, y)) (λ r. r.0) (λ r. r.1)
+pair_decides {P} {Q} p q hp hq =
+    both_decide {R = P × Q} p q hp hq (λ x y. (x, y)) (λ r. r.0) (λ r. r.1)
 
--- comparing two lists of texts, text by text, decides whether they have the same bytes
-terms_eq-Decides : (xs ys : List (Bor (List ℕ))) → Decides (pointwise (λ x y. pointwise nat_eq x.now y.now) xs ys) (map (λ t. t.now) xs ≡ map (λ t. t.now) ys)
+-- whether two lists of texts have the same bytes, text by text
+abbrev same_terms : List (Bor (List ℕ)) → List (Bor (List ℕ)) → Bool
+same_terms xs ys = pointwise (λ x y. pointwise nat_eq x.now y.now) xs ys
+
+terms_eq-Decides : (xs ys : List (Bor (List ℕ)))
+    → Decides (same_terms xs ys) (map (λ t. t.now) xs ≡ map (λ t. t.now) ys)
 terms_eq-Decides [] [] = (λ _. refl, λ _. refl)
 terms_eq-Decides [] (y ∷ ys) = (λ e. cc, λ e. cc)
 terms_eq-Decides (x ∷ xs) [] = (λ e. cc, λ e. cc)
 terms_eq-Decides (x ∷ xs) (y ∷ ys) =
-    both_decide (pointwise nat_eq x.now y.now) (pointwise (λ x y. pointwise nat_eq x.now y.now) xs ys)
+    both_decide (pointwise nat_eq x.now y.now) (same_terms xs ys)
     (bytes_eq-Decides x.now y.now) (terms_eq-Decides xs ys) (λ e f. cc) (λ e. cc) (λ e. cc)
 
 -- a number for each kind of cause
@@ -47,16 +57,23 @@ kind_of invalid_has_atomic = 10
 kind_of unknown_builtin = 11
 
 -- causes of different kinds are not equal
-apart-Decides : (answer : Bool) (one other : Cause) → answer ≡ false → nat_eq (kind_of one) (kind_of other) ≡ false → Decides answer (one ≡ other)
-apart-Decides answer one other refused apart =
-    (λ yes. let e : false ≡ true = sym refused ∙ yes in cc, λ same. let e : kind_of one ≡ kind_of other = ap kind_of same in absurd (eqb-false (kind_of one) (kind_of other) apart e))
+apart-Decides : (answer : Bool) (one other : Cause) → answer ≡ false
+    → nat_eq (kind_of one) (kind_of other) ≡ false → Decides answer (one ≡ other)
+apart-Decides answer one other refused apart = (
+  λ yes. let e : false ≡ true = sym refused ∙ yes in cc,
+  λ same.
+      let e : kind_of one ≡ kind_of other = ap kind_of same in
+      absurd (eqb-false (kind_of one) (kind_of other) apart e),
+)
 
 -- the derived `==` of two reasons decides whether their causes are equal
-pub reason_eq-Decides : (one other : Reason) → Decides ((reason_eq.ghosts).eq one other) (cause_of one ≡ cause_of other)
+pub reason_eq-Decides : (one other : Reason)
+    → Decides ((reason_eq.ghosts).eq one other) (cause_of one ≡ cause_of other)
 reason_eq-Decides (reason.InvalidNot m) (reason.InvalidNot n) =
     (λ e. ap invalid_not ((Decides-eqb m n).0 e), λ e. (Decides-eqb m n).1 (cc))
 reason_eq-Decides (reason.Unexpected xs) (reason.Unexpected ys) =
-    (λ e. ap unexpected ((terms_eq-Decides xs.now ys.now).0 e), λ e. (terms_eq-Decides xs.now ys.now).1 (cc))
+    let terms = terms_eq-Decides xs.now ys.now in
+    (λ e. ap unexpected (terms.0 e), λ e. terms.1 (cc))
 reason_eq-Decides reason.InvalidCharacters reason.InvalidCharacters = (λ _. refl, λ _. refl)
 reason_eq-Decides reason.UnclosedParens reason.UnclosedParens = (λ _. refl, λ _. refl)
 reason_eq-Decides reason.UnopenedParens reason.UnopenedParens = (λ _. refl, λ _. refl)
@@ -64,28 +81,39 @@ reason_eq-Decides reason.UnclosedQuotes reason.UnclosedQuotes = (λ _. refl, λ 
 reason_eq-Decides reason.UnopenedQuotes reason.UnopenedQuotes = (λ _. refl, λ _. refl)
 reason_eq-Decides reason.Empty reason.Empty = (λ _. refl, λ _. refl)
 reason_eq-Decides reason.InvalidInteger reason.InvalidInteger = (λ _. refl, λ _. refl)
-reason_eq-Decides reason.MultipleRootPredicates reason.MultipleRootPredicates = (λ _. refl, λ _. refl)
+reason_eq-Decides reason.MultipleRootPredicates reason.MultipleRootPredicates =
+    (λ _. refl, λ _. refl)
 reason_eq-Decides reason.InvalidHasAtomic reason.InvalidHasAtomic = (λ _. refl, λ _. refl)
 reason_eq-Decides reason.UnknownBuiltin reason.UnknownBuiltin = (λ _. refl, λ _. refl)
-reason_eq-Decides one other = apart-Decides ((reason_eq.ghosts).eq one other) (cause_of one) (cause_of other) refl refl
+reason_eq-Decides one other =
+    apart-Decides ((reason_eq.ghosts).eq one other) (cause_of one) (cause_of other) refl refl
 
 -- two faults are equal where their fields are
-same_faults : (one other : Fault) → one.original ≡ other.original → (one.start ≡ other.start) × (one.end ≡ other.end) → one.cause ≡ other.cause → one ≡ other
-same_faults one other text span cause i = record { original = text i; start = span.0 i; end = span.1 i; cause = cause i }
+same_faults : (one other : Fault) → one.original ≡ other.original
+    → (one.start ≡ other.start) × (one.end ≡ other.end) → one.cause ≡ other.cause → one ≡ other
+same_faults one other text span cause i =
+    record { original = text i; start = span.0 i; end = span.1 i; cause = cause i }
 
 -- comparing text, span and reason decides whether two faults are equal
 pub fault_eq-Decides : {A : Type 0} (one other : ParseError A)
     → Decides (bytes_eq (string_bytes one.original) (string_bytes other.original)
-    && (((one.span.start == other.span.start) && (one.span.end == other.span.end)) && (reason_eq.ghosts).eq one.reason other.reason))
+    && (((one.span.start == other.span.start) && (one.span.end == other.span.end))
+    && (reason_eq.ghosts).eq one.reason other.reason))
     (fault_of one ≡ fault_of other)
 fault_eq-Decides one other =
-    let span = pair_decides (one.span.start == other.span.start) (one.span.end == other.span.end)
+    let starts = one.span.start == other.span.start in
+    let ends = one.span.end == other.span.end in
+    let texts = bytes_eq (string_bytes one.original) (string_bytes other.original) in
+    let reasons = (reason_eq.ghosts).eq one.reason other.reason in
+    let span = pair_decides starts ends
     (Decides-eqb one.span.start other.span.start) (Decides-eqb one.span.end other.span.end) in
-    let others = pair_decides ((one.span.start == other.span.start) && (one.span.end == other.span.end)) ((reason_eq.ghosts).eq one.reason other.reason)
-    span (reason_eq-Decides one.reason other.reason) in
-    both_decide (bytes_eq (string_bytes one.original) (string_bytes other.original))
-    (((one.span.start == other.span.start) && (one.span.end == other.span.end)) && (reason_eq.ghosts).eq one.reason other.reason)
+    let others = pair_decides (starts && ends) reasons span
+    (reason_eq-Decides one.reason other.reason) in
+    both_decide texts ((starts && ends) && reasons)
     (bytes_eq-Decides (string_bytes one.original) (string_bytes other.original)) others
     (λ text rest. same_faults (fault_of one) (fault_of other) text rest.0 rest.1)
     (λ e. ap (λ (f : Fault). f.original) e)
-    (λ e. ((ap (λ (f : Fault). f.start) e, ap (λ (f : Fault). f.end) e), ap (λ (f : Fault). f.cause) e))
+    (λ e. (
+      (ap (λ (f : Fault). f.start) e, ap (λ (f : Fault). f.end) e),
+      ap (λ (f : Fault). f.cause) e,
+    ))

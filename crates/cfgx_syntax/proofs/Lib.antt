@@ -1,4 +1,11 @@
+pub mod Cutting
 pub mod ErrorLemmas
+pub mod Finding
+pub mod FirstChar
+pub mod Fronts
+pub mod Lanes
 pub mod Scanning
-pub mod Stripping
+pub mod TokenList
+pub mod Values
 pub mod Words
+pub mod Wrapping

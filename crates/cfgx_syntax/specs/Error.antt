@@ -1,14 +1,19 @@
 -- Faults of cfg texts, as plain bytes and numbers, and the texts that they print.
--- Source of the texts: `cfg-expr` 0.20.10, `impl Display for Reason`, `impl Display for ParseError` and `ParseError::description`.
-use Rattle.std.specs.Prelude.{ℕ, ◌-◌, List, [], ◌∷◌, ◌++◌, codes, map, replicate}
+-- Source of the texts: `cfg-expr` 0.20.10, `impl Display for Reason`, `impl Display for ParseError`
+-- and `ParseError::description`.
+use Rattle.std.specs.Prelude.{◌≡◌, ℕ, ◌-◌, List, [], ◌∷◌, ◌++◌, codes, map, replicate}
+use Rattle.std.specs.Prelude.{slice_index}
 use Rattle.std.specs.List.{flat_map}
 use Rattle.std.specs.Fmt.{decimal}
 use Rattle.std.specs.String.{string_bytes}
 use Rattle.cfgx_syntax.specs.declared.error.Reason.{Reason}
 use Rattle.cfgx_syntax.specs.declared.error.Reason.TheVariants as reason
 use Rattle.cfgx_syntax.specs.declared.error.ParseError.{ParseError}
+use Rattle.cfgx_syntax.specs.declared.error.Failure.{Failure}
+use Rattle.cfgx_syntax.specs.declared.error.Failure.TheVariants as failure
 
--- why a text is refused: the program's `Reason`, with the terms of `Unexpected` as bytes, so that no address counts
+-- why a text is refused: the program's `Reason`, with the terms of `Unexpected` as bytes, so that
+-- no address counts
 pub data Cause : Type 0 where
   invalid_not : ℕ → Cause
   invalid_characters : Cause
@@ -50,7 +55,8 @@ more_terms_text terms = flat_map (λ term. codes ", " ++ quoted term) terms
 abbrev pub unexpected_text : List (List ℕ) → List ℕ
 unexpected_text [] = codes "the term was not expected here"
 unexpected_text (term ∷ []) = codes "expected a " ++ quoted term ++ codes " here"
-unexpected_text (term ∷ others) = codes "expected one of " ++ quoted term ++ more_terms_text others ++ codes " here"
+unexpected_text (term ∷ others) =
+    codes "expected one of " ++ quoted term ++ more_terms_text others ++ codes " here"
 
 -- what a reason prints
 abbrev pub reason_text : Cause → List ℕ
@@ -73,27 +79,57 @@ description_of (invalid_not _) = codes "not() takes 1 predicate"
 description_of (unexpected _) = codes "unexpected term"
 description_of cause = reason_text cause
 
--- a refusal: the text, the bytes of it that are at fault, from `start` up to `end`, and why
+-- why a text is refused, and where: the bytes from `start` up to `end` are at fault
+pub record Refusal : Type 0 where
+  pub cause : Cause
+  pub start : ℕ
+  pub end : ℕ
+
+-- a refusal with the text that is refused
 pub record Fault : Type 0 where
   pub original : List ℕ
   pub start : ℕ
   pub end : ℕ
   pub cause : Cause
 
--- the marks below the text, behind the spaces: what was never closed is named from its start, what was never
--- opened is one place, and every other fault is marked byte for byte
+-- the fault of a text that is refused so
+abbrev pub fault_in : List ℕ → Refusal → Fault
+fault_in text refusal = record {
+  original = text;
+  start = refusal.start;
+  end = refusal.end;
+  cause = refusal.cause;
+}
+
+-- the byte of a text that has one
+abbrev pub byte_of : List ℕ → ℕ
+byte_of text = slice_index text 0
+
+-- the marks below the text, behind the spaces: what was never closed is named from its start, what
+-- was never opened is one place, and every other fault is marked byte for byte
 abbrev pub marks : ℕ → Cause → List ℕ
 marks width unclosed_parens = codes "-"
 marks width unclosed_quotes = codes "-"
 marks width unopened_parens = codes "^"
 marks width unopened_quotes = codes "^"
-marks width cause = replicate width 94
+marks width cause = replicate width (byte_of (codes "^"))
 
--- what a fault prints: the text, a line feed, a space for each byte before the span, the marks, a space and the reason
+-- what a fault prints: the text, a line feed, a space for each byte before the span, the marks, a
+-- space and the reason
 abbrev pub error_text : Fault → List ℕ
-error_text fault = fault.original ++ codes "\n" ++ replicate fault.start 32
+error_text fault = fault.original ++ codes "\n" ++ replicate fault.start (byte_of (codes " "))
     ++ marks (fault.end - fault.start) fault.cause ++ codes " " ++ reason_text fault.cause
 
 -- the fault that a `ParseError` of the program stands for
 abbrev pub fault_of : {A : Type 0} → ParseError A → Fault
-fault_of e = record { original = string_bytes e.original; start = e.span.start; end = e.span.end; cause = cause_of e.reason }
+fault_of e = record {
+  original = string_bytes e.original;
+  start = e.span.start;
+  end = e.span.end;
+  cause = cause_of e.reason;
+}
+
+-- the failure is this fault, or want of memory for its copy of the text
+abbrev pub FailsWith : {A : Type 0} → Fault → Failure A → Type 0
+FailsWith fault (failure.Parse error) = fault_of error ≡ fault
+FailsWith fault (failure.Memory error) = Unit {0}

@@ -1,6 +1,10 @@
+pub mod Cut
 pub mod Error
 pub mod Items
+pub mod Kleene
 pub mod Lexer
 pub mod LexerState
-pub mod Text
+pub mod Logic
+pub mod Size
+pub mod Stripping
 pub mod Token

@@ -3,6 +3,7 @@
 ghost use Rattle.std.specs.Prelude.{◌≡◌, ◌-◌, ◌<◌, ◌∷◌, ◌++◌, [], Some, codes, map, replicate};
 ghost use Rattle.std.specs.Fmt.{DisplaysOnOk};
 ghost use Rattle.cfgx_syntax.specs.Error.{cause_of, marks, more_terms_text, unexpected_text};
+ghost use Rattle.cfgx_syntax.specs.Error.{FailsWith, fault_in};
 
 use std::alloc::{AllocError, AllocFailed, Allocator, Global};
 use std::fmt;
@@ -61,6 +62,24 @@ pub enum Failure<A: Allocator = Global> {
     Parse(ParseError<A>),
     /// Memory ran out. Nothing is said of the text.
     Memory(AllocError),
+}
+
+impl<A: Allocator> Failure<A> {
+    /// The fault of `original` at the bytes `span`, with a copy of the text in `alloc`; want of
+    /// memory where `alloc` refuses the copy. The text stays as it was.
+    pub fn of(alloc: A, original: &str, span: Range<usize>, reason: Reason) -> Failure<A>
+        ensures { FailsWith (fault_in original.now
+            (record { cause = cause_of reason; start = span.start; end = span.end })) result }
+    {
+        match String::from_str(alloc, original) {
+            Ok(original) => Failure::Parse(ParseError {
+                original,
+                span,
+                reason,
+            }),
+            Err(error) => Failure::Memory(error),
+        }
+    }
 }
 
 impl<A: Allocator> From<ParseError<A>> for Failure<A> {
@@ -193,7 +212,8 @@ fn write_marks<W: fmt::Write>(
     width: usize,
     reason: Reason,
 ) -> fmt::Result
-    ensures { DisplaysOnOk W.write_str_gives f.old result (Some (marks width (cause_of reason))) f.new }
+    ensures { DisplaysOnOk W.write_str_gives f.old result
+        (Some (marks width (cause_of reason))) f.new }
 {
     match reason {
         Reason::UnclosedParens | Reason::UnclosedQuotes => f.write_str("-"),

@@ -1,17 +1,18 @@
 //! Tokens of a `cfg()` text with the bytes that spell them.
-ghost use Rattle.std.specs.Prelude.{◌≡◌, ◌-◌, ◌≤◌, ◌<◌, true, length, take, drop, IsTrue, slice_index};
+ghost use Rattle.std.specs.Prelude.{◌≡◌, ◌-◌, ◌<◌, length, slice_index, codes};
 ghost use Rattle.std.specs.List.{prefix_len};
-ghost use Rattle.std.specs.Str.{IsAscii};
-ghost use Rattle.cfgx_syntax.specs.Lexer.{token_of, BeginsAs, FailsWith, stuck_at};
+ghost use Rattle.cfgx_syntax.specs.Items.{HasOneTokenList};
+ghost use Rattle.cfgx_syntax.specs.Lexer.{token_of, BeginsAs};
 ghost use Rattle.cfgx_syntax.specs.LexerState.{starting};
-ghost use Rattle.cfgx_syntax.specs.Text.{strip};
-ghost use Rattle.cfgx_syntax.specs.Token.{starts_word, continues_word, IsWord, Spells, EndsWord};
+ghost use Rattle.cfgx_syntax.specs.Stripping.{strip};
+ghost use Rattle.cfgx_syntax.specs.Token.{starts_word, continues_word, IsWord, Spells};
 
 mod laws;
 #[cfg(test)]
 mod tests;
 
-use crate::error::{Failure, ParseError, Reason};
+use crate::error::{Failure, Reason};
+use crate::stripping::strip;
 use std::alloc::{Allocator, Global};
 use std::fmt;
 use std::marker::Model;
@@ -22,6 +23,10 @@ use std::ops::Range;
 pub enum Token<'a> {
     /// A word that names no function
     Key(&'a str),
+    /// What stands between two quotes
+    Value(&'a str),
+    /// `=`
+    Equals,
     /// `all`
     All,
     /// `any`
@@ -50,19 +55,6 @@ pub struct LexerToken<'a> {
     pub token: Token<'a>,
     /// Where it stands, in bytes of the stripped text
     pub span: Range<usize>,
-}
-
-/// What lies between the outer `cfg(` and `)` of the text, where it has both, and otherwise the text.
-pub fn strip(text: &str) -> &str
-    ensures { result.now ≡ strip text.now }
-{
-    let Some(inner) = text.strip_prefix("cfg(") else {
-        return text;
-    };
-    match inner.strip_suffix(')') {
-        Some(kept) => kept,
-        None => text,
-    }
 }
 
 /// Whether the byte may stand first in a word: an ASCII letter or `_`.
@@ -102,21 +94,38 @@ fn word_token(word: &str) -> Token<'_>
     }
 }
 
-/// The token that the text begins with, and how many bytes spell it; `None` where no token can start.
-fn first_token(text: &str) -> Option<(Token<'_>, usize)>
+/// The token that a text with a quote in front begins with, and how many bytes spell it. The error
+/// is that no further quote stands in the text, and that all of its bytes are at fault.
+fn value_token(text: &str) -> Result<(Token<'_>, usize), (Reason, usize)>
+    requires some { 0 < length text.now }
+    requires quote { slice_index text.now 0 ≡ slice_index (codes "\"") 0 }
+    ensures { BeginsAs text.now result }
+{
+    match text[1..].split_once('"') {
+        Some((inside, _)) => Ok((Token::Value(inside), inside.len() + 2)),
+        None => Err((Reason::UnclosedQuotes, text.len())),
+    }
+}
+
+/// The token that the text begins with, and how many bytes spell it. The error is why no token can
+/// start there, and how many bytes are at fault: one, also where a longer character stands there,
+/// or all of them behind a quote that is never closed.
+fn first_token(text: &str) -> Result<(Token<'_>, usize), (Reason, usize)>
     requires { 0 < length text.now }
     ensures { BeginsAs text.now result }
 {
     let first = text.as_bytes()[0];
     match first {
-        b'(' => Some((Token::OpenParen, 1)),
-        b')' => Some((Token::CloseParen, 1)),
-        b',' => Some((Token::Comma, 1)),
+        b'(' => Ok((Token::OpenParen, 1)),
+        b')' => Ok((Token::CloseParen, 1)),
+        b',' => Ok((Token::Comma, 1)),
+        b'=' => Ok((Token::Equals, 1)),
+        b'"' => value_token(text),
         _ if starts_word(first) => {
             let len = word_len(text);
-            Some((word_token(&text[..len]), len))
+            Ok((word_token(&text[..len]), len))
         }
-        _ => None,
+        _ => Err((Reason::Unexpected(&["<key>", "all", "any", "not"]), 1)),
     }
 }
 
@@ -139,15 +148,22 @@ impl<'a, A: Allocator> Model for Lexer<'a, A> {
 
     ghost Value = { LexerState };
 
-    ghost view = { λ l. record { text = l.original.now; place = length l.original.now - length l.inner.now } };
+    ghost view = { λ l. record {
+      text = l.original.now;
+      place = length l.original.now - length l.inner.now;
+    } };
 
-    ghost invariant = { λ l. (l.inner.now ≡ drop (length l.original.now - length l.inner.now) l.original.now) × (length l.inner.now ≤ length l.original.now) × ForNone l.alloc (length l.inner.now ≡ 0) };
+    ghost invariant = { λ l.
+        (l.inner.now ≡ drop (length l.original.now - length l.inner.now) l.original.now)
+        × (length l.inner.now ≤ length l.original.now)
+        × ForNone l.alloc (length l.inner.now ≡ 0) };
 }
 
 impl<'a, A: Allocator> Lexer<'a, A> {
     /// A lexer of what `strip` keeps of the text. It takes no memory.
     pub fn new(alloc: A, text: &'a str) -> Self
-        ensures { result ≡ starting (strip text.now) }
+        ensures starts { result ≡ starting (strip text.now) }
+        ensures one { HasOneTokenList (strip text.now) }
     {
         let original = strip(text);
         Lexer {
@@ -157,26 +173,19 @@ impl<'a, A: Allocator> Lexer<'a, A> {
         }
     }
 
-    /// The number of bytes behind the last token that was given: it falls with each item, and is 0 once nothing is to come.
+    /// The text that is read: what `strip` keeps. Spans count its bytes.
+    pub fn original(&self) -> &'a str
+        ensures { result.now ≡ self.now.text }
+    {
+        self.original
+    }
+
+    /// The number of bytes behind the last token that was given: it falls with each item, and is 0
+    /// once nothing is to come.
     pub fn items_left_bound(&self) -> usize
         ensures { result ≡ length self.now.text - self.now.place }
     {
         self.inner.len()
-    }
-}
-
-/// The fault of a place where no token can start: one byte, also where a longer character stands there. Its copy of the text can meet want of memory.
-fn stuck<A: Allocator>(alloc: A, original: &str, place: usize) -> Failure<A>
-    requires { place < length original.now }
-    ensures { FailsWith (stuck_at original.now place) result }
-{
-    match String::from_str(alloc, original) {
-        Ok(original) => Failure::Parse(ParseError {
-            original,
-            span: place..place + 1,
-            reason: Reason::Unexpected(&["<key>", "all", "any", "not"]),
-        }),
-        Err(error) => Failure::Memory(error),
     }
 }
 
@@ -199,19 +208,20 @@ impl<'a, A: Allocator> Iterator for Lexer<'a, A> {
         }
         let start = self.original.len() - rest.len();
         match first_token(rest) {
-            Some((token, len)) => {
+            Ok((token, len)) => {
                 self.inner = &rest[len..];
                 Some(Ok(LexerToken {
                     token,
                     span: start..start + len,
                 }))
             }
-            None => {
+            Err((reason, len)) => {
                 self.inner = "";
                 let Some(alloc) = self.alloc.take() else {
                     unreachable!()
                 };
-                Some(Err(stuck(alloc, self.original, start)))
+                let span = start..start + len;
+                Some(Err(Failure::of(alloc, self.original, span, reason)))
             }
         }
     }

@@ -1,18 +1,19 @@
--- The calls that a walk makes with a `&` to a `Refusing`. Assumes `Logic`.
---     Loan              the `&`, with its two lifetimes and a share of the token of each
---     Request           the type that a block is for, with the two words that give its layout in the code
---     lent, alive       what the `&` holds, and those shares
---     Countdown, countdown_at, Inner, inner_at      the contracts of `ends_countdown` and `inner`, and how code names the two
--- One step walks a whole call statement. `alive` is there before it and after it, and what else it takes comes first.
---     counts_down       from `lent` to a `bool`. `lent` stays
---     reaches_inner     from `lent` to a pointer, and what a `&` to the inner allocator holds
---     allocates         from that to an answer, and what comes with it. No case is told apart
---     deallocates       from that and a block to nothing
--- An answer's value, and what a contract wants to see owned of it.
---     answer_of, answer_owned, answer_made
-use Rattle.std.proofs.Common.{◌≡◌, ℕ, ◌^◌, ◌<◌, Bool, true, false, List, [], ◌∷◌, Ok, Err, refl, ap, w64, Bor}
+-- The calls that a walk makes with a `&` to a `Refusing`. Assumes `Logic`.     Loan
+-- the `&`, with its two lifetimes and a share of the token of each     Request           the type
+-- that a block is for, with the two words that give its layout in the code     lent, alive
+-- what the `&` holds, and those shares     Countdown, countdown_at, Inner, inner_at      the
+-- contracts of `ends_countdown` and `inner`, and how code names the two One step walks a whole call
+-- statement. `alive` is there before it and after it, and what else it takes comes first.
+-- counts_down       from `lent` to a `bool`. `lent` stays     reaches_inner     from `lent` to a
+-- pointer, and what a `&` to the inner allocator holds     allocates         from that to an
+-- answer, and what comes with it. No case is told apart     deallocates       from that and a block
+-- to nothing An answer's value, and what a contract wants to see owned of it.     answer_of,
+-- answer_owned, answer_made
+use Rattle.std.proofs.Common.{◌≡◌, ℕ, ◌^◌, ◌<◌, Bool, true, false, List, [], ◌∷◌, Ok, Err, refl, ap}
+use Rattle.std.proofs.Common.{w64, Bor}
 use seplogic.Ra.Ura.{Ura}
-use mir.Syntax.{Ty, Args, Callee, Place, Opd as Operand, Body, a_type, dnil, dcons, named, seq, call}
+use mir.Syntax.{Ty, Args, Callee, Place, Opd as Operand, Body, a_type, dnil, dcons, named, seq}
+use mir.Syntax.{call}
 use mir.Val.{Val, vbool, vunit, vint, vptr}
 use base.Logic.{SProp, ent, sep, emp, id⊢}
 use base.Fml.{Lft, Share, ftrue, fsep, flft, froom}
@@ -21,7 +22,9 @@ use prog.Routine.{Routine}
 use prog.Wp.{Env, Calls, Loops}
 use types.Logic.{Logic, sem}
 use types.Run.{Opds}
-use types.Kit.{Item, Seq, Post, runs, lands, ‵, raw, mean, some, later, given, ◌⊛◌, ◌$◌, ◌∵◌, !, qed, done, move, drop, use0, use1, use2, split, join, fsplit, fjoin, feq_i, feq_l, pick, learn, rewrite, await, frame}
+use types.Kit.{Item, Seq, Post, runs, lands, ‵, raw, mean, some, later, given, ◌⊛◌, ◌$◌, ◌∵◌, ! }
+use types.Kit.{qed, done, move, drop, use0, use1, use2, split, join, fsplit, fjoin, feq_i, feq_l}
+use types.Kit.{pick, learn, rewrite, await, frame}
 use contract.BorrowLft.{◌⊑◌, ⊑_trans}
 use contract.Monad.{Fun, fact, fact_i}
 use sound.WpLaws.{FmC}
@@ -39,7 +42,9 @@ use denote.Triple.Call.{calls_at}
 use denote.Triple.Spec.{triple_of}
 use denote.Triple.Statement.{Contract, Triple}
 use Rattle.std.specs.Allocator.{HasLayout, block_if_ok}
-use Rattle.std.proofs.alloc.Calls.{Al, seen, token, got, Answer, answer_val, Answer-Ok, Answer-err, takes_key, Takes, at_takes, Takes-goes, Takes-gives, gives_key, Gives, at_gives, Gives-goes, Gives-Gives}
+use Rattle.std.proofs.alloc.Calls.{Al, seen, token, got, Answer, answer_val, Answer-Ok, Answer-err}
+use Rattle.std.proofs.alloc.Calls.{takes_key, Takes, at_takes, Takes-goes, Takes-gives, gives_key}
+use Rattle.std.proofs.alloc.Calls.{Gives, at_gives, Gives-goes, Gives-Gives}
 use Rattle.cfgx_vectors.specs.contracts.refusing.Refusing as refusing
 use Rattle.cfgx_vectors.specs.contracts.refusing.Refusing.ends_countdown as countdown
 use Rattle.cfgx_vectors.specs.contracts.refusing.Refusing.ends_countdown.Key as countdown_key
@@ -79,16 +84,19 @@ pub record Request : Type 0 where
   pub bytes_fit : bytes < 2 ^ 64
   pub aligned_fits : aligned < 2 ^ 64
 
-module _ (Z : Al) {M : Type 1} {𝓤 : Ura M} (𝓛 : Logic 𝓤) (at_mem : Memory → SProp 𝓤) (run : Routine → Fun 𝓤) where
+module _ (Z : Al) {M : Type 1} {𝓤 : Ura M} (𝓛 : Logic 𝓤) (at_mem : Memory → SProp 𝓤)
+    (run : Routine → Fun 𝓤) where
   open 𝓛 use {H}
 
   abbrev pub Countdown : Contract 𝓤
-  Countdown = triple_of 𝓛 (countdown.signature Z.row) (countdown.spec Z.row Z.g Z.d Z.drops 𝓛 at_mem run)
+  Countdown = triple_of 𝓛 (countdown.signature Z.row)
+      (countdown.spec Z.row Z.g Z.d Z.drops 𝓛 at_mem run)
 
   abbrev pub Inner : Contract 𝓤
   Inner = triple_of 𝓛 (inner.signature Z.row) (inner.spec Z.row Z.g Z.d Z.drops 𝓛 at_mem run)
 
-module _ (Z : Al) {M : Type 1} {𝓤 : Ura M} (𝓛 : Logic 𝓤) (at_mem : Memory → SProp 𝓤) (run : Routine → Fun 𝓤) (loan : Loan Z) where
+module _ (Z : Al) {M : Type 1} {𝓤 : Ura M} (𝓛 : Logic 𝓤) (at_mem : Memory → SProp 𝓤)
+    (run : Routine → Fun 𝓤) (loan : Loan Z) where
   open 𝓛 use {H}
 
   abbrev pub lent : Item 𝓤
@@ -102,69 +110,123 @@ module _ (Z : Al) {M : Type 1} {𝓤 : Ura M} (𝓛 : Logic 𝓤) (at_mem : Memo
 
   -- what either method of `Refusing` is called with
   abbrev pub at_self : (Countdown Z 𝓛 at_mem run).Ghost
-  at_self = (((loan.short, (loan.long, tt)), (loan.short_share, (loan.long_share, tt)), (loan.within, tt), (loan.self, tt), (shr_vals loan.self, tt)), tt)
+  at_self = (
+    (
+      (loan.short, (loan.long, tt)),
+      (loan.short_share, (loan.long_share, tt)),
+      (loan.within, tt),
+      (loan.self, tt),
+      (shr_vals loan.self, tt),
+    ),
+    tt,
+  )
 
   -- either asks for this
-  self_handed : loan.long ⊑ Z.row.lives → ent 𝓤 (sep 𝓤 (mean 𝓛 lent) (mean 𝓛 alive)) ((Countdown Z 𝓛 at_mem run).pre at_self)
+  self_handed : loan.long ⊑ Z.row.lives → ent 𝓤 (sep 𝓤 (mean 𝓛 lent) (mean 𝓛 alive))
+      ((Countdown Z 𝓛 at_mem run).pre at_self)
   self_handed lives =
-      qed 𝓛 (lent ∷ alive ∷ []) ∵ feq_i ! (List Val) (shr_vals loan.self) _ refl $ fjoin ! $ nothing ! $ move ! (1 ∷ []) $ fjoin ! $ move ! (1 ∷ []) $ join ! $ frame ! $
-      nothing ! $ use0 𝓛 (raw (fact 𝓤 (loan.long ⊑ Z.row.lives))) (fact_i 𝓤 _ (emp 𝓤) lives) $ done !
+      qed 𝓛 (lent ∷ alive ∷ []) ∵ feq_i ! (List Val) (shr_vals loan.self) _ refl $ fjoin ! $
+      nothing ! $ move ! (1 ∷ []) $ fjoin ! $ move ! (1 ∷ []) $ join ! $ frame ! $
+      nothing ! $ use0 𝓛 (raw (fact 𝓤 (loan.long ⊑ Z.row.lives))) (fact_i 𝓤 _ (emp 𝓤) lives) $
+      done !
 
-  module _ {K : Type 0} {Γ : List (Item 𝓤)} {C : Calls 𝓤 H} {Λ : Loops 𝓤 H} {E : Env 𝓤 H} {operands : List Operand} {to : Place} {rest : Body} {q : Post 𝓤 H} where
-    pub counts_down : K → FmC 𝓤 H 𝓛.laws C → Triple 𝓤 (C (countdown_at Z)) (Countdown Z 𝓛 at_mem run) → loan.long ⊑ Z.row.lives
-        → Opds K 𝓛 (raw ((Countdown Z 𝓛 at_mem run).pre at_self) ∷ lent ∷ Γ) E operands (shr_vals loan.self)
-        → ((ended : Bool) (v : Val) → v ≡ vbool ended → Seq K 𝓛 (lent ∷ alive ∷ Γ) (lands C Λ E to v rest q))
+  module _ {K : Type 0} {Γ : List (Item 𝓤)} {C : Calls 𝓤 H} {Λ : Loops 𝓤 H} {E : Env 𝓤 H}
+      {operands : List Operand} {to : Place} {rest : Body} {q : Post 𝓤 H} where
+    pub counts_down : K → FmC 𝓤 H 𝓛.laws C → Triple 𝓤 (C (countdown_at Z))
+        (Countdown Z 𝓛 at_mem run) → loan.long ⊑ Z.row.lives
+        → Opds K 𝓛 (raw ((Countdown Z 𝓛 at_mem run).pre at_self) ∷ lent ∷ Γ) E operands
+        (shr_vals loan.self)
+        → ((ended : Bool) (v : Val) → v ≡ vbool ended → Seq K 𝓛 (lent ∷ alive ∷ Γ)
+        (lands C Λ E to v rest q))
         → Seq K 𝓛 (lent ∷ alive ∷ Γ) (runs C Λ E (seq (call (countdown_at Z) operands to) rest) q)
     counts_down t frames callee lives reads next =
-        shr_dup t (Whole Z) (the_row_laws (param 0 Z.row) (param_laws 0 Z.row Z.laws)).shr_laws loan.self.now loan.self.ref_ptr.0 loan.self.ref_ptr.1 loan.short $ move t (0 ∷ 2 ∷ []) $
-        use2 𝓛 (raw ((Countdown Z 𝓛 at_mem run).pre at_self)) (self_handed lives) $ calls_at t frames (Countdown Z 𝓛 at_mem run) callee at_self reads (λ v.
-        use1 𝓛 (later (some (λ (ended : Bool). (alive ⊛ ‵ (bool.own_val ended (v ∷ []))) ⊛ some (λ (last : Unit {0} × Unit {0}). ‵ (fsep ftrue ftrue) ⊛ ‵ ftrue)))) (id⊢ 𝓤 _) $
-        await t tt $ pick t (λ ended. split t $ move t (1 ∷ []) $ drop t $ split t $ move t (1 ∷ []) $ feq_l t (λ is. move t (1 ∷ 0 ∷ []) $ next ended v (ap only is))))
+        shr_dup t (Whole Z) (the_row_laws (param 0 Z.row) (param_laws 0 Z.row Z.laws)).shr_laws
+        loan.self.now loan.self.ref_ptr.0 loan.self.ref_ptr.1 loan.short $ move t (0 ∷ 2 ∷ []) $
+        use2 𝓛 (raw ((Countdown Z 𝓛 at_mem run).pre at_self)) (self_handed lives) $
+        calls_at t frames (Countdown Z 𝓛 at_mem run) callee at_self reads (λ v.
+        use1 𝓛 (later (some (λ (ended : Bool). (alive ⊛ ‵ (bool.own_val ended (v ∷ []))) ⊛ some
+        (λ (last : Unit {0} × Unit {0}). ‵ (fsep ftrue ftrue) ⊛ ‵ ftrue)))) (id⊢ 𝓤 _) $
+        await t tt $ pick t (λ ended. split t $ move t (1 ∷ []) $ drop t $ split t $
+        move t (1 ∷ []) $ feq_l t (λ is. move t (1 ∷ 0 ∷ []) $ next ended v (ap only is))))
 
-    pub reaches_inner : K → FmC 𝓤 H 𝓛.laws C → Triple 𝓤 (C (inner_at Z)) (Inner Z 𝓛 at_mem run) → loan.long ⊑ Z.row.lives
+    pub reaches_inner : K → FmC 𝓤 H 𝓛.laws C → Triple 𝓤 (C (inner_at Z)) (Inner Z 𝓛 at_mem run) →
+        loan.long ⊑ Z.row.lives
         → Opds K 𝓛 (raw ((Inner Z 𝓛 at_mem run).pre at_self) ∷ Γ) E operands (shr_vals loan.self)
-        → ((p : ℕ × ℕ) (v : Val) → v ≡ vptr p.0 p.1 → Seq K 𝓛 (‵ (seen Z loan.short p loan.self.now.inner) ∷ alive ∷ Γ) (lands C Λ E to v rest q))
+        → ((p : ℕ × ℕ) (v : Val) → v ≡ vptr p.0 p.1 → Seq K 𝓛
+        (‵ (seen Z loan.short p loan.self.now.inner) ∷ alive ∷ Γ) (lands C Λ E to v rest q))
         → Seq K 𝓛 (lent ∷ alive ∷ Γ) (runs C Λ E (seq (call (inner_at Z) operands to) rest) q)
     reaches_inner t frames callee lives reads next =
-        use2 𝓛 (raw ((Inner Z 𝓛 at_mem run).pre at_self)) (self_handed lives) $ calls_at t frames (Inner Z 𝓛 at_mem run) callee at_self reads (λ v.
-        use1 𝓛 (later (some (λ (found : Bor Z.row.Denot). (alive ⊛ ‵ ((ShrRef (named 0) loan.short (param 0 Z.row)).own_val found (v ∷ []))) ⊛
-        some (λ (last : Unit {0} × Unit {0}). ‵ (fsep ftrue ftrue) ⊛ given (found.now ≡ loan.self.now.inner) (‵ ftrue))))) (id⊢ 𝓤 _) $
-        await t tt $ pick t (λ found. split t $ move t (1 ∷ []) $ pick t (λ last. split t $ drop t $ learn t (λ same. drop t $
-        split t $ move t (1 ∷ []) $ fsplit t $ feq_l t (λ is. rewrite t 0 (λ (h : Z.row.Denot). ‵ (seen Z loan.short found.ref_ptr h)) same refl $ next found.ref_ptr v (ap only is))))))
+        use2 𝓛 (raw ((Inner Z 𝓛 at_mem run).pre at_self)) (self_handed lives) $
+        calls_at t frames (Inner Z 𝓛 at_mem run) callee at_self reads (λ v.
+        use1 𝓛 (later (some (λ (found : Bor Z.row.Denot).
+        (alive ⊛ ‵ ((ShrRef (named 0) loan.short (param 0 Z.row)).own_val found (v ∷ []))) ⊛
+        some (λ (last : Unit {0} × Unit {0}). ‵ (fsep ftrue ftrue) ⊛ given
+        (found.now ≡ loan.self.now.inner) (‵ ftrue))))) (id⊢ 𝓤 _) $
+        await t tt $ pick t (λ found. split t $ move t (1 ∷ []) $
+        pick t (λ last. split t $ drop t $ learn t (λ same. drop t $
+        split t $ move t (1 ∷ []) $ fsplit t $ feq_l t
+        (λ is. rewrite t 0 (λ (h : Z.row.Denot). ‵ (seen Z loan.short found.ref_ptr h)) same
+        refl $ next found.ref_ptr v (ap only is))))))
 
   module _ (p : ℕ × ℕ) (asked : Request) where
     abbrev h : Z.row.Denot
     h = loan.self.now.inner
 
     abbrev pub at_allocate : (Takes Z 𝓛 at_mem run).Ghost
-    at_allocate = at_takes Z 𝓛 at_mem run loan.short loan.short_share p h asked.bytes asked.aligned asked.ty
+    at_allocate = at_takes Z 𝓛 at_mem run loan.short loan.short_share p h asked.bytes asked.aligned
+        asked.ty
 
     abbrev pub at_deallocate : ℕ × ℕ → (Gives Z 𝓛 at_mem run).Ghost
-    at_deallocate block = at_gives Z 𝓛 at_mem run loan.short loan.short_share p h block.0 block.1 asked.bytes asked.aligned asked.ty
+    at_deallocate block = at_gives Z 𝓛 at_mem run loan.short loan.short_share p h block.0 block.1
+        asked.bytes asked.aligned asked.ty
 
-    module _ (lives : loan.long ⊑ Z.row.lives) (layout : HasLayout asked.ty asked.bytes asked.aligned) {K : Type 0} {Γ : List (Item 𝓤)} {C : Calls 𝓤 H} {Λ : Loops 𝓤 H} {E : Env 𝓤 H} {operands : List Operand} {to : Place} {rest : Body} {q : Post 𝓤 H} where
+    module _ (lives : loan.long ⊑ Z.row.lives) (layout : HasLayout asked.ty asked.bytes
+        asked.aligned) {K : Type 0} {Γ : List (Item 𝓤)} {C : Calls 𝓤 H} {Λ : Loops 𝓤 H}
+        {E : Env 𝓤 H} {operands : List Operand} {to : Place} {rest : Body} {q : Post 𝓤 H} where
       pub allocates : K → FmC 𝓤 H 𝓛.laws C → Triple 𝓤 (C (takes_key Z)) (Takes Z 𝓛 at_mem run)
-          → Opds K 𝓛 (raw ((Takes Z 𝓛 at_mem run).pre at_allocate) ∷ beyond ∷ Γ) E operands (vptr p.0 p.1 ∷ vint w64 asked.bytes ∷ vint w64 asked.aligned ∷ [])
-          → ((came : Bool × (ℕ × ℕ)) (v : Val) → v ≡ answer_val came.0 came.1.0 came.1.1 → Seq K 𝓛 (‵ (got (token Z h) asked.ty came.0 came.1.0 came.1.1) ∷ alive ∷ Γ) (lands C Λ E to v rest q))
-          → Seq K 𝓛 (‵ (seen Z loan.short p h) ∷ alive ∷ Γ) (runs C Λ E (seq (call (takes_key Z) operands to) rest) q)
+          → Opds K 𝓛 (raw ((Takes Z 𝓛 at_mem run).pre at_allocate) ∷ beyond ∷ Γ) E operands
+          (vptr p.0 p.1 ∷ vint w64 asked.bytes ∷ vint w64 asked.aligned ∷ [])
+          → ((came : Bool × (ℕ × ℕ)) (v : Val) → v ≡ answer_val came.0 came.1.0 came.1.1 → Seq K 𝓛
+          (‵ (got (token Z h) asked.ty came.0 came.1.0 came.1.1) ∷ alive ∷ Γ)
+          (lands C Λ E to v rest q))
+          → Seq K 𝓛 (‵ (seen Z loan.short p h) ∷ alive ∷ Γ)
+          (runs C Λ E (seq (call (takes_key Z) operands to) rest) q)
       allocates t frames callee reads next =
-          move t (1 ∷ []) $ split t $ move t (2 ∷ 0 ∷ []) $ use2 𝓛 (raw ((Takes Z 𝓛 at_mem run).pre at_allocate))
-          (Takes-goes Z 𝓛 at_mem run loan.short loan.short_share p h (⊑_trans loan.short loan.long Z.row.lives loan.within lives) asked.bytes asked.aligned asked.ty layout.0 layout.1 asked.bytes_fit asked.aligned_fits) $
+          move t (1 ∷ []) $ split t $ move t (2 ∷ 0 ∷ []) $
+          use2 𝓛 (raw ((Takes Z 𝓛 at_mem run).pre at_allocate))
+          (Takes-goes Z 𝓛 at_mem run loan.short loan.short_share p h
+          (⊑_trans loan.short loan.long Z.row.lives loan.within lives) asked.bytes asked.aligned
+          asked.ty layout.0 layout.1 asked.bytes_fit asked.aligned_fits) $
           calls_at t frames (Takes Z 𝓛 at_mem run) callee at_allocate reads (λ v.
-          use1 𝓛 (later (some (λ (c : Bool × (ℕ × ℕ)). given (v ≡ answer_val c.0 c.1.0 c.1.1) (‵ (got (token Z h) asked.ty c.0 c.1.0 c.1.1))) ⊛ ‵ (flft loan.short loan.short_share)))
-          (Takes-gives Z 𝓛 at_mem run loan.short loan.short_share p h asked.bytes asked.aligned asked.ty v) $ await t tt $ split t $ pick t (λ came. learn t (λ is.
+          use1 𝓛 (later (some (λ (c : Bool × (ℕ × ℕ)). given (v ≡ answer_val c.0 c.1.0 c.1.1)
+          (‵ (got (token Z h) asked.ty c.0 c.1.0 c.1.1))) ⊛ ‵
+          (flft loan.short loan.short_share)))
+          (Takes-gives Z 𝓛 at_mem run loan.short loan.short_share p h asked.bytes asked.aligned
+          asked.ty v) $ await t tt $ split t $ pick t (λ came. learn t (λ is.
           move t (1 ∷ 2 ∷ []) $ join t $ move t (1 ∷ 0 ∷ []) $ next came v is)))
 
-      pub deallocates : K → FmC 𝓤 H 𝓛.laws C → Triple 𝓤 (C (gives_key Z)) (Gives Z 𝓛 at_mem run) → (block : ℕ × ℕ)
-          → Opds K 𝓛 (raw ((Gives Z 𝓛 at_mem run).pre (at_deallocate block)) ∷ beyond ∷ Γ) E operands (vptr p.0 p.1 ∷ vptr block.0 block.1 ∷ vint w64 asked.bytes ∷ vint w64 asked.aligned ∷ [])
+      pub deallocates : K → FmC 𝓤 H 𝓛.laws C → Triple 𝓤 (C (gives_key Z)) (Gives Z 𝓛 at_mem run) →
+          (block : ℕ × ℕ)
+          → Opds K 𝓛 (raw ((Gives Z 𝓛 at_mem run).pre (at_deallocate block)) ∷ beyond ∷ Γ) E
+          operands (vptr p.0 p.1 ∷ vptr block.0 block.1 ∷ vint w64 asked.bytes ∷ vint w64
+          asked.aligned ∷ [])
           → ((v : Val) → v ≡ vunit → Seq K 𝓛 (alive ∷ Γ) (lands C Λ E to v rest q))
-          → Seq K 𝓛 (‵ (seen Z loan.short p h) ∷ alive ∷ ‵ (fsep (froom asked.ty block.0 block.1) (token Z h asked.ty (block_ptr block.0 block.1))) ∷ Γ) (runs C Λ E (seq (call (gives_key Z) operands to) rest) q)
+          → Seq K 𝓛 (‵ (seen Z loan.short p h) ∷ alive ∷ ‵
+          (fsep (froom asked.ty block.0 block.1) (token Z h asked.ty
+          (block_ptr block.0 block.1))) ∷ Γ) (runs C Λ E
+          (seq (call (gives_key Z) operands to) rest) q)
       deallocates t frames callee block reads next =
-          move t (1 ∷ []) $ split t $ move t (2 ∷ 0 ∷ []) $ join t $ move t (2 ∷ []) $ fsplit t $ move t (1 ∷ 2 ∷ []) $ join t $ move t (1 ∷ 0 ∷ []) $
+          move t (1 ∷ []) $ split t $ move t (2 ∷ 0 ∷ []) $ join t $ move t (2 ∷ []) $ fsplit t $
+          move t (1 ∷ 2 ∷ []) $ join t $ move t (1 ∷ 0 ∷ []) $
           use2 𝓛 (raw ((Gives Z 𝓛 at_mem run).pre (at_deallocate block)))
-          (Gives-goes Z 𝓛 at_mem run loan.short loan.short_share p h (⊑_trans loan.short loan.long Z.row.lives loan.within lives) block.0 block.1 asked.bytes asked.aligned asked.ty layout.0 layout.1 asked.bytes_fit asked.aligned_fits) $
+          (Gives-goes Z 𝓛 at_mem run loan.short loan.short_share p h
+          (⊑_trans loan.short loan.long Z.row.lives loan.within lives) block.0 block.1
+          asked.bytes asked.aligned asked.ty layout.0 layout.1 asked.bytes_fit
+          asked.aligned_fits) $
           calls_at t frames (Gives Z 𝓛 at_mem run) callee (at_deallocate block) reads (λ v.
-          use1 𝓛 (later (given (v ≡ vunit) (‵ (flft loan.short loan.short_share)))) (Gives-Gives Z 𝓛 at_mem run loan.short loan.short_share p h block.0 block.1 asked.bytes asked.aligned asked.ty v) $
+          use1 𝓛 (later (given (v ≡ vunit) (‵ (flft loan.short loan.short_share))))
+          (Gives-Gives Z 𝓛 at_mem run loan.short loan.short_share p h block.0 block.1
+          asked.bytes asked.aligned asked.ty v) $
           await t tt $ learn t (λ is. join t $ next v is))
 
 -- an answer is told by whether it is `Ok`, and by where the block lies
@@ -174,8 +236,14 @@ answer_of (false, block) = Err (record {})
 
 module _ {M : Type 1} {𝓤 : Ura M} (𝓛 : Logic 𝓤) (Z : Al) (h : Z.row.Denot) (τ : Ty) where
   abbrev pub answer_owned : Bool × (ℕ × ℕ) → Item 𝓤
-  answer_owned came = ‵ (Answer.own_val (answer_of came) (answer_val came.0 came.1.0 came.1.1 ∷ [])) ⊛ ‵ (block_if_ok (token Z h) τ (answer_of came))
+  answer_owned came = ‵ (Answer.own_val (answer_of came) (answer_val came.0 came.1.0 came.1.1 ∷ []))
+      ⊛ ‵ (block_if_ok (token Z h) τ (answer_of came))
 
-  pub answer_made : (came : Bool × (ℕ × ℕ)) → ent 𝓤 (sem 𝓛 (got (token Z h) τ came.0 came.1.0 came.1.1)) (mean 𝓛 (answer_owned came))
-  answer_made (true, block) = qed 𝓛 (‵ (got (token Z h) τ true block.0 block.1) ∷ []) ∵ use0 𝓛 (‵ (Answer.own_val (answer_of (true, block)) (answer_val true block.0 block.1 ∷ []))) (Answer-Ok 𝓛 block.0 block.1) $ done !
-  answer_made (false, block) = qed 𝓛 (‵ ftrue ∷ []) ∵ use0 𝓛 (‵ (Answer.own_val (answer_of (false, block)) (answer_val false 0 0 ∷ []))) (Answer-err 𝓛) $ done !
+  pub answer_made : (came : Bool × (ℕ × ℕ)) → ent 𝓤
+      (sem 𝓛 (got (token Z h) τ came.0 came.1.0 came.1.1)) (mean 𝓛 (answer_owned came))
+  answer_made (true, block) = qed 𝓛 (‵ (got (token Z h) τ true block.0 block.1) ∷ []) ∵ use0 𝓛
+      (‵ (Answer.own_val (answer_of (true, block)) (answer_val true block.0 block.1 ∷ [])))
+      (Answer-Ok 𝓛 block.0 block.1) $ done !
+  answer_made (false, block) = qed 𝓛 (‵ ftrue ∷ []) ∵ use0 𝓛
+      (‵ (Answer.own_val (answer_of (false, block)) (answer_val false 0 0 ∷ []))) (Answer-err 𝓛) $
+      done !

@@ -20,88 +20,113 @@ const IN_PARENS: Reason = Reason::Unexpected(&["<key>", ")", "all", "any", "not"
 
 const BEHIND_KEY: Reason = Reason::Unexpected(&["=", ",", ")"]);
 
+const BEHIND_VALUE: Reason = Reason::Unexpected(&[",", ")"]);
+
+const BEHIND_EQUALS: Reason = Reason::Unexpected(&["\""]);
+
+const NO_VALUE: Reason = Reason::Unexpected(&["\"<value>\""]);
+
 const BEHIND_NAME: Reason = Reason::Unexpected(&["("]);
 
 const BEHIND_LIST: Reason = Reason::Unexpected(&[")", ","]);
 
 const BEHIND_COMMA: Reason = Reason::Unexpected(&[")", "<key>"]);
 
-// The text has this fault, and nothing was stripped of it.
-fn has_fault(
-    rt: &impl Abort,
-    alloc: Global,
-    text: &str,
-    start: usize,
-    end: usize,
-    reason: Reason,
-) -> Result<(), Fail> {
-    let error = fault(alloc, text)?;
-    assert_eq!(rt; error.reason, reason, "{text:?}");
-    assert_eq!(rt; error.span.start, start, "{text:?}");
-    assert_eq!(rt; error.span.end, end, "{text:?}");
-    assert_eq!(rt; error.original.as_str(), text, "{text:?}");
+const NOTHING: Reason = Reason::Unexpected(&[]);
+
+const FEATURE_NAME: Reason = Reason::Unexpected(&["= \"<feature_name>\""]);
+
+const PANIC_STRATEGY: Reason = Reason::Unexpected(&["= \"<panic_strategy>\""]);
+
+const CFG_VALUE: Reason = Reason::Unexpected(&["= \"<target_cfg_value>\""]);
+
+const FEATURE: Reason = Reason::Unexpected(&["<feature>"]);
+
+const TARGET_KEYS: Reason = Reason::Unexpected(&[
+    "target_arch",
+    "target_feature",
+    "target_os",
+    "target_family",
+    "target_env",
+    "target_endian",
+    "target_has_atomic",
+    "target_pointer_width",
+    "target_vendor",
+]);
+
+/// A text, where its fault starts and ends, and the reason.
+type Row = (&'static str, usize, usize, Reason);
+
+// Each text has its fault, and nothing was stripped of it.
+fn have_faults(rt: &impl Abort, alloc: Global, rows: &[Row]) -> Result<(), Fail> {
+    for (text, start, end, reason) in rows {
+        let error = fault(alloc, text)?;
+        assert_eq!(rt; error.reason, *reason, "{text:?}");
+        assert_eq!(rt; error.span.start, *start, "{text:?}");
+        assert_eq!(rt; error.span.end, *end, "{text:?}");
+        assert_eq!(rt; error.original.as_str(), *text, "{text:?}");
+    }
     Ok(())
 }
 
-// Each row: the text, where its fault starts and ends, and the reason.
-const NO_START: [(&str, usize, usize, Reason); 11] = [
+const LEXICAL: [Row; 20] = [
     (",", 0, 1, NO_TOKEN),
     (")", 0, 1, NO_TOKEN),
     ("(", 0, 1, NO_TOKEN),
+    ("=", 0, 1, NO_TOKEN),
     ("8", 0, 1, NO_TOKEN),
     ("-", 0, 1, NO_TOKEN),
     ("é", 0, 1, NO_TOKEN),
     ("a é", 2, 3, NO_TOKEN),
+    ("a \u{1f600}", 2, 3, NO_TOKEN),
+    ("\u{200b}", 0, 1, NO_TOKEN),
     ("é, )", 0, 1, NO_TOKEN),
     ("\u{a0}é", 2, 3, NO_TOKEN),
     ("feature 8", 8, 9, NO_TOKEN),
     ("all(a, 8)", 7, 8, NO_TOKEN),
+    ("\"", 0, 1, Reason::UnclosedQuotes),
+    ("key \"abc", 4, 8, Reason::UnclosedQuotes),
+    ("key = \"", 6, 7, Reason::UnclosedQuotes),
+    ("key = \"value", 6, 12, Reason::UnclosedQuotes),
+    ("not(key = \"value)", 10, 17, Reason::UnclosedQuotes),
+    ("key = \"é", 6, 9, Reason::UnclosedQuotes),
 ];
 
-#[test]
-fn where_no_item_can_start(rt: HostRuntime) -> Result<(), Fail> {
-    for (text, start, end, reason) in NO_START {
-        has_fault(&rt, rt.alloc(), text, start, end, reason)?;
-    }
-    Ok(())
-}
-
-const NEIGHBOURS: [(&str, usize, usize, Reason); 14] = [
+const NEIGHBOURS: [Row; 26] = [
+    ("\"x\"", 0, 3, NO_TOKEN),
     ("cfg(key) ", 3, 4, BEHIND_KEY),
     ("any(,)", 4, 5, IN_PARENS),
-    ("not", 0, 3, BEHIND_NAME),
-    ("all(any", 4, 7, BEHIND_NAME),
+    ("any(\"x\")", 4, 7, IN_PARENS),
     ("all key", 4, 7, BEHIND_NAME),
     ("not not", 4, 7, BEHIND_NAME),
     ("all,", 3, 4, BEHIND_NAME),
+    ("all = \"x\"", 4, 5, BEHIND_NAME),
     ("nope()", 4, 5, BEHIND_KEY),
     ("all(nope())", 8, 9, BEHIND_KEY),
     ("all(a b)", 6, 7, BEHIND_KEY),
+    ("key \"abc\"", 4, 9, BEHIND_KEY),
+    ("key = =", 6, 7, BEHIND_EQUALS),
+    ("key = )", 6, 7, BEHIND_EQUALS),
+    ("all(key = a)", 10, 11, BEHIND_EQUALS),
+    ("key = \"é\" =", 11, 12, BEHIND_VALUE),
+    ("key = \"a\" b", 10, 11, BEHIND_VALUE),
+    ("key = \"value, key = \"value\"", 21, 26, BEHIND_VALUE),
+    ("all(key = \"value), key = \"value\"", 26, 31, BEHIND_VALUE),
+    ("all(target_os = \"a\" \"b\")", 20, 23, BEHIND_VALUE),
     ("all() key", 6, 9, BEHIND_LIST),
     ("all()(", 5, 6, BEHIND_LIST),
     ("a,(", 2, 3, BEHIND_COMMA),
+    ("a, = \"x\"", 3, 4, BEHIND_COMMA),
+    ("a, \"x\"", 3, 6, BEHIND_COMMA),
     ("all((", 4, 5, IN_PARENS),
 ];
 
-#[test]
-fn between_neighbours(rt: HostRuntime) -> Result<(), Fail> {
-    for (text, start, end, reason) in NEIGHBOURS {
-        has_fault(&rt, rt.alloc(), text, start, end, reason)?;
-    }
-    Ok(())
-}
-
-const SHAPES: [(&str, usize, usize, Reason); 27] = [
-    ("", 0, 0, Reason::Empty),
-    ("\n\t\n", 0, 3, Reason::Empty),
-    ("\u{a0}\u{3000}", 0, 5, Reason::Empty),
+const LISTS: [Row; 24] = [
     ("a) 8", 1, 2, Reason::UnopenedParens),
-    ("key1, key2,     ", 0, 16, Reason::MultipleRootPredicates),
-    ("key1, key2", 0, 10, Reason::MultipleRootPredicates),
-    ("all(), any()", 0, 12, Reason::MultipleRootPredicates),
-    ("key, all()", 0, 10, Reason::MultipleRootPredicates),
-    ("all(), key", 0, 10, Reason::MultipleRootPredicates),
-    ("a, b, c", 0, 7, Reason::MultipleRootPredicates),
+    ("feature)", 7, 8, Reason::UnopenedParens),
+    ("key)", 3, 4, Reason::UnopenedParens),
+    ("a,)", 2, 3, Reason::UnopenedParens),
+    ("all())", 5, 6, Reason::UnopenedParens),
     (
         "any(not(not(key_one, key_two)))",
         8,
@@ -114,33 +139,149 @@ const SHAPES: [(&str, usize, usize, Reason); 27] = [
     ("not(a, feature)", 0, 15, Reason::InvalidNot(2)),
     ("not(not(), feature)", 4, 9, Reason::InvalidNot(0)),
     ("not(all(), any(a), b)", 0, 21, Reason::InvalidNot(3)),
-    ("feature)", 7, 8, Reason::UnopenedParens),
-    ("key)", 3, 4, Reason::UnopenedParens),
-    ("a,)", 2, 3, Reason::UnopenedParens),
-    ("all())", 5, 6, Reason::UnopenedParens),
+    ("not", 0, 3, BEHIND_NAME),
+    ("not ", 0, 3, BEHIND_NAME),
+    ("all(any", 4, 7, BEHIND_NAME),
+    ("all(any ", 4, 7, BEHIND_NAME),
+    ("a, any\u{3000}\n", 3, 6, BEHIND_NAME),
     ("all(feature", 3, 11, Reason::UnclosedParens),
     ("not(key", 3, 7, Reason::UnclosedParens),
     ("all(any(a)", 3, 10, Reason::UnclosedParens),
     ("all(any(", 7, 8, Reason::UnclosedParens),
     ("all(any(a,  ", 7, 12, Reason::UnclosedParens),
     ("all (a", 4, 6, Reason::UnclosedParens),
+    ("not(feature = \"x\"", 3, 17, Reason::UnclosedParens),
+];
+
+const ENDS: [Row; 18] = [
+    ("", 0, 0, Reason::Empty),
+    (" ", 0, 1, Reason::Empty),
+    ("\n\t\n", 0, 3, Reason::Empty),
+    ("\u{a0}\u{3000}", 0, 5, Reason::Empty),
+    ("key =", 5, 5, NO_VALUE),
+    ("key = ", 6, 6, NO_VALUE),
+    ("all(key =", 9, 9, NO_VALUE),
+    ("all(), key =", 12, 12, NO_VALUE),
+    ("a, target_os", 3, 12, CFG_VALUE),
+    ("key1, key2,     ", 0, 16, Reason::MultipleRootPredicates),
+    ("key1, key2", 0, 10, Reason::MultipleRootPredicates),
+    ("key1 = \"v\", key2", 0, 16, Reason::MultipleRootPredicates),
+    ("key1, key2 = \"v\"", 0, 16, Reason::MultipleRootPredicates),
+    ("all(), any()", 0, 12, Reason::MultipleRootPredicates),
+    ("key, all()", 0, 10, Reason::MultipleRootPredicates),
+    ("all(), key", 0, 10, Reason::MultipleRootPredicates),
+    ("all(), unix", 0, 11, Reason::MultipleRootPredicates),
+    ("a, b, c", 0, 7, Reason::MultipleRootPredicates),
+];
+
+const KEYS: [Row; 27] = [
+    ("unix = \"x\"", 8, 9, NOTHING),
+    ("unix = \"\"", 8, 8, NOTHING),
+    ("windows = \"x\"", 11, 12, NOTHING),
+    ("test = \"x\"", 8, 9, NOTHING),
+    ("debug_assertions = \"x\"", 20, 21, NOTHING),
+    ("proc_macro = \"x\"", 14, 15, NOTHING),
+    ("any(unix = \"x\", not())", 12, 13, NOTHING),
+    ("feature", 0, 7, FEATURE_NAME),
+    (" feature ,", 1, 8, FEATURE_NAME),
+    ("not(feature, x)", 4, 11, FEATURE_NAME),
+    ("not(feature)", 4, 11, FEATURE_NAME),
+    ("panic", 0, 5, PANIC_STRATEGY),
+    ("all(panic,)", 4, 9, PANIC_STRATEGY),
+    ("target_abi", 0, 10, CFG_VALUE),
+    ("target_feature", 0, 14, CFG_VALUE),
+    ("target_", 0, 7, CFG_VALUE),
+    ("target_foo", 0, 10, CFG_VALUE),
+    ("target_ = \"x\"", 0, 7, TARGET_KEYS),
+    ("target_foo = \"x\"", 0, 10, TARGET_KEYS),
+    ("target_OS = \"x\"", 0, 9, TARGET_KEYS),
+    ("target_feature = \"\"", 18, 18, FEATURE),
+    ("target_endian = \"Big\"", 17, 20, Reason::InvalidInteger),
+    ("target_endian = \"\"", 17, 17, Reason::InvalidInteger),
+    (
+        "target_pointer_width = \"256\"",
+        24,
+        27,
+        Reason::InvalidInteger,
+    ),
+    (
+        "target_pointer_width = \"ptr\"",
+        24,
+        27,
+        Reason::InvalidInteger,
+    ),
+    (
+        "target_has_atomic = \"65536\"",
+        21,
+        26,
+        Reason::InvalidHasAtomic,
+    ),
+    (
+        "target_has_atomic = \"Ptr\"",
+        21,
+        24,
+        Reason::InvalidHasAtomic,
+    ),
 ];
 
 #[test]
-fn of_lists_and_roots(rt: HostRuntime) -> Result<(), Fail> {
-    for (text, start, end, reason) in SHAPES {
-        has_fault(&rt, rt.alloc(), text, start, end, reason)?;
+fn have_their_reasons_and_places(rt: HostRuntime) -> Result<(), Fail> {
+    have_faults(&rt, rt.alloc(), &LEXICAL)?;
+    have_faults(&rt, rt.alloc(), &NEIGHBOURS)?;
+    have_faults(&rt, rt.alloc(), &LISTS)?;
+    have_faults(&rt, rt.alloc(), &ENDS)?;
+    have_faults(&rt, rt.alloc(), &KEYS)
+}
+
+// Values that write no number.
+const NO_NUMBERS: [&str; 11] = [
+    "",
+    "+",
+    "-0",
+    "++1",
+    " 64",
+    "6 4",
+    "64 ",
+    "0x40",
+    "٣",
+    "6_4",
+    "99999999999999999999",
+];
+
+#[test]
+fn no_number_is_no_width(rt: HostRuntime) -> Result<(), Fail> {
+    for value in NO_NUMBERS {
+        let alloc = rt.alloc();
+        let width = format!(in alloc; "target_pointer_width = \"{value}\"")?;
+        let error = fault(alloc, width.as_str())?;
+        assert_eq!(rt; error.reason, Reason::InvalidInteger, "{value:?}");
+        assert_eq!(rt; error.span.start, 24, "{value:?}");
+        assert_eq!(rt;
+            error.span.end.checked_sub(24),
+            Some(value.len()),
+            "{value:?}"
+        );
+        let atomic = format!(in alloc; "target_has_atomic = \"{value}\"")?;
+        let error = fault(alloc, atomic.as_str())?;
+        assert_eq!(rt; error.reason, Reason::InvalidHasAtomic, "{value:?}");
+        assert_eq!(rt; error.span.start, 21, "{value:?}");
+        assert_eq!(rt;
+            error.span.end.checked_sub(21),
+            Some(value.len()),
+            "{value:?}"
+        );
     }
     Ok(())
 }
 
 // Places count the bytes of what stands in `cfg( )`.
-const STRIPPED: [(&str, &str, usize, usize, Reason); 5] = [
+const STRIPPED: [(&str, &str, usize, usize, Reason); 6] = [
     ("cfg()", "", 0, 0, Reason::Empty),
     ("cfg( )", " ", 0, 1, Reason::Empty),
     ("cfg(a b)", "a b", 2, 3, BEHIND_KEY),
     ("cfg(cfg(a))", "cfg(a)", 3, 4, BEHIND_KEY),
     ("cfg(not(a, b))", "not(a, b)", 0, 9, Reason::InvalidNot(2)),
+    ("cfg(unix = \"x\")", "unix = \"x\"", 8, 9, NOTHING),
 ];
 
 #[test]
@@ -152,5 +293,21 @@ fn count_from_the_stripped_text(rt: HostRuntime) -> Result<(), Fail> {
         assert_eq!(rt; error.span.start, start, "{text:?}");
         assert_eq!(rt; error.span.end, end, "{text:?}");
     }
+    Ok(())
+}
+
+// A fault that a caller builds, whose span ends before it starts.
+#[test]
+fn a_span_that_ends_before_it_starts_has_no_marks(rt: HostRuntime) -> Result<(), Fail> {
+    let alloc = rt.alloc();
+    let error = ParseError {
+        original: String::from_str(alloc, "ab")?,
+        span: 1..0,
+        reason: Reason::Empty,
+    };
+    assert_eq!(rt;
+        format!(in alloc; "{error}")?.as_str(),
+        "ab\n  empty expression"
+    );
     Ok(())
 }

@@ -1,4 +1,5 @@
-//! Tests that cross crates: what `run`, `Expression` and `Lexer` answer to texts whose answers are known from outside.
+//! Tests that cross crates: what `run`, `Expression` and `Lexer` answer to texts whose answers are
+//! known from outside.
 #![tactic(auto)]
 
 #[cfg(test)]

@@ -1,10 +1,11 @@
 //! Want of memory: each growth of a call refused in turn.
 use crate::deep::{nested, repeated};
 use crate::refusing::{EVERY, Refusing};
-use crate::streams::{Ended, Memory};
+use crate::streams::{Ended, Recorder};
+use cfg_expr::Expression;
 use cfg_expr::error::{Failure, Reason};
 use cfg_expr::expr::lexer::{Lexer, Token};
-use cfg_expr::{Expression, memory};
+use cfg_expr::memory::SmallAllocator;
 use cfgx_engine::engine::run;
 use std::alloc::Global;
 use std::process::Abort;
@@ -20,7 +21,7 @@ enum Outcome {
     WantOfMemory,
 }
 
-fn parsed<A: memory::Memory>(alloc: A, text: &str) -> Outcome {
+fn parsed<A: SmallAllocator>(alloc: A, text: &str) -> Outcome {
     match Expression::parse(alloc, text) {
         Ok(expression) => Outcome::Accepted(expression.predicates().left()),
         Err(Failure::Parse(error)) => {
@@ -46,7 +47,7 @@ fn parse_in_turns(
         let answer = parsed(&refusing, text);
         if !refusing.has_refused() {
             assert_eq!(rt; answer, plain, "{text}");
-            assert!(rt; turn > 1, "{text}");
+            assert!(rt; turn > 1 || text.is_empty(), "{text}");
             return Ok(());
         }
         assert_eq!(rt; answer, Outcome::WantOfMemory, "growth {turn} of {text}");
@@ -63,7 +64,7 @@ fn run_in_turns(
     status: u8,
 ) -> Result<(), &'static str> {
     let words = ["parse", text];
-    let mut plain = Memory::new(alloc);
+    let mut plain = Recorder::new(alloc);
     assert_eq!(rt;
         run(alloc, &words, &mut Ended, &mut plain),
         status,
@@ -72,7 +73,7 @@ fn run_in_turns(
     for turn in 1..MOST_GROWTHS {
         let refusing = Refusing::new(alloc);
         refusing.refuse(turn);
-        let mut sink = Memory::new(alloc);
+        let mut sink = Recorder::new(alloc);
         let answer = run(&refusing, &words, &mut Ended, &mut sink);
         assert_eq!(rt; sink.failures, 0, "{text}");
         if !refusing.has_refused() {
@@ -88,13 +89,48 @@ fn run_in_turns(
     Err("too many growths")
 }
 
-const SHORT: [(&str, u8, Outcome); 3] = [
+const NO_TOKEN: Reason = Reason::Unexpected(&["<key>", "all", "any", "not"]);
+
+const SHORT: [(&str, u8, Outcome); 12] = [
     ("key)", 1, Outcome::Refused(3, 4, Reason::UnopenedParens)),
     ("all(a, any(b), c)", 0, Outcome::Accepted(3)),
+    ("cfg(all())", 0, Outcome::Accepted(0)),
+    ("a 8 b", 1, Outcome::Refused(2, 3, NO_TOKEN)),
     (
-        "a 8 b",
+        "key = \"abc",
         1,
-        Outcome::Refused(2, 3, Reason::Unexpected(&["<key>", "all", "any", "not"])),
+        Outcome::Refused(6, 10, Reason::UnclosedQuotes),
+    ),
+    ("", 1, Outcome::Refused(0, 0, Reason::Empty)),
+    (
+        "key =",
+        1,
+        Outcome::Refused(5, 5, Reason::Unexpected(&["\"<value>\""])),
+    ),
+    (
+        "unix = \"x\"",
+        1,
+        Outcome::Refused(8, 9, Reason::Unexpected(&[])),
+    ),
+    (
+        "target_has_atomic = \"65536\"",
+        1,
+        Outcome::Refused(21, 26, Reason::InvalidHasAtomic),
+    ),
+    (
+        "not(a, key = \"v\")",
+        1,
+        Outcome::Refused(0, 17, Reason::InvalidNot(2)),
+    ),
+    (
+        "all(feature = \"a\", not(unix), key = \"v\")",
+        0,
+        Outcome::Accepted(3),
+    ),
+    (
+        "any(target_pointer_width = \"64\", target_endian = \"big\", panic = \"a\")",
+        0,
+        Outcome::Accepted(3),
     ),
 ];
 
@@ -107,11 +143,59 @@ fn is_answered_as_such_for_short_texts(rt: HostRuntime) -> Result<(), Fail> {
     Ok(())
 }
 
+/// The parts of a text, the status of its run, and what parsing it answers.
+type Row = (&'static str, &'static str, usize, &'static str, u8, Outcome);
+
+const LONG: [Row; 7] = [
+    (
+        "",
+        " ",
+        100_000,
+        "8",
+        1,
+        Outcome::Refused(100_000, 100_001, NO_TOKEN),
+    ),
+    ("all(", "any(a, b),", 40, ")", 0, Outcome::Accepted(80)),
+    (
+        "all(",
+        "key = \"v\", unix,",
+        40,
+        ")",
+        0,
+        Outcome::Accepted(80),
+    ),
+    ("", "k", 1_000, "", 0, Outcome::Accepted(1)),
+    ("key = \"", "v", 1_000, "\"", 0, Outcome::Accepted(1)),
+    (
+        "",
+        " ",
+        5_000,
+        "8",
+        1,
+        Outcome::Refused(5_000, 5_001, NO_TOKEN),
+    ),
+    (
+        "\"",
+        "v",
+        5_000,
+        "",
+        1,
+        Outcome::Refused(0, 5_001, Reason::UnclosedQuotes),
+    ),
+];
+
 #[test]
 fn is_answered_as_such_for_long_texts(rt: HostRuntime) -> Result<(), Fail> {
-    let wide = repeated(rt.alloc(), "all(", "any(a, b),", 40, ")")?;
-    parse_in_turns(&rt, rt.alloc(), wide.as_str(), Outcome::Accepted(80))?;
-    run_in_turns(&rt, rt.alloc(), wide.as_str(), 0)?;
+    for (front, piece, times, back, status, plain) in LONG {
+        let text = repeated(rt.alloc(), front, piece, times, back)?;
+        parse_in_turns(&rt, rt.alloc(), text.as_str(), plain)?;
+        run_in_turns(&rt, rt.alloc(), text.as_str(), status)?;
+    }
+    Ok(())
+}
+
+#[test]
+fn is_answered_as_such_for_deep_texts(rt: HostRuntime) -> Result<(), Fail> {
     let deep = nested(rt.alloc(), "not(", 40, "a")?;
     parse_in_turns(&rt, rt.alloc(), deep.as_str(), Outcome::Accepted(1))?;
     run_in_turns(&rt, rt.alloc(), deep.as_str(), 0)?;
@@ -123,7 +207,8 @@ fn is_answered_as_such_for_long_texts(rt: HostRuntime) -> Result<(), Fail> {
     Ok(())
 }
 
-// Tokens take no memory; a fault's copy of the text does, and its want ends the lexer as the fault does.
+// Tokens take no memory; a fault's copy of the text does, and its want ends the lexer as the fault
+// does.
 #[test]
 fn ends_the_lexer(rt: HostRuntime) -> Result<(), Fail> {
     for turn in [1, EVERY] {
@@ -147,10 +232,10 @@ fn is_not_met_on_wrong_use(rt: HostRuntime) -> Result<(), Fail> {
     let refusing = Refusing::new(rt.alloc());
     refusing.refuse(EVERY);
     let usage = "usage: cfgx parse TEXT | eval TEXT FLAG.. | target TRIPLE TEXT | pick TRIPLE\n";
-    let mut sink = Memory::new(rt.alloc());
+    let mut sink = Recorder::new(rt.alloc());
     assert_eq!(rt; run(&refusing, &["parse"], &mut Ended, &mut sink), 2);
     assert_eq!(rt; sink.bytes.as_slice(), usage.as_bytes());
-    let mut sink = Memory::new(rt.alloc());
+    let mut sink = Recorder::new(rt.alloc());
     assert_eq!(rt; run(&refusing, &["parse", "a"], &mut Ended, &mut sink), 3);
     assert!(rt; sink.bytes.is_empty());
     Ok(())

@@ -1,21 +1,21 @@
 //! What a run of the program writes, and its status.
-use crate::streams::{Ended, Memory};
+use crate::streams::{Ended, Recorder};
 use cfgx_engine::engine::run;
 use std::test::Fail;
 
 const USAGE: &str =
     "usage: cfgx parse TEXT | eval TEXT FLAG.. | target TRIPLE TEXT | pick TRIPLE\n";
 
-const ROWS: [(&[&str], &str, u8); 15] = [
+const ROWS: [(&[&str], &str, u8); 25] = [
     (&["parse", "all(a, any(b), c)"], "b\na\nc\n", 0),
     (&["parse", "cfg(key)"], "key\n", 0),
+    (&["parse", "cfg(unix)"], "target_family = \"unix\"\n", 0),
     (&["parse", "all()"], "", 0),
     (
         &["parse", "not(a, b)"],
         "not(a, b)\n^^^^^^^^^ not() takes 1 predicate, found 2\n",
         1,
     ),
-    (&["parse"], USAGE, 2),
     (&["parse", "key)"], "key)\n   ^ unopened parens\n", 1),
     (&["parse", "not(key"], "not(key\n   - unclosed parens\n", 1),
     (
@@ -23,7 +23,49 @@ const ROWS: [(&[&str], &str, u8); 15] = [
         "foo (\n    ^ expected one of `=`, `,`, `)` here\n",
         1,
     ),
+    (
+        &["parse", "key ="],
+        "key =\n      expected a `\"<value>\"` here\n",
+        1,
+    ),
+    (
+        &["parse", "a, target_os"],
+        "a, target_os\n   ^^^^^^^^^ expected a `= \"<target_cfg_value>\"` here\n",
+        1,
+    ),
+    (
+        &["parse", "cfg(a) b"],
+        "cfg(a) b\n   ^ expected one of `=`, `,`, `)` here\n",
+        1,
+    ),
+    (&["parse", "cfg(b))"], "b)\n ^ unopened parens\n", 1),
+    (
+        &["parse", "key = \"abc"],
+        "key = \"abc\n      - unclosed quotes\n",
+        1,
+    ),
+    (
+        &["parse", "unix = \"x\""],
+        "unix = \"x\"\n        ^ the term was not expected here\n",
+        1,
+    ),
+    (
+        &["parse", "target_endian = \"Big\""],
+        "target_endian = \"Big\"\n                 ^^^ invalid integer\n",
+        1,
+    ),
+    (
+        &["parse", "target_has_atomic = \"8x\""],
+        "target_has_atomic = \"8x\"\n                     ^^ expected integer or \"ptr\"\n",
+        1,
+    ),
+    (
+        &["parse", "a,é"],
+        "a,é\n  ^ expected one of `<key>`, `all`, `any`, `not` here\n",
+        1,
+    ),
     (&["parse", ""], "\n empty expression\n", 1),
+    (&["parse"], USAGE, 2),
     (&[], USAGE, 2),
     (&["parse", "a", "b"], USAGE, 2),
     (&["Parse", "a"], USAGE, 2),
@@ -35,7 +77,7 @@ const ROWS: [(&[&str], &str, u8); 15] = [
 #[test]
 fn writes_its_output_and_ends_with_its_status(rt: HostRuntime) -> Result<(), Fail> {
     for (words, written, status) in ROWS {
-        let mut sink = Memory::new(rt.alloc());
+        let mut sink = Recorder::new(rt.alloc());
         assert_eq!(rt;
             run(rt.alloc(), words, &mut Ended, &mut sink),
             status,

@@ -7,8 +7,8 @@ use std::cell::Cell;
 /// Refuses every growth, as an argument of `Refusing::refuse`.
 pub const EVERY: u64 = u64::MAX;
 
-/// Asks `inner` for each growth but one, or but all, and frees by it. A growth is any block that is wanted, a
-/// first one or one to move to, by whoever holds a `&`.
+/// Asks `inner` for each growth but one, or but all, and frees by it. A growth is any block that is
+/// wanted, a first one or one to move to, by whoever holds a `&`.
 #[derive(Drop)]
 pub struct Refusing<B: Allocator> {
     inner: B,
@@ -25,8 +25,8 @@ impl<B: Allocator> Refusing<B> {
         }
     }
 
-    /// Sets the countdown: the `n`-th growth from now on is refused, 1 being the next one, and those
-    /// before and after it are let through. With 0 all are, and with `EVERY` none is.
+    /// Sets the countdown: the `n`-th growth from now on is refused, 1 being the next one, and
+    /// those before and after it are let through. With 0 all are, and with `EVERY` none is.
     pub fn refuse(&self, n: u64) {
         self.countdown.set(n);
     }
@@ -36,8 +36,8 @@ impl<B: Allocator> Refusing<B> {
         self.countdown.get() == 0
     }
 
-    // Takes one growth off the countdown. True where that ends it, or where every growth is refused, which no clause can say: a
-    // cell's number is no part of its value.
+    // Takes one growth off the countdown. True where that ends it, or where every growth is
+    // refused, which no clause can say: a cell's number is no part of its value.
     fn ends_countdown(&self) -> bool {
         let ahead = self.countdown.get();
         if ahead == EVERY {

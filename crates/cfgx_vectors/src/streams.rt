@@ -1,5 +1,5 @@
-//! A source that holds nothing, a sink in memory that takes little a call and fails where it is told to, and what a run
-//! writes into it.
+//! A source that holds nothing, a sink in memory that takes little a call and fails where it is
+//! told to, and what a run writes into it.
 ghost use Rattle.std.specs.Prelude.{◌≡◌, [], Some};
 
 use cfgx_engine::engine::{Sink, Source, run};
@@ -22,10 +22,10 @@ impl Source for Ended {
     }
 }
 
-/// A sink that takes at most `each` bytes a call and `room` bytes in all, and whose write of the number
-/// `failing_write`, counted from 1, fails.
+/// A sink that takes at most `each` bytes a call and `room` bytes in all, and whose write of the
+/// number `failing_write`, counted from 1, fails.
 #[derive(Drop)]
-pub(crate) struct Memory {
+pub(crate) struct Recorder {
     pub(crate) bytes: Vec<u8>,
     pub(crate) failures: u64,
     pub(crate) each: usize,
@@ -36,12 +36,12 @@ pub(crate) struct Memory {
     pub(crate) flushes: u64,
 }
 
-impl Memory {
+impl Recorder {
     /// A sink that takes all.
-    pub(crate) fn new(alloc: Global) -> Memory
+    pub(crate) fn new(alloc: Global) -> Recorder
         ensures { result.failures ≡ 0 }
     {
-        Memory {
+        Recorder {
             bytes: Vec::new(alloc),
             failures: 0,
             each: usize::MAX,
@@ -59,10 +59,10 @@ fn interrupted() -> io::Error {
     io::Error::from(ErrorKind::Interrupted)
 }
 
-impl Sink for Memory {
-    ghost failures = { λ memory. memory.failures };
+impl Sink for Recorder {
+    ghost failures = { λ sink. sink.failures };
 
-    ghost written = { λ memory. Some memory.bytes.items };
+    ghost written = { λ sink. Some sink.bytes.items };
 
     fn write(&mut self, bytes: &[u8]) -> io::Result<usize> {
         self.writes = self.writes.saturating_add(1);
@@ -98,8 +98,8 @@ impl Sink for Memory {
 
 const ALL: usize = usize::MAX;
 
-// The text; the most bytes a call, the room, the failing write, whether the flush fails; and then the status, what was
-// written, and how many calls of `write` and `flush` were made.
+// The text; the most bytes a call, the room, the failing write, whether the flush fails; and then
+// the status, what was written, and how many calls of `write` and `flush` were made.
 const ROWS: [(&str, usize, usize, u64, bool, u8, &str, u64, u64); 8] = [
     (
         "all(a, any(b), c)",
@@ -134,7 +134,7 @@ fn a_failed_call_ends_the_run(rt: HostRuntime) -> Result<(), Fail> {
         writes,
         flushes,
     ) in ROWS {
-        let mut sink = Memory {
+        let mut sink = Recorder {
             bytes: Vec::new(rt.alloc()),
             failures: 0,
             each,
@@ -154,12 +154,13 @@ fn a_failed_call_ends_the_run(rt: HostRuntime) -> Result<(), Fail> {
     Ok(())
 }
 
-// The nth write fails, for each n: what went out is the first n - 1 bytes, and nothing is written behind them.
+// The nth write fails, for each n: what went out is the first n - 1 bytes, and nothing is written
+// behind them.
 #[test]
 fn each_write_fails_in_turn(rt: HostRuntime) -> Result<(), Fail> {
     let output = b"b\na\nc\n";
     for failing in 0..6usize {
-        let mut sink = Memory::new(rt.alloc());
+        let mut sink = Recorder::new(rt.alloc());
         sink.each = 1;
         sink.failing_write = u64::try_from(failing)? + 1;
         let answer = run(

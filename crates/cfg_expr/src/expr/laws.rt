@@ -1,11 +1,22 @@
-//! What the comparisons and the order of questions mean: each function's clause is the law, and its body is only there to be proved.
-ghost use Rattle.std.specs.Prelude.{◌≡◌, ◌↔◌, IsTrue};
-ghost use Rattle.cfg_expr.specs.Expression.{question_of};
+//! What the comparisons and the order of questions mean: each function's clause is the law, and its
+//! body is only there to be proved.
+ghost use Rattle.std.specs.Prelude.{◌≡◌, ◌↔◌, IsTrue, IfOk, codes, map};
+ghost use Rattle.cfgx_syntax.specs.Stripping.{strip};
+ghost use Rattle.cfg_expr.specs.Answer.{Answers};
+ghost use Rattle.cfg_expr.specs.Predicate.{question_of, target_of};
 ghost use Rattle.cfg_expr.specs.Order.{func_cmp};
 ghost use Rattle.cfg_expr.specs.Tree.{Tree, Trees, asked, asked_each, arranged};
 
-use super::{Func, Predicate};
+use super::{Func, Predicate, TargetPredicate};
 use std::cmp::Ordering;
+
+/// Two target predicates are equal where they are of one kind and have equal texts, wherever these
+/// lie.
+pub fn are_same_targets(one: &TargetPredicate<'_>, other: &TargetPredicate<'_>) -> bool
+    ensures { IsTrue result ↔ (target_of one.now ≡ target_of other.now) }
+{
+    *one == *other
+}
 
 /// Two predicates are equal where they are of one kind and have equal texts, wherever these lie.
 pub fn are_same_predicates(one: &Predicate<'_>, other: &Predicate<'_>) -> bool

@@ -1,327 +1,346 @@
 //! From a text to the nodes of its tree, in one pass.
-ghost use Rattle.std.specs.Prelude.{◌≡◌, ◌++◌, ◌∷◌, [], ◌<◌, ◌^◌, true, length, map, IsTrue, OnOk, IfOk, IsSomeAnd, Option, option_map, None, ℕ, List};
-ghost use Rattle.cfg_expr.specs.Parsing.{ChangesTop, AddsLeaf, AddsFunction, MarksTop, TopHasRoom, kind_of, counted};
-ghost use Rattle.cfgx_syntax.specs.Lexer.{token_of};
-ghost use Rattle.cfg_expr.specs.Machine.{Machine, follows, settle, opened, close_of, apply, step};
-ghost use Rattle.cfgx_syntax.specs.Text.{strip};
-ghost use Rattle.cfg_expr.specs.Grammar.{HasTree};
-ghost use Rattle.cfg_expr.specs.Tree.{Tree};
+ghost use Rattle.std.specs.Prelude.{◌≡◌, ◌+◌, ◌≤◌, length, ◌<◌, ◌↔◌, ◌≢◌, [], true, option_map};
+ghost use Rattle.std.specs.Prelude.{map, reverse, IsTrue, OnOk, IfOk};
+ghost use Rattle.cfgx_syntax.specs.Error.{cause_of, unexpected, FailsWith, fault_in};
+ghost use Rattle.cfgx_syntax.specs.Lexer.{token_of, item_of};
+ghost use Rattle.cfg_expr.specs.Neighbours.{next, expected};
+ghost use Rattle.cfg_expr.specs.nodes.Writer.{Fits, written_of};
+ghost use Rattle.cfg_expr.specs.parsing.State.{State};
+ghost use Rattle.cfg_expr.specs.parsing.Step.{refusal, over_top, one_more, root_more, with_item};
+ghost use Rattle.cfg_expr.specs.parsing.Step.{with_parens, leaf_ended, predicate_ended, opened};
+ghost use Rattle.cfg_expr.specs.parsing.Step.{new_open, counted, member_count, has_room};
+ghost use Rattle.cfg_expr.specs.parsing.Step.{function_ended, closed_by, apply, step, unclosed};
+ghost use Rattle.cfg_expr.specs.parsing.Step.{conclude};
+ghost use Rattle.cfg_expr.specs.parsing.Fields.{function_of, open_of, opens_of, is_some_open};
+ghost use Rattle.cfg_expr.specs.parsing.Bounded.{TopHasRoom};
 
-use super::lexer::{Lexer, LexerToken, Token, strip};
-use super::{ExprNode, Expression, Func, InnerPredicate, Span};
-use crate::error::{Failure, ParseError, Reason};
-use crate::memory::Memory;
+use super::classification::{Pending, Word, classify};
+use super::lexer::{Lexer, LexerToken, Token};
+use super::nodes::{ExprNode, Mark, Writer};
+use super::{Func, Span};
+use crate::error::{Failure, Reason};
+use crate::memory::SmallAllocator;
 use smallvec::SmallVec;
 use std::alloc::AllocError;
-use std::default::MadeWith;
 
 /// A function whose `)` was not read yet.
-#[derive(Drop)]
-struct FuncAndSpan<A: Memory> {
+#[derive(Debug, Drop)]
+pub(crate) struct FuncAndSpan {
     func: Func,
-    /// Where its `(` stands: 0, where none can, until that was read
-    parens_index: usize,
     /// Where its name stands
     span: Span,
-    /// The predicates among its members, which go behind its member functions
-    predicates: SmallVec<InnerPredicate, 5, A>,
-    /// How many of its members are functions
-    nest_level: usize,
+    /// Where its `(` stands, once that was read
+    parens_index: Option<usize>,
+    /// How many of its members have ended
+    members: usize,
+    /// Where it began among the nodes
+    mark: Mark,
 }
 
-impl<A: Memory> MadeWith<A> for FuncAndSpan<A> {
-    fn made_with(alloc: A) -> Self {
+impl Default for FuncAndSpan {
+    fn default() -> Self {
         FuncAndSpan {
             func: Func::Not,
-            parens_index: 0,
             span: 0..0,
-            predicates: SmallVec::new(alloc),
-            nest_level: 0,
+            parens_index: None,
+            members: 0,
+            mark: Mark { node: 0, leaves: 0 },
         }
     }
 }
 
 /// What was read so far.
 #[derive(Drop)]
-struct Parser<'a, A: Memory> {
+pub(crate) struct Parser<'a, A: SmallAllocator> {
     alloc: A,
     original: &'a str,
-    func_stack: SmallVec<FuncAndSpan<A>, 5, A>,
-    /// The nodes of what has ended, each function's behind its members'
-    expr_queue: SmallVec<ExprNode, 5, A>,
+    func_stack: SmallVec<FuncAndSpan, 5, A>,
+    writer: Writer<A>,
     last_token: Option<Token<'a>>,
     /// The predicate that has not ended
-    pred_key: Option<Span>,
-    /// How many functions and predicates stand at the root
+    pending: Option<Pending<'a>>,
+    /// How many items at the root have ended
     root_count: usize,
 }
 
-/// Whether the token may stand behind the last one.
-fn may_follow(last: Option<Token<'_>>, next: Token<'_>) -> bool
-    ensures { result ≡ follows (option_map token_of last.entry) (token_of next.entry) }
+/// Whether the token may stand behind the last one, or at the start.
+fn may_follow(last: Option<Token<'_>>, token: Token<'_>) -> bool
+    ensures { result ≡ next (option_map token_of last.entry) (token_of token.entry) }
 {
-    match next {
-        Token::Key(_) | Token::All | Token::Any | Token::Not => {
-            matches!(last, None | Some(Token::OpenParen | Token::Comma))
-        }
-        Token::OpenParen => matches!(last, Some(Token::All | Token::Any | Token::Not)),
-        Token::CloseParen => matches!(
-            last,
-            Some(Token::OpenParen | Token::Key(_) | Token::CloseParen | Token::Comma)
-        ),
-        Token::Comma => matches!(last, Some(Token::Key(_) | Token::CloseParen | Token::Comma)),
-    }
-}
-
-/// What may stand behind the last token.
-fn expected(last: Option<Token<'_>>) -> &'static [&'static str] {
+    use Token::*;
     match last {
-        None => &["<key>", "all", "any", "not"],
-        Some(Token::All | Token::Any | Token::Not) => &["("],
-        Some(Token::CloseParen) => &[")", ","],
-        Some(Token::Comma) => &[")", "<key>"],
-        Some(Token::Key(_)) => &["=", ",", ")"],
-        Some(Token::OpenParen) => &["<key>", ")", "all", "any", "not"],
+        None => matches!(token, Key(_) | All | Any | Not),
+        Some(OpenParen) => matches!(token, Key(_) | All | Any | Not | CloseParen),
+        Some(Comma) => matches!(token, Key(_) | All | Any | Not | CloseParen | Comma),
+        Some(Key(_)) => matches!(token, Equals | CloseParen | Comma),
+        Some(Equals) => matches!(token, Value(_)),
+        Some(Value(_) | CloseParen) => matches!(token, CloseParen | Comma),
+        Some(All | Any | Not) => matches!(token, OpenParen),
     }
 }
 
-/// Adds a predicate to the members of the innermost open function.
-fn add_leaf<A: Memory>(
-    stack: &mut SmallVec<FuncAndSpan<A>, 5, A>,
-    predicate: InnerPredicate,
-) -> Result<(), AllocError>
-    requires { 0 < length stack.old.items }
-    ensures { OnOk result (ChangesTop (AddsLeaf predicate) stack.old.items stack.new.items) }
+/// What a fault says that it expected behind the last token, or at the start.
+fn expected(last: Option<Token<'_>>) -> Reason
+    ensures { cause_of result ≡ unexpected (expected (option_map token_of last.entry)) }
 {
-    let Some(top) = stack.last_mut() else {
-        unreachable!()
-    };
-    top.predicates.push(predicate)?;
-    Ok(())
+    use Token::*;
+    Reason::Unexpected(match last {
+        None => &["<key>", "all", "any", "not"],
+        Some(OpenParen) => &["<key>", ")", "all", "any", "not"],
+        Some(Comma) => &[")", "<key>"],
+        Some(Key(_)) => &["=", ",", ")"],
+        Some(Equals) => &["\""],
+        Some(Value(_)) => &[",", ")"],
+        Some(All | Any | Not) => &["("],
+        Some(CloseParen) => &[")", ","],
+    })
 }
 
-/// Counts one more function among the members of the innermost open function.
-fn count_function<A: Memory>(stack: &mut SmallVec<FuncAndSpan<A>, 5, A>)
-    requires some { 0 < length stack.old.items }
-    requires room { TopHasRoom stack.old.items }
-    ensures { ChangesTop AddsFunction stack.old.items stack.new.items }
+/// The function with this many members.
+fn counted(func: Func, members: usize) -> Func
+    ensures { result ≡ counted (function_of func) members }
+{
+    match func {
+        Func::Not => Func::Not,
+        Func::All(_) => Func::All(members),
+        Func::Any(_) => Func::Any(members),
+    }
+}
+
+/// Whether the function may have this many members.
+fn has_room(func: Func, members: usize) -> bool
+    ensures { result ≡ has_room (function_of func) members }
+{
+    match func {
+        Func::Not => members == 1,
+        Func::All(_) | Func::Any(_) => true,
+    }
+}
+
+/// Counts one more member of the innermost open function. It answers whether one is open.
+fn count_member<A: SmallAllocator>(stack: &mut SmallVec<FuncAndSpan, 5, A>) -> bool
+    requires { TopHasRoom (opens_of stack.old.items) }
+    ensures counted { opens_of stack.new.items ≡ over_top one_more (opens_of stack.old.items) }
+    ensures open { result ≡ is_some_open (opens_of stack.old.items) }
 {
     let Some(top) = stack.last_mut() else {
-        unreachable!()
+        return false;
     };
-    top.nest_level += 1;
+    top.members += 1;
+    true
 }
 
 /// Notes where the `(` of the innermost open function stands.
-fn open_parens<A: Memory>(stack: &mut SmallVec<FuncAndSpan<A>, 5, A>, index: usize)
-    ensures { MarksTop stack.old.items stack.new.items }
+fn open_parens<A: SmallAllocator>(stack: &mut SmallVec<FuncAndSpan, 5, A>, place: usize)
+    ensures { opens_of stack.new.items ≡ over_top (with_parens place) (opens_of stack.old.items) }
 {
     if let Some(top) = stack.last_mut() {
-        top.parens_index = index;
+        top.parens_index = Some(place);
     }
 }
 
-/// The function with its number of members, which for `not` is one.
-fn counted(func: Func, members: usize) -> Option<Func>
-    ensures { result ≡ counted func members }
-{
-    match func {
-        Func::All(_) => Some(Func::All(members)),
-        Func::Any(_) => Some(Func::Any(members)),
-        Func::Not if members == 1 => Some(Func::Not),
-        Func::Not => None,
+impl<'a, A: SmallAllocator> Parser<'a, A> {
+    ghost use Rattle.cfg_expr.specs.parsing.State.{initial};
+    ghost use Rattle.cfg_expr.specs.parsing.Parser.{state_of, Gives, Opens, EndsFunction};
+    ghost use Rattle.cfg_expr.specs.parsing.Parser.{AddsValue, IsQuoted, closed_at, ReadsAll};
+    ghost use Rattle.cfg_expr.specs.parsing.Bounded.{IsBounded, HasRoom};
+
+    /// Nothing was read.
+    pub(crate) fn new(alloc: A, original: &'a str) -> Self
+        ensures state { state_of result ≡ initial }
+        ensures text { result.original.now ≡ original.now }
+    {
+        Parser {
+            alloc,
+            original,
+            func_stack: SmallVec::new(alloc),
+            writer: Writer::new(alloc),
+            last_token: None,
+            pending: None,
+            root_count: 0,
+        }
     }
-}
-
-/// Writes the predicates behind the nodes.
-fn append<A: Memory>(
-    queue: &mut SmallVec<ExprNode, 5, A>,
-    predicates: SmallVec<InnerPredicate, 5, A>,
-) -> Result<(), AllocError>
-    ensures items { OnOk result (queue.new.items ≡ queue.old.items ++ map ExprNode.Predicate predicates.items) }
-    ensures bound { OnOk result (length queue.new.items < 2 ^ 64) }
-{
-    for predicate in predicates {
-        queue.push(ExprNode::Predicate(predicate))?;
-    }
-    let _bounded = queue.len();
-    Ok(())
-}
-
-/// Writes a node. The number of nodes bounds what counts them.
-fn push_node<A: Memory>(
-    queue: &mut SmallVec<ExprNode, 5, A>,
-    node: ExprNode,
-) -> Result<(), AllocError>
-    ensures items { OnOk result (queue.new.items ≡ queue.old.items ++ node ∷ []) }
-    ensures bound { OnOk result (length queue.new.items < 2 ^ 64) }
-{
-    queue.push(node)?;
-    let _bounded = queue.len();
-    Ok(())
-}
-
-impl<'a, A: Memory> Parser<'a, A> {
-    ghost use Rattle.cfg_expr.specs.Parsing.{Holds, IsSound, IsPlaced, HasRoom, CountsMember, HasRead, HasReadAll, IsFinished};
-    ghost use Rattle.std.specs.Str.{IsUtf8};
 
     /// A fault of the text, or want of memory for its copy.
-    fn fault(&self, span: Span, reason: Reason) -> Failure<A> {
-        match String::from_str(self.alloc, self.original) {
-            Ok(original) => Failure::Parse(ParseError {
-                original,
-                span,
-                reason,
-            }),
-            Err(error) => Failure::Memory(error),
+    fn fault(&self, span: Span, reason: Reason) -> Failure<A>
+        ensures { FailsWith (fault_in self.now.original.now
+            (refusal (cause_of reason) span.start span.end)) result }
+    {
+        Failure::of(self.alloc, self.original, span, reason)
+    }
+
+    /// Counts an item that has ended in the innermost list.
+    fn count_item(&mut self)
+        requires { HasRoom (state_of self.old) }
+        ensures state { state_of self.new ≡ with_item (state_of self.old) }
+        ensures text { self.new.original.now ≡ self.old.original.now }
+    {
+        if !count_member(&mut self.func_stack) {
+            self.root_count += 1;
         }
     }
 
     /// Ends the predicate that has begun, if one has.
-    fn end_predicate(&mut self) -> Result<(), AllocError>
-        requires { IsSound self.old }
-        ensures { OnOk result ((text : List ℕ) (m : Machine) → Holds text self.old m → Holds text self.new (settle m)) }
+    fn end_predicate(&mut self) -> Result<(), Failure<A>>
+        requires { IsBounded (state_of self.old) }
+        ensures { Gives result self.old self.new (predicate_ended (state_of self.old)) }
     {
-        let Some(span) = self.pred_key.take() else {
+        let Some(pending) = self.pending.take() else {
             return Ok(());
         };
-        let predicate = InnerPredicate::Flag(span);
-        if self.func_stack.is_empty() {
-            push_node(&mut self.expr_queue, ExprNode::Predicate(predicate))?;
-            self.root_count += 1;
-        } else {
-            add_leaf(&mut self.func_stack, predicate)?;
-        }
+        let predicate = match classify(pending) {
+            Ok(predicate) => predicate,
+            Err((reason, span)) => return Err(self.fault(span, reason)),
+        };
+        self.writer.leaf(predicate)?;
+        self.count_item();
         Ok(())
     }
 
     /// Opens a function, whose name stands at the span.
     fn open(&mut self, func: Func, span: Span) -> Result<(), AllocError>
-        ensures { OnOk result ((text : List ℕ) (m : Machine) → Holds text self.old m → Holds text self.new (opened m (kind_of func))) }
+        ensures { OnOk result (Opens self.old self.new (function_of func) span) }
     {
+        let mark = self.writer.mark();
+        self.writer.function(counted(func, 0))?;
         self.func_stack.push(FuncAndSpan {
             func,
-            parens_index: 0,
             span,
-            predicates: SmallVec::new(self.alloc),
-            nest_level: 0,
+            parens_index: None,
+            members: 0,
+            mark,
         })?;
         Ok(())
     }
 
-    /// Counts a function that has ended among the members of the innermost list.
-    fn count_member(&mut self)
-        requires { HasRoom self.old }
-        ensures { CountsMember self.old self.new }
+    /// Ends the innermost function, whose members all have ended.
+    fn end_function(&mut self) -> Result<(), AllocError>
+        requires { IsBounded (state_of self.old) }
+        ensures { OnOk result (EndsFunction self.old self.new) }
     {
-        if self.func_stack.is_empty() {
-            self.root_count += 1;
-        } else {
-            count_function(&mut self.func_stack);
+        if let Some(top) = self.func_stack.pop() {
+            let func = counted(top.func, top.members);
+            self.writer.end_function(top.mark, func)?;
+            self.count_item();
         }
+        Ok(())
     }
 
-    /// Ends the innermost function at a `)`, whose place is `span`.
+    /// Closes the innermost function at a `)`, which stands at the span.
     fn close(&mut self, span: Span) -> Result<(), Failure<A>>
-        requires { IsSound self.old }
-        ensures { OnOk result ((text : List ℕ) (m : Machine) → Holds text self.old m → IsSomeAnd (close_of m.frames m) (Holds text self.new)) }
+        requires { IsBounded (state_of self.old) }
+        ensures { Gives result self.old self.new (closed_at (state_of self.old) span) }
     {
-        let Some(top) = self.func_stack.pop() else {
+        let Some(top) = self.func_stack.last() else {
             return Err(self.fault(span, Reason::UnopenedParens));
         };
-        let FuncAndSpan {
-            func,
-            parens_index: _,
-            span: name,
-            predicates,
-            nest_level,
-        } = top;
-        let leaves = predicates.len();
-        append(&mut self.expr_queue, predicates)?;
-        let members = nest_level + leaves;
-        let Some(func) = counted(func, members) else {
-            return Err(self.fault(name.start..span.end, Reason::InvalidNot(members)));
-        };
-        push_node(&mut self.expr_queue, ExprNode::Fn(func))?;
-        self.count_member();
+        let (func, start, ended) = (top.func, top.span.start, top.members);
+        let members = ended + usize::from(self.pending.is_some());
+        if !has_room(func, members) {
+            return Err(self.fault(start..span.end, Reason::InvalidNot(members)));
+        }
+        self.end_predicate()?;
+        self.end_function()?;
         Ok(())
+    }
+
+    /// Notes the value of the predicate that has begun, which stands in quotes at the span.
+    fn add_value(&mut self, text: &'a str, span: Span)
+        requires { span.start + 1 ≤ span.end }
+        ensures { AddsValue self.old self.new text.now span }
+    {
+        if let Some(pending) = &mut self.pending {
+            pending.value = Some(Word {
+                text,
+                span: span.start + 1..span.end - 1,
+            });
+        }
     }
 
     /// What a token does where it may stand.
     fn apply(&mut self, lexed: LexerToken<'a>) -> Result<(), Failure<A>>
-        requires sound { IsSound self.old }
-        requires placed { IsPlaced self.old.original.now lexed.token lexed.span }
-        ensures { OnOk result ((text : List ℕ) (m : Machine) → Holds text self.old m → IsSomeAnd (apply m (token_of lexed.entry.token)) (Holds text self.new)) }
+        requires bounded { IsBounded (state_of self.old) }
+        requires quoted { IsQuoted lexed }
+        ensures { Gives result self.old self.new
+            (apply (state_of self.old) (item_of lexed.entry) (token_of lexed.entry.token)) }
     {
-        match lexed.token {
-            Token::Key(_) => {
-                self.pred_key = Some(lexed.span);
+        let LexerToken { token, span } = lexed;
+        match token {
+            Token::Key(text) => {
+                let key = Word { text, span };
+                self.pending = Some(Pending { key, value: None });
                 Ok(())
             }
-            Token::All => Ok(self.open(Func::All(0), lexed.span)?),
-            Token::Any => Ok(self.open(Func::Any(0), lexed.span)?),
-            Token::Not => Ok(self.open(Func::Not, lexed.span)?),
+            Token::Value(text) => {
+                self.add_value(text, span);
+                Ok(())
+            }
+            Token::Equals => Ok(()),
+            Token::All => Ok(self.open(Func::All(0), span)?),
+            Token::Any => Ok(self.open(Func::Any(0), span)?),
+            Token::Not => Ok(self.open(Func::Not, span)?),
             Token::OpenParen => {
-                open_parens(&mut self.func_stack, lexed.span.start);
+                open_parens(&mut self.func_stack, span.start);
                 Ok(())
             }
-            Token::CloseParen => {
-                self.end_predicate()?;
-                Ok(self.close(lexed.span)?)
-            }
-            Token::Comma => Ok(self.end_predicate()?),
+            Token::CloseParen => self.close(span),
+            Token::Comma => self.end_predicate(),
         }
     }
 
     /// Reads one token.
     fn read(&mut self, lexed: LexerToken<'a>) -> Result<(), Failure<A>>
-        requires sound { IsSound self.old }
-        requires placed { IsPlaced self.old.original.now lexed.token lexed.span }
-        ensures { OnOk result ((text : List ℕ) (m : Machine) → Holds text self.old m → IsSomeAnd (step m (token_of lexed.entry.token)) (Holds text self.new)) }
+        requires bounded { IsBounded (state_of self.old) }
+        requires quoted { IsQuoted lexed }
+        ensures { Gives result self.old self.new (step (state_of self.old) (item_of lexed.entry)) }
     {
         let token = lexed.token;
         if !may_follow(self.last_token, token) {
-            return Err(self.fault(lexed.span, Reason::Unexpected(expected(self.last_token))));
+            return Err(self.fault(lexed.span, expected(self.last_token)));
         }
         self.apply(lexed)?;
         self.last_token = Some(token);
         Ok(())
     }
 
-    /// The fault of a text that ends while a function is open.
-    fn unclosed(&self, top: &FuncAndSpan<A>) -> Failure<A> {
-        if top.parens_index == 0 {
-            self.fault(top.span.start..top.span.end, Reason::Unexpected(&["("]))
-        } else {
-            self.fault(
-                top.parens_index..self.original.len(),
-                Reason::UnclosedParens,
-            )
-        }
-    }
-
-    /// Ends the text: one tree is left, whose nodes are written.
+    /// Ends the text: one item is left, whose nodes are written.
     fn finish(&mut self) -> Result<(), Failure<A>>
-        requires { HasReadAll self.old }
-        ensures { OnOk result (IsFinished self.old self.new) }
+        requires { IsBounded (state_of self.old) }
+        ensures { Gives result self.old self.new
+            (conclude (length self.old.original.now) (state_of self.old)) }
     {
+        let len = self.original.len();
+        if matches!(self.last_token, Some(Token::Equals)) {
+            return Err(self.fault(len..len, Reason::Unexpected(&["\"<value>\""])));
+        }
         if let Some(top) = self.func_stack.last() {
             return Err(self.unclosed(top));
         }
         self.end_predicate()?;
-        let whole = 0..self.original.len();
         match self.root_count {
-            0 => Err(self.fault(whole, Reason::Empty)),
-            1 => Ok(()),
-            _ => Err(self.fault(whole, Reason::MultipleRootPredicates)),
+            0 => Err(self.fault(0..len, Reason::Empty)),
+            1 => Ok(self.writer.end_list(0)?),
+            _ => Err(self.fault(0..len, Reason::MultipleRootPredicates)),
+        }
+    }
+
+    /// The fault of a text that ends while a function is open.
+    fn unclosed(&self, top: &FuncAndSpan) -> Failure<A>
+        ensures { FailsWith (fault_in self.now.original.now
+            (unclosed (length self.now.original.now) (open_of top.now)
+            top.now.parens_index)) result }
+    {
+        match top.parens_index {
+            Some(place) => self.fault(place..self.original.len(), Reason::UnclosedParens),
+            None => self.fault(top.span.start..top.span.end, Reason::Unexpected(&["("])),
         }
     }
 
     /// Reads what the lexer gives, to the end of the text.
-    fn read_all(&mut self, lexer: Lexer<'a, A>) -> Result<(), Failure<A>>
-        requires text { IsUtf8 lexer.text }
-        requires none { HasRead lexer.text lexer.place self.old }
-        ensures { OnOk result (IsFinished self.old self.new) }
+    pub(crate) fn read_all(&mut self, lexer: Lexer<'a, A>) -> Result<(), Failure<A>>
+        requires bounded { IsBounded (state_of self.old) }
+        requires text { self.old.original.now ≡ lexer.text }
+        ensures { ReadsAll lexer.entry self.old self.new result }
     {
         for lexed in lexer {
             self.read(lexed?)?;
@@ -329,44 +348,13 @@ impl<'a, A: Memory> Parser<'a, A> {
         self.finish()
     }
 
-    /// The nodes that were written.
-    fn into_nodes(self) -> SmallVec<ExprNode, 5, A>
-        ensures { result ≡ self.entry.expr_queue }
+    /// The nodes that were written, and the places of the predicates among them.
+    pub(crate) fn into_parts(self) -> (SmallVec<ExprNode, 5, A>, SmallVec<usize, 5, A>)
+        ensures nodes { result.0 ≡ self.entry.writer.nodes }
+        ensures asked { result.1 ≡ self.entry.writer.asked }
     {
-        let Parser {
-            alloc: _,
-            original: _,
-            func_stack: _,
-            expr_queue,
-            last_token: _,
-            pred_key: _,
-            root_count: _,
-        } = self;
-        expr_queue
-    }
-}
-
-impl<A: Memory> Expression<A> {
-    /// The expression of a text, which may stand in `cfg( )`.
-    pub fn parse(alloc: A, original: &str) -> Result<Self, Failure<A>>
-        ensures kept { IfOk result (λ expression. expression ≡ strip original.now) }
-        ensures grammar { OnOk result ((tree : Tree) × HasTree (strip original.now) tree) }
-    {
-        let text = strip(original);
-        let mut parser = Parser {
-            alloc,
-            original: text,
-            func_stack: SmallVec::new(alloc),
-            expr_queue: SmallVec::new(alloc),
-            last_token: None,
-            pred_key: None,
-            root_count: 0,
-        };
-        parser.read_all(Lexer::new(alloc, original))?;
-        let original = String::from_str(alloc, text)?;
-        Ok(Expression {
-            expr: parser.into_nodes(),
-            original,
-        })
+        let Parser { writer, .. } = self;
+        let Writer { nodes, asked, .. } = writer;
+        (nodes, asked)
     }
 }

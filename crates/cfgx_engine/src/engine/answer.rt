@@ -3,11 +3,12 @@
 ghost use Rattle.std.specs.Prelude.{◌≡◌, ◌++◌, IfOk, IsOk, OnOk, string_bytes};
 ghost use Rattle.cfgx_engine.specs.Output.{line, lines, request_of, texts, Prints, Request};
 ghost use Rattle.cfgx_engine.specs.Answer.{asked_by, output_of};
-ghost use Rattle.cfg_expr.specs.Expression.{question_of};
+ghost use Rattle.cfg_expr.specs.Predicate.{question_of};
 
+use super::spelling::push_predicate;
 use cfg_expr::error::Failure;
 use cfg_expr::expr::Predicates;
-use cfg_expr::memory::Memory;
+use cfg_expr::memory::SmallAllocator;
 use cfg_expr::{Expression, Predicate};
 use std::alloc::{AllocError, Allocator};
 use std::borrow::CowStr;
@@ -52,7 +53,10 @@ fn command_of<'a>(words: &[&'a str]) -> Command<'a>
 }
 
 /// The answer to the words. Wrong use takes no memory.
-pub(super) fn answer_to<A: Memory>(alloc: A, words: &[&str]) -> Result<Answer<A>, AllocError>
+pub(super) fn answer_to<A: SmallAllocator>(
+    alloc: A,
+    words: &[&str],
+) -> Result<Answer<A>, AllocError>
     ensures right { IfOk result (λ a. Prints (request_of (texts words.now)) (output_of a)) }
     ensures wrong_use { request_of (texts words.now) ≡ Request.wrong_use → IsOk result }
 {
@@ -66,7 +70,7 @@ pub(super) fn answer_to<A: Memory>(alloc: A, words: &[&str]) -> Result<Answer<A>
 }
 
 /// The predicates of the text, or its fault.
-fn parse_answer<A: Memory>(alloc: A, text: &str) -> Result<Answer<A>, AllocError>
+fn parse_answer<A: SmallAllocator>(alloc: A, text: &str) -> Result<Answer<A>, AllocError>
     ensures { IfOk result (λ a. Prints (Request.parse text.now) (output_of a)) }
 {
     match Expression::parse(alloc, text) {
@@ -83,23 +87,24 @@ fn parse_answer<A: Memory>(alloc: A, text: &str) -> Result<Answer<A>, AllocError
 }
 
 /// One line for each predicate.
-fn lines<A: Memory>(alloc: A, predicates: Predicates<'_>) -> Result<String<A>, AllocError>
+fn lines<A: SmallAllocator>(alloc: A, predicates: Predicates<'_>) -> Result<String<A>, AllocError>
     ensures { IfOk result (λ written. string_bytes written ≡ lines predicates.entry) }
 {
     let mut written = String::new(alloc);
     for predicate in predicates {
-        push_line(&mut written, predicate)?;
+        push_line(&mut written, &predicate)?;
     }
     Ok(written)
 }
 
 /// Adds a predicate's line.
-fn push_line<A: Memory>(written: &mut String<A>, predicate: Predicate<'_>) -> Result<(), AllocError>
+fn push_line<A: Allocator>(
+    written: &mut String<A>,
+    predicate: &Predicate<'_>,
+) -> Result<(), AllocError>
     ensures { OnOk result (string_bytes written.new
-        ≡ string_bytes written.old ++ line (question_of predicate.entry)) }
+        ≡ string_bytes written.old ++ line (question_of predicate.now)) }
 {
-    match predicate {
-        Predicate::Flag(key) => written.push_str(key)?,
-    }
+    push_predicate(written, predicate)?;
     written.push('\n')
 }

@@ -1,6 +1,7 @@
 // Streams whose failed calls are counted, and the one loop that writes.
 
-ghost use Rattle.std.specs.Prelude.{◌≡◌, ℕ, ◌+◌, ◌<◌, List, Option, length, None, IfSome, IfNone, is_some, if◌then◌else◌};
+ghost use Rattle.std.specs.Prelude.{◌≡◌, ℕ, ◌+◌, ◌<◌, List, Option, length, None};
+ghost use Rattle.std.specs.Prelude.{IfSome, IfNone, is_some, if◌then◌else◌};
 ghost use Rattle.std.specs.Bool.{MatchBool};
 ghost use Rattle.std.specs.Io.{ReadsAtMost, WritesAtMost};
 ghost use Rattle.std.specs.Io.KnownBytes.{Appends, Keeps, ReadConsumes, WriteAppends};
@@ -14,7 +15,8 @@ mod tests;
 
 /// Where bytes are read from.
 ///
-/// Contracts see how many of its calls failed and, where it tells them, the bytes that are still to come.
+/// Contracts see how many of its calls failed and, where it tells them, the bytes that are still to
+/// come.
 pub trait Source {
     // How many calls failed so far.
     ghost failures: { Self → ℕ };
@@ -22,10 +24,11 @@ pub trait Source {
     // The bytes that are still to come, in order, or `None` where the source does not tell them.
     ghost unread: { Self → Option (List ℕ) };
 
-    /// Reads into the front of the buffer and answers how many bytes it read: as many as it has room for, or fewer.
-    /// It answers 0 only at the end, or where the buffer is empty.
+    /// Reads into the front of the buffer and answers how many bytes it read: as many as it has
+    /// room for, or fewer. It answers 0 only at the end, or where the buffer is empty.
     ///
-    /// An error counts as a failed call, and takes no bytes from the source; what the buffer then holds is not said.
+    /// An error counts as a failed call, and takes no bytes from the source; what the buffer then
+    /// holds is not said.
     fn read(&mut self, buffer: &mut [u8]) -> io::Result<usize>
         requires { failures self.old < u64.MAX }
         ensures count { failures self.new ≡ failures self.old + failures_of result }
@@ -35,7 +38,8 @@ pub trait Source {
 
 /// Where bytes are written to.
 ///
-/// Contracts see how many of its calls failed and, where it tells them, the bytes that were written.
+/// Contracts see how many of its calls failed and, where it tells them, the bytes that were
+/// written.
 pub trait Sink {
     // How many calls failed so far.
     ghost failures: { Self → ℕ };
@@ -45,14 +49,16 @@ pub trait Sink {
 
     /// Writes a beginning of the bytes and answers its length.
     ///
-    /// An error counts as a failed call, and so does an answer of 0 where there is a byte to write. Neither writes any.
+    /// An error counts as a failed call, and so does an answer of 0 where there is a byte to write.
+    /// Neither writes any.
     fn write(&mut self, bytes: &[u8]) -> io::Result<usize>
         requires { failures self.old < u64.MAX }
         ensures count { failures self.new ≡ failures self.old + write_failures result bytes.now }
         ensures bound { WritesAtMost result bytes.now }
         ensures bytes { WriteAppends (written self.old) (written self.new) result bytes.now };
 
-    /// Sends on what the sink holds back. An error counts as a failed call. What was written stays as it was.
+    /// Sends on what the sink holds back. An error counts as a failed call. What was written stays
+    /// as it was.
     fn flush(&mut self) -> io::Result<()>
         requires { failures self.old < u64.MAX }
         ensures count { failures self.new ≡ failures self.old + failures_of result }
@@ -61,8 +67,8 @@ pub trait Sink {
 
 /// A reader or a writer of the standard library with a count of its failed calls.
 ///
-/// Contracts see the stream and the count. As a source and as a sink it tells no bytes, since nobody can know those of a
-/// terminal or a pipe.
+/// Contracts see the stream and the count. As a source and as a sink it tells no bytes, since
+/// nobody can know those of a terminal or a pipe.
 #[derive(Drop)]
 pub struct Counted<S> {
     stream: S,
@@ -99,7 +105,8 @@ impl<S: io::Read> Source for Counted<S> {
         requires { self.old.failures < u64.MAX }
         ensures count { self.new.failures ≡ self.old.failures + failures_of result }
         ensures bound { ReadsAtMost result buffer.new }
-        ensures stream { ReadConsumes (S.remaining self.old.stream) (S.remaining self.new.stream) result buffer.new }
+        ensures stream { ReadConsumes (S.remaining self.old.stream)
+            (S.remaining self.new.stream) result buffer.new }
     {
         let answer = self.stream.read(buffer);
         if answer.is_err() {
@@ -119,7 +126,8 @@ impl<S: io::Write> Sink for Counted<S> {
         requires { self.old.failures < u64.MAX }
         ensures count { self.new.failures ≡ self.old.failures + write_failures result bytes.now }
         ensures bound { WritesAtMost result bytes.now }
-        ensures stream { WriteAppends (S.contents self.old.stream) (S.contents self.new.stream) result bytes.now }
+        ensures stream { WriteAppends (S.contents self.old.stream)
+            (S.contents self.new.stream) result bytes.now }
     {
         let answer = self.stream.write(bytes);
         let is_failed = match &answer {
@@ -145,11 +153,12 @@ impl<S: io::Write> Sink for Counted<S> {
     }
 }
 
-/// Writes all the bytes, in as many calls of `write` as the sink needs, and then flushes once. It answers whether all
-/// went out.
+/// Writes all the bytes, in as many calls of `write` as the sink needs, and then flushes once. It
+/// answers whether all went out.
 ///
-/// Where there is nothing to write no `write` is made, but the flush is. The first failed call ends it: no call is tried
-/// again, an interrupted one neither. What was written then is a beginning of the bytes.
+/// Where there is nothing to write no `write` is made, but the flush is. The first failed call ends
+/// it: no call is tried again, an interrupted one neither. What was written then is a beginning of
+/// the bytes.
 pub fn write_whole<W: Sink>(sink: &mut W, bytes: &[u8]) -> bool
     requires { W.failures sink.old < u64.MAX }
     ensures count { W.failures sink.new ≡ W.failures sink.old + (if result then 0 else 1) }
@@ -176,12 +185,14 @@ fn write_in_turns<W: Sink>(sink: &mut W, bytes: &[u8]) -> bool
     true
 }
 
-// One call of `write`. It answers what is left behind the bytes that went out, or `None` where the call failed.
+// One call of `write`. It answers what is left behind the bytes that went out, or `None` where the
+// call failed.
 fn write_once<'a, W: Sink>(sink: &mut W, bytes: &'a [u8]) -> Option<&'a [u8]>
     requires room { W.failures sink.old < u64.MAX }
     requires some { 0 < length bytes.now }
     ensures count { W.failures sink.new ≡ W.failures sink.old + (if is_some result then 0 else 1) }
-    ensures taken { IfSome result (λ left. Takes (W.written sink.old) (W.written sink.new) bytes.now left.now) }
+    ensures taken { IfSome result (λ left.
+        Takes (W.written sink.old) (W.written sink.new) bytes.now left.now) }
     ensures fewer { IfSome result (λ left. length left.now < length bytes.now) }
     ensures none { IfNone result (Keeps (W.written sink.old) (W.written sink.new)) }
 {

@@ -1,10 +1,12 @@
-//! What the equality of tokens means: the clause is the law, and the body is only there to be proved.
+//! What the equality of tokens means: the clause is the law, and the body is only there to be
+//! proved.
 ghost use Rattle.std.specs.Prelude.{◌≡◌, ◌↔◌, IsTrue};
 ghost use Rattle.cfgx_syntax.specs.Lexer.{token_of};
 
 use super::Token;
 
-/// Two tokens are equal where they are of one kind and a key has equal texts, wherever these lie.
+/// Two tokens are equal where they are of one kind, and two keys or two values where their texts
+/// are equal, wherever these lie.
 pub fn are_same_tokens(one: &Token<'_>, other: &Token<'_>) -> bool
     ensures { IsTrue result ↔ (token_of one.now ≡ token_of other.now) }
 {

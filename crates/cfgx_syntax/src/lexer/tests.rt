@@ -1,30 +1,82 @@
-//! The definitions, computed on texts whose answers are known from outside, and what no clause says.
-ghost use Rattle.std.specs.Prelude.{◌≡◌, [], ◌∷◌, codes};
-ghost use Rattle.cfgx_syntax.specs.Items.{AreItems, Ending};
-ghost use Rattle.cfgx_syntax.specs.Text.{strip};
+//! The definitions, computed on texts whose answers are known from outside, and what no clause
+//! says.
+ghost use Rattle.std.specs.Prelude.{◌≡◌, [], ◌∷◌, ◌++◌, Some, None, codes};
+ghost use Rattle.cfgx_syntax.specs.Error.{Cause};
+ghost use Rattle.cfgx_syntax.specs.Items.{AreItems, Ending, EndsAs, Stands, lexical, expects_token};
+ghost use Rattle.cfgx_syntax.specs.Stripping.{strip};
 ghost use Rattle.cfgx_syntax.specs.Token as spelled;
 
 use super::Token;
 use std::test::Fail;
 
-// `cfg( )` is stripped once, and only where the text ends with it. In `a 8 b` one token stands before the place where none can start.
-fn examples()
+// `cfg( )` is stripped once, and only where the text ends with it.
+fn stripped()
     ensures wrapped { strip (codes "cfg(key)") ≡ codes "key" }
     ensures empty { strip (codes "cfg()") ≡ [] }
     ensures once { strip (codes "cfg(cfg(a))") ≡ codes "cfg(a)" }
     ensures with_space { strip (codes "cfg(key) ") ≡ codes "cfg(key) " }
-    ensures items { AreItems (codes "a 8 b") (record { token = spelled.Token.key (codes "a"); start = 0; end = 1 } ∷ []) (Ending.no_token 2) }
+    ensures half { strip (codes "cfg(key") ≡ codes "cfg(key" }
+{}
+
+// Texts with their token lists. In `a 8 b` one token stands before the place where none can start.
+// U+00A0, of the bytes c2 a0, is white space.
+fn listed()
+    ensures stuck { AreItems (codes "a 8 b")
+        (record { token = spelled.Token.key (codes "a"); start = 0; end = 1 } ∷ [])
+        (Ending.no_token 2) }
+    ensures unclosed { AreItems (codes "a \"bc")
+        (record { token = spelled.Token.key (codes "a"); start = 0; end = 1 } ∷ [])
+        (Ending.unclosed_quotes 2) }
+    ensures empty_value { AreItems (codes "=\"\"")
+        (record { token = spelled.Token.equals; start = 0; end = 1 }
+        ∷ record { token = spelled.Token.value []; start = 1; end = 3 } ∷ [])
+        Ending.blank }
+    ensures wide_space { AreItems (194 ∷ 160 ∷ codes "any")
+        (record { token = spelled.Token.any; start = 2; end = 5 } ∷ [])
+        Ending.blank }
+{}
+
+// What is refused with which cause and where.
+fn refused()
+    ensures stuck { lexical (codes "a 8 b") (Ending.no_token 2)
+        ≡ Some (record { cause = expects_token; start = 2; end = 3 }) }
+    ensures unclosed { lexical (codes "a \"bc") (Ending.unclosed_quotes 2)
+        ≡ Some (record { cause = Cause.unclosed_quotes; start = 2; end = 5 }) }
+    ensures blank { lexical (codes "a") Ending.blank ≡ None }
+{}
+
+// What is no item and no ending: a word cut short, a word that is a function taken for a key, a
+// value that lacks its last quote, one that runs past a quote, and one without its quotes; a token
+// taken for the place where none can start, a value taken for an unclosed quote, and white space
+// with a token behind it.
+fn excluded()
+    ensures short { Stands (codes "ab") 0
+        (record { token = spelled.Token.key (codes "a"); start = 0; end = 1 }) → ⊥ }
+    ensures function { Stands (codes "all") 0
+        (record { token = spelled.Token.key (codes "all"); start = 0; end = 3 }) → ⊥ }
+    ensures unclosed { Stands (codes "\"a") 0
+        (record { token = spelled.Token.value (codes "a"); start = 0; end = 2 }) → ⊥ }
+    ensures past { Stands (codes "\"a\"b\"") 0
+        (record { token = spelled.Token.value (codes "a\"b"); start = 0; end = 5 }) → ⊥ }
+    ensures bare { Stands (codes "\"a\"") 0
+        (record { token = spelled.Token.value (codes "a"); start = 1; end = 2 }) → ⊥ }
+    ensures token { EndsAs (codes "=") 0 (Ending.no_token 0) → ⊥ }
+    ensures closed { EndsAs (codes "\"\"") 0 (Ending.unclosed_quotes 0) → ⊥ }
+    ensures not_blank { EndsAs (codes " a") 0 Ending.blank → ⊥ }
 {}
 
 #[test]
 fn definitions_compute() {
-    examples();
+    stripped();
+    listed();
+    refused();
+    excluded();
 }
 
 #[test]
 fn a_token_prints_what_debug_prints(rt: HostRuntime) -> Result<(), Fail> {
-    let tokens = [Token::Key("a"), Token::All, Token::Comma];
-    let texts = ["Key(\"a\")", "All", "Comma"];
+    let tokens = [Token::Key("a"), Token::Value(""), Token::All, Token::Comma];
+    let texts = ["Key(\"a\")", "Value(\"\")", "All", "Comma"];
     for (token, text) in tokens.iter().zip(texts.iter()) {
         assert_eq!(rt; format!(in rt.alloc(); "{token}")?.as_str(), *text);
     }

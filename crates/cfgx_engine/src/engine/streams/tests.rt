@@ -11,10 +11,10 @@ fn interrupted() -> io::Error {
     io::Error::from(ErrorKind::Interrupted)
 }
 
-// A sink that takes at most `each` bytes a call and `room` bytes in all, and whose write of the number `failing_write`,
-// counted from 1, fails. It counts its calls.
+// A sink that takes at most `each` bytes a call and `room` bytes in all, and whose write of the
+// number `failing_write`, counted from 1, fails. It counts its calls.
 #[derive(Drop)]
-struct Memory {
+struct Recorder {
     bytes: Vec<u8>,
     failures: u64,
     each: usize,
@@ -26,10 +26,10 @@ struct Memory {
     flushes: u64,
 }
 
-impl Sink for Memory {
-    ghost failures = { λ memory. memory.failures };
+impl Sink for Recorder {
+    ghost failures = { λ sink. sink.failures };
 
-    ghost written = { λ memory. Some memory.bytes.items };
+    ghost written = { λ sink. Some sink.bytes.items };
 
     fn write(&mut self, bytes: &[u8]) -> io::Result<usize> {
         self.writes = self.writes.saturating_add(1);
@@ -64,16 +64,16 @@ impl Sink for Memory {
     }
 }
 
-fn sink_in_memory(
+fn new_recorder(
     alloc: Global,
     each: usize,
     room: usize,
     failing_write: u64,
     is_flush_failing: bool,
-) -> Memory
+) -> Recorder
     ensures { result.failures ≡ 0 }
 {
-    Memory {
+    Recorder {
         bytes: Vec::new(alloc),
         failures: 0,
         each,
@@ -88,8 +88,9 @@ fn sink_in_memory(
 
 const ALL: usize = usize::MAX;
 
-// Each row: the most bytes a call, the room, the failing write, whether the flush fails, the output; and then the
-// answer, what was written, and how many calls of `write` and `flush` were made.
+// Each row: the most bytes a call, the room, the failing write, whether the flush fails, the
+// output; and then the answer, what was written, and how many calls of `write` and `flush` were
+// made.
 #[test]
 fn what_was_written_is_the_output_or_a_beginning(rt: HostRuntime) -> Result<(), Fail> {
     let rows = [
@@ -113,7 +114,7 @@ fn what_was_written_is_the_output_or_a_beginning(rt: HostRuntime) -> Result<(), 
         writes,
         flushes,
     ) in rows {
-        let mut sink = sink_in_memory(rt.alloc(), each, room, failing_write, is_flush_failing);
+        let mut sink = new_recorder(rt.alloc(), each, room, failing_write, is_flush_failing);
         assert_eq!(rt; write_whole(&mut sink, output.as_bytes()), answer);
         assert_eq!(rt; sink.bytes.as_slice(), written.as_bytes());
         assert_eq!(rt; sink.failures, if answer { 0 } else { 1 });
@@ -124,7 +125,8 @@ fn what_was_written_is_the_output_or_a_beginning(rt: HostRuntime) -> Result<(), 
     Ok(())
 }
 
-// A reader of at most `each` bytes a call, whose read of the number `failing_read`, counted from 1, fails.
+// A reader of at most `each` bytes a call, whose read of the number `failing_read`, counted from 1,
+// fails.
 #[derive(Drop)]
 struct Pieces<'a> {
     left: &'a [u8],
@@ -256,6 +258,71 @@ fn a_counted_writer_counts_errors(rt: HostRuntime) -> Result<(), Fail> {
     assert_eq!(rt; sink.failures, 3);
     assert!(rt; !write_whole(&mut sink, b""));
     assert_eq!(rt; sink.failures, 4);
+    Ok(())
+}
+
+// A stream whose first call of each kind fails and whose later ones do not. It counts its calls.
+#[derive(Drop)]
+struct FirstFails {
+    reads: u64,
+    writes: u64,
+    flushes: u64,
+}
+
+impl io::Read for FirstFails {
+    fn read(&mut self, _buffer: &mut [u8]) -> io::Result<usize> {
+        self.reads = self.reads.saturating_add(1);
+        if self.reads == 1 {
+            Err(interrupted())
+        } else {
+            Ok(0)
+        }
+    }
+}
+
+impl io::Write for FirstFails {
+    fn write(&mut self, bytes: &[u8]) -> io::Result<usize> {
+        self.writes = self.writes.saturating_add(1);
+        if self.writes == 1 {
+            Err(interrupted())
+        } else {
+            Ok(bytes.len())
+        }
+    }
+
+    fn flush(&mut self) -> io::Result<()> {
+        self.flushes = self.flushes.saturating_add(1);
+        if self.flushes == 1 {
+            Err(interrupted())
+        } else {
+            Ok(())
+        }
+    }
+}
+
+// A counted stream makes one call of the stream inside for each of its own, a failed one too.
+#[test]
+fn a_counted_stream_tries_no_call_again(rt: HostRuntime) -> Result<(), Fail> {
+    let mut counted = Counted::new(FirstFails {
+        reads: 0,
+        writes: 0,
+        flushes: 0,
+    });
+    let mut buffer = [0u8; 4];
+    assert!(rt; counted.read(&mut buffer).is_err());
+    assert!(rt; counted.write(b"ab").is_err());
+    assert!(rt; counted.flush().is_err());
+    assert_eq!(rt; counted.failures, 3);
+    assert_eq!(rt; counted.stream.reads, 1);
+    assert_eq!(rt; counted.stream.writes, 1);
+    assert_eq!(rt; counted.stream.flushes, 1);
+    assert_eq!(rt; counted.read(&mut buffer).ok(), Some(0));
+    assert_eq!(rt; counted.write(b"ab").ok(), Some(2));
+    assert!(rt; counted.flush().is_ok());
+    assert_eq!(rt; counted.failures, 3);
+    assert_eq!(rt; counted.stream.reads, 2);
+    assert_eq!(rt; counted.stream.writes, 2);
+    assert_eq!(rt; counted.stream.flushes, 2);
     Ok(())
 }
 

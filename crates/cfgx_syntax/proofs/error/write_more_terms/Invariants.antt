@@ -6,4 +6,5 @@ use Rattle.cfgx_syntax.proofs.error.write_more_terms.Given as goal
 -- the terms in front of the index have been written
 abbrev pub invariant-loop-term : goal.invariant-loop-term
 invariant-loop-term g l = IsPlainFormatter l.fn.f
-    → HasWritten g.W.Write.write_str_gives l.fn.f (more_terms_text (map (λ t. t.now) (take l.term-index l.terms))) l.f
+    → HasWritten g.W.Write.write_str_gives l.fn.f
+    (more_terms_text (map (λ t. t.now) (take l.term-index l.terms))) l.f

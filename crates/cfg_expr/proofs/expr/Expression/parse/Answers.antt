@@ -1,27 +1,49 @@
--- The parser starts with nothing, and the lexer with the stripped text.
-use Rattle.std.proofs.Common.{refl}
-use Rattle.cfgx_syntax.specs.Text.{strip}
-use Rattle.cfg_expr.proofs.Reading.{HasRead-start}
-use Rattle.cfg_expr.proofs.Sizes.{stack_fits, queue_fits, parser_fits, places_fit}
+-- The text is read from its start, and what is read is what the grammar answers.
+use Rattle.std.proofs.Common.{ap, ◌∙◌}
+use Rattle.std.proofs.lemmas.Result.{err_from_is_err_and}
+use Rattle.cfgx_syntax.specs.Stripping.{strip}
+use Rattle.cfg_expr.proofs.Parsed.{Begins-start, Answers-fails, Answers-memory, Keeps-reads}
+use Rattle.cfg_expr.proofs.Parsed.{HasOneTree-reads}
 use Rattle.cfg_expr.proofs.expr.Expression.parse.Goals as goal
 
-pub new-requires : goal.new-requires
-new-requires g c = stack_fits g.row.A g.A.Allocator g.met.A.Memory.small
+pub returns-in_err-read_all : goal.returns-in_err-read_all
+returns-in_err-read_all g c =
+    let p = err_from_is_err_and c.from_residual.result c.from_residual.ensures.1 in
+    let text = strip c.args.original.now in
+    let begins = Begins-start {A = g.row.A.Denot} text c.new-lexer.result c.new-parser.result
+    c.new-lexer.ensures.one c.new-lexer.ensures.starts c.new-parser.ensures.state
+    (c.new-parser.ensures.text ∙ c.original-text.ensures) in
+    rw (p.1, p.2) (Answers-fails {A = g.row.A.Denot} text c.new-lexer.result
+    c.new-parser.result c.read_all.new.self c.in_err-read_all.field-0.0 begins
+    c.in_err-read_all.ensures)
 
-pub read_all-requires : goal.read_all-requires
-read_all-requires g c = (
-  parser_fits g.row.A g.A.Allocator g.met.A.Memory.small,
-  (
-    rw (c.new-3.ensures, ← c.strip-text.ensures) c.strip-text.utf8,
-    HasRead-start {A = g.row.A.Denot} (strip c.args.original.now) c.new-3.result _ c.new-3.ensures c.strip-text.ensures c.new.ensures.items c.new-2.ensures.items refl refl refl,
-  ),
-)
+pub returns-in_err-original : goal.returns-in_err-original
+returns-in_err-original g c =
+    let p = err_from_is_err_and c.from_residual-in_err-original.result
+    c.from_residual-in_err-original.ensures.1 in
+    rw p.1 (Answers-memory {A = g.row.A.Denot} (strip c.args.original.now) p.0
+    c.new-lexer.ensures.one _ p.2)
 
-pub array_drop-parser-requires : goal.array_drop-parser-requires
-array_drop-parser-requires g c = places_fit g.row.A g.A.Allocator g.met.A.Memory.small
+pub invariant_of-result : goal.invariant_of-result
+invariant_of-result g c =
+    let text = strip c.args.original.now in
+    let begins = Begins-start {A = g.row.A.Denot} text c.new-lexer.result c.new-parser.result
+    c.new-lexer.ensures.one c.new-lexer.ensures.starts c.new-parser.ensures.state
+    (c.new-parser.ensures.text ∙ c.original-text.ensures) in
+    let kept = Keeps-reads {A = g.row.A.Denot} text c.new-lexer.result c.new-parser.result
+    c.read_all.new.self begins c.in_ok-read_all.ensures in
+    let same = c.in_ok-original.ensures.ok ∙ c.original-text.ensures
+    ∙ ap (λ l. l.text) c.new-lexer.ensures.starts in
+    rw (same, c.into_parts-expr.ensures.nodes, c.into_parts-expr.ensures.asked) kept
 
-pub array_drop-parser-requires-in_err-original : goal.array_drop-parser-requires-in_err-original
-array_drop-parser-requires-in_err-original g c = places_fit g.row.A g.A.Allocator g.met.A.Memory.small
-
-pub into_nodes-requires : goal.into_nodes-requires
-into_nodes-requires g c = (parser_fits g.row.A g.A.Allocator g.met.A.Memory.small, queue_fits g.row.A g.A.Allocator g.met.A.Memory.small)
+pub returns : goal.returns
+returns g c =
+    let text = strip c.args.original.now in
+    let begins = Begins-start {A = g.row.A.Denot} text c.new-lexer.result c.new-parser.result
+    c.new-lexer.ensures.one c.new-lexer.ensures.starts c.new-parser.ensures.state
+    (c.new-parser.ensures.text ∙ c.original-text.ensures) in
+    let found = HasOneTree-reads {A = g.row.A.Denot} text c.new-lexer.result c.new-parser.result
+    c.read_all.new.self begins c.in_ok-read_all.ensures in
+    let same = c.in_ok-original.ensures.ok ∙ c.original-text.ensures
+    ∙ ap (λ l. l.text) c.new-lexer.ensures.starts in
+    (same, found.0, found.1)

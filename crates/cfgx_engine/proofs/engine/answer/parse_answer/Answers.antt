@@ -1,8 +1,21 @@
-use Rattle.std.proofs.Common.{ap, inr}
+use Rattle.std.proofs.Common.{ap, inl, inr, subst, Err}
+use Rattle.cfgx_syntax.specs.Stripping.{strip}
 use Rattle.cfgx_syntax.specs.Error.{fault_of}
-use Rattle.cfgx_engine.proofs.OutputLemmas.{output}
+use Rattle.cfg_expr.specs.Answer.{Answers}
+use Rattle.cfgx_engine.proofs.OutputLemmas.{output, lists_one}
 use Rattle.cfgx_engine.proofs.engine.answer.parse_answer.Goals as goal
 
--- the fault that parsing answered is the one that was printed
+-- the tree whose predicates are written is the one tree
+pub returns-in_ok-lines-in-Ok : goal.returns-in_ok-lines-in-Ok
+returns-in_ok-lines-in-Ok g c =
+    let parsed = c.in-Ok.ensures in
+    inl (lists_one _ parsed.2 parsed.0 c.predicates.ensures c.in_ok-lines-in-Ok.ensures)
+
+-- the fault that parsing answered is the one that is written
 pub returns-in_ok-format-in-Err-Parse : goal.returns-in_ok-format-in-Err-Parse
-returns-in_ok-format-in-Err-Parse g c = inr (fault_of c.in-Err-Parse.error, ap (λ bytes. output bytes 1) c.in_ok-format-in-Err-Parse.ensures.ok)
+returns-in_ok-format-in-Err-Parse g c =
+    let parsed = subst (λ failure. Answers (strip c.args.text.now) (Err failure))
+    c.in-Err-Parse.field-0-is c.in-Err-Parse.ensures in
+    let written = c.in_ok-format-in-Err-Parse.ensures.ok in
+    let fault = fault_of c.in-Err-Parse.error in
+    inr (parsed.1, fault, parsed.0, ap (λ bytes. output bytes 1) written)

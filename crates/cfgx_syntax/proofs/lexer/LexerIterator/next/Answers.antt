@@ -1,22 +1,48 @@
 -- What follows the white space stands in the whole text.
 use Rattle.std.proofs.Common.{◌-◌, length, refl, arith, rules}
-use Rattle.cfgx_syntax.proofs.Scanning.{IsBehind, Stands-found, IsStuck-found, state_at}
+use Rattle.cfgx_syntax.specs.Error.{cause_of}
+use Rattle.cfgx_syntax.specs.Lexer.{token_of}
+use Rattle.cfgx_syntax.proofs.Scanning.{IsBehind, Stands-found, CanBeCut-found, GivesFault-found}
+use Rattle.cfgx_syntax.proofs.Scanning.{state_at}
 use Rattle.cfgx_syntax.proofs.lexer.LexerIterator.next.Goals as goal
+
+pub returns-in-Ok-clause-steps : goal.returns-in-Ok-clause-steps
+returns-in-Ok-clause-steps g c =
+    let text = c.self.inside.original.now in
+    let inner = c.self.inside.inner.now in
+    let rest = c.trim_start-rest.result.now in
+    let place = length text - length inner in
+    let trimmed = c.trim_start-rest.ensures.value in
+    let behind : IsBehind text inner rest place = record {
+      placed = refl;
+      follows = c.self.invariant.0;
+      inside = c.self.invariant.1;
+      trimmed = trimmed;
+    } in
+    let token = token_of c.in-Ok.token in
+    let begins = c.in-Ok.ensures in
+    let left = c.range_from-self-inside.ensures.len in
+    rw (← c.self.view_is) (record {
+      stands = Stands-found text inner rest place behind token c.in-Ok.len begins;
+      cut = CanBeCut-found text inner rest place behind token c.in-Ok.len begins;
+      goes_on = state_at text _ _ (omega (arith, left, begins.inside, behind.inside, trimmed.4));
+    })
 
 pub returns-in-Some-clause-steps : goal.returns-in-Some-clause-steps
 returns-in-Some-clause-steps g c =
-    let behind : IsBehind c.self.inside.original.now c.self.inside.inner.now c.trim_start-rest.result.now (length c.self.inside.original.now - length c.self.inside.inner.now) =
-    record { placed = refl; follows = c.self.invariant.0; inside = c.self.invariant.1; trimmed = c.trim_start-rest.ensures.value } in
+    let text = c.self.inside.original.now in
+    let inner = c.self.inside.inner.now in
+    let rest = c.trim_start-rest.result.now in
+    let place = length text - length inner in
+    let trimmed = c.trim_start-rest.ensures.value in
+    let behind : IsBehind text inner rest place = record {
+      placed = refl;
+      follows = c.self.invariant.0;
+      inside = c.self.invariant.1;
+      trimmed = trimmed;
+    } in
     rw (← c.self.view_is) (
-      Stands-found _ _ _ _ behind c.in-Some.token c.in-Some.len c.in-Some.ensures,
-      state_at c.self.inside.original.now _ _ (omega (arith, c.range_from-self-inside.ensures.len, c.in-Some.ensures.inside, behind.inside, c.trim_start-rest.ensures.value.4)),
-    )
-
-pub returns-in-Some-take-clause-steps : goal.returns-in-Some-take-clause-steps
-returns-in-Some-take-clause-steps g c =
-    let behind : IsBehind c.self.inside.original.now c.self.inside.inner.now c.trim_start-rest.result.now (length c.self.inside.original.now - length c.self.inside.inner.now) =
-    record { placed = refl; follows = c.self.invariant.0; inside = c.self.invariant.1; trimmed = c.trim_start-rest.ensures.value } in
-    rw (← c.self.view_is) (
-      (_, IsStuck-found _ _ _ _ behind (search rules) c.in-None.ensures, c.stuck.ensures),
-      state_at c.self.inside.original.now _ _ (omega arith),
+    GivesFault-found text inner rest place behind c.of.result _ (cause_of c.in-Err.reason)
+    c.in-Err.len (search rules) c.in-Err.ensures c.of.ensures
+    (state_at text _ _ (omega arith))
     )

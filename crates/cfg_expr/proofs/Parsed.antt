@@ -1,0 +1,84 @@
+-- What reading the whole text gives, `parse` answers.
+use Rattle.std.proofs.Common.{◌≡◌, ℕ, List, Result, Ok, Err, sym, ap, ◌∙◌, subst}
+use Rattle.cfgx_syntax.specs.Items.{ItemsFrom, HasOneTokenList}
+use Rattle.cfgx_syntax.specs.LexerState.{LexerState, starting}
+use Rattle.cfgx_syntax.specs.Stripping.{strip}
+use Rattle.cfgx_syntax.specs.Error.{Fault}
+use Rattle.cfgx_syntax.specs.declared.error.Failure.{Failure}
+use Rattle.cfgx_syntax.specs.declared.error.Failure.TheVariants as failure
+use Rattle.cfg_expr.specs.Answer.{Answers, HasOneTree}
+use Rattle.cfg_expr.specs.nodes.Keeps.{Keeps}
+use Rattle.cfg_expr.specs.parsing.State.{State, initial}
+use Rattle.cfg_expr.specs.parsing.Parser.{state_of, FailsAs, Gives, answer_from, ReadsAll}
+use Rattle.cfg_expr.specs.declared.expr.parser.Parser.{Parser}
+use Rattle.cfg_expr.proofs.Answering.{answer, tree_of, HasOneTree-tree, HasNoTree-refused}
+use Rattle.cfg_expr.proofs.Answering.{tree_or_none, Keeps-accepted}
+use Rattle.cfg_expr.proofs.Stripped.{strip-tree}
+
+-- the start of a text, and of the parser
+pub record Begins {A : Type 0} (text : List ℕ) (lexer : LexerState)
+    (parser : Parser A) : Type 0 where
+  pub one : HasOneTokenList text
+  pub lexer_is : lexer ≡ starting text
+  pub state_is : state_of {A = A} parser ≡ initial
+  pub text_is : parser.original.now ≡ text
+
+pub Begins-start : {A : Type 0} (text : List ℕ) (lexer : LexerState) (parser : Parser A)
+    → HasOneTokenList text → lexer ≡ starting text → state_of {A = A} parser ≡ initial
+    → parser.original.now ≡ lexer.text → Begins {A = A} text lexer parser
+Begins-start text lexer parser one is state original = record {
+  one = one;
+  lexer_is = is;
+  state_is = state;
+  text_is = original ∙ ap (λ (l : LexerState). l.text) is;
+}
+
+given : {A : Type 0} (text : List ℕ) (lexer : LexerState) (old new : Parser A)
+    (result : Result (Unit {0}) (Failure A)) → (b : Begins {A = A} text lexer old)
+    → ReadsAll {A = A} lexer old new result → Gives {A = A} result old new (answer text b.one)
+given {A} text lexer old new result b reads =
+    let come : ItemsFrom lexer.text lexer.place b.one.items b.one.ending =
+    subst (λ (l : LexerState). ItemsFrom l.text l.place b.one.items b.one.ending)
+    (sym b.lexer_is) b.one.are in
+    let same : answer_from (state_of {A = A} old) lexer.text b.one.items b.one.ending ≡ answer text
+    b.one =
+    ap (λ s. answer_from s lexer.text b.one.items b.one.ending) b.state_is
+    ∙ ap (λ (l : LexerState). answer_from initial l.text b.one.items b.one.ending) b.lexer_is in
+    subst (Gives {A = A} result old new) same (reads b.one.items b.one.ending come)
+
+fails_as : {A : Type 0} (text : List ℕ) (one : HasOneTokenList text)
+    (f : Failure A) → FailsAs text f (answer text one) → Answers text (Err f)
+fails_as text one (failure.Parse error) fails =
+    (ap (λ (g : Fault). g.original) fails.2, HasNoTree-refused text one fails.0 fails.1)
+fails_as text one (failure.Memory error) fails = tree_or_none text one
+
+pub Answers-fails : {A : Type 0} (text : List ℕ) (lexer : LexerState) (old new : Parser A)
+    (f : Failure A) → Begins {A = A} text lexer old
+    → ReadsAll {A = A} lexer old new (Err f) → Answers text (Err f)
+Answers-fails {A} text lexer old new f b reads =
+    let fails = given {A = A} text lexer old new (Err f) b reads in
+    fails_as text b.one f (subst (λ t. FailsAs t f (answer text b.one)) b.text_is fails)
+
+-- where memory runs out
+pub Answers-memory : {A : Type 0} (text : List ℕ) (f : Failure A) → HasOneTokenList text
+    → (error : _) → f ≡ failure.Memory error → Answers text (Err f)
+Answers-memory {A} text f one error is = subst (λ (g : Failure A). Answers {A = A} text (Err g))
+    (sym is) (tree_or_none text one)
+
+-- what is accepted
+pub Keeps-reads : {A : Type 0} (text : List ℕ) (lexer : LexerState)
+    (old new : Parser A) → Begins {A = A} text lexer old
+    → ReadsAll {A = A} lexer old new (Ok tt) → Keeps text new.writer.nodes.items
+    new.writer.asked.items
+Keeps-reads {A} text lexer old new b reads =
+    let gives = given {A = A} text lexer old new (Ok tt) b reads in
+    subst (λ (s : State). Keeps text s.written.nodes s.written.asked) gives.2.is
+    (Keeps-accepted text b.one gives.0 gives.1)
+
+pub HasOneTree-reads : {A : Type 0} (text : List ℕ) (lexer : LexerState)
+    (old new : Parser A) → Begins {A = A} text lexer old
+    → ReadsAll {A = A} lexer old new (Ok tt) → (strip text ≡ text) × HasOneTree text
+HasOneTree-reads {A} text lexer old new b reads =
+    let gives = given {A = A} text lexer old new (Ok tt) b reads in
+    let found = tree_of text b.one gives.0 gives.1 in
+    (strip-tree text found.0 found.1, HasOneTree-tree text b.one found.0 found.1)

@@ -1,0 +1,88 @@
+-- Nothing is stripped from a text that has a tree: behind the word `cfg` no `(` may stand.
+use Rattle.std.proofs.Common.{◌≡◌, ◌≢◌, ◌⊎◌, inl, inr, ⊎_elim, ℕ, ◌+◌, Bool, true, false, List, ◌∷◌}
+use Rattle.std.proofs.Common.{◌++◌, length, get_or, nat_eq, Ok, sym, refl, ap, ◌∙◌, arith}
+use Rattle.std.proofs.Common.{length-append}
+use Rattle.std.specs.Prelude.{codes}
+use Rattle.std.specs.List.{starts_with}
+use Rattle.std.proofs.lemmas.Slice.Eq.{starts_is}
+use Rattle.std.proofs.lemmas.Bool.{eqb-false}
+use Rattle.std.proofs.lemmas.Bool.Decides.{Decides-eqb}
+use Rattle.std.proofs.lemmas.Str.{NoCharPasses-nil}
+use Rattle.cfgx_syntax.specs.Stripping.{strip}
+use Rattle.cfgx_syntax.specs.Token.{Token, IsKey}
+use Rattle.cfgx_syntax.specs.Items.{Item, Ending, Stands}
+use Rattle.cfg_expr.specs.Tree.{Tree}
+use Rattle.cfg_expr.specs.Grammar.{HasTree}
+use Rattle.cfg_expr.specs.parsing.State.{initial}
+use Rattle.cfg_expr.specs.parsing.Step.{run}
+use Rattle.cfg_expr.proofs.Reading.{Follows-stands}
+use Rattle.cfg_expr.proofs.spelled.Whole.{Finds-tree}
+
+-- `cfg` and `(` are the first two tokens of a text that begins with them
+abbrev word : Item
+word = record { token = Token.key (codes "cfg"); start = 0; end = 3 }
+
+abbrev opening : Item
+opening = record { token = Token.open_paren; start = 3; end = 4 }
+
+-- words that begin with other bytes are not equal
+other : {xs ys : List ℕ} → nat_eq (get_or xs 0 0) (get_or ys 0 0) ≡ false → xs ≢ ys
+other {xs} {ys} apart e =
+    eqb-false (get_or xs 0 0) (get_or ys 0 0) apart (ap (λ l. get_or l 0 0) e)
+
+is_key : IsKey (codes "cfg")
+is_key = record {
+  spelled = (refl, refl);
+  not_all = other refl;
+  not_any = other refl;
+  not_not =
+      other refl;
+}
+
+module _ (text rest : List ℕ) (is : text ≡ codes "cfg(" ++ rest) where
+  long : length text ≡ 4 + length rest
+  long = ap length is ∙ omega (arith, length-append (codes "cfg(") rest)
+
+  Stands-word : Stands text 0 word
+  Stands-word = record {
+    behind = omega arith;
+    gap = NoCharPasses-nil _;
+    spelled = rw is (refl, is_key);
+    ordered = omega arith;
+    inside = omega (arith, long);
+    whole = rw is refl;
+  }
+
+  Stands-opening : Stands text 3 opening
+  Stands-opening = record {
+    behind = omega arith;
+    gap = NoCharPasses-nil _;
+    spelled = rw is refl;
+    ordered = omega arith;
+    inside = omega (arith, long);
+    whole = refl;
+  }
+
+  -- such a text has no tree
+  no_tree : (tree : Tree) → HasTree text tree → ⊥
+  no_tree tree has =
+      let first = Follows-stands text 0 word has.items Ending.blank Stands-word has.are_items in
+      let second = Follows-stands text 3 opening first.rest Ending.blank Stands-opening first.come
+      in
+      let items : has.items ≡ word ∷ opening ∷ second.rest = first.items_are
+      ∙ ap (λ l. word ∷ l) second.items_are in
+      let found = Finds-tree text 0 has.items tree has.spelled in
+      let runs : run initial (word ∷ opening ∷ second.rest) ≡ Ok found.read = ap (run initial)
+      (sym items) ∙ found.runs in
+      absurd (cc)
+
+strip_by : (text : List ℕ) (b : Bool) → starts_with nat_eq text (codes "cfg(") ≡ b
+    → (strip text ≡ text) ⊎ ((rest : List ℕ) × (text ≡ codes "cfg(" ++ rest))
+unfolding strip
+strip_by text true is = inr (_, (starts_is Decides-eqb text (codes "cfg(") _ refl).0 is)
+strip_by text false is = inl (rw is refl)
+
+pub strip-tree : (text : List ℕ) (tree : Tree) → HasTree text tree → strip text ≡ text
+strip-tree text tree has =
+    ⊎_elim (λ same. same) (λ wrapped. absurd (no_tree text wrapped.0 wrapped.1 tree has))
+    (strip_by text _ refl)

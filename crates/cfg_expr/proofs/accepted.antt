@@ -1,0 +1,4 @@
+-- What the steps accept is spelled by a tree.
+pub mod Lists
+pub mod Reads
+pub mod Steps

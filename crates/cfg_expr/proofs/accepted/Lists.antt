@@ -1,0 +1,164 @@
+-- Lists of items with commas between them, as the parser reads them: from the left, one member
+-- after another.
+use Rattle.std.proofs.Common.{◌≡◌, ℕ, zero, suc, ◌<◌, List, [], ◌∷◌, ◌++◌, length, sym, refl, ap}
+use Rattle.std.proofs.Common.{◌∙◌, subst, arith, append_assoc}
+use Rattle.std.proofs.lemmas.List.{append-nil}
+use Rattle.cfgx_syntax.specs.Token.{Token}
+use Rattle.cfg_expr.specs.Tree.{Tree, Trees}
+use Rattle.cfg_expr.specs.Grammar.{commas, IsItem, IsList, IsTree}
+
+-- a list of trees as the members of a function
+abbrev pub trees_of : List Tree → Trees
+trees_of [] = Trees.none
+trees_of (tree ∷ trees) = Trees.more tree (trees_of trees)
+
+-- the tokens spell these trees, each with at least one comma behind it
+abbrev pub Ready : List Token → List Tree → Type 0
+Ready tokens [] = tokens ≡ []
+Ready tokens (tree ∷ trees) =
+    (item : List Token) × (n : ℕ) × (rest : List Token)
+    × (tokens ≡ item ++ (commas (suc n) ++ rest)) × IsItem item tree × Ready rest trees
+
+-- the tokens spell these trees, with no comma behind the last
+pub record Behind (tokens : List Token) (trees : List Tree) : Type 0 where
+  pub front : List Token
+  pub others : List Tree
+  pub item : List Token
+  pub tree : Tree
+  pub tokens_are : tokens ≡ front ++ item
+  pub trees_are : trees ≡ others ++ tree ∷ []
+  pub ready : Ready front others
+  pub spelled : IsItem item tree
+
+-- the tokens spell these trees as a list
+pub record Full (tokens : List Token) (trees : List Tree) : Type 0 where
+  pub list : IsList tokens (trees_of trees)
+  pub single : (tree : Tree) → trees ≡ tree ∷ [] → IsTree tokens tree
+
+pub Ready-list : (tokens : List Token) (trees : List Tree) → Ready tokens trees
+    → IsList tokens (trees_of trees)
+Ready-list tokens [] ready = ready
+Ready-list tokens (tree ∷ []) (item, n, rest, is, spelled, ready) =
+    (item, suc n, rest, is, tt, spelled, ready)
+Ready-list tokens (tree ∷ other ∷ others) (item, n, rest, is, spelled, ready) =
+    (item, suc n, rest, is, omega arith, spelled, Ready-list rest (other ∷ others) ready)
+
+-- an item behind a list that is ready for it
+pub Ready-item : (front : List Token) (trees : List Tree) (item : List Token)
+    (tree : Tree) → Ready front trees → IsItem item tree
+    → IsList (front ++ item) (trees_of (trees ++ tree ∷ []))
+Ready-item front [] item tree ready spelled = (
+  item,
+  0,
+  [],
+  rw ready (sym (append-nil item)),
+  tt,
+  spelled,
+  refl,
+)
+Ready-item front (first ∷ []) item tree (head, n, rest, is, said, ready) spelled = (
+  head,
+  suc n,
+  rest ++ item,
+  rw is (simp append_assoc),
+  omega arith,
+  said,
+  Ready-item rest [] item tree ready spelled,
+)
+Ready-item front (first ∷ other ∷ others) item tree (head, n, rest, is, said, ready) spelled = (
+  head,
+  suc n,
+  rest ++ item,
+  rw is (simp append_assoc),
+  omega arith,
+  said,
+  Ready-item rest (other ∷ others) item tree ready spelled,
+)
+
+-- an item and a comma behind a list that is ready for it
+pub Ready-push : (front : List Token) (trees : List Tree) (item : List Token)
+    (tree : Tree) → Ready front trees → IsItem item tree
+    → Ready ((front ++ item) ++ Token.comma ∷ []) (trees ++ tree ∷ [])
+Ready-push front [] item tree ready spelled = (item, 0, [], rw ready refl, spelled, refl)
+Ready-push front (first ∷ others) item tree (head, n, rest, is, said, ready) spelled = (
+  head,
+  n,
+  (rest ++ item) ++ Token.comma ∷ [],
+  rw is (simp append_assoc),
+  said,
+  Ready-push rest others item tree ready spelled,
+)
+
+-- one more comma
+commas_more : (n : ℕ) → commas n ++ Token.comma ∷ [] ≡ commas (suc n)
+commas_more zero = refl
+commas_more (suc n) = ap (λ l. Token.comma ∷ l) (commas_more n)
+
+pub Ready-comma : (tokens : List Token) (trees : List Tree) → Ready tokens trees → 0 < length trees
+    → Ready (tokens ++ Token.comma ∷ []) trees
+Ready-comma tokens [] ready some = absurd (omega arith)
+Ready-comma tokens (tree ∷ []) (item, n, rest, is, spelled, ready) some =
+    let longer : (commas (suc n) ++ rest) ++ Token.comma ∷ [] ≡ commas (suc (suc n)) ++ [] =
+    ap (λ l. (commas (suc n) ++ l) ++ Token.comma ∷ []) ready ∙ ap (λ l. l ++ Token.comma ∷ [])
+    (append-nil (commas (suc n)))
+    ∙ commas_more (suc n) ∙ sym (append-nil (commas (suc (suc n)))) in (
+      item,
+      suc n,
+      [],
+      ap (λ l. l ++ Token.comma ∷ []) is
+          ∙ append_assoc item (commas (suc n) ++ rest)
+          (Token.comma ∷ []) ∙ ap (λ l. item ++ l) longer,
+      spelled,
+      refl,
+    )
+Ready-comma tokens (tree ∷ other ∷ others) (item, n, rest, is, spelled, ready) some = (
+  item,
+  n,
+  rest ++ Token.comma ∷ [],
+  rw is (simp append_assoc),
+  spelled,
+  Ready-comma rest (other ∷ others) ready (omega arith),
+)
+
+-- what the end of a list, and of the text, needs
+Ready-single : (tokens : List Token) (trees : List Tree) → Ready tokens trees → (tree : Tree)
+    → trees ≡ tree ∷ [] → IsTree tokens tree
+Ready-single tokens trees ready tree e =
+    let one : Ready tokens (tree ∷ []) = subst (Ready tokens) e ready in (
+      one.0,
+      suc one.1,
+      one.3 ∙ ap (λ l. one.0 ++ (commas (suc one.1) ++ l)) one.5
+          ∙ ap (λ l. one.0 ++ l) (append-nil (commas (suc one.1))),
+      one.4,
+    )
+
+pub Full-ready : (tokens : List Token) (trees : List Tree) → Ready tokens trees → Full tokens trees
+Full-ready tokens trees ready = record {
+  list = Ready-list tokens trees ready;
+  single =
+      Ready-single tokens trees ready;
+}
+
+Behind-single : (front item : List Token) (others : List Tree)
+    (tree : Tree) → Ready front others → IsItem item tree
+    → (one : Tree) → others ++ tree ∷ [] ≡ one ∷ [] → IsTree (front ++ item) one
+Behind-single front item [] tree ready spelled one e =
+    let same : tree ≡ one = cc in
+    (item, 0, ap (λ l. l ++ item) ready ∙ sym (append-nil item), subst (IsItem item) same spelled)
+Behind-single front item (first ∷ []) tree ready spelled one e = absurd (omega (arith, ap length e))
+Behind-single front item (first ∷ second ∷ others) tree ready spelled one e =
+    absurd (omega (arith, ap length e))
+
+pub Full-behind : (tokens : List Token) (trees : List Tree) → Behind tokens trees
+    → Full tokens trees
+Full-behind tokens trees b = record {
+  list = rw (b.tokens_are, b.trees_are) (Ready-item b.front b.others b.item b.tree b.ready
+      b.spelled);
+  single = λ one e. subst (λ t. IsTree t one) (sym b.tokens_are)
+      (Behind-single b.front b.item b.others b.tree b.ready b.spelled one (sym b.trees_are ∙ e));
+}
+
+pub Ready-behind : (tokens : List Token) (trees : List Tree) → Behind tokens trees
+    → Ready (tokens ++ Token.comma ∷ []) trees
+Ready-behind tokens trees b = rw (b.tokens_are, b.trees_are)
+    (Ready-push b.front b.others b.item b.tree b.ready b.spelled)

@@ -1,0 +1,17 @@
+-- Each row is computed, with its numbers read.
+use Rattle.std.proofs.Common.{refl}
+use Rattle.cfgx_targets.specs.HasAtomic.{atomic_named}
+use Rattle.cfgx_targets.specs.Number.{read_below}
+use Rattle.cfg_expr.specs.Classification.{class}
+use Rattle.cfg_expr.proofs.expr.tests.numbers.Goals as goal
+
+pub returns : goal.returns
+unfolding class atomic_named read_below
+returns c = record {
+  wide = refl;
+  plus = refl;
+  no_digits = refl;
+  wide_atomic = refl;
+  atomic = refl;
+  pointer = refl;
+}

@@ -1,0 +1,16 @@
+-- Each row is computed.
+use Rattle.std.proofs.Common.{refl}
+use Rattle.cfgx_targets.specs.Endian.{endian_named}
+use Rattle.cfg_expr.specs.Classification.{class}
+use Rattle.cfg_expr.proofs.expr.tests.target_keys.Goals as goal
+
+pub returns : goal.returns
+unfolding class endian_named
+returns c = record {
+  no_abi = refl;
+  abi = refl;
+  empty_feature = refl;
+  unknown = refl;
+  big = refl;
+  little = refl;
+}

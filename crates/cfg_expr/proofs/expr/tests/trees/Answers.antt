@@ -1,0 +1,105 @@
+-- The items of each text; the parser refuses what has no tree.
+use Rattle.std.proofs.Common.{◌≡◌, ℕ, ◌≤◌, List, [], ◌∷◌, Ok, Err, refl, sym, ap, ◌∙◌, subst}
+use Rattle.std.proofs.Common.{arith, drop, length}
+use Rattle.std.specs.Prelude.{codes, None, slice_range}
+use Rattle.std.proofs.lemmas.Str.{NoCharPasses-nil}
+use Rattle.cfgx_syntax.specs.Error.{Refusal}
+use Rattle.cfgx_syntax.specs.Items.{Item, Ending, IsBlank, Stands, AreItems}
+use Rattle.cfgx_syntax.specs.Token.{Token, IsKey, Spells, IsWhole}
+use Rattle.cfgx_syntax.proofs.TokenList.{ItemsFrom-same}
+use Rattle.cfg_expr.specs.Answer.{HasNoTree}
+use Rattle.cfg_expr.specs.Classification.{class}
+use Rattle.cfg_expr.specs.Grammar.{IsItem, IsList, IsTree}
+use Rattle.cfg_expr.specs.Tree.{Trees}
+use Rattle.cfg_expr.specs.Worked.{flag, one, item, key_a, key_b, listed, listed_tokens, single}
+use Rattle.cfg_expr.specs.Worked.{single_items, comma_items, not_items}
+use Rattle.cfg_expr.specs.parsing.State.{initial}
+use Rattle.cfg_expr.specs.parsing.Step.{run}
+use Rattle.cfg_expr.proofs.spelled.Whole.{Finds-tree}
+use Rattle.cfg_expr.proofs.expr.tests.trees.Goals as goal
+
+-- a text whose items the parser refuses has no tree
+none_read : (text : List ℕ) (items : List Item) (refusal : Refusal)
+    → AreItems text items Ending.blank → run initial items ≡ Err refusal → HasNoTree text
+none_read text items refusal are refuses tree has =
+    let same = ItemsFrom-same text 0 items has.items _ _ are has.are_items in
+    let found = Finds-tree text 0 has.items tree has.spelled in
+    let runs : run initial items ≡ Ok found.read = ap (run initial) (sym same.0) ∙ found.runs in
+    absurd (cc)
+
+is_a : IsKey (codes "a")
+is_a = record {
+  spelled = (refl, refl);
+  not_all = λ e. cc;
+  not_any = λ e. cc;
+  not_not = λ e. cc;
+}
+
+-- an item with no white space in front of it
+here : (text : List ℕ) (i : Item) → slice_range text i.start i.start ≡ []
+    → Spells (slice_range text i.start i.end) i.token → i.start ≤ i.end → i.end ≤ length text
+    → IsWhole i.token (drop i.end text) → Stands text i.start i
+here text i none spelled ordered inside whole = record {
+  behind = omega arith;
+  gap = subst IsBlank (sym none) (NoCharPasses-nil _);
+  spelled = spelled;
+  ordered = ordered;
+  inside = inside;
+  whole = whole;
+}
+
+single_are : AreItems (codes "all(a)") single_items Ending.blank
+single_are =
+    let at = here (codes "all(a)") in
+    let closing = at (item Token.close_paren 5 6) refl refl (omega arith) (omega arith) refl in
+    let key = at (item key_a 4 5) refl (refl, is_a) (omega arith) (omega arith) refl in
+    let opening = at (item Token.open_paren 3 4) refl refl (omega arith) (omega arith) refl in
+    let name = at (item Token.all 0 3) refl refl (omega arith) (omega arith) refl in
+    (name, (opening, (key, (closing, NoCharPasses-nil _))))
+
+comma_are : AreItems (codes "any(,)") comma_items Ending.blank
+comma_are =
+    let at = here (codes "any(,)") in
+    let closing = at (item Token.close_paren 5 6) refl refl (omega arith) (omega arith) refl in
+    let comma = at (item Token.comma 4 5) refl refl (omega arith) (omega arith) refl in
+    let opening = at (item Token.open_paren 3 4) refl refl (omega arith) (omega arith) refl in
+    let name = at (item Token.any 0 3) refl refl (omega arith) (omega arith) refl in
+    (name, (opening, (comma, (closing, NoCharPasses-nil _))))
+
+not_are : AreItems (codes "not()") not_items Ending.blank
+not_are =
+    let at = here (codes "not()") in
+    let closing = at (item Token.close_paren 4 5) refl refl (omega arith) (omega arith) refl in
+    let opening = at (item Token.open_paren 3 4) refl refl (omega arith) (omega arith) refl in
+    let name = at (item Token.not 0 3) refl refl (omega arith) (omega arith) refl in
+    (name, (opening, (closing, NoCharPasses-nil _)))
+
+is_flag_a : IsItem (key_a ∷ []) (flag (codes "a"))
+unfolding class
+is_flag_a = (codes "a", None, refl, refl)
+
+is_flag_b : IsItem (key_b ∷ []) (flag (codes "b"))
+unfolding class
+is_flag_b = (codes "b", None, refl, refl)
+
+-- two commas stand behind the first member, and none behind the last
+are_listed : IsList (key_a ∷ Token.comma ∷ Token.comma ∷ key_b ∷ [])
+    (Trees.more (flag (codes "a")) (one (flag (codes "b"))))
+are_listed = (key_a ∷ [], 2, key_b ∷ [], refl, omega arith, is_flag_a, last)
+  where
+    last : IsList (key_b ∷ []) (one (flag (codes "b")))
+    last = (key_b ∷ [], 0, [], refl, tt, is_flag_b, refl)
+
+is_listed : IsTree listed_tokens listed
+is_listed = (listed_tokens, 0, refl, (_, refl, are_listed))
+
+is_single : IsTree (Token.all ∷ Token.open_paren ∷ key_a ∷ Token.close_paren ∷ []) single
+is_single = (_, 0, refl, (key_a ∷ [], refl, (key_a ∷ [], 0, [], refl, tt, is_flag_a, refl)))
+
+pub returns : goal.returns
+returns c = record {
+  listed = is_listed;
+  single = record { items = single_items; are_items = single_are; spelled = is_single };
+  lone_comma = none_read (codes "any(,)") comma_items _ comma_are refl;
+  empty_not = none_read (codes "not()") not_items _ not_are refl;
+}

@@ -1,0 +1,114 @@
+-- What a predicate's key and value say: the tables of the crate cfg-expr, which knows the keys that
+-- the Rust Reference's conditional compilation lists.
+use Rattle.std.specs.Prelude.{ℕ, List, [], ◌∷◌, ◌^◌, codes, drop, nat_eq, Option, Some, None}
+use Rattle.std.specs.Prelude.{if◌then◌else◌}
+use Rattle.std.specs.Str.{bytes_eq}
+use Rattle.std.specs.List.{starts_with}
+use Rattle.cfgx_syntax.specs.Error.{Cause, unexpected, invalid_integer, invalid_has_atomic}
+use Rattle.cfgx_targets.specs.Endian.{endian_named}
+use Rattle.cfgx_targets.specs.HasAtomic.{atomic_named}
+use Rattle.cfgx_targets.specs.Number.{read_below}
+use Rattle.cfg_expr.specs.Question.{Question, TargetQuestion}
+
+-- which part of a predicate is at fault
+pub data Part : Type 0 where
+  of_key : Part
+  of_value : Part
+
+-- a predicate, or why it is none
+pub data Class : Type 0 where
+  is : Question → Class
+  refused : Cause → Part → Class
+
+-- a key that stands without a value, and nothing else
+abbrev pub bare : Question → Option (List ℕ) → Class
+bare question None = Class.is question
+bare question (Some value) = Class.refused (unexpected []) Part.of_value
+
+-- a key that has a value, and lacks it otherwise
+abbrev pub valued : (List ℕ → Class) → List ℕ → Option (List ℕ) → Class
+valued with missing None = Class.refused (unexpected (missing ∷ [])) Part.of_key
+valued with missing (Some value) = with value
+
+-- a value that was read, or a fault of the value
+abbrev pub if_read : {X : Type 0} → (X → TargetQuestion) → Cause → Option X → Class
+if_read ask cause None = Class.refused cause Part.of_value
+if_read ask cause (Some x) = Class.is (Question.target (ask x))
+
+abbrev pub target_names : List (List ℕ)
+target_names = codes "target_arch" ∷ codes "target_feature" ∷ codes "target_os"
+    ∷ codes "target_family" ∷ codes "target_env"
+    ∷ codes "target_endian" ∷ codes "target_has_atomic" ∷ codes "target_pointer_width"
+    ∷ codes "target_vendor" ∷ []
+
+abbrev pub target_feature : List ℕ → Class
+target_feature [] = Class.refused (unexpected (codes "<feature>" ∷ [])) Part.of_value
+target_feature (byte ∷ bytes) = Class.is (Question.target_feature (byte ∷ bytes))
+
+abbrev pub asks : TargetQuestion → Class
+asks question = Class.is (Question.target question)
+
+-- a line of a table: a name, and what it makes of a value
+pub record Line (Value : Type 0) : Type 0 where
+  pub name : List ℕ
+  pub read : Value → Class
+
+abbrev pub line : {Value : Type 0} → List ℕ → (Value → Class) → Line Value
+line name read = record { name = name; read = read }
+
+-- the first line with the name, and otherwise the last answer
+abbrev pub by_name : {Value : Type 0} → List (Line Value) → List ℕ → Value → Class → Class
+by_name [] name value otherwise = otherwise
+by_name (first ∷ rest) name value otherwise = if bytes_eq name first.name then first.read value
+    else by_name rest name value otherwise
+
+-- by what follows `target_` in the key
+abbrev pub target_lines : List (Line (List ℕ))
+target_lines = line (codes "abi") (λ value. asks (TargetQuestion.abi value))
+    ∷ line (codes "arch") (λ value. asks (TargetQuestion.arch value))
+    ∷ line (codes "os") (λ value. asks (TargetQuestion.os value))
+    ∷ line (codes "family") (λ value. asks (TargetQuestion.family value))
+    ∷ line (codes "env") (λ value. asks (TargetQuestion.env value))
+    ∷ line (codes "vendor") (λ value. asks (TargetQuestion.vendor value))
+    ∷ line (codes "feature") target_feature
+    ∷ line (codes "endian") (λ value. if_read TargetQuestion.endian invalid_integer
+    (endian_named value))
+    ∷ line (codes "has_atomic") (λ value. if_read TargetQuestion.has_atomic invalid_has_atomic
+    (atomic_named value))
+    ∷ line (codes "pointer_width") (λ value. if_read TargetQuestion.pointer_width invalid_integer
+    (read_below (2 ^ 8) value))
+    ∷ []
+
+abbrev pub target_class : List ℕ → List ℕ → Class
+target_class name value = by_name target_lines name value
+    (Class.refused (unexpected target_names) Part.of_key)
+
+abbrev pub family : List ℕ → Question
+family name = Question.target (TargetQuestion.family name)
+
+-- by the key
+abbrev pub key_lines : List (Line (Option (List ℕ)))
+key_lines = line (codes "unix") (bare (family (codes "unix")))
+    ∷ line (codes "windows") (bare (family (codes "windows")))
+    ∷ line (codes "test") (bare Question.test)
+    ∷ line (codes "debug_assertions") (bare Question.debug_assertions)
+    ∷ line (codes "proc_macro") (bare Question.proc_macro)
+    ∷ line (codes "feature") (valued (λ value. Class.is (Question.feature value))
+    (codes "= \"<feature_name>\""))
+    ∷ line (codes "panic") (valued (λ value. asks (TargetQuestion.panic value))
+    (codes "= \"<panic_strategy>\""))
+    ∷ []
+
+-- any other key
+abbrev pub plain : List ℕ → Option (List ℕ) → Class
+plain key None = Class.is (Question.flag key)
+plain key (Some value) = Class.is (Question.key_value key value)
+
+-- a key that stands in no line: it may begin with `target_`
+abbrev pub other_class : List ℕ → Option (List ℕ) → Class
+other_class key value = if starts_with nat_eq key (codes "target_")
+    then valued (target_class (drop 7 key)) (codes "= \"<target_cfg_value>\"") value else plain key
+    value
+
+unfoldable pub class : List ℕ → Option (List ℕ) → Class
+class key value = by_name key_lines key value (other_class key value)

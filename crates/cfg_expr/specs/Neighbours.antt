@@ -1,0 +1,68 @@
+-- Which token may stand behind which: what the crate cfg-expr allows behind each token, and what it
+-- says that it expected.
+use Rattle.std.specs.Prelude.{ℕ, Bool, true, false, List, [], ◌∷◌, codes, Option, Some, None}
+use Rattle.std.specs.List.{list_any}
+use Rattle.cfgx_syntax.specs.Token.{Token}
+
+-- the kinds of tokens; a key and a function's name both begin an item
+pub data Kind : Type 0 where
+  item : Kind
+  equals : Kind
+  value : Kind
+  opening : Kind
+  closing : Kind
+  comma : Kind
+
+abbrev pub kind_of : Token → Kind
+kind_of (Token.key _) = Kind.item
+kind_of (Token.value _) = Kind.value
+kind_of Token.equals = Kind.equals
+kind_of Token.all = Kind.item
+kind_of Token.any = Kind.item
+kind_of Token.not = Kind.item
+kind_of Token.open_paren = Kind.opening
+kind_of Token.close_paren = Kind.closing
+kind_of Token.comma = Kind.comma
+
+abbrev pub is_kind : Kind → Kind → Bool
+is_kind Kind.item Kind.item = true
+is_kind Kind.equals Kind.equals = true
+is_kind Kind.value Kind.value = true
+is_kind Kind.opening Kind.opening = true
+is_kind Kind.closing Kind.closing = true
+is_kind Kind.comma Kind.comma = true
+is_kind _ _ = false
+
+-- what may stand behind the last token, or at the start
+abbrev pub followers : Option Token → List Kind
+followers None = Kind.item ∷ []
+followers (Some Token.open_paren) = Kind.item ∷ Kind.closing ∷ []
+followers (Some Token.comma) = Kind.item ∷ Kind.closing ∷ Kind.comma ∷ []
+followers (Some (Token.key _)) = Kind.equals ∷ Kind.closing ∷ Kind.comma ∷ []
+followers (Some Token.equals) = Kind.value ∷ []
+followers (Some (Token.value _)) = Kind.comma ∷ Kind.closing ∷ []
+followers (Some Token.all) = Kind.opening ∷ []
+followers (Some Token.any) = Kind.opening ∷ []
+followers (Some Token.not) = Kind.opening ∷ []
+followers (Some Token.close_paren) = Kind.closing ∷ Kind.comma ∷ []
+
+abbrev pub takes : Option Token → Kind → Bool
+takes last kind = list_any (is_kind kind) (followers last)
+
+-- whether the token may stand behind the last one, or at the start
+abbrev pub next : Option Token → Token → Bool
+next last token = takes last (kind_of token)
+
+-- what a fault says that it expected there
+abbrev pub expected : Option Token → List (List ℕ)
+expected None = codes "<key>" ∷ codes "all" ∷ codes "any" ∷ codes "not" ∷ []
+expected (Some Token.open_paren) = codes "<key>" ∷ codes ")" ∷ codes "all" ∷ codes "any"
+    ∷ codes "not" ∷ []
+expected (Some Token.comma) = codes ")" ∷ codes "<key>" ∷ []
+expected (Some (Token.key _)) = codes "=" ∷ codes "," ∷ codes ")" ∷ []
+expected (Some Token.equals) = codes "\"" ∷ []
+expected (Some (Token.value _)) = codes "," ∷ codes ")" ∷ []
+expected (Some Token.all) = codes "(" ∷ []
+expected (Some Token.any) = codes "(" ∷ []
+expected (Some Token.not) = codes "(" ∷ []
+expected (Some Token.close_paren) = codes ")" ∷ codes "," ∷ []

@@ -1,0 +1,8 @@
+-- A tree as the list of nodes in which an `Expression` keeps it. Internal: no public contract names
+-- it.
+pub mod Keeps
+pub mod Located
+pub mod Node
+pub mod Prefix
+pub mod Writes
+pub mod Writer

@@ -1,0 +1,6 @@
+-- The parser as a function over tokens. Internal: no public contract names it.
+pub mod Bounded
+pub mod Fields
+pub mod Parser
+pub mod State
+pub mod Step

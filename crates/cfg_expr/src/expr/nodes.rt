@@ -1,0 +1,151 @@
+//! The nodes in which an expression keeps its tree.
+ghost use Rattle.std.specs.Prelude.{◌≡◌, ◌<◌, ◌≤◌, length, OnOk};
+
+use super::{Func, Span};
+use crate::memory::SmallAllocator;
+use cfgx_targets::atomic::HasAtomic;
+use cfgx_targets::endian::Endian;
+use smallvec::SmallVec;
+use std::alloc::AllocError;
+
+/// A predicate on the target, by where its text stands.
+#[derive(Clone, Debug, Drop)]
+pub(crate) enum InnerTarget {
+    Abi(Span),
+    Arch(Span),
+    Endian(Endian),
+    Env(Span),
+    Family(Span),
+    HasAtomic(HasAtomic),
+    Os(Span),
+    Panic(Span),
+    PointerWidth(u8),
+    Vendor(Span),
+}
+
+/// A predicate, by where its parts stand in the text.
+#[derive(Clone, Debug, Drop)]
+pub(crate) enum InnerPredicate {
+    Target(InnerTarget),
+    Test,
+    DebugAssertions,
+    ProcMacro,
+    Feature(Span),
+    TargetFeature(Span),
+    Other {
+        identifier: Span,
+        value: Option<Span>,
+    },
+}
+
+/// A node of a condition. A function stands in front of its members, in source order.
+#[derive(Clone, Debug, Drop)]
+pub(crate) enum ExprNode {
+    /// A function, and the number of nodes of its tree, itself among them
+    Fn { func: Func, len: usize },
+    /// A predicate
+    Predicate(InnerPredicate),
+}
+
+impl Default for ExprNode {
+    fn default() -> Self {
+        ExprNode::Fn {
+            func: Func::Not,
+            len: 0,
+        }
+    }
+}
+
+/// Where an open function began.
+#[derive(Clone, Copy, Debug)]
+pub(crate) struct Mark {
+    /// The place of its node
+    pub(crate) node: usize,
+    /// How many leaves of the lists around it wait
+    pub(crate) leaves: usize,
+}
+
+/// The nodes of a tree as they are written, one pass over the text.
+#[derive(Drop)]
+pub(crate) struct Writer<A: SmallAllocator> {
+    /// The nodes, in source order
+    pub(crate) nodes: SmallVec<ExprNode, 5, A>,
+    /// The places of leaves whose list is open, those of inner lists last
+    pub(crate) leaves: SmallVec<usize, 5, A>,
+    /// The places of the other leaves, in the order in which they are asked
+    pub(crate) asked: SmallVec<usize, 5, A>,
+}
+
+impl<A: SmallAllocator> Writer<A> {
+    ghost use Rattle.cfg_expr.specs.nodes.Node.{nothing, mark_of, with_leaf, with_function};
+    ghost use Rattle.cfg_expr.specs.nodes.Node.{with_list_ended, with_function_ended};
+    ghost use Rattle.cfg_expr.specs.nodes.Writer.{written_of, Fits};
+
+    /// Nothing is written.
+    pub(crate) fn new(alloc: A) -> Self
+        ensures { written_of result ≡ nothing }
+    {
+        Writer {
+            nodes: SmallVec::new(alloc),
+            leaves: SmallVec::new(alloc),
+            asked: SmallVec::new(alloc),
+        }
+    }
+
+    /// Where a function would begin.
+    pub(crate) fn mark(&self) -> Mark
+        ensures { result ≡ mark_of (written_of self.now) }
+    {
+        Mark {
+            node: self.nodes.len(),
+            leaves: self.leaves.len(),
+        }
+    }
+
+    /// Writes a predicate of the innermost list.
+    pub(crate) fn leaf(&mut self, predicate: InnerPredicate) -> Result<(), AllocError>
+        ensures written { OnOk result
+            (written_of self.new ≡ with_leaf predicate (written_of self.old)) }
+        ensures fits { OnOk result (Fits (written_of self.new)) }
+    {
+        let place = self.nodes.len();
+        self.nodes.push(ExprNode::Predicate(predicate))?;
+        self.leaves.push(place)?;
+        let _fits = self.nodes.len();
+        Ok(())
+    }
+
+    /// Writes a function whose members are still to come.
+    pub(crate) fn function(&mut self, func: Func) -> Result<(), AllocError>
+        ensures written { OnOk result
+            (written_of self.new ≡ with_function func (written_of self.old)) }
+        ensures fits { OnOk result (Fits (written_of self.new)) }
+    {
+        self.nodes.push(ExprNode::Fn { func, len: 0 })?;
+        let _fits = self.nodes.len();
+        Ok(())
+    }
+
+    /// Ends a list: its own leaves, which are behind the first `leaves`, are the next to be asked.
+    pub(crate) fn end_list(&mut self, leaves: usize) -> Result<(), AllocError>
+        requires { leaves ≤ length (written_of self.old).leaves }
+        ensures { OnOk result (written_of self.new ≡ with_list_ended leaves (written_of self.old)) }
+    {
+        self.asked
+            .extend_from_slice(&self.leaves.as_slice()[leaves..])?;
+        self.leaves.truncate(leaves);
+        Ok(())
+    }
+
+    /// Ends the function that began at the mark.
+    pub(crate) fn end_function(&mut self, mark: Mark, func: Func) -> Result<(), AllocError>
+        requires node { mark.node < length (written_of self.old).nodes }
+        requires leaves { mark.leaves ≤ length (written_of self.old).leaves }
+        ensures { OnOk result
+            (written_of self.new ≡ with_function_ended mark func (written_of self.old)) }
+    {
+        let len = self.nodes.len() - mark.node;
+        self.nodes[mark.node] = ExprNode::Fn { func, len };
+        self.end_list(mark.leaves)
+    }
+}

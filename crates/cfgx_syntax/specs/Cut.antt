@@ -1,0 +1,29 @@
+-- Where a text can be cut: `str::is_char_boundary` of Rust, at both ends.
+use Rattle.std.specs.Prelude.{ℕ, ◌+◌, ◌-◌, ◌≤◌, List, length}
+use Rattle.std.specs.Str.{IsCharBoundary}
+use Rattle.cfgx_syntax.specs.Token.{Token}
+
+-- the bytes from start to end can be cut out of the text
+pub record IsCut (text : List ℕ) (start end : ℕ) : Type 0 where
+  pub ordered : start ≤ end
+  pub inside : end ≤ length text
+  pub opens : IsCharBoundary text start
+  pub closes : IsCharBoundary text end
+
+-- what a value holds, one byte in from both quotes, can be cut out of the text; of another token
+-- nothing is said
+abbrev pub IsValueCut : List ℕ → Token → ℕ → ℕ → Type 0
+IsValueCut text (Token.value _) start end = IsCut text (start + 1) (end - 1)
+IsValueCut text (Token.key _) start end = Unit {0}
+IsValueCut text Token.equals start end = Unit {0}
+IsValueCut text Token.all start end = Unit {0}
+IsValueCut text Token.any start end = Unit {0}
+IsValueCut text Token.not start end = Unit {0}
+IsValueCut text Token.open_paren start end = Unit {0}
+IsValueCut text Token.close_paren start end = Unit {0}
+IsValueCut text Token.comma start end = Unit {0}
+
+-- the token that stands from start to end can be cut out of the text, and so can what a value holds
+pub record CanBeCut (text : List ℕ) (token : Token) (start end : ℕ) : Type 0 where
+  pub spelling : IsCut text start end
+  pub value : IsValueCut text token start end

@@ -1,7 +1,0 @@
--- The text that is read: a condition with or without `cfg( )` around it.
-use Rattle.std.specs.Prelude.{ℕ, ◌-◌, List, length, codes, nat_eq, ◌&&◌, if◌then◌else◌, slice_range}
-use Rattle.std.specs.List.{starts_with, ends_with}
-
--- What lies between the outer `cfg(` and `)`, where the text starts and ends with these; otherwise the text. Once, as `Expression::original` of the crate cfg-expr says.
-unfoldable pub strip : List ℕ → List ℕ
-strip text = if starts_with nat_eq text (codes "cfg(") && ends_with nat_eq text (codes ")") then slice_range text 4 (length text - 1) else text

@@ -1,0 +1,141 @@
+-- Rows in the order of their triples: the first that is not, and what a search by halves finds.
+use Rattle.std.proofs.Common.{◌≡◌, refl, sym, ap, subst, ◌∙◌, inl, inr, ℕ, zero, suc, ◌+◌, ◌-◌}
+use Rattle.std.proofs.Common.{◌<◌, Bool, true, false, List, [], ◌∷◌, length, get_or, arith}
+use Rattle.std.proofs.Common.{add-one, nat_cmp}
+use Rattle.std.specs.Prelude.{Some, None, Ok, Err}
+use Rattle.std.specs.declared.cmp.Ordering.{Ordering}
+use Rattle.std.specs.declared.cmp.Ordering.TheVariants.{Less, Equal, Greater}
+use Rattle.std.specs.Cmp.Lexicographic.{nat_list_cmp_total, slice_cmp, texts_ties}
+use Rattle.std.specs.List.{AllAdjacentBelow, find}
+use Rattle.std.specs.List.Sorted.{IsBinarySearchResult, IsSortedBy}
+use Rattle.std.specs.Ordering.{is_lt, is_ge, is_eq, ordering_reverse}
+use Rattle.std.specs.Str.{bytes_eq}
+use Rattle.std.proofs.lemmas.Bool.{cases_lt}
+use Rattle.std.proofs.lemmas.Cmp.{alike_right}
+use Rattle.std.proofs.lemmas.List.{get_or_read}
+use Rattle.std.proofs.lemmas.List.Sorted.{all_adjacent_more, searchable_from_sorted}
+use Rattle.cfgx_targets.specs.Builtins.{builtin_rows}
+use Rattle.cfgx_targets.specs.Table.{IsBelow, AreIncreasing, IsFirstNotAbove, row_with}
+use Rattle.cfgx_targets.specs.declared.info.TargetInfo.{TargetInfo}
+
+-- the first member that passes a test
+find-at : {X : Type 0} (p : X → Bool) (xs : List X) (i : ℕ) (x : X) → i < length xs
+    → x ≡ get_or xs i x → p x ≡ true → ((k : ℕ) → k < i → p (get_or xs k x) ≡ false)
+    → find p xs ≡ Some x
+find-at p [] i x lt is passes fails = absurd (omega (arith, lt))
+find-at p (y ∷ ys) zero x lt is passes fails =
+    let here : p y ≡ true = subst (λ z. p z ≡ true) is passes in
+    rw here (ap Some (sym is))
+find-at p (y ∷ ys) (suc i) x lt is passes fails =
+    let first : p y ≡ false = fails 0 (omega arith) in
+    rw first (find-at p ys i x (omega (arith, lt)) is passes
+    (λ k h. fails (suc k) (omega (arith, h))))
+
+find-none : {X : Type 0} (p : X → Bool) (xs : List X)
+    → ((k : ℕ) (d : X) → k < length xs → p (get_or xs k d) ≡ false) → find p xs ≡ None
+find-none p [] fails = refl
+find-none p (y ∷ ys) fails =
+    let first : p y ≡ false = fails 0 y (omega arith) in
+    rw first (find-none p ys (λ k d h. fails (suc k) d (omega (arith, h))))
+
+module _ {A : Type 0} (rows : List (TargetInfo A)) where
+  not_ge : (r : Ordering) → is_ge r ≡ false → r ≡ Less
+  not_ge Less h = refl
+  not_ge Equal h = cc
+  not_ge Greater h = cc
+
+  -- a row that is not above the one before it
+  pub first-not_above : (place : ℕ) (before row : TargetInfo A) → 0 < place → place < length rows
+      → AllAdjacentBelow IsBelow rows place → before ≡ get_or rows (place - 1) before
+      → row ≡ get_or rows place row → is_ge (slice_cmp nat_cmp before.triple row.triple) ≡ true
+      → IsFirstNotAbove rows place
+  first-not_above place before row behind inside rising is_before is_row ge = record {
+    behind_first = behind;
+    inside = inside;
+    rising = rising;
+    not_above = λ d less.
+        let one = get_or_read rows (place - 1) before (omega arith) is_before d in
+        let next = get_or_read rows place row inside is_row d in
+        let order = λ (x y : TargetInfo A). slice_cmp nat_cmp x.triple y.triple in
+        let same : order before row ≡ Less = (λ i. order (one i) (next i)) ∙ less in
+        let falls : is_ge Less ≡ true = ap is_ge (sym same) ∙ ge in
+        cc;
+  }
+
+  -- one more row that is above the one before it
+  pub below-more : (place : ℕ) (before row : TargetInfo A) → 0 < place → place < length rows
+      → AllAdjacentBelow IsBelow rows place → before ≡ get_or rows (place - 1) before
+      → row ≡ get_or rows place row → is_ge (slice_cmp nat_cmp before.triple row.triple) ≡ false
+      → AllAdjacentBelow IsBelow rows (place + 1)
+  below-more place before row behind inside rising is_before is_row lt =
+      all_adjacent_more rows IsBelow place behind rising (λ d.
+      let one = get_or_read rows (place - 1) before (omega arith) is_before d in
+      let next = get_or_read rows place row inside is_row d in
+      let order = λ (x y : TargetInfo A). slice_cmp nat_cmp x.triple y.triple in
+      (λ i. order (sym one i) (sym next i)) ∙ not_ge (order before row) lt)
+
+  module _ (up : AreIncreasing rows) where
+    increasing-far : (i j : ℕ) (d : TargetInfo A) → i < j → j < length rows
+        → IsBelow (get_or rows i d) (get_or rows j d)
+    increasing-far i zero d lt inside = absurd (omega (arith, lt))
+    increasing-far i (suc j) d lt inside =
+        let step : IsBelow (get_or rows j d) (get_or rows (suc j) d) =
+        rw add-one at (up j d (omega (arith, inside))) in
+        let near : i ≡ j → IsBelow (get_or rows i d) (get_or rows (suc j) d) = λ e. rw e step in
+        let triple = λ (k : ℕ). (get_or rows k d).triple in
+        let far : i < j → IsBelow (get_or rows i d) (get_or rows (suc j) d) =
+        λ h. nat_list_cmp_total.trans (triple i) (triple j) (triple (suc j))
+        (increasing-far i j d h (omega (arith, inside))) step in
+        elim (cases_lt i j) [ inl h ↦ far h | inr h ↦ near (omega (arith, h, lt)) ]
+
+    in_order : IsSortedBy (λ a b. is_lt (slice_cmp nat_cmp a.triple b.triple)) rows
+    in_order k d _ lt =
+        let low = (get_or rows k d).triple in
+        let high = (get_or rows (k + 1) d).triple in
+        ap is_lt (nat_list_cmp_total.antisymm high low ∙ ap ordering_reverse (up k d lt))
+
+    has_triple : (triple : List ℕ) (row : TargetInfo A) (r : Ordering)
+        → slice_cmp nat_cmp row.triple triple ≡ r → bytes_eq row.triple triple ≡ is_eq r
+    has_triple triple row r h = texts_ties row.triple triple ∙ ap is_eq h
+
+    -- the row that a search by halves found is the one by looking at every row
+    pub row_with-found : (triple : List ℕ) (place : ℕ) (row : TargetInfo A) → place < length rows
+        → row ≡ get_or rows place row
+        → IsBinarySearchResult (λ r. slice_cmp nat_cmp r.triple triple) rows (Ok place)
+        → row_with triple rows ≡ Some row
+    row_with-found triple place row inside is_row search =
+        let equal : slice_cmp nat_cmp row.triple triple ≡ Equal =
+        subst (λ z. slice_cmp nat_cmp z.triple triple ≡ Equal) (sym is_row) (search row) in
+        find-at (λ r. bytes_eq r.triple triple) rows place row inside is_row
+        (has_triple triple row Equal equal)
+        (λ k h.
+        let one = get_or rows k row in
+        let below : slice_cmp nat_cmp one.triple row.triple ≡ Less =
+        subst (λ z. slice_cmp nat_cmp one.triple z.triple ≡ Less) (sym is_row)
+        (increasing-far k place row h inside) in
+        let alike = alike_right nat_list_cmp_total row.triple triple one.triple equal in
+        let less = sym alike ∙ below in
+        has_triple triple one Less less)
+
+    -- where it finds none, no row has the triple
+    pub row_with-missing : (triple : List ℕ) (place : ℕ)
+        → IsBinarySearchResult (λ row. slice_cmp nat_cmp row.triple triple) rows (Err place)
+        → row_with triple rows ≡ None
+    row_with-missing triple place search =
+        let key = λ (row : TargetInfo A). row.triple in
+        let rising = searchable_from_sorted nat_list_cmp_total key rows triple in_order in
+        let split = search rising in
+        find-none (λ r. bytes_eq r.triple triple) rows (λ k d inside.
+        let row = get_or rows k d in
+        elim (cases_lt k place) [
+          | inl h ↦ has_triple triple row Less (split.0 k d (omega arith) h)
+          | inr h ↦ has_triple triple row Greater (split.1 k d h inside)
+        ])
+
+-- the targets that are built in are in order
+pub builtin_rows-increasing : {A : Type 0} → AreIncreasing (builtin_rows {A = A})
+builtin_rows-increasing zero d lt = refl
+builtin_rows-increasing (suc zero) d lt = refl
+builtin_rows-increasing (suc (suc zero)) d lt = refl
+builtin_rows-increasing (suc (suc (suc zero))) d lt = refl
+builtin_rows-increasing (suc (suc (suc (suc k)))) d lt = absurd (omega (arith, lt))

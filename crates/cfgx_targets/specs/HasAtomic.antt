@@ -1,0 +1,43 @@
+-- Widths of atomics and their texts, which are those of the key `target_has_atomic`.
+-- Source: the Rust Reference, `target_has_atomic`; `HasAtomic` of `cfg-expr` 0.20.10.
+use Rattle.std.specs.Prelude.{◌≡◌, ℕ, ◌^◌, ◌<◌, ⊤, List, codes, Option, Some, None, Result, Ok}
+use Rattle.std.specs.Prelude.{Err, if◌then◌else◌, option_map}
+use Rattle.std.specs.Fmt.{decimal}
+use Rattle.std.specs.Option.{option_or}
+use Rattle.std.specs.Str.{bytes_eq}
+use Rattle.cfgx_targets.specs.Number.{read_below}
+use Rattle.cfgx_targets.specs.declared.atomic.HasAtomicFailure.{HasAtomicFailure}
+use Rattle.cfgx_targets.specs.declared.atomic.HasAtomicFailure.TheVariants.{Parse, Memory}
+use Rattle.cfgx_targets.specs.declared.atomic.HasAtomic.{HasAtomic}
+use Rattle.cfgx_targets.specs.declared.atomic.HasAtomic.TheVariants.{IntegerSize, Pointer}
+
+-- a number of bits in decimal, or `ptr`
+abbrev pub atomic_text : HasAtomic → List ℕ
+atomic_text (IntegerSize bits) = decimal bits
+atomic_text Pointer = codes "ptr"
+
+-- the width of a pointer, where the text is its name
+abbrev pub pointer_named : List ℕ → Option HasAtomic
+pointer_named text = if bytes_eq text (atomic_text Pointer) then Some Pointer else None
+
+-- the width that a text names: a number of sixteen bits, or `ptr`
+unfoldable pub atomic_named : List ℕ → Option HasAtomic
+atomic_named text =
+    option_or (option_map IntegerSize (read_below (2 ^ 16) text)) (pointer_named text)
+
+-- a width of the program has sixteen bits
+abbrev pub IsWidth : HasAtomic → Type 0
+IsWidth (IntegerSize bits) = bits < 2 ^ 16
+IsWidth Pointer = ⊤
+
+-- What the reading of a width answers: the one that the text names, or, only where it names none,
+-- the fault with that text or want of memory.
+abbrev pub ReadsAtomic : {A : Type 0} → List ℕ → Result HasAtomic (HasAtomicFailure A) → Type 0
+ReadsAtomic text (Ok width) = atomic_named text ≡ Some width
+ReadsAtomic text (Err (Parse error)) = (atomic_named text ≡ None) × (error ≡ text)
+ReadsAtomic text (Err (Memory error)) = atomic_named text ≡ None
+
+-- the place of a width among all: by the number of bits, and then the pointer's
+abbrev pub atomic_rank : HasAtomic → ℕ
+atomic_rank (IntegerSize bits) = bits
+atomic_rank Pointer = 2 ^ 16

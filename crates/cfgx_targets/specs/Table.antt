@@ -1,0 +1,30 @@
+-- Tables of targets, in the order of their triples.
+-- Source: the documentation of `ALL_BUILTINS` and `get_builtin_target_by_triple` of `cfg-expr`.
+use Rattle.std.specs.Prelude.{◌≡◌, ◌≢◌, ℕ, ◌-◌, ◌<◌, List, length, Option}
+use Rattle.std.specs.declared.cmp.Ordering.TheVariants.{Less}
+use Rattle.std.specs.Cmp.Lexicographic.{slice_cmp}
+use Rattle.std.specs.List.{AllAdjacentBelow, find, slice_index_or}
+use Rattle.std.specs.Ordering.{nat_cmp}
+use Rattle.std.specs.Str.{bytes_eq}
+use Rattle.cfgx_targets.specs.declared.info.TargetInfo.{TargetInfo}
+
+-- the triple of the one is below that of the next, byte by byte
+abbrev pub IsBelow : {A : Type 0} → TargetInfo A → TargetInfo A → Type 0
+IsBelow one next = slice_cmp nat_cmp one.triple next.triple ≡ Less
+
+-- the triple of each row is below that of the next
+abbrev pub AreIncreasing : {A : Type 0} → List (TargetInfo A) → Type 0
+AreIncreasing rows = AllAdjacentBelow IsBelow rows (length rows)
+
+-- the first row whose triple is not above that of the row before it stands at the place
+pub record IsFirstNotAbove {A : Type 0} (rows : List (TargetInfo A)) (place : ℕ) : Type 0 where
+  pub behind_first : 0 < place
+  pub inside : place < length rows
+  pub rising : AllAdjacentBelow IsBelow rows place
+  pub not_above : (d : TargetInfo A)
+      → slice_cmp nat_cmp (slice_index_or rows (place - 1) d).triple
+      (slice_index_or rows place d).triple ≢ Less
+
+-- the row with that triple, by looking at every row
+abbrev pub row_with : {A : Type 0} → List ℕ → List (TargetInfo A) → Option (TargetInfo A)
+row_with triple rows = find (λ row. bytes_eq row.triple triple) rows

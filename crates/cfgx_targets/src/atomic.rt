@@ -1,0 +1,83 @@
+//! The widths of the atomics that a target has.
+
+use crate::error::HasAtomicParseError;
+use crate::reading::read_has_atomic;
+use std::alloc::{AllocError, Allocator, Global};
+use std::fmt;
+
+mod laws;
+
+/// A width of atomics. Widths in bits are ordered by their number, and the pointer's is above them.
+#[derive(Clone, Copy, Debug, PartialEq, Eq, PartialOrd, Ord, Hash)]
+pub enum HasAtomic {
+    /// This many bits.
+    IntegerSize(u16),
+    /// As wide as a pointer.
+    Pointer,
+}
+
+/// The two ways in which the reading of a width may refuse.
+#[derive(Drop)]
+#[derive_where(Debug)]
+pub enum HasAtomicFailure<A: Allocator = Global> {
+    /// The text names no width.
+    Parse(HasAtomicParseError<A>),
+    /// The text names no width, and memory ran out for the copy of it.
+    Memory(AllocError),
+}
+
+impl<A: Allocator> From<HasAtomicParseError<A>> for HasAtomicFailure<A> {
+    ghost use Rattle.std.specs.Prelude.{◌≡◌};
+    ghost use Rattle.cfgx_targets.specs.declared.atomic.HasAtomicFailure.TheVariants.{Parse};
+
+    ghost from_gives = { λ error failure. failure ≡ Parse error };
+
+    fn from(error: HasAtomicParseError<A>) -> Self {
+        HasAtomicFailure::Parse(error)
+    }
+}
+
+impl<A: Allocator> From<AllocError> for HasAtomicFailure<A> {
+    ghost use Rattle.std.specs.Prelude.{◌≡◌};
+    ghost use Rattle.cfgx_targets.specs.declared.atomic.HasAtomicFailure.TheVariants.{Memory};
+
+    ghost from_gives = { λ error failure. failure ≡ Memory error };
+
+    fn from(error: AllocError) -> Self {
+        HasAtomicFailure::Memory(error)
+    }
+}
+
+impl HasAtomic {
+    ghost use Rattle.std.specs.Prelude.{◌≡◌, Ok};
+    ghost use Rattle.cfgx_targets.specs.HasAtomic.{IsWidth, ReadsAtomic, atomic_text};
+
+    /// Reads a number of bits, at most 65535, or `ptr`. What it prints, it reads again.
+    ///
+    /// A text that names a width takes no memory. Any other one is copied into `alloc` for the
+    /// fault, and is `Memory` where that copy is refused.
+    pub fn read<A: Allocator>(alloc: A, text: &str) -> Result<HasAtomic, HasAtomicFailure<A>>
+        ensures reads { ReadsAtomic text.now result }
+        ensures printed { (width : HasAtomic) → IsWidth width → text.now ≡ atomic_text width
+            → result ≡ Ok width }
+    {
+        match read_has_atomic(text) {
+            Some(width) => Ok(width),
+            None => Err(HasAtomicParseError::new(alloc, text)?.into()),
+        }
+    }
+}
+
+impl fmt::Display for HasAtomic {
+    ghost use Rattle.std.specs.Prelude.{Some};
+    ghost use Rattle.cfgx_targets.specs.HasAtomic.{atomic_text};
+
+    ghost output = { λ width. Some (atomic_text width) };
+
+    fn fmt<W: fmt::Write>(&self, f: &mut fmt::Formatter<W>) -> fmt::Result {
+        match self {
+            HasAtomic::IntegerSize(bits) => f.write(*bits),
+            HasAtomic::Pointer => f.write_str("ptr"),
+        }
+    }
+}

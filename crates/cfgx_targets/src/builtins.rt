@@ -1,0 +1,192 @@
+//! The named lists, the targets that are built in, and the version that they are of.
+
+ghost use Rattle.std.specs.Prelude.{◌≡◌, ◌∷◌, ◌++◌, [], IfOk, OnOk, codes};
+ghost use Rattle.cfgx_targets.specs.Builtins.{apple_row, builtin_rows, widths_and_pointer};
+
+use crate::atomic::HasAtomic;
+use crate::endian::Endian;
+use crate::info::TargetInfo;
+use crate::list::SortedList;
+use crate::table::TargetTable;
+use cfgx_fields::{Abi, Arch, Triple, Vendor};
+use cfgx_places::{Env, Family, Os, Panic};
+use std::alloc::{AllocError, Allocator};
+
+impl<'a, A: Allocator> SortedList<'a, Family<'a, A>, A> {
+    /// The list of `unix`, in memory of `alloc`.
+    ///
+    /// The error is that `alloc` refused it.
+    pub fn unix(alloc: A) -> Result<Self, AllocError>
+        ensures { IfOk result (λ list. list ≡ codes "unix" ∷ []) }
+    {
+        let families = one(alloc, Family::unix())?;
+        Ok(SortedList::from_sorted(families))
+    }
+
+    /// The list of `unix` and `wasm`, in memory of `alloc`.
+    ///
+    /// The error is that `alloc` refused it.
+    pub fn unix_wasm(alloc: A) -> Result<Self, AllocError>
+        ensures { IfOk result (λ list. list ≡ codes "unix" ∷ codes "wasm" ∷ []) }
+    {
+        let mut families = one(alloc, Family::unix())?;
+        families.push(Family::wasm())?;
+        Ok(SortedList::from_sorted(families))
+    }
+
+    /// The list of `wasm`, in memory of `alloc`.
+    ///
+    /// The error is that `alloc` refused it.
+    pub fn wasm(alloc: A) -> Result<Self, AllocError>
+        ensures { IfOk result (λ list. list ≡ codes "wasm" ∷ []) }
+    {
+        let families = one(alloc, Family::wasm())?;
+        Ok(SortedList::from_sorted(families))
+    }
+
+    /// The list of `windows`, in memory of `alloc`.
+    ///
+    /// The error is that `alloc` refused it.
+    pub fn windows(alloc: A) -> Result<Self, AllocError>
+        ensures { IfOk result (λ list. list ≡ codes "windows" ∷ []) }
+    {
+        let families = one(alloc, Family::windows())?;
+        Ok(SortedList::from_sorted(families))
+    }
+}
+
+// A vector of this one item, in memory of `alloc`.
+fn one<T: Drop, A: Allocator>(alloc: A, item: T) -> Result<Vec<T, A>, AllocError>
+    ensures { IfOk result (λ items. items.items ≡ item ∷ []) }
+{
+    let mut items = Vec::new(alloc);
+    items.push(item)?;
+    Ok(items)
+}
+
+impl<'a, A: Allocator> SortedList<'a, HasAtomic, A> {
+    /// The list of the widths 8, 16, 32, 64 and 128 and that of a pointer, in memory of `alloc`.
+    ///
+    /// The error is that `alloc` refused it.
+    pub fn atomic_8_16_32_64_128_ptr(alloc: A) -> Result<Self, AllocError>
+        ensures { IfOk result (λ list. list ≡ widths_and_pointer (8 ∷ 16 ∷ 32 ∷ 64 ∷ 128 ∷ [])) }
+    {
+        let up_to_128 = [
+            HasAtomic::IntegerSize(8),
+            HasAtomic::IntegerSize(16),
+            HasAtomic::IntegerSize(32),
+            HasAtomic::IntegerSize(64),
+            HasAtomic::IntegerSize(128),
+            HasAtomic::Pointer,
+        ];
+        let widths = Vec::from_slice(alloc, &up_to_128)?;
+        Ok(SortedList::from_sorted(widths))
+    }
+
+    /// The list of the widths 8, 16, 32 and 64 and that of a pointer, in memory of `alloc`.
+    ///
+    /// The error is that `alloc` refused it.
+    pub fn atomic_8_16_32_64_ptr(alloc: A) -> Result<Self, AllocError>
+        ensures { IfOk result (λ list. list ≡ widths_and_pointer (8 ∷ 16 ∷ 32 ∷ 64 ∷ [])) }
+    {
+        let up_to_64 = [
+            HasAtomic::IntegerSize(8),
+            HasAtomic::IntegerSize(16),
+            HasAtomic::IntegerSize(32),
+            HasAtomic::IntegerSize(64),
+            HasAtomic::Pointer,
+        ];
+        let widths = Vec::from_slice(alloc, &up_to_64)?;
+        Ok(SortedList::from_sorted(widths))
+    }
+
+    /// The list of the widths 8, 16 and 32 and that of a pointer, in memory of `alloc`.
+    ///
+    /// The error is that `alloc` refused it.
+    pub fn atomic_8_16_32_ptr(alloc: A) -> Result<Self, AllocError>
+        ensures { IfOk result (λ list. list ≡ widths_and_pointer (8 ∷ 16 ∷ 32 ∷ [])) }
+    {
+        let up_to_32 = [
+            HasAtomic::IntegerSize(8),
+            HasAtomic::IntegerSize(16),
+            HasAtomic::IntegerSize(32),
+            HasAtomic::Pointer,
+        ];
+        let widths = Vec::from_slice(alloc, &up_to_32)?;
+        Ok(SortedList::from_sorted(widths))
+    }
+}
+
+/// The version of the compiler that the targets and the named values are of.
+pub const fn rustc_version() -> &'static str
+    ensures { result.now ≡ codes "1.99.0" }
+{
+    "1.99.0"
+}
+
+impl<'a, A: Allocator + Copy> TargetTable<'a, A> {
+    /// The targets that are built in, in memory of `alloc`.
+    ///
+    /// The error is that `alloc` refused it.
+    pub fn builtins(alloc: A) -> Result<Self, AllocError>
+        ensures { IfOk result (λ table. table ≡ builtin_rows) }
+    {
+        let rows = rows(alloc)?;
+        Ok(TargetTable::from_increasing(rows))
+    }
+}
+
+// The triples of the targets that are built in, in order.
+const DARWIN: &str = "aarch64-apple-darwin";
+
+const IOS: &str = "aarch64-apple-ios";
+
+const MACABI: &str = "aarch64-apple-ios-macabi";
+
+const SIM: &str = "aarch64-apple-ios-sim";
+
+const TVOS: &str = "aarch64-apple-tvos";
+
+// The rows of the targets that are built in.
+fn rows<'a, A: Allocator + Copy>(alloc: A) -> Result<Vec<TargetInfo<'a, A>, A>, AllocError>
+    ensures { IfOk result (λ rows. rows.items ≡ builtin_rows) }
+{
+    let mut rows: Vec<TargetInfo<'a, A>, A> = Vec::with_capacity(alloc, 5)?;
+    let (macabi, sim) = (Some(Abi::macabi()), Some(Abi::sim()));
+    let (macabi_env, sim_env) = (Some(Env::macabi()), Some(Env::sim()));
+    push_apple(&mut rows, alloc, DARWIN, Os::macos(), None, None)?;
+    push_apple(&mut rows, alloc, IOS, Os::ios(), None, None)?;
+    push_apple(&mut rows, alloc, MACABI, Os::ios(), macabi, macabi_env)?;
+    push_apple(&mut rows, alloc, SIM, Os::ios(), sim, sim_env)?;
+    push_apple(&mut rows, alloc, TVOS, Os::tvos(), None, None)?;
+    Ok(rows)
+}
+
+// Adds a target of Apple's with this triple, operating system, ABI and environment.
+fn push_apple<'a, A: Allocator + Copy>(
+    rows: &mut Vec<TargetInfo<'a, A>, A>,
+    alloc: A,
+    triple: &'a str,
+    os: Os<'a, A>,
+    abi: Option<Abi<'a, A>>,
+    env: Option<Env<'a, A>>,
+) -> Result<(), AllocError>
+    ensures { OnOk result (rows.new.items
+        ≡ rows.old.items ++ apple_row triple.now os.entry abi.entry env.entry ∷ []) }
+{
+    let row = TargetInfo {
+        triple: Triple::new_const(triple),
+        os: Some(os),
+        abi,
+        arch: Arch::aarch64(),
+        env,
+        vendor: Some(Vendor::apple()),
+        families: SortedList::unix(alloc)?,
+        pointer_width: 64,
+        endian: Endian::little,
+        has_atomics: SortedList::atomic_8_16_32_64_128_ptr(alloc)?,
+        panic: Panic::unwind(),
+    };
+    rows.push(row)?;
+    Ok(())
+}

@@ -1,0 +1,68 @@
+//! What is wrong with the text of an atomic's width.
+
+ghost use Rattle.std.specs.Prelude.{◌≡◌, ◌++◌, ◌↔◌, IfOk, IsTrue, Some, codes};
+
+use cfgx_syntax::text::Text;
+use std::alloc::{AllocError, Allocator, Global};
+use std::fmt;
+use std::marker::Model;
+
+/// A text that names no width of atomics. Contracts see it as that text.
+#[derive(Drop)]
+#[derive_where(Debug, PartialEq, Eq)]
+pub struct HasAtomicParseError<A: Allocator = Global> {
+    text: Text<'static, A>,
+}
+
+impl<A: Allocator> Model for HasAtomicParseError<A> {
+    ghost use Rattle.std.specs.Prelude.{List, ℕ};
+
+    ghost Value = { List ℕ };
+
+    ghost view = { λ error. error.text };
+
+    ghost inverse = { λ bytes. record { text = bytes } };
+}
+
+impl<A: Allocator> HasAtomicParseError<A> {
+    /// The fault of this text, which is copied into `alloc`.
+    ///
+    /// The error is that `alloc` refused the copy.
+    pub(crate) fn new(alloc: A, text: &str) -> Result<Self, AllocError>
+        ensures { IfOk result (λ error. error ≡ text.now) }
+    {
+        Ok(HasAtomicParseError {
+            text: Text::new(String::from_str(alloc, text)?),
+        })
+    }
+
+    /// A fault equal to this one, whose text is copied into `alloc`.
+    ///
+    /// The error is that `alloc` refused the copy. This fault stays as it was either way.
+    pub fn try_clone(&self, alloc: A) -> Result<Self, AllocError>
+        ensures { IfOk result (λ copy. copy ≡ self.now) }
+    {
+        Ok(HasAtomicParseError {
+            text: self.text.try_clone(alloc)?,
+        })
+    }
+}
+
+impl<A: Allocator> fmt::Display for HasAtomicParseError<A> {
+    ghost output = { λ text. Some (codes "expected integer or \"ptr\", found " ++ text) };
+
+    fn fmt<W: fmt::Write>(&self, f: &mut fmt::Formatter<W>) -> fmt::Result {
+        f.write_str("expected integer or \"ptr\", found ")?;
+        f.write_str(self.text.as_str())
+    }
+}
+
+// Two faults are equal exactly where their texts are.
+fn are_same_faults<A: Allocator>(
+    one: &HasAtomicParseError<A>,
+    other: &HasAtomicParseError<A>,
+) -> bool
+    ensures { IsTrue result ↔ (one.now ≡ other.now) }
+{
+    one == other
+}

@@ -1,0 +1,67 @@
+//! The families of a target.
+
+ghost use Rattle.std.specs.Prelude.{◌≡◌, ◌↔◌, Contains, IfOk, IsTrue};
+
+use crate::list::{Member, SortedList};
+use cfgx_places::Family;
+use std::alloc::{AllocError, Allocator, Global};
+use std::borrow::CowSlice;
+
+/// A sorted list of families, in which contracts see their texts.
+pub type Families<'a, A = Global> = SortedList<'a, Family<'a, A>, A>;
+
+impl<A: Allocator> Member for Family<'_, A> {
+    ghost use Rattle.std.proofs.Common.{rules};
+    ghost use Rattle.std.specs.Cmp.Rules.{comparing};
+    ghost use Rattle.cfgx_targets.specs.EqualTexts.{equal_texts};
+
+    ghost text = { λ family. family };
+
+    ghost printed = { λ family. Prim.search rules };
+
+    ghost equal_is_same = { λ one other. Prim.search (rules, equal_texts) };
+}
+
+impl<'a, A: Allocator> SortedList<'a, Family<'a, A>, A> {
+    /// Whether a member has the text of this family.
+    pub fn contains<B: Allocator>(&self, family: &Family<'_, B>) -> bool
+        ensures { IsTrue result ↔ Contains self.now family.now }
+    {
+        let text = family.as_str();
+        self.as_slice()
+            .binary_search_by(|member| member.as_str().cmp(text))
+            .is_ok()
+    }
+
+    /// A list equal to this one. A borrowed list is borrowed again and takes no memory; an owned
+    /// one is copied into `alloc`, with its texts.
+    ///
+    /// The error is that `alloc` refused the copy. This list stays as it was either way.
+    pub fn try_clone(&self, alloc: A) -> Result<Self, AllocError>
+    where
+        A: Copy,
+        ensures { IfOk result (λ copy. copy ≡ self.now) }
+    {
+        match &self.items {
+            CowSlice::Borrowed(families) => Ok(SortedList::new_const(*families)),
+            CowSlice::Owned(families) => {
+                let copies = copied(alloc, families.as_slice())?;
+                Ok(SortedList::from_sorted(copies))
+            }
+        }
+    }
+}
+
+// Copies of the families, in memory of `alloc`.
+fn copied<'a, A: Allocator + Copy>(
+    alloc: A,
+    families: &[Family<'a, A>],
+) -> Result<Vec<Family<'a, A>, A>, AllocError>
+    ensures { IfOk result (λ copies. copies.items ≡ families.now) }
+{
+    let mut copies = Vec::with_capacity(alloc, families.len())?;
+    for family in families {
+        copies.push(family.try_clone(alloc)?)?;
+    }
+    Ok(copies)
+}

@@ -1,0 +1,202 @@
+//! Lists whose members stand in order.
+
+ghost use Rattle.std.specs.Prelude.{◌≡◌, ◌↔◌, Contains, IfOk, IsSorted, IsTrue, List, Some, map, ℕ};
+ghost use Rattle.std.specs.Cmp.Lexicographic.{lists_agrees, lists_equiv, lists_per, lists_po};
+ghost use Rattle.std.specs.Cmp.Lexicographic.{lists_ties, lists_total, pointwise, slice_cmp};
+ghost use Rattle.std.specs.Cmp.Lexicographic.{slice_partial_cmp};
+ghost use Rattle.std.specs.Fmt.{DisplaysOnOk};
+ghost use Rattle.std.specs.Hash as fed;
+ghost use Rattle.std.specs.Hash.{items_Alike};
+ghost use Rattle.std.specs.Iterator.{IsFinite};
+ghost use Rattle.std.specs.Iterator.Runs.{WholeRun};
+ghost use Rattle.cfgx_targets.specs.SortedList.{IsSortedFrom, list_text, others_text};
+
+use std::alloc::{AllocError, Allocator, Global};
+use std::borrow::CowSlice;
+use std::cmp::Ordering;
+use std::fmt;
+use std::hash::{Hash, Hasher};
+use std::marker::Model;
+
+mod laws;
+
+/// What may stand in a sorted list: values that compare as equal are the same, and each prints as
+/// a text of its own.
+pub trait Member: Ord + Hash + fmt::Debug + fmt::Display + Drop {
+    ghost use Rattle.std.specs.declared.cmp.Ordering.TheVariants.{Equal};
+
+    /// The bytes that a member prints.
+    ghost text: { Self → List ℕ };
+
+    ghost printed: { (member : Self) → Self.output member ≡ Some (text member) };
+
+    ghost equal_is_same: { (one other : Self) → Self.cmp one other ≡ Equal → one ≡ other };
+}
+
+/// A list whose members do not fall, with repeats kept, borrowed for `'a` or owned in the allocator
+/// `A`.
+///
+/// Which of the two it is shows nowhere: contracts see the list of its members.
+#[derive(Drop)]
+#[derive_where(Debug)]
+pub struct SortedList<'a, T: Member, A: Allocator = Global> {
+    pub(crate) items: CowSlice<'a, T, A>,
+}
+
+impl<'a, T: Member, A: Allocator> Model for SortedList<'a, T, A> {
+    ghost use Rattle.std.specs.Prelude.{IsSorted, List};
+    ghost use Rattle.std.specs.Cow.{cow_slice_items};
+
+    ghost Value = { List T };
+
+    ghost view = { λ list. cow_slice_items list.items };
+
+    ghost invariant = { λ list. IsSorted T.cmp (cow_slice_items list.items) };
+}
+
+impl<'a, T: Member, A: Allocator> SortedList<'a, T, A> {
+    /// The items in order, with repeats kept, in memory of `alloc`.
+    ///
+    /// The error is that `alloc` refused it.
+    pub fn new<I: Iterator<Item = T>>(alloc: A, items: I) -> Result<Self, AllocError>
+        requires can { I.can_next items }
+        requires ends { IsFinite (I.remaining items) }
+        ensures { IfOk result (λ list. WholeRun I.next_gives items (λ run.
+            IsSortedFrom T.cmp run.items list)) }
+    {
+        let items = sorted(alloc, items)?;
+        Ok(SortedList {
+            items: CowSlice::Owned(items),
+        })
+    }
+
+    /// Owns members that are in order.
+    pub(crate) fn from_sorted(items: Vec<T, A>) -> Self
+        requires { IsSorted T.cmp items.items }
+        ensures { result ≡ items.items }
+    {
+        SortedList {
+            items: CowSlice::Owned(items),
+        }
+    }
+
+    /// Borrows items that are in order, and takes no memory. `is_sorted` is the test for that.
+    pub fn new_const(items: &'a [T]) -> Self
+        requires { IsSorted T.cmp items.now }
+        ensures { result ≡ items.now }
+    {
+        SortedList {
+            items: CowSlice::Borrowed(items),
+        }
+    }
+
+    /// Whether no item is below the one before it.
+    pub fn is_sorted(items: &[T]) -> bool
+        ensures { IsTrue result ↔ IsSorted T.cmp items.now }
+    {
+        items.is_sorted()
+    }
+
+    /// The members, in order.
+    pub fn as_slice(&self) -> &[T]
+        ensures members { result.now ≡ self.now }
+        ensures sorted { IsSorted T.cmp result.now }
+    {
+        self.items.as_slice()
+    }
+
+    /// Whether the item is a member.
+    pub(crate) fn holds(&self, item: &T) -> bool
+        ensures { IsTrue result ↔ Contains self.now item.now }
+    {
+        self.as_slice().binary_search(item).is_ok()
+    }
+}
+
+impl<T: Member, A: Allocator> PartialEq for SortedList<'_, T, A> {
+    ghost eq = { pointwise T.eq };
+
+    ghost laws = { lists_per T.PartialEq.laws };
+
+    fn eq(&self, other: &Self) -> bool {
+        self.as_slice() == other.as_slice()
+    }
+}
+
+impl<T: Member, A: Allocator> Eq for SortedList<'_, T, A> {
+    ghost laws = { lists_equiv T.Eq.laws };
+}
+
+impl<T: Member, A: Allocator> PartialOrd for SortedList<'_, T, A> {
+    ghost partial_cmp = { slice_partial_cmp T.partial_cmp };
+
+    ghost laws = { lists_po T.PartialOrd.laws };
+
+    fn partial_cmp(&self, other: &Self) -> Option<Ordering> {
+        self.as_slice().partial_cmp(other.as_slice())
+    }
+}
+
+impl<T: Member, A: Allocator> Ord for SortedList<'_, T, A> {
+    ghost cmp = { slice_cmp T.cmp };
+
+    ghost total = { lists_total T.total };
+
+    ghost matches_partial_cmp = { lists_agrees T.matches_partial_cmp };
+
+    ghost matches_eq = { lists_ties T.cmp T.matches_eq };
+
+    fn cmp(&self, other: &Self) -> Ordering {
+        self.as_slice().cmp(other.as_slice())
+    }
+}
+
+impl<T: Member, A: Allocator> Hash for SortedList<'_, T, A> {
+    ghost hash_input = { fed.slice T.hash_input };
+
+    ghost respects_eq = { (items_Alike (record { fed = T.respects_eq })).fed };
+
+    fn hash<H: Hasher>(&self, state: &mut H) {
+        self.as_slice().hash(state);
+    }
+}
+
+/// The members between braces, with a comma and a space between two.
+impl<T: Member, A: Allocator> fmt::Display for SortedList<'_, T, A> {
+    ghost output = { λ list. Some (list_text (map T.text list)) };
+
+    fn fmt<W: fmt::Write>(&self, f: &mut fmt::Formatter<W>) -> fmt::Result {
+        f.write_str("{")?;
+        if let Some((first, others)) = self.as_slice().split_first() {
+            write!(f, "{first}")?;
+            write_others(f, others)?;
+        }
+        f.write_str("}")
+    }
+}
+
+// Each of the members behind a comma and a space.
+fn write_others<T: Member, W: fmt::Write>(f: &mut fmt::Formatter<W>, members: &[T]) -> fmt::Result
+    ensures { DisplaysOnOk W.write_str_gives f.old result
+        (Some (others_text (map T.text members.now))) f.new }
+{
+    for member in members {
+        write!(f, ", {member}")?;
+    }
+    Ok(())
+}
+
+// The items in order.
+fn sorted<T: Ord + Drop, A: Allocator, I: Iterator<Item = T>>(
+    alloc: A,
+    items: I,
+) -> Result<Vec<T, A>, AllocError>
+    requires can { I.can_next items }
+    requires ends { IsFinite (I.remaining items) }
+    ensures { IfOk result (λ list. WholeRun I.next_gives items (λ run.
+        IsSortedFrom T.cmp run.items list.items)) }
+{
+    let mut items: Vec<T, A> = items.collect(alloc)?;
+    items.sort_unstable();
+    Ok(items)
+}

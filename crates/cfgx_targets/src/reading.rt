@@ -1,0 +1,49 @@
+//! Readers of the values of target keys. None of them takes memory.
+
+ghost use Rattle.std.specs.Prelude.{◌≡◌, ◌^◌};
+ghost use Rattle.cfgx_targets.specs.Endian.{endian_named};
+ghost use Rattle.cfgx_targets.specs.HasAtomic.{atomic_named};
+ghost use Rattle.cfgx_targets.specs.Number.{read_below};
+
+use crate::atomic::HasAtomic;
+use crate::endian::Endian;
+
+mod laws;
+
+/// The number that the text writes, at most 255: at most one `+`, and then ASCII digits.
+pub fn read_u8(text: &str) -> Option<u8>
+    ensures { result ≡ read_below (2 ^ 8) text.now }
+{
+    text.parse::<u8>().ok()
+}
+
+/// The number that the text writes, at most 65535: at most one `+`, and then ASCII digits.
+pub fn read_u16(text: &str) -> Option<u16>
+    ensures { result ≡ read_below (2 ^ 16) text.now }
+{
+    text.parse::<u16>().ok()
+}
+
+/// The byte order that the text names.
+#[tactic(auto, unfolding(crate::specs::Endian::endian_named))]
+pub fn read_endian(text: &str) -> Option<Endian>
+    ensures { result ≡ endian_named text.now }
+{
+    match text {
+        "big" => Some(Endian::big),
+        "little" => Some(Endian::little),
+        _ => None,
+    }
+}
+
+/// The width of atomics that the text names: a number as `read_u16` reads it, or `ptr`.
+#[tactic(auto, unfolding(crate::specs::HasAtomic::atomic_named))]
+pub fn read_has_atomic(text: &str) -> Option<HasAtomic>
+    ensures { result ≡ atomic_named text.now }
+{
+    match read_u16(text) {
+        Some(bits) => Some(HasAtomic::IntegerSize(bits)),
+        None if text == "ptr" => Some(HasAtomic::Pointer),
+        None => None,
+    }
+}
