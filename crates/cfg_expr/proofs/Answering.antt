@@ -1,19 +1,24 @@
 -- What the steps answer for the one token list of a text, the grammar answers for the text.
-use Rattle.std.proofs.Common.{◌≡◌, ◌⊎◌, inl, inr, ℕ, List, [], ◌∷◌, length, Result, Ok, Err, sym}
-use Rattle.std.proofs.Common.{refl, ap, ◌∙◌, subst}
+use Rattle.std.proofs.Common.{◌≡◌, ◌⊎◌, inl, inr, ℕ, List, [], ◌∷◌, length, Some, None}
+use Rattle.std.proofs.Common.{Result, Ok, Err}
+use Rattle.std.proofs.Common.{sym, refl, ap, ◌∙◌, subst}
 use Rattle.std.specs.List.{AllByRecursion}
 use Rattle.cfgx_syntax.specs.Cut.{CanBeCut}
 use Rattle.cfgx_syntax.specs.Items.{Item, Ending, ItemsFrom, AreItems, HasOneTokenList, lexical}
 use Rattle.cfgx_syntax.specs.Error.{Refusal}
 use Rattle.cfg_expr.specs.Tree.{Tree}
 use Rattle.cfg_expr.specs.Grammar.{IsTree, HasTree}
-use Rattle.cfg_expr.specs.Answer.{HasOneTree, HasNoTree}
+use Rattle.cfg_expr.specs.FirstFault.{HasFault, first_fault}
+use Rattle.cfg_expr.specs.Answer.{HasOneTree, HasNoTree, HasOneFault, HasNoFault, IsAccepted}
+use Rattle.cfg_expr.specs.Answer.{IsRefused}
 use Rattle.cfg_expr.specs.nodes.Keeps.{KeepsTree, Keeps}
 use Rattle.cfg_expr.specs.nodes.Writes.{ArePlaced}
 use Rattle.cfg_expr.specs.parsing.State.{State, initial}
 use Rattle.cfg_expr.specs.parsing.Step.{and_then, run, conclude}
 use Rattle.cfg_expr.specs.parsing.Parser.{ended_as, answer_from}
 use Rattle.cfg_expr.proofs.accepted.Steps.{tokens_of, ran, IsTree-accepted}
+use Rattle.cfg_expr.proofs.faults.Steps.{EndAgrees}
+use Rattle.cfg_expr.proofs.faults.Whole.{whole_agrees}
 use Rattle.cfg_expr.proofs.spelled.Whole.{Finds-tree, one_tree_of}
 use Rattle.cfg_expr.proofs.Reading.{placed_at}
 
@@ -99,13 +104,52 @@ module _ (text : List ℕ) (one : HasOneTokenList text) where
   HasNoTree-refused refusal e tree has = let f = FindsTree-tree tree has in let never =
       sym f.answers ∙ e in absurd (cc)
 
+  -- the first fault of the text is what the steps answer
+  fault_shown : (fault : Refusal) → HasFault text fault
+      → first_fault text one.items one.ending ≡ Some fault
+  fault_shown fault has =
+      let same = one.only has.items has.ending has.are_items in
+      ap (λ l. first_fault text l one.ending) (sym same.0)
+      ∙ ap (first_fault text has.items) (sym same.1) ∙ has.shown
+
+  answered : (r : Result State Refusal) → answer ≡ r
+      → EndAgrees r (first_fault text one.items one.ending)
+  answered r e = subst (λ a. EndAgrees a (first_fault text one.items one.ending)) e
+      (whole_agrees text one.items one.ending)
+
+  pub HasNoFault-accepted : (u : State) → answer ≡ Ok u → HasNoFault text
+  HasNoFault-accepted u e fault has =
+      let never : None ≡ Some fault = sym (answered (Ok u) e) ∙ fault_shown fault has in
+      absurd (cc)
+
+  pub HasOneFault-refused : (refusal : Refusal) → answer ≡ Err refusal → HasOneFault text refusal
+  HasOneFault-refused refusal e = record {
+    has_fault = record {
+      items = one.items;
+      ending = one.ending;
+      are_items = one.are;
+      shown = answered (Err refusal) e;
+    };
+    only = λ other has.
+        let same : Some other ≡ Some refusal =
+        sym (fault_shown other has) ∙ answered (Err refusal) e in cc;
+  }
+
+  pub IsAccepted-accepted : (u : State) → answer ≡ Ok u → IsAccepted text
+  IsAccepted-accepted u e =
+      let t = tree_of u e in (HasOneTree-tree t.0 t.1, HasNoFault-accepted u e)
+
+  pub IsRefused-refused : (refusal : Refusal) → answer ≡ Err refusal → IsRefused text refusal
+  IsRefused-refused refusal e = (HasNoTree-refused refusal e, HasOneFault-refused refusal e)
+
   -- either way
-  pub tree_or_none : HasOneTree text ⊎ HasNoTree text
-  tree_or_none = decided answer refl
+  pub accepted_or_refused : IsAccepted text ⊎ ((fault : Refusal) × IsRefused text fault)
+  accepted_or_refused = decided answer refl
     where
-      decided : (r : Result State Refusal) → answer ≡ r → HasOneTree text ⊎ HasNoTree text
-      decided (Ok u) e = let t = tree_of u e in inl (HasOneTree-tree t.0 t.1)
-      decided (Err refusal) e = inr (HasNoTree-refused refusal e)
+      decided : (r : Result State Refusal) → answer ≡ r
+          → IsAccepted text ⊎ ((fault : Refusal) × IsRefused text fault)
+      decided (Ok u) e = inl (IsAccepted-accepted u e)
+      decided (Err refusal) e = inr (refusal, IsRefused-refused refusal e)
 
   -- what is kept of what is accepted
   pub Keeps-accepted : (u : State) → answer ≡ Ok u → Keeps text u.written.nodes u.written.asked

@@ -3,16 +3,15 @@ use Rattle.std.proofs.Common.{◌≡◌, ℕ, List, Result, Ok, Err, sym, ap, �
 use Rattle.cfgx_syntax.specs.Items.{ItemsFrom, HasOneTokenList}
 use Rattle.cfgx_syntax.specs.LexerState.{LexerState, starting}
 use Rattle.cfgx_syntax.specs.Stripping.{strip}
-use Rattle.cfgx_syntax.specs.Error.{Fault}
 use Rattle.cfgx_syntax.specs.declared.error.Failure.{Failure}
 use Rattle.cfgx_syntax.specs.declared.error.Failure.TheVariants as failure
-use Rattle.cfg_expr.specs.Answer.{Answers, HasOneTree}
+use Rattle.cfg_expr.specs.Answer.{Answers, IsAccepted}
 use Rattle.cfg_expr.specs.nodes.Keeps.{Keeps}
 use Rattle.cfg_expr.specs.parsing.State.{State, initial}
 use Rattle.cfg_expr.specs.parsing.Parser.{state_of, FailsAs, Gives, answer_from, ReadsAll}
 use Rattle.cfg_expr.specs.declared.expr.parser.Parser.{Parser}
-use Rattle.cfg_expr.proofs.Answering.{answer, tree_of, HasOneTree-tree, HasNoTree-refused}
-use Rattle.cfg_expr.proofs.Answering.{tree_or_none, Keeps-accepted}
+use Rattle.cfg_expr.proofs.Answering.{answer, tree_of, IsAccepted-accepted, IsRefused-refused}
+use Rattle.cfg_expr.proofs.Answering.{accepted_or_refused, Keeps-accepted}
 use Rattle.cfg_expr.proofs.Stripped.{strip-tree}
 
 -- the start of a text, and of the parser
@@ -49,8 +48,8 @@ given {A} text lexer old new result b reads =
 fails_as : {A : Type 0} (text : List ℕ) (one : HasOneTokenList text)
     (f : Failure A) → FailsAs text f (answer text one) → Answers text (Err f)
 fails_as text one (failure.Parse error) fails =
-    (ap (λ (g : Fault). g.original) fails.2, HasNoTree-refused text one fails.0 fails.1)
-fails_as text one (failure.Memory error) fails = tree_or_none text one
+    (fails.0, fails.2, IsRefused-refused text one fails.0 fails.1)
+fails_as text one (failure.Memory error) fails = accepted_or_refused text one
 
 pub Answers-fails : {A : Type 0} (text : List ℕ) (lexer : LexerState) (old new : Parser A)
     (f : Failure A) → Begins {A = A} text lexer old
@@ -63,7 +62,7 @@ Answers-fails {A} text lexer old new f b reads =
 pub Answers-memory : {A : Type 0} (text : List ℕ) (f : Failure A) → HasOneTokenList text
     → (error : _) → f ≡ failure.Memory error → Answers text (Err f)
 Answers-memory {A} text f one error is = subst (λ (g : Failure A). Answers {A = A} text (Err g))
-    (sym is) (tree_or_none text one)
+    (sym is) (accepted_or_refused text one)
 
 -- what is accepted
 pub Keeps-reads : {A : Type 0} (text : List ℕ) (lexer : LexerState)
@@ -75,10 +74,10 @@ Keeps-reads {A} text lexer old new b reads =
     subst (λ (s : State). Keeps text s.written.nodes s.written.asked) gives.2.is
     (Keeps-accepted text b.one gives.0 gives.1)
 
-pub HasOneTree-reads : {A : Type 0} (text : List ℕ) (lexer : LexerState)
+pub IsAccepted-reads : {A : Type 0} (text : List ℕ) (lexer : LexerState)
     (old new : Parser A) → Begins {A = A} text lexer old
-    → ReadsAll {A = A} lexer old new (Ok tt) → (strip text ≡ text) × HasOneTree text
-HasOneTree-reads {A} text lexer old new b reads =
+    → ReadsAll {A = A} lexer old new (Ok tt) → (strip text ≡ text) × IsAccepted text
+IsAccepted-reads {A} text lexer old new b reads =
     let gives = given {A = A} text lexer old new (Ok tt) b reads in
     let found = tree_of text b.one gives.0 gives.1 in
-    (strip-tree text found.0 found.1, HasOneTree-tree text b.one found.0 found.1)
+    (strip-tree text found.0 found.1, IsAccepted-accepted text b.one gives.0 gives.1)

@@ -2,7 +2,7 @@
 -- them.
 use Rattle.std.proofs.Common.{◌≡◌, ℕ, ◌≤◌, List, [], ◌∷◌, length, drop, Some, Result, Ok, Err, sym}
 use Rattle.std.proofs.Common.{refl, ap, ◌∙◌, subst, arith}
-use Rattle.std.specs.Prelude.{slice_range, OnOk}
+use Rattle.std.specs.Prelude.{slice_range}
 use Rattle.cfgx_syntax.specs.Items.{Item, Ending, Stands, EndsAs, ItemsFrom, IsBlank, lexical}
 use Rattle.cfgx_syntax.specs.Error.{Refusal, FailsWith, fault_in}
 use Rattle.cfgx_syntax.specs.LexerState.{LexerState}
@@ -15,7 +15,7 @@ use Rattle.cfgx_syntax.specs.Cut.{CanBeCut}
 use Rattle.cfgx_syntax.specs.declared.lexer.Token as declared
 use Rattle.cfgx_syntax.specs.declared.lexer.Token.TheVariants as given
 use Rattle.cfgx_syntax.proofs.Values.{value_inside}
-use Rattle.cfg_expr.specs.nodes.Writes.{IsPlaced, ArePlaced}
+use Rattle.cfg_expr.specs.nodes.Writes.{IsPlaced}
 use Rattle.cfgx_syntax.proofs.TokenList.{Stands-same, Stands-no_ending, EndsAs-same}
 use Rattle.cfg_expr.specs.parsing.State.{State}
 use Rattle.cfg_expr.specs.parsing.Step.{and_then, step, run, conclude}

@@ -1,11 +1,12 @@
--- What `Expression::parse` answers for a text, by the grammar alone.
+-- What `Expression::parse` answers for a stripped text, by the grammar and the first fault alone.
 use Rattle.std.specs.Prelude.{◌≡◌, ◌⊎◌, ℕ, List, Result, Ok, Err}
 use Rattle.cfgx_syntax.specs.Stripping.{strip}
-use Rattle.cfgx_syntax.specs.Error.{fault_of}
+use Rattle.cfgx_syntax.specs.Error.{Refusal, fault_in, fault_of}
 use Rattle.cfgx_syntax.specs.declared.error.Failure.{Failure}
 use Rattle.cfgx_syntax.specs.declared.error.Failure.TheVariants as failure
 use Rattle.cfg_expr.specs.Tree.{Tree}
 use Rattle.cfg_expr.specs.Grammar.{HasTree}
+use Rattle.cfg_expr.specs.FirstFault.{HasFault}
 
 -- the text has a tree, and no other
 pub record HasOneTree (text : List ℕ) : Type 0 where
@@ -16,11 +17,27 @@ pub record HasOneTree (text : List ℕ) : Type 0 where
 abbrev pub HasNoTree : List ℕ → Type 0
 HasNoTree text = (tree : Tree) → HasTree text tree → ⊥
 
--- An expression comes only from a text with one tree, which nothing is stripped from, and is seen
--- as that text; a fault
--- comes only from a text with none, and holds that text; where memory ran out the text has one tree
--- or none.
+-- the text has this first fault, and no other
+pub record HasOneFault (text : List ℕ) (fault : Refusal) : Type 0 where
+  pub has_fault : HasFault text fault
+  pub only : (other : Refusal) → HasFault text other → other ≡ fault
+
+abbrev pub HasNoFault : List ℕ → Type 0
+HasNoFault text = (fault : Refusal) → HasFault text fault → ⊥
+
+-- the text is a condition, or it is refused with this fault: never both
+abbrev pub IsAccepted : List ℕ → Type 0
+IsAccepted text = HasOneTree text × HasNoFault text
+
+abbrev pub IsRefused : List ℕ → Refusal → Type 0
+IsRefused text fault = HasNoTree text × HasOneFault text fault
+
+-- An expression comes only from a text with one tree and no fault, which nothing is stripped from,
+-- and is seen as that text. A fault is the first fault of a text with no tree, and holds that text.
+-- Where memory ran out, the text is one or the other.
 abbrev pub Answers : {A : Type 0} → List ℕ → Result (List ℕ) (Failure A) → Type 0
-Answers text (Ok expression) = (expression ≡ text) × (strip text ≡ text) × HasOneTree text
-Answers text (Err (failure.Parse error)) = ((fault_of error).original ≡ text) × HasNoTree text
-Answers text (Err (failure.Memory error)) = HasOneTree text ⊎ HasNoTree text
+Answers text (Ok expression) = (expression ≡ text) × (strip text ≡ text) × IsAccepted text
+Answers text (Err (failure.Parse error)) = (fault : Refusal)
+    × (fault_of error ≡ fault_in text fault) × IsRefused text fault
+Answers text (Err (failure.Memory error)) =
+    IsAccepted text ⊎ ((fault : Refusal) × IsRefused text fault)

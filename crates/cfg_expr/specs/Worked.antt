@@ -1,10 +1,13 @@
 -- Worked examples, on which tests compute the definitions.
-use Rattle.std.specs.Prelude.{ℕ, List, [], ◌∷◌, codes, map, Some, None, Result}
+use Rattle.std.specs.Prelude.{ℕ, ◌+◌, List, [], ◌∷◌, length, codes, map, Option, Some, None}
+use Rattle.std.specs.Prelude.{Result}
 use Rattle.std.specs.declared.ops.Range.{Range}
-use Rattle.cfgx_syntax.specs.Error.{Cause, Refusal}
+use Rattle.cfgx_syntax.specs.Error.{Cause, Refusal, unexpected}
 use Rattle.cfgx_syntax.specs.Items.{Item, Ending}
-use Rattle.cfgx_syntax.specs.Token.{Token}
+use Rattle.cfgx_syntax.specs.Token.{Token, in_quotes}
 use Rattle.cfg_expr.specs.Classification.{Class, Part, class}
+use Rattle.cfg_expr.specs.FirstFault.{refusal, first_fault}
+use Rattle.cfg_expr.specs.Neighbours.{expected}
 use Rattle.cfg_expr.specs.Question.{Question}
 use Rattle.cfg_expr.specs.Tree.{Tree, Trees}
 use Rattle.cfg_expr.specs.nodes.Node.{nothing}
@@ -120,3 +123,35 @@ bad_key cause = Class.refused cause Part.of_key
 
 abbrev pub bad_value : Cause → Class
 bad_value cause = Class.refused cause Part.of_value
+
+-- A text laid out from its tokens, each behind so many spaces.
+abbrev pub bytes_of : Token → List ℕ
+bytes_of (Token.key text) = text
+bytes_of (Token.value text) = in_quotes text
+bytes_of Token.equals = codes "="
+bytes_of Token.all = codes "all"
+bytes_of Token.any = codes "any"
+bytes_of Token.not = codes "not"
+bytes_of Token.open_paren = codes "("
+bytes_of Token.close_paren = codes ")"
+bytes_of Token.comma = codes ","
+
+abbrev pub laid_out : ℕ → List (ℕ × Token) → List Item
+laid_out from [] = []
+laid_out from (spaced ∷ more) =
+    item spaced.1 (from + spaced.0) (from + spaced.0 + length (bytes_of spaced.1))
+    ∷ laid_out (from + spaced.0 + length (bytes_of spaced.1)) more
+
+-- the first fault of a text whose tokens stand so, up to its end
+abbrev pub shown : List ℕ → List (ℕ × Token) → Option Refusal
+shown text tokens = first_fault text (laid_out 0 tokens) Ending.blank
+
+abbrev pub near : List Token → List (ℕ × Token)
+near tokens = map (λ token. (0, token)) tokens
+
+abbrev pub key : List ℕ → Token
+key text = Token.key text
+
+-- the fault of a token that is refused behind the last one
+abbrev pub refused_behind : Option Token → ℕ → ℕ → Option Refusal
+refused_behind last start end = Some (refusal (unexpected (expected last)) start end)

@@ -2,7 +2,10 @@
 -- it.
 pub mod Keeps
 pub mod Located
+pub mod Machine
+pub mod Measure
 pub mod Node
 pub mod Prefix
+pub mod Steps
 pub mod Writes
 pub mod Writer

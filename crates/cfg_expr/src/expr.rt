@@ -1,26 +1,35 @@
 //! Conditions, and the predicates that they ask.
-ghost use Rattle.std.specs.Prelude.{◌≡◌, IfOk};
+ghost use Rattle.std.specs.Prelude.{◌≡◌, ◌≤◌, length, IfOk, IsOk, OnErr};
 ghost use Rattle.cfgx_syntax.specs.Stripping.{strip};
+ghost use Rattle.std.specs.List.{AllByRecursion};
 ghost use Rattle.cfg_expr.specs.Answer.{Answers};
+ghost use Rattle.cfg_expr.specs.Evaluation.{Evaluates, MayEvaluate};
 ghost use Rattle.cfg_expr.specs.Tree.{Tree, asked};
 ghost use Rattle.cfg_expr.specs.Grammar.{HasTree};
+ghost use Rattle.cfg_expr.specs.Regular.{IsRegular};
 
 mod classification;
+mod evaluating;
 mod laws;
+mod matcher;
 mod nodes;
 mod parser;
 mod predicates;
+mod spelling;
 #[cfg(test)]
 mod tests;
 
 use crate::error::Failure;
 use crate::memory::SmallAllocator;
-pub use cfgx_syntax::lexer;
+pub use cfgx_syntax::logic::Logic;
+pub use cfgx_syntax::{lexer, logic};
 use lexer::Lexer;
+pub use matcher::TargetMatcher;
 use nodes::ExprNode;
 use parser::Parser;
 pub use predicates::{Predicate, Predicates, TargetPredicate};
 use smallvec::SmallVec;
+pub use spelling::spell;
 use std::alloc::{AllocError, Allocator, Global};
 use std::fmt;
 use std::marker::Model;
@@ -145,14 +154,39 @@ impl<A: SmallAllocator> Expression<A> {
     }
 
     /// The predicates in the order in which they are asked: in each list the functions first,
-    /// whole, and then the list's own predicates. It takes no memory.
+    /// whole, and then the list's own predicates. Each of them can stand in a text. It takes no
+    /// memory.
     pub fn predicates(&self) -> Predicates<'_>
-        ensures { (tree : Tree) × HasTree self.now tree × (result ≡ asked tree) }
+        ensures asked { (tree : Tree) × HasTree self.now tree × (result ≡ asked tree) }
+        ensures regular { AllByRecursion IsRegular result }
     {
         Predicates::new(
             self.original.as_str(),
             self.expr.as_slice(),
             self.asked.as_slice(),
         )
+    }
+
+    /// The value of the condition, where `ep` answers each predicate.
+    ///
+    /// Each occurrence of a predicate is asked once, in the order of `predicates`. The members of
+    /// `all` are joined by `and` to `top`, those of `any` by `or` to `bottom`, from the last one
+    /// that is asked back to the first.
+    ///
+    /// All memory is taken before the first question, and none where the text has at most 32 bytes.
+    /// The error is that `alloc` refused it; then `ep` is as it was.
+    pub fn eval<EP, T>(&self, alloc: A, ep: &mut EP) -> Result<T, AllocError>
+    where
+        EP: FnMut(&Predicate<'_>) -> T,
+        T: Logic,
+        requires { MayEvaluate EP.FnMut self.now ep.old }
+        ensures value { IfOk result (λ value.
+            Evaluates T.Logic EP.FnMut self.now ep.old value ep.new) }
+        ensures refused { OnErr result (ep.new ≡ ep.old) }
+        ensures short { length self.now ≤ 32 → IsOk result }
+    {
+        let _fits = self.expr.len();
+        let (nodes, asked) = (self.expr.as_slice(), self.asked.as_slice());
+        evaluating::value_of(alloc, self.original(), nodes, asked, ep)
     }
 }

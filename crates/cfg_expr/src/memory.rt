@@ -6,7 +6,7 @@ use std::alloc::{Allocator, Global};
 /// The vectors of an expression hold one beside their inline places, so the bytes that they take
 /// depend on it. Every `&A` is such a handle: an allocator of any size is lent.
 pub trait SmallAllocator: Allocator + Copy {
-    ghost use Rattle.cfg_expr.specs.Size.{IsSmall};
+    ghost use Rattle.cfgx_syntax.specs.Size.{IsSmall};
 
     ghost small: { IsSmall Self.row };
 }

@@ -6,7 +6,6 @@ use Rattle.std.specs.Str.{bytes_eq}
 use Rattle.std.specs.Io.KnownBytes.{Appends}
 use Rattle.std.proofs.lemmas.Slice.Eq.{bytes_eq-Decides}
 use Rattle.cfgx_syntax.specs.Stripping.{strip}
-use Rattle.cfgx_syntax.specs.Error.{Fault, error_text}
 use Rattle.cfg_expr.specs.Question.{Question}
 use Rattle.cfg_expr.specs.Tree.{Tree, asked}
 use Rattle.cfg_expr.specs.Grammar.{HasTree}
@@ -67,7 +66,7 @@ lists_predicates words shown old new prints is_status taken =
       one = l.0;
       written = subst (λ o. Appends old new o.bytes) l.1 taken;
     })
-    (λ r. other_status r.3 is_status (λ e. omega (arith, e))) p.2)
+    (λ r. other_status r.2 is_status (λ e. omega (arith, e))) p.2)
     (λ w. other_status w is_status (λ e. omega (arith, e))) (parsed words shown prints)
 
 -- with status 1 they are `parse` and a text with no tree
@@ -78,9 +77,8 @@ prints_fault words shown old new prints is_status taken =
     ⊎_elim (λ p. ⊎_elim (λ l. other_status l.1 is_status (λ e. omega (arith, e))) (λ r. record {
       text = p.0;
       are_words = p.1;
-      has_no_tree = r.0;
-      fault = r.1;
-      original = r.2;
-      written = subst (λ o. Appends old new o.bytes) r.3 taken;
+      fault = r.0;
+      refused = r.1;
+      written = subst (λ o. Appends old new o.bytes) r.2 taken;
     }) p.2)
     (λ w. other_status w is_status (λ e. omega (arith, e))) (parsed words shown prints)

@@ -7,10 +7,10 @@ use Rattle.std.specs.List.{flat_map}
 use Rattle.std.specs.Str.{bytes_eq}
 use Rattle.std.specs.Io.KnownBytes.{Appends}
 use Rattle.cfgx_syntax.specs.Stripping.{strip}
-use Rattle.cfgx_syntax.specs.Error.{Fault, error_text}
+use Rattle.cfgx_syntax.specs.Error.{Refusal, fault_in, error_text}
 use Rattle.cfg_expr.specs.Question.{Question}
 use Rattle.cfg_expr.specs.Tree.{asked}
-use Rattle.cfg_expr.specs.Answer.{HasOneTree, HasNoTree}
+use Rattle.cfg_expr.specs.Answer.{HasOneTree, IsRefused}
 use Rattle.cfg_expr.specs.Spelling.{spelling}
 use Rattle.cfgx_engine.specs.Streams.{TakesFront}
 
@@ -52,10 +52,13 @@ abbrev pub Lists : List ℕ → Output → Type 0
 Lists text output = (one : HasOneTree (strip text))
     × (output ≡ record { bytes = lines (asked one.tree); status = 0 })
 
--- a fault of the text and a line feed, where the text has no tree
+-- the first fault of the text and a line feed, where the text has no tree
 abbrev pub Refuses : List ℕ → Output → Type 0
-Refuses text output = HasNoTree (strip text) × (fault : Fault) × (fault.original ≡ strip text)
-    × (output ≡ record { bytes = error_text fault ++ codes "\n"; status = 1 })
+Refuses text output = (fault : Refusal) × IsRefused (strip text) fault
+    × (output ≡ record {
+      bytes = error_text (fault_in (strip text) fault) ++ codes "\n";
+      status = 1;
+    })
 
 -- this is an output of the request
 abbrev pub Prints : Request → Output → Type 0
@@ -81,12 +84,11 @@ pub record ListsPredicates (words : List (List ℕ)) (old new : Option (List ℕ
   pub one : HasOneTree (strip text)
   pub written : Appends old new (lines (asked one.tree))
 
--- The words are `parse` and a text that has no tree, and a sink has taken a fault of it and a line
--- feed.
+-- The words are `parse` and a text that has no tree, and a sink has taken the text's first fault
+-- and a line feed.
 pub record PrintsFault (words : List (List ℕ)) (old new : Option (List ℕ)) : Type 0 where
   pub text : List ℕ
   pub are_words : words ≡ codes "parse" ∷ text ∷ []
-  pub has_no_tree : HasNoTree (strip text)
-  pub fault : Fault
-  pub original : fault.original ≡ strip text
-  pub written : Appends old new (error_text fault ++ codes "\n")
+  pub fault : Refusal
+  pub refused : IsRefused (strip text) fault
+  pub written : Appends old new (error_text (fault_in (strip text) fault) ++ codes "\n")

@@ -42,7 +42,7 @@ pub fn run<A: SmallAllocator, R: Source, W: Sink>(
     ensures predicates { result ≡ 0
         → ListsPredicates (texts words.now) (W.written writer.old) (W.written writer.new) }
 
-    // Status 1: the text has no tree, and its fault was written.
+    // Status 1: the text has no tree, and its first fault was written.
     ensures fault { result ≡ 1
         → PrintsFault (texts words.now) (W.written writer.old) (W.written writer.new) }
 

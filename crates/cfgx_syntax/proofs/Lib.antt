@@ -4,6 +4,7 @@ pub mod Finding
 pub mod FirstChar
 pub mod Fronts
 pub mod Lanes
+pub mod Repeated
 pub mod Scanning
 pub mod TokenList
 pub mod Values

@@ -1,9 +1,10 @@
 //! What is wrong with a cfg text, where, and how it prints.
 
 ghost use Rattle.std.specs.Prelude.{◌≡◌, ◌-◌, ◌<◌, ◌∷◌, ◌++◌, [], Some, codes, map, replicate};
+ghost use Rattle.std.specs.List.{repeat};
 ghost use Rattle.std.specs.Fmt.{DisplaysOnOk};
 ghost use Rattle.cfgx_syntax.specs.Error.{cause_of, marks, more_terms_text, unexpected_text};
-ghost use Rattle.cfgx_syntax.specs.Error.{FailsWith, fault_in};
+ghost use Rattle.cfgx_syntax.specs.Error.{FailsWith, fault_in, byte_of};
 
 use std::alloc::{AllocError, AllocFailed, Allocator, Global};
 use std::fmt;
@@ -12,6 +13,11 @@ use std::ops::Range;
 mod laws;
 #[cfg(test)]
 mod tests;
+
+// 64 of each mark.
+const SPACES: &str = "                                                                ";
+
+const CARETS: &str = "^^^^^^^^^^^^^^^^^^^^^^^^^^^^^^^^^^^^^^^^^^^^^^^^^^^^^^^^^^^^^^^^";
 
 /// Why a text is refused.
 #[derive(Clone, Copy, Debug, PartialEq, Eq)]
@@ -195,7 +201,7 @@ impl<A: Allocator> fmt::Display for ParseError<A> {
     fn fmt<W: fmt::Write>(&self, f: &mut fmt::Formatter<W>) -> fmt::Result {
         f.write_str(self.original.as_str())?;
         f.write_str("\n")?;
-        write_times(f, ' ', self.span.start)?;
+        write_spaces(f, self.span.start)?;
         write_marks(
             f,
             self.span.end.saturating_sub(self.span.start),
@@ -218,17 +224,46 @@ fn write_marks<W: fmt::Write>(
     match reason {
         Reason::UnclosedParens | Reason::UnclosedQuotes => f.write_str("-"),
         Reason::UnopenedParens | Reason::UnopenedQuotes => f.write_str("^"),
-        _ => write_times(f, '^', width),
+        _ => write_carets(f, width),
     }
 }
 
-// An ASCII character, that many times.
-fn write_times<W: fmt::Write>(f: &mut fmt::Formatter<W>, mark: char, times: usize) -> fmt::Result
-    requires { mark < 128 }
-    ensures { DisplaysOnOk W.write_str_gives f.old result (Some (replicate times mark)) f.new }
+// A text, that many times.
+fn write_repeated<W: fmt::Write>(f: &mut fmt::Formatter<W>, text: &str, times: usize) -> fmt::Result
+    ensures { DisplaysOnOk W.write_str_gives f.old result (Some (repeat times text.now)) f.new }
 {
     for _time in 0..times {
-        f.write_char(mark)?;
+        f.write_str(text)?;
     }
     Ok(())
+}
+
+// A mark, that many times; `many` is 64 of them, so that a long span takes few calls.
+fn write_times<W: fmt::Write>(
+    f: &mut fmt::Formatter<W>,
+    mark: &str,
+    many: &str,
+    times: usize,
+) -> fmt::Result
+    requires { many.now ≡ repeat 64 mark.now }
+    ensures { DisplaysOnOk W.write_str_gives f.old result (Some (repeat times mark.now)) f.new }
+{
+    write_repeated(f, many, times / 64)?;
+    write_repeated(f, mark, times % 64)
+}
+
+// A space for each byte in front of a span.
+fn write_spaces<W: fmt::Write>(f: &mut fmt::Formatter<W>, times: usize) -> fmt::Result
+    ensures { DisplaysOnOk W.write_str_gives f.old result
+        (Some (replicate times (byte_of (codes " ")))) f.new }
+{
+    write_times(f, " ", SPACES, times)
+}
+
+// A caret for each byte of a span.
+fn write_carets<W: fmt::Write>(f: &mut fmt::Formatter<W>, times: usize) -> fmt::Result
+    ensures { DisplaysOnOk W.write_str_gives f.old result
+        (Some (replicate times (byte_of (codes "^")))) f.new }
+{
+    write_times(f, "^", CARETS, times)
 }

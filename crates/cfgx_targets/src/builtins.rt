@@ -1,6 +1,6 @@
 //! The named lists, the targets that are built in, and the version that they are of.
 
-ghost use Rattle.std.specs.Prelude.{◌≡◌, ◌∷◌, ◌++◌, [], IfOk, OnOk, codes};
+ghost use Rattle.std.specs.Prelude.{◌≡◌, ◌∷◌, ◌++◌, [], IfOk, OnOk, codes, option_copied};
 ghost use Rattle.cfgx_targets.specs.Builtins.{apple_row, builtin_rows, widths_and_pointer};
 
 use crate::atomic::HasAtomic;
@@ -152,41 +152,40 @@ fn rows<'a, A: Allocator + Copy>(alloc: A) -> Result<Vec<TargetInfo<'a, A>, A>, 
     ensures { IfOk result (λ rows. rows.items ≡ builtin_rows) }
 {
     let mut rows: Vec<TargetInfo<'a, A>, A> = Vec::with_capacity(alloc, 5)?;
-    let (macabi, sim) = (Some(Abi::macabi()), Some(Abi::sim()));
-    let (macabi_env, sim_env) = (Some(Env::macabi()), Some(Env::sim()));
-    push_apple(&mut rows, alloc, DARWIN, Os::macos(), None, None)?;
-    push_apple(&mut rows, alloc, IOS, Os::ios(), None, None)?;
-    push_apple(&mut rows, alloc, MACABI, Os::ios(), macabi, macabi_env)?;
-    push_apple(&mut rows, alloc, SIM, Os::ios(), sim, sim_env)?;
-    push_apple(&mut rows, alloc, TVOS, Os::tvos(), None, None)?;
+    push_apple(&mut rows, alloc, DARWIN, "macos", None)?;
+    push_apple(&mut rows, alloc, IOS, "ios", None)?;
+    push_apple(&mut rows, alloc, MACABI, "ios", Some("macabi"))?;
+    push_apple(&mut rows, alloc, SIM, "ios", Some("sim"))?;
+    push_apple(&mut rows, alloc, TVOS, "tvos", None)?;
     Ok(rows)
 }
 
-// Adds a target of Apple's with this triple, operating system, ABI and environment.
+// Adds a target of Apple's with this triple and operating system. The variant, where there is one,
+// is its ABI and its environment.
 fn push_apple<'a, A: Allocator + Copy>(
     rows: &mut Vec<TargetInfo<'a, A>, A>,
     alloc: A,
     triple: &'a str,
-    os: Os<'a, A>,
-    abi: Option<Abi<'a, A>>,
-    env: Option<Env<'a, A>>,
+    os: &'a str,
+    variant: Option<&'a str>,
 ) -> Result<(), AllocError>
-    ensures { OnOk result (rows.new.items
-        ≡ rows.old.items ++ apple_row triple.now os.entry abi.entry env.entry ∷ []) }
+    ensures { OnOk result (rows.new.items ≡ rows.old.items ++ apple_row
+        triple.now os.now (option_copied variant.entry) (option_copied variant.entry) ∷ []) }
 {
-    let row = TargetInfo {
+    let families = SortedList::unix(alloc)?;
+    let has_atomics = SortedList::atomic_8_16_32_64_128_ptr(alloc)?;
+    rows.push(TargetInfo {
         triple: Triple::new_const(triple),
-        os: Some(os),
-        abi,
+        os: Some(Os::new_const(os)),
+        abi: variant.map(|name| Abi::new_const(name)),
         arch: Arch::aarch64(),
-        env,
+        env: variant.map(|name| Env::new_const(name)),
         vendor: Some(Vendor::apple()),
-        families: SortedList::unix(alloc)?,
+        families,
         pointer_width: 64,
         endian: Endian::little,
-        has_atomics: SortedList::atomic_8_16_32_64_128_ptr(alloc)?,
+        has_atomics,
         panic: Panic::unwind(),
-    };
-    rows.push(row)?;
+    })?;
     Ok(())
 }

@@ -44,6 +44,15 @@ pub struct TargetInfo<'a, A: Allocator = Global> {
     pub panic: Panic<'a, A>,
 }
 
+// The triple, the architecture and the vendor.
+type Names<'a, A> = (Triple<'a, A>, Arch<'a, A>, Option<Vendor<'a, A>>);
+
+// The operating system, the ABI and the environment.
+type Places<'a, A> = (Option<Os<'a, A>>, Option<Abi<'a, A>>, Option<Env<'a, A>>);
+
+// The families, the widths of atomics and the panic strategy.
+type Lists<'a, A> = (Families<'a, A>, HasAtomics<A>, Panic<'a, A>);
+
 impl<'a, A: Allocator + Copy> TargetInfo<'a, A> {
     /// A target equal to this one. What is borrowed is borrowed again and takes no memory; what is
     /// owned is copied into `alloc`.
@@ -52,19 +61,51 @@ impl<'a, A: Allocator + Copy> TargetInfo<'a, A> {
     pub fn try_clone(&self, alloc: A) -> Result<Self, AllocError>
         ensures { IfOk result (λ copy. copy ≡ self.now) }
     {
+        let (triple, arch, vendor) = self.copied_names(alloc)?;
+        let (os, abi, env) = self.copied_places(alloc)?;
+        let (families, has_atomics, panic) = self.copied_lists(alloc)?;
         Ok(TargetInfo {
-            triple: self.triple.try_clone(alloc)?,
-            os: copied_place(&self.os, alloc)?,
-            abi: copied_field(&self.abi, alloc)?,
-            arch: self.arch.try_clone(alloc)?,
-            env: copied_place(&self.env, alloc)?,
-            vendor: copied_field(&self.vendor, alloc)?,
-            families: self.families.try_clone(alloc)?,
+            triple,
+            os,
+            abi,
+            arch,
+            env,
+            vendor,
+            families,
             pointer_width: self.pointer_width,
             endian: self.endian,
-            has_atomics: self.has_atomics.try_clone(alloc)?,
-            panic: self.panic.try_clone(alloc)?,
+            has_atomics,
+            panic,
         })
+    }
+}
+
+// In three groups: on each way out of a function the checker goes over all that is owned there, so
+// one function that copies every field takes it far longer.
+impl<'a, A: Allocator + Copy> TargetInfo<'a, A> {
+    fn copied_names(&self, alloc: A) -> Result<Names<'a, A>, AllocError>
+        ensures { IfOk result (λ copy. copy ≡ (self.now.triple, self.now.arch, self.now.vendor)) }
+    {
+        let triple = self.triple.try_clone(alloc)?;
+        let arch = self.arch.try_clone(alloc)?;
+        Ok((triple, arch, copied_field(&self.vendor, alloc)?))
+    }
+
+    fn copied_places(&self, alloc: A) -> Result<Places<'a, A>, AllocError>
+        ensures { IfOk result (λ copy. copy ≡ (self.now.os, self.now.abi, self.now.env)) }
+    {
+        let os = copied_place(&self.os, alloc)?;
+        let abi = copied_field(&self.abi, alloc)?;
+        Ok((os, abi, copied_place(&self.env, alloc)?))
+    }
+
+    fn copied_lists(&self, alloc: A) -> Result<Lists<'a, A>, AllocError>
+        ensures { IfOk result
+            (λ copy. copy ≡ (self.now.families, self.now.has_atomics, self.now.panic)) }
+    {
+        let families = self.families.try_clone(alloc)?;
+        let has_atomics = self.has_atomics.try_clone(alloc)?;
+        Ok((families, has_atomics, self.panic.try_clone(alloc)?))
     }
 }
 

@@ -186,7 +186,8 @@ fn write_others<T: Member, W: fmt::Write>(f: &mut fmt::Formatter<W>, members: &[
     Ok(())
 }
 
-// The items in order.
+// The items in order. They are pushed one by one, since `collect` goes on after a growth that is
+// refused, and asks for less.
 fn sorted<T: Ord + Drop, A: Allocator, I: Iterator<Item = T>>(
     alloc: A,
     items: I,
@@ -196,7 +197,10 @@ fn sorted<T: Ord + Drop, A: Allocator, I: Iterator<Item = T>>(
     ensures { IfOk result (λ list. WholeRun I.next_gives items (λ run.
         IsSortedFrom T.cmp run.items list.items)) }
 {
-    let mut items: Vec<T, A> = items.collect(alloc)?;
-    items.sort_unstable();
-    Ok(items)
+    let mut sorted = Vec::new(alloc);
+    for item in items {
+        sorted.push(item)?;
+    }
+    sorted.sort_unstable();
+    Ok(sorted)
 }

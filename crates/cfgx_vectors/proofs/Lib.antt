@@ -1,1 +1,2 @@
 mod Loan
+pub mod Counted

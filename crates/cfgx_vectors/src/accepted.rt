@@ -1,16 +1,17 @@
 //! Texts with a tree, and the predicates that they ask.
-use crate::streams::{Ended, Recorder};
+use crate::streams::is_answer;
+use cfg_expr::error::Failure;
+use cfg_expr::expr::Predicates;
 use cfg_expr::{Expression, Predicate, TargetPredicate};
-use cfgx_engine::engine::run;
 use cfgx_fields::Field;
 use cfgx_places::Field as Place;
-use cfgx_targets::{atomic, endian};
+use cfgx_targets::atomic::HasAtomic;
+use cfgx_targets::endian::Endian;
 use std::alloc::Global;
-use std::process::Abort;
 use std::test::Fail;
 
 // A text, and its predicates in the order in which they are asked, one a line.
-const ROWS: [(&str, &str); 43] = [
+const ROWS: &[(&str, &str)] = &[
     ("a", "a\n"),
     ("key,", "key\n"),
     ("key,,", "key\n"),
@@ -60,7 +61,7 @@ const ROWS: [(&str, &str); 43] = [
 ];
 
 // The same of texts with values.
-const VALUES: [(&str, &str); 36] = [
+const VALUES: &[(&str, &str)] = &[
     ("cfg(unix)", "target_family = \"unix\"\n"),
     ("windows", "target_family = \"windows\"\n"),
     ("test", "test\n"),
@@ -135,132 +136,109 @@ const VALUES: [(&str, &str); 36] = [
     ),
 ];
 
-// Each text asks its predicates.
-fn write_their_predicates(
-    rt: &impl Abort,
-    alloc: Global,
-    rows: &[(&str, &str)],
-) -> Result<(), Fail> {
-    for (text, written) in rows {
-        let mut sink = Recorder::new(alloc);
-        let status = run(alloc, &["parse", text], &mut Ended, &mut sink);
-        assert_eq!(rt; status, 0, "{text:?}");
-        assert_eq!(rt; sink.bytes.as_slice(), written.as_bytes(), "{text:?}");
-    }
-    Ok(())
-}
-
 #[test]
-fn ask_their_predicates(rt: HostRuntime) -> Result<(), Fail> {
-    write_their_predicates(&rt, rt.alloc(), &ROWS)?;
-    write_their_predicates(&rt, rt.alloc(), &VALUES)
+fn ask_their_predicates(rt: HostRuntime) {
+    for rows in [ROWS, VALUES] {
+        for (text, written) in rows {
+            assert!(rt;
+                is_answer(rt.alloc(), &["parse", text], 0, written),
+                "{text:?}"
+            );
+        }
+    }
 }
 
-// A text whose one predicate is this one.
-fn asks(rt: &impl Abort, alloc: Global, text: &str, wanted: Predicate<'_>) -> Result<(), Fail> {
+// Whether the text of `TYPED` has its one predicate.
+fn asks(alloc: Global, text: &str) -> Result<bool, Failure> {
     let expression = Expression::parse(alloc, text)?;
-    let mut predicates = expression.predicates();
-    assert_eq!(rt; predicates.next(), Some(wanted), "{text:?}");
-    assert_eq!(rt; predicates.next(), None, "{text:?}");
-    Ok(())
+    Ok(are_one(expression.predicates(), &typed(text)))
 }
 
-fn asks_target(
-    rt: &impl Abort,
-    alloc: Global,
-    text: &str,
-    wanted: TargetPredicate<'_>,
-) -> Result<(), Fail> {
-    asks(rt, alloc, text, Predicate::Target(wanted))
+fn are_one(mut predicates: Predicates<'_>, wanted: &Predicate<'_>) -> bool {
+    let is_first = match predicates.next() {
+        Some(predicate) => predicate == *wanted,
+        None => false,
+    };
+    is_first && predicates.next().is_none()
+}
+
+const TYPED: &[&str] = &[
+    "key = \"a\nb\"",
+    "feature = \"\"",
+    "target_feature = \"x\"",
+    "test",
+    "debug_assertions",
+    "proc_macro",
+    "cfg(key)",
+    "target_abi = \"sim\"",
+    "target_arch = \"x\"",
+    "target_endian = \"big\"",
+    "target_env = \"\"",
+    "unix",
+    "target_has_atomic = \"128\"",
+    "target_os = \"x\"",
+    "panic = \"abort\"",
+    "target_pointer_width = \"+064\"",
+    "target_vendor = \"x\"",
+];
+
+// The one predicate of a text of `TYPED`.
+fn typed(text: &str) -> Predicate<'static> {
+    match text {
+        "key = \"a\nb\"" => Predicate::KeyValue {
+            key: "key",
+            val: "a\nb",
+        },
+        "feature = \"\"" => Predicate::Feature(""),
+        "target_feature = \"x\"" => Predicate::TargetFeature("x"),
+        "test" => Predicate::Test,
+        "debug_assertions" => Predicate::DebugAssertions,
+        "proc_macro" => Predicate::ProcMacro,
+        "cfg(key)" => Predicate::Flag("key"),
+        _ => Predicate::Target(typed_target(text)),
+    }
+}
+
+fn typed_target(text: &str) -> TargetPredicate<'static> {
+    match text {
+        "target_abi = \"sim\"" => TargetPredicate::Abi(Field::new_const("sim")),
+        "target_arch = \"x\"" => TargetPredicate::Arch(Field::new_const("x")),
+        "target_endian = \"big\"" => TargetPredicate::Endian(Endian::big),
+        "target_env = \"\"" => TargetPredicate::Env(Place::new_const("")),
+        "unix" => TargetPredicate::Family(Place::new_const("unix")),
+        "target_has_atomic = \"128\"" => TargetPredicate::HasAtomic(HasAtomic::IntegerSize(128)),
+        "target_os = \"x\"" => TargetPredicate::Os(Place::new_const("x")),
+        "panic = \"abort\"" => TargetPredicate::Panic(Place::new_const("abort")),
+        "target_vendor = \"x\"" => TargetPredicate::Vendor(Field::new_const("x")),
+        _ => TargetPredicate::PointerWidth(64),
+    }
 }
 
 #[test]
 fn ask_by_their_types(rt: HostRuntime) -> Result<(), Fail> {
-    let alloc = rt.alloc();
-    let key_value = Predicate::KeyValue {
-        key: "key",
-        val: "a\nb",
-    };
-    asks(&rt, alloc, "key = \"a\nb\"", key_value)?;
-    asks(&rt, alloc, "feature = \"\"", Predicate::Feature(""))?;
-    asks(
-        &rt,
-        alloc,
-        "target_feature = \"x\"",
-        Predicate::TargetFeature("x"),
-    )?;
-    asks(&rt, alloc, "test", Predicate::Test)?;
-    asks(&rt, alloc, "debug_assertions", Predicate::DebugAssertions)?;
-    asks(&rt, alloc, "proc_macro", Predicate::ProcMacro)?;
-    asks(&rt, alloc, "cfg(key)", Predicate::Flag("key"))
-}
-
-#[test]
-fn ask_of_targets_by_their_types(rt: HostRuntime) -> Result<(), Fail> {
-    use TargetPredicate::{
-        Abi, Arch, Endian, Env, Family, HasAtomic, Os, Panic, PointerWidth, Vendor,
-    };
-    let alloc = rt.alloc();
-    let bits = atomic::HasAtomic::IntegerSize(128);
-    asks_target(
-        &rt,
-        alloc,
-        "target_abi = \"sim\"",
-        Abi(Field::new_const("sim")),
-    )?;
-    asks_target(
-        &rt,
-        alloc,
-        "target_arch = \"x\"",
-        Arch(Field::new_const("x")),
-    )?;
-    asks_target(
-        &rt,
-        alloc,
-        "target_endian = \"big\"",
-        Endian(endian::Endian::big),
-    )?;
-    asks_target(&rt, alloc, "target_env = \"\"", Env(Place::new_const("")))?;
-    asks_target(&rt, alloc, "unix", Family(Place::new_const("unix")))?;
-    asks_target(&rt, alloc, "target_has_atomic = \"128\"", HasAtomic(bits))?;
-    asks_target(&rt, alloc, "target_os = \"x\"", Os(Place::new_const("x")))?;
-    asks_target(
-        &rt,
-        alloc,
-        "panic = \"abort\"",
-        Panic(Place::new_const("abort")),
-    )?;
-    asks_target(
-        &rt,
-        alloc,
-        "target_pointer_width = \"+064\"",
-        PointerWidth(64),
-    )?;
-    asks_target(
-        &rt,
-        alloc,
-        "target_vendor = \"x\"",
-        Vendor(Field::new_const("x")),
-    )
-}
-
-#[test]
-fn are_equal_by_their_stripped_texts(rt: HostRuntime) -> Result<(), Fail> {
-    let rows = [
-        ("key", "key", true),
-        ("key", "key,", false),
-        ("cfg(key)", "key", true),
-    ];
-    for (one, other, are_equal) in rows {
-        let first = Expression::parse(rt.alloc(), one)?;
-        let second = Expression::parse(rt.alloc(), other)?;
-        assert!(rt; (first == second) == are_equal, "{one} == {other}");
+    for text in TYPED {
+        assert!(rt; asks(rt.alloc(), text)?, "{text:?}");
     }
     Ok(())
 }
 
+// Whether two texts have equal expressions.
+fn are_equal(alloc: Global, one: &str, other: &str) -> Result<bool, Failure> {
+    let first = Expression::parse(alloc, one)?;
+    let second = Expression::parse(alloc, other)?;
+    Ok(first == second)
+}
+
+#[test]
+fn are_equal_by_their_stripped_texts(rt: HostRuntime) -> Result<(), Fail> {
+    assert!(rt; are_equal(rt.alloc(), "key", "key")?);
+    assert!(rt; !are_equal(rt.alloc(), "key", "key,")?);
+    assert!(rt; are_equal(rt.alloc(), "cfg(key)", "key")?);
+    Ok(())
+}
+
 // The bytes that a text was stripped to.
-const ORIGINALS: [(&str, &str); 7] = [
+const ORIGINALS: &[(&str, &str)] = &[
     ("key", "key"),
     ("cfg(key)", "key"),
     ("cfg( key )", " key "),
@@ -270,13 +248,29 @@ const ORIGINALS: [(&str, &str); 7] = [
     ("cfg", "cfg"),
 ];
 
+// Whether the text is stripped to this one.
+fn is_stripped_to(alloc: Global, text: &str, original: &str) -> Result<bool, Failure> {
+    let expression = Expression::parse(alloc, text)?;
+    Ok(expression.original() == original)
+}
+
 #[test]
 fn keep_the_stripped_text(rt: HostRuntime) -> Result<(), Fail> {
     for (text, original) in ORIGINALS {
-        let expression = Expression::parse(rt.alloc(), text)?;
-        assert_eq!(rt; expression.original(), original, "{text:?}");
+        assert!(rt; is_stripped_to(rt.alloc(), text, original)?, "{text:?}");
     }
     Ok(())
+}
+
+// Whether there are so many predicates to come, and this flag is the next of them, if any is named.
+fn is_next(predicates: &mut Predicates<'_>, left: usize, flag: Option<&str>) -> bool {
+    let is_left = predicates.left() == left;
+    let is_flag = match (predicates.next(), flag) {
+        (Some(Predicate::Flag(next)), Some(flag)) => next == flag,
+        (None, None) => true,
+        _ => false,
+    };
+    is_left && is_flag
 }
 
 // What is still to come falls by one with each predicate, and the end stays the end.
@@ -284,19 +278,17 @@ fn keep_the_stripped_text(rt: HostRuntime) -> Result<(), Fail> {
 fn count_what_is_to_come(rt: HostRuntime) -> Result<(), Fail> {
     let expression = Expression::parse(rt.alloc(), "all(a, any(b), c)")?;
     let mut predicates = expression.predicates();
-    let steps = [
-        (3, Some(Predicate::Flag("b"))),
-        (2, Some(Predicate::Flag("a"))),
-        (1, Some(Predicate::Flag("c"))),
-        (0, None),
-        (0, None),
-    ];
-    for (left, next) in steps {
-        assert_eq!(rt; predicates.left(), left);
-        assert_eq!(rt; predicates.next(), next);
-    }
+    assert!(rt; is_next(&mut predicates, 3, Some("b")));
+    assert!(rt; is_next(&mut predicates, 2, Some("a")));
+    assert!(rt; is_next(&mut predicates, 1, Some("c")));
+    assert!(rt; is_next(&mut predicates, 0, None));
+    assert!(rt; is_next(&mut predicates, 0, None));
+    Ok(())
+}
+
+#[test]
+fn count_no_functions(rt: HostRuntime) -> Result<(), Fail> {
     let empty = Expression::parse(rt.alloc(), "all(any(), not(all()))")?;
-    assert_eq!(rt; empty.predicates().left(), 0);
-    assert_eq!(rt; empty.predicates().next(), None);
+    assert!(rt; is_next(&mut empty.predicates(), 0, None));
     Ok(())
 }

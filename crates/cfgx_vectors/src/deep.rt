@@ -1,7 +1,8 @@
 //! Deep, wide and long texts end in an answer.
-use crate::faults::fault;
+use crate::faults::{fault, has_fault};
 use cfg_expr::Expression;
-use cfg_expr::error::Reason;
+use cfg_expr::error::{Failure, Reason};
+use cfg_expr::expr::Predicates;
 use std::alloc::{AllocError, Global};
 use std::test::Fail;
 
@@ -45,7 +46,7 @@ type Row = (
     Reason,
 );
 
-const FAULTS: [Row; 11] = [
+const FAULTS: &[Row] = &[
     (
         "",
         "all(",
@@ -99,54 +100,63 @@ const FAULTS: [Row; 11] = [
     ("", "a", 1_000, ")", 1_000, 1_001, Reason::UnopenedParens),
 ];
 
+// Whether the text of the row has its fault.
+fn is_as_said(alloc: Global, row: &Row) -> Result<bool, Fail> {
+    let (front, piece, times, back, start, end, reason) = row;
+    let text = repeated(alloc, front, piece, *times, back)?;
+    let text = text.as_str();
+    Ok(has_fault(alloc, text, text, (*start, *end), *reason)?)
+}
+
 #[test]
 fn faults_of_deep_and_wide_texts(rt: HostRuntime) -> Result<(), Fail> {
-    for (front, piece, times, back, start, end, reason) in FAULTS {
-        let text = repeated(rt.alloc(), front, piece, times, back)?;
-        let error = fault(rt.alloc(), text.as_str())?;
-        assert_eq!(rt; error.reason, reason);
-        assert_eq!(rt; error.span.start, start);
-        assert_eq!(rt; error.span.end, end);
-        assert_eq!(rt; error.original.as_str(), text.as_str());
+    for (place, row) in FAULTS.iter().enumerate() {
+        assert!(rt; is_as_said(rt.alloc(), row)?, "row {place}");
     }
     Ok(())
+}
+
+// How many predicates the text asks.
+fn count_of(alloc: Global, text: Result<String, AllocError>) -> Result<Option<usize>, Failure> {
+    let expression = Expression::parse(alloc, text?.as_str())?;
+    Ok(count(expression.predicates()))
+}
+
+// How many predicates there are to come, and how many came, where these agree.
+fn count(predicates: Predicates<'_>) -> Option<usize> {
+    let left = predicates.left();
+    let mut came = 0usize;
+    for _predicate in predicates {
+        came = came.saturating_add(1);
+    }
+    (came == left).then_some(left)
 }
 
 #[test]
 fn predicates_of_deep_and_wide_texts(rt: HostRuntime) -> Result<(), Fail> {
-    let wide = repeated(rt.alloc(), "any(", "a,", 100_000, ")")?;
-    let expression = Expression::parse(rt.alloc(), wide.as_str())?;
-    assert_eq!(rt; expression.predicates().left(), 100_000);
-    let mut predicates = 0usize;
-    for _predicate in expression.predicates() {
-        predicates = predicates.saturating_add(1);
-    }
-    assert_eq!(rt; predicates, 100_000);
-    let deep = nested(rt.alloc(), "not(", 100_000, "a")?;
-    let expression = Expression::parse(rt.alloc(), deep.as_str())?;
-    assert_eq!(rt; expression.predicates().left(), 1);
-    let functions = repeated(rt.alloc(), "all(any(),", "all(),", 299, ")")?;
-    let expression = Expression::parse(rt.alloc(), functions.as_str())?;
-    assert_eq!(rt; expression.predicates().left(), 0);
+    let alloc = rt.alloc();
+    let wide = count_of(alloc, repeated(alloc, "any(", "a,", 100_000, ")"))?;
+    assert!(rt; wide == Some(100_000));
+    let deep = count_of(alloc, nested(alloc, "not(", 100_000, "a"))?;
+    assert!(rt; deep == Some(1));
+    let functions = count_of(alloc, repeated(alloc, "all(any(),", "all(),", 299, ")"))?;
+    assert!(rt; functions == Some(0));
     Ok(())
 }
 
-// A fault that stands far behind the start prints as many spaces.
+// Whether the fault far behind the start prints as many spaces.
+fn prints_its_spaces(alloc: Global) -> Result<bool, Fail> {
+    let text = repeated(alloc, "all(b", ",", 3_000, "c d)")?;
+    let error = fault(alloc, text.as_str())?;
+    let printed = format!(in alloc; "{error}")?;
+    let back = "^ expected one of `=`, `,`, `)` here";
+    let spaces = repeated(alloc, "\n", " ", 3_007, back)?;
+    let wanted = repeated(alloc, text.as_str(), spaces.as_str(), 1, "")?;
+    Ok(error.span.start == 3_007 && printed.as_str() == wanted.as_str())
+}
+
 #[test]
 fn prints_a_fault_far_behind_the_start(rt: HostRuntime) -> Result<(), Fail> {
-    let text = repeated(rt.alloc(), "all(b", ",", 3_000, "c d)")?;
-    let error = fault(rt.alloc(), text.as_str())?;
-    assert_eq!(rt; error.span.start, 3_007);
-    let alloc = rt.alloc();
-    let printed = format!(in alloc; "{error}")?;
-    let spaces = repeated(
-        alloc,
-        "\n",
-        " ",
-        3_007,
-        "^ expected one of `=`, `,`, `)` here",
-    )?;
-    let wanted = repeated(alloc, text.as_str(), spaces.as_str(), 1, "")?;
-    assert_eq!(rt; printed.as_str(), wanted.as_str());
+    assert!(rt; prints_its_spaces(rt.alloc())?);
     Ok(())
 }

@@ -57,19 +57,35 @@ const TARGET_KEYS: Reason = Reason::Unexpected(&[
 /// A text, where its fault starts and ends, and the reason.
 type Row = (&'static str, usize, usize, Reason);
 
+/// Whether the text has this fault.
+pub(crate) fn has_fault(
+    alloc: Global,
+    text: &str,
+    original: &str,
+    span: (usize, usize),
+    reason: Reason,
+) -> Result<bool, &'static str> {
+    let error = fault(alloc, text)?;
+    Ok(
+        error.reason == reason
+            && error.span.start == span.0
+            && error.span.end == span.1
+            && error.original.as_str() == original,
+    )
+}
+
 // Each text has its fault, and nothing was stripped of it.
-fn have_faults(rt: &impl Abort, alloc: Global, rows: &[Row]) -> Result<(), Fail> {
+fn have_faults(rt: &impl Abort, alloc: Global, rows: &[Row]) -> Result<(), &'static str> {
     for (text, start, end, reason) in rows {
-        let error = fault(alloc, text)?;
-        assert_eq!(rt; error.reason, *reason, "{text:?}");
-        assert_eq!(rt; error.span.start, *start, "{text:?}");
-        assert_eq!(rt; error.span.end, *end, "{text:?}");
-        assert_eq!(rt; error.original.as_str(), *text, "{text:?}");
+        assert!(rt;
+            has_fault(alloc, text, text, (*start, *end), *reason)?,
+            "{text:?}"
+        );
     }
     Ok(())
 }
 
-const LEXICAL: [Row; 20] = [
+const LEXICAL: &[Row] = &[
     (",", 0, 1, NO_TOKEN),
     (")", 0, 1, NO_TOKEN),
     ("(", 0, 1, NO_TOKEN),
@@ -92,7 +108,7 @@ const LEXICAL: [Row; 20] = [
     ("key = \"é", 6, 9, Reason::UnclosedQuotes),
 ];
 
-const NEIGHBOURS: [Row; 26] = [
+const NEIGHBOURS: &[Row] = &[
     ("\"x\"", 0, 3, NO_TOKEN),
     ("cfg(key) ", 3, 4, BEHIND_KEY),
     ("any(,)", 4, 5, IN_PARENS),
@@ -121,7 +137,7 @@ const NEIGHBOURS: [Row; 26] = [
     ("all((", 4, 5, IN_PARENS),
 ];
 
-const LISTS: [Row; 24] = [
+const LISTS: &[Row] = &[
     ("a) 8", 1, 2, Reason::UnopenedParens),
     ("feature)", 7, 8, Reason::UnopenedParens),
     ("key)", 3, 4, Reason::UnopenedParens),
@@ -153,7 +169,7 @@ const LISTS: [Row; 24] = [
     ("not(feature = \"x\"", 3, 17, Reason::UnclosedParens),
 ];
 
-const ENDS: [Row; 18] = [
+const ENDS: &[Row] = &[
     ("", 0, 0, Reason::Empty),
     (" ", 0, 1, Reason::Empty),
     ("\n\t\n", 0, 3, Reason::Empty),
@@ -174,7 +190,7 @@ const ENDS: [Row; 18] = [
     ("a, b, c", 0, 7, Reason::MultipleRootPredicates),
 ];
 
-const KEYS: [Row; 27] = [
+const KEYS: &[Row] = &[
     ("unix = \"x\"", 8, 9, NOTHING),
     ("unix = \"\"", 8, 8, NOTHING),
     ("windows = \"x\"", 11, 12, NOTHING),
@@ -226,15 +242,14 @@ const KEYS: [Row; 27] = [
 
 #[test]
 fn have_their_reasons_and_places(rt: HostRuntime) -> Result<(), Fail> {
-    have_faults(&rt, rt.alloc(), &LEXICAL)?;
-    have_faults(&rt, rt.alloc(), &NEIGHBOURS)?;
-    have_faults(&rt, rt.alloc(), &LISTS)?;
-    have_faults(&rt, rt.alloc(), &ENDS)?;
-    have_faults(&rt, rt.alloc(), &KEYS)
+    for rows in [LEXICAL, NEIGHBOURS, LISTS, ENDS, KEYS] {
+        have_faults(&rt, rt.alloc(), rows)?;
+    }
+    Ok(())
 }
 
 // Values that write no number.
-const NO_NUMBERS: [&str; 11] = [
+const NO_NUMBERS: &[&str] = &[
     "",
     "+",
     "-0",
@@ -248,26 +263,25 @@ const NO_NUMBERS: [&str; 11] = [
     "99999999999999999999",
 ];
 
+// Whether the key with this value has this fault at the value.
+fn is_refused(alloc: Global, key: &str, value: &str, reason: Reason) -> Result<bool, &'static str> {
+    let text = format!(in alloc; "{key} = \"{value}\"").map_err(|_| "want of memory")?;
+    let start = key.len().saturating_add(4);
+    let end = start.saturating_add(value.len());
+    has_fault(alloc, text.as_str(), text.as_str(), (start, end), reason)
+}
+
 #[test]
 fn no_number_is_no_width(rt: HostRuntime) -> Result<(), Fail> {
+    let width = Reason::InvalidInteger;
+    let atomic = Reason::InvalidHasAtomic;
     for value in NO_NUMBERS {
-        let alloc = rt.alloc();
-        let width = format!(in alloc; "target_pointer_width = \"{value}\"")?;
-        let error = fault(alloc, width.as_str())?;
-        assert_eq!(rt; error.reason, Reason::InvalidInteger, "{value:?}");
-        assert_eq!(rt; error.span.start, 24, "{value:?}");
-        assert_eq!(rt;
-            error.span.end.checked_sub(24),
-            Some(value.len()),
+        assert!(rt;
+            is_refused(rt.alloc(), "target_pointer_width", value, width)?,
             "{value:?}"
         );
-        let atomic = format!(in alloc; "target_has_atomic = \"{value}\"")?;
-        let error = fault(alloc, atomic.as_str())?;
-        assert_eq!(rt; error.reason, Reason::InvalidHasAtomic, "{value:?}");
-        assert_eq!(rt; error.span.start, 21, "{value:?}");
-        assert_eq!(rt;
-            error.span.end.checked_sub(21),
-            Some(value.len()),
+        assert!(rt;
+            is_refused(rt.alloc(), "target_has_atomic", value, atomic)?,
             "{value:?}"
         );
     }
@@ -275,7 +289,7 @@ fn no_number_is_no_width(rt: HostRuntime) -> Result<(), Fail> {
 }
 
 // Places count the bytes of what stands in `cfg( )`.
-const STRIPPED: [(&str, &str, usize, usize, Reason); 6] = [
+const STRIPPED: &[(&str, &str, usize, usize, Reason)] = &[
     ("cfg()", "", 0, 0, Reason::Empty),
     ("cfg( )", " ", 0, 1, Reason::Empty),
     ("cfg(a b)", "a b", 2, 3, BEHIND_KEY),
@@ -287,11 +301,11 @@ const STRIPPED: [(&str, &str, usize, usize, Reason); 6] = [
 #[test]
 fn count_from_the_stripped_text(rt: HostRuntime) -> Result<(), Fail> {
     for (text, original, start, end, reason) in STRIPPED {
-        let error = fault(rt.alloc(), text)?;
-        assert_eq!(rt; error.original.as_str(), original, "{text:?}");
-        assert_eq!(rt; error.reason, reason, "{text:?}");
-        assert_eq!(rt; error.span.start, start, "{text:?}");
-        assert_eq!(rt; error.span.end, end, "{text:?}");
+        let span = (*start, *end);
+        assert!(rt;
+            has_fault(rt.alloc(), text, original, span, *reason)?,
+            "{text:?}"
+        );
     }
     Ok(())
 }

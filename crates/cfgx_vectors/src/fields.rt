@@ -8,19 +8,37 @@ use cfgx_places::{EnvKind, FamilyKind, OsKind, PanicKind};
 use std::alloc::{AllocError, Global};
 use std::fmt::Display;
 use std::hash::{DefaultHasher, Hash, Hasher};
-use std::process::Abort;
 use std::test::Fail;
 
 /// Texts in the order of their bytes: the longer `aa` stands below `b`, and letters past ASCII
 /// above all others.
-const RISING: [&str; 7] = ["", "Z", "a", "aa", "b", "é", "日本"];
+const RISING: &[&str] = &["", "Z", "a", "aa", "b", "é", "日本"];
 
-fn owned_texts(alloc: Global) -> Result<Vec<String>, AllocError> {
-    let mut texts = Vec::new(alloc);
-    for text in RISING.iter() {
-        texts.push(String::from_str(alloc, text)?)?;
+/// A field type.
+trait TextField: Ord + Hash + Display + Drop {
+    fn borrowed(text: &'static str) -> Self;
+
+    fn owned(text: String) -> Self;
+}
+
+impl<K: Drop> TextField for cfgx_fields::Field<'static, K> {
+    fn borrowed(text: &'static str) -> Self {
+        Self::new_const(text)
     }
-    Ok(texts)
+
+    fn owned(text: String) -> Self {
+        Self::new(text)
+    }
+}
+
+impl<K: Drop> TextField for cfgx_places::Field<'static, K> {
+    fn borrowed(text: &'static str) -> Self {
+        Self::new_const(text)
+    }
+
+    fn owned(text: String) -> Self {
+        Self::new(text)
+    }
 }
 
 fn hash_of<T: Hash>(value: &T) -> u64 {
@@ -29,120 +47,114 @@ fn hash_of<T: Hash>(value: &T) -> u64 {
     state.finish()
 }
 
-// Both lists are made of `RISING`.
-fn are_texts<T, R>(rt: &R, borrowed: &[T], owned: &[T]) -> Result<(), Fail>
-where
-    T: Ord + Hash + Display,
-    R: Abort + AllocGlobal,
-{
-    let alloc = rt.alloc();
-    assert_eq!(rt; borrowed.len(), RISING.len());
-    assert_eq!(rt; owned.len(), RISING.len());
-    for (i, one) in borrowed.iter().enumerate() {
-        for (j, other) in owned.iter().enumerate() {
-            assert!(rt; (one == other) == (i == j), "{one} == {other}");
-            assert!(rt; one.cmp(other) == i.cmp(&j), "{one}.cmp({other})");
-            assert!(rt; i != j || hash_of(one) == hash_of(other), "hashes of {one}");
+// Whether the fields of the texts at these places of `RISING` compare and hash as the texts do.
+fn compare_as_texts<T: Ord + Hash>(one: &T, other: &T, i: usize, j: usize) -> bool {
+    (one == other) == (i == j)
+        && one.cmp(other) == i.cmp(&j)
+        && (i != j || hash_of(one) == hash_of(other))
+}
+
+// Whether the field prints as the text does.
+fn prints_as<T: Display>(alloc: Global, field: &T, text: &str) -> Result<bool, AllocError> {
+    let plain = format!(in alloc; "{field}")?;
+    let wide = format!(in alloc; "{field:>3}|")?;
+    let wanted = format!(in alloc; "{text:>3}|")?;
+    Ok(plain.as_str() == text && wide.as_str() == wanted.as_str())
+}
+
+// Whether a borrowed field of the text at the place compares with owned ones as the texts do.
+fn is_text<T: TextField>(alloc: Global, text: &'static str, i: usize) -> Result<bool, AllocError> {
+    let one = T::borrowed(text);
+    for (j, other) in RISING.iter().enumerate() {
+        let other = T::owned(String::from_str(alloc, other)?);
+        if !compare_as_texts(&one, &other, i, j) {
+            return Ok(false);
         }
     }
-    for (one, text) in borrowed.iter().zip(RISING.iter()) {
-        assert_eq!(rt; format!(in alloc; "{one}")?.as_str(), *text);
-        assert_eq!(rt;
-            format!(in alloc; "{one:>3}|")?,
-            format!(in alloc; "{text:>3}|")?
-        );
+    prints_as(alloc, &one, text)
+}
+
+fn are_texts<T: TextField>(alloc: Global) -> Result<bool, AllocError> {
+    for (i, text) in RISING.iter().enumerate() {
+        if !is_text::<T>(alloc, text, i)? {
+            return Ok(false);
+        }
     }
-    Ok(())
-}
-
-fn fields_are_texts<K: Drop, R: Abort + AllocGlobal>(rt: &R) -> Result<(), Fail> {
-    use cfgx_fields::Field;
-    let alloc = rt.alloc();
-    let borrowed: Vec<Field<K>> = RISING
-        .iter()
-        .map(|text| Field::new_const(text))
-        .collect(alloc)?;
-    let owned: Vec<Field<K>> = owned_texts(alloc)?
-        .into_iter()
-        .map(|text| Field::new(text))
-        .collect(alloc)?;
-    are_texts(rt, borrowed.as_slice(), owned.as_slice())
-}
-
-fn places_are_texts<K: Drop, R: Abort + AllocGlobal>(rt: &R) -> Result<(), Fail> {
-    use cfgx_places::Field;
-    let alloc = rt.alloc();
-    let borrowed: Vec<Field<K>> = RISING
-        .iter()
-        .map(|text| Field::new_const(text))
-        .collect(alloc)?;
-    let owned: Vec<Field<K>> = owned_texts(alloc)?
-        .into_iter()
-        .map(|text| Field::new(text))
-        .collect(alloc)?;
-    are_texts(rt, borrowed.as_slice(), owned.as_slice())
+    Ok(true)
 }
 
 #[test]
-fn each_type_is_a_text(rt: HostRuntime) -> Result<(), Fail> {
-    fields_are_texts::<TripleKind, _>(&rt)?;
-    fields_are_texts::<AbiKind, _>(&rt)?;
-    fields_are_texts::<ArchKind, _>(&rt)?;
-    fields_are_texts::<VendorKind, _>(&rt)?;
-    places_are_texts::<OsKind, _>(&rt)?;
-    places_are_texts::<FamilyKind, _>(&rt)?;
-    places_are_texts::<EnvKind, _>(&rt)?;
-    places_are_texts::<PanicKind, _>(&rt)
-}
-
-// A borrowed text is copied with no growth, and an owned one wants one. `owned` and `borrowed`
-// have one text.
-fn may_be_refused<T, C, R>(
-    rt: &R,
-    heap: &Refusing<Global>,
-    borrowed: T,
-    owned: T,
-    try_clone: C,
-) -> Result<(), Fail>
-where
-    T: Eq + Drop,
-    C: Fn(&T) -> Result<T, AllocError>,
-    R: Abort,
-    requires { C.IsAlwaysCallable try_clone }
-{
-    heap.refuse(1);
-    assert!(rt; try_clone(&borrowed)? == borrowed);
-    assert!(rt; !heap.has_refused());
-    assert!(rt; try_clone(&owned).is_err());
-    assert!(rt; heap.has_refused());
-    assert!(rt; owned == borrowed);
-    assert!(rt; try_clone(&owned)? == borrowed);
+fn each_field_is_a_text(rt: HostRuntime) -> Result<(), Fail> {
+    use cfgx_fields::Field;
+    assert!(rt; are_texts::<Field<TripleKind>>(rt.alloc())?);
+    assert!(rt; are_texts::<Field<AbiKind>>(rt.alloc())?);
+    assert!(rt; are_texts::<Field<ArchKind>>(rt.alloc())?);
+    assert!(rt; are_texts::<Field<VendorKind>>(rt.alloc())?);
     Ok(())
 }
 
-fn fields_may_be_refused<K: Drop, R: Abort>(rt: &R, heap: &Refusing<Global>) -> Result<(), Fail> {
-    use cfgx_fields::Field;
-    let borrowed: Field<K, &Refusing<Global>> = Field::new_const("é");
-    let owned = Field::new(String::from_str(heap, "é")?);
-    may_be_refused(rt, heap, borrowed, owned, |field| field.try_clone(heap))
+#[test]
+fn each_place_is_a_text(rt: HostRuntime) -> Result<(), Fail> {
+    use cfgx_places::Field;
+    assert!(rt; are_texts::<Field<OsKind>>(rt.alloc())?);
+    assert!(rt; are_texts::<Field<FamilyKind>>(rt.alloc())?);
+    assert!(rt; are_texts::<Field<EnvKind>>(rt.alloc())?);
+    assert!(rt; are_texts::<Field<PanicKind>>(rt.alloc())?);
+    Ok(())
 }
 
-fn places_may_be_refused<K: Drop, R: Abort>(rt: &R, heap: &Refusing<Global>) -> Result<(), Fail> {
+// Whether the borrowed text is copied with no growth, and the owned one wants one, which is
+// refused once. Both have one text.
+fn may_be_refused<T, C>(
+    heap: &Refusing<Global>,
+    borrowed: &T,
+    owned: &T,
+    try_clone: C,
+) -> Result<bool, AllocError>
+where
+    T: Eq + Drop,
+    C: Fn(&T) -> Result<T, AllocError>,
+    requires { C.IsAlwaysCallable try_clone }
+{
+    heap.refuse(1);
+    let is_free = try_clone(borrowed)? == *borrowed && !heap.has_refused();
+    let is_refused = try_clone(owned).is_err() && heap.has_refused();
+    let stays = owned == borrowed;
+    Ok(is_free && is_refused && stays && try_clone(owned)? == *borrowed)
+}
+
+fn field_may_be_refused<K: Drop>(heap: &Refusing<Global>) -> Result<bool, AllocError> {
+    use cfgx_fields::Field;
+    let owned: Field<K, &Refusing<Global>> = Field::new(String::from_str(heap, "é")?);
+    may_be_refused(
+        heap,
+        &Field::new_const("é"),
+        &owned,
+        |field| field.try_clone(heap),
+    )
+}
+
+fn place_may_be_refused<K: Drop>(heap: &Refusing<Global>) -> Result<bool, AllocError> {
     use cfgx_places::Field;
-    let borrowed: Field<K, &Refusing<Global>> = Field::new_const("é");
-    let owned = Field::new(String::from_str(heap, "é")?);
-    may_be_refused(rt, heap, borrowed, owned, |field| field.try_clone(heap))
+    let owned: Field<K, &Refusing<Global>> = Field::new(String::from_str(heap, "é")?);
+    may_be_refused(
+        heap,
+        &Field::new_const("é"),
+        &owned,
+        |field| field.try_clone(heap),
+    )
 }
 
 #[test]
 fn each_copy_may_be_refused(rt: HostRuntime) -> Result<(), Fail> {
     let heap = Refusing::new(rt.alloc());
-    fields_may_be_refused::<TripleKind, _>(&rt, &heap)?;
-    fields_may_be_refused::<AbiKind, _>(&rt, &heap)?;
-    fields_may_be_refused::<ArchKind, _>(&rt, &heap)?;
-    fields_may_be_refused::<VendorKind, _>(&rt, &heap)?;
-    places_may_be_refused::<OsKind, _>(&rt, &heap)?;
-    places_may_be_refused::<FamilyKind, _>(&rt, &heap)?;
-    places_may_be_refused::<EnvKind, _>(&rt, &heap)?;
-    places_may_be_refused::<PanicKind, _>(&rt, &heap)
+    assert!(rt; field_may_be_refused::<TripleKind>(&heap)?);
+    assert!(rt; field_may_be_refused::<AbiKind>(&heap)?);
+    assert!(rt; field_may_be_refused::<ArchKind>(&heap)?);
+    assert!(rt; field_may_be_refused::<VendorKind>(&heap)?);
+    assert!(rt; place_may_be_refused::<OsKind>(&heap)?);
+    assert!(rt; place_may_be_refused::<FamilyKind>(&heap)?);
+    assert!(rt; place_may_be_refused::<EnvKind>(&heap)?);
+    assert!(rt; place_may_be_refused::<PanicKind>(&heap)?);
+    Ok(())
 }

@@ -6,6 +6,7 @@
 mod accepted;
 #[cfg(test)]
 mod deep;
+pub mod evaluating;
 #[cfg(test)]
 mod faults;
 #[cfg(test)]
@@ -20,4 +21,8 @@ pub mod refusing;
 #[cfg(test)]
 mod rust_crate;
 #[cfg(test)]
+mod spelling;
+#[cfg(test)]
 mod streams;
+#[cfg(test)]
+mod targets;

@@ -7,12 +7,12 @@ use cfg_expr::error::{Failure, Reason};
 use cfg_expr::expr::lexer::{Lexer, Token};
 use cfg_expr::memory::SmallAllocator;
 use cfgx_engine::engine::run;
-use std::alloc::Global;
+use std::alloc::{AllocError, Allocator, Global};
 use std::process::Abort;
 use std::test::Fail;
 
 /// What parsing a text answers.
-#[derive(Clone, Copy, Debug, PartialEq)]
+#[derive(Clone, Copy, PartialEq)]
 enum Outcome {
     /// It is accepted, and asks so many predicates.
     Accepted(usize),
@@ -34,6 +34,13 @@ fn parsed<A: SmallAllocator>(alloc: A, text: &str) -> Outcome {
 // No text here needs so many growths.
 const MOST_GROWTHS: u64 = 1000;
 
+// What parsing answers with the growth of this number refused, and whether that one was asked for.
+fn parsed_at(alloc: Global, text: &str, turn: u64) -> (Outcome, bool) {
+    let refusing = Refusing::new(alloc);
+    refusing.refuse(turn);
+    (parsed(&refusing, text), refusing.has_refused())
+}
+
 // Parses the text with the first growth refused, then with the second, until none is refused.
 fn parse_in_turns(
     rt: &impl Abort,
@@ -42,18 +49,44 @@ fn parse_in_turns(
     plain: Outcome,
 ) -> Result<(), &'static str> {
     for turn in 1..MOST_GROWTHS {
-        let refusing = Refusing::new(alloc);
-        refusing.refuse(turn);
-        let answer = parsed(&refusing, text);
-        if !refusing.has_refused() {
-            assert_eq!(rt; answer, plain, "{text}");
+        let (answer, has_refused) = parsed_at(alloc, text, turn);
+        if !has_refused {
+            assert!(rt; answer == plain, "{text}");
             assert!(rt; turn > 1 || text.is_empty(), "{text}");
             return Ok(());
         }
-        assert_eq!(rt; answer, Outcome::WantOfMemory, "growth {turn} of {text}");
-        assert_eq!(rt; parsed(alloc, text), plain, "{text}");
+        assert!(rt; answer == Outcome::WantOfMemory, "growth {turn} of {text}");
+        assert!(rt; parsed(alloc, text) == plain, "{text}");
     }
     Err("too many growths")
+}
+
+/// What a run with a refused growth does.
+#[derive(Clone, Copy, PartialEq)]
+enum Seen {
+    /// What a run with memory does, and no growth was refused.
+    Plain,
+    /// It ends with status 3, no failed call and no flush, and has written nothing.
+    WantOfMemory,
+    Other,
+}
+
+// Runs with the growth of this number refused, where a run with memory has this status and writes
+// these bytes.
+fn seen_at(alloc: Global, words: &[&str], turn: u64, status: u8, plain: &[u8]) -> Seen {
+    let refusing = Refusing::new(alloc);
+    refusing.refuse(turn);
+    let mut sink = Recorder::new(alloc);
+    let answer = run(&refusing, words, &mut Ended, &mut sink);
+    if sink.failures != 0 {
+        Seen::Other
+    } else if !refusing.has_refused() && answer == status && sink.bytes.as_slice() == plain {
+        Seen::Plain
+    } else if refusing.has_refused() && answer == 3 && sink.bytes.is_empty() && sink.flushes == 0 {
+        Seen::WantOfMemory
+    } else {
+        Seen::Other
+    }
 }
 
 // The same of a run, which has then written nothing.
@@ -65,33 +98,22 @@ fn run_in_turns(
 ) -> Result<(), &'static str> {
     let words = ["parse", text];
     let mut plain = Recorder::new(alloc);
-    assert_eq!(rt;
-        run(alloc, &words, &mut Ended, &mut plain),
-        status,
-        "{text}"
-    );
+    let answer = run(alloc, &words, &mut Ended, &mut plain);
+    assert!(rt; answer == status, "{text}");
     for turn in 1..MOST_GROWTHS {
-        let refusing = Refusing::new(alloc);
-        refusing.refuse(turn);
-        let mut sink = Recorder::new(alloc);
-        let answer = run(&refusing, &words, &mut Ended, &mut sink);
-        assert_eq!(rt; sink.failures, 0, "{text}");
-        if !refusing.has_refused() {
-            assert_eq!(rt; answer, status, "{text}");
-            assert_eq!(rt; sink.bytes.as_slice(), plain.bytes.as_slice(), "{text}");
+        let seen = seen_at(alloc, &words, turn, status, plain.bytes.as_slice());
+        if seen == Seen::Plain {
             assert!(rt; turn > 1, "{text}");
             return Ok(());
         }
-        assert_eq!(rt; answer, 3, "growth {turn} of {text}");
-        assert!(rt; sink.bytes.is_empty(), "growth {turn} of {text}");
-        assert_eq!(rt; sink.flushes, 0, "growth {turn} of {text}");
+        assert!(rt; seen == Seen::WantOfMemory, "growth {turn} of {text}");
     }
     Err("too many growths")
 }
 
 const NO_TOKEN: Reason = Reason::Unexpected(&["<key>", "all", "any", "not"]);
 
-const SHORT: [(&str, u8, Outcome); 12] = [
+const SHORT: &[(&str, u8, Outcome)] = &[
     ("key)", 1, Outcome::Refused(3, 4, Reason::UnopenedParens)),
     ("all(a, any(b), c)", 0, Outcome::Accepted(3)),
     ("cfg(all())", 0, Outcome::Accepted(0)),
@@ -137,8 +159,8 @@ const SHORT: [(&str, u8, Outcome); 12] = [
 #[test]
 fn is_answered_as_such_for_short_texts(rt: HostRuntime) -> Result<(), Fail> {
     for (text, status, plain) in SHORT {
-        parse_in_turns(&rt, rt.alloc(), text, plain)?;
-        run_in_turns(&rt, rt.alloc(), text, status)?;
+        parse_in_turns(&rt, rt.alloc(), text, *plain)?;
+        run_in_turns(&rt, rt.alloc(), text, *status)?;
     }
     Ok(())
 }
@@ -146,7 +168,7 @@ fn is_answered_as_such_for_short_texts(rt: HostRuntime) -> Result<(), Fail> {
 /// The parts of a text, the status of its run, and what parsing it answers.
 type Row = (&'static str, &'static str, usize, &'static str, u8, Outcome);
 
-const LONG: [Row; 7] = [
+const LONG: &[Row] = &[
     (
         "",
         " ",
@@ -187,9 +209,9 @@ const LONG: [Row; 7] = [
 #[test]
 fn is_answered_as_such_for_long_texts(rt: HostRuntime) -> Result<(), Fail> {
     for (front, piece, times, back, status, plain) in LONG {
-        let text = repeated(rt.alloc(), front, piece, times, back)?;
-        parse_in_turns(&rt, rt.alloc(), text.as_str(), plain)?;
-        run_in_turns(&rt, rt.alloc(), text.as_str(), status)?;
+        let text = repeated(rt.alloc(), front, piece, *times, back)?;
+        parse_in_turns(&rt, rt.alloc(), text.as_str(), *plain)?;
+        run_in_turns(&rt, rt.alloc(), text.as_str(), *status)?;
     }
     Ok(())
 }
@@ -199,44 +221,68 @@ fn is_answered_as_such_for_deep_texts(rt: HostRuntime) -> Result<(), Fail> {
     let deep = nested(rt.alloc(), "not(", 40, "a")?;
     parse_in_turns(&rt, rt.alloc(), deep.as_str(), Outcome::Accepted(1))?;
     run_in_turns(&rt, rt.alloc(), deep.as_str(), 0)?;
-    let front = repeated(rt.alloc(), "", "not(", 40, "a")?;
-    let open = repeated(rt.alloc(), front.as_str(), ")", 39, "")?;
+    Ok(())
+}
+
+#[test]
+fn is_answered_as_such_for_open_texts(rt: HostRuntime) -> Result<(), Fail> {
+    let open = opened(rt.alloc())?;
     let unclosed = Outcome::Refused(3, 200, Reason::UnclosedParens);
     parse_in_turns(&rt, rt.alloc(), open.as_str(), unclosed)?;
     run_in_turns(&rt, rt.alloc(), open.as_str(), 1)?;
     Ok(())
 }
 
+// A text in which one function of forty stays open.
+fn opened(alloc: Global) -> Result<String, AllocError> {
+    let front = repeated(alloc, "", "not(", 40, "a")?;
+    repeated(alloc, front.as_str(), ")", 39, "")
+}
+
+// Whether the fault of the lexer meets want of memory, which ends the lexer as the fault does.
+fn ends_at(alloc: Global, turn: u64) -> bool {
+    let refusing = Refusing::new(alloc);
+    refusing.refuse(turn);
+    let mut lexer = Lexer::new(&refusing, "a 8 b");
+    let is_key = match lexer.next() {
+        Some(Ok(item)) => item.token == Token::Key("a"),
+        _ => false,
+    };
+    let has_no_fault_yet = lexer.items_left_bound() == 4;
+    let is_refused = matches!(lexer.next(), Some(Err(Failure::Memory(_))));
+    is_key && has_no_fault_yet && is_refused && stays_at_its_end(&mut lexer)
+}
+
+fn stays_at_its_end<A: Allocator>(lexer: &mut Lexer<'_, A>) -> bool {
+    for _call in 0..3 {
+        if lexer.items_left_bound() != 0 || lexer.next().is_some() {
+            return false;
+        }
+    }
+    true
+}
+
 // Tokens take no memory; a fault's copy of the text does, and its want ends the lexer as the fault
 // does.
 #[test]
-fn ends_the_lexer(rt: HostRuntime) -> Result<(), Fail> {
+fn ends_the_lexer(rt: HostRuntime) {
     for turn in [1, EVERY] {
-        let refusing = Refusing::new(rt.alloc());
-        refusing.refuse(turn);
-        let mut lexer = Lexer::new(&refusing, "a 8 b");
-        let item = lexer.next().ok_or("no item")??;
-        assert_eq!(rt; item.token, Token::Key("a"));
-        assert_eq!(rt; lexer.items_left_bound(), 4);
-        assert!(rt; matches!(lexer.next(), Some(Err(Failure::Memory(_)))));
-        for _call in 0..3 {
-            assert_eq!(rt; lexer.items_left_bound(), 0);
-            assert!(rt; lexer.next().is_none());
-        }
+        assert!(rt; ends_at(rt.alloc(), turn), "growth {turn}");
     }
-    Ok(())
+}
+
+// Whether a run with no memory at all ends with this status and writes this.
+fn is_run_without_memory(alloc: Global, words: &[&str], status: u8, written: &str) -> bool {
+    let refusing = Refusing::new(alloc);
+    refusing.refuse(EVERY);
+    let mut sink = Recorder::new(alloc);
+    let answer = run(&refusing, words, &mut Ended, &mut sink);
+    answer == status && sink.bytes.as_slice() == written.as_bytes()
 }
 
 #[test]
-fn is_not_met_on_wrong_use(rt: HostRuntime) -> Result<(), Fail> {
-    let refusing = Refusing::new(rt.alloc());
-    refusing.refuse(EVERY);
+fn is_not_met_on_wrong_use(rt: HostRuntime) {
     let usage = "usage: cfgx parse TEXT | eval TEXT FLAG.. | target TRIPLE TEXT | pick TRIPLE\n";
-    let mut sink = Recorder::new(rt.alloc());
-    assert_eq!(rt; run(&refusing, &["parse"], &mut Ended, &mut sink), 2);
-    assert_eq!(rt; sink.bytes.as_slice(), usage.as_bytes());
-    let mut sink = Recorder::new(rt.alloc());
-    assert_eq!(rt; run(&refusing, &["parse", "a"], &mut Ended, &mut sink), 3);
-    assert!(rt; sink.bytes.is_empty());
-    Ok(())
+    assert!(rt; is_run_without_memory(rt.alloc(), &["parse"], 2, usage));
+    assert!(rt; is_run_without_memory(rt.alloc(), &["parse", "a"], 3, ""));
 }

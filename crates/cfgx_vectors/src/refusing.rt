@@ -110,19 +110,28 @@ mod tests {
     fn only_one_growth_is_refused(rt: HostRuntime) -> Result<(), Fail> {
         let heap = Refusing::new(rt.alloc());
         assert!(rt; heap.has_refused());
-        assert_eq!(rt; filled(&heap)?.len(), usize::from(BYTES));
+        assert!(rt; is_filled(&heap));
         heap.refuse(2);
-        let mut bytes = Vec::with_capacity(&heap, 1)?;
-        bytes.push(7u8)?;
-        assert!(rt; !heap.has_refused());
-        assert!(rt; bytes.push(8).is_err());
-        assert!(rt; heap.has_refused());
-        assert_eq!(rt; bytes.as_slice(), [7].as_slice());
-        bytes.push(8)?;
-        assert_eq!(rt; bytes.as_slice(), [7, 8].as_slice());
+        assert!(rt; is_refused_the_second(&heap)?);
         heap.refuse(1);
         heap.refuse(0);
-        assert!(rt; filled(&heap).is_ok());
+        assert!(rt; is_filled(&heap));
         Ok(())
+    }
+
+    fn is_filled(heap: &Refusing<Global>) -> bool {
+        filled(heap).is_ok_and(|bytes| bytes.len() == usize::from(BYTES))
+    }
+
+    // Whether the second growth from now is refused, leaves the list as it was, and is not refused
+    // again.
+    fn is_refused_the_second(heap: &Refusing<Global>) -> Result<bool, AllocError> {
+        let mut bytes = Vec::with_capacity(heap, 1)?;
+        bytes.push(7u8)?;
+        let was_ahead = !heap.has_refused();
+        let is_refused = bytes.push(8).is_err() && heap.has_refused();
+        let stays = bytes.as_slice() == [7].as_slice();
+        bytes.push(8)?;
+        Ok(was_ahead && is_refused && stays && bytes.as_slice() == [7, 8].as_slice())
     }
 }

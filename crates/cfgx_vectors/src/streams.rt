@@ -6,7 +6,6 @@ use cfgx_engine::engine::{Sink, Source, run};
 use std::alloc::Global;
 use std::io;
 use std::io::ErrorKind;
-use std::test::Fail;
 
 /// A source at its end, whose reads never fail.
 #[derive(Drop)]
@@ -96,85 +95,168 @@ impl Sink for Recorder {
     }
 }
 
+/// Whether a run with these words ends with this status, and writes this with one flush and no
+/// failed call.
+pub(crate) fn is_answer(alloc: Global, words: &[&str], status: u8, written: &str) -> bool {
+    let mut sink = Recorder::new(alloc);
+    run(alloc, words, &mut Ended, &mut sink) == status
+        && sink.bytes.as_slice() == written.as_bytes()
+        && sink.failures == 0
+        && sink.flushes == 1
+}
+
 const ALL: usize = usize::MAX;
 
-// The text; the most bytes a call, the room, the failing write, whether the flush fails; and then
-// the status, what was written, and how many calls of `write` and `flush` were made.
-const ROWS: [(&str, usize, usize, u64, bool, u8, &str, u64, u64); 8] = [
-    (
-        "all(a, any(b), c)",
-        ALL,
-        ALL,
-        0,
-        false,
-        0,
-        "b\na\nc\n",
-        1,
-        1,
-    ),
-    ("all(a, any(b), c)", 1, ALL, 0, false, 0, "b\na\nc\n", 6, 1),
-    ("all(a, any(b), c)", 2, ALL, 2, false, 3, "b\n", 2, 0),
-    ("all(a, any(b), c)", ALL, 4, 0, false, 3, "b\na\n", 2, 0),
-    ("all(a, any(b), c)", ALL, ALL, 0, true, 3, "b\na\nc\n", 1, 1),
-    ("all()", ALL, ALL, 0, false, 0, "", 0, 1),
-    ("all()", ALL, ALL, 0, true, 3, "", 0, 1),
-    ("key)", ALL, ALL, 1, false, 3, "", 1, 0),
+/// A sink, and what a run with it answers and does.
+struct Row {
+    text: &'static str,
+    // The most bytes a call, the room, the failing write, and whether the flush fails.
+    each: usize,
+    room: usize,
+    failing_write: u64,
+    is_flush_failing: bool,
+    status: u8,
+    written: &'static str,
+    // The calls of `write` and `flush`.
+    writes: u64,
+    flushes: u64,
+}
+
+const TEXT: &str = "all(a, any(b), c)";
+
+const ROWS: &[Row] = &[
+    Row {
+        text: TEXT,
+        each: ALL,
+        room: ALL,
+        failing_write: 0,
+        is_flush_failing: false,
+        status: 0,
+        written: "b\na\nc\n",
+        writes: 1,
+        flushes: 1,
+    },
+    Row {
+        text: TEXT,
+        each: 1,
+        room: ALL,
+        failing_write: 0,
+        is_flush_failing: false,
+        status: 0,
+        written: "b\na\nc\n",
+        writes: 6,
+        flushes: 1,
+    },
+    Row {
+        text: TEXT,
+        each: 2,
+        room: ALL,
+        failing_write: 2,
+        is_flush_failing: false,
+        status: 3,
+        written: "b\n",
+        writes: 2,
+        flushes: 0,
+    },
+    Row {
+        text: TEXT,
+        each: ALL,
+        room: 4,
+        failing_write: 0,
+        is_flush_failing: false,
+        status: 3,
+        written: "b\na\n",
+        writes: 2,
+        flushes: 0,
+    },
+    Row {
+        text: TEXT,
+        each: ALL,
+        room: ALL,
+        failing_write: 0,
+        is_flush_failing: true,
+        status: 3,
+        written: "b\na\nc\n",
+        writes: 1,
+        flushes: 1,
+    },
+    Row {
+        text: "all()",
+        each: ALL,
+        room: ALL,
+        failing_write: 0,
+        is_flush_failing: false,
+        status: 0,
+        written: "",
+        writes: 0,
+        flushes: 1,
+    },
+    Row {
+        text: "all()",
+        each: ALL,
+        room: ALL,
+        failing_write: 0,
+        is_flush_failing: true,
+        status: 3,
+        written: "",
+        writes: 0,
+        flushes: 1,
+    },
+    Row {
+        text: "key)",
+        each: ALL,
+        room: ALL,
+        failing_write: 1,
+        is_flush_failing: false,
+        status: 3,
+        written: "",
+        writes: 1,
+        flushes: 0,
+    },
 ];
 
+// Whether a run with this sink ends and writes as the row says.
+fn is_as_said(alloc: Global, row: &Row) -> bool {
+    let mut sink = Recorder::new(alloc);
+    sink.each = row.each;
+    sink.room = row.room;
+    sink.failing_write = row.failing_write;
+    sink.is_flush_failing = row.is_flush_failing;
+    let status = run(alloc, &["parse", row.text], &mut Ended, &mut sink);
+    let failures = if row.status == 3 { 1 } else { 0 };
+    status == row.status
+        && sink.bytes.as_slice() == row.written.as_bytes()
+        && sink.failures == failures
+        && sink.writes == row.writes
+        && sink.flushes == row.flushes
+}
+
 #[test]
-fn a_failed_call_ends_the_run(rt: HostRuntime) -> Result<(), Fail> {
-    for (
-        text,
-        each,
-        room,
-        failing_write,
-        is_flush_failing,
-        status,
-        written,
-        writes,
-        flushes,
-    ) in ROWS {
-        let mut sink = Recorder {
-            bytes: Vec::new(rt.alloc()),
-            failures: 0,
-            each,
-            room,
-            failing_write,
-            is_flush_failing,
-            writes: 0,
-            flushes: 0,
-        };
-        let answer = run(rt.alloc(), &["parse", text], &mut Ended, &mut sink);
-        assert_eq!(rt; answer, status, "{text}");
-        assert_eq!(rt; sink.bytes.as_slice(), written.as_bytes(), "{text}");
-        assert_eq!(rt; sink.failures, if status == 3 { 1 } else { 0 }, "{text}");
-        assert_eq!(rt; sink.writes, writes, "{text}");
-        assert_eq!(rt; sink.flushes, flushes, "{text}");
+fn a_failed_call_ends_the_run(rt: HostRuntime) {
+    for (place, row) in ROWS.iter().enumerate() {
+        assert!(rt; is_as_said(rt.alloc(), row), "row {place}");
     }
-    Ok(())
+}
+
+// Whether a run whose write of this number fails, counted from 0, ends with status 3 and has
+// written so many bytes of the output, one a call.
+fn ends_at_write(alloc: Global, failing: usize, written: &[u8]) -> bool {
+    let mut sink = Recorder::new(alloc);
+    sink.each = 1;
+    sink.failing_write = (failing as u64).saturating_add(1);
+    let status = run(alloc, &["parse", TEXT], &mut Ended, &mut sink);
+    status == 3 && sink.bytes.as_slice() == written
 }
 
 // The nth write fails, for each n: what went out is the first n - 1 bytes, and nothing is written
 // behind them.
 #[test]
-fn each_write_fails_in_turn(rt: HostRuntime) -> Result<(), Fail> {
+fn each_write_fails_in_turn(rt: HostRuntime) {
     let output = b"b\na\nc\n";
     for failing in 0..6usize {
-        let mut sink = Recorder::new(rt.alloc());
-        sink.each = 1;
-        sink.failing_write = u64::try_from(failing)? + 1;
-        let answer = run(
-            rt.alloc(),
-            &["parse", "all(a, any(b), c)"],
-            &mut Ended,
-            &mut sink,
-        );
-        assert_eq!(rt; answer, 3, "write {failing}");
-        assert_eq!(rt;
-            sink.bytes.as_slice(),
-            &output[..failing],
+        assert!(rt;
+            ends_at_write(rt.alloc(), failing, &output[..failing]),
             "write {failing}"
         );
     }
-    Ok(())
 }

@@ -1,5 +1,5 @@
 -- A predicate by where its parts stand in the text.
-use Rattle.std.specs.Prelude.{ℕ, List, slice_range, Option, Some, None}
+use Rattle.std.specs.Prelude.{ℕ, List, slice_range, Option, Some, None, unwrap_or}
 use Rattle.std.specs.declared.ops.Range.{Range}
 use Rattle.cfgx_syntax.specs.Cut.{IsCut}
 use Rattle.cfg_expr.specs.Question.{Question, TargetQuestion}
@@ -21,20 +21,15 @@ target_at span (TargetQuestion.panic text) = target.Panic span
 target_at span (TargetQuestion.pointer_width width) = target.PointerWidth width
 target_at span (TargetQuestion.vendor text) = target.Vendor span
 
--- the value's place, and without a value the key's
-abbrev pub value_or : {X : Type 0} → X → Option X → X
-value_or key None = key
-value_or key (Some value) = value
-
 -- the predicate whose key and value stand there
 abbrev pub located : Range ℕ → Option (Range ℕ) → Question → InnerPredicate
 located key value (Question.target question) = inner.Target
-    (target_at (value_or key value) question)
+    (target_at (unwrap_or value key) question)
 located key value Question.test = inner.Test
 located key value Question.debug_assertions = inner.DebugAssertions
 located key value Question.proc_macro = inner.ProcMacro
-located key value (Question.feature text) = inner.Feature (value_or key value)
-located key value (Question.target_feature text) = inner.TargetFeature (value_or key value)
+located key value (Question.feature text) = inner.Feature (unwrap_or value key)
+located key value (Question.target_feature text) = inner.TargetFeature (unwrap_or value key)
 located key value (Question.flag text) = inner.Other key None
 located key value (Question.key_value text other) = inner.Other key value
 

@@ -1,6 +1,7 @@
 -- What the parser keeps between two tokens.
 use Rattle.std.specs.Prelude.{ℕ, List, [], Option, None}
 use Rattle.cfgx_syntax.specs.Token.{Token}
+pub use Rattle.cfg_expr.specs.FirstFault.{Word, KeyAndValue as Pending}
 use Rattle.cfg_expr.specs.nodes.Node.{Mark, Written, nothing}
 
 -- the three functions
@@ -13,17 +14,6 @@ abbrev pub name_of : Function → Token
 name_of Function.all = Token.all
 name_of Function.any = Token.any
 name_of Function.not = Token.not
-
--- bytes of the text, and where they stand
-pub record Word : Type 0 where
-  pub text : List ℕ
-  pub start : ℕ
-  pub end : ℕ
-
--- a predicate that has not ended: its key, and its value without the quotes, where that was read
-pub record Pending : Type 0 where
-  pub key : Word
-  pub value : Option Word
 
 -- an open function: where its name stands, where its `(`, and how many of its members have ended
 pub record Open : Type 0 where

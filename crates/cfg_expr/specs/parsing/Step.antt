@@ -1,17 +1,19 @@
 -- The parser: what one token does to the state, or the fault that it shows, and what the end of the
 -- text shows.
 use Rattle.std.specs.declared.ops.Range.{Range}
-use Rattle.std.specs.Prelude.{ℕ, ◌+◌, ◌-◌, ◌==◌, Bool, true, false, List, [], ◌∷◌, codes, Option}
+use Rattle.std.specs.Prelude.{ℕ, ◌+◌, ◌-◌, ◌==◌, Bool, true, List, [], ◌∷◌, codes, Option}
 use Rattle.std.specs.Prelude.{Some, None, option_map, Result, Ok, Err, if◌then◌else◌}
 use Rattle.cfgx_syntax.specs.Token.{Token}
 use Rattle.cfgx_syntax.specs.Items.{Item}
-use Rattle.cfgx_syntax.specs.Error.{Cause, Refusal, unexpected, unopened_parens, unclosed_parens}
+use Rattle.cfgx_syntax.specs.Error.{Refusal, unexpected, unopened_parens, unclosed_parens}
 use Rattle.cfgx_syntax.specs.Error.{invalid_not, empty, multiple_root_predicates}
-use Rattle.cfg_expr.specs.Classification.{Class, Part, class}
-use Rattle.cfg_expr.specs.Neighbours.{Kind, kind_of, is_kind, next, expected}
+use Rattle.cfg_expr.specs.Classification.{Class}
+pub use Rattle.cfg_expr.specs.FirstFault.{refusal, word_of, with_value, part_of, class_of}
+pub use Rattle.cfg_expr.specs.FirstFault.{lacks_value}
+use Rattle.cfg_expr.specs.Neighbours.{next, expected}
 use Rattle.cfg_expr.specs.nodes.Node.{mark_of, with_leaf, with_function, with_list_ended}
 use Rattle.cfg_expr.specs.nodes.Node.{with_function_ended}
-use Rattle.cfg_expr.specs.nodes.Located.{located, value_or}
+use Rattle.cfg_expr.specs.nodes.Located.{located}
 use Rattle.cfg_expr.specs.parsing.State.{Function, Word, Pending, Open, State}
 use Rattle.cfg_expr.specs.declared.expr.Func.{Func}
 use Rattle.cfg_expr.specs.declared.expr.Func.TheVariants as func
@@ -26,19 +28,11 @@ abbrev pub result_map : {A B E : Type 0} → (A → B) → Result A E → Result
 result_map f (Ok a) = Ok (f a)
 result_map f (Err e) = Err e
 
-abbrev pub refusal : Cause → ℕ → ℕ → Refusal
-refusal cause start end = record { cause = cause; start = start; end = end }
-
 -- a function with so many members
 abbrev pub counted : Function → ℕ → Func
 counted Function.not n = func.Not
 counted Function.all n = func.All n
 counted Function.any n = func.Any n
-
--- the part of a predicate that is at fault
-abbrev pub part_of : Pending → Part → Word
-part_of p Part.of_key = p.key
-part_of p Part.of_value = value_or p.key p.value
 
 abbrev pub span_of : Word → Range ℕ
 span_of word = record { start = word.start; end = word.end }
@@ -49,9 +43,6 @@ located_class p (Class.is question) = Ok (located (span_of p.key)
     (option_map span_of p.value) question)
 located_class p (Class.refused cause part) = Err (refusal cause (part_of p part).start
     (part_of p part).end)
-
-abbrev pub class_of : Pending → Class
-class_of p = class p.key.text (option_map (λ v. v.text) p.value)
 
 abbrev pub classified : Pending → Result InnerPredicate Refusal
 classified p = located_class p (class_of p)
@@ -138,12 +129,6 @@ closed_by s item (top ∷ rest) =
 abbrev pub with_parens : ℕ → Open → Open
 with_parens place f = record f { parens = Some place }
 
-abbrev pub word_of : List ℕ → ℕ → ℕ → Word
-word_of text start end = record { text = text; start = start; end = end }
-
-abbrev pub with_value : Word → Pending → Pending
-with_value value p = record p { value = Some value }
-
 -- what a token does where it may stand
 abbrev pub apply : State → Item → Token → Result State Refusal
 apply s item (Token.key text) = Ok (record s {
@@ -191,11 +176,6 @@ unclosed len f None = refusal (unexpected (codes "(" ∷ [])) f.start f.end
 abbrev pub concluded_by : ℕ → State → List Open → Result State Refusal
 concluded_by len s (top ∷ rest) = Err (unclosed len top top.parens)
 concluded_by len s [] = and_then (one_root len) (predicate_ended s)
-
--- the last token is `=`
-abbrev pub lacks_value : Option Token → Bool
-lacks_value None = false
-lacks_value (Some token) = is_kind Kind.equals (kind_of token)
 
 -- the end of a text of so many bytes
 abbrev pub conclude : ℕ → State → Result State Refusal

@@ -2,12 +2,14 @@
 ghost use Rattle.std.specs.Prelude.{◌≡◌, [], ◌∷◌, codes, true, false, Some, None, Ok, Err};
 ghost use Rattle.cfgx_syntax.specs.Error.{unexpected, invalid_integer, invalid_has_atomic};
 ghost use Rattle.cfgx_syntax.specs.Error.{invalid_not, unclosed_parens, unopened_parens};
-ghost use Rattle.cfgx_syntax.specs.Error.{multiple_root_predicates};
+ghost use Rattle.cfgx_syntax.specs.Error.{multiple_root_predicates, unclosed_quotes, empty};
+ghost use Rattle.cfgx_syntax.specs.Items.{Ending};
 ghost use Rattle.cfgx_syntax.specs.Token.{Token};
 ghost use Rattle.cfgx_targets.specs.declared.endian.Endian.TheVariants.{big, little};
 ghost use Rattle.cfgx_targets.specs.declared.atomic.HasAtomic.TheVariants.{IntegerSize, Pointer};
 ghost use Rattle.cfg_expr.specs.Answer.{HasNoTree};
 ghost use Rattle.cfg_expr.specs.Classification.{Class, asks, family};
+ghost use Rattle.cfg_expr.specs.FirstFault.{first_fault};
 ghost use Rattle.cfg_expr.specs.Grammar.{HasTree, IsTree};
 ghost use Rattle.cfg_expr.specs.Neighbours.{next, expected};
 ghost use Rattle.cfg_expr.specs.Question.{Question, TargetQuestion};
@@ -18,6 +20,7 @@ ghost use Rattle.cfg_expr.specs.parsing.Step.{refusal};
 ghost use Rattle.cfg_expr.specs.Worked.{flags, shallow, nested, listed, listed_tokens};
 ghost use Rattle.cfg_expr.specs.Worked.{single, single_items, single_read, open_items, reads};
 ghost use Rattle.cfg_expr.specs.Worked.{comma_items, not_items, two_items, root_items};
+ghost use Rattle.cfg_expr.specs.Worked.{laid_out, shown, near, key, refused_behind};
 ghost use Rattle.cfg_expr.specs.Worked.{unopened_items, lone, given, bad_key, bad_value};
 
 use super::*;
@@ -116,6 +119,87 @@ fn steps()
     ensures unopened { reads (codes "a)") unopened_items ≡ Err (refusal unopened_parens 1 2) }
 {}
 
+// The first faults of texts, worked out by hand from the rules.
+fn first_faults_at_tokens()
+    ensures a_b { shown (codes "all(a b)") ((0, Token.all) ∷ (0, Token.open_paren)
+        ∷ (0, key (codes "a")) ∷ (1, key (codes "b")) ∷ (0, Token.close_paren) ∷ [])
+        ≡ refused_behind (Some (key (codes "a"))) 6 7 }
+    ensures closing { shown (codes ")") (near (Token.close_paren ∷ [])) ≡ refused_behind None 0 1 }
+    ensures unopened { shown (codes "a,)")
+        (near (key (codes "a") ∷ Token.comma ∷ Token.close_paren ∷ []))
+        ≡ Some (refusal unopened_parens 2 3) }
+    ensures inner_not { shown (codes "not(not(), feature)")
+        ((0, Token.not) ∷ (0, Token.open_paren) ∷ (0, Token.not) ∷ (0, Token.open_paren)
+        ∷ (0, Token.close_paren) ∷ (0, Token.comma) ∷ (1, key (codes "feature"))
+        ∷ (0, Token.close_paren) ∷ []) ≡ Some (refusal (invalid_not 0) 4 9) }
+    ensures unix { shown (codes "any(unix = \"x\", not())")
+        ((0, Token.any) ∷ (0, Token.open_paren) ∷ (0, key (codes "unix")) ∷ (1, Token.equals)
+        ∷ (1, Token.value (codes "x")) ∷ (0, Token.comma) ∷ (1, Token.not) ∷ (0, Token.open_paren)
+        ∷ (0, Token.close_paren) ∷ (0, Token.close_paren) ∷ [])
+        ≡ Some (refusal (unexpected []) 12 13) }
+    ensures two_values { shown (codes "all(target_os = \"a\" \"b\")")
+        ((0, Token.all) ∷ (0, Token.open_paren) ∷ (0, key (codes "target_os")) ∷ (1, Token.equals)
+        ∷ (1, Token.value (codes "a")) ∷ (1, Token.value (codes "b")) ∷ (0, Token.close_paren)
+        ∷ []) ≡ refused_behind (Some (Token.value [])) 20 23 }
+    ensures two_keys { shown (codes "any(not(not(key_one, key_two)))")
+        ((0, Token.any) ∷ (0, Token.open_paren) ∷ (0, Token.not) ∷ (0, Token.open_paren)
+        ∷ (0, Token.not) ∷ (0, Token.open_paren) ∷ (0, key (codes "key_one")) ∷ (0, Token.comma)
+        ∷ (1, key (codes "key_two")) ∷ (0, Token.close_paren) ∷ (0, Token.close_paren)
+        ∷ (0, Token.close_paren) ∷ []) ≡ Some (refusal (invalid_not 2) 8 29) }
+    ensures not_before_predicate { shown (codes "not(a, feature)")
+        ((0, Token.not) ∷ (0, Token.open_paren) ∷ (0, key (codes "a")) ∷ (0, Token.comma)
+        ∷ (1, key (codes "feature")) ∷ (0, Token.close_paren) ∷ [])
+        ≡ Some (refusal (invalid_not 2) 0 15) }
+    ensures predicate_at_comma { shown (codes "not(feature, x)")
+        ((0, Token.not) ∷ (0, Token.open_paren) ∷ (0, key (codes "feature")) ∷ (0, Token.comma)
+        ∷ (1, key (codes "x")) ∷ (0, Token.close_paren) ∷ [])
+        ≡ Some (refusal (unexpected (codes "= \"<feature_name>\"" ∷ [])) 4 11) }
+    ensures unopened_before_predicate { shown (codes "feature)")
+        (near (key (codes "feature") ∷ Token.close_paren ∷ []))
+        ≡ Some (refusal unopened_parens 7 8) }
+    ensures key_before_quote { first_fault (codes "all(key = \"value), key = \"value\"")
+        (laid_out 0 ((0, Token.all) ∷ (0, Token.open_paren) ∷ (0, key (codes "key"))
+        ∷ (1, Token.equals) ∷ (1, Token.value (codes "value), key = "))
+        ∷ (0, key (codes "value")) ∷ [])) (Ending.unclosed_quotes 31)
+        ≡ refused_behind (Some (Token.value [])) 26 31 }
+{}
+
+// Those that the end of the text shows, and the place where no token can start.
+fn first_faults_at_ends()
+    ensures no_token { first_fault (codes "feature 8") (laid_out 0 (near (key (codes "feature")
+        ∷ []))) (Ending.no_token 8) ≡ refused_behind None 8 9 }
+    ensures quotes { first_fault (codes "key \"abc") (laid_out 0 (near (key (codes "key") ∷ [])))
+        (Ending.unclosed_quotes 4) ≡ Some (refusal unclosed_quotes 4 8) }
+    ensures equals { shown (codes "all(key =") ((0, Token.all) ∷ (0, Token.open_paren)
+        ∷ (0, key (codes "key")) ∷ (1, Token.equals) ∷ [])
+        ≡ Some (refusal (unexpected (codes "\"<value>\"" ∷ [])) 9 9) }
+    ensures name { shown (codes "all(any") (near (Token.all ∷ Token.open_paren ∷ Token.any ∷ []))
+        ≡ Some (refusal (unexpected (codes "(" ∷ [])) 4 7) }
+    ensures parens_before_predicate { shown (codes "all(feature")
+        (near (Token.all ∷ Token.open_paren ∷ key (codes "feature") ∷ []))
+        ≡ Some (refusal unclosed_parens 3 11) }
+    ensures inner_parens { shown (codes "all(any(a)") (near (Token.all ∷ Token.open_paren
+        ∷ Token.any ∷ Token.open_paren ∷ key (codes "a") ∷ Token.close_paren ∷ []))
+        ≡ Some (refusal unclosed_parens 3 10) }
+    ensures lone_name { shown (codes "not") (near (Token.not ∷ []))
+        ≡ Some (refusal (unexpected (codes "(" ∷ [])) 0 3) }
+    ensures predicate_before_roots { shown (codes "a, target_os")
+        ((0, key (codes "a")) ∷ (0, Token.comma) ∷ (1, key (codes "target_os")) ∷ [])
+        ≡ Some (refusal (unexpected (codes "= \"<target_cfg_value>\"" ∷ [])) 3 12) }
+    ensures two_functions { shown (codes "all(), any()") ((0, Token.all) ∷ (0, Token.open_paren)
+        ∷ (0, Token.close_paren) ∷ (0, Token.comma) ∷ (1, Token.any) ∷ (0, Token.open_paren)
+        ∷ (0, Token.close_paren) ∷ []) ≡ Some (refusal multiple_root_predicates 0 12) }
+    ensures nothing { shown (codes "   ") [] ≡ Some (refusal empty 0 3) }
+    ensures empty_feature { shown (codes "target_feature = \"\"")
+        ((0, key (codes "target_feature")) ∷ (1, Token.equals) ∷ (1, Token.value []) ∷ [])
+        ≡ Some (refusal (unexpected (codes "<feature>" ∷ [])) 18 18) }
+    ensures wide { shown (codes "target_pointer_width = \"256\"")
+        ((0, key (codes "target_pointer_width")) ∷ (1, Token.equals)
+        ∷ (1, Token.value (codes "256")) ∷ []) ≡ Some (refusal invalid_integer 24 27) }
+    ensures condition { shown (codes "all(a,,)") (near (Token.all ∷ Token.open_paren
+        ∷ key (codes "a") ∷ Token.comma ∷ Token.comma ∷ Token.close_paren ∷ [])) ≡ None }
+{}
+
 // How predicates are written.
 fn spellings()
     ensures flag { spelling (Question.flag (codes "a")) ≡ codes "a" }
@@ -139,6 +223,8 @@ fn definitions_compute() {
     numbers();
     neighbours();
     steps();
+    first_faults_at_tokens();
+    first_faults_at_ends();
     spellings();
 }
 

@@ -3,7 +3,7 @@ use Rattle.std.proofs.Common.{ap, ◌∙◌}
 use Rattle.std.proofs.lemmas.Result.{err_from_is_err_and}
 use Rattle.cfgx_syntax.specs.Stripping.{strip}
 use Rattle.cfg_expr.proofs.Parsed.{Begins-start, Answers-fails, Answers-memory, Keeps-reads}
-use Rattle.cfg_expr.proofs.Parsed.{HasOneTree-reads}
+use Rattle.cfg_expr.proofs.Parsed.{IsAccepted-reads}
 use Rattle.cfg_expr.proofs.expr.Expression.parse.Goals as goal
 
 pub returns-in_err-read_all : goal.returns-in_err-read_all
@@ -42,7 +42,7 @@ returns g c =
     let begins = Begins-start {A = g.row.A.Denot} text c.new-lexer.result c.new-parser.result
     c.new-lexer.ensures.one c.new-lexer.ensures.starts c.new-parser.ensures.state
     (c.new-parser.ensures.text ∙ c.original-text.ensures) in
-    let found = HasOneTree-reads {A = g.row.A.Denot} text c.new-lexer.result c.new-parser.result
+    let found = IsAccepted-reads {A = g.row.A.Denot} text c.new-lexer.result c.new-parser.result
     c.read_all.new.self begins c.in_ok-read_all.ensures in
     let same = c.in_ok-original.ensures.ok ∙ c.original-text.ensures
     ∙ ap (λ l. l.text) c.new-lexer.ensures.starts in

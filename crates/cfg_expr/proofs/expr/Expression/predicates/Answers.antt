@@ -1,6 +1,9 @@
 -- The nodes are those of a tree of the text, and their leaves ask what it asks.
-use Rattle.std.proofs.Common.{subst, ◌∙◌}
+use Rattle.std.proofs.Common.{subst, sym, ◌∙◌}
+use Rattle.std.specs.List.{AllByRecursion}
 use Rattle.cfg_expr.specs.Grammar.{HasTree}
+use Rattle.cfg_expr.specs.Regular.{IsRegular}
+use Rattle.cfg_expr.proofs.Regular.{regular_tree}
 use Rattle.cfg_expr.proofs.Asked.{NameLeaves-kept, questions_at-kept}
 use Rattle.cfg_expr.proofs.expr.Expression.predicates.Goals as goal
 
@@ -9,10 +12,16 @@ new-requires g c =
     rw (c.as_str.ensures.value, c.as_slice.ensures, c.as_slice-2.ensures)
     (NameLeaves-kept _ _ _ c.self.invariant.tree c.self.invariant.keeps)
 
-pub returns : goal.returns
-returns g c = (
+pub returns-clause-asked : goal.returns-clause-asked
+returns-clause-asked g c = (
   c.self.invariant.tree,
   subst (λ text. HasTree text c.self.invariant.tree) c.self.view_is c.self.invariant.has_tree,
   c.new.ensures ∙ rw (c.as_str.ensures.value, c.as_slice.ensures, c.as_slice-2.ensures)
       (questions_at-kept _ _ _ c.self.invariant.tree c.self.invariant.keeps),
 )
+
+-- what a text asks can stand in a text
+pub returns-clause-regular : goal.returns-clause-regular
+returns-clause-regular g c =
+    let asks = returns-clause-asked g c in
+    subst (AllByRecursion IsRegular) (sym asks.2) (regular_tree _ asks.0 asks.1)

@@ -1,6 +1,7 @@
-use Rattle.std.proofs.Common.{ap, inl, inr, subst, Err}
+use Rattle.std.proofs.Common.{ap, inl, inr, subst, ◌∙◌, ◌++◌, Err}
+use Rattle.std.specs.Prelude.{codes}
 use Rattle.cfgx_syntax.specs.Stripping.{strip}
-use Rattle.cfgx_syntax.specs.Error.{fault_of}
+use Rattle.cfgx_syntax.specs.Error.{error_text}
 use Rattle.cfg_expr.specs.Answer.{Answers}
 use Rattle.cfgx_engine.proofs.OutputLemmas.{output, lists_one}
 use Rattle.cfgx_engine.proofs.engine.answer.parse_answer.Goals as goal
@@ -9,7 +10,7 @@ use Rattle.cfgx_engine.proofs.engine.answer.parse_answer.Goals as goal
 pub returns-in_ok-lines-in-Ok : goal.returns-in_ok-lines-in-Ok
 returns-in_ok-lines-in-Ok g c =
     let parsed = c.in-Ok.ensures in
-    inl (lists_one _ parsed.2 parsed.0 c.predicates.ensures c.in_ok-lines-in-Ok.ensures)
+    inl (lists_one _ parsed.2.0 parsed.0 c.predicates.ensures.asked c.in_ok-lines-in-Ok.ensures)
 
 -- the fault that parsing answered is the one that is written
 pub returns-in_ok-format-in-Err-Parse : goal.returns-in_ok-format-in-Err-Parse
@@ -17,5 +18,5 @@ returns-in_ok-format-in-Err-Parse g c =
     let parsed = subst (λ failure. Answers (strip c.args.text.now) (Err failure))
     c.in-Err-Parse.field-0-is c.in-Err-Parse.ensures in
     let written = c.in_ok-format-in-Err-Parse.ensures.ok in
-    let fault = fault_of c.in-Err-Parse.error in
-    inr (parsed.1, fault, parsed.0, ap (λ bytes. output bytes 1) written)
+    let same = ap (λ fault. output (error_text fault ++ codes "\n") 1) parsed.1 in
+    inr (parsed.0, parsed.2, ap (λ bytes. output bytes 1) written ∙ same)

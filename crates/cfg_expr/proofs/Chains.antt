@@ -1,0 +1,81 @@
+-- What a chain of calls says to a caller of `eval`.
+use Rattle.std.proofs.Common.{◌≡◌, ℕ, suc, List, [], ◌∷◌, length, map, refl, ap, ◌∙◌}
+use Rattle.std.proofs.Common.{sym}
+use Rattle.std.specs.Prelude.{fold}
+use Rattle.cfg_expr.specs.Question.{Question}
+use Rattle.cfg_expr.specs.Tree.{asked}
+use Rattle.cfg_expr.specs.Fold.{Operations}
+use Rattle.cfg_expr.specs.Fold as tree_value
+use Rattle.cfg_expr.specs.Asking.{Asker, Asks, Calls, MayAsk, MayAskEach}
+use Rattle.cfg_expr.specs.Evaluation.{Evaluates}
+
+-- there are as many answers as questions
+pub Calls-length : {F T : Type 0} (asker : Asker F T) (before : F) (questions : List Question)
+    (answers : List T) (after : F) → Calls asker before questions answers after
+    → length answers ≡ length questions
+Calls-length asker before questions answers after (Calls.none state) = refl
+Calls-length asker _ _ _ _ (Calls.more before question answer between questions answers after
+    asks calls) =
+    ap suc (Calls-length asker between questions answers after calls)
+
+-- where each call gives what a function says of the question, and leaves the state as it was, the
+-- answers are those of the function
+pub Calls-map : {F T : Type 0} (asker : Asker F T) (answer : Question → T)
+    → ((before : F) (question : Question) (given : T) (after : F)
+    → Asks asker before question given after → given ≡ answer question)
+    → (before : F) (questions : List Question) (answers : List T) (after : F)
+    → Calls asker before questions answers after → answers ≡ map answer questions
+Calls-map asker answer each before questions answers after (Calls.none state) = refl
+Calls-map asker answer each _ _ _ _
+    (Calls.more before question given between questions answers after
+    asks calls) =
+    let first = each before question given between asks in
+    let others = Calls-map asker answer each between questions answers after calls in
+    cc
+
+-- where each call takes what is seen of the closure to what a function makes of it and of the
+-- question, the chain takes it to the fold of that function over the questions
+pub Calls-folds : {F T X : Type 0} (asker : Asker F T) (seen : F → X) (next : X → Question → X)
+    → ((before : F) (question : Question) (given : T) (after : F)
+    → Asks asker before question given after → seen after ≡ next (seen before) question)
+    → (before : F) (questions : List Question) (answers : List T) (after : F)
+    → Calls asker before questions answers after
+    → seen after ≡ fold next (seen before) questions
+Calls-folds asker seen next each before questions answers after (Calls.none state) = refl
+Calls-folds asker seen next each _ _ _ _
+    (Calls.more before question given between questions answers after
+    asks calls) =
+    Calls-folds asker seen next each between questions answers after calls
+    ∙ ap (λ x. fold next x questions) (each before question given between asks)
+
+-- a closure that may be called in every state may be asked any questions
+pub MayAskEach-always : {F T : Type 0} (asker : Asker F T)
+    → ((state : F) (question : Question) → MayAsk asker state question)
+    → (state : F) (questions : List Question) → MayAskEach asker state questions
+MayAskEach-always asker may state [] = MayAskEach.none state
+MayAskEach-always asker may state (question ∷ questions) =
+    MayAskEach.more state question questions (may state question)
+    (λ answer after asks. MayAskEach-always asker may after questions)
+
+-- two expressions of one text have equal values where their closures gave equal answers
+pub Evaluates-same : {F G T : Type 0} (logic : Operations T) (asker : Asker F T)
+    (other : Asker G T) (text : List ℕ) (before after : F) (before' after' : G) (value value' : T)
+    → (e : Evaluates logic asker text before value after)
+    → (e' : Evaluates logic other text before' value' after') → e.answers ≡ e'.answers
+    → value ≡ value'
+Evaluates-same logic asker other text before after before' after' value value' e e' same =
+    let trees = e'.one.only e.one.tree e.one.has_tree in
+    e.value_is ∙ ap (λ t. tree_value.fold logic t e.answers) trees
+    ∙ ap (tree_value.fold logic e'.one.tree) same ∙ sym e'.value_is
+
+-- where each call gives what a function says of the question, the value is that of the tree over
+-- this function
+pub Evaluates-map : {F T : Type 0} (logic : Operations T) (asker : Asker F T)
+    (answer : Question → T) (text : List ℕ) (before after : F) (value : T)
+    → ((before : F) (question : Question) (given : T) (after : F)
+    → Asks asker before question given after → given ≡ answer question)
+    → (e : Evaluates logic asker text before value after)
+    → value ≡ tree_value.fold logic e.one.tree (map answer (asked e.one.tree))
+Evaluates-map logic asker answer text before after value each e =
+    e.value_is ∙ ap (tree_value.fold logic e.one.tree)
+    (Calls-map asker answer each before (asked e.one.tree) e.answers after e.calls)

@@ -1,0 +1,5 @@
+use Rattle.cfg_expr.proofs.AloneText.{spelling_alone}
+use Rattle.cfg_expr.proofs.expr.spelling.spell.Goals as goal
+
+pub returns-clause-alone : goal.returns-clause-alone
+returns-clause-alone g c = λ regular. spelling_alone _ regular

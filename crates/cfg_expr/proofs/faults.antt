@@ -1,0 +1,6 @@
+-- The steps refuse a text with its first fault.
+pub mod Counting
+pub mod Levels
+pub mod Matches
+pub mod Steps
+pub mod Whole

@@ -1,0 +1,95 @@
+-- What the steps answer for all tokens of a text is its first fault, or none.
+use Rattle.std.proofs.Common.{◌≡◌, ◌⊎◌, inl, inr, ℕ, ◌<◌, ◌≤◌, List, [], ◌∷◌, ◌++◌}
+use Rattle.std.proofs.Common.{length}
+use Rattle.std.proofs.Common.{take, Option, Some, None, Result, Ok, Err, sym, refl, ap, ◌∙◌, subst}
+use Rattle.std.proofs.Common.{arith, append_assoc, length-append, take_at}
+use Rattle.std.specs.Prelude.{slice_get, option_and_then}
+use Rattle.std.specs.Option.{option_or}
+use Rattle.std.proofs.lemmas.Bool.{cases_lt}
+use Rattle.std.proofs.lemmas.List.{append-nil}
+use Rattle.cfgx_syntax.specs.Items.{Item, Ending, lexical}
+use Rattle.cfgx_syntax.specs.Error.{Refusal}
+use Rattle.cfg_expr.specs.FirstFault.{first_below, fault_behind, fault_at, end_fault, first_fault}
+use Rattle.cfg_expr.specs.parsing.State.{State, initial}
+use Rattle.cfg_expr.specs.parsing.Step.{and_then, step, run}
+use Rattle.cfg_expr.specs.parsing.Parser.{ended_as, answer_from}
+use Rattle.cfg_expr.proofs.faults.Counting.{slice_get_next, length_more, first_below-none}
+use Rattle.cfg_expr.proofs.faults.Counting.{first_below-found}
+use Rattle.cfg_expr.proofs.faults.Matches.{Matches, Matches-initial}
+use Rattle.cfg_expr.proofs.faults.Steps.{Agrees, EndAgrees, step_agrees, end_agrees}
+
+-- the tokens lead on where none shows a fault, and otherwise to the first fault
+abbrev Scanned : List Item → Result State Refusal → Type 0
+Scanned all (Ok t) = (first_below (fault_at all) (length all) ≡ None) × Matches all t
+Scanned all (Err refusal) = first_below (fault_at all) (length all) ≡ Some refusal
+
+-- no token of these shows a fault
+abbrev HasNone : List Item → ℕ → Type 0
+HasNone all n = (k : ℕ) → k < n → fault_at all k ≡ None
+
+module _ (all front : List Item) (item : Item) (items : List Item)
+    (is : all ≡ front ++ item ∷ items) where
+  fault_next : fault_at all (length front) ≡ fault_behind front item
+  fault_next = ap (λ l. option_and_then (fault_behind (take (length front) l))
+      (slice_get l (length front))) is
+      ∙ ap (λ l. option_and_then (fault_behind l) (slice_get (front ++ item ∷ items)
+      (length front))) (take_at front (item ∷ items) (length front) refl)
+      ∙ ap (option_and_then (fault_behind front)) (slice_get_next front item items)
+
+  next_inside : length front < length all
+  next_inside = omega (arith, ap length is, length-append front (item ∷ items))
+
+  none_more : HasNone all (length front) → fault_behind front item ≡ None
+      → HasNone all (length (front ++ item ∷ []))
+  none_more none here k lt = by (cases_lt k (length front))
+    where
+      by : (k < length front) ⊎ (length front ≤ k) → fault_at all k ≡ None
+      by (inl before) = none k before
+      by (inr past) =
+          let same : k ≡ length front = omega (arith, lt, past, length_more front item) in
+          ap (fault_at all) same ∙ fault_next ∙ here
+
+  scan_next : (r : Result State Refusal) → HasNone all (length front)
+      → Agrees (front ++ item ∷ []) r (fault_behind front item)
+      → ((t : State) → Matches (front ++ item ∷ []) t → fault_behind front item ≡ None
+      → Scanned all (run t items)) → Scanned all (and_then (λ t. run t items) r)
+  scan_next (Err refusal) none agrees go = first_below-found (fault_at all) (length front)
+      (length all) refusal next_inside none (fault_next ∙ agrees)
+  scan_next (Ok t) none agrees go = go t agrees.1 agrees.0
+
+scan : (items all front : List Item) (s : State) → all ≡ front ++ items → Matches front s
+    → HasNone all (length front) → Scanned all (run s items)
+scan [] all front s is m none =
+    let same : all ≡ front = is ∙ append-nil front in (
+      first_below-none (fault_at all) (length all)
+          (subst (λ l. HasNone all (length l)) (sym same) none),
+      subst (λ l. Matches l s) (sym same) m,
+    )
+scan (item ∷ items) all front s is m none =
+    scan_next all front item items is (step s item) none
+    (step_agrees front s m item.start item.end item.token)
+    (λ t more here. scan items all (front ++ item ∷ []) t
+    (is ∙ sym (append_assoc front (item ∷ []) items)) more
+    (none_more all front item items is none here))
+
+module _ (text : List ℕ) (items : List Item) (ending : Ending) where
+  at_end : (o : Option Refusal) (t : State) → Matches items t
+      → EndAgrees (ended_as text o t) (option_or o (end_fault (length text) items))
+  at_end (Some refusal) t m = refl
+  at_end None t m = end_agrees items t m (length text)
+
+  whole_by : (r : Result State Refusal) → Scanned items r
+      → EndAgrees (and_then (ended_as text (lexical text ending)) r)
+      (first_fault text items ending)
+  whole_by (Err refusal) scanned = ap (λ o. option_or o
+      (option_or (lexical text ending) (end_fault (length text) items))) scanned
+  whole_by (Ok t) scanned =
+      subst (EndAgrees (ended_as text (lexical text ending) t))
+      (sym (ap (λ o. option_or o
+      (option_or (lexical text ending) (end_fault (length text) items))) scanned.0))
+      (at_end (lexical text ending) t scanned.1)
+
+  pub whole_agrees : EndAgrees (answer_from initial text items ending)
+      (first_fault text items ending)
+  whole_agrees = whole_by (run initial items)
+      (scan items items [] initial refl Matches-initial (λ k lt. absurd (omega (arith, lt))))

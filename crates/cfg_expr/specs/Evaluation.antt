@@ -1,0 +1,21 @@
+-- What `Expression::eval` asks and answers.
+use Rattle.std.specs.Prelude.{◌≡◌, ℕ, List}
+use Rattle.cfg_expr.specs.Tree.{Tree, asked}
+use Rattle.cfg_expr.specs.Grammar.{HasTree}
+use Rattle.cfg_expr.specs.Answer.{HasOneTree}
+use Rattle.cfg_expr.specs.Fold.{Operations, fold}
+use Rattle.cfg_expr.specs.Asking.{Asker, Calls, MayAskEach}
+
+module _ {F T : Type 0} (logic : Operations T) (asker : Asker F T) where
+  -- the closure was asked what the text's one tree asks, one call each, and the value is that of
+  -- the tree over its answers
+  pub record Evaluates (text : List ℕ) (before : F) (value : T) (after : F) : Type 0 where
+    pub one : HasOneTree text
+    pub answers : List T
+    pub calls : Calls asker before (asked one.tree) answers after
+    pub value_is : value ≡ fold logic one.tree answers
+
+-- the closure may be asked what the text's tree asks
+abbrev pub MayEvaluate : {F T : Type 0} → Asker F T → List ℕ → F → Type 0
+MayEvaluate asker text state =
+    (tree : Tree) → HasTree text tree → MayAskEach asker state (asked tree)

@@ -1,0 +1,25 @@
+-- Predicates as they can stand in a text, and the text of one alone.
+use Rattle.std.specs.Prelude.{◌≡◌, ℕ, List, Option, Some, None}
+use Rattle.cfgx_syntax.specs.Token.{IsKey, HasNoQuote}
+use Rattle.cfg_expr.specs.Question.{Question}
+use Rattle.cfg_expr.specs.Classification.{Class, class}
+use Rattle.cfg_expr.specs.Tree.{Tree}
+use Rattle.cfg_expr.specs.Answer.{HasOneTree}
+
+-- a value that can stand between quotes
+abbrev pub CanBeQuoted : Option (List ℕ) → Type 0
+CanBeQuoted None = Unit {0}
+CanBeQuoted (Some value) = HasNoQuote value
+
+-- a key, and perhaps a value, say the predicate
+pub record IsRegular (question : Question) : Type 0 where
+  pub key : List ℕ
+  pub value : Option (List ℕ)
+  pub is_key : IsKey key
+  pub can_be_quoted : CanBeQuoted value
+  pub says : class key value ≡ Class.is question
+
+-- the text is this predicate and nothing else
+pub record IsAlone (text : List ℕ) (question : Question) : Type 0 where
+  pub one : HasOneTree text
+  pub is : one.tree ≡ Tree.leaf question

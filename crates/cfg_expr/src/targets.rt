@@ -1,0 +1,12 @@
+//! Targets: the fields that they are described by, and tables of them.
+
+pub use cfgx_fields::{Abi, Arch, Triple, Vendor};
+pub use cfgx_places::{Env, Family, Os, Panic};
+pub use cfgx_targets::atomic::{HasAtomic, HasAtomicFailure};
+pub use cfgx_targets::atomics::HasAtomics;
+pub use cfgx_targets::builtins;
+pub use cfgx_targets::builtins::rustc_version;
+pub use cfgx_targets::endian::Endian;
+pub use cfgx_targets::families::Families;
+pub use cfgx_targets::info::TargetInfo;
+pub use cfgx_targets::table::{TableError, TargetTable, get_builtin_target_by_triple};

@@ -1,0 +1,9 @@
+use Rattle.std.specs.List.{repeat}
+use Rattle.std.specs.Fmt.{HasWritten, IsPlainFormatter}
+use Rattle.cfgx_syntax.proofs.error.write_repeated.Given as goal
+
+-- the text has been written as often as the loop has run
+abbrev pub invariant-loop-time : goal.invariant-loop-time
+invariant-loop-time g l =
+    IsPlainFormatter l.fn.f
+    → HasWritten g.W.Write.write_str_gives l.fn.f (repeat l._time l.text) l.f

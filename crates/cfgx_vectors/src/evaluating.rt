@@ -1,0 +1,231 @@
+//! Callers of `Expression::eval`, each proved by its contract alone, and values that are known from
+//! outside.
+ghost use Rattle.std.specs.Prelude.{◌≡◌, ◌+◌, ◌^◌, ◌*◌, ◌%◌, ◌-◌, length, map, min, IfOk};
+ghost use Rattle.cfg_expr.specs.Answer.{HasOneTree};
+ghost use Rattle.cfg_expr.specs.Fold.{fold};
+ghost use Rattle.cfg_expr.specs.Predicate.{question_of};
+ghost use Rattle.cfg_expr.specs.Tree.{asked};
+ghost use Rattle.cfgx_vectors.specs.Callers.{is_flag, one_more};
+
+use cfg_expr::expr::Logic;
+use cfg_expr::{Expression, Predicate};
+use std::alloc::{AllocError, Global};
+
+/// Whether a predicate is a bare key of no other meaning.
+fn is_flag(predicate: &Predicate<'_>) -> bool
+    ensures { result ≡ is_flag (question_of predicate.now) }
+{
+    matches!(predicate, Predicate::Flag(_))
+}
+
+/// The value of a condition where the bare keys of no other meaning alone are true.
+pub fn value_of_flags(alloc: Global, expression: &Expression) -> Result<bool, AllocError>
+    ensures { IfOk result (λ value. (one : HasOneTree expression.now) × (value
+        ≡ fold ⟦<bool as Logic>⟧ one.tree (map is_flag (asked one.tree)))) }
+{
+    let mut answer = |predicate: &Predicate<'_>| is_flag(predicate);
+    let value: bool = expression.eval(alloc, &mut answer)?;
+    Ok(value)
+}
+
+/// How many questions the value of a condition takes.
+pub fn questions_of(alloc: Global, expression: &Expression) -> Result<usize, AllocError>
+    ensures { IfOk result (λ count. (one : HasOneTree expression.now)
+        × (count ≡ min (length (asked one.tree)) (2 ^ 64 - 1))) }
+{
+    let mut count = 0usize;
+    let mut answer = |_predicate: &Predicate<'_>| {
+        count = count.saturating_add(1);
+        true
+    };
+    let _value: bool = expression.eval(alloc, &mut answer)?;
+    Ok(count)
+}
+
+/// A logic of no law: `and` is three times the first value and the second, `or` is the first one,
+/// and `not` changes nothing. Sums wrap.
+#[derive(Clone, Copy, Debug, PartialEq, Eq)]
+pub struct Lawless(pub u64);
+
+impl Logic for Lawless {
+    ghost use Rattle.std.proofs.Common.{lit≤};
+
+    ghost top = { record { 0 = 1 } };
+
+    ghost bottom = { record { 0 = 2 } };
+
+    ghost and = { λ one other. record { 0 = ((one.0 * 3) % 2 ^ 64 + other.0) % 2 ^ 64 } };
+
+    ghost or = { λ one other. one };
+
+    ghost not = { λ one. one };
+
+    ghost small = { (lit≤ tt, lit≤ tt) };
+
+    fn top() -> Lawless {
+        Lawless(1)
+    }
+
+    fn bottom() -> Lawless {
+        Lawless(2)
+    }
+
+    fn and(self, other: Lawless) -> Lawless {
+        Lawless(self.0.wrapping_mul(3).wrapping_add(other.0))
+    }
+
+    fn or(self, _other: Lawless) -> Lawless {
+        self
+    }
+
+    fn not(self) -> Lawless {
+        self
+    }
+}
+
+#[cfg(test)]
+mod tests {
+    use crate::deep::{nested, repeated};
+    use crate::evaluating::{Lawless, questions_of, value_of_flags};
+    use crate::refusing::{EVERY, Refusing};
+    use cfg_expr::expr::Logic;
+    use cfg_expr::{Expression, Predicate};
+    use std::alloc::Global;
+    use std::process::Abort;
+    use std::test::Fail;
+
+    // The value where each predicate has the same answer.
+    fn value<T: Logic + Copy>(alloc: Global, text: &str, answer: T) -> Result<T, Fail> {
+        let expression = Expression::parse(alloc, text)?;
+        Ok(expression.eval(alloc, &mut |_predicate: &Predicate<'_>| answer)?)
+    }
+
+    // A text, the answer to every predicate, and the value.
+    const BOOLS: [(&str, bool, bool); 8] = [
+        ("all()", false, true),
+        ("any()", true, false),
+        ("not(all())", false, false),
+        ("not(any())", true, true),
+        ("all(not(blah))", false, true),
+        ("any(not(blah))", true, false),
+        ("any(a, a, a)", true, true),
+        ("a", false, false),
+    ];
+
+    #[test]
+    fn values_over_bool(rt: HostRuntime) -> Result<(), Fail> {
+        for (text, answer, wanted) in BOOLS {
+            assert_eq!(rt; value(rt.alloc(), text, answer)?, wanted, "{text}");
+        }
+        Ok(())
+    }
+
+    #[test]
+    fn values_that_may_be_unknown(rt: HostRuntime) -> Result<(), Fail> {
+        assert_eq!(rt; value(rt.alloc(), "any(a, not(a))", None)?, None);
+        let text = "all(feature = \"make_fast\", target_feature = \"sse4.2\")";
+        let expression = Expression::parse(rt.alloc(), text)?;
+        for (feature, wanted) in [(Some(false), Some(false)), (Some(true), None)] {
+            let mut answer = |predicate: &Predicate<'_>| match predicate {
+                Predicate::Feature(_) => feature,
+                _ => None,
+            };
+            assert_eq!(rt; expression.eval(rt.alloc(), &mut answer)?, wanted);
+        }
+        Ok(())
+    }
+
+    // `any(b)` is `bottom`, which is 2; then 3 * 1 + 30 = 33, 3 * 33 + 10 = 109, 3 * 109 + 2 = 329.
+    #[test]
+    fn the_last_member_is_joined_first(rt: HostRuntime) -> Result<(), Fail> {
+        let expression = Expression::parse(rt.alloc(), "all(a, any(b), c)")?;
+        let mut answer = |predicate: &Predicate<'_>| match predicate {
+            Predicate::Flag("a") => Lawless(10),
+            Predicate::Flag("b") => Lawless(20),
+            _ => Lawless(30),
+        };
+        assert_eq!(rt; expression.eval(rt.alloc(), &mut answer)?, Lawless(329));
+        Ok(())
+    }
+
+    #[test]
+    fn each_occurrence_is_asked_once(rt: HostRuntime) -> Result<(), Fail> {
+        for (text, count) in [("any(a, a, a)", 3), ("all(a, any(b), c)", 3), ("all()", 0)] {
+            let expression = Expression::parse(rt.alloc(), text)?;
+            assert_eq!(rt; questions_of(rt.alloc(), &expression)?, count, "{text}");
+        }
+        let expression = Expression::parse(rt.alloc(), "all(a, not(test))")?;
+        assert!(rt; value_of_flags(rt.alloc(), &expression)?);
+        Ok(())
+    }
+
+    #[test]
+    fn many_members_and_deep_ones(rt: HostRuntime) -> Result<(), Fail> {
+        let many = repeated(rt.alloc(), "all(any(),", "all(),", 299, ")")?;
+        assert!(rt; !value(rt.alloc(), many.as_str(), true)?);
+        let wide = repeated(rt.alloc(), "any(", "a,", 100_000, ")")?;
+        assert!(rt; !value(rt.alloc(), wide.as_str(), false)?);
+        assert!(rt; value(rt.alloc(), wide.as_str(), true)?);
+        let deep = nested(rt.alloc(), "not(", 100_000, "a")?;
+        assert!(rt; value(rt.alloc(), deep.as_str(), true)?);
+        let odd = nested(rt.alloc(), "not(", 100_001, "a")?;
+        assert!(rt; !value(rt.alloc(), odd.as_str(), true)?);
+        Ok(())
+    }
+
+    // No text here needs so many growths.
+    const MOST_GROWTHS: u64 = 100;
+
+    // Evaluates with the first growth refused, then with the second, until none is refused.
+    fn eval_in_turns(rt: &impl Abort, alloc: Global, text: &str) -> Result<(), Fail> {
+        for turn in 1..MOST_GROWTHS {
+            let refusing = Refusing::new(alloc);
+            let expression = Expression::parse(&refusing, text)?;
+            refusing.refuse(turn);
+            let mut count = 0usize;
+            let value = expression.eval(
+                &refusing,
+                &mut |_predicate: &Predicate<'_>| {
+                    count = count.saturating_add(1);
+                    true
+                },
+            );
+            if !refusing.has_refused() {
+                assert_eq!(rt; value.ok(), Some(true), "{text}");
+                assert_eq!(rt; count, expression.predicates().left(), "{text}");
+                assert!(rt; turn > 1, "{text}");
+                return Ok(());
+            }
+            assert!(rt; value.is_err(), "growth {turn} of {text}");
+            assert_eq!(rt; count, 0, "growth {turn} of {text}");
+        }
+        Err(Fail::from("too many growths"))
+    }
+
+    #[test]
+    fn refused_growths(rt: HostRuntime) -> Result<(), Fail> {
+        let wide = repeated(rt.alloc(), "any(", "a,", 100, ")")?;
+        eval_in_turns(&rt, rt.alloc(), wide.as_str())?;
+        let deep = nested(rt.alloc(), "any(", 100, "a")?;
+        eval_in_turns(&rt, rt.alloc(), deep.as_str())
+    }
+
+    // Each has 31 or 32 bytes.
+    const SHORT: [&str; 3] = [
+        "any(a,a,a,a,a,a,a,a,a,a,a,a,a,a)",
+        "not(not(not(not(not(not(a))))))",
+        "all(all(),all(),all(),all(),a,a)",
+    ];
+
+    #[test]
+    fn a_short_text_takes_no_memory(rt: HostRuntime) -> Result<(), Fail> {
+        for text in SHORT {
+            let refusing = Refusing::new(rt.alloc());
+            let expression = Expression::parse(&refusing, text)?;
+            refusing.refuse(EVERY);
+            let value = expression.eval(&refusing, &mut |_predicate: &Predicate<'_>| true);
+            assert_eq!(rt; value.ok(), Some(true), "{text}");
+        }
+        Ok(())
+    }
+}

@@ -1,0 +1,145 @@
+//! The spellings of predicates, as `spell` writes them.
+use cfg_expr::Expression;
+use cfg_expr::error::Failure;
+use cfg_expr::expr::spell;
+use std::alloc::Global;
+use std::io::{self, ErrorKind, Write};
+use std::process::Abort;
+use std::test::Fail;
+
+// A writer in memory that takes at most `each` bytes a call, and `room` bytes in all.
+#[derive(Drop)]
+struct Slow {
+    bytes: Vec<u8>,
+    each: usize,
+    room: usize,
+}
+
+impl Write for Slow {
+    fn write(&mut self, bytes: &[u8]) -> io::Result<usize> {
+        let left = self.room.saturating_sub(self.bytes.len());
+        let taken = bytes.len().min(self.each).min(left);
+        match self.bytes.extend_from_slice(&bytes[..taken]) {
+            Ok(()) => Ok(taken),
+            Err(_) => Err(io::Error::from(ErrorKind::OutOfMemory)),
+        }
+    }
+
+    fn flush(&mut self) -> io::Result<()> {
+        Ok(())
+    }
+}
+
+// A text, and the spellings of its predicates one behind the other.
+const ROWS: &[(&str, &str)] = &[
+    ("unix", "target_family = \"unix\""),
+    ("windows", "target_family = \"windows\""),
+    (
+        "all(test, debug_assertions, proc_macro)",
+        "testdebug_assertionsproc_macro",
+    ),
+    ("feature=\"\"", "feature = \"\""),
+    ("target_feature = \"sse4.2\"", "target_feature = \"sse4.2\""),
+    ("panic=\"abort\"", "panic = \"abort\""),
+    (
+        "any(target_abi = \"\", target_arch=\"x86\")",
+        "target_abi = \"\"target_arch = \"x86\"",
+    ),
+    ("target_os = \"linux\"", "target_os = \"linux\""),
+    ("target_env = \"gnu\"", "target_env = \"gnu\""),
+    ("target_vendor = \"apple\"", "target_vendor = \"apple\""),
+    (
+        "all(target_endian=\"big\", target_endian=\"little\")",
+        "target_endian = \"big\"target_endian = \"little\"",
+    ),
+    ("target_has_atomic = \"+08\"", "target_has_atomic = \"8\""),
+    (
+        "target_has_atomic = \"65535\"",
+        "target_has_atomic = \"65535\"",
+    ),
+    ("target_has_atomic = \"ptr\"", "target_has_atomic = \"ptr\""),
+    (
+        "target_pointer_width = \"+064\"",
+        "target_pointer_width = \"64\"",
+    ),
+    (
+        "all(target_pointer_width = \"0\", target_pointer_width = \"255\")",
+        "target_pointer_width = \"0\"target_pointer_width = \"255\"",
+    ),
+    ("loom", "loom"),
+    ("key=\"a\nb\"", "key = \"a\nb\""),
+];
+
+// Spells the predicates of the text, and answers whether all went out.
+fn spell_each(alloc: Global, text: &str, writer: &mut Slow) -> Result<bool, Failure> {
+    let expression = Expression::parse(alloc, text)?;
+    for predicate in expression.predicates() {
+        if spell(&predicate, writer).is_err() {
+            return Ok(false);
+        }
+    }
+    Ok(true)
+}
+
+// Whether the text is spelled so by calls that take at most `each` bytes.
+fn is_spelled(alloc: Global, text: &str, spelled: &str, each: usize) -> Result<bool, Failure> {
+    let mut writer = Slow {
+        bytes: Vec::new(alloc),
+        each,
+        room: usize::MAX,
+    };
+    let done = spell_each(alloc, text, &mut writer)?;
+    Ok(done && writer.bytes.as_slice() == spelled.as_bytes())
+}
+
+#[test]
+fn spells_each_kind_of_predicate(rt: HostRuntime) -> Result<(), Fail> {
+    for (text, spelled) in ROWS {
+        for each in [1, 3, usize::MAX] {
+            assert!(rt; is_spelled(rt.alloc(), text, spelled, each)?, "{text}");
+        }
+    }
+    Ok(())
+}
+
+// Whether a beginning of the spelling was written, this many bytes, where no more have room.
+fn stops_behind(alloc: Global, text: &str, spelled: &str, room: usize) -> Result<bool, Failure> {
+    let mut writer = Slow {
+        bytes: Vec::new(alloc),
+        each: 4,
+        room,
+    };
+    let done = spell_each(alloc, text, &mut writer)?;
+    Ok(!done && writer.bytes.as_slice() == &spelled.as_bytes()[..room.min(spelled.len())])
+}
+
+#[test]
+fn stops_where_the_writer_takes_nothing(rt: HostRuntime) -> Result<(), Fail> {
+    for (text, spelled) in ROWS {
+        for room in 0..spelled.len() {
+            assert!(rt;
+                stops_behind(rt.alloc(), text, spelled, room)?,
+                "{text} at {room}"
+            );
+        }
+    }
+    Ok(())
+}
+
+// Whether the spelling, parsed, asks the predicate that the text asks.
+fn is_read_again(alloc: Global, text: &str, spelled: &str) -> Result<bool, Failure> {
+    let one = Expression::parse(alloc, text)?;
+    let other = Expression::parse(alloc, spelled)?;
+    Ok(one.predicates().eq(other.predicates()))
+}
+
+#[test]
+fn a_spelling_is_read_as_its_predicate(rt: HostRuntime) -> Result<(), Fail> {
+    for (text, spelled) in ROWS {
+        if text.starts_with("all(") || text.starts_with("any(") {
+            continue;
+        }
+        assert!(rt; is_read_again(rt.alloc(), text, spelled)?, "{text}");
+    }
+    Ok(())
+}

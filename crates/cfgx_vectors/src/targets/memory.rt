@@ -1,0 +1,215 @@
+//! Targets and want of memory: each growth of a call refused in turn.
+use crate::refusing::{EVERY, Refusing};
+use cfg_expr::TargetPredicate;
+use cfg_expr::error::HasAtomicParseError;
+use cfg_expr::targets::{
+    Abi, Families, Family, HasAtomic, HasAtomicFailure, HasAtomics, TargetTable,
+};
+use std::alloc::{AllocError, Global};
+
+/// The allocator of these calls.
+type Heap<'h> = &'h Refusing<Global>;
+
+// No call here needs so many growths.
+const MOST_GROWTHS: u64 = 100;
+
+// Whether the call answers want of memory with its first growth refused, with its second, and so
+// on, and true once none is refused; and whether any was.
+fn is_refused_in_turns<C>(alloc: Global, call: C) -> bool
+where
+    C: Fn(&Refusing<Global>) -> Result<bool, AllocError>,
+    requires { C.IsAlwaysCallable call }
+{
+    for turn in 1..MOST_GROWTHS {
+        let heap = Refusing::new(alloc);
+        heap.refuse(turn);
+        let answer = call(&heap);
+        if !heap.has_refused() {
+            return turn > 1 && answer.is_ok_and(|is_right| is_right);
+        }
+        if answer.is_ok() {
+            return false;
+        }
+    }
+    false
+}
+
+fn are_families(list: &Families<'_, Heap<'_>>, names: &[&str]) -> bool {
+    let families = list.as_slice();
+    families.len() == names.len()
+        && families
+            .iter()
+            .zip(names)
+            .all(|(family, name)| family.as_str() == *name)
+}
+
+fn makes_families(heap: Heap<'_>) -> Result<bool, AllocError> {
+    let mut families = Vec::new(heap);
+    families.push(Family::wasm())?;
+    families.push(Family::unix())?;
+    let list = Families::new(heap, families.into_iter())?;
+    Ok(are_families(&list, &["unix", "wasm"]))
+}
+
+fn names_families(heap: Heap<'_>) -> Result<bool, AllocError> {
+    Ok(
+        are_families(&Families::unix(heap)?, &["unix"])
+            && are_families(&Families::unix_wasm(heap)?, &["unix", "wasm"])
+            && are_families(&Families::wasm(heap)?, &["wasm"])
+            && are_families(&Families::windows(heap)?, &["windows"]),
+    )
+}
+
+fn copies_families(heap: Heap<'_>) -> Result<bool, AllocError> {
+    let mut families = Vec::new(heap);
+    families.push(Family::new(String::from_str(heap, "b")?))?;
+    let list = Families::new(heap, families.into_iter())?;
+    let copy = list.try_clone(heap);
+    Ok(are_families(&list, &["b"]) && are_families(&copy?, &["b"]))
+}
+
+#[test]
+fn is_met_by_lists_of_families(rt: HostRuntime) {
+    assert!(rt; is_refused_in_turns(rt.alloc(), makes_families));
+    assert!(rt; is_refused_in_turns(rt.alloc(), names_families));
+    assert!(rt; is_refused_in_turns(rt.alloc(), copies_families));
+}
+
+const UP_TO_128: &[HasAtomic] = &[
+    HasAtomic::IntegerSize(8),
+    HasAtomic::IntegerSize(16),
+    HasAtomic::IntegerSize(32),
+    HasAtomic::IntegerSize(64),
+    HasAtomic::IntegerSize(128),
+];
+
+// Whether these are so many widths of `UP_TO_128`, and that of a pointer.
+fn are_widths(list: &HasAtomics<Heap<'_>>, bits: usize) -> bool {
+    match list.as_slice().split_last() {
+        Some((HasAtomic::Pointer, widths)) => {
+            widths.len() == bits
+                && widths
+                    .iter()
+                    .zip(UP_TO_128)
+                    .all(|(one, other)| one == other)
+        }
+        _ => false,
+    }
+}
+
+fn makes_widths(heap: Heap<'_>) -> Result<bool, AllocError> {
+    let items = [HasAtomic::Pointer, HasAtomic::IntegerSize(8)];
+    Ok(are_widths(&HasAtomics::new(heap, items.iter().copied())?, 1))
+}
+
+fn names_widths(heap: Heap<'_>) -> Result<bool, AllocError> {
+    Ok(
+        are_widths(&HasAtomics::atomic_8_16_32_64_128_ptr(heap)?, 5)
+            && are_widths(&HasAtomics::atomic_8_16_32_64_ptr(heap)?, 4)
+            && are_widths(&HasAtomics::atomic_8_16_32_ptr(heap)?, 3),
+    )
+}
+
+fn copies_widths(heap: Heap<'_>) -> Result<bool, AllocError> {
+    let list = HasAtomics::atomic_8_16_32_ptr(heap)?;
+    let copy = list.try_clone(heap);
+    Ok(are_widths(&list, 3) && are_widths(&copy?, 3))
+}
+
+#[test]
+fn is_met_by_lists_of_widths(rt: HostRuntime) {
+    assert!(rt; is_refused_in_turns(rt.alloc(), makes_widths));
+    assert!(rt; is_refused_in_turns(rt.alloc(), names_widths));
+    assert!(rt; is_refused_in_turns(rt.alloc(), copies_widths));
+}
+
+// The fault of a text that is no width.
+fn no_width(heap: Heap<'_>) -> Result<Option<HasAtomicParseError<Heap<'_>>>, AllocError> {
+    match HasAtomic::read(heap, "PTR") {
+        Ok(_) => Ok(None),
+        Err(HasAtomicFailure::Parse(error)) => Ok(Some(error)),
+        Err(HasAtomicFailure::Memory(error)) => Err(error),
+    }
+}
+
+fn reads_no_width(heap: Heap<'_>) -> Result<bool, AllocError> {
+    Ok(no_width(heap)?.is_some())
+}
+
+fn copies_a_fault(heap: Heap<'_>) -> Result<bool, AllocError> {
+    match no_width(heap)? {
+        Some(error) => {
+            let copy = error.try_clone(heap)?;
+            Ok(copy == error)
+        }
+        None => Ok(false),
+    }
+}
+
+#[test]
+fn is_met_by_faults_of_widths(rt: HostRuntime) {
+    assert!(rt; is_refused_in_turns(rt.alloc(), reads_no_width));
+    assert!(rt; is_refused_in_turns(rt.alloc(), copies_a_fault));
+}
+
+fn builds_the_table(heap: Heap<'_>) -> Result<bool, AllocError> {
+    Ok(TargetTable::builtins(heap)?.rows().len() == 5)
+}
+
+fn copies_a_row(heap: Heap<'_>) -> Result<bool, AllocError> {
+    let table = TargetTable::builtins(heap)?;
+    match table.rows().first() {
+        Some(row) => Ok(row.try_clone(heap)? == *row),
+        None => Ok(false),
+    }
+}
+
+fn copies_a_predicate(heap: Heap<'_>) -> Result<bool, AllocError> {
+    let predicate = TargetPredicate::Abi(Abi::new(String::from_str(heap, "sim")?));
+    let copy = predicate.try_clone(heap)?;
+    Ok(copy == predicate)
+}
+
+#[test]
+fn is_met_by_rows_and_predicates(rt: HostRuntime) {
+    assert!(rt; is_refused_in_turns(rt.alloc(), builds_the_table));
+    assert!(rt; is_refused_in_turns(rt.alloc(), copies_a_row));
+    assert!(rt; is_refused_in_turns(rt.alloc(), copies_a_predicate));
+}
+
+// Whether a width is read with no memory at all.
+fn is_read(heap: Heap<'_>) -> bool {
+    heap.refuse(EVERY);
+    match HasAtomic::read(heap, "ptr") {
+        Ok(width) => width == HasAtomic::Pointer,
+        Err(_) => false,
+    }
+}
+
+// Whether a borrowed list is copied so.
+fn are_copied(heap: Heap<'_>) -> bool {
+    heap.refuse(EVERY);
+    let widths: HasAtomics<Heap<'_>> = HasAtomics::new_const(UP_TO_128);
+    match widths.try_clone(heap) {
+        Ok(copy) => copy.as_slice() == UP_TO_128,
+        Err(_) => false,
+    }
+}
+
+// Whether a predicate with a borrowed text is copied so.
+fn is_copied(heap: Heap<'_>) -> bool {
+    heap.refuse(EVERY);
+    let predicate: TargetPredicate<'_, Heap<'_>> = TargetPredicate::Abi(Abi::sim());
+    match predicate.try_clone(heap) {
+        Ok(copy) => copy == predicate,
+        Err(_) => false,
+    }
+}
+
+#[test]
+fn is_not_met_by_what_is_borrowed(rt: HostRuntime) {
+    let heap = Refusing::new(rt.alloc());
+    assert!(rt; is_read(&heap));
+    assert!(rt; are_copied(&heap));
+    assert!(rt; is_copied(&heap));
+}
