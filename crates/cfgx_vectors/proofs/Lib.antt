@@ -1,2 +1,3 @@
 mod Loan
 pub mod Counted
+pub mod Written

@@ -1,17 +1,32 @@
 -- What the proved callers of `eval` answer.
-use Rattle.std.specs.Prelude.{ℕ, ◌+◌, ◌-◌, ◌^◌, Bool, true, false, min}
+use Rattle.std.specs.Prelude.{ℕ, ◌+◌, ◌-◌, ◌^◌, Bool, false, List, codes, min}
+use Rattle.std.specs.Borrow.{Bor}
+use Rattle.std.specs.List.{list_any}
+use Rattle.std.specs.Str.{bytes_eq}
 use Rattle.cfg_expr.specs.Question.{Question}
+use Rattle.cfgx_vectors.specs.Terms.{cut}
 
--- whether a predicate is a bare key of no other meaning
-abbrev pub is_flag : Question → Bool
-is_flag (Question.flag name) = true
-is_flag (Question.target question) = false
-is_flag Question.test = false
-is_flag Question.debug_assertions = false
-is_flag Question.proc_macro = false
-is_flag (Question.feature text) = false
-is_flag (Question.target_feature text) = false
-is_flag (Question.key_value key value) = false
+-- whether a predicate is a bare key of no other meaning, and one of these
+abbrev pub is_among : List (Bor (List ℕ)) → Question → Bool
+is_among flags (Question.flag name) = list_any (λ flag. bytes_eq flag.now name) flags
+is_among flags (Question.target question) = false
+is_among flags Question.test = false
+is_among flags Question.debug_assertions = false
+is_among flags Question.proc_macro = false
+is_among flags (Question.feature text) = false
+is_among flags (Question.target_feature text) = false
+is_among flags (Question.key_value key value) = false
+
+-- the term of a predicate: its name, where it is such a key, and else `?`
+abbrev pub term_of : Question → List ℕ
+term_of (Question.flag name) = cut name
+term_of (Question.target question) = codes "?"
+term_of Question.test = codes "?"
+term_of Question.debug_assertions = codes "?"
+term_of Question.proc_macro = codes "?"
+term_of (Question.feature text) = codes "?"
+term_of (Question.target_feature text) = codes "?"
+term_of (Question.key_value key value) = codes "?"
 
 -- one question more, as far as a number counts
 abbrev pub one_more : ℕ → Question → ℕ

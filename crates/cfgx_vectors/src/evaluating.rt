@@ -5,27 +5,57 @@ ghost use Rattle.cfg_expr.specs.Answer.{HasOneTree};
 ghost use Rattle.cfg_expr.specs.Fold.{fold};
 ghost use Rattle.cfg_expr.specs.Predicate.{question_of};
 ghost use Rattle.cfg_expr.specs.Tree.{asked};
-ghost use Rattle.cfgx_vectors.specs.Callers.{is_flag, one_more};
+ghost use Rattle.cfgx_vectors.specs.Callers.{is_among, one_more, term_of};
+
+pub mod terms;
 
 use cfg_expr::expr::Logic;
 use cfg_expr::{Expression, Predicate};
 use std::alloc::{AllocError, Global};
+use terms::Terms;
 
-/// Whether a predicate is a bare key of no other meaning.
-fn is_flag(predicate: &Predicate<'_>) -> bool
-    ensures { result ≡ is_flag (question_of predicate.now) }
+/// Whether a predicate is one of the flags: a bare key of no other meaning.
+fn is_among(flags: &[&str], predicate: &Predicate<'_>) -> bool
+    ensures { result ≡ is_among flags.now (question_of predicate.now) }
 {
-    matches!(predicate, Predicate::Flag(_))
+    match predicate {
+        Predicate::Flag(name) => flags.contains(name),
+        _ => false,
+    }
 }
 
-/// The value of a condition where the bare keys of no other meaning alone are true.
-pub fn value_of_flags(alloc: Global, expression: &Expression) -> Result<bool, AllocError>
+/// The value of a condition where these flags are true, and all else is false.
+pub fn value_with_flags(
+    alloc: Global,
+    expression: &Expression,
+    flags: &[&str],
+) -> Result<bool, AllocError>
     ensures { IfOk result (λ value. (one : HasOneTree expression.now) × (value
-        ≡ fold ⟦<bool as Logic>⟧ one.tree (map is_flag (asked one.tree)))) }
+        ≡ fold ⟦<bool as Logic>⟧ one.tree (map (is_among flags.now) (asked one.tree)))) }
 {
-    let mut answer = |predicate: &Predicate<'_>| is_flag(predicate);
+    let mut answer = |predicate: &Predicate<'_>| is_among(flags, predicate);
     let value: bool = expression.eval(alloc, &mut answer)?;
     Ok(value)
+}
+
+/// The term of a predicate: its name, where it is a bare key of no other meaning, and else `?`.
+fn term_of(predicate: &Predicate<'_>) -> Terms
+    ensures { result ≡ term_of (question_of predicate.now) }
+{
+    match predicate {
+        Predicate::Flag(name) => Terms::new(name.as_bytes()),
+        _ => Terms::new(b"?"),
+    }
+}
+
+/// How a condition joins its predicates, written down.
+pub fn terms_of(alloc: Global, expression: &Expression) -> Result<Terms, AllocError>
+    ensures { IfOk result (λ terms. (one : HasOneTree expression.now) × (terms
+        ≡ fold ⟦<Terms as Logic>⟧ one.tree (map term_of (asked one.tree)))) }
+{
+    let mut answer = |predicate: &Predicate<'_>| term_of(predicate);
+    let terms: Terms = expression.eval(alloc, &mut answer)?;
+    Ok(terms)
 }
 
 /// How many questions the value of a condition takes.
@@ -86,7 +116,8 @@ impl Logic for Lawless {
 #[cfg(test)]
 mod tests {
     use crate::deep::{nested, repeated};
-    use crate::evaluating::{Lawless, questions_of, value_of_flags};
+    use crate::evaluating::terms::Terms;
+    use crate::evaluating::{Lawless, questions_of, terms_of, value_with_flags};
     use crate::refusing::{EVERY, Refusing};
     use cfg_expr::expr::Logic;
     use cfg_expr::{Expression, Predicate};
@@ -154,8 +185,72 @@ mod tests {
             let expression = Expression::parse(rt.alloc(), text)?;
             assert_eq!(rt; questions_of(rt.alloc(), &expression)?, count, "{text}");
         }
-        let expression = Expression::parse(rt.alloc(), "all(a, not(test))")?;
-        assert!(rt; value_of_flags(rt.alloc(), &expression)?);
+        Ok(())
+    }
+
+    #[test]
+    fn values_by_a_list_of_flags(rt: HostRuntime) -> Result<(), Fail> {
+        let rows: [(&str, &[&str], bool); 5] = [
+            ("all(a, not(test))", &["a"], true),
+            ("all(a, not(test))", &["test"], false),
+            ("any(a, b)", &["c", "b"], true),
+            ("any(a, feature = \"b\")", &["b", "feature"], false),
+            ("all(a, b)", &["a"], false),
+        ];
+        for (text, flags, wanted) in rows {
+            let expression = Expression::parse(rt.alloc(), text)?;
+            assert_eq!(rt;
+                value_with_flags(rt.alloc(), &expression, flags)?,
+                wanted,
+                "{text}"
+            );
+        }
+        Ok(())
+    }
+
+    // The last member that is asked is joined first. What is behind 64 bytes is cut off.
+    #[test]
+    fn terms_are_written_down(rt: HostRuntime) -> Result<(), Fail> {
+        let rows = [
+            ("all(a, any(b), c)", "(((T&c)&a)&(F|b))"),
+            ("not(any(x))", "!(F|x)"),
+            ("any(a, all(b, not(c)), d)", "(((F|d)|a)|((T&b)&!c))"),
+            ("all(test)", "(T&?)"),
+            ("a", "a"),
+        ];
+        for (text, wanted) in rows {
+            let expression = Expression::parse(rt.alloc(), text)?;
+            let terms = terms_of(rt.alloc(), &expression)?;
+            assert_eq!(rt; terms.as_bytes(), wanted.as_bytes(), "{text}");
+        }
+        let deep = nested(rt.alloc(), "not(", 100, "a")?;
+        let expression = Expression::parse(rt.alloc(), deep.as_str())?;
+        let terms = terms_of(rt.alloc(), &expression)?;
+        assert_eq!(rt; terms.as_bytes(), [b'!'; 64].as_slice());
+        Ok(())
+    }
+
+    // The name of a flag and the number of the call.
+    fn numbered(predicate: &Predicate<'_>, call: u8) -> Terms {
+        let digit = b'0'.saturating_add(call);
+        match predicate {
+            Predicate::Flag("a") => Terms::new(&[b'a', digit]),
+            Predicate::Flag("b") => Terms::new(&[b'b', digit]),
+            _ => Terms::new(&[b'c', digit]),
+        }
+    }
+
+    #[test]
+    fn calls_come_in_order(rt: HostRuntime) -> Result<(), Fail> {
+        let expression = Expression::parse(rt.alloc(), "all(a, any(b), c)")?;
+        let mut calls = 0u8;
+        let mut answer = |predicate: &Predicate<'_>| {
+            calls = calls.saturating_add(1);
+            numbered(predicate, calls)
+        };
+        let terms: Terms = expression.eval(rt.alloc(), &mut answer)?;
+        assert_eq!(rt; terms.as_bytes(), b"(((T&c3)&a2)&(F|b1))".as_slice());
+        assert_eq!(rt; calls, 3);
         Ok(())
     }
 

@@ -1,5 +1,5 @@
 -- Each call counts one more, in the same place.
-use Rattle.std.proofs.Common.{◌≡◌, ◌∙◌, arith, rules, sym}
+use Rattle.std.proofs.Common.{◌∙◌, arith, rules, sym}
 use Rattle.cfgx_vectors.specs.Callers.{one_more}
 use Rattle.cfg_expr.specs.Tree.{asked}
 use Rattle.cfg_expr.proofs.Chains.{MayAskEach-always, Calls-folds}
