@@ -223,9 +223,9 @@ module _ (key : List ℕ) (value : Option (List ℕ)) (is_key : IsKey key)
   unfolding class
   good_target name v q =
       let line = λ (word : List ℕ) (question : Question) (is : IsWord word) (long : 3 < length word)
-          (says : class word (Some v) ≡ Class.is question)
-          (spelled : spelling question ≡ with_value word v).
-          good_is question (spelt_value word v question is long q says spelled) in
+      (says : class word (Some v) ≡ Class.is question)
+      (spelled : spelling question ≡ with_value word v).
+      good_is question (spelt_value word v question is long q says spelled) in
       let abi = line (codes "target_abi") _ (refl, refl) (omega arith) refl refl in
       let arch = line (codes "target_arch") _ (refl, refl) (omega arith) refl refl in
       let os = line (codes "target_os") _ (refl, refl) (omega arith) refl refl in
@@ -282,17 +282,17 @@ module _ (key : List ℕ) (value : Option (List ℕ)) (is_key : IsKey key)
       let unix = good_bare _ (spelt_family (codes "unix") refl) value in
       let windows = good_bare _ (spelt_family (codes "windows") refl) value in
       let line = λ (word : List ℕ) (question : Question) (is : IsWord word) (long : 3 < length word)
-          (says : class word None ≡ Class.is question) (spelled : spelling question ≡ word).
-          good_bare question (spelt_bare word question is long says spelled) value in
+      (says : class word None ≡ Class.is question) (spelled : spelling question ≡ word).
+      good_bare question (spelt_bare word question is long says spelled) value in
       let test = line (codes "test") _ (refl, refl) (omega arith) refl refl in
       let debug = line (codes "debug_assertions") _ (refl, refl) (omega arith) refl refl in
       let macros = line (codes "proc_macro") _ (refl, refl) (omega arith) refl refl in
       let feature = good_valued (λ v. Class.is (Question.feature v)) (codes "= \"<feature_name>\"")
-          (λ v q. good_is _ (spelt_value (codes "feature") v _ (refl, refl) (omega arith) q refl
-          refl)) value quoted in
+      (λ v q. good_is _ (spelt_value (codes "feature") v _ (refl, refl) (omega arith) q refl
+      refl)) value quoted in
       let panic = good_valued (λ v. asks (TargetQuestion.panic v)) (codes "= \"<panic_strategy>\"")
-          (λ v q. good_is _ (spelt_value (codes "panic") v _ (refl, refl) (omega arith) q refl
-          refl)) value quoted in
+      (λ v q. good_is _ (spelt_value (codes "panic") v _ (refl, refl) (omega arith) q refl
+      refl)) value quoted in
       good_by_name key_lines key value _
       (unix, (windows, (test, (debug, (macros, (feature, (panic, tt))))))) good_other
 
