@@ -54,7 +54,7 @@ length-if : {X Y : Type 0} (b : Bool) (xs : List X) (ys : List Y) → length xs 
 length-if true xs ys same = same
 length-if false xs ys same = refl
 
--- A label for each node, in source order, which depends on what the node is and on whether it stands
+-- A label for each node, in source order: it depends on what the node is, and on whether it stands
 -- below an odd number of `not`.
 module _ {X : Type 0} (leaf : Bool → Question → X) (function : Bool → Func → ℕ → X) where
   abbrev mutual

@@ -206,8 +206,8 @@ impl<A: SmallAllocator> Expression<A> {
         alloc: A,
         answers: &[Option<bool>],
     ) -> Result<Option<(Vec<bool, A>, Vec<bool, A>)>, AllocError>
-        requires { (tree : Tree) → HasTree self.now tree
-            → length answers.now ≡ length (asked tree) }
+        requires { (tree : Tree) × HasTree self.now tree
+            × (length answers.now ≡ length (asked tree)) }
         ensures exact { (one : HasOneTree self.now) × ((given : List (Option Bool))
             → length given ≡ length (asked one.tree) → IsExact one.tree given) }
         ensures fillings { IfOk result (λ found. (one : HasOneTree self.now)

@@ -1,7 +1,7 @@
 -- The polar fillings, by the parities of the leaves.
 use Rattle.std.proofs.Common.{◌≡◌, ℕ, zero, suc, ◌+◌, Bool, true, false, not, List, [], ◌∷◌, ◌++◌}
-use Rattle.std.proofs.Common.{length, map, drop, get_or, replicate, Option, Some, sym, refl, ap, ◌∙◌}
-use Rattle.std.proofs.Common.{arith, drop-drop}
+use Rattle.std.proofs.Common.{length, map, drop, get_or, replicate, Option, Some, sym, refl, ap}
+use Rattle.std.proofs.Common.{◌∙◌, arith, drop-drop}
 use Rattle.std.specs.Prelude.{if◌then◌else◌, unwrap_or}
 use Rattle.std.specs.List.{slice_get}
 use Rattle.std.proofs.lemmas.List.{append-nil, length-map, map-id}
@@ -109,7 +109,8 @@ odds-places tree =
     let all = odds false tree in
     read-StandAt all (λ place. get_or all place false) (λ odd. odd) (found all) (places 0 tree)
     (leaf_odds false tree)
-    (leaf_labels-places (λ odd question. odd) (λ odd func len. odd) false tree all [] [] 0 (sym (append-nil all)) refl)
+    (leaf_labels-places (λ odd question. odd) (λ odd func len. odd) false tree all [] [] 0
+    (sym (append-nil all)) refl)
     ∙ map-id (leaf_odds false tree)
 
 module _ (text : List ℕ) (nodes : List ExprNode) (asks : List ℕ) (tree : Tree)

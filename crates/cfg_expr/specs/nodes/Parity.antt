@@ -1,5 +1,5 @@
--- How one pass over the nodes finds which of them stand below an odd number of `not`, and what fills
--- the answers of the leaves among them.
+-- How one pass over the nodes finds which of them stand below an odd number of `not`, and with what
+-- the unknown answers of the leaves among them are filled.
 use Rattle.std.specs.Prelude.{ℕ, ◌+◌, Bool, true, false, not, List, [], ◌∷◌, get_or, set, drop}
 use Rattle.std.specs.Prelude.{Option, Some, None, unwrap_or}
 use Rattle.cfg_expr.specs.Fold.{first_or}

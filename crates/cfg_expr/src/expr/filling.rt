@@ -27,8 +27,8 @@ fn value_over<A: SmallAllocator>(
 ) -> Result<Option<bool>, AllocError>
     requires fits { length nodes.now < 2 ^ 64 }
     requires keeps { Keeps text.now nodes.now places.now }
-    requires answered { (tree : Tree) → HasTree text.now tree
-        → length answers.now ≡ length (asked tree) }
+    requires answered { (tree : Tree) × HasTree text.now tree
+        × (length answers.now ≡ length (asked tree)) }
     ensures { IfOk result (λ value. (one : HasOneTree text.now)
         × (value ≡ fold three_valued one.tree answers.now)) }
 {
@@ -119,8 +119,8 @@ pub(crate) fn polar_fillings<A: SmallAllocator>(
 ) -> Result<Option<(Vec<bool, A>, Vec<bool, A>)>, AllocError>
     requires fits { length nodes.now < 2 ^ 64 }
     requires keeps { Keeps text.now nodes.now places.now }
-    requires answered { (tree : Tree) → HasTree text.now tree
-        → length answers.now ≡ length (asked tree) }
+    requires answered { (tree : Tree) × HasTree text.now tree
+        × (length answers.now ≡ length (asked tree)) }
     ensures { IfOk result (λ found. (one : HasOneTree text.now)
         × PolarFillings one.tree answers.now found) }
 {

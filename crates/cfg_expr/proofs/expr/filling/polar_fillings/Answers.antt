@@ -1,6 +1,8 @@
 -- The pass and the places give the fillings of the text's tree.
-use Rattle.std.proofs.Common.{◌≡◌, ◌∙◌, Bool, true, false, Option, Some, None, refl, subst, sym}
+use Rattle.std.proofs.Common.{◌≡◌, ◌∙◌, Bool, true, false, Option, Some, None, ap, length, refl}
+use Rattle.std.proofs.Common.{subst, sym}
 use Rattle.std.specs.Prelude.{is_some}
+use Rattle.cfg_expr.specs.Tree.{asked}
 use Rattle.cfg_expr.specs.nodes.Keeps.{KeepsTree}
 use Rattle.cfg_expr.proofs.Asked.{length-asked_kept}
 use Rattle.cfg_expr.proofs.filling.Polar.{polar-kept}
@@ -9,8 +11,11 @@ use Rattle.cfg_expr.proofs.expr.filling.polar_fillings.Goals as goal
 pub fillings-requires : goal.fillings-requires
 fillings-requires g c =
     let keeps = c.requires.keeps in
+    let given = c.requires.answered in
+    let one = c.in_ok-value_over.ensures.0 in
     length-asked_kept _ _ _ keeps.tree keeps.keeps
-    ∙ sym (c.requires.answered keeps.tree keeps.has_tree)
+    ∙ ap (λ tree. length (asked tree))
+    (one.only keeps.tree keeps.has_tree ∙ sym (one.only given.0 given.1)) ∙ sym given.2
 
 known : (value : Option Bool) → is_some value ≡ true → (known : Bool) × (value ≡ Some known)
 known (Some value) is = (value, refl)

@@ -9,16 +9,18 @@ use Rattle.cfg_expr.proofs.expr.filling.value_over.Goals as goal
 
 pub value_of-requires-clause-may : goal.value_of-requires-clause-may
 value_of-requires-clause-may g c =
-    λ tree has. MayAskEach-always _ (λ state question shown is. λ a b c d e f. tt) _ _
+    λ tree has. MayAskEach-always _ (λ state question shown is. search rules) _ _
 
 pub returns : goal.returns
 returns g c =
     let evaluates = c.in_ok-value.ensures.value in
     let one = evaluates.one in
-    let many = c.requires.answered one.tree one.has_tree in
+    let given = c.requires.answered in
+    let many = given.2 ∙ ap (λ tree. length (asked tree)) (one.only given.0 given.1) in
+    let left = c.iter-left.result.rest.now in
     let rest = c.iter-left.ensures.rest in
     let taken = Calls-taken _ (λ closure. closure.0.now.rest.now) None
     (λ before question given after asks. let met = asks.called.met in (search rules, search rules))
     _ _ _ _ evaluates.calls (omega (arith, ap length rest, many)) in
-    let all = take_all (length (asked one.tree)) c.iter-left.result.rest.now (omega (arith, ap length rest, many)) in
+    let all = take_all (length (asked one.tree)) left (omega (arith, ap length rest, many)) in
     (one, evaluates.value_is ∙ ap (fold three_valued one.tree) (taken ∙ all ∙ rest))
