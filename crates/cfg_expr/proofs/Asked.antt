@@ -1,21 +1,22 @@
 -- The leaves at a tree's places are what the tree asks, in this order.
-use Rattle.std.proofs.Common.{◌≡◌, ℕ, zero, suc, ◌+◌, Bool, true, false, List, [], ◌∷◌, ◌++◌}
+use Rattle.std.proofs.Common.{◌≡◌, ℕ, zero, suc, Bool, true, false, not, List, [], ◌∷◌, ◌++◌}
 use Rattle.std.proofs.Common.{length, map, Option, Some, None, option_map, sym, refl, ap, ◌∙◌}
-use Rattle.std.proofs.Common.{arith, append_assoc, length-append}
 use Rattle.std.specs.Prelude.{if◌then◌else◌, option_and_then}
 use Rattle.std.specs.List.{AllByRecursion, slice_get, filter_map}
 use Rattle.std.proofs.lemmas.List.{append-nil, map-append}
 use Rattle.cfg_expr.specs.Question.{Question}
-use Rattle.cfg_expr.specs.Tree.{Tree, Trees, is_function, is_leaf, asked, asked_by}
+use Rattle.cfg_expr.specs.Tree.{Tree, Trees, is_function, is_leaf, count, asked}
+use Rattle.cfg_expr.specs.Tree.{asked_by}
 use Rattle.cfg_expr.specs.nodes.Located.{question_at}
-use Rattle.cfg_expr.specs.nodes.Prefix.{Node, node_at, headed, prefix, prefix_each, own_places}
-use Rattle.cfg_expr.specs.nodes.Prefix.{places, inner_places}
+use Rattle.cfg_expr.specs.nodes.Prefix.{Node, node_at, headed, prefix, prefix_each, places}
 use Rattle.cfg_expr.specs.nodes.Writes.{NodeHasCut}
 use Rattle.cfg_expr.specs.nodes.Keeps.{KeepsTree, leaf_of, leaf_at, questions_at, NamesLeaf}
 use Rattle.cfg_expr.specs.nodes.Keeps.{NameLeaves}
-use Rattle.cfg_expr.specs.declared.expr.Func.{Func}
+use Rattle.cfg_expr.specs.declared.expr.Func.TheVariants.{Not, All, Any}
 use Rattle.cfg_expr.specs.declared.expr.nodes.ExprNode.{ExprNode}
 use Rattle.cfg_expr.specs.declared.expr.nodes.ExprNode.TheVariants as node
+use Rattle.cfg_expr.proofs.Labels.{labels, labels_each, leaf_labels, leaf_labels_by}
+use Rattle.cfg_expr.proofs.Labels.{leaf_labels-places, read-StandAt}
 
 -- the question of a node that is a leaf
 abbrev question_of_node : Node → Option Question
@@ -25,105 +26,84 @@ question_of_node (Node.function func len) = None
 abbrev shown_at : List Node → ℕ → Option Question
 shown_at nodes place = option_and_then question_of_node (slice_get nodes place)
 
-slice_get_behind : {X : Type 0} (front rest : List X) (n : ℕ) → slice_get (front ++ rest)
-    (length front + n) ≡ slice_get rest n
-slice_get_behind [] rest n = ap (slice_get rest) (omega arith)
-slice_get_behind (x ∷ front) rest n =
-    let more : suc (length front) + n ≡ suc (length front + n) = omega arith in
-    ap (slice_get (x ∷ (front ++ rest))) more ∙ slice_get_behind front rest n
+-- what a place shows, where a node stands there
+shown_at-some : (nodes : List Node) (place : ℕ) (x : Node) → slice_get nodes place ≡ Some x
+    → shown_at nodes place ≡ question_of_node x
+shown_at-some nodes place x is = ap (option_and_then question_of_node) is
 
--- the places of trees that stand behind `front`
-abbrev Asks : List Node → List ℕ → List Question → Type 0
-Asks nodes places questions = map (shown_at nodes) places ≡ map (λ (q : Question). Some q) questions
+-- the nodes as labels
+abbrev nodes_of : Bool → Tree → List Node
+nodes_of = labels (λ odd question. Node.leaf question) (λ odd func len. Node.function func len)
 
-Asks-both : (nodes : List Node) (ps qs : List ℕ) (xs ys : List Question) → Asks nodes ps xs
-    → Asks nodes qs ys → Asks nodes (ps ++ qs) (xs ++ ys)
-Asks-both nodes ps qs xs ys p q =
-    map-append (shown_at nodes) ps qs ∙ ap (λ l. l ++ map (shown_at nodes) qs) p
-    ∙ ap (λ l. map (λ (x : Question). Some x) xs ++ l) q
-    ∙ sym (map-append (λ (x : Question). Some x) xs ys)
+abbrev nodes_of_each : Bool → Trees → List Node
+nodes_of_each = labels_each (λ odd question. Node.leaf question)
+    (λ odd func len. Node.function func len)
 
-Asks-if : (nodes : List Node) (b : Bool) (ps : List ℕ) (xs : List Question) → Asks nodes ps xs
-    → Asks nodes (if b then ps else []) (if b then xs else [])
-Asks-if nodes true ps xs p = p
-Asks-if nodes false ps xs p = refl
+abbrev leaves_of : Bool → Tree → List Node
+leaves_of = leaf_labels (λ odd question. Node.leaf question)
+    (λ odd func len. Node.function func len)
 
--- the list of members behind a function's node
-inside_is : (nodes front back members : List Node)
-    (func : Func) → nodes ≡ front ++ (headed func members ++ back)
-    → nodes ≡ (front ++ Node.function func (length members + 1) ∷ []) ++ (members ++ back)
-inside_is nodes front back members func is = is ∙ sym
-    (append_assoc front (Node.function func (length members + 1) ∷ []) (members ++ back))
-
-inside_place : (front members : List Node) (func : Func) (place : ℕ) → length front ≡ place
-    → length (front ++ Node.function func (length members + 1) ∷ []) ≡ place + 1
-inside_place front members func place is = omega (
-  arith,
-  is,
-  length-append front (Node.function func (length members + 1) ∷ []),
-)
-
-Asks-one : (tree : Tree) (nodes : List Node) (place : ℕ) → Asks nodes (places place tree)
-    (asked tree)
-    → Asks nodes (if is_leaf tree then place ∷ [] else []) (if is_leaf tree then asked tree else [])
-Asks-one (Tree.leaf question) nodes place asks = asks
-Asks-one (Tree.all trees) nodes place asks = refl
-Asks-one (Tree.any trees) nodes place asks = refl
-Asks-one (Tree.not tree) nodes place asks = refl
+abbrev leaves_of_by : Bool → (Tree → Bool) → Trees → List Node
+leaves_of_by = leaf_labels_by (λ odd question. Node.leaf question)
+    (λ odd func len. Node.function func len)
 
 mutual
-  Asks-tree : (tree : Tree) (nodes front back : List Node)
-      (place : ℕ) → nodes ≡ front ++ (prefix tree ++ back) → length front ≡ place
-      → Asks nodes (places place tree) (asked tree)
-  Asks-tree (Tree.leaf question) nodes front back place is at =
-      let here : place ≡ length front + 0 = omega (arith, at) in
-      let found : slice_get nodes place ≡ Some (Node.leaf question) =
-      ap (slice_get nodes) here ∙ ap (λ l. slice_get l (length front + 0)) is
-      ∙ slice_get_behind front (prefix (Tree.leaf question) ++ back) 0 in
-      ap (λ o. option_and_then question_of_node o ∷ []) found
-  Asks-tree (Tree.all trees) nodes front back place is at =
-      let inside = inside_is nodes front back (prefix_each trees) _ is in
-      let begins = inside_place front (prefix_each trees) _ place at in
-      Asks-both nodes _ _ _ _ (Asks-inner trees nodes _ back (place + 1) inside begins)
-      (Asks-own trees nodes _ back (place + 1) inside begins)
-  Asks-tree (Tree.any trees) nodes front back place is at =
-      let inside = inside_is nodes front back (prefix_each trees) _ is in
-      let begins = inside_place front (prefix_each trees) _ place at in
-      Asks-both nodes _ _ _ _ (Asks-inner trees nodes _ back (place + 1) inside begins)
-      (Asks-own trees nodes _ back (place + 1) inside begins)
-  Asks-tree (Tree.not tree) nodes front back place is at =
-      Asks-tree tree nodes _ back (place + 1) (inside_is nodes front back (prefix tree) _ is)
-      (inside_place front (prefix tree) _ place at)
+  nodes_of-prefix : (odd : Bool) (tree : Tree) → nodes_of odd tree ≡ prefix tree
+  nodes_of-prefix odd (Tree.leaf question) = refl
+  nodes_of-prefix odd (Tree.all trees) =
+      ap (headed (All (count trees))) (nodes_of_each-prefix odd trees)
+  nodes_of-prefix odd (Tree.any trees) =
+      ap (headed (Any (count trees))) (nodes_of_each-prefix odd trees)
+  nodes_of-prefix odd (Tree.not tree) = ap (headed Not) (nodes_of-prefix (not odd) tree)
 
-  Asks-inner : (trees : Trees) (nodes front back : List Node)
-      (place : ℕ) → nodes ≡ front ++ (prefix_each trees ++ back) → length front ≡ place
-      → Asks nodes (inner_places place trees) (asked_by is_function trees)
-  Asks-inner Trees.none nodes front back place is at = refl
-  Asks-inner (Trees.more tree trees) nodes front back place is at =
-      let first : nodes ≡ front ++ (prefix tree ++ (prefix_each trees ++ back)) = is
-      ∙ ap (λ l. front ++ l) (append_assoc (prefix tree) (prefix_each trees) back) in
-      let others : nodes ≡ (front ++ prefix tree) ++ (prefix_each trees ++ back) = first
-      ∙ sym (append_assoc front (prefix tree) (prefix_each trees ++ back)) in
-      Asks-both nodes _ _ _ _
-      (Asks-if nodes (is_function tree) (places place tree) (asked tree)
-      (Asks-tree tree nodes front (prefix_each trees ++ back) place first at))
-      (Asks-inner trees nodes (front ++ prefix tree) back (place + length (prefix tree)) others
-      (omega (arith, at, length-append front (prefix tree))))
+  nodes_of_each-prefix : (odd : Bool) (trees : Trees) → nodes_of_each odd trees ≡ prefix_each trees
+  nodes_of_each-prefix odd Trees.none = refl
+  nodes_of_each-prefix odd (Trees.more tree trees) =
+      ap (λ l. l ++ nodes_of_each odd trees) (nodes_of-prefix odd tree)
+      ∙ ap (λ l. prefix tree ++ l) (nodes_of_each-prefix odd trees)
 
-  Asks-own : (trees : Trees) (nodes front back : List Node)
-      (place : ℕ) → nodes ≡ front ++ (prefix_each trees ++ back) → length front ≡ place
-      → Asks nodes (own_places place trees) (asked_by is_leaf trees)
-  Asks-own Trees.none nodes front back place is at = refl
-  Asks-own (Trees.more tree trees) nodes front back place is at =
-      let first : nodes ≡ front ++ (prefix tree ++ (prefix_each trees ++ back)) = is
-      ∙ ap (λ l. front ++ l) (append_assoc (prefix tree) (prefix_each trees) back) in
-      let others : nodes ≡ (front ++ prefix tree) ++ (prefix_each trees ++ back) = first
-      ∙ sym (append_assoc front (prefix tree) (prefix_each trees ++ back)) in
-      Asks-both nodes _ _ _ _
-      (Asks-one tree nodes place (Asks-tree tree nodes front (prefix_each trees
-      ++ back) place first at))
-      (Asks-own trees nodes (front ++ prefix tree) back (place + length (prefix tree)) others
-      (omega (arith, at, length-append front (prefix tree))))
+-- the leaves show these questions
+abbrev Show : List Node → List Question → Type 0
+Show nodes questions = map question_of_node nodes ≡ map (λ (q : Question). Some q) questions
+
+Show-both : (xs ys : List Node) (ps qs : List Question) → Show xs ps → Show ys qs
+    → Show (xs ++ ys) (ps ++ qs)
+Show-both xs ys ps qs first rest =
+    map-append question_of_node xs ys ∙ ap (λ l. l ++ map question_of_node ys) first
+    ∙ ap (λ l. map (λ (q : Question). Some q) ps ++ l) rest
+    ∙ sym (map-append (λ (q : Question). Some q) ps qs)
+
+Show-if : (b : Bool) (xs : List Node) (ps : List Question) → Show xs ps
+    → Show (if b then xs else []) (if b then ps else [])
+Show-if true xs ps show = show
+Show-if false xs ps show = refl
+
+mutual
+  Show-leaves : (odd : Bool) (tree : Tree) → Show (leaves_of odd tree) (asked tree)
+  Show-leaves odd (Tree.leaf question) = refl
+  Show-leaves odd (Tree.all trees) = Show-both _ _ _ _ (Show-leaves_by odd is_function trees)
+      (Show-leaves_by odd is_leaf trees)
+  Show-leaves odd (Tree.any trees) = Show-both _ _ _ _ (Show-leaves_by odd is_function trees)
+      (Show-leaves_by odd is_leaf trees)
+  Show-leaves odd (Tree.not tree) = Show-leaves (not odd) tree
+
+  Show-leaves_by : (odd : Bool) (test : Tree → Bool) (trees : Trees)
+      → Show (leaves_of_by odd test trees) (asked_by test trees)
+  Show-leaves_by odd test Trees.none = refl
+  Show-leaves_by odd test (Trees.more tree trees) = Show-both _ _ _ _
+      (Show-if (test tree) _ _ (Show-leaves odd tree)) (Show-leaves_by odd test trees)
+
+-- the leaves at a tree's places show what it asks
+shown-places : (tree : Tree) (nodes : List Node) → nodes ≡ prefix tree
+    → map (shown_at nodes) (places 0 tree) ≡ map (λ (q : Question). Some q) (asked tree)
+shown-places tree nodes are =
+    let all : nodes ≡ [] ++ (nodes_of false tree ++ []) = are ∙ sym (nodes_of-prefix false tree)
+    ∙ sym (append-nil (nodes_of false tree)) in
+    read-StandAt nodes (shown_at nodes) question_of_node (shown_at-some nodes) (places 0 tree)
+    (leaves_of false tree)
+    (leaf_labels-places (λ odd question. Node.leaf question)
+    (λ odd func len. Node.function func len) false tree nodes [] [] 0 all refl)
+    ∙ Show-leaves false tree
 
 -- the nodes as they are kept, and as they are shown
 
@@ -154,11 +134,9 @@ asks_kept : (text : List ℕ) (nodes : List ExprNode) (asks : List ℕ)
     → map (λ place. option_map (question_at text) (leaf_at nodes place)) asks ≡ map
     (λ (q : Question). Some q) (asked tree)
 asks_kept text nodes asks tree k =
-    let shown : map (node_at text) nodes ≡ [] ++ (prefix tree ++ []) = k.nodes_are
-    ∙ sym (append-nil (prefix tree)) in
     sym (map_same (shown_at (map (node_at text) nodes)) _ asks (shown_same text nodes))
     ∙ ap (map (shown_at (map (node_at text) nodes))) k.asked_are
-    ∙ Asks-tree tree (map (node_at text) nodes) [] [] 0 shown refl
+    ∙ shown-places tree (map (node_at text) nodes) k.nodes_are
 
 pub questions_at-kept : (text : List ℕ) (nodes : List ExprNode) (asks : List ℕ)
     (tree : Tree) → KeepsTree text nodes asks tree
@@ -209,3 +187,9 @@ length-questions_at text nodes (place ∷ asks) names =
     let found : leaf_at nodes place ≡ Some names.0.predicate =
     ap (option_and_then leaf_of) names.0.stands in
     rw found (ap suc (length-questions_at text nodes asks names.1))
+
+pub length-asked_kept : (text : List ℕ) (nodes : List ExprNode) (asks : List ℕ) (tree : Tree)
+    → KeepsTree text nodes asks tree → length asks ≡ length (asked tree)
+length-asked_kept text nodes asks tree k =
+    sym (length-questions_at text nodes asks (NameLeaves-kept text nodes asks tree k))
+    ∙ ap length (questions_at-kept text nodes asks tree k)

@@ -1,11 +1,11 @@
 -- What a chain of calls says to a caller of `eval`.
-use Rattle.std.proofs.Common.{◌≡◌, ℕ, suc, List, [], ◌∷◌, length, map, refl, ap, ◌∙◌}
-use Rattle.std.proofs.Common.{sym}
+use Rattle.std.proofs.Common.{◌≡◌, ◌≤◌, ℕ, suc, List, [], ◌∷◌, length, map, take, drop, refl, ap}
+use Rattle.std.proofs.Common.{◌∙◌, sym, arith}
 use Rattle.std.specs.Prelude.{fold}
 use Rattle.std.specs.List.{AllZip}
 use Rattle.cfg_expr.specs.Question.{Question}
 use Rattle.cfg_expr.specs.Tree.{asked}
-use Rattle.cfg_expr.specs.Fold.{Operations}
+use Rattle.cfg_expr.specs.Fold.{Operations, first_or}
 use Rattle.cfg_expr.specs.Fold as tree_value
 use Rattle.cfg_expr.specs.Asking.{Asker, Asks, Calls, MayAsk, MayAskEach}
 use Rattle.cfg_expr.specs.Evaluation.{Evaluates}
@@ -63,6 +63,36 @@ Calls-folds asker seen next each _ _ _ _
     asks calls) =
     Calls-folds asker seen next each between questions answers after calls
     ∙ ap (λ x. fold next x questions) (each before question given between asks)
+
+-- where each call answers the first one of the answers that are seen of the closure, and takes it
+-- off, the answers are those that are seen in front
+pub Calls-taken : {F T : Type 0} (asker : Asker F T) (seen : F → List T) (otherwise : T)
+    → ((before : F) (question : Question) (given : T) (after : F)
+    → Asks asker before question given after
+    → (given ≡ first_or otherwise (seen before)) × (seen after ≡ drop 1 (seen before)))
+    → (before : F) (questions : List Question) (answers : List T) (after : F)
+    → Calls asker before questions answers after → length questions ≤ length (seen before)
+    → answers ≡ take (length questions) (seen before)
+Calls-taken asker seen otherwise each before questions answers after (Calls.none state) enough =
+    refl
+Calls-taken {F} {T} asker seen otherwise each _ _ _ _
+    (Calls.more before question given between questions answers after
+    asks calls) enough =
+    let one = each before question given between asks in
+    taken (seen before) enough one.0 one.1
+    (λ left. Calls-taken asker seen otherwise each between questions answers after calls left)
+  where
+    taken : (all : List T) → suc (length questions) ≤ length all
+        → given ≡ first_or otherwise all → seen between ≡ drop 1 all
+        → (length questions ≤ length (seen between)
+        → answers ≡ take (length questions) (seen between))
+        → given ∷ answers ≡ take (suc (length questions)) all
+    taken [] enough first left others = absurd (omega arith)
+    taken (x ∷ all) enough first left others =
+        let rest = others (omega (arith, ap length left)) in
+        let same : take (length questions) (seen between) ≡ take (length questions) all =
+        ap (take (length questions)) left in
+        cc
 
 -- a closure that may be called in every state may be asked any questions
 pub MayAskEach-always : {F T : Type 0} (asker : Asker F T)

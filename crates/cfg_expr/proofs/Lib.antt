@@ -10,6 +10,7 @@ pub mod Counting
 pub mod Exactness
 pub mod Folding
 pub mod Going
+pub mod Labels
 pub mod Matched
 pub mod Measuring
 pub mod Parsed
@@ -23,4 +24,5 @@ pub mod Walking
 pub mod Writing
 pub mod accepted
 pub mod faults
+pub mod filling
 pub mod spelled

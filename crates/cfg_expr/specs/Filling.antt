@@ -2,7 +2,7 @@
 -- Source: Kleene's strong logic, in which a value is known where every way to fill what is unknown
 -- leads to it, for each occurrence by itself.
 use Rattle.std.specs.Prelude.{◌≡◌, ◌↔◌, Bool, true, false, not, List, [], ◌∷◌, ◌++◌}
-use Rattle.std.specs.Prelude.{Option, Some, None, unwrap_or, if◌then◌else◌}
+use Rattle.std.specs.Prelude.{Option, Some, None, Vec, unwrap_or, if◌then◌else◌}
 use Rattle.std.specs.List.{AllZip}
 use Rattle.cfgx_syntax.specs.contracts.logic.BoolLogic.TheImpl as bool_logic
 use Rattle.cfgx_syntax.specs.contracts.logic.OptionBoolLogic.TheImpl as kleene_logic
@@ -53,3 +53,12 @@ pub record IsExact (tree : Tree) (answers : List (Option Bool)) : Type 0 where
   pub unknown : (fold three_valued tree answers ≡ None)
       ↔ ((fold two_valued tree (polar tree answers true) ≡ true)
       × (fold two_valued tree (polar tree answers false) ≡ false))
+
+-- What tells whether the value is known: nothing where it is, and else the polar fillings with true
+-- and with false.
+abbrev pub PolarFillings : {A : Type 0} → Tree → List (Option Bool)
+    → Option (Vec Bool A × Vec Bool A) → Type 0
+PolarFillings tree answers None = (value : Bool) × (fold three_valued tree answers ≡ Some value)
+PolarFillings tree answers (Some fillings) = (fold three_valued tree answers ≡ None)
+    × (fillings.0.items ≡ polar tree answers true)
+    × (fillings.1.items ≡ polar tree answers false)

@@ -5,6 +5,7 @@ pub mod Located
 pub mod Machine
 pub mod Measure
 pub mod Node
+pub mod Parity
 pub mod Prefix
 pub mod Steps
 pub mod Writes

@@ -1,15 +1,17 @@
 //! Conditions, and the predicates that they ask.
-ghost use Rattle.std.specs.Prelude.{◌≡◌, ◌≤◌, length, IfOk, IsOk, OnErr};
+ghost use Rattle.std.specs.Prelude.{◌≡◌, ◌≤◌, Bool, List, Option, length, IfOk, IsOk, OnErr};
 ghost use Rattle.cfgx_syntax.specs.Stripping.{strip};
 ghost use Rattle.std.specs.List.{AllByRecursion};
-ghost use Rattle.cfg_expr.specs.Answer.{Answers};
+ghost use Rattle.cfg_expr.specs.Answer.{Answers, HasOneTree};
 ghost use Rattle.cfg_expr.specs.Evaluation.{Evaluates, MayEvaluate};
+ghost use Rattle.cfg_expr.specs.Filling.{IsExact, PolarFillings};
 ghost use Rattle.cfg_expr.specs.Tree.{Tree, asked};
 ghost use Rattle.cfg_expr.specs.Grammar.{HasTree};
 ghost use Rattle.cfg_expr.specs.Regular.{IsRegular};
 
 mod classification;
 mod evaluating;
+mod filling;
 mod laws;
 mod matcher;
 mod nodes;
@@ -188,5 +190,31 @@ impl<A: SmallAllocator> Expression<A> {
         let _fits = self.expr.len();
         let (nodes, asked) = (self.expr.as_slice(), self.asked.as_slice());
         evaluating::value_of(alloc, self.original(), nodes, asked, ep)
+    }
+
+    /// The fillings that show why the value over the answers is unknown, or `None` where it is
+    /// known.
+    ///
+    /// There is one answer for each occurrence of a predicate, in the order of `predicates`, and
+    /// `None` where it is unknown. Each filling has one truth value for each of them in this order:
+    /// the answer, where that is known. With the first filling the condition is true, and with the
+    /// second one it is false.
+    ///
+    /// The memory taken is in proportion to the text. The error is that `alloc` refused it.
+    pub fn polar_fillings(
+        &self,
+        alloc: A,
+        answers: &[Option<bool>],
+    ) -> Result<Option<(Vec<bool, A>, Vec<bool, A>)>, AllocError>
+        requires { (tree : Tree) × HasTree self.now tree
+            × (length answers.now ≡ length (asked tree)) }
+        ensures exact { (one : HasOneTree self.now) × ((given : List (Option Bool))
+            → length given ≡ length (asked one.tree) → IsExact one.tree given) }
+        ensures fillings { IfOk result (λ found. (one : HasOneTree self.now)
+            × PolarFillings one.tree answers.now found) }
+    {
+        let _fits = self.expr.len();
+        let (nodes, asked) = (self.expr.as_slice(), self.asked.as_slice());
+        filling::polar_fillings(alloc, self.original(), nodes, asked, answers)
     }
 }

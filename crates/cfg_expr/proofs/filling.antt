@@ -1,0 +1,3 @@
+-- One pass over the nodes, and the places of the leaves, give the polar fillings.
+pub mod Passing
+pub mod Polar

@@ -1,0 +1,136 @@
+-- The polar fillings, by the parities of the leaves.
+use Rattle.std.proofs.Common.{◌≡◌, ℕ, zero, suc, ◌+◌, Bool, true, false, not, List, [], ◌∷◌, ◌++◌}
+use Rattle.std.proofs.Common.{length, map, drop, get_or, replicate, Option, Some, sym, refl, ap}
+use Rattle.std.proofs.Common.{◌∙◌, arith, drop-drop}
+use Rattle.std.specs.Prelude.{if◌then◌else◌, unwrap_or}
+use Rattle.std.specs.List.{slice_get}
+use Rattle.std.proofs.lemmas.List.{append-nil, length-map, map-id}
+use Rattle.cfg_expr.specs.Tree.{Tree, Trees, is_function, is_leaf, asked, asked_by}
+use Rattle.cfg_expr.specs.Fold.{first_or}
+use Rattle.cfg_expr.specs.Filling.{polar, polar_by}
+use Rattle.cfg_expr.specs.nodes.Keeps.{KeepsTree}
+use Rattle.cfg_expr.specs.nodes.Parity.{turned, reach, pass, filled}
+use Rattle.cfg_expr.specs.nodes.Prefix.{node_at, prefix, places}
+use Rattle.cfg_expr.specs.declared.expr.nodes.ExprNode.{ExprNode}
+use Rattle.cfg_expr.proofs.Labels.{leaf_labels, leaf_labels_by, length-leaf_labels}
+use Rattle.cfg_expr.proofs.Labels.{length-leaf_labels_by, leaf_labels-places, read-StandAt}
+use Rattle.cfg_expr.proofs.filling.Passing.{odds, reach_of, reaches-shown, pass-all}
+
+-- whether the leaves stand below an odd number of `not`, in the order in which they are asked
+abbrev leaf_odds : Bool → Tree → List Bool
+leaf_odds = leaf_labels (λ odd question. odd) (λ odd func len. odd)
+
+abbrev leaf_odds_by : Bool → (Tree → Bool) → Trees → List Bool
+leaf_odds_by = leaf_labels_by (λ odd question. odd) (λ odd func len. odd)
+
+length-leaf_odds : (odd : Bool) (tree : Tree) → length (leaf_odds odd tree) ≡ length (asked tree)
+length-leaf_odds = length-leaf_labels (λ odd question. odd) (λ odd func len. odd)
+
+length-leaf_odds_by : (odd : Bool) (test : Tree → Bool) (trees : Trees)
+    → length (leaf_odds_by odd test trees) ≡ length (asked_by test trees)
+length-leaf_odds_by = length-leaf_labels_by (λ odd question. odd) (λ odd func len. odd)
+
+filled-append : (these those : List Bool) (answers : List (Option Bool)) (fill : Bool)
+    → filled (these ++ those) answers fill
+    ≡ filled these answers fill ++ filled those (drop (length these) answers) fill
+filled-append [] those answers fill = refl
+filled-append (odd ∷ these) those answers fill =
+    let value = unwrap_or (first_or (Some true) answers) (turned fill odd) in
+    let own = filled these (drop 1 answers) fill in
+    let more : 1 + length these ≡ suc (length these) = omega arith in
+    ap (λ l. value ∷ l) (filled-append these those (drop 1 answers) fill)
+    ∙ ap (λ l. value ∷ (own ++ filled those l fill)) (drop-drop (length these) 1 answers)
+    ∙ ap (λ k. value ∷ (own ++ filled those (drop k answers) fill)) more
+
+-- a filling in two parts, the first of which may be left out
+filled-parts : (b : Bool) (odds others own rest without : List Bool) (n : ℕ)
+    (answers : List (Option Bool)) (fill : Bool) → length odds ≡ n
+    → own ≡ filled odds answers fill → rest ≡ filled others (drop n answers) fill
+    → without ≡ filled others answers fill
+    → (if b then own ++ rest else without)
+    ≡ filled ((if b then odds else []) ++ others) answers fill
+filled-parts true odds others own rest without n answers fill many own_is rest_is without_is =
+    ap (λ l. l ++ rest) own_is ∙ ap (λ l. filled odds answers fill ++ l) rest_is
+    ∙ ap (λ k. filled odds answers fill ++ filled others (drop k answers) fill) (sym many)
+    ∙ sym (filled-append odds others answers fill)
+filled-parts false odds others own rest without n answers fill many own_is rest_is without_is =
+    without_is
+
+turned-not : (fill odd : Bool) → not (turned fill odd) ≡ turned fill (not odd)
+turned-not fill false = refl
+turned-not true true = refl
+turned-not false true = refl
+
+mutual
+  polar-filled : (tree : Tree) (odd : Bool) (answers : List (Option Bool)) (fill : Bool)
+      → polar tree answers (turned fill odd) ≡ filled (leaf_odds odd tree) answers fill
+  polar-filled (Tree.leaf question) odd answers fill = refl
+  polar-filled (Tree.all trees) odd answers fill =
+      let n = length (asked_by is_function trees) in
+      filled-parts true (leaf_odds_by odd is_function trees) (leaf_odds_by odd is_leaf trees)
+      _ _ _ n answers fill (length-leaf_odds_by odd is_function trees)
+      (polar_by-filled is_function trees odd answers fill)
+      (polar_by-filled is_leaf trees odd (drop n answers) fill)
+      (polar_by-filled is_leaf trees odd answers fill)
+  polar-filled (Tree.any trees) odd answers fill =
+      let n = length (asked_by is_function trees) in
+      filled-parts true (leaf_odds_by odd is_function trees) (leaf_odds_by odd is_leaf trees)
+      _ _ _ n answers fill (length-leaf_odds_by odd is_function trees)
+      (polar_by-filled is_function trees odd answers fill)
+      (polar_by-filled is_leaf trees odd (drop n answers) fill)
+      (polar_by-filled is_leaf trees odd answers fill)
+  polar-filled (Tree.not tree) odd answers fill =
+      ap (polar tree answers) (turned-not fill odd) ∙ polar-filled tree (not odd) answers fill
+
+  polar_by-filled : (test : Tree → Bool) (trees : Trees) (odd : Bool)
+      (answers : List (Option Bool)) (fill : Bool)
+      → polar_by test trees answers (turned fill odd)
+      ≡ filled (leaf_odds_by odd test trees) answers fill
+  polar_by-filled test Trees.none odd answers fill = refl
+  polar_by-filled test (Trees.more tree trees) odd answers fill =
+      let n = length (asked tree) in
+      filled-parts (test tree) (leaf_odds odd tree) (leaf_odds_by odd test trees)
+      _ _ _ n answers fill (length-leaf_odds odd tree)
+      (polar-filled tree odd answers fill)
+      (polar_by-filled test trees odd (drop n answers) fill)
+      (polar_by-filled test trees odd answers fill)
+
+-- What the pass finds at the places of the leaves.
+
+found : (all : List Bool) (place : ℕ) (odd : Bool) → slice_get all place ≡ Some odd
+    → get_or all place false ≡ odd
+found [] place odd is = absurd (cc)
+found (x ∷ all) zero odd is = cc
+found (x ∷ all) (suc place) odd is = found all place odd is
+
+odds-places : (tree : Tree)
+    → map (λ place. get_or (odds false tree) place false) (places 0 tree) ≡ leaf_odds false tree
+odds-places tree =
+    let all = odds false tree in
+    read-StandAt all (λ place. get_or all place false) (λ odd. odd) (found all) (places 0 tree)
+    (leaf_odds false tree)
+    (leaf_labels-places (λ odd question. odd) (λ odd func len. odd) false tree all [] [] 0
+    (sym (append-nil all)) refl)
+    ∙ map-id (leaf_odds false tree)
+
+module _ (text : List ℕ) (nodes : List ExprNode) (asks : List ℕ) (tree : Tree)
+    (keeps : KeepsTree text nodes asks tree) where
+  pass-kept : pass (map reach nodes) false (replicate (length nodes) false) ≡ odds false tree
+  pass-kept =
+      let many : length nodes ≡ length (prefix tree) =
+      sym (length-map nodes (node_at text)) ∙ ap length keeps.nodes_are in
+      ap (λ n. pass (map reach nodes) false (replicate n false)) many
+      ∙ ap (λ l. pass l false (replicate (length (prefix tree)) false))
+      (reaches-shown text nodes ∙ ap (map reach_of) keeps.nodes_are)
+      ∙ pass-all tree
+
+  pub polar-kept : (found : List Bool) (answers : List (Option Bool)) (fill : Bool)
+      → found ≡ pass (map reach nodes) false (replicate (length nodes) false)
+      → filled (map (λ place. get_or found place false) asks) answers fill
+      ≡ polar tree answers fill
+  polar-kept found answers fill is =
+      ap (λ l. filled (map (λ place. get_or l place false) asks) answers fill) (is ∙ pass-kept)
+      ∙ ap (λ l. filled (map (λ place. get_or (odds false tree) place false) l) answers fill)
+      keeps.asked_are
+      ∙ ap (λ l. filled l answers fill) (odds-places tree)
+      ∙ sym (polar-filled tree false answers fill)
