@@ -10,14 +10,14 @@ use crate::error::Reason;
 use cfgx_targets::reading::{read_endian, read_has_atomic, read_u8};
 
 /// Bytes of the text, and where they stand.
-#[derive(Debug, Drop)]
+#[derive(Drop)]
 pub(crate) struct Word<'a> {
     pub(crate) text: &'a str,
     pub(crate) span: Span,
 }
 
 /// A predicate that has not ended: its key, and its value, without the quotes, where that was read.
-#[derive(Debug, Drop)]
+#[derive(Drop)]
 pub(crate) struct Pending<'a> {
     pub(crate) key: Word<'a>,
     pub(crate) value: Option<Word<'a>>,

@@ -28,7 +28,7 @@ use smallvec::SmallVec;
 use std::alloc::{AllocError, Allocator};
 
 /// A list of members whose end was not reached: a function's, or the text's own.
-#[derive(Clone, Copy, Debug, Default)]
+#[derive(Clone, Copy, Default)]
 pub(crate) struct OpenList {
     /// The function whose members they are. The text's own list has none
     func: Option<Func>,
@@ -125,7 +125,7 @@ fn make_room<A: SmallAllocator>(
 }
 
 /// How many values there are while they are only counted, and how many there were at most.
-#[derive(Clone, Copy, Debug)]
+#[derive(Clone, Copy)]
 pub(crate) struct Heights {
     now: usize,
     most: usize,

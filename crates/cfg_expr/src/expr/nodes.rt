@@ -9,7 +9,7 @@ use smallvec::SmallVec;
 use std::alloc::AllocError;
 
 /// A predicate on the target, by where its text stands.
-#[derive(Clone, Debug, Drop)]
+#[derive(Clone, Drop)]
 pub(crate) enum InnerTarget {
     Abi(Span),
     Arch(Span),
@@ -24,7 +24,7 @@ pub(crate) enum InnerTarget {
 }
 
 /// A predicate, by where its parts stand in the text.
-#[derive(Clone, Debug, Drop)]
+#[derive(Clone, Drop)]
 pub(crate) enum InnerPredicate {
     Target(InnerTarget),
     Test,
@@ -39,7 +39,7 @@ pub(crate) enum InnerPredicate {
 }
 
 /// A node of a condition. A function stands in front of its members, in source order.
-#[derive(Clone, Debug, Drop)]
+#[derive(Clone, Drop)]
 pub(crate) enum ExprNode {
     /// A function, and the number of nodes of its tree, itself among them
     Fn { func: Func, len: usize },
@@ -57,7 +57,7 @@ impl Default for ExprNode {
 }
 
 /// Where an open function began.
-#[derive(Clone, Copy, Debug)]
+#[derive(Clone, Copy)]
 pub(crate) struct Mark {
     /// The place of its node
     pub(crate) node: usize,

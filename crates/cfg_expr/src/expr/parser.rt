@@ -24,7 +24,7 @@ use smallvec::SmallVec;
 use std::alloc::AllocError;
 
 /// A function whose `)` was not read yet.
-#[derive(Debug, Drop)]
+#[derive(Drop)]
 pub(crate) struct FuncAndSpan {
     func: Func,
     /// Where its name stands

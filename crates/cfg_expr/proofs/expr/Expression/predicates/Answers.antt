@@ -3,7 +3,7 @@ use Rattle.std.proofs.Common.{subst, sym, ◌∙◌}
 use Rattle.std.specs.List.{AllByRecursion}
 use Rattle.cfg_expr.specs.Grammar.{HasTree}
 use Rattle.cfg_expr.specs.Regular.{IsRegular}
-use Rattle.cfg_expr.proofs.Regular.{regular_tree}
+use Rattle.cfg_expr.proofs.alone.Regular.{regular_tree}
 use Rattle.cfg_expr.proofs.Asked.{NameLeaves-kept, questions_at-kept}
 use Rattle.cfg_expr.proofs.expr.Expression.predicates.Goals as goal
 

@@ -2,7 +2,7 @@
 use Rattle.std.proofs.Common.{◌∷◌, ◌-◌, ◌+◌, rules}
 use Rattle.cfg_expr.specs.nodes.Steps.{Step, asks}
 use Rattle.cfg_expr.specs.nodes.Machine.{standing}
-use Rattle.cfg_expr.proofs.Going.{CanGo-on, Goes-step, Goes-back, asks-next, asks-none}
+use Rattle.cfg_expr.proofs.evaluated.Going.{CanGo-on, Goes-step, Goes-back, asks-next, asks-none}
 use Rattle.cfg_expr.proofs.expr.evaluating.ask_each.Goals as goal
 
 pub ask_next-requires : goal.ask_next-requires

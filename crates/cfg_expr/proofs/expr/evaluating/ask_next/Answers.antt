@@ -3,7 +3,7 @@ use Rattle.std.proofs.Common.{rules, subst}
 use Rattle.cfg_expr.specs.Asking.{MayAskEach}
 use Rattle.cfg_expr.specs.Predicate.{question_of}
 use Rattle.cfg_expr.specs.nodes.Machine.{standing}
-use Rattle.cfg_expr.proofs.Going.{MayAsk-first, room-ask, Goes-asked}
+use Rattle.cfg_expr.proofs.evaluated.Going.{MayAsk-first, room-ask, Goes-asked}
 use Rattle.cfg_expr.proofs.expr.evaluating.ask_next.Goals as goal
 
 pub ask-requires : goal.ask-requires

@@ -2,7 +2,7 @@
 use Rattle.std.proofs.Common.{◌∷◌, rules, subst, refl, Some}
 use Rattle.cfg_expr.specs.nodes.Steps.{Step, asks}
 use Rattle.cfg_expr.specs.nodes.Machine.{CanTake, standing}
-use Rattle.cfg_expr.proofs.Going.{Goes-then, Goes-finished, room-finish}
+use Rattle.cfg_expr.proofs.evaluated.Going.{Goes-then, Goes-finished, room-finish}
 use Rattle.cfg_expr.proofs.expr.evaluating.end.Goals as goal
 
 pub apply-requires : goal.apply-requires

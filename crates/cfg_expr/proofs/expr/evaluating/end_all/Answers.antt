@@ -2,9 +2,9 @@
 use Rattle.std.proofs.Common.{◌∷◌, ◌∙◌, reverse, sym}
 use Rattle.cfg_expr.specs.nodes.Steps.{Step, asks, finishes}
 use Rattle.cfg_expr.specs.nodes.Machine.{standing}
-use Rattle.cfg_expr.proofs.Counting.{finishes-popped, finishes-open, still_open-popped}
-use Rattle.cfg_expr.proofs.Counting.{still_open-open}
-use Rattle.cfg_expr.proofs.Going.{Goes-step, Goes-back}
+use Rattle.cfg_expr.proofs.evaluated.Counting.{finishes-popped, finishes-open, still_open-popped}
+use Rattle.cfg_expr.proofs.evaluated.Counting.{still_open-open}
+use Rattle.cfg_expr.proofs.evaluated.Going.{Goes-step, Goes-back}
 use Rattle.cfg_expr.proofs.expr.evaluating.end_all.Goals as goal
 
 pub loop-list-preserved : goal.loop-list-preserved

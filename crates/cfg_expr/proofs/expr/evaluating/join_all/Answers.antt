@@ -1,7 +1,7 @@
 -- One more value is joined.
 use Rattle.std.proofs.Common.{◌≡◌, ◌∙◌, refl, reverse}
 use Rattle.cfg_expr.specs.nodes.Machine.{joined}
-use Rattle.cfg_expr.proofs.Going.{fold-joined, drop-joined}
+use Rattle.cfg_expr.proofs.evaluated.Going.{fold-joined, drop-joined}
 use Rattle.cfg_expr.proofs.expr.evaluating.join_all.Goals as goal
 use Rattle.cfg_expr.proofs.expr.evaluating.join_all.Goals.{in-Some, in-None}
 

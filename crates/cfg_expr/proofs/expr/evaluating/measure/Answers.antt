@@ -1,7 +1,7 @@
 -- Each node is counted as the walk has it.
 use Rattle.std.proofs.Common.{[], ◌∷◌, map, rules}
 use Rattle.cfg_expr.specs.nodes.Steps.{shape, walk, text_list}
-use Rattle.cfg_expr.proofs.Measuring.{IsMeasured-at, IsMeasured-counts, IsMeasured-next}
+use Rattle.cfg_expr.proofs.evaluated.Measuring.{IsMeasured-at, IsMeasured-counts, IsMeasured-next}
 use Rattle.cfg_expr.proofs.expr.evaluating.measure.Goals as goal
 
 pub enter-requires : goal.enter-requires

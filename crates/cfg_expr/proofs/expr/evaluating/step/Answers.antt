@@ -2,7 +2,7 @@
 use Rattle.std.proofs.Common.{reverse, rules, subst, sym}
 use Rattle.cfg_expr.specs.nodes.Steps.{begins, entered, finishes, shape}
 use Rattle.cfg_expr.specs.nodes.Machine.{CanGo, Goes, standing}
-use Rattle.cfg_expr.proofs.Going.{Goes-begins, Goes-then}
+use Rattle.cfg_expr.proofs.evaluated.Going.{Goes-begins, Goes-then}
 use Rattle.cfg_expr.proofs.expr.evaluating.step.Goals as goal
 
 pub end_all-requires : goal.end_all-requires

@@ -6,8 +6,8 @@ use Rattle.cfg_expr.specs.nodes.Steps.{text_list}
 use Rattle.cfgx_syntax.proofs.Finding.{HasOneTokenList-of}
 use Rattle.cfg_expr.proofs.Answering.{HasOneTree-tree}
 use Rattle.cfg_expr.proofs.Asked.{NameLeaves-kept}
-use Rattle.cfg_expr.proofs.Valued.{values-fit, short-fits, CanTake-measured, Leaves-measured}
-use Rattle.cfg_expr.proofs.Valued.{Evaluates-left}
+use Rattle.cfg_expr.proofs.evaluated.Valued.{values-fit, short-fits, CanTake-measured}
+use Rattle.cfg_expr.proofs.evaluated.Valued.{Leaves-measured, Evaluates-left}
 use Rattle.cfg_expr.proofs.expr.evaluating.value_of.Goals as goal
 
 pub measure-requires : goal.measure-requires

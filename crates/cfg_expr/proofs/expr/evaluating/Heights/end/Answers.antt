@@ -1,7 +1,7 @@
 -- The values of the list's leaves come, and the value of its function takes their place.
 use Rattle.std.proofs.Common.{◌≡◌, ◌<◌, ◌+◌, ◌^◌, arith, refl, rules, subst, Some}
 use Rattle.cfg_expr.specs.nodes.Steps.{height_behind}
-use Rattle.cfg_expr.proofs.Counting.{end-fits, end-needed}
+use Rattle.cfg_expr.proofs.evaluated.Counting.{end-fits, end-needed}
 use Rattle.cfg_expr.proofs.expr.evaluating.Heights.end.Goals as goal
 
 pub overflow_add-self : goal.overflow_add-self

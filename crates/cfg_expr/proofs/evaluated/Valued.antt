@@ -20,10 +20,10 @@ use Rattle.cfg_expr.specs.nodes.Machine.{CanTake, Ends, Goes, standing, run}
 use Rattle.cfg_expr.specs.declared.expr.nodes.ExprNode.{ExprNode}
 use Rattle.cfg_expr.proofs.Asked.{questions_at-kept}
 use Rattle.cfg_expr.proofs.Chains.{Calls-length}
-use Rattle.cfg_expr.proofs.Folding.{run-all}
-use Rattle.cfg_expr.proofs.Rooms.{asked_in-all, values-all}
-use Rattle.cfg_expr.proofs.Sizes.{short-room}
-use Rattle.cfg_expr.proofs.Walking.{walk-nodes}
+use Rattle.cfg_expr.proofs.evaluated.Folding.{run-all}
+use Rattle.cfg_expr.proofs.evaluated.Rooms.{asked_in-all, values-all}
+use Rattle.cfg_expr.proofs.evaluated.Sizes.{short-room}
+use Rattle.cfg_expr.proofs.evaluated.Walking.{walk-nodes}
 
 abbrev pub steps_from : List ExprNode → List Step
 steps_from nodes = walk (map shape nodes) (text_list ∷ [])

@@ -7,7 +7,7 @@ use Rattle.cfg_expr.specs.nodes.Prefix.{prefix, prefix_each}
 use Rattle.cfg_expr.specs.nodes.Steps.{Step, asks, leaves, steps_of, steps_of_each, all_steps}
 use Rattle.cfg_expr.specs.nodes.Steps.{asked_in, most_values, most_open, height_behind}
 use Rattle.cfg_expr.specs.declared.expr.Func.TheVariants.{Not, All, Any}
-use Rattle.cfg_expr.proofs.Counting.{most_values-asks, most_open-asks}
+use Rattle.cfg_expr.proofs.evaluated.Counting.{most_values-asks, most_open-asks}
 
 asked_in-asks : (n : ℕ) (steps : List Step) → asked_in (asks n steps) ≡ n + asked_in steps
 asked_in-asks zero steps = omega arith

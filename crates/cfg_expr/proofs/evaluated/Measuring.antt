@@ -13,7 +13,7 @@ use Rattle.cfg_expr.specs.nodes.Measure.{needed, NeedSame, CanCount}
 use Rattle.cfg_expr.specs.declared.expr.Func.{Func}
 use Rattle.cfg_expr.specs.declared.expr.evaluating.Heights.{Heights}
 use Rattle.cfg_expr.specs.declared.expr.nodes.ExprNode.{ExprNode}
-use Rattle.cfg_expr.proofs.Counting.{most_open-finishes}
+use Rattle.cfg_expr.proofs.evaluated.Counting.{most_open-finishes}
 
 -- what was counted, and what the rest of the steps needs, is what all the steps need
 pub record IsMeasured (all : List Step) (heights : Heights) (lists : SmallVec OpenList)

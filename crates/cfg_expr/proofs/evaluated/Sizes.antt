@@ -10,7 +10,7 @@ use Rattle.cfg_expr.specs.Tree.{Tree, Trees}
 use Rattle.cfg_expr.specs.Grammar.{predicate_tokens, IsCall, IsItem, IsList, HasTree, commas}
 use Rattle.cfg_expr.specs.nodes.Prefix.{prefix, prefix_each}
 use Rattle.cfg_expr.specs.nodes.Steps.{all_steps, most_open, most_values}
-use Rattle.cfg_expr.proofs.Rooms.{functions_in, functions_in_each, values-all, open-all}
+use Rattle.cfg_expr.proofs.evaluated.Rooms.{functions_in, functions_in_each, values-all, open-all}
 
 -- an item takes a byte at least
 

@@ -13,7 +13,7 @@ use Rattle.cfg_expr.specs.nodes.Machine.{CanGo, CanTake, Ends, Goes, Standing, s
 use Rattle.cfg_expr.specs.nodes.Machine.{finished, joined, last_of}
 use Rattle.cfg_expr.specs.declared.expr.Func.{Func}
 use Rattle.cfg_expr.specs.declared.expr.Func.TheVariants.{Not, All, Any}
-use Rattle.cfg_expr.proofs.Counting.{below-most_values}
+use Rattle.cfg_expr.proofs.evaluated.Counting.{below-most_values}
 
 -- the first question may be asked, and behind its answer the others
 

@@ -14,7 +14,7 @@ use Rattle.cfg_expr.specs.Tree.{Tree}
 use Rattle.cfg_expr.specs.Grammar.{commas, predicate_tokens, IsTree}
 use Rattle.cfg_expr.specs.Regular.{CanBeQuoted, IsRegular, IsAlone}
 use Rattle.cfg_expr.specs.Spelling.{with_value, spelling}
-use Rattle.cfg_expr.proofs.Alone.{text_of, spelt_regular}
+use Rattle.cfg_expr.proofs.alone.Spelt.{text_of, spelt_regular}
 
 -- A token between two parts of a text.
 

@@ -1,0 +1,9 @@
+-- The walk over the nodes gives the value of the tree, and its vectors have room.
+pub mod Counting
+pub mod Folding
+pub mod Going
+pub mod Measuring
+pub mod Rooms
+pub mod Sizes
+pub mod Valued
+pub mod Walking
