@@ -1,5 +1,5 @@
 -- How a tree is evaluated: a list of steps, which a walk over its nodes finds one after another.
-use Rattle.std.specs.Prelude.{ℕ, zero, suc, ◌+◌, ◌-◌, ◌==◌, max, List, [], ◌∷◌, Option, Some, None}
+use Rattle.std.specs.Prelude.{ℕ, zero, suc, ◌+◌, ◌-◌, ◌==◌, max, List, [], ◌∷◌, ◌++◌, Option, Some, None}
 use Rattle.std.specs.Prelude.{◌≡◌, true, false, if◌then◌else◌}
 use Rattle.smallvec.specs.SmallVec.{SmallVec, HasRoomFor}
 use Rattle.cfg_expr.specs.Tree.{Tree, Trees, is_leaf, count}
@@ -133,6 +133,14 @@ asked_in [] = 0
 asked_in (Step.begin ∷ steps) = asked_in steps
 asked_in (Step.ask ∷ steps) = suc (asked_in steps)
 asked_in (Step.finish func ∷ steps) = asked_in steps
+
+-- the open lists as one vector, where the innermost one is kept apart
+abbrev pub with_innermost : SmallVec OpenList → Option OpenList → SmallVec OpenList
+with_innermost around None = record { items = around.items; capacity = around.capacity + 1 }
+with_innermost around (Some list) = record {
+  items = around.items ++ list ∷ [];
+  capacity = around.capacity + 1;
+}
 
 -- there is room for the list that a node begins
 abbrev pub RoomFor : Option Func → SmallVec OpenList → Type 0

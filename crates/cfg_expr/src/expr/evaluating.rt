@@ -16,6 +16,7 @@ ghost use Rattle.cfg_expr.specs.nodes.Steps.{height_behind, steps_at};
 ghost use Rattle.cfg_expr.specs.nodes.Machine.{CanGo, CanTake, Goes, applied, joined, last_of};
 ghost use Rattle.cfg_expr.specs.nodes.Machine.{standing};
 
+mod open_lists;
 #[cfg(test)]
 mod tests;
 
@@ -24,6 +25,7 @@ use super::nodes::ExprNode;
 use super::predicates::{Predicate, Predicates};
 use crate::memory::SmallAllocator;
 use cfgx_syntax::logic::Logic;
+use open_lists::OpenLists;
 use smallvec::SmallVec;
 use std::alloc::{AllocError, Allocator};
 
@@ -61,56 +63,24 @@ fn members(func: Func) -> usize
     }
 }
 
-/// Notes that a member of the innermost list is a predicate.
-fn note_leaf<A: SmallAllocator>(lists: &mut SmallVec<OpenList, 11, A>)
-    ensures lists { reverse lists.new.items ≡ over_top with_leaf (reverse lists.old.items) }
-    ensures capacity { lists.new.capacity ≡ lists.old.capacity }
-{
-    if let Some(top) = lists.last_mut() {
-        top.left = top.left.saturating_sub(1);
-    }
-}
-
-/// Notes that a member of the innermost list is a function.
-fn note_function<A: SmallAllocator>(lists: &mut SmallVec<OpenList, 11, A>)
-    ensures lists { reverse lists.new.items ≡ over_top with_function (reverse lists.old.items) }
-    ensures capacity { lists.new.capacity ≡ lists.old.capacity }
-{
-    if let Some(top) = lists.last_mut() {
-        top.left = top.left.saturating_sub(1);
-        top.leaves = top.leaves.saturating_sub(1);
-    }
-}
-
 /// Goes over a node: a member of the innermost list, which may begin a list of its own.
-fn enter<A: SmallAllocator>(lists: &mut SmallVec<OpenList, 11, A>, node: &ExprNode)
+fn enter<A: SmallAllocator>(lists: &mut OpenLists<A>, node: &ExprNode)
     requires { RoomFor (shape node.now) lists.old }
     ensures lists { reverse lists.new.items ≡ entered (shape node.now) (reverse lists.old.items) }
     ensures capacity { lists.new.capacity ≡ lists.old.capacity }
 {
     match node {
         ExprNode::Fn { func, .. } => {
-            note_function(lists);
+            lists.note_function();
             lists.push_reserved(OpenList::new(Some(*func), members(*func)));
         }
-        ExprNode::Predicate(_) => note_leaf(lists),
-    }
-}
-
-/// Takes the innermost list off, if it has no member to come.
-fn pop_ended<A: SmallAllocator>(lists: &mut SmallVec<OpenList, 11, A>) -> Option<OpenList>
-    ensures lists { PopsEnded (reverse lists.old.items) result (reverse lists.new.items) }
-    ensures capacity { lists.new.capacity ≡ lists.old.capacity }
-{
-    match lists.last() {
-        Some(top) if top.left == 0 => lists.pop(),
-        _ => None,
+        ExprNode::Predicate(_) => lists.note_leaf(),
     }
 }
 
 /// Makes room for the list that a node begins, if it begins one.
 fn make_room<A: SmallAllocator>(
-    lists: &mut SmallVec<OpenList, 11, A>,
+    lists: &mut OpenLists<A>,
     node: &ExprNode,
 ) -> Result<(), AllocError>
     ensures room { OnOk result (RoomFor (shape node.now) lists.new) }
@@ -119,7 +89,7 @@ fn make_room<A: SmallAllocator>(
     ensures succeeds { RoomFor (shape node.now) lists.old → IsOk result }
 {
     match node {
-        ExprNode::Fn { .. } => lists.reserve(1),
+        ExprNode::Fn { .. } => lists.reserve(),
         ExprNode::Predicate(_) => Ok(()),
     }
 }
@@ -146,13 +116,13 @@ impl Heights {
     }
 
     /// Counts the ends of the lists that have no member to come.
-    fn end_all<A: SmallAllocator>(&mut self, lists: &mut SmallVec<OpenList, 11, A>)
+    fn end_all<A: SmallAllocator>(&mut self, lists: &mut OpenLists<A>)
         requires { CanCount self.old (finishes (reverse lists.old.items)) }
         ensures lists { reverse lists.new.items ≡ still_open (reverse lists.old.items) }
         ensures capacity { lists.new.capacity ≡ lists.old.capacity }
         ensures heights { NeedSame self.old (finishes (reverse lists.old.items)) self.new (λ s. s) }
     {
-        while let Some(list) = pop_ended(lists) {
+        while let Some(list) = lists.pop_ended() {
             self.end(list);
         }
     }
@@ -160,7 +130,7 @@ impl Heights {
     /// Goes over a node, and counts the ends of the lists that it ends.
     fn enter<A: SmallAllocator>(
         &mut self,
-        lists: &mut SmallVec<OpenList, 11, A>,
+        lists: &mut OpenLists<A>,
         node: &ExprNode,
     ) -> Result<(), AllocError>
         requires { CanCount self.old (steps_at (shape node.now) (reverse lists.old.items)) }
@@ -185,13 +155,13 @@ impl Heights {
 fn measure<A: SmallAllocator>(
     alloc: A,
     nodes: &[ExprNode],
-) -> Result<(SmallVec<OpenList, 11, A>, usize), AllocError>
+) -> Result<(OpenLists<A>, usize), AllocError>
     requires { most_values 0 (walk (map shape nodes.now) (text_list ∷ [])) < 2 ^ 64 }
     ensures found { IfOk result (Measures (walk (map shape nodes.now) (text_list ∷ []))) }
     ensures succeeds { most_open 1 (walk (map shape nodes.now) (text_list ∷ [])) ≤ 11
         → IsOk result }
 {
-    let mut lists = SmallVec::new(alloc);
+    let mut lists = OpenLists::new(alloc);
     lists.push_reserved(OpenList::new(None, 1));
     let mut heights = Heights { now: 0, most: 0 };
     for node in nodes {
@@ -334,7 +304,7 @@ where
 
 /// Ends the lists that have no member to come.
 fn end_all<EP, T, A>(
-    lists: &mut SmallVec<OpenList, 11, A>,
+    lists: &mut OpenLists<A>,
     predicates: &mut Predicates<'_>,
     values: &mut SmallVec<Option<T>, 33, &A>,
     ep: &mut EP,
@@ -350,7 +320,7 @@ where
     ensures goes { Goes T.Logic EP.FnMut (standing ep.old predicates.old values.old)
         (finishes (reverse lists.old.items)) (standing ep.new predicates.new values.new) (λ s. s) }
 {
-    while let Some(list) = pop_ended(lists) {
+    while let Some(list) = lists.pop_ended() {
         end(list, predicates, values, ep);
     }
 }
@@ -358,7 +328,7 @@ where
 /// Goes over a node, and ends the lists that it ends.
 fn step<EP, T, A>(
     node: &ExprNode,
-    lists: &mut SmallVec<OpenList, 11, A>,
+    lists: &mut OpenLists<A>,
     predicates: &mut Predicates<'_>,
     values: &mut SmallVec<Option<T>, 33, &A>,
     ep: &mut EP,
@@ -384,7 +354,7 @@ where
 /// Takes the steps of the nodes.
 fn evaluate<EP, T, A>(
     nodes: &[ExprNode],
-    lists: &mut SmallVec<OpenList, 11, A>,
+    lists: &mut OpenLists<A>,
     predicates: &mut Predicates<'_>,
     values: &mut SmallVec<Option<T>, 33, &A>,
     ep: &mut EP,

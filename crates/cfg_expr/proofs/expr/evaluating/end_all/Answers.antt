@@ -10,7 +10,7 @@ use Rattle.cfg_expr.proofs.expr.evaluating.end_all.Goals as goal
 pub loop-list-preserved : goal.loop-list-preserved
 loop-list-preserved g c =
     let old = reverse c.loop-list.lists.items in
-    let new = reverse c.pop_ended.new.lists.items in
+    let new = reverse c.pop_ended.new.self.items in
     let popped = c.in-Some.ensures.lists in (
       Goes-step g.T.Logic g.EP.FnMut
           (standing c.args.ep.now c.args.predicates.now c.args.values.now)

@@ -18,7 +18,7 @@ step-requires g c =
     let room = subst (λ l. most_open (length lists.items) l ≤ lists.capacity) at
     c.loop-node.invariant.1 in
     let can = subst (CanTake g.EP.FnMut now) at (c.loop-node.invariant.0.can [] c.requires.can) in
-    (search rules, (search rules, (RoomFor-begun _ lists _ room, (_, can))))
+    (search rules, (RoomFor-begun _ lists _ room, (_, can)))
 
 pub loop-node-preserved : goal.loop-node-preserved
 loop-node-preserved g c =

@@ -9,7 +9,7 @@ enter-requires g c =
     let all = walk (map shape c.args.nodes.now) (text_list ∷ []) in
     let at = IsMeasured-at c.args.nodes.now all c.loop-node.heights c.loop-node.lists
     c.loop-node.node-index _ c.loop-node-test.true c.loop-node.invariant in
-    (search rules, IsMeasured-counts all c.loop-node.heights c.loop-node.lists _ _ at c.requires)
+    IsMeasured-counts all c.loop-node.heights c.loop-node.lists _ _ at c.requires
 
 pub loop-node-preserved : goal.loop-node-preserved
 loop-node-preserved g c =

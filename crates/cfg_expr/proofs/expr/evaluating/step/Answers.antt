@@ -13,11 +13,8 @@ end_all-requires g c =
     (finishes (entered first (reverse c.args.lists.now.items)) c.requires.can.0)
     c.requires.can.1 in (
       search rules,
-      (
-        search rules,
-        subst (λ l. CanGo g.EP.FnMut now (finishes l))
-            (sym c.enter.ensures.lists) (c.requires.can.0, can),
-      ),
+      subst (λ l. CanGo g.EP.FnMut now (finishes l))
+          (sym c.enter.ensures.lists) (c.requires.can.0, can),
     )
 
 pub returns-clause-goes : goal.returns-clause-goes

@@ -12,8 +12,7 @@ use Rattle.cfg_expr.proofs.expr.evaluating.value_of.Goals as goal
 
 pub measure-requires : goal.measure-requires
 measure-requires g c =
-    let small = g.met.A.SmallAllocator.small in
-    (search (rules, small), values-fit _ _ _ c.requires.keeps c.requires.fits)
+    values-fit _ _ _ c.requires.keeps c.requires.fits
 
 pub returns-in_err-lists-clause-short : goal.returns-in_err-lists-clause-short
 returns-in_err-lists-clause-short g c few =
@@ -33,22 +32,18 @@ new-predicates-requires g c = NameLeaves-kept _ _ _ c.requires.keeps.tree c.requ
 
 pub evaluate-requires : goal.evaluate-requires
 evaluate-requires g c =
-    let lists_small = g.met.A.SmallAllocator.small in
     let value_small = g.met.T.Logic.small in
     let found = c.in_ok-lists.ensures.found in
     let items : c.push_reserved.new.self.items ≡ text_list ∷ [] =
     c.push_reserved.ensures.items ∙ rw (found.empty, c.new.ensures) refl in (
-      search (rules, lists_small),
+      search (rules, value_small),
       (
-        search (rules, value_small),
-        (
-          rw (items, c.push_reserved.ensures.capacity) found.room,
-          rw items (CanTake-measured g.EP.FnMut c.args.text.now c.args.nodes.now c.args.asked.now
-              c.args.ep.now c.new-predicates.result c.in_ok-values.values
-              (c.in_ok-lists.lists, c.in_ok-lists.most) c.requires.keeps c.requires.may
-              c.new-predicates.ensures found c.in_ok-values.ensures.items
-              c.in_ok-values.ensures.capacity),
-        ),
+        rw (items, c.push_reserved.ensures.capacity) found.room,
+        rw items (CanTake-measured g.EP.FnMut c.args.text.now c.args.nodes.now c.args.asked.now
+            c.args.ep.now c.new-predicates.result c.in_ok-values.values
+            (c.in_ok-lists.lists, c.in_ok-lists.most) c.requires.keeps c.requires.may
+            c.new-predicates.ensures found c.in_ok-values.ensures.items
+            c.in_ok-values.ensures.capacity),
       ),
     )
 
