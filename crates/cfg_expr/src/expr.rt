@@ -25,6 +25,7 @@ use crate::error::Failure;
 use crate::memory::SmallAllocator;
 pub use cfgx_syntax::logic::Logic;
 pub use cfgx_syntax::{lexer, logic};
+use evaluating::Room;
 use lexer::Lexer;
 pub use matcher::TargetMatcher;
 use nodes::ExprNode;
@@ -59,17 +60,22 @@ pub struct Expression<A: Allocator = Global> {
     expr: SmallVec<ExprNode, 5, A>,
     /// The places of its predicates among the nodes, in the order in which they are asked
     asked: SmallVec<usize, 5, A>,
+    /// What its evaluation needs
+    room: Room,
 }
 
 impl<A: Allocator> Model for Expression<A> {
-    ghost use Rattle.std.specs.Prelude.{List, ℕ, string_bytes};
+    ghost use Rattle.std.specs.Prelude.{List, [], ◌∷◌, ℕ, map, string_bytes};
     ghost use Rattle.cfg_expr.specs.nodes.Keeps.{Keeps};
+    ghost use Rattle.cfg_expr.specs.nodes.Measure.{Measures};
+    ghost use Rattle.cfg_expr.specs.nodes.Steps.{shape, text_list, walk};
 
     ghost Value = { List ℕ };
 
     ghost view = { λ e. string_bytes e.original };
 
-    ghost invariant = { λ e. Keeps (string_bytes e.original) e.expr.items e.asked.items };
+    ghost invariant = { λ e. Keeps (string_bytes e.original) e.expr.items e.asked.items
+        × Measures (walk (map shape e.expr.items) (text_list ∷ [])) e.room };
 }
 
 impl<A: Allocator> Expression<A> {
@@ -128,10 +134,13 @@ impl<A: SmallAllocator> Expression<A> {
         parser.read_all(lexer)?;
         let original = String::from_str(alloc, text)?;
         let (expr, asked) = parser.into_parts();
+        let _fits = expr.len();
+        let room = evaluating::measure(alloc, expr.as_slice())?;
         Ok(Expression {
             original,
             expr,
             asked,
+            room,
         })
     }
 
@@ -152,6 +161,7 @@ impl<A: SmallAllocator> Expression<A> {
             original: String::from_str(alloc, self.original.as_str())?,
             expr: SmallVec::from_clones(alloc, self.expr.as_slice())?,
             asked: SmallVec::from_slice(alloc, self.asked.as_slice())?,
+            room: self.room,
         })
     }
 
@@ -187,9 +197,8 @@ impl<A: SmallAllocator> Expression<A> {
         ensures refused { OnErr result (ep.new ≡ ep.old) }
         ensures short { length self.now ≤ 32 → IsOk result }
     {
-        let _fits = self.expr.len();
         let (nodes, asked) = (self.expr.as_slice(), self.asked.as_slice());
-        evaluating::value_of(alloc, self.original(), nodes, asked, ep)
+        evaluating::value_of(alloc, self.original(), nodes, asked, self.room, ep)
     }
 
     /// The fillings that show why the value over the answers is unknown, or `None` where it is
@@ -213,8 +222,7 @@ impl<A: SmallAllocator> Expression<A> {
         ensures fillings { IfOk result (λ found. (one : HasOneTree self.now)
             × PolarFillings one.tree answers.now found) }
     {
-        let _fits = self.expr.len();
         let (nodes, asked) = (self.expr.as_slice(), self.asked.as_slice());
-        filling::polar_fillings(alloc, self.original(), nodes, asked, answers)
+        filling::polar_fillings(alloc, self.original(), nodes, asked, self.room, answers)
     }
 }

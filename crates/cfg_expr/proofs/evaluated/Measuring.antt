@@ -22,6 +22,7 @@ pub record IsMeasured (all : List Step) (heights : Heights) (lists : SmallVec Op
   pub open_before : most_open 1 all ≤ max lists.capacity (most_open (length lists.items) rest)
   pub open_behind : most_open (length lists.items) rest ≤ most_open 1 all
   pub inline : 11 ≤ lists.capacity
+  pub few : most_open 1 all ≤ 11 → lists.capacity ≡ 11
 
 length-over_top : (change : OpenList → OpenList) (lists : List OpenList)
     → length (over_top change lists) ≡ length lists
@@ -66,14 +67,25 @@ pub IsMeasured-counts : (all : List Step) (heights : Heights) (lists : SmallVec 
 IsMeasured-counts all heights lists first shapes measured fits =
     (walk shapes (still_open (entered first (reverse lists.items))), omega (arith, measured.values))
 
+pub RoomFor-begun : (first : Option Func) (lists : SmallVec OpenList) (steps : List Step)
+    → most_open (length lists.items) (steps_at first (reverse lists.items) steps) ≤ lists.capacity
+    → RoomFor first lists
+RoomFor-begun None lists steps room = tt
+RoomFor-begun (Some func) lists steps room =
+    let deep = ap (λ d. most_open d (steps_at (Some func) (reverse lists.items) steps))
+    (length-reverse lists.items) ∙ refl in
+    let at = most_open-steps_at (Some func) (reverse lists.items) steps in
+    omega (arith, length-reverse lists.items)
+
 pub IsMeasured-next : (all : List Step) (heights next : Heights) (lists new : SmallVec OpenList)
     (first : Option Func) (shapes : List (Option Func))
     → IsMeasured all heights lists (walk_from first shapes (reverse lists.items))
     → reverse new.items ≡ still_open (entered first (reverse lists.items))
     → NeedSame heights (steps_at first (reverse lists.items)) next (λ s. s)
     → begun first (length lists.items) ≤ new.capacity → lists.capacity ≤ new.capacity
+    → (RoomFor first lists → new.capacity ≡ lists.capacity)
     → IsMeasured all next new (walk shapes (reverse new.items))
-IsMeasured-next all heights next lists new first shapes measured are same room grows =
+IsMeasured-next all heights next lists new first shapes measured are same room grows had_room =
     let rest = walk shapes (still_open (entered first (reverse lists.items))) in
     let n = length-reverse lists.items in
     let n' : length new.items ≡ length (still_open (entered first (reverse lists.items))) =
@@ -90,6 +102,11 @@ IsMeasured-next all heights next lists new first shapes measured are same room g
       open_before = omega (arith, deep, measured.open_before);
       open_behind = omega (arith, deep, measured.open_behind);
       inline = omega (arith, measured.inline);
+      few = λ few.
+          let before = measured.few few in
+          let inside = RoomFor-begun first lists rest
+          (omega (arith, measured.open_behind, few, before)) in
+          had_room inside ∙ before;
     })
 
 drop-all : {X : Type 0} (n : ℕ) (xs : List X) → length xs ≤ n → drop n xs ≡ []
@@ -106,16 +123,6 @@ pub IsMeasured-at : (nodes : List ExprNode) (all : List Step) (heights : Heights
 IsMeasured-at nodes all heights lists i d inside measured =
     subst (λ l. IsMeasured all heights lists (walk l (reverse lists.items)))
     (nodes-from nodes i d inside) measured
-
-pub RoomFor-begun : (first : Option Func) (lists : SmallVec OpenList) (steps : List Step)
-    → most_open (length lists.items) (steps_at first (reverse lists.items) steps) ≤ lists.capacity
-    → RoomFor first lists
-RoomFor-begun None lists steps room = tt
-RoomFor-begun (Some func) lists steps room =
-    let deep = ap (λ d. most_open d (steps_at (Some func) (reverse lists.items) steps))
-    (length-reverse lists.items) ∙ refl in
-    let at = most_open-steps_at (Some func) (reverse lists.items) steps in
-    omega (arith, length-reverse lists.items)
 
 pub room-next : (first : Option Func) (lists new : SmallVec OpenList) (shapes : List (Option Func))
     → most_open (length lists.items) (walk_from first shapes (reverse lists.items))

@@ -15,7 +15,7 @@ use Rattle.cfg_expr.specs.nodes.Keeps.{Keeps, questions_at}
 use Rattle.cfg_expr.specs.nodes.Prefix.{node_at}
 use Rattle.cfg_expr.specs.nodes.Steps.{Step, OpenList, all_steps, asked_in, most_open, most_values}
 use Rattle.cfg_expr.specs.nodes.Steps.{shape, text_list, walk}
-use Rattle.cfg_expr.specs.nodes.Measure.{Measures}
+use Rattle.cfg_expr.specs.nodes.Measure.{Measures, Room}
 use Rattle.cfg_expr.specs.nodes.Machine.{CanTake, Ends, Goes, standing, run}
 use Rattle.cfg_expr.specs.declared.expr.nodes.ExprNode.{ExprNode}
 use Rattle.cfg_expr.proofs.Asked.{questions_at-kept}
@@ -116,29 +116,29 @@ Leaves-all logic asker text nodes asks before after questions rest values left k
 -- the same, of what was measured
 pub CanTake-measured : {F T : Type 0} (asker : Asker F T) (text : List ℕ)
     (nodes : List ExprNode) (asks : List ℕ) (before : F) (questions : List Question)
-    (values : SmallVec (Option T)) (found : SmallVec OpenList × ℕ) → Keeps text nodes asks
+    (values : SmallVec (Option T)) (room : Room) → Keeps text nodes asks
     → MayEvaluate asker text before → questions ≡ questions_at text nodes asks
-    → Measures (steps_from nodes) found → values.items ≡ [] → values.capacity ≡ max 33 found.1
+    → Measures (steps_from nodes) room → values.items ≡ [] → values.capacity ≡ max 33 room.values
     → CanTake asker (standing before questions values) (steps_from nodes)
-CanTake-measured asker text nodes asks before questions values found keeps may are measured none
-    room =
+CanTake-measured asker text nodes asks before questions values room keeps may are measured none
+    fits =
     CanTake-all asker text nodes asks before questions values keeps may are none
-    (omega (arith, measured.values))
+    (omega (arith, measured.values, fits))
 
 pub Leaves-measured : {F T : Type 0} (logic : Operations T) (asker : Asker F T) (text : List ℕ)
     (nodes : List ExprNode) (asks : List ℕ) (before after : F) (questions rest : List Question)
-    (values left : SmallVec (Option T)) (found : SmallVec OpenList × ℕ) (lists : List OpenList)
+    (values left : SmallVec (Option T)) (room : Room) (lists : List OpenList)
     → Keeps text nodes asks → MayEvaluate asker text before
-    → questions ≡ questions_at text nodes asks → Measures (steps_from nodes) found
-    → values.items ≡ [] → values.capacity ≡ max 33 found.1 → lists ≡ text_list ∷ []
+    → questions ≡ questions_at text nodes asks → Measures (steps_from nodes) room
+    → values.items ≡ [] → values.capacity ≡ max 33 room.values → lists ≡ text_list ∷ []
     → Goes logic asker (standing before questions values)
     (λ _. walk (map shape nodes) (reverse lists)) (standing after rest left) (λ _. [])
     → Leaves logic asker text before after left.items
-Leaves-measured logic asker text nodes asks before after questions rest values left found lists
-    keeps may are measured none room is goes =
+Leaves-measured logic asker text nodes asks before after questions rest values left room lists
+    keeps may are measured none fits is goes =
     Leaves-all logic asker text nodes asks before after questions rest values left keeps are none
-    (CanTake-measured asker text nodes asks before questions values found keeps may are measured
-    none room) (subst (λ l. Goes logic asker (standing before questions values)
+    (CanTake-measured asker text nodes asks before questions values room keeps may are measured
+    none fits) (subst (λ l. Goes logic asker (standing before questions values)
     (λ _. walk (map shape nodes) (reverse l)) (standing after rest left) (λ _. [])) is goes)
 
 pub Evaluates-left : {F T : Type 0} (logic : Operations T) (asker : Asker F T) (text : List ℕ)

@@ -1,8 +1,8 @@
 -- How the room that an evaluation needs is counted.
-use Rattle.std.specs.Prelude.{◌≡◌, ℕ, ◌≤◌, ◌<◌, ◌^◌, max, List, []}
-use Rattle.smallvec.specs.SmallVec.{SmallVec}
-use Rattle.cfg_expr.specs.nodes.Steps.{Step, OpenList, most_values, most_open}
+use Rattle.std.specs.Prelude.{◌≡◌, ℕ, ◌+◌, ◌≤◌, ◌<◌, ◌^◌, max, List}
+use Rattle.cfg_expr.specs.nodes.Steps.{Step, most_values, most_open}
 use Rattle.cfg_expr.specs.declared.expr.evaluating.Heights.{Heights}
+pub use Rattle.cfg_expr.specs.declared.expr.evaluating.Room.{Room}
 
 -- How many values there are while they are only counted, and how many there were at most.
 abbrev pub needed : Heights → List Step → ℕ
@@ -18,9 +18,9 @@ NeedSame before front after back = (steps : List Step)
 abbrev pub CanCount : Heights → (List Step → List Step) → Type 0
 CanCount heights front = (steps : List Step) × (needed heights (front steps) < 2 ^ 64)
 
--- no list is open, there is room for those of the steps, and this is the number of their values
-pub record Measures (steps : List Step) (found : SmallVec OpenList × ℕ) : Type 0 where
-  pub empty : found.0.items ≡ []
-  pub room : most_open 1 steps ≤ found.0.capacity
-  pub one : 1 ≤ found.0.capacity
-  pub values : found.1 ≡ most_values 0 steps
+-- There is room for the lists of the steps, of which eleven are inline, and this is the number of
+-- their values.
+pub record Measures (steps : List Step) (room : Room) : Type 0 where
+  pub lists : most_open 1 steps ≤ max 10 room.around + 1
+  pub few : most_open 1 steps ≤ 11 → room.around ≤ 10
+  pub values : room.values ≡ most_values 0 steps

@@ -1,5 +1,6 @@
 -- How a tree is evaluated: a list of steps, which a walk over its nodes finds one after another.
-use Rattle.std.specs.Prelude.{ℕ, zero, suc, ◌+◌, ◌-◌, ◌==◌, max, List, [], ◌∷◌, ◌++◌, Option, Some, None}
+use Rattle.std.specs.Prelude.{ℕ, zero, suc, ◌+◌, ◌-◌, ◌==◌, max, List, [], ◌∷◌, ◌++◌}
+use Rattle.std.specs.Prelude.{Option, Some, None}
 use Rattle.std.specs.Prelude.{◌≡◌, true, false, if◌then◌else◌}
 use Rattle.smallvec.specs.SmallVec.{SmallVec, HasRoomFor}
 use Rattle.cfg_expr.specs.Tree.{Tree, Trees, is_leaf, count}

@@ -1,5 +1,5 @@
-//! The value of an expression, by two walks over its nodes: the first one counts the room that is
-//! needed, and the second one asks.
+//! The value of an expression, by one walk over its nodes that asks. The room that it needs is
+//! counted by a walk of the same steps, once, when the expression is made.
 ghost use Rattle.std.specs.Prelude.{◌≡◌, ◌+◌, ◌-◌, ◌<◌, ◌≤◌, ◌^◌, ◌∷◌, [], List, length, map, max};
 ghost use Rattle.std.specs.Prelude.{reverse, take, drop, fold, Some, None, IfOk, OnOk, OnErr, IsOk};
 ghost use Rattle.smallvec.specs.SmallVec.{HasRoomFor, small_vec_len};
@@ -79,14 +79,12 @@ fn enter<A: SmallAllocator>(lists: &mut OpenLists<A>, node: &ExprNode)
 }
 
 /// Makes room for the list that a node begins, if it begins one.
-fn make_room<A: SmallAllocator>(
-    lists: &mut OpenLists<A>,
-    node: &ExprNode,
-) -> Result<(), AllocError>
+fn make_room<A: SmallAllocator>(lists: &mut OpenLists<A>, node: &ExprNode) -> Result<(), AllocError>
     ensures room { OnOk result (RoomFor (shape node.now) lists.new) }
     ensures items { lists.new.items ≡ lists.old.items }
     ensures capacity { lists.old.capacity ≤ lists.new.capacity }
-    ensures succeeds { RoomFor (shape node.now) lists.old → IsOk result }
+    ensures had_room { RoomFor (shape node.now) lists.old
+        → lists.new.capacity ≡ lists.old.capacity }
 {
     match node {
         ExprNode::Fn { .. } => lists.reserve(),
@@ -141,7 +139,8 @@ impl Heights {
         ensures room { OnOk result (begun (shape node.now) (length lists.old.items)
             ≤ lists.new.capacity) }
         ensures capacity { lists.old.capacity ≤ lists.new.capacity }
-        ensures succeeds { RoomFor (shape node.now) lists.old → IsOk result }
+        ensures had_room { RoomFor (shape node.now) lists.old
+            → lists.new.capacity ≡ lists.old.capacity }
     {
         make_room(lists, node)?;
         enter(lists, node);
@@ -150,25 +149,32 @@ impl Heights {
     }
 }
 
-/// What an evaluation needs: an empty vector with room for the lists that are open at once, and the
-/// number of the values that there are at once.
-fn measure<A: SmallAllocator>(
-    alloc: A,
-    nodes: &[ExprNode],
-) -> Result<(OpenLists<A>, usize), AllocError>
+/// How much room an evaluation needs.
+#[derive(Clone, Copy)]
+pub(crate) struct Room {
+    /// For how many lists around the innermost one
+    around: usize,
+    /// For how many values at once
+    values: usize,
+}
+
+/// How much room an evaluation of these nodes needs.
+///
+/// The error is that `alloc` refused room for the lists that are open at once.
+pub(crate) fn measure<A: SmallAllocator>(alloc: A, nodes: &[ExprNode]) -> Result<Room, AllocError>
     requires { most_values 0 (walk (map shape nodes.now) (text_list ∷ [])) < 2 ^ 64 }
-    ensures found { IfOk result (Measures (walk (map shape nodes.now) (text_list ∷ []))) }
-    ensures succeeds { most_open 1 (walk (map shape nodes.now) (text_list ∷ [])) ≤ 11
-        → IsOk result }
+    ensures { IfOk result (Measures (walk (map shape nodes.now) (text_list ∷ []))) }
 {
-    let mut lists = OpenLists::new(alloc);
+    let mut lists = OpenLists::with_room(alloc, 0)?;
     lists.push_reserved(OpenList::new(None, 1));
     let mut heights = Heights { now: 0, most: 0 };
     for node in nodes {
         heights.enter(&mut lists, node)?;
     }
-    lists.clear();
-    Ok((lists, heights.most.max(heights.now)))
+    Ok(Room {
+        around: lists.room_around(),
+        values: heights.most.max(heights.now),
+    })
 }
 
 /// What the closure answers.
@@ -376,8 +382,8 @@ where
     }
 }
 
-/// The value of the expression with this text, these nodes, and these places of the leaves that are
-/// asked.
+/// The value of the expression with this text, these nodes, these places of the leaves that are
+/// asked, and this need of room.
 ///
 /// The error is that `alloc` refused room for the lists that are open at once, or for the values.
 pub(crate) fn value_of<EP, T, A>(
@@ -385,23 +391,24 @@ pub(crate) fn value_of<EP, T, A>(
     text: &str,
     nodes: &[ExprNode],
     asked: &[usize],
+    room: Room,
     ep: &mut EP,
 ) -> Result<T, AllocError>
 where
     EP: FnMut(&Predicate<'_>) -> T,
     T: Logic,
     A: SmallAllocator,
-    requires fits { length nodes.now < 2 ^ 64 }
     requires keeps { Keeps text.now nodes.now asked.now }
+    requires measured { Measures (walk (map shape nodes.now) (text_list ∷ [])) room }
     requires may { MayEvaluate EP.FnMut text.now ep.old }
     ensures value { IfOk result (λ value.
         Evaluates T.Logic EP.FnMut text.now ep.old value ep.new) }
     ensures refused { OnErr result (ep.new ≡ ep.old) }
     ensures short { length text.now ≤ 32 → IsOk result }
 {
-    let (mut lists, most) = measure(alloc, nodes)?;
+    let mut lists = OpenLists::with_room(alloc, room.around)?;
     lists.push_reserved(OpenList::new(None, 1));
-    let mut values = SmallVec::with_capacity(&alloc, most)?;
+    let mut values = SmallVec::with_capacity(&alloc, room.values)?;
     let mut predicates = Predicates::new(text, nodes, asked);
     evaluate(nodes, &mut lists, &mut predicates, &mut values, ep);
     match pop_value(&mut values) {

@@ -1,6 +1,6 @@
 //! The fillings that tell whether a value is known: where it is not, the condition is true with the
 //! one and false with the other.
-ghost use Rattle.std.specs.Prelude.{◌≡◌, ◌<◌, ◌^◌, true, false, length, map};
+ghost use Rattle.std.specs.Prelude.{◌≡◌, ◌<◌, ◌∷◌, [], true, false, length, map};
 ghost use Rattle.std.specs.Prelude.{get_or, replicate, set, IfOk};
 ghost use Rattle.cfg_expr.specs.Answer.{HasOneTree};
 ghost use Rattle.cfg_expr.specs.Filling.{three_valued, PolarFillings};
@@ -8,12 +8,15 @@ ghost use Rattle.cfg_expr.specs.Fold.{fold};
 ghost use Rattle.cfg_expr.specs.Grammar.{HasTree};
 ghost use Rattle.cfg_expr.specs.Tree.{Tree, asked};
 ghost use Rattle.cfg_expr.specs.nodes.Keeps.{Keeps};
+ghost use Rattle.cfg_expr.specs.nodes.Measure.{Measures};
+ghost use Rattle.cfg_expr.specs.nodes.Steps.{shape, text_list, walk};
 ghost use Rattle.cfg_expr.specs.nodes.Parity.{reach, turned, turned_at, odd_behind, end_noted};
 ghost use Rattle.cfg_expr.specs.nodes.Parity.{pass, filled};
 
+use super::Func;
+use super::evaluating::{self, Room};
 use super::nodes::ExprNode;
 use super::predicates::Predicate;
-use super::{Func, evaluating};
 use crate::memory::SmallAllocator;
 use std::alloc::AllocError;
 
@@ -23,10 +26,11 @@ fn value_over<A: SmallAllocator>(
     text: &str,
     nodes: &[ExprNode],
     places: &[usize],
+    room: Room,
     answers: &[Option<bool>],
 ) -> Result<Option<bool>, AllocError>
-    requires fits { length nodes.now < 2 ^ 64 }
     requires keeps { Keeps text.now nodes.now places.now }
+    requires measured { Measures (walk (map shape nodes.now) (text_list ∷ [])) room }
     requires answered { (tree : Tree) × HasTree text.now tree
         × (length answers.now ≡ length (asked tree)) }
     ensures { IfOk result (λ value. (one : HasOneTree text.now)
@@ -34,7 +38,7 @@ fn value_over<A: SmallAllocator>(
 {
     let mut left = answers.iter();
     let mut answer = |_predicate: &Predicate<'_>| left.next().copied().flatten();
-    let value = evaluating::value_of(alloc, text, nodes, places, &mut answer)?;
+    let value = evaluating::value_of(alloc, text, nodes, places, room, &mut answer)?;
     Ok(value)
 }
 
@@ -115,16 +119,17 @@ pub(crate) fn polar_fillings<A: SmallAllocator>(
     text: &str,
     nodes: &[ExprNode],
     places: &[usize],
+    room: Room,
     answers: &[Option<bool>],
 ) -> Result<Option<(Vec<bool, A>, Vec<bool, A>)>, AllocError>
-    requires fits { length nodes.now < 2 ^ 64 }
     requires keeps { Keeps text.now nodes.now places.now }
+    requires measured { Measures (walk (map shape nodes.now) (text_list ∷ [])) room }
     requires answered { (tree : Tree) × HasTree text.now tree
         × (length answers.now ≡ length (asked tree)) }
     ensures { IfOk result (λ found. (one : HasOneTree text.now)
         × PolarFillings one.tree answers.now found) }
 {
-    if value_over(alloc, text, nodes, places, answers)?.is_some() {
+    if value_over(alloc, text, nodes, places, room, answers)?.is_some() {
         return Ok(None);
     }
     let odds = parities(alloc, nodes)?;

@@ -1,5 +1,5 @@
 //! The lists that are open while a walk goes over the nodes.
-ghost use Rattle.std.specs.Prelude.{◌≡◌, ◌≤◌, ◌++◌, ◌∷◌, [], reverse, OnOk, OnErr, IsOk};
+ghost use Rattle.std.specs.Prelude.{◌≡◌, ◌+◌, ◌≤◌, ◌++◌, ◌∷◌, [], max, reverse, IfOk, OnOk, IsOk};
 ghost use Rattle.smallvec.specs.SmallVec.{HasRoomFor};
 ghost use Rattle.cfg_expr.specs.nodes.Steps.{over_top, PopsEnded, with_leaf, with_function};
 
@@ -32,14 +32,23 @@ impl<A: SmallAllocator> Model for OpenLists<A> {
 }
 
 impl<A: SmallAllocator> OpenLists<A> {
-    /// No list is open.
-    pub(crate) fn new(alloc: A) -> Self
-        ensures { result ≡ record { items = []; capacity = 11 } }
+    /// No list is open, and there is room for one and so many around it.
+    pub(crate) fn with_room(alloc: A, around: usize) -> Result<Self, AllocError>
+        ensures items { IfOk result (λ lists. lists.items ≡ []) }
+        ensures capacity { IfOk result (λ lists. lists.capacity ≡ max 10 around + 1) }
+        ensures succeeds { around ≤ 10 → IsOk result }
     {
-        OpenLists {
+        Ok(OpenLists {
             innermost: None,
-            around: SmallVec::new(alloc),
-        }
+            around: SmallVec::with_capacity(alloc, around)?,
+        })
+    }
+
+    /// For how many lists around the innermost one there is room.
+    pub(crate) fn room_around(&self) -> usize
+        ensures { result + 1 ≡ self.now.capacity }
+    {
+        self.around.capacity()
     }
 
     /// Notes that a member of the innermost list is a predicate.
@@ -68,7 +77,7 @@ impl<A: SmallAllocator> OpenLists<A> {
         ensures ok { OnOk result (HasRoomFor self.new 1) }
         ensures items { self.new.items ≡ self.old.items }
         ensures capacity { self.old.capacity ≤ self.new.capacity }
-        ensures succeeds { HasRoomFor self.old 1 → IsOk result }
+        ensures had_room { HasRoomFor self.old 1 → self.new.capacity ≡ self.old.capacity }
     {
         match self.innermost {
             Some(_) => self.around.reserve(1),
@@ -100,14 +109,5 @@ impl<A: SmallAllocator> OpenLists<A> {
             }
             _ => None,
         }
-    }
-
-    /// Closes all of them.
-    pub(crate) fn clear(&mut self)
-        ensures items { self.new.items ≡ [] }
-        ensures capacity { self.new.capacity ≡ self.old.capacity }
-    {
-        self.innermost = None;
-        self.around.clear();
     }
 }

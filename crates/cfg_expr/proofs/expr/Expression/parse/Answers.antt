@@ -1,9 +1,12 @@
 -- The text is read from its start, and what is read is what the grammar answers.
-use Rattle.std.proofs.Common.{ap, ◌∙◌}
+use Rattle.std.proofs.Common.{[], ◌∷◌, ◌<◌, ◌^◌, ap, ◌∙◌, arith, length, map, subst}
 use Rattle.std.proofs.lemmas.Result.{err_from_is_err_and}
 use Rattle.cfgx_syntax.specs.Stripping.{strip}
 use Rattle.cfg_expr.proofs.Parsed.{Begins-start, Answers-fails, Answers-memory, Keeps-reads}
+use Rattle.cfg_expr.specs.nodes.Measure.{Measures}
+use Rattle.cfg_expr.specs.nodes.Steps.{shape, text_list, walk}
 use Rattle.cfg_expr.proofs.Parsed.{IsAccepted-reads}
+use Rattle.cfg_expr.proofs.evaluated.Valued.{values-fit}
 use Rattle.cfg_expr.proofs.expr.Expression.parse.Goals as goal
 
 pub returns-in_err-read_all : goal.returns-in_err-read_all
@@ -24,6 +27,26 @@ returns-in_err-original g c =
     rw p.1 (Answers-memory {A = g.row.A.Denot} (strip c.args.original.now) p.0
     c.new-lexer.ensures.one _ p.2)
 
+pub measure-requires : goal.measure-requires
+measure-requires g c =
+    let text = strip c.args.original.now in
+    let begins = Begins-start {A = g.row.A.Denot} text c.new-lexer.result c.new-parser.result
+    c.new-lexer.ensures.one c.new-lexer.ensures.starts c.new-parser.ensures.state
+    (c.new-parser.ensures.text ∙ c.original-text.ensures) in
+    let kept = Keeps-reads {A = g.row.A.Denot} text c.new-lexer.result c.new-parser.result
+    c.read_all.new.self begins c.in_ok-read_all.ensures in
+    let nodes = c.into_parts-expr.ensures.nodes in
+    let fits : length c.read_all.new.self.writer.nodes.items < 2 ^ 64 =
+    omega (arith, ap (λ v. length v.items) nodes, c.len-fits.ensures.fits) in
+    rw (c.as_slice.ensures, nodes) (values-fit _ _ _ kept fits)
+
+pub returns-in_err-room : goal.returns-in_err-room
+returns-in_err-room g c =
+    let p = err_from_is_err_and c.from_residual-in_err-room.result
+    c.from_residual-in_err-room.ensures.1 in
+    rw p.1 (Answers-memory {A = g.row.A.Denot} (strip c.args.original.now) p.0
+    c.new-lexer.ensures.one _ p.2)
+
 pub invariant_of-result : goal.invariant_of-result
 invariant_of-result g c =
     let text = strip c.args.original.now in
@@ -33,8 +56,11 @@ invariant_of-result g c =
     let kept = Keeps-reads {A = g.row.A.Denot} text c.new-lexer.result c.new-parser.result
     c.read_all.new.self begins c.in_ok-read_all.ensures in
     let same = c.in_ok-original.ensures.ok ∙ c.original-text.ensures
-    ∙ ap (λ l. l.text) c.new-lexer.ensures.starts in
-    rw (same, c.into_parts-expr.ensures.nodes, c.into_parts-expr.ensures.asked) kept
+    ∙ ap (λ l. l.text) c.new-lexer.ensures.starts in (
+      rw (same, c.into_parts-expr.ensures.nodes, c.into_parts-expr.ensures.asked) kept,
+      subst (λ nodes. Measures (walk (map shape nodes) (text_list ∷ [])) c.in_ok-room.room)
+          c.as_slice.ensures c.in_ok-room.ensures,
+    )
 
 pub returns : goal.returns
 returns g c =

@@ -12,9 +12,9 @@ use Rattle.cfg_expr.proofs.expr.Expression.polar_fillings.Goals as goal
 pub returns-clause-exact : goal.returns-clause-exact
 returns-clause-exact g c =
     let text = c.original.result.now in
-    let tree = c.self.invariant.tree in
+    let tree = c.self.invariant.0.tree in
     let has = subst (λ (bytes : List ℕ). HasTree bytes tree)
-    (c.self.view_is ∙ sym c.original.ensures) c.self.invariant.has_tree in
+    (c.self.view_is ∙ sym c.original.ensures) c.self.invariant.0.has_tree in
     let one = subst HasOneTree c.original.ensures
     (HasOneTree-tree text (HasOneTokenList-of text c.original.utf8) tree has) in
     (one, IsExact-fold one.tree)

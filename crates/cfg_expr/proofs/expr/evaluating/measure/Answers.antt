@@ -1,5 +1,5 @@
 -- Each node is counted as the walk has it.
-use Rattle.std.proofs.Common.{[], ◌∷◌, map, rules}
+use Rattle.std.proofs.Common.{[], ◌∷◌, map}
 use Rattle.cfg_expr.specs.nodes.Steps.{shape, walk, text_list}
 use Rattle.cfg_expr.proofs.evaluated.Measuring.{IsMeasured-at, IsMeasured-counts, IsMeasured-next}
 use Rattle.cfg_expr.proofs.expr.evaluating.measure.Goals as goal
@@ -18,4 +18,4 @@ loop-node-preserved g c =
     c.loop-node.node-index _ c.loop-node-test.true c.loop-node.invariant in
     let entered = c.in_ok-enter.ensures in
     IsMeasured-next all c.loop-node.heights c.enter.new.self c.loop-node.lists c.enter.new.lists
-    _ _ at entered.lists entered.heights entered.room entered.capacity
+    _ _ at entered.lists entered.heights entered.room entered.capacity entered.had_room
