@@ -217,6 +217,7 @@ impl<A: SmallAllocator> Expression<A> {
     ) -> Result<Option<(Vec<bool, A>, Vec<bool, A>)>, AllocError>
         requires { (tree : Tree) × HasTree self.now tree
             × (length answers.now ≡ length (asked tree)) }
+        // This holds of all answers to the text's one tree, also where memory runs out.
         ensures exact { (one : HasOneTree self.now) × ((given : List (Option Bool))
             → length given ≡ length (asked one.tree) → IsExact one.tree given) }
         ensures fillings { IfOk result (λ found. (one : HasOneTree self.now)

@@ -11,6 +11,7 @@ pub mod evaluating;
 mod faults;
 #[cfg(test)]
 mod fields;
+pub mod filling;
 #[cfg(test)]
 mod lexer;
 #[cfg(test)]

@@ -1,0 +1,69 @@
+-- The planner relies on the clauses of `polar_fillings` at its own answers.
+use Rattle.std.proofs.Common.{◌≡◌, ◌∙◌, ℕ, Bool, List, Option, Global, ap, length}
+use Rattle.std.proofs.Common.{subst, sym}
+use Rattle.std.specs.Prelude.{Vec}
+use Rattle.cfg_expr.specs.Answer.{HasOneTree}
+use Rattle.cfg_expr.specs.Filling.{IsExact, PolarFillings, three_valued, two_valued}
+use Rattle.cfg_expr.specs.Fold.{fold}
+use Rattle.cfg_expr.specs.Grammar.{HasTree}
+use Rattle.cfg_expr.specs.Tree.{Tree, asked}
+use Rattle.cfgx_vectors.proofs.filling.plan.Goals as goal
+
+-- two vectors of truth values, or nothing
+abbrev Fillings : Type 0
+Fillings = Option (Vec Bool Global × Vec Bool Global)
+
+-- what the clauses of `polar_fillings` say, of one tree
+record AreFound (text : List ℕ) (answers : List (Option Bool)) (found : Fillings) : Type 0 where
+  one : HasOneTree text
+  exact : IsExact one.tree answers
+  fillings : PolarFillings one.tree answers found
+
+AreFound-clauses : (text : List ℕ) (answers : List (Option Bool)) (found shown : Fillings)
+    → found ≡ shown
+    → (tree : Tree) × HasTree text tree × (length answers ≡ length (asked tree))
+    → (one : HasOneTree text) × ((given : List (Option Bool))
+    → length given ≡ length (asked one.tree) → IsExact one.tree given)
+    → (one : HasOneTree text) × PolarFillings one.tree answers found
+    → AreFound text answers shown
+AreFound-clauses text answers found shown is given exact fillings =
+    let one = exact.0 in
+    let many = given.2 ∙ ap (λ tree. length (asked tree)) (one.only given.0 given.1) in
+    let same = one.only fillings.0.tree fillings.0.has_tree in
+    record {
+      one = one;
+      exact = exact.1 answers many;
+      fillings = subst (PolarFillings one.tree answers) is
+          (subst (λ (tree : Tree). PolarFillings tree answers found) same fillings.1);
+    }
+
+pub returns-in-Some : goal.returns-in-Some
+returns-in-Some c =
+    let clauses = c.in_ok-with_true.ensures in
+    let found = AreFound-clauses _ c.args.answers.now _ _ c.in-Some.is c.requires clauses.exact
+    clauses.fillings in
+    let sides = found.exact.unknown.0 found.fillings.0 in
+    let value = fold two_valued found.one.tree in
+    (found.one, (ap value found.fillings.1 ∙ sides.0, ap value found.fillings.2 ∙ sides.1))
+
+pub unreachable-requires : goal.unreachable-requires
+unreachable-requires c =
+    let answers = c.args.answers.now in
+    let clauses = c.in_ok-with_true.ensures in
+    let found = AreFound-clauses _ answers _ _ c.in_default.is c.requires clauses.exact
+    clauses.fillings in
+    let value = c.in_ok-value.ensures in
+    let same = found.one.only value.0.tree value.0.has_tree in
+    let is = value.1 ∙ ap (λ tree. fold three_valued tree answers) same ∙ found.fillings.1 in
+    absurd (cc (is, c.in-None.is))
+
+pub returns : goal.returns
+returns c =
+    let answers = c.args.answers.now in
+    let clauses = c.in_ok-with_true.ensures in
+    let found = AreFound-clauses _ answers _ _ c.in_default.is c.requires clauses.exact
+    clauses.fillings in
+    let value = c.in_ok-value.ensures in
+    let same = found.one.only value.0.tree value.0.has_tree in
+    let is = value.1 ∙ ap (λ tree. fold three_valued tree answers) same in
+    (found.one, (found.exact.known _).0 (sym is ∙ c.in-Some-2.is))
