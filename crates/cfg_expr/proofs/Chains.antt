@@ -2,6 +2,7 @@
 use Rattle.std.proofs.Common.{◌≡◌, ℕ, suc, List, [], ◌∷◌, length, map, refl, ap, ◌∙◌}
 use Rattle.std.proofs.Common.{sym}
 use Rattle.std.specs.Prelude.{fold}
+use Rattle.std.specs.List.{AllZip}
 use Rattle.cfg_expr.specs.Question.{Question}
 use Rattle.cfg_expr.specs.Tree.{asked}
 use Rattle.cfg_expr.specs.Fold.{Operations}
@@ -32,6 +33,21 @@ Calls-map asker answer each _ _ _ _
     let first = each before question given between asks in
     let others = Calls-map asker answer each between questions answers after calls in
     cc
+
+-- where each call keeps what holds of the closure, and its answer stands in a relation to its
+-- question, so do all the answers to all the questions
+pub Calls-AllZip : {F T : Type 0} (asker : Asker F T) (Holds : F → Type 0)
+    (R : Question → T → Type 0)
+    → ((before : F) (question : Question) (given : T) (after : F) → Holds before
+    → Asks asker before question given after → R question given × Holds after)
+    → (before : F) (questions : List Question) (answers : List T) (after : F) → Holds before
+    → Calls asker before questions answers after → AllZip R questions answers
+Calls-AllZip asker Holds R each before questions answers after holds (Calls.none state) = tt
+Calls-AllZip asker Holds R each _ _ _ _ holds
+    (Calls.more before question given between questions answers after
+    asks calls) =
+    let first = each before question given between holds asks in
+    (first.0, Calls-AllZip asker Holds R each between questions answers after first.1 calls)
 
 -- where each call takes what is seen of the closure to what a function makes of it and of the
 -- question, the chain takes it to the fold of that function over the questions
