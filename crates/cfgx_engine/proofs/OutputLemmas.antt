@@ -64,7 +64,8 @@ pub HasValueOn-row : {A : Type 0} (text shown : List ℕ) (row : TargetInfo A)
 HasValueOn-row text shown row one answers value is answered value_is = (
   one_tree shown (strip text) is one,
   value_is
-      ∙ ap (fold three_valued one.tree) (map-AllZip (answer_on row) (asked one.tree) answers answered),
+      ∙ ap (fold three_valued one.tree)
+      (map-AllZip (answer_on row) (asked one.tree) answers answered),
 )
 
 -- an answer shows its value, or the fault that is in its place

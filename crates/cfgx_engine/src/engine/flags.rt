@@ -69,8 +69,8 @@ fn is_same(one: &Predicate<'_>, other: &Predicate<'_>) -> bool
     one == other
 }
 
-/// Whether a predicate that a flag names is the one that is asked. It is dropped here and not in the
-/// loop, whose proof would go by its kinds.
+/// Whether a predicate that a flag names is the one that is asked. It is dropped here, since the
+/// proof of a loop that drops it would go by its kinds.
 fn is_asked(named: Predicate<'_>, asked: &Predicate<'_>) -> bool
     ensures { IsTrue result ↔ (question_of named.entry ≡ question_of asked.now) }
 {

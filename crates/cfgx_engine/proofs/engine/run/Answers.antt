@@ -5,4 +5,5 @@ use Rattle.cfgx_engine.proofs.engine.run.Goals as goal
 
 pub write_answer-requires-clause-status : goal.write_answer-requires-clause-status
 write_answer-requires-clause-status g c =
-    Prints-status (request_of (texts c.args.words.now)) (output_of {A = g.row.A.Denot} c.in-Ok.answer) c.in-Ok.ensures.right
+    Prints-status (request_of (texts c.args.words.now))
+    (output_of {A = g.row.A.Denot} c.in-Ok.answer) c.in-Ok.ensures.right

@@ -14,7 +14,8 @@ returns-in-Some g c =
     let triple = c.args.triple.now in
     let text = c.args.text.now in
     let row = c.in-Some.row.now in
-    let found = c.in-Some.ensures ∙ ap (row_with {A = g.row.A.Denot} triple) c.in_ok-table.ensures in
+    let found = c.in-Some.ensures
+    ∙ ap (row_with {A = g.row.A.Denot} triple) c.in_ok-table.ensures in
     IfOk-weaker c.value_answer.result
     (λ (a : Answer g.row.A.Denot). ShowsResult {A = g.row.A.Denot} c.value_on.result (output_of a))
     (λ (a : Answer g.row.A.Denot). Prints (Request.target triple text) (output_of a))
@@ -26,6 +27,7 @@ returns-in-Some g c =
 pub returns : goal.returns
 returns g c =
     let triple = c.args.triple.now in
-    let found = c.in-None.ensures ∙ ap (row_with {A = g.row.A.Denot} triple) c.in_ok-table.ensures in
+    let found = c.in-None.ensures
+    ∙ ap (row_with {A = g.row.A.Denot} triple) c.in_ok-table.ensures in
     Prints-unknown g.row.A.Denot triple c.args.text.now (output_of c.constant.result) found
     c.constant.ensures

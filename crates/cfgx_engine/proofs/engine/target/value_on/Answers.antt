@@ -19,7 +19,8 @@ returns g c =
     (λ before question given after holds asks.
     let met = asks.called.met in
     let answers : given ≡ answer_on before.0.now (question_of asks.shown.now) = search rules in (
-      answers ∙ ap (λ (r : TargetInfo g.row.A.Denot). answer_on r (question_of asks.shown.now)) holds
+      answers
+          ∙ ap (λ (r : TargetInfo g.row.A.Denot). answer_on r (question_of asks.shown.now)) holds
           ∙ ap (answer_on row) asks.shows,
       search rules,
     ))

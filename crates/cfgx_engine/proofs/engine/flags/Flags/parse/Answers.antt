@@ -4,7 +4,8 @@ use Rattle.std.proofs.lemmas.Result.{err_from_is_err_and}
 use Rattle.cfgx_engine.specs.Answer.{AreFlags, BlamesFirst}
 use Rattle.cfgx_engine.specs.Flags.{flag_text}
 use Rattle.cfgx_engine.specs.Output.{texts}
-use Rattle.cfgx_engine.proofs.FlagLemmas.{AreFlags-more, BlamesFirst-later, take-texts, texts-around}
+use Rattle.cfgx_engine.proofs.FlagLemmas.{AreFlags-more, BlamesFirst-later}
+use Rattle.cfgx_engine.proofs.FlagLemmas.{take-texts, texts-around}
 use Rattle.cfgx_engine.proofs.engine.flags.Flags.parse.Goals as goal
 
 -- the words in front of the faulty one have a tree each
