@@ -1,1 +1,4 @@
+pub mod FlagLemmas
+pub mod Members
 pub mod OutputLemmas
+pub mod RowLemmas

@@ -1,84 +1,131 @@
--- Outputs by their parts, and what each status says of them.
-use Rattle.std.proofs.Common.{◌≡◌, ℕ, Bool, true, false, List, [], ◌∷◌, ◌++◌, if◌then◌else◌}
-use Rattle.std.proofs.Common.{refl, ap, sym, subst, ◌∙◌, inl, inr, ⊎_elim, arith}
-use Rattle.std.specs.Prelude.{codes, Option, ◌⊎◌}
-use Rattle.std.specs.Str.{bytes_eq}
-use Rattle.std.specs.Io.KnownBytes.{Appends}
-use Rattle.std.proofs.lemmas.Slice.Eq.{bytes_eq-Decides}
-use Rattle.cfgx_syntax.specs.Stripping.{strip}
+-- Outputs by their parts.
+use Rattle.std.proofs.Common.{◌≡◌, ℕ, ◌<◌, Bool, List, [], ◌∷◌}
+use Rattle.std.proofs.Common.{refl, ap, sym, subst, ◌∙◌, inl, inr, ⊎_elim, arith, Option, map}
+use Rattle.std.specs.Prelude.{Result, Ok, Err, Some, None, MatchOption, ◌⊎◌}
+use Rattle.std.specs.declared.alloc.Global.{Global}
+use Rattle.std.specs.List.{AllZip}
+use Rattle.cfgx_syntax.specs.declared.error.Failure.{Failure}
+use Rattle.cfgx_syntax.specs.declared.error.Failure.TheVariants as failure
+use Rattle.cfgx_targets.specs.Builtins.{builtin_rows}
+use Rattle.cfgx_targets.specs.Table.{row_with}
+use Rattle.cfgx_targets.specs.declared.info.TargetInfo.{TargetInfo}
 use Rattle.cfg_expr.specs.Question.{Question}
+use Rattle.cfgx_syntax.specs.Stripping.{strip}
 use Rattle.cfg_expr.specs.Tree.{Tree, asked}
 use Rattle.cfg_expr.specs.Grammar.{HasTree}
 use Rattle.cfg_expr.specs.Answer.{HasOneTree}
-use Rattle.cfgx_engine.specs.Output.{Output, Request, request_of, lines, Lists, Refuses, Prints}
-use Rattle.cfgx_engine.specs.Output.{ListsPredicates, PrintsFault}
+use Rattle.cfg_expr.specs.Filling.{three_valued}
+use Rattle.cfg_expr.specs.Fold.{fold}
+use Rattle.cfgx_engine.specs.Answer.{AreFlags, GivesValue, ShowsResult}
+use Rattle.cfgx_engine.specs.Flags.{IsAnswer, flag_text, unknown_texts}
+use Rattle.cfgx_engine.specs.Output.{Output, Request, HasValue, HasValueOn, Shows, answer_on}
+use Rattle.cfgx_engine.specs.Output.{lines, unknown_triple, Lists, Prints, Refuses, RefusesFirst}
+use Rattle.cfgx_engine.specs.declared.engine.flags.Flags.{Flags}
 
-abbrev pub output : List ℕ → ℕ → Output
-output bytes status = record { bytes = bytes; status = status }
+-- the one tree of a text is that of an equal one
+abbrev pub one_tree : (shown text : List ℕ) → shown ≡ text → HasOneTree shown → HasOneTree text
+one_tree shown text is one = record {
+  tree = one.tree;
+  has_tree = subst (λ t. HasTree t one.tree) is one.has_tree;
+  only = λ other has. one.only other (subst (λ t. HasTree t other) (sym is) has);
+}
+
+-- the value over the answers of the flags
+pub HasValue-flags : {A : Type 0} (text shown : List ℕ) (words : List (List ℕ)) (flags : Flags A)
+    (one : HasOneTree shown) (answers : List (Option Bool)) (value : Option Bool)
+    → shown ≡ strip text → AreFlags {A = A} words flags
+    → AllZip (IsAnswer flags.known.items flags.unknown.items) (asked one.tree) answers
+    → value ≡ fold three_valued one.tree answers → HasValue text words value
+HasValue-flags text shown words flags one answers value is are answered value_is = record {
+  one = one_tree shown (strip text) is one;
+  each_flag = are.each;
+  answers = answers;
+  are_answers = subst (λ known. AllZip (IsAnswer known (unknown_texts words)) (asked one.tree)
+      answers) are.known_are (subst (λ unknown. AllZip (IsAnswer flags.known.items unknown)
+      (asked one.tree) answers) are.unknown_are answered);
+  value_is = value_is;
+}
+
+-- what a list of answers is, where each one is a function of its question
+pub map-AllZip : {X Y : Type 0} (f : X → Y) (xs : List X) (ys : List Y)
+    → AllZip (λ x y. y ≡ f x) xs ys → ys ≡ map f xs
+map-AllZip f [] [] each = refl
+map-AllZip f [] (y ∷ ys) each = absurd each
+map-AllZip f (x ∷ xs) [] each = absurd each
+map-AllZip f (x ∷ xs) (y ∷ ys) each =
+    let others = map-AllZip f xs ys each.1 in let first = each.0 in cc
+
+-- the value over the answers of a target
+pub HasValueOn-row : {A : Type 0} (text shown : List ℕ) (row : TargetInfo A)
+    (one : HasOneTree shown) (answers : List (Option Bool)) (value : Option Bool)
+    → shown ≡ strip text → AllZip (λ question given. given ≡ answer_on row question)
+    (asked one.tree) answers
+    → value ≡ fold three_valued one.tree answers → HasValueOn row text value
+HasValueOn-row text shown row one answers value is answered value_is = (
+  one_tree shown (strip text) is one,
+  value_is
+      ∙ ap (fold three_valued one.tree)
+      (map-AllZip (answer_on row) (asked one.tree) answers answered),
+)
+
+-- an answer shows its value, or the fault that is in its place
+pub Shows-result : {A : Type 0} (IsValue : Option Bool → Type 0) (texts : List (List ℕ))
+    (result : Result (Option Bool) (Failure A)) (shown : Output)
+    → GivesValue {A = A} IsValue texts result → ShowsResult {A = A} result shown
+    → Shows IsValue shown ⊎ RefusesFirst texts shown
+Shows-result IsValue texts (Ok value) shown gives shows = inl (value, gives, shows)
+Shows-result IsValue texts (Err (failure.Parse error)) shown gives shows =
+    inr (subst (RefusesFirst texts) (sym shows) gives)
+Shows-result IsValue texts (Err (failure.Memory error)) shown gives shows = absurd shows
+
+pub Refuses-one : (text : List ℕ) (shown : Output) → RefusesFirst (text ∷ []) shown
+    → Refuses text shown
+Refuses-one text shown refused = ⊎_elim (λ this. this) (λ none. absurd none.1) refused
 
 -- what any tree of the text asks is what its one tree asks
-pub lists_one : (text : List ℕ) {shown written : List ℕ} {questions : List Question}
-    → HasOneTree (strip text) → shown ≡ strip text
-    → (tree : Tree) × HasTree shown tree × (questions ≡ asked tree)
-    → written ≡ lines questions → Lists text (output written 0)
-lists_one text {shown} {written} {questions} one is_shown asks is_written =
-    let has_tree = subst (λ bytes. HasTree bytes asks.0) is_shown asks.1 in
-    let same = ap (λ tree. lines (asked tree)) (one.only asks.0 has_tree) in
-    (one, ap (λ bytes. output bytes 0) (is_written ∙ ap lines asks.2 ∙ same))
+pub Lists-one : (text shown written : List ℕ) (questions : List Question) → shown ≡ strip text
+    → HasOneTree shown → (tree : Tree) × HasTree shown tree × (questions ≡ asked tree)
+    → written ≡ lines questions → Lists text (record { bytes = written; status = 0 })
+Lists-one text shown written questions is one asks is_written =
+    let same = ap (λ tree. lines (asked tree)) (one.only asks.0 asks.1) in (
+      one_tree shown (strip text) is one,
+      ap (λ (bytes : List ℕ). record { bytes = bytes; status = 0 })
+          (is_written ∙ ap lines asks.2 ∙ same),
+    )
 
--- the words are `parse` and a text, and print this
-abbrev Parses : List (List ℕ) → Output → Type 0
-Parses words shown =
-    (text : List ℕ) × (words ≡ codes "parse" ∷ text ∷ []) × Prints (Request.parse text) shown
+-- the status of an output by its kind
+Shows-status : (IsValue : Option Bool → Type 0) (shown : Output) → Shows IsValue shown
+    → shown.status < 3
+Shows-status IsValue shown shows = omega (arith, ap (λ (o : Output). o.status) shows.2)
 
--- where two words print this, the first is `parse`, or they are wrong use
-named : (name text : List ℕ) (shown : Output) (is_parse : Bool)
-    → (is_parse ≡ true → name ≡ codes "parse")
-    → Prints (if is_parse then Request.parse text else Request.wrong_use) shown
-    → Parses (name ∷ text ∷ []) shown ⊎ Prints Request.wrong_use shown
-named name text shown true is prints =
-    inl (text, ap (λ word. word ∷ text ∷ []) (is refl), prints)
-named name text shown false is prints = inr prints
+Refuses-status : (text : List ℕ) (shown : Output) → Refuses text shown → shown.status < 3
+Refuses-status text shown refused = omega (arith, ap (λ (o : Output). o.status) refused.2)
 
-parsed : (words : List (List ℕ)) (shown : Output) → Prints (request_of words) shown
-    → Parses words shown ⊎ Prints Request.wrong_use shown
-parsed [] shown prints = inr prints
-parsed (name ∷ []) shown prints = inr prints
-parsed (name ∷ text ∷ []) shown prints =
-    let is = (bytes_eq-Decides name (codes "parse")).0 in
-    named name text shown (bytes_eq name (codes "parse")) is prints
-parsed (name ∷ text ∷ more ∷ others) shown prints = inr prints
+RefusesFirst-status : (texts : List (List ℕ)) (shown : Output) → RefusesFirst texts shown
+    → shown.status < 3
+RefusesFirst-status [] shown refused = absurd refused
+RefusesFirst-status (text ∷ texts) shown refused =
+    ⊎_elim (λ this. Refuses-status text shown this)
+    (λ later. RefusesFirst-status texts shown later.1) refused
 
--- an output has one status
-other_status : {A : Type 0} {shown : Output} {bytes : List ℕ} {status wanted : ℕ}
-    → shown ≡ output bytes status → shown.status ≡ wanted → (status ≡ wanted → ⊥) → A
-other_status is_shown is_wanted differs =
-    absurd (differs (sym (ap (λ o. o.status) is_shown) ∙ is_wanted))
+target-status : (text : List ℕ) (shown : Output) (row : Option (TargetInfo Global))
+    → MatchOption row (shown ≡ unknown_triple)
+    (λ row. Shows (HasValueOn row text) shown ⊎ Refuses text shown)
+    → shown.status < 3
+target-status text shown None is = omega (arith, ap (λ (o : Output). o.status) is)
+target-status text shown (Some row) prints =
+    ⊎_elim (λ s. Shows-status (HasValueOn row text) shown s) (λ r. Refuses-status text shown r)
+    prints
 
--- with status 0 the words are `parse` and a text with one tree
-pub lists_predicates : (words : List (List ℕ)) (shown : Output) (old new : Option (List ℕ))
-    → Prints (request_of words) shown → shown.status ≡ 0 → Appends old new shown.bytes
-    → ListsPredicates words old new
-lists_predicates words shown old new prints is_status taken =
-    ⊎_elim (λ p. ⊎_elim (λ l. record {
-      text = p.0;
-      are_words = p.1;
-      one = l.0;
-      written = subst (λ o. Appends old new o.bytes) l.1 taken;
-    })
-    (λ r. other_status r.2 is_status (λ e. omega (arith, e))) p.2)
-    (λ w. other_status w is_status (λ e. omega (arith, e))) (parsed words shown prints)
-
--- with status 1 they are `parse` and a text with no tree
-pub prints_fault : (words : List (List ℕ)) (shown : Output) (old new : Option (List ℕ))
-    → Prints (request_of words) shown → shown.status ≡ 1 → Appends old new shown.bytes
-    → PrintsFault words old new
-prints_fault words shown old new prints is_status taken =
-    ⊎_elim (λ p. ⊎_elim (λ l. other_status l.1 is_status (λ e. omega (arith, e))) (λ r. record {
-      text = p.0;
-      are_words = p.1;
-      fault = r.0;
-      refused = r.1;
-      written = subst (λ o. Appends old new o.bytes) r.2 taken;
-    }) p.2)
-    (λ w. other_status w is_status (λ e. omega (arith, e))) (parsed words shown prints)
+-- no output has the status of a refused run
+pub Prints-status : (request : Request) (shown : Output) → Prints request shown
+    → shown.status < 3
+Prints-status (Request.parse text) shown prints =
+    ⊎_elim (λ l. omega (arith, ap (λ (o : Output). o.status) l.1))
+    (λ r. Refuses-status text shown r) prints
+Prints-status (Request.eval text flags) shown prints =
+    ⊎_elim (λ s. Shows-status (HasValue text flags) shown s)
+    (λ r. RefusesFirst-status (text ∷ map flag_text flags) shown r) prints
+Prints-status (Request.target triple text) shown prints =
+    target-status text shown (row_with {A = Global} triple builtin_rows) prints
+Prints-status Request.wrong_use shown is = omega (arith, ap (λ (o : Output). o.status) is)

@@ -1,14 +1,64 @@
 -- What the engine's own types stand for.
-use Rattle.std.specs.Cow.{cow_str_bytes}
-use Rattle.cfgx_engine.specs.Output.{Output, Request}
+use Rattle.std.specs.Prelude.{◌≡◌, ℕ, List, [], ◌∷◌, ◌++◌, Bool, Option, Result, Ok, Err, map}
+use Rattle.std.specs.Cow.{cow_slice_items}
+use Rattle.std.specs.List.{AllByRecursion}
+use Rattle.cfgx_syntax.specs.Stripping.{strip}
+use Rattle.cfgx_syntax.specs.Error.{fault_of}
+use Rattle.cfgx_syntax.specs.declared.error.Failure.{Failure}
+use Rattle.cfgx_syntax.specs.declared.error.Failure.TheVariants as failure
+use Rattle.cfg_expr.specs.Answer.{HasOneTree}
+use Rattle.cfgx_engine.specs.Flags.{flag_text, known_texts, unknown_texts}
+use Rattle.cfgx_engine.specs.Output.{Output, Request, RefusesFirst, fault_output, texts}
+use Rattle.cfgx_engine.specs.Output.{value_output}
 use Rattle.cfgx_engine.specs.declared.engine.answer.Answer.{Answer}
 use Rattle.cfgx_engine.specs.declared.engine.answer.Command.{Command}
 use Rattle.cfgx_engine.specs.declared.engine.answer.Command.TheVariants as command
+use Rattle.cfgx_engine.specs.declared.engine.flags.Flags.{Flags}
 
 -- the request of a command, without where its texts lie in memory
 abbrev pub asked_by : Command → Request
 asked_by (command.Parse text) = Request.parse text.now
+asked_by (command.Eval text flags) = Request.eval text.now (texts flags.now)
+asked_by (command.Target triple text) = Request.target triple.now text.now
 asked_by command.WrongUse = Request.wrong_use
 
 abbrev pub output_of : {A : Type 0} → Answer A → Output
-output_of answer = record { bytes = cow_str_bytes answer.text; status = answer.status }
+output_of answer = record { bytes = cow_slice_items answer.bytes; status = answer.status }
+
+-- the output of a fault; want of memory has none
+abbrev pub ShowsFailure : {A : Type 0} → Failure A → Output → Type 0
+ShowsFailure (failure.Parse error) output = output ≡ fault_output (fault_of error)
+ShowsFailure (failure.Memory error) output = ⊥
+
+-- the output of a value, or of a failure
+abbrev pub ShowsResult : {A : Type 0} → Result (Option Bool) (Failure A) → Output → Type 0
+ShowsResult (Ok value) output = output ≡ value_output value
+ShowsResult (Err failed) output = ShowsFailure failed output
+
+-- a fault is that of the first of the texts that has no tree
+abbrev pub BlamesFirst : {A : Type 0} → List (List ℕ) → Failure A → Type 0
+BlamesFirst texts (failure.Parse error) = RefusesFirst texts (fault_output (fault_of error))
+BlamesFirst texts (failure.Memory error) = Unit {0}
+
+-- a value of which this holds, or a fault of the first of the texts that has no tree
+abbrev pub GivesValue : {A : Type 0} → (Option Bool → Type 0) → List (List ℕ)
+    → Result (Option Bool) (Failure A) → Type 0
+GivesValue IsValue texts (Ok value) = IsValue value
+GivesValue IsValue texts (Err failed) = BlamesFirst texts failed
+
+-- the flag of a word, which has one tree, is added to those of its kind
+pub record AddsFlag {A : Type 0} (word : List ℕ) (old new : Flags A) : Type 0 where
+  pub one : HasOneTree (strip (flag_text word))
+  pub known_are : new.known.items ≡ old.known.items ++ known_texts (word ∷ [])
+  pub unknown_are : new.unknown.items ≡ old.unknown.items ++ unknown_texts (word ∷ [])
+
+-- the flags of the words, which have one tree each, by their kinds
+pub record AreFlags {A : Type 0} (words : List (List ℕ)) (flags : Flags A) : Type 0 where
+  pub each : AllByRecursion (λ word. HasOneTree (strip (flag_text word))) words
+  pub known_are : flags.known.items ≡ known_texts words
+  pub unknown_are : flags.unknown.items ≡ unknown_texts words
+
+-- the flags of the words, or a fault of the first word that has no tree
+abbrev pub ReadsFlags : {A : Type 0} → List (List ℕ) → Result (Flags A) (Failure A) → Type 0
+ReadsFlags words (Ok flags) = AreFlags words flags
+ReadsFlags words (Err failed) = BlamesFirst (map flag_text words) failed

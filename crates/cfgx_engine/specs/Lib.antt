@@ -1,3 +1,4 @@
 pub mod Answer
+pub mod Flags
 pub mod Output
 pub mod Streams

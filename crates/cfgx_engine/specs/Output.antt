@@ -1,35 +1,36 @@
 -- What the program cfgx writes, and the status that it ends with, by cases on what it is asked.
--- Source of the rules: docs/RULES.md. Those of the crate cfg-expr stand behind what a predicate and
--- a fault are.
-use Rattle.std.specs.Prelude.{◌≡◌, ℕ, List, [], ◌∷◌, ◌++◌, codes, map, Option, ◌⊎◌, if◌then◌else◌}
+-- Source of the rules: docs/RULES.md. Those of the crate cfg-expr stand behind what a predicate, a
+-- value and a fault are.
+use Rattle.std.specs.Prelude.{◌≡◌, ℕ, Bool, true, false, List, [], ◌∷◌, ◌++◌, codes, map, ◌⊎◌}
+use Rattle.std.specs.Prelude.{Option, Some, None, MatchOption, if◌then◌else◌}
 use Rattle.std.specs.Borrow.{Bor}
-use Rattle.std.specs.List.{flat_map}
+use Rattle.std.specs.List.{AllByRecursion, AllZip, flat_map}
 use Rattle.std.specs.Str.{bytes_eq}
 use Rattle.std.specs.Io.KnownBytes.{Appends}
+use Rattle.std.specs.declared.alloc.Global.{Global}
 use Rattle.cfgx_syntax.specs.Stripping.{strip}
-use Rattle.cfgx_syntax.specs.Error.{Refusal, fault_in, error_text}
+use Rattle.cfgx_syntax.specs.Error.{Fault, Refusal, fault_in, error_text}
+use Rattle.cfgx_targets.specs.Builtins.{builtin_rows}
+use Rattle.cfgx_targets.specs.Table.{row_with}
+use Rattle.cfgx_targets.specs.declared.info.TargetInfo.{TargetInfo}
 use Rattle.cfg_expr.specs.Question.{Question}
 use Rattle.cfg_expr.specs.Tree.{asked}
 use Rattle.cfg_expr.specs.Answer.{HasOneTree, IsRefused}
+use Rattle.cfg_expr.specs.Filling.{three_valued}
+use Rattle.cfg_expr.specs.Fold.{fold}
+use Rattle.cfg_expr.specs.Matching.{meets}
 use Rattle.cfg_expr.specs.Spelling.{spelling}
+use Rattle.cfgx_engine.specs.Flags.{IsAnswer, flag_text, known_texts, unknown_texts}
 use Rattle.cfgx_engine.specs.Streams.{TakesFront}
-
--- a predicate's spelling and a line feed
-abbrev pub line : Question → List ℕ
-line question = spelling question ++ codes "\n"
-
--- one line for each predicate, in order
-abbrev pub lines : List Question → List ℕ
-lines questions = flat_map line questions
-
--- what is written on wrong use
-abbrev pub usage_line : List ℕ
-usage_line = codes "usage: cfgx parse TEXT | eval TEXT FLAG.. | target TRIPLE TEXT | pick TRIPLE\n"
 
 -- what the words behind the program's name ask for
 pub data Request : Type 0 where
   -- the predicates of a text
   parse : List ℕ → Request
+  -- the value of a text, where flags say which predicates are true and which are unknown
+  eval : List ℕ → List (List ℕ) → Request
+  -- the value of a text on the target with a triple
+  target : List ℕ → List ℕ → Request
   -- no word, no command, or another number of words than the command has
   wrong_use : Request
 
@@ -37,33 +38,111 @@ pub data Request : Type 0 where
 abbrev pub texts : List (Bor (List ℕ)) → List (List ℕ)
 texts words = map (λ word. word.now) words
 
+-- `parse` and these words
+abbrev pub parse_request : List (List ℕ) → Request
+parse_request (text ∷ []) = Request.parse text
+parse_request words = Request.wrong_use
+
+-- `eval` and these words
+abbrev pub eval_request : List (List ℕ) → Request
+eval_request [] = Request.wrong_use
+eval_request (text ∷ flags) = Request.eval text flags
+
+-- `target` and these words
+abbrev pub target_request : List (List ℕ) → Request
+target_request (triple ∷ text ∷ []) = Request.target triple text
+target_request words = Request.wrong_use
+
 abbrev pub request_of : List (List ℕ) → Request
-request_of (name ∷ text ∷ []) =
-    if bytes_eq name (codes "parse") then Request.parse text else Request.wrong_use
-request_of words = Request.wrong_use
+request_of [] = Request.wrong_use
+request_of (name ∷ words) =
+    if bytes_eq name (codes "parse") then parse_request words
+    else if bytes_eq name (codes "eval") then eval_request words
+    else if bytes_eq name (codes "target") then target_request words
+    else Request.wrong_use
 
 -- what a run writes where memory is found and no call fails, and the status that it then ends with
 pub record Output : Type 0 where
   pub bytes : List ℕ
   pub status : ℕ
 
+-- a text and a line feed
+abbrev pub line : List ℕ → List ℕ
+line text = text ++ codes "\n"
+
+-- one line for each predicate, in order
+abbrev pub lines : List Question → List ℕ
+lines questions = flat_map (λ question. line (spelling question)) questions
+
+abbrev pub value_text : Option Bool → List ℕ
+value_text (Some true) = codes "true"
+value_text (Some false) = codes "false"
+value_text None = codes "unknown"
+
+-- what is written on wrong use
+abbrev pub usage_line : List ℕ
+usage_line = codes "usage: cfgx parse TEXT | eval TEXT FLAG.. | target TRIPLE TEXT | pick TRIPLE\n"
+
+abbrev pub usage : Output
+usage = record { bytes = usage_line; status = 2 }
+
+abbrev pub unknown_triple : Output
+unknown_triple = record { bytes = line (codes "unknown triple"); status = 2 }
+
+abbrev pub value_output : Option Bool → Output
+value_output value = record { bytes = line (value_text value); status = 0 }
+
+abbrev pub fault_output : Fault → Output
+fault_output fault = record { bytes = line (error_text fault); status = 1 }
+
+-- the first fault of the text is written, which has no tree
+abbrev pub Refuses : List ℕ → Output → Type 0
+Refuses text output = (fault : Refusal) × IsRefused (strip text) fault
+    × (output ≡ fault_output (fault_in (strip text) fault))
+
+-- the same of the first of the texts that has no tree
+abbrev pub RefusesFirst : List (List ℕ) → Output → Type 0
+RefusesFirst [] output = ⊥
+RefusesFirst (text ∷ others) output =
+    Refuses text output ⊎ (HasOneTree (strip text) × RefusesFirst others output)
+
 -- one line for each predicate of the one tree of the text
 abbrev pub Lists : List ℕ → Output → Type 0
 Lists text output = (one : HasOneTree (strip text))
     × (output ≡ record { bytes = lines (asked one.tree); status = 0 })
 
--- the first fault of the text and a line feed, where the text has no tree
-abbrev pub Refuses : List ℕ → Output → Type 0
-Refuses text output = (fault : Refusal) × IsRefused (strip text) fault
-    × (output ≡ record {
-      bytes = error_text (fault_in (strip text) fault) ++ codes "\n";
-      status = 1;
-    })
+-- the value of the one tree of the text, where the flags, with one tree each, answer its predicates
+pub record HasValue (text : List ℕ) (flags : List (List ℕ)) (value : Option Bool) : Type 0 where
+  pub one : HasOneTree (strip text)
+  pub each_flag : AllByRecursion (λ flag. HasOneTree (strip (flag_text flag))) flags
+  pub answers : List (Option Bool)
+  pub are_answers :
+      AllZip (IsAnswer (known_texts flags) (unknown_texts flags)) (asked one.tree) answers
+  pub value_is : value ≡ fold three_valued one.tree answers
+
+-- what a target answers: whether it meets a predicate on the target, and nothing of the others
+abbrev pub answer_on : {A : Type 0} → TargetInfo A → Question → Option Bool
+answer_on row (Question.target question) = Some (meets row question)
+answer_on row question = None
+
+-- the value of the one tree of the text, where the target answers its predicates
+abbrev pub HasValueOn : {A : Type 0} → TargetInfo A → List ℕ → Option Bool → Type 0
+HasValueOn row text value = (one : HasOneTree (strip text))
+    × (value ≡ fold three_valued one.tree (map (answer_on row) (asked one.tree)))
+
+-- a value of which this holds is written
+abbrev pub Shows : (Option Bool → Type 0) → Output → Type 0
+Shows IsValue output = (value : Option Bool) × IsValue value × (output ≡ value_output value)
 
 -- this is an output of the request
 abbrev pub Prints : Request → Output → Type 0
 Prints (Request.parse text) output = Lists text output ⊎ Refuses text output
-Prints Request.wrong_use output = output ≡ record { bytes = usage_line; status = 2 }
+Prints (Request.eval text flags) output =
+    Shows (HasValue text flags) output ⊎ RefusesFirst (text ∷ map flag_text flags) output
+Prints (Request.target triple text) output =
+    MatchOption (row_with {A = Global} triple builtin_rows) (output ≡ unknown_triple)
+    (λ row. Shows (HasValueOn row text) output ⊎ Refuses text output)
+Prints Request.wrong_use output = output ≡ usage
 
 -- a sink has taken an output of the request with this status, whole; it says nothing of the bytes
 -- of a sink that does not tell them
@@ -75,20 +154,3 @@ WritesWhole request status old new = (output : Output) × Prints request output
 abbrev pub WritesFront : Request → Option (List ℕ) → Option (List ℕ) → Type 0
 WritesFront request old new = (output : Output) × Prints request output
     × TakesFront old new output.bytes
-
--- The words are `parse` and a text, and a sink has taken one line for each predicate of the one
--- tree of that text, in the order in which they are asked.
-pub record ListsPredicates (words : List (List ℕ)) (old new : Option (List ℕ)) : Type 0 where
-  pub text : List ℕ
-  pub are_words : words ≡ codes "parse" ∷ text ∷ []
-  pub one : HasOneTree (strip text)
-  pub written : Appends old new (lines (asked one.tree))
-
--- The words are `parse` and a text that has no tree, and a sink has taken the text's first fault
--- and a line feed.
-pub record PrintsFault (words : List (List ℕ)) (old new : Option (List ℕ)) : Type 0 where
-  pub text : List ℕ
-  pub are_words : words ≡ codes "parse" ∷ text ∷ []
-  pub fault : Refusal
-  pub refused : IsRefused (strip text) fault
-  pub written : Appends old new (error_text (fault_in (strip text) fault) ++ codes "\n")

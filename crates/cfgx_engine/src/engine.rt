@@ -2,15 +2,15 @@
 ghost use Rattle.std.specs.Prelude.{◌≡◌, ◌≢◌, ◌+◌, ◌<◌, ◌≤◌, ◌⊎◌, if◌then◌else◌};
 ghost use Rattle.std.specs.Bool.{MatchBool};
 ghost use Rattle.std.specs.Io.KnownBytes.{Appends};
-ghost use Rattle.std.specs.Cow.{cow_str_bytes};
-ghost use Rattle.cfgx_engine.specs.Output.{request_of, texts, Request};
-ghost use Rattle.cfgx_engine.specs.Output.{ListsPredicates, PrintsFault, WritesFront, WritesWhole};
+ghost use Rattle.std.specs.Cow.{cow_slice_items};
+ghost use Rattle.cfgx_engine.specs.Output.{request_of, texts, Request, WritesFront, WritesWhole};
 ghost use Rattle.cfgx_engine.specs.Streams.{TakesFront};
-ghost use Rattle.cfgx_engine.specs.Answer.{output_of};
 
 mod answer;
-mod spelling;
+mod flags;
+mod listing;
 pub mod streams;
+mod target;
 
 use answer::{Answer, answer_to};
 use cfg_expr::memory::SmallAllocator;
@@ -36,15 +36,6 @@ pub fn run<A: SmallAllocator, R: Source, W: Sink>(
 ) -> u8
     requires reader { R.failures reader.old < u64.MAX }
     requires writer { W.failures writer.old < u64.MAX }
-
-    // Status 0: the text has one tree, and one line was written for each of its predicates, in the
-    // order in which they are asked.
-    ensures predicates { result ≡ 0
-        → ListsPredicates (texts words.now) (W.written writer.old) (W.written writer.new) }
-
-    // Status 1: the text has no tree, and its first fault was written.
-    ensures fault { result ≡ 1
-        → PrintsFault (texts words.now) (W.written writer.old) (W.written writer.new) }
 
     // Any other status than 3: the whole output was written, and no call failed.
     ensures done { result ≢ 3 → WritesWhole (request_of (texts words.now)) result
@@ -75,12 +66,14 @@ fn write_answer<A: Allocator, W: Sink>(writer: &mut W, answer: &Answer<A>) -> u8
     requires status { answer.now.status < 3 }
     ensures done { result ≢ 3 → (W.failures writer.new ≡ W.failures writer.old)
         × (result ≡ answer.now.status)
-        × Appends (W.written writer.old) (W.written writer.new) (cow_str_bytes answer.now.text) }
+        × Appends (W.written writer.old) (W.written writer.new)
+        (cow_slice_items answer.now.bytes) }
     ensures failed { result ≡ 3 → (W.failures writer.new ≡ W.failures writer.old + 1)
-        × TakesFront (W.written writer.old) (W.written writer.new) (cow_str_bytes answer.now.text) }
+        × TakesFront (W.written writer.old) (W.written writer.new)
+        (cow_slice_items answer.now.bytes) }
     ensures status { result ≤ 3 }
 {
-    if write_whole(writer, answer.text.as_str().as_bytes()) {
+    if write_whole(writer, answer.bytes.as_slice()) {
         answer.status
     } else {
         REFUSED

@@ -1,0 +1,103 @@
+-- Rows of targets, whatever allocator their texts would be owned in.
+use Rattle.std.proofs.Common.{◌≡◌, ℕ, Bool, true, false, List, [], ◌∷◌, map, refl, ap, sym, subst}
+use Rattle.std.proofs.Common.{◌∙◌, Option, Some, None, ⊎_elim, inl, inr}
+use Rattle.std.specs.Prelude.{option_map, if◌then◌else◌, ◌⊎◌, MatchOption}
+use Rattle.std.specs.Str.{bytes_eq}
+use Rattle.std.specs.declared.alloc.Global.{Global}
+use Rattle.cfgx_targets.specs.Builtins.{builtin_rows}
+use Rattle.cfgx_targets.specs.Table.{row_with}
+use Rattle.cfgx_targets.specs.declared.info.TargetInfo.{TargetInfo}
+use Rattle.cfg_expr.specs.Question.{Question, TargetQuestion}
+use Rattle.cfg_expr.specs.Tree.{asked}
+use Rattle.cfg_expr.specs.Filling.{three_valued}
+use Rattle.cfg_expr.specs.Fold.{fold}
+use Rattle.cfg_expr.specs.Matching.{meets}
+use Rattle.cfgx_engine.specs.Output.{Output, Request, HasValueOn, Prints, Refuses, Shows}
+use Rattle.cfgx_engine.specs.Output.{answer_on, unknown_triple}
+
+-- the same target as one whose texts would be owned in `Global`
+abbrev pub same_row : {A : Type 0} → TargetInfo A → TargetInfo Global
+same_row row = record {
+  triple = row.triple;
+  os = row.os;
+  abi = row.abi;
+  arch = row.arch;
+  env = row.env;
+  vendor = row.vendor;
+  families = row.families;
+  pointer_width = row.pointer_width;
+  endian = row.endian;
+  has_atomics = row.has_atomics;
+  panic = row.panic;
+}
+
+-- it is found by the same triple
+found-same : {A : Type 0} (test : Bool) (row : TargetInfo A) (rest : Option (TargetInfo A))
+    → (if test then Some (same_row {A = A} row) else option_map (same_row {A = A}) rest)
+    ≡ option_map (same_row {A = A}) (if test then Some row else rest)
+found-same true row rest = refl
+found-same false row rest = refl
+
+row_with-same : {A : Type 0} (triple : List ℕ) (rows : List (TargetInfo A))
+    → row_with triple (map (same_row {A = A}) rows)
+    ≡ option_map (same_row {A = A}) (row_with triple rows)
+row_with-same triple [] = refl
+row_with-same {A = A} triple (row ∷ rows) =
+    ap (λ (rest : Option (TargetInfo Global)). if bytes_eq row.triple triple
+    then Some (same_row {A = A} row) else rest) (row_with-same triple rows)
+    ∙ found-same (bytes_eq row.triple triple) row (row_with triple rows)
+
+-- it answers the same
+meets-same : {A : Type 0} (row : TargetInfo A) (question : TargetQuestion)
+    → meets (same_row {A = A} row) question ≡ meets row question
+meets-same row (TargetQuestion.abi text) = refl
+meets-same row (TargetQuestion.arch text) = refl
+meets-same row (TargetQuestion.endian endian) = refl
+meets-same row (TargetQuestion.env text) = refl
+meets-same row (TargetQuestion.family text) = refl
+meets-same row (TargetQuestion.has_atomic width) = refl
+meets-same row (TargetQuestion.os text) = refl
+meets-same row (TargetQuestion.panic text) = refl
+meets-same row (TargetQuestion.pointer_width bits) = refl
+meets-same row (TargetQuestion.vendor text) = refl
+
+answer_on-same : {A : Type 0} (row : TargetInfo A) (question : Question)
+    → answer_on row question ≡ answer_on (same_row {A = A} row) question
+answer_on-same row (Question.target question) = ap Some (sym (meets-same row question))
+answer_on-same row question = refl
+
+answers-same : {A : Type 0} (row : TargetInfo A) (questions : List Question)
+    → map (answer_on row) questions ≡ map (answer_on (same_row {A = A} row)) questions
+answers-same row [] = refl
+answers-same row (question ∷ questions) =
+    let first = answer_on-same row question in
+    let others = answers-same row questions in cc
+
+HasValueOn-same : {A : Type 0} (row : TargetInfo A) (text : List ℕ) (value : Option Bool)
+    → HasValueOn row text value → HasValueOn (same_row {A = A} row) text value
+HasValueOn-same row text value has =
+    (has.0, has.1 ∙ ap (fold three_valued has.0.tree) (answers-same row (asked has.0.tree)))
+
+-- the built-in row with a triple, or none
+builtin-same : (A : Type 0) (triple : List ℕ)
+    → row_with {A = Global} triple builtin_rows
+    ≡ option_map (same_row {A = A}) (row_with {A = A} triple builtin_rows)
+builtin-same A triple = row_with-same {A = A} triple (builtin_rows {A = A})
+
+pub Prints-unknown : (A : Type 0) (triple text : List ℕ) (shown : Output)
+    → None ≡ row_with {A = A} triple builtin_rows → shown ≡ unknown_triple
+    → Prints (Request.target triple text) shown
+Prints-unknown A triple text shown missing is =
+    subst (λ (found : Option (TargetInfo Global)). MatchOption found (shown ≡ unknown_triple)
+    (λ row. Shows (HasValueOn row text) shown ⊎ Refuses text shown))
+    (ap (option_map (same_row {A = A})) missing ∙ sym (builtin-same A triple)) is
+
+pub Prints-on : {A : Type 0} (triple text : List ℕ) (row : TargetInfo A) (shown : Output)
+    → Some row ≡ row_with {A = A} triple builtin_rows
+    → Shows (HasValueOn row text) shown ⊎ Refuses text shown
+    → Prints (Request.target triple text) shown
+Prints-on {A = A} triple text row shown found prints =
+    subst (λ (found : Option (TargetInfo Global)). MatchOption found (shown ≡ unknown_triple)
+    (λ row. Shows (HasValueOn row text) shown ⊎ Refuses text shown))
+    (ap (option_map (same_row {A = A})) found ∙ sym (builtin-same A triple))
+    (⊎_elim (λ s. inl (s.0, HasValueOn-same row text s.0 s.1, s.2)) (λ r. inr r) prints)

@@ -1,8 +1,0 @@
-use Rattle.std.proofs.Common.{◌≡◌, ◌++◌, string_bytes}
-use Rattle.cfgx_engine.specs.Output.{lines}
-use Rattle.cfgx_engine.proofs.engine.answer.lines.Given as goal
-
--- what is written, and then the lines still to come, is all
-abbrev pub invariant-loop-predicate : goal.invariant-loop-predicate
-invariant-loop-predicate g l =
-    string_bytes l.written ++ lines l.predicate-iterator ≡ lines l.fn.predicates

@@ -1,0 +1,10 @@
+use Rattle.std.proofs.Common.{◌↔◌}
+use Rattle.std.specs.List.{Contains}
+use Rattle.cfg_expr.specs.Predicate.{question_of}
+use Rattle.cfgx_engine.proofs.engine.flags.Flag.names.Given as goal
+
+-- the predicate is among those still to come where it is among all
+abbrev pub invariant-loop-named : goal.invariant-loop-named
+invariant-loop-named g l =
+    Contains l.initial.named-iterator (question_of l.predicate)
+    ↔ Contains l.named-iterator (question_of l.predicate)

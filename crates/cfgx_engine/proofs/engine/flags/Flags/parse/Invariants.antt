@@ -1,0 +1,8 @@
+use Rattle.std.proofs.Common.{take}
+use Rattle.cfgx_engine.specs.Answer.{AreFlags}
+use Rattle.cfgx_engine.specs.Output.{texts}
+use Rattle.cfgx_engine.proofs.engine.flags.Flags.parse.Given as goal
+
+-- the flags of the words that were passed
+abbrev pub invariant-loop-word : goal.invariant-loop-word
+invariant-loop-word g l = AreFlags (take l.word-index (texts l.words)) l.flags
