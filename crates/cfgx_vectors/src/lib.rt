@@ -5,6 +5,8 @@
 #[cfg(test)]
 mod accepted;
 #[cfg(test)]
+mod commands;
+#[cfg(test)]
 mod deep;
 pub mod evaluating;
 #[cfg(test)]

@@ -93,20 +93,19 @@ fn seen_at(alloc: Global, words: &[&str], turn: u64, status: u8, plain: &[u8]) -
 fn run_in_turns(
     rt: &impl Abort,
     alloc: Global,
-    text: &str,
+    words: &[&str],
     status: u8,
 ) -> Result<(), &'static str> {
-    let words = ["parse", text];
     let mut plain = Recorder::new(alloc);
-    let answer = run(alloc, &words, &mut Ended, &mut plain);
-    assert!(rt; answer == status, "{text}");
+    let answer = run(alloc, words, &mut Ended, &mut plain);
+    assert!(rt; answer == status, "{words:?}");
     for turn in 1..MOST_GROWTHS {
-        let seen = seen_at(alloc, &words, turn, status, plain.bytes.as_slice());
+        let seen = seen_at(alloc, words, turn, status, plain.bytes.as_slice());
         if seen == Seen::Plain {
-            assert!(rt; turn > 1, "{text}");
+            assert!(rt; turn > 1, "{words:?}");
             return Ok(());
         }
-        assert!(rt; seen == Seen::WantOfMemory, "growth {turn} of {text}");
+        assert!(rt; seen == Seen::WantOfMemory, "growth {turn} of {words:?}");
     }
     Err("too many growths")
 }
@@ -160,7 +159,7 @@ const SHORT: &[(&str, u8, Outcome)] = &[
 fn is_answered_as_such_for_short_texts(rt: HostRuntime) -> Result<(), Fail> {
     for (text, status, plain) in SHORT {
         parse_in_turns(&rt, rt.alloc(), text, *plain)?;
-        run_in_turns(&rt, rt.alloc(), text, *status)?;
+        run_in_turns(&rt, rt.alloc(), &["parse", text], *status)?;
     }
     Ok(())
 }
@@ -211,7 +210,7 @@ fn is_answered_as_such_for_long_texts(rt: HostRuntime) -> Result<(), Fail> {
     for (front, piece, times, back, status, plain) in LONG {
         let text = repeated(rt.alloc(), front, piece, *times, back)?;
         parse_in_turns(&rt, rt.alloc(), text.as_str(), *plain)?;
-        run_in_turns(&rt, rt.alloc(), text.as_str(), *status)?;
+        run_in_turns(&rt, rt.alloc(), &["parse", text.as_str()], *status)?;
     }
     Ok(())
 }
@@ -220,7 +219,7 @@ fn is_answered_as_such_for_long_texts(rt: HostRuntime) -> Result<(), Fail> {
 fn is_answered_as_such_for_deep_texts(rt: HostRuntime) -> Result<(), Fail> {
     let deep = nested(rt.alloc(), "not(", 40, "a")?;
     parse_in_turns(&rt, rt.alloc(), deep.as_str(), Outcome::Accepted(1))?;
-    run_in_turns(&rt, rt.alloc(), deep.as_str(), 0)?;
+    run_in_turns(&rt, rt.alloc(), &["parse", deep.as_str()], 0)?;
     Ok(())
 }
 
@@ -229,7 +228,55 @@ fn is_answered_as_such_for_open_texts(rt: HostRuntime) -> Result<(), Fail> {
     let open = opened(rt.alloc())?;
     let unclosed = Outcome::Refused(3, 200, Reason::UnclosedParens);
     parse_in_turns(&rt, rt.alloc(), open.as_str(), unclosed)?;
-    run_in_turns(&rt, rt.alloc(), open.as_str(), 1)?;
+    run_in_turns(&rt, rt.alloc(), &["parse", open.as_str()], 1)?;
+    Ok(())
+}
+
+// Words of `eval` and `target`, and the status of their run.
+const COMMANDS: &[(&[&str], u8)] = &[
+    (&["eval", "a"], 0),
+    (&["eval", "all(a, any(b), c)", "a", "?b", "c"], 0),
+    (
+        &[
+            "eval",
+            "any(target_os = \"linux\", feature = \"a\", not(a), not(b))",
+            "?any(target_os = \"linux\", key = \"v\")",
+            "all(feature = \"b\", a, b, c, d, e, f)",
+        ],
+        0,
+    ),
+    (&["eval", "key)", "a"], 1),
+    (&["eval", "a", "b", "?c", "key)"], 1),
+    (&["eval", "a", "b", "?key)", "c"], 1),
+    (&["target", "aarch64-apple-ios", "any(unix, a)"], 0),
+    (
+        &[
+            "target",
+            "aarch64-apple-ios-sim",
+            "all(test, a, b, c, d, e)",
+        ],
+        0,
+    ),
+    (&["target", "aarch64-apple-ios", "key)"], 1),
+    (&["target", "nowhere", "key)"], 2),
+];
+
+#[test]
+fn is_answered_as_such_by_the_commands(rt: HostRuntime) -> Result<(), Fail> {
+    for (words, status) in COMMANDS {
+        run_in_turns(&rt, rt.alloc(), words, *status)?;
+    }
+    let wide = repeated(rt.alloc(), "any(", "a,", 100, ")")?;
+    let flag = repeated(rt.alloc(), "?any(", "b,", 100, ")")?;
+    run_in_turns(&rt, rt.alloc(), &["eval", wide.as_str(), flag.as_str()], 0)?;
+    let deep = nested(rt.alloc(), "not(", 40, "a")?;
+    run_in_turns(&rt, rt.alloc(), &["eval", deep.as_str(), deep.as_str()], 0)?;
+    run_in_turns(
+        &rt,
+        rt.alloc(),
+        &["target", "aarch64-apple-tvos", deep.as_str()],
+        0,
+    )?;
     Ok(())
 }
 
@@ -284,5 +331,9 @@ fn is_run_without_memory(alloc: Global, words: &[&str], status: u8, written: &st
 fn is_not_met_on_wrong_use(rt: HostRuntime) {
     let usage = "usage: cfgx parse TEXT | eval TEXT FLAG.. | target TRIPLE TEXT | pick TRIPLE\n";
     assert!(rt; is_run_without_memory(rt.alloc(), &["parse"], 2, usage));
+    assert!(rt; is_run_without_memory(rt.alloc(), &["eval"], 2, usage));
+    assert!(rt; is_run_without_memory(rt.alloc(), &["target", "nowhere"], 2, usage));
     assert!(rt; is_run_without_memory(rt.alloc(), &["parse", "a"], 3, ""));
+    assert!(rt; is_run_without_memory(rt.alloc(), &["eval", "a"], 3, ""));
+    assert!(rt; is_run_without_memory(rt.alloc(), &["target", "nowhere", ")"], 3, ""));
 }

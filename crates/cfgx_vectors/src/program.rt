@@ -67,8 +67,6 @@ const ROWS: &[(&[&str], &str, u8)] = &[
     (&[], USAGE, 2),
     (&["parse", "a", "b"], USAGE, 2),
     (&["Parse", "a"], USAGE, 2),
-    (&["eval", "a"], USAGE, 2),
-    (&["target", "aarch64-apple-ios", "a"], USAGE, 2),
     (&["pick", "aarch64-apple-ios"], USAGE, 2),
 ];
 

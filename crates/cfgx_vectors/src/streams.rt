@@ -240,23 +240,33 @@ fn a_failed_call_ends_the_run(rt: HostRuntime) {
 
 // Whether a run whose write of this number fails, counted from 0, ends with status 3 and has
 // written so many bytes of the output, one a call.
-fn ends_at_write(alloc: Global, failing: usize, written: &[u8]) -> bool {
+fn ends_at_write(alloc: Global, words: &[&str], failing: usize, written: &[u8]) -> bool {
     let mut sink = Recorder::new(alloc);
     sink.each = 1;
     sink.failing_write = (failing as u64).saturating_add(1);
-    let status = run(alloc, &["parse", TEXT], &mut Ended, &mut sink);
-    status == 3 && sink.bytes.as_slice() == written
+    let status = run(alloc, words, &mut Ended, &mut sink);
+    status == 3 && sink.failures == 1 && sink.bytes.as_slice() == written
 }
+
+// Words, and what a run with them writes.
+const OUTPUTS: &[(&[&str], &str)] = &[
+    (&["parse", TEXT], "b\na\nc\n"),
+    (&["eval", "any(a, b)", "?a"], "unknown\n"),
+    (&["eval", "a", "?b)"], "b)\n ^ unopened parens\n"),
+    (&["target", "aarch64-apple-ios", "unix"], "true\n"),
+    (&["target", "nowhere", "unix"], "unknown triple\n"),
+];
 
 // The nth write fails, for each n: what went out is the first n - 1 bytes, and nothing is written
 // behind them.
 #[test]
 fn each_write_fails_in_turn(rt: HostRuntime) {
-    let output = b"b\na\nc\n";
-    for failing in 0..6usize {
-        assert!(rt;
-            ends_at_write(rt.alloc(), failing, &output[..failing]),
-            "write {failing}"
-        );
+    for (words, output) in OUTPUTS {
+        for failing in 0..output.len() {
+            assert!(rt;
+                ends_at_write(rt.alloc(), words, failing, &output.as_bytes()[..failing]),
+                "write {failing} of {words:?}"
+            );
+        }
     }
 }
