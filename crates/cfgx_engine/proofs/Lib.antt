@@ -1,4 +1,5 @@
 pub mod FlagLemmas
 pub mod Members
+pub mod OneOutput
 pub mod OutputLemmas
 pub mod RowLemmas

@@ -8,6 +8,7 @@ ghost use Rattle.cfgx_engine.specs.Streams.{TakesFront};
 
 mod answer;
 mod flags;
+mod laws;
 mod listing;
 pub mod streams;
 mod target;

@@ -1,0 +1,10 @@
+//! What the output of a request is: the function's clause is the law, and its body is only there to
+//! be proved.
+ghost use Rattle.std.specs.Prelude.{◌≡◌};
+ghost use Rattle.cfgx_engine.specs.Output.{Output, Prints, Request};
+
+/// A request has one output at most: the words alone decide what is written.
+pub fn has_one_output()
+    ensures { (request : Request) (one other : Output) → Prints request one
+        → Prints request other → one ≡ other }
+{}
