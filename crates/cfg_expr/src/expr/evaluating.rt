@@ -1,17 +1,17 @@
 //! The value of an expression, by one walk over its nodes that asks. The room that it needs is
 //! counted by a walk of the same steps, once, when the expression is made.
-ghost use Rattle.std.specs.Prelude.{◌≡◌, ◌+◌, ◌-◌, ◌<◌, ◌≤◌, ◌^◌, ◌∷◌, [], List, length, map, max};
+ghost use Rattle.std.specs.Prelude.{◌≡◌, ◌+◌, ◌-◌, ◌<◌, ◌≤◌, ◌^◌, ◌∷◌, [], length, map};
 ghost use Rattle.std.specs.Prelude.{reverse, take, drop, fold, Some, None, IfOk, OnOk, OnErr, IsOk};
-ghost use Rattle.smallvec.specs.SmallVec.{HasRoomFor, small_vec_len};
+ghost use Rattle.smallvec.specs.SmallVec.{small_vec_len};
 ghost use Rattle.cfg_expr.specs.Asking.{Asks, MayAsk};
 ghost use Rattle.cfg_expr.specs.Predicate.{question_of};
 ghost use Rattle.cfg_expr.specs.Evaluation.{Evaluates, MayEvaluate};
-ghost use Rattle.cfg_expr.specs.nodes.Keeps.{Keeps, NameLeaves};
+ghost use Rattle.cfg_expr.specs.nodes.Keeps.{Keeps};
 ghost use Rattle.cfg_expr.specs.nodes.Measure.{CanCount, Measures, NeedSame};
 ghost use Rattle.cfg_expr.specs.nodes.Steps.{Step, asks, entered, finishes, members_of};
-ghost use Rattle.cfg_expr.specs.nodes.Steps.{most_open, most_values, opened, over_top, walk};
-ghost use Rattle.cfg_expr.specs.nodes.Steps.{still_open, text_list, with_function, with_leaf};
-ghost use Rattle.cfg_expr.specs.nodes.Steps.{PopsEnded, RoomFor, begun, shape};
+ghost use Rattle.cfg_expr.specs.nodes.Steps.{most_open, most_values, opened, walk};
+ghost use Rattle.cfg_expr.specs.nodes.Steps.{still_open, text_list};
+ghost use Rattle.cfg_expr.specs.nodes.Steps.{RoomFor, begun, shape};
 ghost use Rattle.cfg_expr.specs.nodes.Steps.{height_behind, steps_at};
 ghost use Rattle.cfg_expr.specs.nodes.Machine.{CanGo, CanTake, Goes, applied, joined, last_of};
 ghost use Rattle.cfg_expr.specs.nodes.Machine.{standing};

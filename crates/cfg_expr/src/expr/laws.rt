@@ -1,8 +1,6 @@
 //! What the comparisons and the order of questions mean: each function's clause is the law, and its
 //! body is only there to be proved.
-ghost use Rattle.std.specs.Prelude.{◌≡◌, ◌↔◌, IsTrue, IfOk, codes, map};
-ghost use Rattle.cfgx_syntax.specs.Stripping.{strip};
-ghost use Rattle.cfg_expr.specs.Answer.{Answers};
+ghost use Rattle.std.specs.Prelude.{◌≡◌, ◌↔◌, IsTrue};
 ghost use Rattle.cfg_expr.specs.Predicate.{question_of, target_of};
 ghost use Rattle.cfg_expr.specs.Order.{func_cmp};
 ghost use Rattle.cfg_expr.specs.Tree.{Tree, Trees, asked, asked_each, arranged};
