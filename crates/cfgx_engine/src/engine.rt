@@ -1,6 +1,5 @@
 //! The engine of the program: its commands, its streams, and the one call that runs it.
-ghost use Rattle.std.specs.Prelude.{◌≡◌, ◌≢◌, ◌+◌, ◌<◌, ◌≤◌, ◌⊎◌, if◌then◌else◌};
-ghost use Rattle.std.specs.Bool.{MatchBool};
+ghost use Rattle.std.specs.Prelude.{◌≡◌, ◌≢◌, ◌+◌, ◌<◌, ◌≤◌, ◌⊎◌};
 ghost use Rattle.std.specs.Io.KnownBytes.{Appends};
 ghost use Rattle.std.specs.Cow.{cow_slice_items};
 ghost use Rattle.cfgx_engine.specs.Output.{request_of, texts, Request, WritesFront, WritesWhole};

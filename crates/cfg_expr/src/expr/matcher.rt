@@ -1,7 +1,6 @@
 //! Whether a target meets a predicate.
-ghost use Rattle.std.specs.Prelude.{◌≡◌, IfOk, unwrap_or};
-ghost use Rattle.std.specs.Str.{bytes_eq};
-ghost use Rattle.cfg_expr.specs.Matching.{has_text, is_same_width, meets};
+ghost use Rattle.std.specs.Prelude.{◌≡◌, IfOk};
+ghost use Rattle.cfg_expr.specs.Matching.{has_text, meets};
 ghost use Rattle.cfg_expr.specs.Predicate.{target_of};
 
 use super::TargetPredicate;

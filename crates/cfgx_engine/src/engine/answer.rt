@@ -1,6 +1,6 @@
 // What a run of the program writes, made in memory whole.
 
-ghost use Rattle.std.specs.Prelude.{◌≡◌, ◌∷◌, [], IfOk, IsOk, map};
+ghost use Rattle.std.specs.Prelude.{◌≡◌, IfOk, IsOk};
 ghost use Rattle.cfgx_engine.specs.Output.{request_of, texts, Prints, Request};
 ghost use Rattle.cfgx_engine.specs.Output.{eval_request, parse_request, target_request};
 ghost use Rattle.cfgx_engine.specs.Output.{line, value_text};
