@@ -6,11 +6,11 @@ use Rattle.std.specs.List.{AllByRecursion}
 use Rattle.cfgx_syntax.specs.Cut.{CanBeCut}
 use Rattle.cfgx_syntax.specs.Items.{Item, Ending, ItemsFrom, AreItems, HasOneTokenList, lexical}
 use Rattle.cfgx_syntax.specs.Error.{Refusal}
-use Rattle.cfg_expr.specs.Tree.{Tree}
-use Rattle.cfg_expr.specs.Grammar.{IsTree, HasTree}
-use Rattle.cfg_expr.specs.FirstFault.{HasFault, first_fault}
-use Rattle.cfg_expr.specs.Answer.{HasOneTree, HasNoTree, HasOneFault, HasNoFault, IsAccepted}
-use Rattle.cfg_expr.specs.Answer.{IsRefused}
+use Rattle.cfgx_grammar.specs.Tree.{Tree}
+use Rattle.cfgx_grammar.specs.Grammar.{IsTree, HasTree}
+use Rattle.cfgx_grammar.specs.FirstFault.{HasFault, first_fault}
+use Rattle.cfgx_grammar.specs.Answer.{HasOneTree, HasNoTree, HasOneFault, HasNoFault, IsAccepted}
+use Rattle.cfgx_grammar.specs.Answer.{IsRefused}
 use Rattle.cfg_expr.specs.nodes.Keeps.{KeepsTree, Keeps}
 use Rattle.cfg_expr.specs.nodes.Writes.{ArePlaced}
 use Rattle.cfg_expr.specs.parsing.State.{State, initial}

@@ -4,9 +4,9 @@ use Rattle.std.proofs.Common.{length, map, Option, Some, None, option_map, sym, 
 use Rattle.std.specs.Prelude.{if◌then◌else◌, option_and_then}
 use Rattle.std.specs.List.{AllByRecursion, slice_get, filter_map}
 use Rattle.std.proofs.lemmas.List.{append-nil, map-append}
-use Rattle.cfg_expr.specs.Question.{Question}
-use Rattle.cfg_expr.specs.Tree.{Tree, Trees, is_function, is_leaf, count, asked}
-use Rattle.cfg_expr.specs.Tree.{asked_by}
+use Rattle.cfgx_grammar.specs.Question.{Question}
+use Rattle.cfgx_grammar.specs.Tree.{Tree, Trees, is_function, is_leaf, count, asked}
+use Rattle.cfgx_grammar.specs.Tree.{asked_by}
 use Rattle.cfg_expr.specs.nodes.Located.{question_at}
 use Rattle.cfg_expr.specs.nodes.Prefix.{Node, node_at, headed, prefix, prefix_each, places}
 use Rattle.cfg_expr.specs.nodes.Writes.{NodeHasCut}

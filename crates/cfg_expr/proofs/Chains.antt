@@ -3,10 +3,10 @@ use Rattle.std.proofs.Common.{◌≡◌, ◌≤◌, ℕ, suc, List, [], ◌∷�
 use Rattle.std.proofs.Common.{◌∙◌, sym, arith}
 use Rattle.std.specs.Prelude.{fold}
 use Rattle.std.specs.List.{AllZip}
-use Rattle.cfg_expr.specs.Question.{Question}
-use Rattle.cfg_expr.specs.Tree.{asked}
-use Rattle.cfg_expr.specs.Fold.{Operations, first_or}
-use Rattle.cfg_expr.specs.Fold as tree_value
+use Rattle.cfgx_grammar.specs.Question.{Question}
+use Rattle.cfgx_grammar.specs.Tree.{asked}
+use Rattle.cfgx_grammar.specs.Fold.{Operations, first_or}
+use Rattle.cfgx_grammar.specs.Fold as tree_value
 use Rattle.cfg_expr.specs.Asking.{Asker, Asks, Calls, MayAsk, MayAskEach}
 use Rattle.cfg_expr.specs.Evaluation.{Evaluates}
 

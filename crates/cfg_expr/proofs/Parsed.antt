@@ -5,7 +5,7 @@ use Rattle.cfgx_syntax.specs.LexerState.{LexerState, starting}
 use Rattle.cfgx_syntax.specs.Stripping.{strip}
 use Rattle.cfgx_syntax.specs.declared.error.Failure.{Failure}
 use Rattle.cfgx_syntax.specs.declared.error.Failure.TheVariants as failure
-use Rattle.cfg_expr.specs.Answer.{Answers, IsAccepted}
+use Rattle.cfgx_grammar.specs.Answer.{Answers, IsAccepted}
 use Rattle.cfg_expr.specs.nodes.Keeps.{Keeps}
 use Rattle.cfg_expr.specs.parsing.State.{State, initial}
 use Rattle.cfg_expr.specs.parsing.Parser.{state_of, FailsAs, Gives, answer_from, ReadsAll}

@@ -11,8 +11,8 @@ use Rattle.std.proofs.lemmas.Str.{NoCharPasses-nil}
 use Rattle.cfgx_syntax.specs.Stripping.{strip}
 use Rattle.cfgx_syntax.specs.Token.{Token, IsKey}
 use Rattle.cfgx_syntax.specs.Items.{Item, Ending, Stands}
-use Rattle.cfg_expr.specs.Tree.{Tree}
-use Rattle.cfg_expr.specs.Grammar.{HasTree}
+use Rattle.cfgx_grammar.specs.Tree.{Tree}
+use Rattle.cfgx_grammar.specs.Grammar.{HasTree}
 use Rattle.cfg_expr.specs.parsing.State.{initial}
 use Rattle.cfg_expr.specs.parsing.Step.{run}
 use Rattle.cfg_expr.proofs.Reading.{Follows-stands}

@@ -3,7 +3,7 @@ use Rattle.std.proofs.Common.{◌≡◌, ℕ, List, ◌++◌, Option, None, Some
 use Rattle.std.proofs.Common.{sym, ◌∙◌, append_assoc}
 use Rattle.std.specs.Io.KnownBytes.{Appends}
 use Rattle.std.specs.Prelude.{codes}
-use Rattle.cfg_expr.specs.Spelling.{with_value}
+use Rattle.cfgx_grammar.specs.Spelling.{with_value}
 use Rattle.cfg_expr.specs.Writing.{Takes, TakesFront, Writes}
 
 -- known bytes that grow twice

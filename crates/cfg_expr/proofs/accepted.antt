@@ -1,4 +1,3 @@
 -- What the steps accept is spelled by a tree.
-pub mod Lists
 pub mod Reads
 pub mod Steps

@@ -1,5 +1,4 @@
 -- The steps refuse a text with its first fault.
-pub mod Counting
 pub mod Levels
 pub mod Matches
 pub mod Steps

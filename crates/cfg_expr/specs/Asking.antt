@@ -3,7 +3,7 @@ use Rattle.std.specs.Prelude.{◌≡◌, List, [], ◌∷◌}
 use Rattle.std.specs.Fn.{Mut, Called}
 use Rattle.std.specs.declared.alloc.Global.{Global}
 use denote.Ref.{Bor}
-use Rattle.cfg_expr.specs.Question.{Question}
+use Rattle.cfgx_grammar.specs.Question.{Question}
 use Rattle.cfg_expr.specs.Predicate.{question_of}
 use Rattle.cfg_expr.specs.declared.expr.predicates.Predicate.{Predicate}
 

@@ -1,9 +1,9 @@
 -- What `Expression::eval` asks and answers.
 use Rattle.std.specs.Prelude.{◌≡◌, ℕ, List}
-use Rattle.cfg_expr.specs.Tree.{Tree, asked}
-use Rattle.cfg_expr.specs.Grammar.{HasTree}
-use Rattle.cfg_expr.specs.Answer.{HasOneTree}
-use Rattle.cfg_expr.specs.Fold.{Operations, fold}
+use Rattle.cfgx_grammar.specs.Tree.{Tree, asked}
+use Rattle.cfgx_grammar.specs.Grammar.{HasTree}
+use Rattle.cfgx_grammar.specs.Answer.{HasOneTree}
+use Rattle.cfgx_grammar.specs.Fold.{Operations, fold}
 use Rattle.cfg_expr.specs.Asking.{Asker, Calls, MayAskEach}
 
 module _ {F T : Type 0} (logic : Operations T) (asker : Asker F T) where

@@ -1,5 +1,5 @@
 -- A predicate of the program without where its texts lie in memory.
-use Rattle.cfg_expr.specs.Question.{Question, TargetQuestion}
+use Rattle.cfgx_grammar.specs.Question.{Question, TargetQuestion}
 use Rattle.cfg_expr.specs.declared.expr.predicates.TargetPredicate.{TargetPredicate}
 use Rattle.cfg_expr.specs.declared.expr.predicates.TargetPredicate.TheVariants as target
 use Rattle.cfg_expr.specs.declared.expr.predicates.Predicate.{Predicate}

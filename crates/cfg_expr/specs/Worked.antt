@@ -5,11 +5,11 @@ use Rattle.std.specs.declared.ops.Range.{Range}
 use Rattle.cfgx_syntax.specs.Error.{Cause, Refusal, unexpected}
 use Rattle.cfgx_syntax.specs.Items.{Item, Ending}
 use Rattle.cfgx_syntax.specs.Token.{Token, in_quotes}
-use Rattle.cfg_expr.specs.Classification.{Class, Part, class}
-use Rattle.cfg_expr.specs.FirstFault.{refusal, first_fault}
-use Rattle.cfg_expr.specs.Neighbours.{expected}
-use Rattle.cfg_expr.specs.Question.{Question}
-use Rattle.cfg_expr.specs.Tree.{Tree, Trees}
+use Rattle.cfgx_grammar.specs.Classification.{Class, Part, class}
+use Rattle.cfgx_grammar.specs.FirstFault.{refusal, first_fault}
+use Rattle.cfgx_grammar.specs.Neighbours.{expected}
+use Rattle.cfgx_grammar.specs.Question.{Question}
+use Rattle.cfgx_grammar.specs.Tree.{Tree, Trees}
 use Rattle.cfg_expr.specs.nodes.Node.{nothing}
 use Rattle.cfg_expr.specs.parsing.State.{State, initial}
 use Rattle.cfg_expr.specs.parsing.Parser.{answer_from}

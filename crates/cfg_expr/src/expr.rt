@@ -2,12 +2,12 @@
 ghost use Rattle.std.specs.Prelude.{◌≡◌, ◌≤◌, Bool, List, Option, length, IfOk, IsOk, OnErr};
 ghost use Rattle.cfgx_syntax.specs.Stripping.{strip};
 ghost use Rattle.std.specs.List.{AllByRecursion};
-ghost use Rattle.cfg_expr.specs.Answer.{Answers, HasOneTree};
+ghost use Rattle.cfgx_grammar.specs.Answer.{Answers, HasOneTree};
 ghost use Rattle.cfg_expr.specs.Evaluation.{Evaluates, MayEvaluate};
-ghost use Rattle.cfg_expr.specs.Filling.{IsExact, PolarFillings};
-ghost use Rattle.cfg_expr.specs.Tree.{Tree, asked};
-ghost use Rattle.cfg_expr.specs.Grammar.{HasTree};
-ghost use Rattle.cfg_expr.specs.Regular.{IsRegular};
+ghost use Rattle.cfgx_grammar.specs.Filling.{IsExact, PolarFillings};
+ghost use Rattle.cfgx_grammar.specs.Tree.{Tree, asked};
+ghost use Rattle.cfgx_grammar.specs.Grammar.{HasTree};
+ghost use Rattle.cfgx_grammar.specs.Regular.{IsRegular};
 
 mod classification;
 mod evaluating;

@@ -14,7 +14,7 @@ use Rattle.std.proofs.lemmas.Slice.Eq.{bytes_eq-Decides}
 use Rattle.cfgx_syntax.specs.Stripping.{strip}
 use Rattle.cfgx_syntax.specs.declared.error.Failure.{Failure}
 use Rattle.cfgx_syntax.specs.declared.error.Failure.TheVariants as failure
-use Rattle.cfg_expr.specs.Answer.{Answers, HasOneTree}
+use Rattle.cfgx_grammar.specs.Answer.{Answers, HasOneTree}
 use Rattle.cfgx_engine.specs.Answer.{AddsFlag, AreFlags, BlamesFirst}
 use Rattle.cfgx_engine.specs.Flags.{flag_text, known_text, known_texts, unknown_text, unknown_texts}
 use Rattle.cfgx_engine.specs.Output.{fault_output, texts, Output, RefusesFirst}

@@ -4,7 +4,7 @@ use Rattle.std.proofs.Common.{⊎_elim, arith, subst}
 use Rattle.std.specs.List.{All, Contains}
 use Rattle.std.proofs.lemmas.List.Elements.{Contains-append_cases, Contains-append_right}
 use Rattle.std.proofs.lemmas.List.Elements.{Contains-get_or}
-use Rattle.cfg_expr.specs.Question.{Question}
+use Rattle.cfgx_grammar.specs.Question.{Question}
 use Rattle.cfgx_engine.specs.Flags.{IsNamed, Names}
 
 only_item : {X : Type 0} (x y : X) (k : ℕ) → k < length (x ∷ []) → get_or (x ∷ []) k y ≡ y → x ≡ y

@@ -9,11 +9,11 @@ use Rattle.cfgx_syntax.specs.Error.{fault_in}
 use Rattle.cfgx_targets.specs.Builtins.{builtin_rows}
 use Rattle.cfgx_targets.specs.Table.{row_with}
 use Rattle.cfgx_targets.specs.declared.info.TargetInfo.{TargetInfo}
-use Rattle.cfg_expr.specs.Question.{Question}
-use Rattle.cfg_expr.specs.Tree.{Tree, asked}
-use Rattle.cfg_expr.specs.Answer.{HasOneTree}
-use Rattle.cfg_expr.specs.Filling.{three_valued}
-use Rattle.cfg_expr.specs.Fold.{fold}
+use Rattle.cfgx_grammar.specs.Question.{Question}
+use Rattle.cfgx_grammar.specs.Tree.{Tree, asked}
+use Rattle.cfgx_grammar.specs.Answer.{HasOneTree}
+use Rattle.cfgx_grammar.specs.Filling.{three_valued}
+use Rattle.cfgx_grammar.specs.Fold.{fold}
 use Rattle.cfgx_engine.specs.Flags.{IsAnswer, flag_text, known_texts, unknown_texts}
 use Rattle.cfgx_engine.specs.Output.{Output, Request, HasValue, HasValueOn, Prints, Refuses}
 use Rattle.cfgx_engine.specs.Output.{Lists, RefusesFirst, Shows, answer_on, fault_output, lines}

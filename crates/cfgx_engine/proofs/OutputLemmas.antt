@@ -9,13 +9,13 @@ use Rattle.cfgx_syntax.specs.declared.error.Failure.TheVariants as failure
 use Rattle.cfgx_targets.specs.Builtins.{builtin_rows}
 use Rattle.cfgx_targets.specs.Table.{row_with}
 use Rattle.cfgx_targets.specs.declared.info.TargetInfo.{TargetInfo}
-use Rattle.cfg_expr.specs.Question.{Question}
+use Rattle.cfgx_grammar.specs.Question.{Question}
 use Rattle.cfgx_syntax.specs.Stripping.{strip}
-use Rattle.cfg_expr.specs.Tree.{Tree, asked}
-use Rattle.cfg_expr.specs.Grammar.{HasTree}
-use Rattle.cfg_expr.specs.Answer.{HasOneTree}
-use Rattle.cfg_expr.specs.Filling.{three_valued}
-use Rattle.cfg_expr.specs.Fold.{fold}
+use Rattle.cfgx_grammar.specs.Tree.{Tree, asked}
+use Rattle.cfgx_grammar.specs.Grammar.{HasTree}
+use Rattle.cfgx_grammar.specs.Answer.{HasOneTree}
+use Rattle.cfgx_grammar.specs.Filling.{three_valued}
+use Rattle.cfgx_grammar.specs.Fold.{fold}
 use Rattle.cfgx_engine.specs.Answer.{AreFlags, GivesValue, ShowsResult}
 use Rattle.cfgx_engine.specs.Flags.{IsAnswer, flag_text, unknown_texts}
 use Rattle.cfgx_engine.specs.Output.{Output, Request, HasValue, HasValueOn, Shows, answer_on}

@@ -7,11 +7,11 @@ use Rattle.std.specs.declared.alloc.Global.{Global}
 use Rattle.cfgx_targets.specs.Builtins.{builtin_rows}
 use Rattle.cfgx_targets.specs.Table.{row_with}
 use Rattle.cfgx_targets.specs.declared.info.TargetInfo.{TargetInfo}
-use Rattle.cfg_expr.specs.Question.{Question, TargetQuestion}
-use Rattle.cfg_expr.specs.Tree.{asked}
-use Rattle.cfg_expr.specs.Filling.{three_valued}
-use Rattle.cfg_expr.specs.Fold.{fold}
-use Rattle.cfg_expr.specs.Matching.{meets}
+use Rattle.cfgx_grammar.specs.Question.{Question, TargetQuestion}
+use Rattle.cfgx_grammar.specs.Tree.{asked}
+use Rattle.cfgx_grammar.specs.Filling.{three_valued}
+use Rattle.cfgx_grammar.specs.Fold.{fold}
+use Rattle.cfgx_grammar.specs.Matching.{meets}
 use Rattle.cfgx_engine.specs.Output.{Output, Request, HasValueOn, Prints, Refuses, Shows}
 use Rattle.cfgx_engine.specs.Output.{answer_on, unknown_triple}
 

@@ -6,7 +6,7 @@ use Rattle.cfgx_syntax.specs.Stripping.{strip}
 use Rattle.cfgx_syntax.specs.Error.{fault_of}
 use Rattle.cfgx_syntax.specs.declared.error.Failure.{Failure}
 use Rattle.cfgx_syntax.specs.declared.error.Failure.TheVariants as failure
-use Rattle.cfg_expr.specs.Answer.{HasOneTree}
+use Rattle.cfgx_grammar.specs.Answer.{HasOneTree}
 use Rattle.cfgx_engine.specs.Flags.{flag_text, known_texts, unknown_texts}
 use Rattle.cfgx_engine.specs.Output.{Output, Request, RefusesFirst, fault_output, texts}
 use Rattle.cfgx_engine.specs.Output.{value_output}

@@ -5,9 +5,9 @@ use Rattle.std.specs.Prelude.{Option, Some, None, is_some, unwrap_or, if◌then�
 use Rattle.std.specs.List.{Any, Contains, filter_map}
 use Rattle.std.specs.Str.{bytes_eq}
 use Rattle.cfgx_syntax.specs.Stripping.{strip}
-use Rattle.cfg_expr.specs.Question.{Question}
-use Rattle.cfg_expr.specs.Tree.{Tree, asked}
-use Rattle.cfg_expr.specs.Grammar.{HasTree}
+use Rattle.cfgx_grammar.specs.Question.{Question}
+use Rattle.cfgx_grammar.specs.Tree.{Tree, asked}
+use Rattle.cfgx_grammar.specs.Grammar.{HasTree}
 
 -- the text of a flag that names unknown predicates: what is behind the `?` that it starts with
 abbrev pub unknown_text : List ℕ → Option (List ℕ)

@@ -13,13 +13,13 @@ use Rattle.cfgx_syntax.specs.Error.{Fault, Refusal, fault_in, error_text}
 use Rattle.cfgx_targets.specs.Builtins.{builtin_rows}
 use Rattle.cfgx_targets.specs.Table.{row_with}
 use Rattle.cfgx_targets.specs.declared.info.TargetInfo.{TargetInfo}
-use Rattle.cfg_expr.specs.Question.{Question}
-use Rattle.cfg_expr.specs.Tree.{asked}
-use Rattle.cfg_expr.specs.Answer.{HasOneTree, IsRefused}
-use Rattle.cfg_expr.specs.Filling.{three_valued}
-use Rattle.cfg_expr.specs.Fold.{fold}
-use Rattle.cfg_expr.specs.Matching.{meets}
-use Rattle.cfg_expr.specs.Spelling.{spelling}
+use Rattle.cfgx_grammar.specs.Question.{Question}
+use Rattle.cfgx_grammar.specs.Tree.{asked}
+use Rattle.cfgx_grammar.specs.Answer.{HasOneTree, IsRefused}
+use Rattle.cfgx_grammar.specs.Filling.{three_valued}
+use Rattle.cfgx_grammar.specs.Fold.{fold}
+use Rattle.cfgx_grammar.specs.Matching.{meets}
+use Rattle.cfgx_grammar.specs.Spelling.{spelling}
 use Rattle.cfgx_engine.specs.Flags.{IsAnswer, flag_text, known_texts, unknown_texts}
 use Rattle.cfgx_engine.specs.Streams.{TakesFront}
 

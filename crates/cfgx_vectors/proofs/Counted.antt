@@ -1,7 +1,7 @@
 -- Counting questions one by one.
 use Rattle.std.proofs.Common.{◌≡◌, ℕ, ◌+◌, ◌-◌, ◌≤◌, ◌^◌, List, [], ◌∷◌, length, arith, refl, ◌∙◌}
 use Rattle.std.specs.Prelude.{fold, min}
-use Rattle.cfg_expr.specs.Question.{Question}
+use Rattle.cfgx_grammar.specs.Question.{Question}
 use Rattle.cfgx_vectors.specs.Callers.{one_more}
 
 pub fold-one_more : (count : ℕ) (questions : List Question) → count ≤ 2 ^ 64 - 1

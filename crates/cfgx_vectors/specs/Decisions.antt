@@ -1,8 +1,8 @@
 -- What a planner relies on.
 use Rattle.std.specs.Prelude.{◌≡◌, Bool, true, false, List, Option}
-use Rattle.cfg_expr.specs.Tree.{Tree}
-use Rattle.cfg_expr.specs.Fold.{fold}
-use Rattle.cfg_expr.specs.Filling.{two_valued, IsFilling}
+use Rattle.cfgx_grammar.specs.Tree.{Tree}
+use Rattle.cfgx_grammar.specs.Fold.{fold}
+use Rattle.cfgx_grammar.specs.Filling.{two_valued, IsFilling}
 use Rattle.cfgx_vectors.specs.declared.filling.Decision.{Decision}
 use Rattle.cfgx_vectors.specs.declared.filling.Decision.TheVariants as decision
 

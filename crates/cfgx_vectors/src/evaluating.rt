@@ -1,10 +1,10 @@
 //! Callers of `Expression::eval`, each proved by its contract alone, and values that are known from
 //! outside.
 ghost use Rattle.std.specs.Prelude.{◌≡◌, ◌+◌, ◌^◌, ◌*◌, ◌%◌, ◌-◌, length, map, min, IfOk};
-ghost use Rattle.cfg_expr.specs.Answer.{HasOneTree};
-ghost use Rattle.cfg_expr.specs.Fold.{fold};
+ghost use Rattle.cfgx_grammar.specs.Answer.{HasOneTree};
+ghost use Rattle.cfgx_grammar.specs.Fold.{fold};
 ghost use Rattle.cfg_expr.specs.Predicate.{question_of};
-ghost use Rattle.cfg_expr.specs.Tree.{asked};
+ghost use Rattle.cfgx_grammar.specs.Tree.{asked};
 ghost use Rattle.cfgx_vectors.specs.Callers.{is_among, one_more, term_of};
 
 pub mod terms;

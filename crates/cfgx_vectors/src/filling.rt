@@ -1,10 +1,10 @@
 //! A planner over answers that may be unknown, proved by the contracts of `Expression` alone, and
 //! fillings that are known from outside.
 ghost use Rattle.std.specs.Prelude.{◌≡◌, length, IfOk};
-ghost use Rattle.cfg_expr.specs.Answer.{HasOneTree};
-ghost use Rattle.cfg_expr.specs.Fold.{fold};
-ghost use Rattle.cfg_expr.specs.Grammar.{HasTree};
-ghost use Rattle.cfg_expr.specs.Tree.{Tree, asked};
+ghost use Rattle.cfgx_grammar.specs.Answer.{HasOneTree};
+ghost use Rattle.cfgx_grammar.specs.Fold.{fold};
+ghost use Rattle.cfgx_grammar.specs.Grammar.{HasTree};
+ghost use Rattle.cfgx_grammar.specs.Tree.{Tree, asked};
 ghost use Rattle.cfgx_vectors.specs.Decisions.{IsSound};
 
 use cfg_expr::expr::Logic;

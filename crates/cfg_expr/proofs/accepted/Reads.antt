@@ -2,16 +2,16 @@
 use Rattle.std.proofs.Common.{◌≡◌, ℕ, ◌+◌, ◌<◌, List, [], ◌∷◌, ◌++◌, length, Option, Some, None}
 use Rattle.std.proofs.Common.{option_map, Ok, sym, refl, ap, ◌∙◌, subst, arith, length-append}
 use Rattle.cfgx_syntax.specs.Token.{Token}
-use Rattle.cfg_expr.specs.Question.{Question}
-use Rattle.cfg_expr.specs.Classification.{Class}
-use Rattle.cfg_expr.specs.Tree.{Tree}
-use Rattle.cfg_expr.specs.Grammar.{predicate_tokens, IsItem}
+use Rattle.cfgx_grammar.specs.Question.{Question}
+use Rattle.cfgx_grammar.specs.Classification.{Class}
+use Rattle.cfgx_grammar.specs.Tree.{Tree}
+use Rattle.cfgx_grammar.specs.Grammar.{predicate_tokens, IsItem}
 use Rattle.cfg_expr.specs.nodes.Located.{located}
 use Rattle.cfg_expr.specs.parsing.State.{Word, Pending, Open, State, name_of}
 use Rattle.cfg_expr.specs.parsing.Step.{result_map, span_of, located_class, class_of, over_top}
 use Rattle.cfg_expr.specs.parsing.Step.{one_more, root_more, leaf_ended, ended_by, predicate_ended}
 use Rattle.cfg_expr.specs.declared.expr.nodes.InnerPredicate.{InnerPredicate}
-use Rattle.cfg_expr.proofs.accepted.Lists.{Ready, Behind, Full, Full-ready, Full-behind}
+use Rattle.cfgx_grammar.proofs.accepted.Lists.{Ready, Behind, Full, Full-ready, Full-behind}
 
 -- how many items of the innermost list have ended
 abbrev pub current : List Open → ℕ → ℕ

@@ -10,9 +10,9 @@ use Rattle.std.proofs.lemmas.Bool.Decides.{Decides-eqb}
 use Rattle.cfgx_syntax.specs.Token.{Token}
 use Rattle.cfgx_syntax.specs.Items.{Item}
 use Rattle.cfgx_syntax.specs.Error.{Refusal, empty, multiple_root_predicates}
-use Rattle.cfg_expr.specs.Tree.{Tree}
-use Rattle.cfg_expr.specs.Grammar.{IsItem, IsTree}
-use Rattle.cfg_expr.specs.Neighbours.{Kind, kind_of, takes}
+use Rattle.cfgx_grammar.specs.Tree.{Tree}
+use Rattle.cfgx_grammar.specs.Grammar.{IsItem, IsTree}
+use Rattle.cfgx_grammar.specs.Neighbours.{Kind, kind_of, takes}
 use Rattle.cfg_expr.specs.nodes.Node.{with_list_ended}
 use Rattle.cfg_expr.specs.parsing.State.{Function, Pending, Open, State, name_of, initial}
 use Rattle.cfg_expr.specs.parsing.Step.{and_then, result_map, refusal, over_top, one_more}
@@ -20,7 +20,7 @@ use Rattle.cfg_expr.specs.parsing.Step.{predicate_ended, opened, member_count, h
 use Rattle.cfg_expr.specs.parsing.Step.{function_ended, closed_by, with_parens, word_of, with_last}
 use Rattle.cfg_expr.specs.parsing.Step.{apply, step, run, one_root, concluded_by, conclude}
 use Rattle.cfg_expr.specs.parsing.Step.{lacks_value}
-use Rattle.cfg_expr.proofs.accepted.Lists.{Full, trees_of, Ready-behind, Ready-comma}
+use Rattle.cfgx_grammar.proofs.accepted.Lists.{Full, trees_of, Ready-behind, Ready-comma}
 use Rattle.cfg_expr.proofs.accepted.Reads.{current, Around, Waits, PendsKey, PendsEquals}
 use Rattle.cfg_expr.proofs.accepted.Reads.{PendsValue, Named, Ended, IsFull, Settled, Reads}
 use Rattle.cfg_expr.proofs.accepted.Reads.{current-with_item, Around-with_item, IsBehind-item}

@@ -3,10 +3,10 @@ use Rattle.std.proofs.Common.{◌≡◌, ℕ, zero, suc, ◌+◌, ◌≤◌, tru
 use Rattle.std.proofs.Common.{◌++◌, length, take, drop, Option, Some, None, sym, refl, ap, ◌∙◌}
 use Rattle.std.proofs.Common.{arith, length-append, length-drop}
 use Rattle.std.specs.Prelude.{fold}
-use Rattle.cfg_expr.specs.Question.{Question}
-use Rattle.cfg_expr.specs.Tree.{Tree, Trees, is_function, is_leaf, count, asked, asked_by}
-use Rattle.cfg_expr.specs.Fold.{Operations, from_last, first_or, behind, values_by}
-use Rattle.cfg_expr.specs.Fold as tree_value
+use Rattle.cfgx_grammar.specs.Question.{Question}
+use Rattle.cfgx_grammar.specs.Tree.{Tree, Trees, is_function, is_leaf, count, asked, asked_by}
+use Rattle.cfgx_grammar.specs.Fold.{Operations, from_last, first_or, behind, values_by}
+use Rattle.cfgx_grammar.specs.Fold as tree_value
 use Rattle.cfg_expr.specs.nodes.Steps.{Step, asks, leaves, steps_of, steps_of_each, all_steps}
 use Rattle.cfg_expr.specs.nodes.Machine.{joined, applied, run}
 use Rattle.cfg_expr.specs.declared.expr.Func.{Func}

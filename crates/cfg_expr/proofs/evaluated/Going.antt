@@ -5,8 +5,8 @@ use Rattle.std.proofs.Common.{length-drop, take}
 use Rattle.std.specs.Prelude.{fold}
 use Rattle.std.proofs.lemmas.List.{length-reverse, reverse-append}
 use Rattle.smallvec.specs.SmallVec.{SmallVec}
-use Rattle.cfg_expr.specs.Question.{Question}
-use Rattle.cfg_expr.specs.Fold.{Operations}
+use Rattle.cfgx_grammar.specs.Question.{Question}
+use Rattle.cfgx_grammar.specs.Fold.{Operations}
 use Rattle.cfg_expr.specs.Asking.{Asker, Asks, Calls, MayAsk, MayAskEach}
 use Rattle.cfg_expr.specs.nodes.Steps.{Step, asks, begins, height_behind}
 use Rattle.cfg_expr.specs.nodes.Machine.{CanGo, CanTake, Ends, Goes, Standing, standing, run}

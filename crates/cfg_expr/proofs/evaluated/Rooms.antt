@@ -2,7 +2,7 @@
 use Rattle.std.proofs.Common.{◌≡◌, ℕ, zero, suc, ◌+◌, ◌-◌, ◌≤◌, List, [], ◌∷◌, length}
 use Rattle.std.proofs.Common.{Option, Some, None, refl, ap, ◌∙◌, arith, length-append}
 use Rattle.std.specs.Prelude.{if◌then◌else◌, max}
-use Rattle.cfg_expr.specs.Tree.{Tree, Trees, is_function, is_leaf, count, asked, asked_by}
+use Rattle.cfgx_grammar.specs.Tree.{Tree, Trees, is_function, is_leaf, count, asked, asked_by}
 use Rattle.cfg_expr.specs.nodes.Prefix.{prefix, prefix_each}
 use Rattle.cfg_expr.specs.nodes.Steps.{Step, asks, leaves, steps_of, steps_of_each, all_steps}
 use Rattle.cfg_expr.specs.nodes.Steps.{asked_in, most_values, most_open, height_behind}

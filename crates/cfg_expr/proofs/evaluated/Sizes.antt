@@ -6,8 +6,8 @@ use Rattle.std.specs.Prelude.{slice_range, codes}
 use Rattle.std.proofs.lemmas.List.{length-map, length-take}
 use Rattle.cfgx_syntax.specs.Token.{Token, Spells, IsWord}
 use Rattle.cfgx_syntax.specs.Items.{Item, Ending, ItemsFrom, Stands}
-use Rattle.cfg_expr.specs.Tree.{Tree, Trees}
-use Rattle.cfg_expr.specs.Grammar.{predicate_tokens, IsCall, IsItem, IsList, HasTree, commas}
+use Rattle.cfgx_grammar.specs.Tree.{Tree, Trees}
+use Rattle.cfgx_grammar.specs.Grammar.{predicate_tokens, IsCall, IsItem, IsList, HasTree, commas}
 use Rattle.cfg_expr.specs.nodes.Prefix.{prefix, prefix_each}
 use Rattle.cfg_expr.specs.nodes.Steps.{all_steps, most_open, most_values}
 use Rattle.cfg_expr.proofs.evaluated.Rooms.{functions_in, functions_in_each, values-all, open-all}

@@ -4,12 +4,12 @@ use Rattle.std.proofs.Common.{map, reverse, Option, Some, sym, refl, ap, ◌∙�
 use Rattle.std.specs.Prelude.{max}
 use Rattle.std.proofs.lemmas.List.{length-reverse, length-map}
 use Rattle.smallvec.specs.SmallVec.{SmallVec}
-use Rattle.cfg_expr.specs.Question.{Question}
-use Rattle.cfg_expr.specs.Tree.{Tree, asked}
-use Rattle.cfg_expr.specs.Grammar.{HasTree}
-use Rattle.cfg_expr.specs.Fold.{Operations, fold}
+use Rattle.cfgx_grammar.specs.Question.{Question}
+use Rattle.cfgx_grammar.specs.Tree.{Tree, asked}
+use Rattle.cfgx_grammar.specs.Grammar.{HasTree}
+use Rattle.cfgx_grammar.specs.Fold.{Operations, fold}
 use Rattle.cfg_expr.specs.Asking.{Asker, Calls, MayAskEach}
-use Rattle.cfg_expr.specs.Answer.{HasOneTree}
+use Rattle.cfgx_grammar.specs.Answer.{HasOneTree}
 use Rattle.cfg_expr.specs.Evaluation.{Evaluates, MayEvaluate}
 use Rattle.cfg_expr.specs.nodes.Keeps.{Keeps, questions_at}
 use Rattle.cfg_expr.specs.nodes.Prefix.{node_at}

@@ -4,7 +4,7 @@ use Rattle.std.proofs.Common.{None, sym, refl, ap, ◌∙◌, arith, append_asso
 use Rattle.std.specs.Prelude.{if◌then◌else◌}
 use Rattle.std.proofs.Math.Dec.{eqb-suc-zero}
 use Rattle.std.proofs.lemmas.List.{append-nil, map-append}
-use Rattle.cfg_expr.specs.Tree.{Tree, Trees, is_function, count}
+use Rattle.cfgx_grammar.specs.Tree.{Tree, Trees, is_function, count}
 use Rattle.cfg_expr.specs.nodes.Prefix.{Node, node_at, prefix, prefix_each}
 use Rattle.cfg_expr.specs.nodes.Steps.{Step, OpenList, asks, leaves, steps_of, steps_of_each}
 use Rattle.cfg_expr.specs.nodes.Steps.{all_steps, opened, with_leaf, with_function}

@@ -10,11 +10,11 @@ use Rattle.std.proofs.lemmas.List.Sums.{sum_by_push}
 use Rattle.cfgx_syntax.specs.Token.{Token}
 use Rattle.cfgx_syntax.specs.Items.{Item}
 use Rattle.cfgx_syntax.specs.Error.{Refusal}
-use Rattle.cfg_expr.specs.Classification.{Class}
-use Rattle.cfg_expr.specs.Neighbours.{Kind, takes}
-use Rattle.cfg_expr.specs.FirstFault.{names_function, closes, depth, key_token, key_last}
-use Rattle.cfg_expr.specs.FirstFault.{equals_token, equals_last, predicate_token, predicate_last}
-use Rattle.cfg_expr.specs.FirstFault.{predicate_fault, class_fault, head_token, last_token}
+use Rattle.cfgx_grammar.specs.Classification.{Class}
+use Rattle.cfgx_grammar.specs.Neighbours.{Kind, takes}
+use Rattle.cfgx_grammar.specs.FirstFault.{names_function, closes, depth, key_token, key_last}
+use Rattle.cfgx_grammar.specs.FirstFault.{equals_token, equals_last, predicate_token, predicate_last}
+use Rattle.cfgx_grammar.specs.FirstFault.{predicate_fault, class_fault, head_token, last_token}
 use Rattle.cfg_expr.specs.parsing.State.{Pending, Open, State, initial}
 use Rattle.cfg_expr.specs.parsing.Step.{lacks_value, class_of, result_map}
 use Rattle.cfg_expr.specs.parsing.Step.{located_class, leaf_ended, ended_by, predicate_ended}

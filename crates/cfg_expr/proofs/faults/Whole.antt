@@ -9,12 +9,12 @@ use Rattle.std.proofs.lemmas.Bool.{cases_lt}
 use Rattle.std.proofs.lemmas.List.{append-nil}
 use Rattle.cfgx_syntax.specs.Items.{Item, Ending, lexical}
 use Rattle.cfgx_syntax.specs.Error.{Refusal}
-use Rattle.cfg_expr.specs.FirstFault.{first_below, fault_behind, fault_at, end_fault, first_fault}
+use Rattle.cfgx_grammar.specs.FirstFault.{first_below, fault_behind, fault_at, end_fault, first_fault}
 use Rattle.cfg_expr.specs.parsing.State.{State, initial}
 use Rattle.cfg_expr.specs.parsing.Step.{and_then, step, run}
 use Rattle.cfg_expr.specs.parsing.Parser.{ended_as, answer_from}
-use Rattle.cfg_expr.proofs.faults.Counting.{slice_get_next, length_more, first_below-none}
-use Rattle.cfg_expr.proofs.faults.Counting.{first_below-found}
+use Rattle.cfgx_grammar.proofs.faults.Counting.{slice_get_next, length_more, first_below-none}
+use Rattle.cfgx_grammar.proofs.faults.Counting.{first_below-found}
 use Rattle.cfg_expr.proofs.faults.Matches.{Matches, Matches-initial}
 use Rattle.cfg_expr.proofs.faults.Steps.{Agrees, EndAgrees, step_agrees, end_agrees}
 

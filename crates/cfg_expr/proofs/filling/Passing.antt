@@ -5,7 +5,7 @@ use Rattle.std.proofs.Common.{None, sym, refl, ap, ◌∙◌, subst, arith, appe
 use Rattle.std.proofs.Common.{add-one}
 use Rattle.std.proofs.lemmas.List.{append-nil, map-append, replicate-append-replicate, drop_more}
 use Rattle.std.proofs.lemmas.List.{length-set}
-use Rattle.cfg_expr.specs.Tree.{Tree, Trees}
+use Rattle.cfgx_grammar.specs.Tree.{Tree, Trees}
 use Rattle.cfg_expr.specs.nodes.Parity.{turned, turned_at, reach, odd_behind, end_noted, pass}
 use Rattle.cfg_expr.specs.nodes.Prefix.{Node, node_at, prefix, prefix_each}
 use Rattle.cfg_expr.specs.declared.expr.Func.TheVariants.{Not, All, Any}

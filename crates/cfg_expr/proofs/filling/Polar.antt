@@ -5,9 +5,9 @@ use Rattle.std.proofs.Common.{◌∙◌, arith, drop-drop}
 use Rattle.std.specs.Prelude.{if◌then◌else◌, unwrap_or}
 use Rattle.std.specs.List.{slice_get}
 use Rattle.std.proofs.lemmas.List.{append-nil, length-map, map-id}
-use Rattle.cfg_expr.specs.Tree.{Tree, Trees, is_function, is_leaf, asked, asked_by}
-use Rattle.cfg_expr.specs.Fold.{first_or}
-use Rattle.cfg_expr.specs.Filling.{polar, polar_by}
+use Rattle.cfgx_grammar.specs.Tree.{Tree, Trees, is_function, is_leaf, asked, asked_by}
+use Rattle.cfgx_grammar.specs.Fold.{first_or}
+use Rattle.cfgx_grammar.specs.Filling.{polar, polar_by}
 use Rattle.cfg_expr.specs.nodes.Keeps.{KeepsTree}
 use Rattle.cfg_expr.specs.nodes.Parity.{turned, reach, pass, filled}
 use Rattle.cfg_expr.specs.nodes.Prefix.{node_at, prefix, places}

@@ -9,11 +9,11 @@ use Rattle.std.specs.declared.ops.Range.{Range}
 use Rattle.cfgx_syntax.specs.Token.{Token}
 use Rattle.cfgx_syntax.specs.Items.{Item}
 use Rattle.cfgx_syntax.specs.Error.{Refusal}
-use Rattle.cfg_expr.specs.Question.{Question}
-use Rattle.cfg_expr.specs.Classification.{Class, class}
-use Rattle.cfg_expr.specs.Tree.{Tree, Trees, is_function, is_leaf, count}
-use Rattle.cfg_expr.specs.Grammar.{commas, Separates, predicate_tokens, IsCall, IsItem, IsList}
-use Rattle.cfg_expr.specs.Neighbours.{Kind, takes, next}
+use Rattle.cfgx_grammar.specs.Question.{Question}
+use Rattle.cfgx_grammar.specs.Classification.{Class, class}
+use Rattle.cfgx_grammar.specs.Tree.{Tree, Trees, is_function, is_leaf, count}
+use Rattle.cfgx_grammar.specs.Grammar.{commas, Separates, predicate_tokens, IsCall, IsItem, IsList}
+use Rattle.cfgx_grammar.specs.Neighbours.{Kind, takes, next}
 use Rattle.cfg_expr.specs.nodes.Located.{located}
 use Rattle.cfg_expr.specs.nodes.Node.{Written, mark_of, with_leaf, with_function}
 use Rattle.cfg_expr.specs.nodes.Node.{with_function_ended}

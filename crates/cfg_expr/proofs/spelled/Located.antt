@@ -9,10 +9,10 @@ use Rattle.std.specs.Str.{bytes_eq}
 use Rattle.cfgx_targets.specs.Endian.{endian_named}
 use Rattle.cfgx_targets.specs.HasAtomic.{atomic_named}
 use Rattle.cfgx_targets.specs.Number.{read_below}
-use Rattle.cfg_expr.specs.Question.{Question, TargetQuestion}
-use Rattle.cfg_expr.specs.Classification.{Class, Line, class, by_name, target_lines, key_lines}
-use Rattle.cfg_expr.specs.Classification.{family, bare, valued, if_read, target_feature}
-use Rattle.cfg_expr.specs.Classification.{target_class, plain}
+use Rattle.cfgx_grammar.specs.Question.{Question, TargetQuestion}
+use Rattle.cfgx_grammar.specs.Classification.{Class, Line, class, by_name, target_lines, key_lines}
+use Rattle.cfgx_grammar.specs.Classification.{family, bare, valued, if_read, target_feature}
+use Rattle.cfgx_grammar.specs.Classification.{target_class, plain}
 use Rattle.cfg_expr.specs.nodes.Located.{located, question_at, HasCut}
 use Rattle.cfg_expr.specs.nodes.Writes.{Holds}
 use Rattle.std.specs.declared.ops.Range.{Range}

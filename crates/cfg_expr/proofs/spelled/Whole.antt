@@ -6,8 +6,8 @@ use Rattle.std.specs.Prelude.{if◌then◌else◌}
 use Rattle.std.specs.List.{AllByRecursion}
 use Rattle.std.proofs.lemmas.List.{append-nil}
 use Rattle.cfgx_syntax.specs.Items.{Item}
-use Rattle.cfg_expr.specs.Tree.{Tree, Trees, is_function, is_leaf, count}
-use Rattle.cfg_expr.specs.Grammar.{commas, IsItem, IsTree}
+use Rattle.cfgx_grammar.specs.Tree.{Tree, Trees, is_function, is_leaf, count}
+use Rattle.cfgx_grammar.specs.Grammar.{commas, IsItem, IsTree}
 use Rattle.cfg_expr.specs.nodes.Node.{Written, nothing, with_list_ended}
 use Rattle.cfg_expr.specs.nodes.Prefix.{Node, node_at, prefix, prefix_each, places}
 use Rattle.cfg_expr.specs.nodes.Keeps.{KeepsTree}

@@ -4,7 +4,7 @@ use Rattle.std.proofs.Common.{sym, refl, ap, ◌∙◌, arith, append_assoc, len
 use Rattle.std.specs.List.{AllByRecursion}
 use Rattle.std.proofs.lemmas.List.{append-nil, map-append, length-map, length_push, set_at, take_at}
 use Rattle.std.proofs.lemmas.List.{drop_at}
-use Rattle.cfg_expr.specs.Question.{Question}
+use Rattle.cfgx_grammar.specs.Question.{Question}
 use Rattle.cfg_expr.specs.nodes.Located.{question_at, HasCut}
 use Rattle.cfg_expr.specs.nodes.Node.{Written, mark_of, with_leaf, with_function}
 use Rattle.cfg_expr.specs.nodes.Node.{with_function_ended}

@@ -2,9 +2,9 @@
 -- they are asked.
 use Rattle.std.specs.Prelude.{◌≡◌, ℕ, List, map, Option, Some, None, option_map, option_and_then}
 use Rattle.std.specs.List.{AllByRecursion, slice_get, filter_map}
-use Rattle.cfg_expr.specs.Question.{Question}
-use Rattle.cfg_expr.specs.Tree.{Tree}
-use Rattle.cfg_expr.specs.Grammar.{HasTree}
+use Rattle.cfgx_grammar.specs.Question.{Question}
+use Rattle.cfgx_grammar.specs.Tree.{Tree}
+use Rattle.cfgx_grammar.specs.Grammar.{HasTree}
 use Rattle.cfg_expr.specs.nodes.Located.{HasCut, question_at}
 use Rattle.cfg_expr.specs.nodes.Prefix.{node_at, prefix, places}
 use Rattle.cfg_expr.specs.nodes.Writes.{NodeHasCut}

@@ -2,7 +2,7 @@
 use Rattle.std.specs.Prelude.{ℕ, List, slice_range, Option, Some, None, unwrap_or}
 use Rattle.std.specs.declared.ops.Range.{Range}
 use Rattle.cfgx_syntax.specs.Cut.{IsCut}
-use Rattle.cfg_expr.specs.Question.{Question, TargetQuestion}
+use Rattle.cfgx_grammar.specs.Question.{Question, TargetQuestion}
 use Rattle.cfg_expr.specs.declared.expr.nodes.InnerTarget.{InnerTarget}
 use Rattle.cfg_expr.specs.declared.expr.nodes.InnerTarget.TheVariants as target
 use Rattle.cfg_expr.specs.declared.expr.nodes.InnerPredicate.{InnerPredicate}

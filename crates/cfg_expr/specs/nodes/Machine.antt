@@ -3,8 +3,8 @@
 use Rattle.std.specs.Prelude.{◌≡◌, ◌≤◌, List, [], ◌∷◌, fold, take, drop, reverse, length}
 use Rattle.std.specs.Prelude.{Option, Some, None, option_map}
 use Rattle.smallvec.specs.SmallVec.{SmallVec}
-use Rattle.cfg_expr.specs.Question.{Question}
-use Rattle.cfg_expr.specs.Fold.{Operations}
+use Rattle.cfgx_grammar.specs.Question.{Question}
+use Rattle.cfgx_grammar.specs.Fold.{Operations}
 use Rattle.cfg_expr.specs.Asking.{Asker, Calls, MayAskEach}
 use Rattle.cfg_expr.specs.nodes.Steps.{Step, asked_in, most_values}
 use Rattle.cfg_expr.specs.declared.expr.Func.{Func}

@@ -2,7 +2,7 @@
 -- the unknown answers of the leaves among them are filled.
 use Rattle.std.specs.Prelude.{ℕ, ◌+◌, Bool, true, false, not, List, [], ◌∷◌, get_or, set, drop}
 use Rattle.std.specs.Prelude.{Option, Some, None, unwrap_or}
-use Rattle.cfg_expr.specs.Fold.{first_or}
+use Rattle.cfgx_grammar.specs.Fold.{first_or}
 use Rattle.cfg_expr.specs.declared.expr.Func.TheVariants.{Not, All, Any}
 use Rattle.cfg_expr.specs.declared.expr.nodes.ExprNode.{ExprNode}
 use Rattle.cfg_expr.specs.declared.expr.nodes.ExprNode.TheVariants as node

@@ -3,7 +3,7 @@ use Rattle.std.specs.Prelude.{ℕ, zero, suc, ◌+◌, ◌-◌, ◌==◌, max, L
 use Rattle.std.specs.Prelude.{Option, Some, None}
 use Rattle.std.specs.Prelude.{◌≡◌, true, false, if◌then◌else◌}
 use Rattle.smallvec.specs.SmallVec.{SmallVec, HasRoomFor}
-use Rattle.cfg_expr.specs.Tree.{Tree, Trees, is_leaf, count}
+use Rattle.cfgx_grammar.specs.Tree.{Tree, Trees, is_leaf, count}
 use Rattle.cfg_expr.specs.declared.expr.Func.{Func}
 use Rattle.cfg_expr.specs.declared.expr.Func.TheVariants.{Not, All, Any}
 use Rattle.cfg_expr.specs.declared.expr.nodes.ExprNode.{ExprNode}

@@ -4,7 +4,7 @@ use Rattle.std.specs.Prelude.{option_map, Result, Ok, Err}
 use Rattle.std.specs.declared.ops.Range.{Range}
 use Rattle.cfgx_syntax.specs.Error.{Refusal, unexpected, cause_of}
 use Rattle.cfgx_syntax.specs.declared.error.Reason.{Reason}
-use Rattle.cfg_expr.specs.Classification.{target_class, other_class}
+use Rattle.cfgx_grammar.specs.Classification.{target_class, other_class}
 use Rattle.cfg_expr.specs.parsing.State.{Function, Word, Pending, Open}
 use Rattle.cfg_expr.specs.parsing.Step.{refusal, located_class}
 use Rattle.cfg_expr.specs.declared.expr.Func.{Func}

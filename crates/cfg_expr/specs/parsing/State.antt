@@ -1,7 +1,7 @@
 -- What the parser keeps between two tokens.
 use Rattle.std.specs.Prelude.{ℕ, List, [], Option, None}
 use Rattle.cfgx_syntax.specs.Token.{Token}
-pub use Rattle.cfg_expr.specs.FirstFault.{Word, KeyAndValue as Pending}
+pub use Rattle.cfgx_grammar.specs.FirstFault.{Word, KeyAndValue as Pending}
 use Rattle.cfg_expr.specs.nodes.Node.{Mark, Written, nothing}
 
 -- the three functions

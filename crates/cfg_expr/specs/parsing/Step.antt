@@ -7,10 +7,10 @@ use Rattle.cfgx_syntax.specs.Token.{Token}
 use Rattle.cfgx_syntax.specs.Items.{Item}
 use Rattle.cfgx_syntax.specs.Error.{Refusal, unexpected, unopened_parens, unclosed_parens}
 use Rattle.cfgx_syntax.specs.Error.{invalid_not, empty, multiple_root_predicates}
-use Rattle.cfg_expr.specs.Classification.{Class}
-pub use Rattle.cfg_expr.specs.FirstFault.{refusal, word_of, with_value, part_of, class_of}
-pub use Rattle.cfg_expr.specs.FirstFault.{lacks_value}
-use Rattle.cfg_expr.specs.Neighbours.{next, expected}
+use Rattle.cfgx_grammar.specs.Classification.{Class}
+pub use Rattle.cfgx_grammar.specs.FirstFault.{refusal, word_of, with_value, part_of, class_of}
+pub use Rattle.cfgx_grammar.specs.FirstFault.{lacks_value}
+use Rattle.cfgx_grammar.specs.Neighbours.{next, expected}
 use Rattle.cfg_expr.specs.nodes.Node.{mark_of, with_leaf, with_function, with_list_ended}
 use Rattle.cfg_expr.specs.nodes.Node.{with_function_ended}
 use Rattle.cfg_expr.specs.nodes.Located.{located}

@@ -2,11 +2,11 @@
 //! one and false with the other.
 ghost use Rattle.std.specs.Prelude.{◌≡◌, ◌<◌, ◌∷◌, [], true, false, length, map};
 ghost use Rattle.std.specs.Prelude.{get_or, replicate, set, IfOk};
-ghost use Rattle.cfg_expr.specs.Answer.{HasOneTree};
-ghost use Rattle.cfg_expr.specs.Filling.{three_valued, PolarFillings};
-ghost use Rattle.cfg_expr.specs.Fold.{fold};
-ghost use Rattle.cfg_expr.specs.Grammar.{HasTree};
-ghost use Rattle.cfg_expr.specs.Tree.{Tree, asked};
+ghost use Rattle.cfgx_grammar.specs.Answer.{HasOneTree};
+ghost use Rattle.cfgx_grammar.specs.Filling.{three_valued, PolarFillings};
+ghost use Rattle.cfgx_grammar.specs.Fold.{fold};
+ghost use Rattle.cfgx_grammar.specs.Grammar.{HasTree};
+ghost use Rattle.cfgx_grammar.specs.Tree.{Tree, asked};
 ghost use Rattle.cfg_expr.specs.nodes.Keeps.{Keeps};
 ghost use Rattle.cfg_expr.specs.nodes.Measure.{Measures};
 ghost use Rattle.cfg_expr.specs.nodes.Steps.{shape, text_list, walk};

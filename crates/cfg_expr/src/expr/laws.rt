@@ -3,7 +3,7 @@
 ghost use Rattle.std.specs.Prelude.{◌≡◌, ◌↔◌, IsTrue};
 ghost use Rattle.cfg_expr.specs.Predicate.{question_of, target_of};
 ghost use Rattle.cfg_expr.specs.Order.{func_cmp};
-ghost use Rattle.cfg_expr.specs.Tree.{Tree, Trees, asked, asked_each, arranged};
+ghost use Rattle.cfgx_grammar.specs.Tree.{Tree, Trees, asked, asked_each, arranged};
 
 use super::{Func, Predicate, TargetPredicate};
 use std::cmp::Ordering;

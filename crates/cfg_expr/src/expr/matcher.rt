@@ -1,6 +1,6 @@
 //! Whether a target meets a predicate.
 ghost use Rattle.std.specs.Prelude.{◌≡◌, IfOk};
-ghost use Rattle.cfg_expr.specs.Matching.{has_text, meets};
+ghost use Rattle.cfgx_grammar.specs.Matching.{has_text, meets};
 ghost use Rattle.cfg_expr.specs.Predicate.{target_of};
 
 use super::TargetPredicate;
@@ -12,7 +12,7 @@ use std::alloc::{AllocError, Allocator};
 /// What predicates on the target are asked of. A caller's own type may be one.
 pub trait TargetMatcher {
     ghost use Rattle.std.specs.Prelude.{Bool};
-    ghost use Rattle.cfg_expr.specs.Question.{TargetQuestion};
+    ghost use Rattle.cfgx_grammar.specs.Question.{TargetQuestion};
 
     /// What is answered to a predicate: a function of both values.
     ghost answer: { Self → TargetQuestion → Bool };

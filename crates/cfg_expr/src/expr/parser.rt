@@ -3,7 +3,7 @@ ghost use Rattle.std.specs.Prelude.{◌≡◌, ◌+◌, ◌≤◌, length, ◌<�
 ghost use Rattle.std.specs.Prelude.{map, reverse, IsTrue, OnOk, IfOk};
 ghost use Rattle.cfgx_syntax.specs.Error.{cause_of, unexpected, FailsWith, fault_in};
 ghost use Rattle.cfgx_syntax.specs.Lexer.{token_of, item_of};
-ghost use Rattle.cfg_expr.specs.Neighbours.{next, expected};
+ghost use Rattle.cfgx_grammar.specs.Neighbours.{next, expected};
 ghost use Rattle.cfg_expr.specs.nodes.Writer.{Fits, written_of};
 ghost use Rattle.cfg_expr.specs.parsing.State.{State};
 ghost use Rattle.cfg_expr.specs.parsing.Step.{refusal, over_top, one_more, root_more, with_item};

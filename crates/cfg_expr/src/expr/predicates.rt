@@ -142,7 +142,7 @@ pub struct Predicates<'a> {
 
 impl<'a> Model for Predicates<'a> {
     ghost use Rattle.std.specs.Prelude.{List};
-    ghost use Rattle.cfg_expr.specs.Question.{Question};
+    ghost use Rattle.cfgx_grammar.specs.Question.{Question};
     ghost use Rattle.cfg_expr.specs.nodes.Keeps.{questions_at, NameLeaves};
 
     ghost Value = { List Question };

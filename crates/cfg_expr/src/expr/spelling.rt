@@ -5,8 +5,8 @@ ghost use Rattle.std.specs.Fmt.{decimal};
 ghost use Rattle.cfgx_targets.specs.Endian.{endian_text};
 ghost use Rattle.cfgx_targets.specs.HasAtomic.{atomic_text};
 ghost use Rattle.cfg_expr.specs.Predicate.{question_of, target_of};
-ghost use Rattle.cfg_expr.specs.Regular.{IsAlone, IsRegular};
-ghost use Rattle.cfg_expr.specs.Spelling.{spelling, target_spelling, with_value};
+ghost use Rattle.cfgx_grammar.specs.Regular.{IsAlone, IsRegular};
+ghost use Rattle.cfgx_grammar.specs.Spelling.{spelling, target_spelling, with_value};
 ghost use Rattle.cfg_expr.specs.Writing.{Takes, Writes};
 
 use super::predicates::{Predicate, TargetPredicate};

@@ -1,7 +1,7 @@
 // The value of a text, where flags say which predicates are true and which are unknown.
 
 ghost use Rattle.std.specs.Prelude.{◌≡◌, ◌∷◌, ◌↔◌, [], IfErr, IsTrue, OnOk, map};
-ghost use Rattle.cfg_expr.specs.Answer.{Answers};
+ghost use Rattle.cfgx_grammar.specs.Answer.{Answers};
 ghost use Rattle.cfg_expr.specs.Predicate.{question_of};
 ghost use Rattle.cfgx_syntax.specs.Stripping.{strip};
 ghost use Rattle.cfgx_engine.specs.Answer.{AddsFlag, BlamesFirst, GivesValue, ReadsFlags};
@@ -30,7 +30,7 @@ impl<A: SmallAllocator> Drop for Flag<A> {
 
 impl<A: SmallAllocator> Model for Flag<A> {
     ghost use Rattle.std.specs.Prelude.{List, ℕ};
-    ghost use Rattle.cfg_expr.specs.Answer.{HasOneTree};
+    ghost use Rattle.cfgx_grammar.specs.Answer.{HasOneTree};
 
     ghost Value = { List ℕ };
 

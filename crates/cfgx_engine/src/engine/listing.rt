@@ -3,7 +3,7 @@
 ghost use Rattle.std.specs.Prelude.{◌≡◌, ◌++◌, IfOk, OnOk};
 ghost use Rattle.cfgx_engine.specs.Output.{line, lines};
 ghost use Rattle.cfg_expr.specs.Predicate.{question_of};
-ghost use Rattle.cfg_expr.specs.Spelling.{spelling};
+ghost use Rattle.cfgx_grammar.specs.Spelling.{spelling};
 
 use cfg_expr::Predicate;
 use cfg_expr::expr::{Predicates, spell};

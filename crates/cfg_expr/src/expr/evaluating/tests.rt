@@ -1,9 +1,9 @@
 //! The value of a tree, computed on rows that were worked out by hand.
 ghost use Rattle.std.specs.Prelude.{◌≡◌, [], ◌∷◌, codes, true, false, Some, None};
-ghost use Rattle.cfg_expr.specs.Fold.{fold};
-ghost use Rattle.cfg_expr.specs.Tree.{Tree, Trees};
+ghost use Rattle.cfgx_grammar.specs.Fold.{fold};
+ghost use Rattle.cfgx_grammar.specs.Tree.{Tree, Trees};
 ghost use Rattle.cfg_expr.specs.Worked.{flag, listed, nested, one, shallow};
-ghost use Rattle.cfg_expr.specs.WorkedValues.{terms};
+ghost use Rattle.cfgx_grammar.specs.WorkedValues.{terms};
 
 use super::*;
 

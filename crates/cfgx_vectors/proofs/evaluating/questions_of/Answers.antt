@@ -1,7 +1,7 @@
 -- Each call counts one more, in the same place.
 use Rattle.std.proofs.Common.{◌∙◌, arith, rules, sym}
 use Rattle.cfgx_vectors.specs.Callers.{one_more}
-use Rattle.cfg_expr.specs.Tree.{asked}
+use Rattle.cfgx_grammar.specs.Tree.{asked}
 use Rattle.cfg_expr.proofs.Chains.{MayAskEach-always, Calls-folds}
 use Rattle.cfgx_vectors.proofs.Counted.{fold-one_more, fold-same}
 use Rattle.cfgx_vectors.proofs.evaluating.questions_of.Goals as goal

@@ -1,8 +1,8 @@
 -- Each call answers whether the predicate is among the flags, and leaves these as they are.
 use Rattle.std.proofs.Common.{◌≡◌, ◌∙◌, refl, ap, rules}
 use Rattle.std.proofs.lemmas.Slice.Zip.{AllZip-map}
-use Rattle.cfg_expr.specs.Fold.{fold}
-use Rattle.cfg_expr.specs.Filling.{two_valued}
+use Rattle.cfgx_grammar.specs.Fold.{fold}
+use Rattle.cfgx_grammar.specs.Filling.{two_valued}
 use Rattle.cfg_expr.proofs.Chains.{MayAskEach-always, Calls-AllZip}
 use Rattle.cfgx_vectors.specs.Callers.{is_among}
 use Rattle.cfgx_vectors.proofs.evaluating.value_with_flags.Goals as goal

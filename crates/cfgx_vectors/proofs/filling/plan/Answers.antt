@@ -2,11 +2,11 @@
 use Rattle.std.proofs.Common.{◌≡◌, ◌∙◌, ℕ, Bool, List, Option, Global, ap, length}
 use Rattle.std.proofs.Common.{subst, sym}
 use Rattle.std.specs.Prelude.{Vec}
-use Rattle.cfg_expr.specs.Answer.{HasOneTree}
-use Rattle.cfg_expr.specs.Filling.{IsExact, PolarFillings, three_valued, two_valued}
-use Rattle.cfg_expr.specs.Fold.{fold}
-use Rattle.cfg_expr.specs.Grammar.{HasTree}
-use Rattle.cfg_expr.specs.Tree.{Tree, asked}
+use Rattle.cfgx_grammar.specs.Answer.{HasOneTree}
+use Rattle.cfgx_grammar.specs.Filling.{IsExact, PolarFillings, three_valued, two_valued}
+use Rattle.cfgx_grammar.specs.Fold.{fold}
+use Rattle.cfgx_grammar.specs.Grammar.{HasTree}
+use Rattle.cfgx_grammar.specs.Tree.{Tree, asked}
 use Rattle.cfgx_vectors.proofs.filling.plan.Goals as goal
 
 -- two vectors of truth values, or nothing

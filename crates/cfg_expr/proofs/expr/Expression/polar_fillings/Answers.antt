@@ -2,11 +2,11 @@
 use Rattle.std.proofs.Common.{◌∙◌, List, ℕ, subst, sym}
 use Rattle.std.specs.Prelude.{IfOk}
 use Rattle.cfgx_syntax.proofs.Finding.{HasOneTokenList-of}
-use Rattle.cfg_expr.specs.Answer.{HasOneTree}
-use Rattle.cfg_expr.specs.Filling.{PolarFillings}
-use Rattle.cfg_expr.specs.Grammar.{HasTree}
+use Rattle.cfgx_grammar.specs.Answer.{HasOneTree}
+use Rattle.cfgx_grammar.specs.Filling.{PolarFillings}
+use Rattle.cfgx_grammar.specs.Grammar.{HasTree}
 use Rattle.cfg_expr.proofs.Answering.{HasOneTree-tree}
-use Rattle.cfg_expr.proofs.Exactness.{IsExact-fold}
+use Rattle.cfgx_grammar.proofs.Exactness.{IsExact-fold}
 use Rattle.cfg_expr.proofs.expr.Expression.polar_fillings.Goals as goal
 
 pub returns-clause-exact : goal.returns-clause-exact

@@ -1,9 +1,9 @@
 -- The nodes are those of a tree of the text, and their leaves ask what it asks.
 use Rattle.std.proofs.Common.{subst, sym, ◌∙◌}
 use Rattle.std.specs.List.{AllByRecursion}
-use Rattle.cfg_expr.specs.Grammar.{HasTree}
-use Rattle.cfg_expr.specs.Regular.{IsRegular}
-use Rattle.cfg_expr.proofs.alone.Regular.{regular_tree}
+use Rattle.cfgx_grammar.specs.Grammar.{HasTree}
+use Rattle.cfgx_grammar.specs.Regular.{IsRegular}
+use Rattle.cfgx_grammar.proofs.alone.Regular.{regular_tree}
 use Rattle.cfg_expr.proofs.Asked.{NameLeaves-kept, questions_at-kept}
 use Rattle.cfg_expr.proofs.expr.Expression.predicates.Goals as goal
 

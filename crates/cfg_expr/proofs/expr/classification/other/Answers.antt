@@ -1,7 +1,7 @@
 -- What follows `target_` is looked up.
 use Rattle.std.proofs.Common.{◌≡◌, ◌++◌, Some, refl, ap, sym, ◌∙◌}
 use Rattle.std.specs.Prelude.{codes}
-use Rattle.cfg_expr.proofs.Classes.{other_class-target}
+use Rattle.cfgx_grammar.proofs.Classes.{other_class-target}
 use Rattle.cfg_expr.proofs.expr.classification.other.Goals as goal
 
 pub returns-in-Some-value : goal.returns-in-Some-value

@@ -1,6 +1,6 @@
 -- What the walk gives is the value of the text's tree.
 use Rattle.std.proofs.Common.{◌≡◌, [], ◌∷◌, ◌∙◌, reverse, rules, arith, refl, ap, Some}
-use Rattle.cfg_expr.specs.Fold.{fold}
+use Rattle.cfgx_grammar.specs.Fold.{fold}
 use Rattle.cfg_expr.specs.nodes.Machine.{last_of}
 use Rattle.cfg_expr.specs.nodes.Steps.{text_list}
 use Rattle.cfgx_syntax.proofs.Finding.{HasOneTokenList-of}

@@ -2,7 +2,7 @@
 use Rattle.std.proofs.Common.{◌≡◌, ◌∙◌, Bool, true, false, Option, Some, None, ap, length, refl}
 use Rattle.std.proofs.Common.{subst, sym}
 use Rattle.std.specs.Prelude.{is_some}
-use Rattle.cfg_expr.specs.Tree.{asked}
+use Rattle.cfgx_grammar.specs.Tree.{asked}
 use Rattle.cfg_expr.specs.nodes.Keeps.{KeepsTree}
 use Rattle.cfg_expr.proofs.Asked.{length-asked_kept}
 use Rattle.cfg_expr.proofs.filling.Polar.{polar-kept}

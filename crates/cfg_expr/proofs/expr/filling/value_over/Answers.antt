@@ -1,9 +1,9 @@
 -- The closure answers with the answers, one after another.
 use Rattle.std.proofs.Common.{rules, None, length, ap, ◌∙◌, arith}
 use Rattle.std.proofs.lemmas.List.{take_all}
-use Rattle.cfg_expr.specs.Filling.{three_valued}
-use Rattle.cfg_expr.specs.Fold.{fold}
-use Rattle.cfg_expr.specs.Tree.{asked}
+use Rattle.cfgx_grammar.specs.Filling.{three_valued}
+use Rattle.cfgx_grammar.specs.Fold.{fold}
+use Rattle.cfgx_grammar.specs.Tree.{asked}
 use Rattle.cfg_expr.proofs.Chains.{MayAskEach-always, Calls-taken}
 use Rattle.cfg_expr.proofs.expr.filling.value_over.Goals as goal
 

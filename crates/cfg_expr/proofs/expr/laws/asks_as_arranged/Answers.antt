@@ -1,4 +1,4 @@
-use Rattle.cfg_expr.proofs.Arranging.{asked_each-arranged}
+use Rattle.cfgx_grammar.proofs.Arranging.{asked_each-arranged}
 use Rattle.cfg_expr.proofs.expr.laws.asks_as_arranged.Goals as goal
 
 pub returns : goal.returns

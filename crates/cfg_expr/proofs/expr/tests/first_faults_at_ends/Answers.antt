@@ -1,7 +1,7 @@
 -- Each fault is computed.
 use Rattle.std.proofs.Common.{refl}
 use Rattle.cfgx_targets.specs.Number.{read_below}
-use Rattle.cfg_expr.specs.Classification.{class}
+use Rattle.cfgx_grammar.specs.Classification.{class}
 use Rattle.cfg_expr.proofs.expr.tests.first_faults_at_ends.Goals as goal
 
 pub returns : goal.returns

@@ -1,6 +1,6 @@
 -- Each fault is computed.
 use Rattle.std.proofs.Common.{refl}
-use Rattle.cfg_expr.specs.Classification.{class}
+use Rattle.cfgx_grammar.specs.Classification.{class}
 use Rattle.cfg_expr.proofs.expr.tests.first_faults_at_tokens.Goals as goal
 
 pub returns : goal.returns

@@ -1,6 +1,6 @@
 -- Each row is computed.
 use Rattle.std.proofs.Common.{refl}
-use Rattle.cfg_expr.specs.Classification.{class}
+use Rattle.cfgx_grammar.specs.Classification.{class}
 use Rattle.cfg_expr.proofs.expr.tests.keys.Goals as goal
 
 pub returns : goal.returns

@@ -2,7 +2,7 @@
 use Rattle.std.proofs.Common.{refl}
 use Rattle.cfgx_targets.specs.HasAtomic.{atomic_named}
 use Rattle.cfgx_targets.specs.Number.{read_below}
-use Rattle.cfg_expr.specs.Classification.{class}
+use Rattle.cfgx_grammar.specs.Classification.{class}
 use Rattle.cfg_expr.proofs.expr.tests.numbers.Goals as goal
 
 pub returns : goal.returns

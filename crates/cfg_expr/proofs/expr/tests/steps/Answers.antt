@@ -1,6 +1,6 @@
 -- Each run of the parser is computed.
 use Rattle.std.proofs.Common.{refl}
-use Rattle.cfg_expr.specs.Classification.{class}
+use Rattle.cfgx_grammar.specs.Classification.{class}
 use Rattle.cfg_expr.proofs.expr.tests.steps.Goals as goal
 
 pub returns : goal.returns

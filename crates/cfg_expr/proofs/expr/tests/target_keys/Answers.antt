@@ -1,7 +1,7 @@
 -- Each row is computed.
 use Rattle.std.proofs.Common.{refl}
 use Rattle.cfgx_targets.specs.Endian.{endian_named}
-use Rattle.cfg_expr.specs.Classification.{class}
+use Rattle.cfgx_grammar.specs.Classification.{class}
 use Rattle.cfg_expr.proofs.expr.tests.target_keys.Goals as goal
 
 pub returns : goal.returns

@@ -7,10 +7,10 @@ use Rattle.cfgx_syntax.specs.Error.{Refusal}
 use Rattle.cfgx_syntax.specs.Items.{Item, Ending, IsBlank, Stands, AreItems}
 use Rattle.cfgx_syntax.specs.Token.{Token, IsKey, Spells, IsWhole}
 use Rattle.cfgx_syntax.proofs.TokenList.{ItemsFrom-same}
-use Rattle.cfg_expr.specs.Answer.{HasNoTree}
-use Rattle.cfg_expr.specs.Classification.{class}
-use Rattle.cfg_expr.specs.Grammar.{IsItem, IsList, IsTree}
-use Rattle.cfg_expr.specs.Tree.{Trees}
+use Rattle.cfgx_grammar.specs.Answer.{HasNoTree}
+use Rattle.cfgx_grammar.specs.Classification.{class}
+use Rattle.cfgx_grammar.specs.Grammar.{IsItem, IsList, IsTree}
+use Rattle.cfgx_grammar.specs.Tree.{Trees}
 use Rattle.cfg_expr.specs.Worked.{flag, one, item, key_a, key_b, listed, listed_tokens, single}
 use Rattle.cfg_expr.specs.Worked.{single_items, comma_items, not_items}
 use Rattle.cfg_expr.specs.parsing.State.{initial}

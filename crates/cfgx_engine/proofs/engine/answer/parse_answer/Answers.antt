@@ -1,5 +1,5 @@
 use Rattle.std.proofs.Common.{inl, subst, sym}
-use Rattle.cfg_expr.specs.Answer.{HasOneTree}
+use Rattle.cfgx_grammar.specs.Answer.{HasOneTree}
 use Rattle.cfgx_engine.proofs.OutputLemmas.{Lists-one}
 use Rattle.cfgx_engine.proofs.engine.answer.parse_answer.Goals as goal
 

@@ -1,7 +1,7 @@
 use Rattle.std.proofs.lemmas.Bool.Decides.{same_from_decides}
 use Rattle.std.proofs.lemmas.Map.Made.{is_member-Decides}
 use Rattle.std.proofs.lemmas.Slice.Eq.{bytes_eq-Decides}
-use Rattle.cfg_expr.proofs.Matched.{is_same_width-Decides}
+use Rattle.cfgx_grammar.proofs.Matched.{is_same_width-Decides}
 use Rattle.cfg_expr.proofs.expr.matcher.TargetInfoTargetMatcher.matches.Goals as goal
 
 pub returns-in-Family : goal.returns-in-Family

@@ -1,8 +1,8 @@
 use Rattle.std.proofs.Common.{◌≡◌, true, false, List, ◌∷◌, sym, ap, subst, ◌∙◌, ⊎_elim}
 use Rattle.cfg_expr.specs.Predicate.{question_of}
-use Rattle.cfg_expr.specs.Question.{Question}
-use Rattle.cfg_expr.specs.Grammar.{HasTree}
-use Rattle.cfg_expr.specs.Tree.{asked}
+use Rattle.cfgx_grammar.specs.Question.{Question}
+use Rattle.cfgx_grammar.specs.Grammar.{HasTree}
+use Rattle.cfgx_grammar.specs.Tree.{asked}
 use Rattle.std.specs.List.{Contains}
 use Rattle.cfgx_engine.proofs.Members.{Contains-cases, Contains-nothing, Contains-there}
 use Rattle.cfgx_engine.proofs.engine.flags.Flag.names.Goals as goal

@@ -8,7 +8,7 @@ use Rattle.cfgx_syntax.specs.Error.{Cause, unexpected, invalid_integer, invalid_
 use Rattle.cfgx_targets.specs.Endian.{endian_named}
 use Rattle.cfgx_targets.specs.HasAtomic.{atomic_named}
 use Rattle.cfgx_targets.specs.Number.{read_below}
-use Rattle.cfg_expr.specs.Question.{Question, TargetQuestion}
+use Rattle.cfgx_grammar.specs.Question.{Question, TargetQuestion}
 
 -- which part of a predicate is at fault
 pub data Part : Type 0 where

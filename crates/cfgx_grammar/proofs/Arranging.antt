@@ -2,9 +2,9 @@
 use Rattle.std.proofs.Common.{◌≡◌, Bool, true, false, List, [], ◌++◌, sym, refl, ap, ◌∙◌}
 use Rattle.std.proofs.Common.{append_assoc}
 use Rattle.std.specs.Prelude.{if◌then◌else◌}
-use Rattle.cfg_expr.specs.Question.{Question}
-use Rattle.cfg_expr.specs.Tree.{Tree, Trees, is_function, is_leaf, only, followed_by, arranged}
-use Rattle.cfg_expr.specs.Tree.{asked, asked_by, asked_each}
+use Rattle.cfgx_grammar.specs.Question.{Question}
+use Rattle.cfgx_grammar.specs.Tree.{Tree, Trees, is_function, is_leaf, only, followed_by, arranged}
+use Rattle.cfgx_grammar.specs.Tree.{asked, asked_by, asked_each}
 
 asked_each-followed_by : (trees others : Trees) → asked_each (followed_by trees others) ≡
     asked_each trees ++ asked_each others

@@ -8,13 +8,13 @@ use Rattle.std.proofs.lemmas.Str.{NoCharPasses-nil}
 use Rattle.cfgx_syntax.specs.Token.{Token, IsKey, HasNoQuote, in_quotes, Spells, IsWhole}
 use Rattle.cfgx_syntax.specs.Items.{Item, Ending, IsBlank, Stands, AreItems}
 use Rattle.cfgx_syntax.proofs.TokenList.{ItemsFrom-same}
-use Rattle.cfg_expr.specs.Question.{Question}
-use Rattle.cfg_expr.specs.Classification.{Class, class}
-use Rattle.cfg_expr.specs.Tree.{Tree}
-use Rattle.cfg_expr.specs.Grammar.{commas, predicate_tokens, IsTree}
-use Rattle.cfg_expr.specs.Regular.{CanBeQuoted, IsRegular, IsAlone}
-use Rattle.cfg_expr.specs.Spelling.{with_value, spelling}
-use Rattle.cfg_expr.proofs.alone.Spelt.{text_of, spelt_regular}
+use Rattle.cfgx_grammar.specs.Question.{Question}
+use Rattle.cfgx_grammar.specs.Classification.{Class, class}
+use Rattle.cfgx_grammar.specs.Tree.{Tree}
+use Rattle.cfgx_grammar.specs.Grammar.{commas, predicate_tokens, IsTree}
+use Rattle.cfgx_grammar.specs.Regular.{CanBeQuoted, IsRegular, IsAlone}
+use Rattle.cfgx_grammar.specs.Spelling.{with_value, spelling}
+use Rattle.cfgx_grammar.proofs.alone.Spelt.{text_of, spelt_regular}
 
 -- A token between two parts of a text.
 

@@ -1,10 +1,10 @@
 -- Predicates as they can stand in a text, and the text of one alone.
 use Rattle.std.specs.Prelude.{◌≡◌, ℕ, List, Option, Some, None}
 use Rattle.cfgx_syntax.specs.Token.{IsKey, HasNoQuote}
-use Rattle.cfg_expr.specs.Question.{Question}
-use Rattle.cfg_expr.specs.Classification.{Class, class}
-use Rattle.cfg_expr.specs.Tree.{Tree}
-use Rattle.cfg_expr.specs.Answer.{HasOneTree}
+use Rattle.cfgx_grammar.specs.Question.{Question}
+use Rattle.cfgx_grammar.specs.Classification.{Class, class}
+use Rattle.cfgx_grammar.specs.Tree.{Tree}
+use Rattle.cfgx_grammar.specs.Answer.{HasOneTree}
 
 -- a value that can stand between quotes
 abbrev pub CanBeQuoted : Option (List ℕ) → Type 0

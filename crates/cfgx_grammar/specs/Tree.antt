@@ -1,6 +1,6 @@
 -- Conditions as trees, and the order in which their predicates are asked.
 use Rattle.std.specs.Prelude.{ℕ, suc, Bool, true, false, List, [], ◌∷◌, ◌++◌, if◌then◌else◌}
-use Rattle.cfg_expr.specs.Question.{Question}
+use Rattle.cfgx_grammar.specs.Question.{Question}
 
 -- A predicate, or a function with its members in source order: the `all`, `any` and `not` of the
 -- Rust Reference's conditional compilation.

@@ -9,7 +9,7 @@ use Rattle.cfgx_targets.specs.declared.atomic.HasAtomic.TheVariants.{IntegerSize
 use Rattle.cfgx_targets.specs.declared.endian.Endian.{Endian}
 use Rattle.cfgx_targets.specs.declared.endian.Endian.TheVariants.{big, little}
 use Rattle.cfgx_targets.specs.declared.info.TargetInfo.{TargetInfo}
-use Rattle.cfg_expr.specs.Question.{TargetQuestion}
+use Rattle.cfgx_grammar.specs.Question.{TargetQuestion}
 
 abbrev pub is_same_endian : Endian → Endian → Bool
 is_same_endian big big = true

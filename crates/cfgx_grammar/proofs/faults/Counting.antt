@@ -8,9 +8,9 @@ use Rattle.std.specs.Option.{option_or}
 use Rattle.std.proofs.lemmas.Bool.{le-leb, lt-leb, eq-eqb, ne_eqb, and_left, and_right, cases_lt}
 use Rattle.std.proofs.lemmas.List.{take-append-le}
 use Rattle.cfgx_syntax.specs.Items.{Item}
-use Rattle.cfg_expr.specs.Neighbours.{Kind, kind_of, is_kind}
-use Rattle.cfg_expr.specs.FirstFault.{count_below, last_below, first_below, begins_member, depth}
-use Rattle.cfg_expr.specs.FirstFault.{depth_at, members_at}
+use Rattle.cfgx_grammar.specs.Neighbours.{Kind, kind_of, is_kind}
+use Rattle.cfgx_grammar.specs.FirstFault.{count_below, last_below, first_below, begins_member, depth}
+use Rattle.cfgx_grammar.specs.FirstFault.{depth_at, members_at}
 
 module _ {X : Type 0} where
   pub slice_get_front : (xs ys : List X) (k : ℕ) → k < length xs

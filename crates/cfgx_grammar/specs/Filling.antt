@@ -6,8 +6,8 @@ use Rattle.std.specs.Prelude.{Option, Some, None, Vec, unwrap_or, if◌then◌el
 use Rattle.std.specs.List.{AllZip}
 use Rattle.cfgx_syntax.specs.contracts.logic.BoolLogic.TheImpl as bool_logic
 use Rattle.cfgx_syntax.specs.contracts.logic.OptionBoolLogic.TheImpl as kleene_logic
-use Rattle.cfg_expr.specs.Tree.{Tree, Trees, is_function, is_leaf, asked, asked_by}
-use Rattle.cfg_expr.specs.Fold.{Operations, fold, first_or, behind}
+use Rattle.cfgx_grammar.specs.Tree.{Tree, Trees, is_function, is_leaf, asked, asked_by}
+use Rattle.cfgx_grammar.specs.Fold.{Operations, fold, first_or, behind}
 
 -- truth values, and answers that may be unknown
 abbrev pub two_valued : Operations Bool

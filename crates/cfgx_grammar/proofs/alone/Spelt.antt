@@ -23,13 +23,13 @@ use Rattle.cfgx_targets.specs.declared.atomic.HasAtomic.{HasAtomic}
 use Rattle.cfgx_targets.specs.declared.atomic.HasAtomic.TheVariants.{IntegerSize, Pointer}
 use Rattle.cfgx_targets.proofs.AtomicLemmas.{endian_named-text, atomic_named-text}
 use Rattle.cfgx_targets.proofs.NumberLemmas.{read_below-decimal}
-use Rattle.cfg_expr.specs.Question.{Question, TargetQuestion}
-use Rattle.cfg_expr.specs.Classification.{asks}
-use Rattle.cfg_expr.specs.Classification.{Class, Part, class, bare, valued, if_read, target_feature}
-use Rattle.cfg_expr.specs.Classification.{Line, by_name, key_lines, target_lines, target_class}
-use Rattle.cfg_expr.specs.Classification.{plain, other_class, family, target_names}
-use Rattle.cfg_expr.specs.Regular.{CanBeQuoted, IsRegular}
-use Rattle.cfg_expr.specs.Spelling.{with_value, spelling}
+use Rattle.cfgx_grammar.specs.Question.{Question, TargetQuestion}
+use Rattle.cfgx_grammar.specs.Classification.{asks}
+use Rattle.cfgx_grammar.specs.Classification.{Class, Part, class, bare, valued, if_read, target_feature}
+use Rattle.cfgx_grammar.specs.Classification.{Line, by_name, key_lines, target_lines, target_class}
+use Rattle.cfgx_grammar.specs.Classification.{plain, other_class, family, target_names}
+use Rattle.cfgx_grammar.specs.Regular.{CanBeQuoted, IsRegular}
+use Rattle.cfgx_grammar.specs.Spelling.{with_value, spelling}
 
 -- a key alone, or with its value
 abbrev pub text_of : List ℕ → Option (List ℕ) → List ℕ

@@ -4,7 +4,7 @@ use Rattle.std.specs.Prelude.{ℕ, List, ◌++◌, codes}
 use Rattle.std.specs.Fmt.{decimal}
 use Rattle.cfgx_targets.specs.Endian.{endian_text}
 use Rattle.cfgx_targets.specs.HasAtomic.{atomic_text}
-use Rattle.cfg_expr.specs.Question.{Question, TargetQuestion}
+use Rattle.cfgx_grammar.specs.Question.{Question, TargetQuestion}
 
 abbrev pub with_value : List ℕ → List ℕ → List ℕ
 with_value key value = key ++ (codes " = \"" ++ (value ++ codes "\""))

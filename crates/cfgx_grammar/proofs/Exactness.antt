@@ -10,10 +10,10 @@ use Rattle.std.specs.List.{AllZip}
 use Rattle.std.proofs.lemmas.Bool.{true≢false}
 use Rattle.std.proofs.lemmas.List.{append-nil}
 use Rattle.cfgx_syntax.specs.Logic.{kleene_and, kleene_or, kleene_not}
-use Rattle.cfg_expr.specs.Tree.{Tree, Trees, is_function, is_leaf, asked, asked_by}
-use Rattle.cfg_expr.specs.Fold.{Operations, from_last, first_or, behind, fold, values_by}
-use Rattle.cfg_expr.specs.Filling.{two_valued, three_valued, Agrees, IsFilling, polar, polar_by}
-use Rattle.cfg_expr.specs.Filling.{IsExact}
+use Rattle.cfgx_grammar.specs.Tree.{Tree, Trees, is_function, is_leaf, asked, asked_by}
+use Rattle.cfgx_grammar.specs.Fold.{Operations, from_last, first_or, behind, fold, values_by}
+use Rattle.cfgx_grammar.specs.Filling.{two_valued, three_valued, Agrees, IsFilling, polar, polar_by}
+use Rattle.cfgx_grammar.specs.Filling.{IsExact}
 
 -- Values of two logics that are related stay so.
 

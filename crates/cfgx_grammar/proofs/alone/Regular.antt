@@ -5,10 +5,10 @@ use Rattle.std.specs.Prelude.{slice_range, if◌then◌else◌}
 use Rattle.std.specs.List.{AllByRecursion}
 use Rattle.cfgx_syntax.specs.Token.{Token, IsKey, HasNoQuote, Spells}
 use Rattle.cfgx_syntax.specs.Items.{Item, Ending, ItemsFrom}
-use Rattle.cfg_expr.specs.Question.{Question}
-use Rattle.cfg_expr.specs.Tree.{Tree, Trees, is_function, is_leaf, asked, asked_by}
-use Rattle.cfg_expr.specs.Grammar.{commas, IsItem, IsList, HasTree}
-use Rattle.cfg_expr.specs.Regular.{IsRegular}
+use Rattle.cfgx_grammar.specs.Question.{Question}
+use Rattle.cfgx_grammar.specs.Tree.{Tree, Trees, is_function, is_leaf, asked, asked_by}
+use Rattle.cfgx_grammar.specs.Grammar.{commas, IsItem, IsList, HasTree}
+use Rattle.cfgx_grammar.specs.Regular.{IsRegular}
 
 -- all of both, and of each
 

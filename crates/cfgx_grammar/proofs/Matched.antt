@@ -4,7 +4,7 @@ use Rattle.std.specs.Bool.{Decides}
 use Rattle.std.proofs.lemmas.Bool.Decides.{Decides-eqb}
 use Rattle.cfgx_targets.specs.declared.atomic.HasAtomic.{HasAtomic}
 use Rattle.cfgx_targets.specs.declared.atomic.HasAtomic.TheVariants.{IntegerSize, Pointer}
-use Rattle.cfg_expr.specs.Matching.{is_same_width}
+use Rattle.cfgx_grammar.specs.Matching.{is_same_width}
 
 pub is_same_width-Decides : (one other : HasAtomic)
     → Decides (is_same_width one other) (one ≡ other)

@@ -12,8 +12,8 @@ use Rattle.cfgx_syntax.specs.Token.{Token}
 use Rattle.cfgx_syntax.specs.Items.{Item, Ending, AreItems, lexical}
 use Rattle.cfgx_syntax.specs.Error.{Cause, Refusal, unexpected, unopened_parens, unclosed_parens}
 use Rattle.cfgx_syntax.specs.Error.{invalid_not, empty, multiple_root_predicates}
-use Rattle.cfg_expr.specs.Classification.{Class, Part, class}
-use Rattle.cfg_expr.specs.Neighbours.{Kind, kind_of, is_kind, next, expected}
+use Rattle.cfgx_grammar.specs.Classification.{Class, Part, class}
+use Rattle.cfgx_grammar.specs.Neighbours.{Kind, kind_of, is_kind, next, expected}
 
 abbrev pub refusal : Cause → ℕ → ℕ → Refusal
 refusal cause start end = record { cause = cause; start = start; end = end }

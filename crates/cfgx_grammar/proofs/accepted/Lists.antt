@@ -4,8 +4,8 @@ use Rattle.std.proofs.Common.{◌≡◌, ℕ, zero, suc, ◌<◌, List, [], ◌�
 use Rattle.std.proofs.Common.{◌∙◌, subst, arith, append_assoc}
 use Rattle.std.proofs.lemmas.List.{append-nil}
 use Rattle.cfgx_syntax.specs.Token.{Token}
-use Rattle.cfg_expr.specs.Tree.{Tree, Trees}
-use Rattle.cfg_expr.specs.Grammar.{commas, IsItem, IsList, IsTree}
+use Rattle.cfgx_grammar.specs.Tree.{Tree, Trees}
+use Rattle.cfgx_grammar.specs.Grammar.{commas, IsItem, IsList, IsTree}
 
 -- a list of trees as the members of a function
 abbrev pub trees_of : List Tree → Trees

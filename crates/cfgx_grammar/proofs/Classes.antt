@@ -6,7 +6,7 @@ use Rattle.std.specs.List.{starts_with}
 use Rattle.std.proofs.lemmas.List.{drop_at}
 use Rattle.std.proofs.lemmas.Bool.Decides.{Decides-eqb}
 use Rattle.std.proofs.lemmas.Slice.Eq.{starts_is}
-use Rattle.cfg_expr.specs.Classification.{valued, target_class, plain, other_class}
+use Rattle.cfgx_grammar.specs.Classification.{valued, target_class, plain, other_class}
 
 pub other_class-target : (key rest : List ℕ) (value : Option (List ℕ)) → key ≡ codes "target_"
     ++ rest

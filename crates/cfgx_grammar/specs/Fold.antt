@@ -4,7 +4,7 @@
 -- conditional compilation, where `all()` is true and `any()` is false.
 use Rattle.std.specs.Prelude.{Bool, List, [], ◌∷◌, ◌++◌, length, drop, if◌then◌else◌}
 pub use Rattle.cfgx_syntax.specs.declared.logic.Logic.{Ghosts as Operations}
-use Rattle.cfg_expr.specs.Tree.{Tree, Trees, is_function, is_leaf, asked, asked_by}
+use Rattle.cfgx_grammar.specs.Tree.{Tree, Trees, is_function, is_leaf, asked, asked_by}
 
 -- what the values make when they are joined to the first one given, from the last value back
 abbrev pub from_last : {T : Type 0} → (T → T → T) → T → List T → T

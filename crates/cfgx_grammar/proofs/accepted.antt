@@ -1,0 +1,2 @@
+-- What the parser accepts is spelled by a tree.
+pub mod Lists

@@ -1,0 +1,2 @@
+-- What the parser refuses has this first fault.
+pub mod Counting

@@ -1,0 +1,13 @@
+pub mod Answer
+pub mod Classification
+pub mod Filling
+pub mod FirstFault
+pub mod Fold
+pub mod Grammar
+pub mod Matching
+pub mod Neighbours
+pub mod Question
+pub mod Regular
+pub mod Spelling
+pub mod Tree
+pub mod WorkedValues
