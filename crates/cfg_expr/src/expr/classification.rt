@@ -83,7 +83,7 @@ fn other(key: Word<'_>, value: Option<Word<'_>>) -> Result<InnerPredicate, Refus
 }
 
 /// The predicate of a key and its value, or what is wrong with them.
-#[tactic(auto, unfolding(crate::specs::Classification::class))]
+#[tactic(auto, unfolding(cfgx_grammar::specs::Classification::class))]
 pub(crate) fn classify(pending: Pending<'_>) -> Result<InnerPredicate, Refused>
     ensures { answer_of result ≡ classified (pending_of pending.entry) }
 {
