@@ -8,8 +8,6 @@ use std::alloc::Global;
 
 mod builtins;
 mod field;
-#[cfg(test)]
-mod tests;
 
 pub use field::Field;
 

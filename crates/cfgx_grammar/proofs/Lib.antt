@@ -5,3 +5,4 @@ pub mod Matched
 pub mod accepted
 pub mod alone
 pub mod faults
+pub mod worked

@@ -1,6 +1,6 @@
 -- What the operations on two planes do in each lane.
 use Rattle.std.proofs.Common.{◌≡◌, ℕ, ◌+◌, ◌-◌, ◌<◌, ◌≤◌, ◌^◌, min, max, true, false}
-use Rattle.std.proofs.Common.{Some, sym, ap, ◌∙◌, ⊎_elim, arith, ◌==◌}
+use Rattle.std.proofs.Common.{Bool, Option, Some, sym, ap, ◌∙◌, ⊎_elim, arith, ◌==◌}
 use Rattle.std.specs.Prelude.{bit_and, bit_or}
 use Rattle.std.specs.Int.{bit_at}
 use Rattle.std.proofs.lemmas.Bool.{cases_Bool}
@@ -104,33 +104,36 @@ by_not t f (Answer.unknown a b) = simp (a, b)
 same_answer : (t f u g : ℕ) → t ≡ u → f ≡ g → answer_of t f ≡ answer_of u g
 same_answer t f u g p q i = answer_of (p i) (q i)
 
+-- two planes joined, each bit by bit, by what each lane's answers make
+each_lane : (one other both : Planes) (of_true of_false : ℕ → ℕ → ℕ)
+    (table : Option Bool → Option Bool → Option Bool) → AreApart one.is_true one.is_false
+    → AreApart other.is_true other.is_false
+    → ((i : ℕ) → bit_at both.is_true i ≡ of_true (bit_at one.is_true i) (bit_at other.is_true i))
+    → ((i : ℕ) → bit_at both.is_false i
+    ≡ of_false (bit_at one.is_false i) (bit_at other.is_false i))
+    → ((t f u g : ℕ) → Answer t f → Answer u g
+    → answer_of (of_true t u) (of_false f g) ≡ table (answer_of t f) (answer_of u g))
+    → EachLane both (λ i. table (lane i one) (lane i other))
+each_lane one other both of_true of_false table apart apart_too trues falses by i below =
+    same_answer (bit_at both.is_true i) (bit_at both.is_false i) _ _ (trues i) (falses i)
+    ∙ by (bit_at one.is_true i) (bit_at one.is_false i) (bit_at other.is_true i)
+    (bit_at other.is_false i)
+    (answer _ _ (apart_at one.is_true one.is_false i apart))
+    (answer _ _ (apart_at other.is_true other.is_false i apart_too))
+
 pub EachLane-and : (one other : Planes) → AreApart one.is_true one.is_false
     → AreApart other.is_true other.is_false
     → EachLane (planes_and one other) (λ i. kleene_and (lane i one) (lane i other))
-EachLane-and one other apart apart_too i below =
-    let t = one.is_true in
-    let f = one.is_false in
-    let u = other.is_true in
-    let g = other.is_false in
-    same_answer (bit_at (bit_and t u) i) (bit_at (bit_or f g) i) _ _ (bit_at_and t u i)
-    (bit_at_or f g i)
-    ∙ by_and (bit_at t i) (bit_at f i) (bit_at u i) (bit_at g i)
-    (answer (bit_at t i) (bit_at f i) (apart_at t f i apart))
-    (answer (bit_at u i) (bit_at g i) (apart_at u g i apart_too))
+EachLane-and one other apart apart_too =
+    each_lane one other (planes_and one other) min max kleene_and apart apart_too
+    (bit_at_and one.is_true other.is_true) (bit_at_or one.is_false other.is_false) by_and
 
 pub EachLane-or : (one other : Planes) → AreApart one.is_true one.is_false
     → AreApart other.is_true other.is_false
     → EachLane (planes_or one other) (λ i. kleene_or (lane i one) (lane i other))
-EachLane-or one other apart apart_too i below =
-    let t = one.is_true in
-    let f = one.is_false in
-    let u = other.is_true in
-    let g = other.is_false in
-    same_answer (bit_at (bit_or t u) i) (bit_at (bit_and f g) i) _ _ (bit_at_or t u i)
-    (bit_at_and f g i)
-    ∙ by_or (bit_at t i) (bit_at f i) (bit_at u i) (bit_at g i)
-    (answer (bit_at t i) (bit_at f i) (apart_at t f i apart))
-    (answer (bit_at u i) (bit_at g i) (apart_at u g i apart_too))
+EachLane-or one other apart apart_too =
+    each_lane one other (planes_or one other) max min kleene_or apart apart_too
+    (bit_at_or one.is_true other.is_true) (bit_at_and one.is_false other.is_false) by_or
 
 pub EachLane-not : (planes : Planes) → AreApart planes.is_true planes.is_false
     → EachLane (planes_not planes) (λ i. kleene_not (lane i planes))

@@ -25,12 +25,26 @@ use Rattle.cfgx_syntax.proofs.Cutting.{CanBeCut-from_rest}
 starts_token-ascii : (c : ℕ) → starts_token c ≡ true → c < 128
 starts_token-ascii c h = grind (arith, nat_tests, common_steps)
 
+-- what is wrong with so many bytes, of which the rest of the text begins
+abbrev pub refused_at : List ℕ → List ℕ → Cause → ℕ → Refusal
+refused_at text rest cause len = record {
+  cause = cause;
+  start = length text - length rest;
+  end = length text - length rest + len;
+}
+
 -- `rest` is what follows the white space in `inner`, which follows the place in the text
 pub record IsBehind (text inner rest : List ℕ) (place : ℕ) : Type 0 where
   pub placed : place ≡ length text - length inner
   pub follows : inner ≡ drop place text
   pub inside : length inner ≤ length text
   pub trimmed : IsTrimStart inner rest
+
+pub IsBehind-trimmed : (text inner rest : List ℕ) → inner ≡ drop (length text - length inner) text
+    → length inner ≤ length text → IsTrimStart inner rest
+    → IsBehind text inner rest (length text - length inner)
+IsBehind-trimmed text inner rest follows inside trimmed =
+    record { placed = refl; follows = follows; inside = inside; trimmed = trimmed }
 
 module _ (text inner rest : List ℕ) (place : ℕ) (behind : IsBehind text inner rest place) where
   length_rest : length rest ≡ length inner - behind.trimmed.0
@@ -117,20 +131,11 @@ module _ (text inner rest : List ℕ) (place : ℕ) (behind : IsBehind text inne
       → lexical text ending ≡ Some refusal → cause ≡ refusal.cause
       → length text - length rest ≡ refusal.start
       → length text - length rest + len ≡ refusal.end
-      → FailsWith (fault_in text (record {
-        cause = cause;
-        start = length text - length rest;
-        end = length text - length rest + len;
-      })) failure
+      → FailsWith (fault_in text (refused_at text rest cause len)) failure
       → new ≡ at_end (record { text = text; place = place })
       → GivesFault (record { text = text; place = place }) failure new
   GivesFault-by failure new cause len ending refusal ends refused why start end fails over =
-      let given : Refusal = record {
-        cause = cause;
-        start = length text - length rest;
-        end = length text - length rest + len;
-      } in
-      let same : ◌≡◌ {A = Refusal} given refusal =
+      let same : refused_at text rest cause len ≡ refusal =
       λ i. record { cause = why i; start = start i; end = end i } in
       record {
         ending = ending;
@@ -143,11 +148,7 @@ module _ (text inner rest : List ℕ) (place : ℕ) (behind : IsBehind text inne
 
   pub GivesFault-found : {A : Type 0} (failure : Failure A) (new : LexerState) (cause : Cause)
       (len : ℕ) → 0 < length rest → BeginsNone rest cause len ⊎ BeginsUnclosed rest cause len
-      → FailsWith (fault_in text (record {
-        cause = cause;
-        start = length text - length rest;
-        end = length text - length rest + len;
-      })) failure
+      → FailsWith (fault_in text (refused_at text rest cause len)) failure
       → new ≡ at_end (record { text = text; place = place })
       → GivesFault (record { text = text; place = place }) failure new
   GivesFault-found failure new cause len some (inl none) fails over =

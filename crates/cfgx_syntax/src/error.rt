@@ -11,8 +11,6 @@ use std::fmt;
 use std::ops::Range;
 
 mod laws;
-#[cfg(test)]
-mod tests;
 
 // 64 of each mark.
 const SPACES: &str = "                                                                ";

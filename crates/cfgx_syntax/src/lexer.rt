@@ -8,8 +8,6 @@ ghost use Rattle.cfgx_syntax.specs.Stripping.{strip};
 ghost use Rattle.cfgx_syntax.specs.Token.{starts_word, continues_word, IsWord, Spells};
 
 mod laws;
-#[cfg(test)]
-mod tests;
 
 use crate::error::{Failure, Reason};
 use crate::stripping::strip;

@@ -8,6 +8,8 @@ mod accepted;
 mod commands;
 #[cfg(test)]
 mod deep;
+#[cfg(test)]
+mod errors;
 pub mod evaluating;
 #[cfg(test)]
 mod faults;
@@ -19,6 +21,8 @@ mod lexer;
 #[cfg(test)]
 mod memory;
 #[cfg(test)]
+mod named;
+#[cfg(test)]
 mod program;
 pub mod refusing;
 #[cfg(test)]
@@ -29,3 +33,5 @@ mod spelling;
 mod streams;
 #[cfg(test)]
 mod targets;
+#[cfg(test)]
+mod tokens;

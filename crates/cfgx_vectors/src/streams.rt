@@ -149,6 +149,17 @@ const ROWS: &[Row] = &[
     },
     Row {
         text: TEXT,
+        each: 4,
+        room: ALL,
+        failing_write: 0,
+        is_flush_failing: false,
+        status: 0,
+        written: "b\na\nc\n",
+        writes: 2,
+        flushes: 1,
+    },
+    Row {
+        text: TEXT,
         each: 2,
         room: ALL,
         failing_write: 2,

@@ -1,128 +1,13 @@
-// Streams in memory that take and give a little a call, and that fail where they are told to.
-ghost use Rattle.std.specs.Prelude.{◌≡◌, Some};
+// Streams in memory that give a little a call, and that fail where they are told to.
+ghost use Rattle.std.specs.Prelude.{Some};
 
 use super::*;
-use std::alloc::{AllocError, Global};
 use std::io::ErrorKind;
 use std::test::Fail;
 
 // What a failed call answers. An interrupted call is not tried again either.
 fn interrupted() -> io::Error {
     io::Error::from(ErrorKind::Interrupted)
-}
-
-// A sink that takes at most `each` bytes a call and `room` bytes in all, and whose write of the
-// number `failing_write`, counted from 1, fails. It counts its calls.
-#[derive(Drop)]
-struct Recorder {
-    bytes: Vec<u8>,
-    failures: u64,
-    each: usize,
-    room: usize,
-    failing_write: u64,
-    is_flush_failing: bool,
-    writes: u64,
-    empty_writes: u64,
-    flushes: u64,
-}
-
-impl Sink for Recorder {
-    ghost failures = { λ sink. sink.failures };
-
-    ghost written = { λ sink. Some sink.bytes.items };
-
-    fn write(&mut self, bytes: &[u8]) -> io::Result<usize> {
-        self.writes = self.writes.saturating_add(1);
-        if bytes.is_empty() {
-            self.empty_writes = self.empty_writes.saturating_add(1);
-            return Ok(0);
-        }
-        if self.writes == self.failing_write {
-            self.failures += 1;
-            return Err(interrupted());
-        }
-        let taken = bytes.len().min(self.each).min(self.room);
-        if taken == 0 {
-            self.failures += 1;
-            return Ok(0);
-        }
-        if self.bytes.extend_from_slice(&bytes[..taken]).is_err() {
-            self.failures += 1;
-            return Err(interrupted());
-        }
-        self.room -= taken;
-        Ok(taken)
-    }
-
-    fn flush(&mut self) -> io::Result<()> {
-        self.flushes = self.flushes.saturating_add(1);
-        if self.is_flush_failing {
-            self.failures += 1;
-            return Err(interrupted());
-        }
-        Ok(())
-    }
-}
-
-fn new_recorder(
-    alloc: Global,
-    each: usize,
-    room: usize,
-    failing_write: u64,
-    is_flush_failing: bool,
-) -> Recorder
-    ensures { result.failures ≡ 0 }
-{
-    Recorder {
-        bytes: Vec::new(alloc),
-        failures: 0,
-        each,
-        room,
-        failing_write,
-        is_flush_failing,
-        writes: 0,
-        empty_writes: 0,
-        flushes: 0,
-    }
-}
-
-const ALL: usize = usize::MAX;
-
-// Each row: the most bytes a call, the room, the failing write, whether the flush fails, the
-// output; and then the answer, what was written, and how many calls of `write` and `flush` were
-// made.
-#[test]
-fn what_was_written_is_the_output_or_a_beginning(rt: HostRuntime) -> Result<(), Fail> {
-    let rows = [
-        (1, ALL, 0, false, "b\na\nc\n", true, "b\na\nc\n", 6, 1),
-        (4, ALL, 0, false, "b\na\nc\n", true, "b\na\nc\n", 2, 1),
-        (2, ALL, 2, false, "b\na\nc\n", false, "b\n", 2, 0),
-        (ALL, ALL, 1, false, "b\na\nc\n", false, "", 1, 0),
-        (ALL, 4, 0, false, "b\na\nc\n", false, "b\na\n", 2, 0),
-        (ALL, ALL, 0, true, "b\na\nc\n", false, "b\na\nc\n", 1, 1),
-        (ALL, ALL, 0, false, "", true, "", 0, 1),
-        (ALL, ALL, 0, true, "", false, "", 0, 1),
-    ];
-    for (
-        each,
-        room,
-        failing_write,
-        is_flush_failing,
-        output,
-        answer,
-        written,
-        writes,
-        flushes,
-    ) in rows {
-        let mut sink = new_recorder(rt.alloc(), each, room, failing_write, is_flush_failing);
-        assert_eq!(rt; write_whole(&mut sink, output.as_bytes()), answer);
-        assert_eq!(rt; sink.bytes.as_slice(), written.as_bytes());
-        assert_eq!(rt; sink.failures, if answer { 0 } else { 1 });
-        assert_eq!(rt; sink.writes, writes);
-        assert_eq!(rt; sink.flushes, flushes);
-        assert_eq!(rt; sink.empty_writes, 0);
-    }
-    Ok(())
 }
 
 // A reader of at most `each` bytes a call, whose read of the number `failing_read`, counted from 1,

@@ -1,38 +1,40 @@
 -- One byte is a token by itself, and a word runs as far as it can.
-use Rattle.std.proofs.Common.{◌≡◌, List, ℕ, get_or, ap, ◌∙◌, sym, subst, lit<, refl}
-use Rattle.cfgx_syntax.specs.Token.{Token, IsWord, Spells}
+use Rattle.std.proofs.Common.{◌≡◌, ◌<◌, List, [], ◌∷◌, ℕ, length, drop, get_or, ap, ◌∙◌, sym, subst}
+use Rattle.std.proofs.Common.{lit<, refl}
+use Rattle.std.specs.Str.{IsUtf8}
+use Rattle.cfgx_syntax.specs.Cut.{IsValueCut}
+use Rattle.cfgx_syntax.specs.Token.{Token, IsWhole, IsWord, Spells}
 use Rattle.cfgx_syntax.specs.Lexer.{BeginsWith, token_of}
 use Rattle.cfgx_syntax.proofs.Words.{BeginsWith-byte, BeginsWith-word, IsWord-front}
 use Rattle.cfgx_syntax.proofs.Words.{IsCharBoundary-behind_word, starts_text, front_is}
 use Rattle.cfgx_syntax.proofs.lexer.first_token.Goals as goal
 
-first_byte : (text bytes : List ℕ) (byte : ℕ) → bytes ≡ text → get_or bytes 0 0 ≡ byte
-    → get_or text 0 0 ≡ byte
-first_byte text bytes byte same is = ap (λ l. get_or l 0 0) (sym same) ∙ is
+-- a token of one byte, which stands first in the bytes of the text
+one_byte : (text bytes : List ℕ) (token : Token) (byte : ℕ) → IsUtf8 text → 0 < length text
+    → bytes ≡ text → get_or bytes 0 0 ≡ byte → byte < 128 → Spells (byte ∷ []) token
+    → IsWhole token (drop 1 text) → IsValueCut text token 0 1 → BeginsWith text token 1
+one_byte text bytes token byte utf8 some same is =
+    BeginsWith-byte text token byte utf8 some (ap (λ l. get_or l 0 0) (sym same) ∙ is)
 
 pub returns-in-40 : goal.returns-in-40
 returns-in-40 c =
-    let text = c.args.text.now in
-    let first = first_byte text c.as_bytes.result.now 40 c.as_bytes.ensures.value c.in-40.is in
-    BeginsWith-byte text Token.open_paren 40 c.utf8.text c.requires first (lit< tt) refl refl tt
+    one_byte c.args.text.now _ Token.open_paren 40 c.utf8.text c.requires c.as_bytes.ensures.value
+    c.in-40.is (lit< tt) refl refl tt
 
 pub returns-in-41 : goal.returns-in-41
 returns-in-41 c =
-    let text = c.args.text.now in
-    let first = first_byte text c.as_bytes.result.now 41 c.as_bytes.ensures.value c.in-41.is in
-    BeginsWith-byte text Token.close_paren 41 c.utf8.text c.requires first (lit< tt) refl refl tt
+    one_byte c.args.text.now _ Token.close_paren 41 c.utf8.text c.requires c.as_bytes.ensures.value
+    c.in-41.is (lit< tt) refl refl tt
 
 pub returns-in-44 : goal.returns-in-44
 returns-in-44 c =
-    let text = c.args.text.now in
-    let first = first_byte text c.as_bytes.result.now 44 c.as_bytes.ensures.value c.in-44.is in
-    BeginsWith-byte text Token.comma 44 c.utf8.text c.requires first (lit< tt) refl refl tt
+    one_byte c.args.text.now _ Token.comma 44 c.utf8.text c.requires c.as_bytes.ensures.value
+    c.in-44.is (lit< tt) refl refl tt
 
 pub returns-in-61 : goal.returns-in-61
 returns-in-61 c =
-    let text = c.args.text.now in
-    let first = first_byte text c.as_bytes.result.now 61 c.as_bytes.ensures.value c.in-61.is in
-    BeginsWith-byte text Token.equals 61 c.utf8.text c.requires first (lit< tt) refl refl tt
+    one_byte c.args.text.now _ Token.equals 61 c.utf8.text c.requires c.as_bytes.ensures.value
+    c.in-61.is (lit< tt) refl refl tt
 
 pub range-requires-clause-end_boundary : goal.range-requires-clause-end_boundary
 range-requires-clause-end_boundary c =

@@ -1,8 +1,8 @@
 -- What follows the white space stands in the whole text.
-use Rattle.std.proofs.Common.{◌-◌, length, refl, arith, rules}
+use Rattle.std.proofs.Common.{◌-◌, length, arith, rules}
 use Rattle.cfgx_syntax.specs.Error.{cause_of}
 use Rattle.cfgx_syntax.specs.Lexer.{token_of}
-use Rattle.cfgx_syntax.proofs.Scanning.{IsBehind, Stands-found, CanBeCut-found, GivesFault-found}
+use Rattle.cfgx_syntax.proofs.Scanning.{IsBehind-trimmed, Stands-found, CanBeCut-found, GivesFault-found}
 use Rattle.cfgx_syntax.proofs.Scanning.{state_at}
 use Rattle.cfgx_syntax.proofs.lexer.LexerIterator.next.Goals as goal
 
@@ -13,12 +13,7 @@ returns-in-Ok-clause-steps g c =
     let rest = c.trim_start-rest.result.now in
     let place = length text - length inner in
     let trimmed = c.trim_start-rest.ensures.value in
-    let behind : IsBehind text inner rest place = record {
-      placed = refl;
-      follows = c.self.invariant.0;
-      inside = c.self.invariant.1;
-      trimmed = trimmed;
-    } in
+    let behind = IsBehind-trimmed text inner rest c.self.invariant.0 c.self.invariant.1 trimmed in
     let token = token_of c.in-Ok.token in
     let begins = c.in-Ok.ensures in
     let left = c.range_from-self-inside.ensures.len in
@@ -35,12 +30,7 @@ returns-in-Some-clause-steps g c =
     let rest = c.trim_start-rest.result.now in
     let place = length text - length inner in
     let trimmed = c.trim_start-rest.ensures.value in
-    let behind : IsBehind text inner rest place = record {
-      placed = refl;
-      follows = c.self.invariant.0;
-      inside = c.self.invariant.1;
-      trimmed = trimmed;
-    } in
+    let behind = IsBehind-trimmed text inner rest c.self.invariant.0 c.self.invariant.1 trimmed in
     rw (← c.self.view_is) (
     GivesFault-found text inner rest place behind c.of.result _ (cause_of c.in-Err.reason)
     c.in-Err.len (search rules) c.in-Err.ensures c.of.ensures

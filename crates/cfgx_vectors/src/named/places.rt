@@ -1,6 +1,6 @@
-//! The texts of the named values, written out apart from the code.
+//! Where a program runs.
 
-use crate::{Env, Family, Os, Panic};
+use cfgx_places::{Env, Family, Os, Panic};
 
 const OPERATING_SYSTEMS: [&str; 49] = [
     "aix",

@@ -1,6 +1,8 @@
-// Printed texts, written out by hand from the rules of the format.
-use super::*;
-use std::alloc::Global;
+//! Printed texts, written out by hand from the rules of the format.
+
+use cfg_expr::error::{Failure, ParseError, Reason};
+use std::alloc::{AllocError, Global};
+use std::ops::Range;
 use std::test::Fail;
 
 // What a fault of these parts prints.

@@ -1,6 +1,6 @@
-//! The texts of the named values, written out apart from the code.
+//! What a target is made of.
 
-use crate::{Abi, Arch, Vendor};
+use cfgx_fields::{Abi, Arch, Vendor};
 
 const ABIS: [&str; 19] = [
     "abi64",

@@ -1,12 +1,12 @@
-//! The definitions, computed on texts whose answers are known from outside, and what no clause
-//! says.
+//! The definitions of tokens, computed on texts whose answers are known from outside, and what a
+//! token prints.
 ghost use Rattle.std.specs.Prelude.{◌≡◌, [], ◌∷◌, ◌++◌, Some, None, codes};
 ghost use Rattle.cfgx_syntax.specs.Error.{Cause};
 ghost use Rattle.cfgx_syntax.specs.Items.{AreItems, Ending, EndsAs, Stands, lexical, expects_token};
 ghost use Rattle.cfgx_syntax.specs.Stripping.{strip};
 ghost use Rattle.cfgx_syntax.specs.Token as spelled;
 
-use super::Token;
+use cfg_expr::expr::lexer::Token;
 use std::test::Fail;
 
 // `cfg( )` is stripped once, and only where the text ends with it.

@@ -1,0 +1,5 @@
+-- The definitions, computed on rows whose answers are known from outside.
+pub mod Faults
+pub mod Keys
+pub mod Rows
+pub mod Trees
