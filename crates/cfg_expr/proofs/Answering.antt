@@ -13,9 +13,9 @@ use Rattle.cfgx_grammar.specs.Answer.{HasOneTree, HasNoTree, HasOneFault, HasNoF
 use Rattle.cfgx_grammar.specs.Answer.{IsRefused}
 use Rattle.cfg_expr.specs.nodes.Keeps.{KeepsTree, Keeps}
 use Rattle.cfg_expr.specs.nodes.Writes.{ArePlaced}
-use Rattle.cfg_expr.specs.parsing.State.{State, initial}
-use Rattle.cfg_expr.specs.parsing.Step.{and_then, run, conclude}
-use Rattle.cfg_expr.specs.parsing.Parser.{ended_as, answer_from}
+use Rattle.cfg_expr.specs.parsing.State.{State}
+use Rattle.cfgx_grammar.specs.parsing.State.{initial}
+use Rattle.cfgx_grammar.specs.parsing.Step.{and_then, run, conclude, ended_as, answer_from}
 use Rattle.cfg_expr.proofs.accepted.Steps.{tokens_of, ran, IsTree-accepted}
 use Rattle.cfg_expr.proofs.faults.Steps.{EndAgrees}
 use Rattle.cfg_expr.proofs.faults.Whole.{whole_agrees}

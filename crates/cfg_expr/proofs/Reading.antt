@@ -18,10 +18,10 @@ use Rattle.cfgx_syntax.proofs.Values.{value_inside}
 use Rattle.cfg_expr.specs.nodes.Writes.{IsPlaced}
 use Rattle.cfgx_syntax.proofs.TokenList.{Stands-same, Stands-no_ending, EndsAs-same}
 use Rattle.cfg_expr.specs.parsing.State.{State}
-use Rattle.cfg_expr.specs.parsing.Step.{and_then, step, run, conclude}
+use Rattle.cfgx_grammar.specs.parsing.Step.{and_then, step, run, conclude, ended_as, answer_from}
 use Rattle.cfg_expr.specs.parsing.Bounded.{IsHeld, IsBounded}
 use Rattle.cfg_expr.specs.parsing.Parser.{state_of, FailsAs, Reaches, Gives, IsQuoted, IsQuotedAt}
-use Rattle.cfg_expr.specs.parsing.Parser.{ended_as, answer_from, ReadsAll}
+use Rattle.cfg_expr.specs.parsing.Parser.{ReadsAll}
 use Rattle.cfg_expr.specs.declared.expr.parser.Parser.{Parser}
 use Rattle.cfg_expr.proofs.Bounded.{IsHeld-step}
 

@@ -13,8 +13,8 @@ use Rattle.cfgx_syntax.specs.Token.{Token, IsKey}
 use Rattle.cfgx_syntax.specs.Items.{Item, Ending, Stands}
 use Rattle.cfgx_grammar.specs.Tree.{Tree}
 use Rattle.cfgx_grammar.specs.Grammar.{HasTree}
-use Rattle.cfg_expr.specs.parsing.State.{initial}
-use Rattle.cfg_expr.specs.parsing.Step.{run}
+use Rattle.cfgx_grammar.specs.parsing.State.{initial}
+use Rattle.cfgx_grammar.specs.parsing.Step.{run}
 use Rattle.cfg_expr.proofs.Reading.{Follows-stands}
 use Rattle.cfg_expr.proofs.spelled.Whole.{Finds-tree}
 

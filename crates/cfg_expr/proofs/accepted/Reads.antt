@@ -7,9 +7,11 @@ use Rattle.cfgx_grammar.specs.Classification.{Class}
 use Rattle.cfgx_grammar.specs.Tree.{Tree}
 use Rattle.cfgx_grammar.specs.Grammar.{predicate_tokens, IsItem}
 use Rattle.cfg_expr.specs.nodes.Located.{located}
-use Rattle.cfg_expr.specs.parsing.State.{Word, Pending, Open, State, name_of}
-use Rattle.cfg_expr.specs.parsing.Step.{result_map, span_of, located_class, class_of, over_top}
-use Rattle.cfg_expr.specs.parsing.Step.{one_more, root_more, leaf_ended, ended_by, predicate_ended}
+use Rattle.cfgx_grammar.specs.parsing.State.{Word, Pending, name_of}
+use Rattle.cfg_expr.specs.parsing.State.{Open, State, span_of, located_class}
+use Rattle.cfgx_grammar.specs.parsing.Step.{result_map, over_top, one_more, root_more, leaf_ended}
+use Rattle.cfgx_grammar.specs.parsing.Step.{ended_by, predicate_ended}
+use Rattle.cfgx_grammar.specs.FirstFault.{class_of}
 use Rattle.cfg_expr.specs.declared.expr.nodes.InnerPredicate.{InnerPredicate}
 use Rattle.cfgx_grammar.proofs.accepted.Lists.{Ready, Behind, Full, Full-ready, Full-behind}
 

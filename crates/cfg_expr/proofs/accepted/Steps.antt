@@ -14,12 +14,13 @@ use Rattle.cfgx_grammar.specs.Tree.{Tree}
 use Rattle.cfgx_grammar.specs.Grammar.{IsItem, IsTree}
 use Rattle.cfgx_grammar.specs.Neighbours.{Kind, kind_of, takes}
 use Rattle.cfg_expr.specs.nodes.Node.{with_list_ended}
-use Rattle.cfg_expr.specs.parsing.State.{Function, Pending, Open, State, name_of, initial}
-use Rattle.cfg_expr.specs.parsing.Step.{and_then, result_map, refusal, over_top, one_more}
-use Rattle.cfg_expr.specs.parsing.Step.{predicate_ended, opened, member_count, has_room}
-use Rattle.cfg_expr.specs.parsing.Step.{function_ended, closed_by, with_parens, word_of, with_last}
-use Rattle.cfg_expr.specs.parsing.Step.{apply, step, run, one_root, concluded_by, conclude}
-use Rattle.cfg_expr.specs.parsing.Step.{lacks_value}
+use Rattle.cfgx_grammar.specs.parsing.State.{Function, Pending, name_of, initial}
+use Rattle.cfg_expr.specs.parsing.State.{Open, State}
+use Rattle.cfgx_grammar.specs.parsing.Step.{and_then, result_map, over_top, one_more}
+use Rattle.cfgx_grammar.specs.parsing.Step.{predicate_ended, opened, member_count, has_room}
+use Rattle.cfgx_grammar.specs.parsing.Step.{function_ended, closed_by, with_parens, with_last}
+use Rattle.cfgx_grammar.specs.parsing.Step.{apply, step, run, one_root, concluded_by, conclude}
+use Rattle.cfgx_grammar.specs.FirstFault.{refusal, word_of, lacks_value}
 use Rattle.cfgx_grammar.proofs.accepted.Lists.{Full, trees_of, Ready-behind, Ready-comma}
 use Rattle.cfg_expr.proofs.accepted.Reads.{current, Around, Waits, PendsKey, PendsEquals}
 use Rattle.cfg_expr.proofs.accepted.Reads.{PendsValue, Named, Ended, IsFull, Settled, Reads}

@@ -8,8 +8,9 @@ use Rattle.std.proofs.lemmas.Bool.{cases_lt}
 use Rattle.cfgx_syntax.specs.Items.{Item}
 use Rattle.cfgx_grammar.specs.Neighbours.{Kind, kind_of, is_kind}
 use Rattle.cfgx_grammar.specs.FirstFault.{depth, depth_at, members_at}
-use Rattle.cfg_expr.specs.parsing.State.{Open, name_of}
-use Rattle.cfg_expr.specs.parsing.Step.{over_top, one_more, root_more, with_parens}
+use Rattle.cfg_expr.specs.parsing.State.{Open}
+use Rattle.cfgx_grammar.specs.parsing.State.{name_of}
+use Rattle.cfgx_grammar.specs.parsing.Step.{over_top, one_more, root_more, with_parens}
 use Rattle.cfgx_grammar.proofs.faults.Counting.{slice_get_front, slice_get_next, slice_get-inside}
 use Rattle.cfgx_grammar.proofs.faults.Counting.{length_more, depth_at_front, members_at_item}
 use Rattle.cfgx_grammar.proofs.faults.Counting.{members_at_other, members_at_deeper}

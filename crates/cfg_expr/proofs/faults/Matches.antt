@@ -13,12 +13,13 @@ use Rattle.cfgx_syntax.specs.Error.{Refusal}
 use Rattle.cfgx_grammar.specs.Classification.{Class}
 use Rattle.cfgx_grammar.specs.Neighbours.{Kind, takes}
 use Rattle.cfgx_grammar.specs.FirstFault.{names_function, closes, depth, key_token, key_last}
-use Rattle.cfgx_grammar.specs.FirstFault.{equals_token, equals_last, predicate_token, predicate_last}
-use Rattle.cfgx_grammar.specs.FirstFault.{predicate_fault, class_fault, head_token, last_token}
-use Rattle.cfg_expr.specs.parsing.State.{Pending, Open, State, initial}
-use Rattle.cfg_expr.specs.parsing.Step.{lacks_value, class_of, result_map}
-use Rattle.cfg_expr.specs.parsing.Step.{located_class, leaf_ended, ended_by, predicate_ended}
-use Rattle.cfg_expr.specs.parsing.Step.{over_top, one_more}
+use Rattle.cfgx_grammar.specs.FirstFault.{equals_token, equals_last, predicate_token}
+use Rattle.cfgx_grammar.specs.FirstFault.{predicate_last, predicate_fault, class_fault, head_token}
+use Rattle.cfgx_grammar.specs.FirstFault.{last_token, lacks_value, class_of}
+use Rattle.cfgx_grammar.specs.parsing.State.{Pending, initial}
+use Rattle.cfg_expr.specs.parsing.State.{Open, State, located_class}
+use Rattle.cfgx_grammar.specs.parsing.Step.{result_map, leaf_ended, ended_by, predicate_ended}
+use Rattle.cfgx_grammar.specs.parsing.Step.{over_top, one_more}
 use Rattle.cfg_expr.proofs.faults.Levels.{Levels, Levels-ended}
 
 -- Tokens are named from the last one back.

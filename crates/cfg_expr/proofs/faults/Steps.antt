@@ -15,15 +15,15 @@ use Rattle.cfgx_grammar.specs.Neighbours.{Kind, kind_of, is_kind, next, expected
 use Rattle.cfg_expr.specs.nodes.Node.{with_list_ended}
 use Rattle.cfgx_grammar.specs.FirstFault.{depth, depth_at, innermost, members, roots, members_at}
 use Rattle.cfgx_grammar.specs.FirstFault.{Word, word_of, with_value, closes, names_not, last_token}
-use Rattle.cfgx_grammar.specs.FirstFault.{predicate_fault, count_fault}
-use Rattle.cfgx_grammar.specs.FirstFault.{not_fault, fault_by, fault_behind, unclosed_fault}
-use Rattle.cfgx_grammar.specs.FirstFault.{open_fault, root_fault, end_fault}
-use Rattle.cfg_expr.specs.parsing.State.{Function, Pending, Open, State, name_of}
-use Rattle.cfg_expr.specs.parsing.Step.{refusal, and_then, result_map, over_top, one_more}
-use Rattle.cfg_expr.specs.parsing.Step.{member_count, has_room, predicate_ended, function_ended}
-use Rattle.cfg_expr.specs.parsing.Step.{root_more, new_open, closed_by, opened, with_last}
-use Rattle.cfg_expr.specs.parsing.Step.{with_parens, apply, step}
-use Rattle.cfg_expr.specs.parsing.Step.{unclosed, one_root, concluded_by, conclude, lacks_value}
+use Rattle.cfgx_grammar.specs.FirstFault.{predicate_fault, count_fault, not_fault, fault_by}
+use Rattle.cfgx_grammar.specs.FirstFault.{fault_behind, unclosed_fault, open_fault, root_fault}
+use Rattle.cfgx_grammar.specs.FirstFault.{end_fault, refusal, lacks_value}
+use Rattle.cfgx_grammar.specs.parsing.State.{Function, Pending, name_of}
+use Rattle.cfg_expr.specs.parsing.State.{Open, State}
+use Rattle.cfgx_grammar.specs.parsing.Step.{and_then, result_map, over_top, one_more, member_count}
+use Rattle.cfgx_grammar.specs.parsing.Step.{has_room, predicate_ended, function_ended, root_more}
+use Rattle.cfgx_grammar.specs.parsing.Step.{new_open, closed_by, opened, with_last, with_parens}
+use Rattle.cfgx_grammar.specs.parsing.Step.{apply, step, unclosed, one_root, concluded_by, conclude}
 use Rattle.cfgx_grammar.proofs.faults.Counting.{slice_get_next, slice_get-inside, slice_get_past}
 use Rattle.cfgx_grammar.proofs.faults.Counting.{length_more, last_below-found, members_at_end}
 use Rattle.cfgx_grammar.proofs.faults.Counting.{depth_at_end}

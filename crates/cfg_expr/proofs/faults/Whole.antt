@@ -10,9 +10,9 @@ use Rattle.std.proofs.lemmas.List.{append-nil}
 use Rattle.cfgx_syntax.specs.Items.{Item, Ending, lexical}
 use Rattle.cfgx_syntax.specs.Error.{Refusal}
 use Rattle.cfgx_grammar.specs.FirstFault.{first_below, fault_behind, fault_at, end_fault, first_fault}
-use Rattle.cfg_expr.specs.parsing.State.{State, initial}
-use Rattle.cfg_expr.specs.parsing.Step.{and_then, step, run}
-use Rattle.cfg_expr.specs.parsing.Parser.{ended_as, answer_from}
+use Rattle.cfg_expr.specs.parsing.State.{State}
+use Rattle.cfgx_grammar.specs.parsing.State.{initial}
+use Rattle.cfgx_grammar.specs.parsing.Step.{and_then, step, run, ended_as, answer_from}
 use Rattle.cfgx_grammar.proofs.faults.Counting.{slice_get_next, length_more, first_below-none}
 use Rattle.cfgx_grammar.proofs.faults.Counting.{first_below-found}
 use Rattle.cfg_expr.proofs.faults.Matches.{Matches, Matches-initial}

@@ -20,12 +20,13 @@ use Rattle.cfg_expr.specs.nodes.Node.{with_function_ended}
 use Rattle.cfg_expr.specs.nodes.Prefix.{headed, prefix, prefix_each, own_places, places}
 use Rattle.cfg_expr.specs.nodes.Prefix.{inner_places}
 use Rattle.cfg_expr.specs.nodes.Writes.{IsPlaced, ArePlaced, Writes}
-use Rattle.cfg_expr.specs.parsing.State.{Function, Pending, Open, State, name_of}
-use Rattle.cfg_expr.specs.parsing.Step.{and_then, over_top, one_more, root_more, leaf_ended}
-use Rattle.cfg_expr.specs.parsing.Step.{span_of, ended_by, predicate_ended, new_open, opened}
-use Rattle.cfg_expr.specs.parsing.Step.{counted, member_count, has_room, function_ended, closed_by}
-use Rattle.cfg_expr.specs.parsing.Step.{with_parens, word_of, with_last, apply, step, run}
-use Rattle.cfg_expr.specs.parsing.Step.{lacks_value}
+use Rattle.cfgx_grammar.specs.parsing.State.{Function, Pending, name_of}
+use Rattle.cfg_expr.specs.parsing.State.{Open, State, span_of, counted}
+use Rattle.cfgx_grammar.specs.parsing.Step.{and_then, over_top, one_more, root_more, leaf_ended}
+use Rattle.cfgx_grammar.specs.parsing.Step.{ended_by, predicate_ended, new_open, opened}
+use Rattle.cfgx_grammar.specs.parsing.Step.{member_count, has_room, function_ended, closed_by}
+use Rattle.cfgx_grammar.specs.parsing.Step.{with_parens, with_last, apply, step, run}
+use Rattle.cfgx_grammar.specs.FirstFault.{word_of, lacks_value}
 use Rattle.cfg_expr.specs.declared.expr.Func.TheVariants.{Not}
 use Rattle.cfg_expr.specs.declared.expr.nodes.ExprNode.TheVariants as node
 use Rattle.cfg_expr.proofs.accepted.Steps.{tokens_of, TopEnded-ended, stack_ended}

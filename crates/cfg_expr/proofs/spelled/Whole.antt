@@ -13,9 +13,11 @@ use Rattle.cfg_expr.specs.nodes.Prefix.{Node, node_at, prefix, prefix_each, plac
 use Rattle.cfg_expr.specs.nodes.Keeps.{KeepsTree}
 use Rattle.cfg_expr.specs.declared.expr.nodes.ExprNode.{ExprNode}
 use Rattle.cfg_expr.specs.nodes.Writes.{NodeHasCut, ArePlaced, Writes}
-use Rattle.cfg_expr.specs.parsing.State.{Open, State, initial}
-use Rattle.cfg_expr.specs.parsing.Step.{and_then, predicate_ended, run, one_root, concluded_by}
-use Rattle.cfg_expr.specs.parsing.Step.{conclude, lacks_value}
+use Rattle.cfg_expr.specs.parsing.State.{Open, State}
+use Rattle.cfgx_grammar.specs.parsing.State.{initial}
+use Rattle.cfgx_grammar.specs.parsing.Step.{and_then, predicate_ended, run, one_root, concluded_by}
+use Rattle.cfgx_grammar.specs.parsing.Step.{conclude}
+use Rattle.cfgx_grammar.specs.FirstFault.{lacks_value}
 use Rattle.cfg_expr.proofs.accepted.Steps.{tokens_of, TopEnded-ended}
 use Rattle.cfg_expr.proofs.spelled.Items.{Splits-tokens, between, CommasTaken-run, run_both}
 use Rattle.cfg_expr.proofs.spelled.Items.{placed_parts, ItemEnds-item}

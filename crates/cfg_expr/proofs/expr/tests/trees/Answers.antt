@@ -13,8 +13,8 @@ use Rattle.cfgx_grammar.specs.Grammar.{IsItem, IsList, IsTree}
 use Rattle.cfgx_grammar.specs.Tree.{Trees}
 use Rattle.cfg_expr.specs.Worked.{flag, one, item, key_a, key_b, listed, listed_tokens, single}
 use Rattle.cfg_expr.specs.Worked.{single_items, comma_items, not_items}
-use Rattle.cfg_expr.specs.parsing.State.{initial}
-use Rattle.cfg_expr.specs.parsing.Step.{run}
+use Rattle.cfgx_grammar.specs.parsing.State.{initial}
+use Rattle.cfgx_grammar.specs.parsing.Step.{run}
 use Rattle.cfg_expr.proofs.spelled.Whole.{Finds-tree}
 use Rattle.cfg_expr.proofs.expr.tests.trees.Goals as goal
 
