@@ -13,12 +13,12 @@ use Rattle.cfgx_grammar.specs.Answer.{HasOneTree, HasNoTree, HasOneFault, HasNoF
 use Rattle.cfgx_grammar.specs.Answer.{IsRefused}
 use Rattle.cfg_expr.specs.nodes.Keeps.{KeepsTree, Keeps}
 use Rattle.cfg_expr.specs.nodes.Writes.{ArePlaced}
-use Rattle.cfg_expr.specs.parsing.State.{State}
+use Rattle.cfg_expr.specs.parsing.State.{State, node_builder}
 use Rattle.cfgx_grammar.specs.parsing.State.{initial}
 use Rattle.cfgx_grammar.specs.parsing.Step.{and_then, run, conclude, ended_as, answer_from}
-use Rattle.cfg_expr.proofs.accepted.Steps.{tokens_of, ran, IsTree-accepted}
-use Rattle.cfg_expr.proofs.faults.Steps.{EndAgrees}
-use Rattle.cfg_expr.proofs.faults.Whole.{whole_agrees}
+use Rattle.cfgx_grammar.proofs.accepted.Steps.{tokens_of, ran, IsTree-accepted}
+use Rattle.cfgx_grammar.proofs.faults.Steps.{EndAgrees}
+use Rattle.cfgx_grammar.proofs.faults.Whole.{whole_agrees}
 use Rattle.cfg_expr.proofs.spelled.Whole.{Finds-tree, one_tree_of}
 use Rattle.cfg_expr.proofs.Reading.{placed_at}
 
@@ -115,7 +115,7 @@ module _ (text : List ℕ) (one : HasOneTokenList text) where
   answered : (r : Result State Refusal) → answer ≡ r
       → EndAgrees r (first_fault text one.items one.ending)
   answered r e = subst (λ a. EndAgrees a (first_fault text one.items one.ending)) e
-      (whole_agrees text one.items one.ending)
+      (whole_agrees node_builder text one.items one.ending)
 
   pub HasNoFault-accepted : (u : State) → answer ≡ Ok u → HasNoFault text
   HasNoFault-accepted u e fault has =

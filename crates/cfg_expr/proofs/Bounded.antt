@@ -13,8 +13,8 @@ use Rattle.cfgx_grammar.specs.parsing.Step.{apply, step}
 use Rattle.cfg_expr.specs.parsing.Bounded.{counted_in, AreMarked, IsHeld}
 use Rattle.cfg_expr.specs.declared.expr.nodes.InnerPredicate.{InnerPredicate}
 use Rattle.cfg_expr.specs.declared.expr.nodes.ExprNode.TheVariants as node
-use Rattle.cfg_expr.proofs.accepted.Reads.{LeafEnds-ended, same_ended}
-use Rattle.cfg_expr.proofs.accepted.Steps.{Closes-stack, Steps-step}
+use Rattle.cfgx_grammar.proofs.accepted.Reads.{LeafEnds-ended, same_ended}
+use Rattle.cfgx_grammar.proofs.accepted.Steps.{Closes-stack, Steps-step}
 
 ok_same : (s t : State) → ◌≡◌ {A = Result State Refusal} (Ok s) (Ok t) → s ≡ t
 ok_same s t e = cc

@@ -7,8 +7,6 @@ pub mod Parsed
 pub mod Reading
 pub mod Stripped
 pub mod Writing
-pub mod accepted
 pub mod evaluated
-pub mod faults
 pub mod filling
 pub mod spelled

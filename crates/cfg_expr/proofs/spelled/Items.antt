@@ -29,7 +29,7 @@ use Rattle.cfgx_grammar.specs.parsing.Step.{with_parens, with_last, apply, step,
 use Rattle.cfgx_grammar.specs.FirstFault.{word_of, lacks_value}
 use Rattle.cfg_expr.specs.declared.expr.Func.TheVariants.{Not}
 use Rattle.cfg_expr.specs.declared.expr.nodes.ExprNode.TheVariants as node
-use Rattle.cfg_expr.proofs.accepted.Steps.{tokens_of, TopEnded-ended, stack_ended}
+use Rattle.cfgx_grammar.proofs.accepted.Steps.{tokens_of, TopEnded-ended, stack_ended}
 use Rattle.cfg_expr.proofs.spelled.Located.{Stands, NamesClass, NamesClass-class}
 use Rattle.cfg_expr.proofs.spelled.Written.{Writes-none, Writes-then, Writes-leaf, Writes-function}
 use Rattle.cfg_expr.proofs.spelled.Written.{length-nodes}

@@ -18,7 +18,7 @@ use Rattle.cfgx_grammar.specs.parsing.State.{initial}
 use Rattle.cfgx_grammar.specs.parsing.Step.{and_then, predicate_ended, run, one_root, concluded_by}
 use Rattle.cfgx_grammar.specs.parsing.Step.{conclude}
 use Rattle.cfgx_grammar.specs.FirstFault.{lacks_value}
-use Rattle.cfg_expr.proofs.accepted.Steps.{tokens_of, TopEnded-ended}
+use Rattle.cfgx_grammar.proofs.accepted.Steps.{tokens_of, TopEnded-ended}
 use Rattle.cfg_expr.proofs.spelled.Items.{Splits-tokens, between, CommasTaken-run, run_both}
 use Rattle.cfg_expr.proofs.spelled.Items.{placed_parts, ItemEnds-item}
 
