@@ -1,11 +1,10 @@
-pub mod Answering
 pub mod Asked
 pub mod Bounded
 pub mod Chains
+pub mod Kept
 pub mod Labels
 pub mod Parsed
 pub mod Reading
-pub mod Stripped
 pub mod Writing
 pub mod evaluated
 pub mod filling
