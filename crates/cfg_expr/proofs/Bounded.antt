@@ -5,15 +5,16 @@ use Rattle.std.proofs.lemmas.List.{length_push, length-set}
 use Rattle.cfgx_syntax.specs.Token.{Token}
 use Rattle.cfgx_syntax.specs.Items.{Item}
 use Rattle.cfgx_syntax.specs.Error.{Refusal}
-use Rattle.cfg_expr.specs.parsing.State.{Function, Pending, Open, State}
-use Rattle.cfg_expr.specs.parsing.Step.{counted, over_top, one_more, root_more, leaf_ended}
-use Rattle.cfg_expr.specs.parsing.Step.{predicate_ended, opened, function_ended, with_parens, apply}
-use Rattle.cfg_expr.specs.parsing.Step.{step}
+use Rattle.cfgx_grammar.specs.parsing.State.{Function, Pending}
+use Rattle.cfg_expr.specs.parsing.State.{Open, State, counted}
+use Rattle.cfgx_grammar.specs.parsing.Step.{over_top, one_more, root_more, leaf_ended}
+use Rattle.cfgx_grammar.specs.parsing.Step.{predicate_ended, opened, function_ended, with_parens}
+use Rattle.cfgx_grammar.specs.parsing.Step.{apply, step}
 use Rattle.cfg_expr.specs.parsing.Bounded.{counted_in, AreMarked, IsHeld}
 use Rattle.cfg_expr.specs.declared.expr.nodes.InnerPredicate.{InnerPredicate}
 use Rattle.cfg_expr.specs.declared.expr.nodes.ExprNode.TheVariants as node
-use Rattle.cfg_expr.proofs.accepted.Reads.{LeafEnds-ended, same_ended}
-use Rattle.cfg_expr.proofs.accepted.Steps.{Closes-stack, Steps-step}
+use Rattle.cfgx_grammar.proofs.accepted.Reads.{LeafEnds-ended, same_ended}
+use Rattle.cfgx_grammar.proofs.accepted.Steps.{Closes-stack, Steps-step}
 
 ok_same : (s t : State) → ◌≡◌ {A = Result State Refusal} (Ok s) (Ok t) → s ≡ t
 ok_same s t e = cc

@@ -1,14 +1,11 @@
-pub mod Answering
 pub mod Asked
 pub mod Bounded
 pub mod Chains
+pub mod Kept
 pub mod Labels
 pub mod Parsed
 pub mod Reading
-pub mod Stripped
 pub mod Writing
-pub mod accepted
 pub mod evaluated
-pub mod faults
 pub mod filling
 pub mod spelled

@@ -7,12 +7,15 @@ use Rattle.cfgx_syntax.specs.declared.error.Failure.{Failure}
 use Rattle.cfgx_syntax.specs.declared.error.Failure.TheVariants as failure
 use Rattle.cfgx_grammar.specs.Answer.{Answers, IsAccepted}
 use Rattle.cfg_expr.specs.nodes.Keeps.{Keeps}
-use Rattle.cfg_expr.specs.parsing.State.{State, initial}
-use Rattle.cfg_expr.specs.parsing.Parser.{state_of, FailsAs, Gives, answer_from, ReadsAll}
+use Rattle.cfg_expr.specs.parsing.State.{State}
+use Rattle.cfgx_grammar.specs.parsing.State.{initial}
+use Rattle.cfg_expr.specs.parsing.Parser.{state_of, FailsAs, Gives, ReadsAll}
+use Rattle.cfgx_grammar.specs.parsing.Step.{answer_from}
 use Rattle.cfg_expr.specs.declared.expr.parser.Parser.{Parser}
-use Rattle.cfg_expr.proofs.Answering.{answer, tree_of, IsAccepted-accepted, IsRefused-refused}
-use Rattle.cfg_expr.proofs.Answering.{accepted_or_refused, Keeps-accepted}
-use Rattle.cfg_expr.proofs.Stripped.{strip-tree}
+use Rattle.cfgx_grammar.proofs.Answering.{answer, tree_of, IsAccepted-accepted, IsRefused-refused}
+use Rattle.cfgx_grammar.proofs.Answering.{accepted_or_refused}
+use Rattle.cfg_expr.proofs.Kept.{Keeps-accepted}
+use Rattle.cfgx_grammar.proofs.Stripped.{strip-tree}
 
 -- the start of a text, and of the parser
 pub record Begins {A : Type 0} (text : List ℕ) (lexer : LexerState)

@@ -16,62 +16,14 @@ use Rattle.cfgx_syntax.specs.declared.lexer.Token as declared
 use Rattle.cfgx_syntax.specs.declared.lexer.Token.TheVariants as given
 use Rattle.cfgx_syntax.proofs.Values.{value_inside}
 use Rattle.cfg_expr.specs.nodes.Writes.{IsPlaced}
-use Rattle.cfgx_syntax.proofs.TokenList.{Stands-same, Stands-no_ending, EndsAs-same}
+use Rattle.cfgx_syntax.proofs.TokenList.{Follows-stands, no_more_items}
 use Rattle.cfg_expr.specs.parsing.State.{State}
-use Rattle.cfg_expr.specs.parsing.Step.{and_then, step, run, conclude}
+use Rattle.cfgx_grammar.specs.parsing.Step.{and_then, step, run, conclude, ended_as, answer_from}
 use Rattle.cfg_expr.specs.parsing.Bounded.{IsHeld, IsBounded}
 use Rattle.cfg_expr.specs.parsing.Parser.{state_of, FailsAs, Reaches, Gives, IsQuoted, IsQuotedAt}
-use Rattle.cfg_expr.specs.parsing.Parser.{ended_as, answer_from, ReadsAll}
+use Rattle.cfg_expr.specs.parsing.Parser.{ReadsAll}
 use Rattle.cfg_expr.specs.declared.expr.parser.Parser.{Parser}
 use Rattle.cfg_expr.proofs.Bounded.{IsHeld-step}
-
--- what stands next is the first of the items
-pub record Follows (text : List ℕ) (item : Item) (items : List Item)
-    (ending : Ending) : Type 0 where
-  pub rest : List Item
-  pub items_are : items ≡ item ∷ rest
-  pub come : ItemsFrom text item.end rest ending
-
-pub Follows-stands : (text : List ℕ) (place : ℕ) (item : Item) (items : List Item)
-    (ending : Ending) → Stands text place item
-    → ItemsFrom text place items ending → Follows text item items ending
-Follows-stands text place item [] ending stands come =
-    absurd (Stands-no_ending text place item ending stands come)
-Follows-stands text place item (other ∷ others) ending stands come =
-    let same = Stands-same text place other item come.0 stands in
-    record {
-      rest = others;
-      items_are = ap (λ i. i ∷ others) same;
-      come = subst (λ (i : Item). ItemsFrom text i.end others ending) same come.1;
-    }
-
-pub no_more_items : (text : List ℕ) (place : ℕ) (items : List Item)
-    (ending end : Ending) → EndsAs text place end → ItemsFrom text place items ending
-    → (items ≡ []) × (ending ≡ end)
-no_more_items text place [] ending end ends come =
-    (refl, EndsAs-same text place ending end come ends)
-no_more_items text place (item ∷ items) ending end ends come =
-    absurd (Stands-no_ending text place item end come.0 ends)
-
--- the text of a key or of a value stands at its place
-pub placed_at : (text : List ℕ) (token : Token) (start end : ℕ)
-    → Spells (slice_range text start end) token → end ≤ length text
-    → CanBeCut text token start end → IsPlaced text (record {
-      token = token;
-      start = start;
-      end =
-          end;
-    }) token
-placed_at text (Token.key word) start end spelled inside cut = (spelled.0, cut.spelling)
-placed_at text (Token.value word) start end spelled inside cut =
-    (value_inside text word start end inside spelled.0, cut.value)
-placed_at text Token.equals start end spelled inside cut = tt
-placed_at text Token.all start end spelled inside cut = tt
-placed_at text Token.any start end spelled inside cut = tt
-placed_at text Token.not start end spelled inside cut = tt
-placed_at text Token.open_paren start end spelled inside cut = tt
-placed_at text Token.close_paren start end spelled inside cut = tt
-placed_at text Token.comma start end spelled inside cut = tt
 
 -- a value's span has room for its quotes
 pub IsQuoted-given : (now : LexerState) (lexed : LexerToken)

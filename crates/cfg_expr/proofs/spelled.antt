@@ -1,5 +1,4 @@
--- What is spelled by a tree is accepted, and the nodes of that tree are written.
+-- The nodes of the tree that spells a text are written.
+pub mod Laws
 pub mod Located
 pub mod Written
-pub mod Items
-pub mod Whole

@@ -11,8 +11,9 @@ use Rattle.cfgx_grammar.specs.Neighbours.{expected}
 use Rattle.cfgx_grammar.specs.Question.{Question}
 use Rattle.cfgx_grammar.specs.Tree.{Tree, Trees}
 use Rattle.cfg_expr.specs.nodes.Node.{nothing}
-use Rattle.cfg_expr.specs.parsing.State.{State, initial}
-use Rattle.cfg_expr.specs.parsing.Parser.{answer_from}
+use Rattle.cfg_expr.specs.parsing.State.{State}
+use Rattle.cfgx_grammar.specs.parsing.State.{initial}
+use Rattle.cfgx_grammar.specs.parsing.Step.{answer_from}
 use Rattle.cfg_expr.specs.declared.expr.Func.TheVariants as func
 use Rattle.cfg_expr.specs.declared.expr.nodes.ExprNode.TheVariants as node
 use Rattle.cfg_expr.specs.declared.expr.nodes.InnerPredicate.TheVariants as inner

@@ -3,4 +3,3 @@ pub mod Bounded
 pub mod Fields
 pub mod Parser
 pub mod State
-pub mod Step

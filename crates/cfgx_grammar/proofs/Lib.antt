@@ -1,8 +1,11 @@
+pub mod Answering
 pub mod Arranging
 pub mod Classes
 pub mod Exactness
 pub mod Matched
+pub mod Stripped
 pub mod accepted
 pub mod alone
 pub mod faults
+pub mod spelled
 pub mod worked

@@ -1,2 +1,6 @@
--- What the parser refuses has this first fault.
+-- The parser refuses a text with its first fault.
 pub mod Counting
+pub mod Levels
+pub mod Matches
+pub mod Steps
+pub mod Whole

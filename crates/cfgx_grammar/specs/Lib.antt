@@ -11,3 +11,4 @@ pub mod Regular
 pub mod Spelling
 pub mod Tree
 pub mod WorkedValues
+pub mod parsing

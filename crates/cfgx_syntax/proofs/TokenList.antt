@@ -177,3 +177,31 @@ ItemsFrom-same text from (item ∷ items) (other ∷ others) ending end here the
     subst (λ (x : Item). ItemsFrom text x.end others end) first there.1 in
     let rest = ItemsFrom-same text item.end items others ending end here.1 behind in
     (λ i. first i ∷ rest.0 i, rest.1)
+
+-- what stands next is the first of the items
+pub record Follows (text : List ℕ) (item : Item) (items : List Item)
+    (ending : Ending) : Type 0 where
+  pub rest : List Item
+  pub items_are : items ≡ item ∷ rest
+  pub come : ItemsFrom text item.end rest ending
+
+pub Follows-stands : (text : List ℕ) (place : ℕ) (item : Item) (items : List Item)
+    (ending : Ending) → Stands text place item
+    → ItemsFrom text place items ending → Follows text item items ending
+Follows-stands text place item [] ending stands come =
+    absurd (Stands-no_ending text place item ending stands come)
+Follows-stands text place item (other ∷ others) ending stands come =
+    let same = Stands-same text place other item come.0 stands in
+    record {
+      rest = others;
+      items_are = ap (λ i. i ∷ others) same;
+      come = subst (λ (i : Item). ItemsFrom text i.end others ending) same come.1;
+    }
+
+pub no_more_items : (text : List ℕ) (place : ℕ) (items : List Item)
+    (ending end : Ending) → EndsAs text place end → ItemsFrom text place items ending
+    → (items ≡ []) × (ending ≡ end)
+no_more_items text place [] ending end ends come =
+    (refl, EndsAs-same text place ending end come ends)
+no_more_items text place (item ∷ items) ending end ends come =
+    absurd (Stands-no_ending text place item end come.0 ends)

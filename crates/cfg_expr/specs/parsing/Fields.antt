@@ -5,8 +5,9 @@ use Rattle.std.specs.declared.ops.Range.{Range}
 use Rattle.cfgx_syntax.specs.Error.{Refusal, unexpected, cause_of}
 use Rattle.cfgx_syntax.specs.declared.error.Reason.{Reason}
 use Rattle.cfgx_grammar.specs.Classification.{target_class, other_class}
-use Rattle.cfg_expr.specs.parsing.State.{Function, Word, Pending, Open}
-use Rattle.cfg_expr.specs.parsing.Step.{refusal, located_class}
+use Rattle.cfgx_grammar.specs.parsing.State.{Function, Word, Pending}
+use Rattle.cfg_expr.specs.parsing.State.{Open, located_class}
+use Rattle.cfgx_grammar.specs.FirstFault.{refusal}
 use Rattle.cfg_expr.specs.declared.expr.Func.{Func}
 use Rattle.cfg_expr.specs.declared.expr.Func.TheVariants as func
 use Rattle.cfg_expr.specs.declared.expr.classification.Word as code_word

@@ -1,9 +1,9 @@
 -- What the parser's functions say: they compute the steps.
-use Rattle.std.specs.Prelude.{◌≡◌, ℕ, ◌+◌, ◌-◌, ◌≤◌, List, length, Option, Some, None, option_map}
+use Rattle.std.specs.Prelude.{◌≡◌, ℕ, ◌+◌, ◌-◌, ◌≤◌, List, option_map}
 use Rattle.std.specs.Prelude.{Result, Ok, Err}
 use Rattle.std.specs.declared.ops.Range.{Range}
 use Rattle.cfgx_syntax.specs.Token as spelled
-use Rattle.cfgx_syntax.specs.Items.{Item, Ending, ItemsFrom, lexical}
+use Rattle.cfgx_syntax.specs.Items.{Item, Ending, ItemsFrom}
 use Rattle.cfgx_syntax.specs.LexerState.{LexerState}
 use Rattle.cfgx_syntax.specs.Lexer.{token_of}
 use Rattle.cfgx_syntax.specs.Error.{Refusal, fault_in, fault_of}
@@ -13,9 +13,11 @@ use Rattle.cfgx_syntax.specs.declared.lexer.LexerToken.{LexerToken}
 use Rattle.cfgx_syntax.specs.declared.lexer.Token.{Token}
 use Rattle.cfgx_syntax.specs.declared.lexer.Token.TheVariants as given
 use Rattle.cfg_expr.specs.nodes.Writer.{Fits, written_of}
-use Rattle.cfg_expr.specs.parsing.State.{Function, State}
-use Rattle.cfg_expr.specs.parsing.Step.{and_then, opened, function_ended, closed_by, with_value}
-use Rattle.cfg_expr.specs.parsing.Step.{word_of, run, conclude}
+use Rattle.cfgx_grammar.specs.parsing.State.{Function}
+use Rattle.cfg_expr.specs.parsing.State.{State}
+use Rattle.cfgx_grammar.specs.parsing.Step.{opened, function_ended, closed_by}
+use Rattle.cfgx_grammar.specs.parsing.Step.{answer_from}
+use Rattle.cfgx_grammar.specs.FirstFault.{with_value, word_of}
 use Rattle.cfg_expr.specs.parsing.Fields.{opens_of, pending_of}
 use Rattle.cfg_expr.specs.declared.expr.parser.Parser.{Parser}
 
@@ -87,15 +89,6 @@ IsQuotedAt given.Comma span = Unit {0}
 
 abbrev pub IsQuoted : LexerToken → Type 0
 IsQuoted lexed = IsQuotedAt lexed.token lexed.span
-
--- the end of the tokens, by what stands there
-abbrev pub ended_as : List ℕ → Option Refusal → State → Result State Refusal
-ended_as text None s = conclude (length text) s
-ended_as text (Some refusal) s = Err refusal
-
--- what the whole of a text's tokens answers, from a state on
-abbrev pub answer_from : State → List ℕ → List Item → Ending → Result State Refusal
-answer_from s text items ending = and_then (ended_as text (lexical text ending)) (run s items)
 
 abbrev pub ReadsAll : {A : Type 0} → LexerState → Parser A → Parser A → Result (Unit {0})
     (Failure A) → Type 0

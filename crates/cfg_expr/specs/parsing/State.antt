@@ -1,37 +1,49 @@
--- What the parser keeps between two tokens.
-use Rattle.std.specs.Prelude.{ℕ, List, [], Option, None}
-use Rattle.cfgx_syntax.specs.Token.{Token}
-pub use Rattle.cfgx_grammar.specs.FirstFault.{Word, KeyAndValue as Pending}
-use Rattle.cfg_expr.specs.nodes.Node.{Mark, Written, nothing}
+-- The state of the parser that builds nodes.
+use Rattle.std.specs.Prelude.{ℕ, option_map, Result}
+use Rattle.std.specs.declared.ops.Range.{Range}
+use Rattle.cfgx_syntax.specs.Error.{Refusal}
+use Rattle.cfgx_grammar.specs.Classification.{Class}
+use Rattle.cfgx_grammar.specs.FirstFault.{class_of}
+use Rattle.cfgx_grammar.specs.parsing.State as parser
+use Rattle.cfgx_grammar.specs.parsing.State.{Function, Word, Pending, Builder}
+use Rattle.cfgx_grammar.specs.parsing.Step as steps
+use Rattle.cfg_expr.specs.nodes.Node.{Mark, Written, nothing, mark_of, with_leaf, with_function}
+use Rattle.cfg_expr.specs.nodes.Node.{with_list_ended, with_function_ended}
+use Rattle.cfg_expr.specs.nodes.Located.{located}
+use Rattle.cfg_expr.specs.declared.expr.Func.{Func}
+use Rattle.cfg_expr.specs.declared.expr.Func.TheVariants as func
+use Rattle.cfg_expr.specs.declared.expr.nodes.InnerPredicate.{InnerPredicate}
 
--- the three functions
-pub data Function : Type 0 where
-  all : Function
-  any : Function
-  not : Function
+-- a function with so many members
+abbrev pub counted : Function → ℕ → Func
+counted Function.not n = func.Not
+counted Function.all n = func.All n
+counted Function.any n = func.Any n
 
-abbrev pub name_of : Function → Token
-name_of Function.all = Token.all
-name_of Function.any = Token.any
-name_of Function.not = Token.not
+abbrev pub span_of : Word → Range ℕ
+span_of word = record { start = word.start; end = word.end }
 
--- an open function: where its name stands, where its `(`, and how many of its members have ended
-pub record Open : Type 0 where
-  pub function : Function
-  pub start : ℕ
-  pub end : ℕ
-  pub parens : Option ℕ
-  pub members : ℕ
-  pub mark : Mark
+-- what the parser's steps do to the nodes
+abbrev pub node_builder : Builder Written Mark InnerPredicate
+node_builder = record {
+  nothing = nothing;
+  mark_of = mark_of;
+  located = λ p question. located (span_of p.key) (option_map span_of p.value) question;
+  leaf = with_leaf;
+  function = λ function. with_function (counted function 0);
+  function_ended = λ mark function members. with_function_ended mark (counted function members);
+  root_ended = with_list_ended 0;
+}
 
--- The open functions, the innermost first; the predicate that has not ended; how many items at the
--- root have ended; the last token; what was written.
-pub record State : Type 0 where
-  pub stack : List Open
-  pub pending : Option Pending
-  pub roots : ℕ
-  pub last : Option Token
-  pub written : Written
+abbrev pub Open : Type 0
+Open = parser.Open Mark
 
-abbrev pub initial : State
-initial = record { stack = []; pending = None; roots = 0; last = None; written = nothing }
+abbrev pub State : Type 0
+State = parser.State node_builder
+
+-- a predicate by its places, or its fault
+abbrev pub located_class : Pending → Class → Result InnerPredicate Refusal
+located_class = steps.located_class node_builder
+
+abbrev pub classified : Pending → Result InnerPredicate Refusal
+classified p = located_class p (class_of p)

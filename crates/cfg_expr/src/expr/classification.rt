@@ -1,6 +1,6 @@
 //! What a predicate's key and value say, or what is wrong with them and where.
 ghost use Rattle.std.specs.Prelude.{◌≡◌, option_map};
-ghost use Rattle.cfg_expr.specs.parsing.Step.{classified};
+ghost use Rattle.cfg_expr.specs.parsing.State.{classified};
 ghost use Rattle.cfg_expr.specs.parsing.Fields.{word_of, pending_of, answer_of, bare_answer};
 ghost use Rattle.cfg_expr.specs.parsing.Fields.{target_answer, other_answer};
 

@@ -5,12 +5,12 @@ ghost use Rattle.cfgx_syntax.specs.Error.{cause_of, unexpected, FailsWith, fault
 ghost use Rattle.cfgx_syntax.specs.Lexer.{token_of, item_of};
 ghost use Rattle.cfgx_grammar.specs.Neighbours.{next, expected};
 ghost use Rattle.cfg_expr.specs.nodes.Writer.{Fits, written_of};
-ghost use Rattle.cfg_expr.specs.parsing.State.{State};
-ghost use Rattle.cfg_expr.specs.parsing.Step.{refusal, over_top, one_more, root_more, with_item};
-ghost use Rattle.cfg_expr.specs.parsing.Step.{with_parens, leaf_ended, predicate_ended, opened};
-ghost use Rattle.cfg_expr.specs.parsing.Step.{new_open, counted, member_count, has_room};
-ghost use Rattle.cfg_expr.specs.parsing.Step.{function_ended, closed_by, apply, step, unclosed};
-ghost use Rattle.cfg_expr.specs.parsing.Step.{conclude};
+ghost use Rattle.cfg_expr.specs.parsing.State.{State, counted};
+ghost use Rattle.cfgx_grammar.specs.FirstFault.{refusal};
+ghost use Rattle.cfgx_grammar.specs.parsing.Step.{over_top, one_more, root_more, with_item};
+ghost use Rattle.cfgx_grammar.specs.parsing.Step.{with_parens, leaf_ended, predicate_ended, opened};
+ghost use Rattle.cfgx_grammar.specs.parsing.Step.{new_open, member_count, has_room, function_ended};
+ghost use Rattle.cfgx_grammar.specs.parsing.Step.{closed_by, apply, step, unclosed, conclude};
 ghost use Rattle.cfg_expr.specs.parsing.Fields.{function_of, open_of, opens_of, is_some_open};
 ghost use Rattle.cfg_expr.specs.parsing.Bounded.{TopHasRoom};
 
@@ -140,7 +140,7 @@ fn open_parens<A: SmallAllocator>(stack: &mut SmallVec<FuncAndSpan, 5, A>, place
 }
 
 impl<'a, A: SmallAllocator> Parser<'a, A> {
-    ghost use Rattle.cfg_expr.specs.parsing.State.{initial};
+    ghost use Rattle.cfgx_grammar.specs.parsing.State.{initial};
     ghost use Rattle.cfg_expr.specs.parsing.Parser.{state_of, Gives, Opens, EndsFunction};
     ghost use Rattle.cfg_expr.specs.parsing.Parser.{AddsValue, IsQuoted, closed_at, ReadsAll};
     ghost use Rattle.cfg_expr.specs.parsing.Bounded.{IsBounded, HasRoom};

@@ -9,14 +9,13 @@ ghost use Rattle.cfgx_targets.specs.declared.endian.Endian.TheVariants.{big, lit
 ghost use Rattle.cfgx_targets.specs.declared.atomic.HasAtomic.TheVariants.{IntegerSize, Pointer};
 ghost use Rattle.cfgx_grammar.specs.Answer.{HasNoTree};
 ghost use Rattle.cfgx_grammar.specs.Classification.{Class, asks, family};
-ghost use Rattle.cfgx_grammar.specs.FirstFault.{first_fault};
+ghost use Rattle.cfgx_grammar.specs.FirstFault.{first_fault, refusal};
 ghost use Rattle.cfgx_grammar.specs.Grammar.{HasTree, IsTree};
 ghost use Rattle.cfgx_grammar.specs.Neighbours.{next, expected};
 ghost use Rattle.cfgx_grammar.specs.Question.{Question, TargetQuestion};
 ghost use Rattle.cfgx_grammar.specs.Spelling.{spelling};
 ghost use Rattle.cfgx_grammar.specs.Tree.{Tree, asked};
 ghost use Rattle.cfg_expr.specs.nodes.Prefix.{places};
-ghost use Rattle.cfg_expr.specs.parsing.Step.{refusal};
 ghost use Rattle.cfg_expr.specs.Worked.{flags, shallow, nested, listed, listed_tokens};
 ghost use Rattle.cfg_expr.specs.Worked.{single, single_items, single_read, open_items, reads};
 ghost use Rattle.cfg_expr.specs.Worked.{comma_items, not_items, two_items, root_items};

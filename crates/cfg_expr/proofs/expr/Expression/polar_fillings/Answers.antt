@@ -5,7 +5,7 @@ use Rattle.cfgx_syntax.proofs.Finding.{HasOneTokenList-of}
 use Rattle.cfgx_grammar.specs.Answer.{HasOneTree}
 use Rattle.cfgx_grammar.specs.Filling.{PolarFillings}
 use Rattle.cfgx_grammar.specs.Grammar.{HasTree}
-use Rattle.cfg_expr.proofs.Answering.{HasOneTree-tree}
+use Rattle.cfgx_grammar.proofs.Answering.{HasOneTree-tree}
 use Rattle.cfgx_grammar.proofs.Exactness.{IsExact-fold}
 use Rattle.cfg_expr.proofs.expr.Expression.polar_fillings.Goals as goal
 

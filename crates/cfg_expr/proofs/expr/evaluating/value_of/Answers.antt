@@ -4,7 +4,7 @@ use Rattle.cfgx_grammar.specs.Fold.{fold}
 use Rattle.cfg_expr.specs.nodes.Machine.{last_of}
 use Rattle.cfg_expr.specs.nodes.Steps.{text_list}
 use Rattle.cfgx_syntax.proofs.Finding.{HasOneTokenList-of}
-use Rattle.cfg_expr.proofs.Answering.{HasOneTree-tree}
+use Rattle.cfgx_grammar.proofs.Answering.{HasOneTree-tree}
 use Rattle.cfg_expr.proofs.Asked.{NameLeaves-kept}
 use Rattle.cfg_expr.proofs.evaluated.Valued.{short-fits, CanTake-measured}
 use Rattle.cfg_expr.proofs.evaluated.Valued.{Leaves-measured, Evaluates-left}

@@ -13,17 +13,19 @@ use Rattle.cfgx_grammar.specs.Grammar.{IsItem, IsList, IsTree}
 use Rattle.cfgx_grammar.specs.Tree.{Trees}
 use Rattle.cfg_expr.specs.Worked.{flag, one, item, key_a, key_b, listed, listed_tokens, single}
 use Rattle.cfg_expr.specs.Worked.{single_items, comma_items, not_items}
-use Rattle.cfg_expr.specs.parsing.State.{initial}
-use Rattle.cfg_expr.specs.parsing.Step.{run}
-use Rattle.cfg_expr.proofs.spelled.Whole.{Finds-tree}
+use Rattle.cfgx_grammar.specs.parsing.State.{initial}
+use Rattle.cfgx_grammar.specs.parsing.Step.{run}
+use Rattle.cfgx_grammar.proofs.spelled.Trees.{tree_builder, tree_laws}
+use Rattle.cfgx_grammar.proofs.spelled.Whole.{Finds-tree}
 use Rattle.cfg_expr.proofs.expr.tests.trees.Goals as goal
 
 -- a text whose items the parser refuses has no tree
 none_read : (text : List ℕ) (items : List Item) (refusal : Refusal)
-    → AreItems text items Ending.blank → run initial items ≡ Err refusal → HasNoTree text
+    → AreItems text items Ending.blank
+    → run (initial {builder = tree_builder}) items ≡ Err refusal → HasNoTree text
 none_read text items refusal are refuses tree has =
     let same = ItemsFrom-same text 0 items has.items _ _ are has.are_items in
-    let found = Finds-tree text 0 has.items tree has.spelled in
+    let found = Finds-tree tree_laws 0 has.items tree has.spelled in
     let runs : run initial items ≡ Ok found.read = ap (run initial) (sym same.0) ∙ found.runs in
     absurd (cc)
 

@@ -13,10 +13,11 @@ use Rattle.cfgx_syntax.specs.Token.{Token, IsKey}
 use Rattle.cfgx_syntax.specs.Items.{Item, Ending, Stands}
 use Rattle.cfgx_grammar.specs.Tree.{Tree}
 use Rattle.cfgx_grammar.specs.Grammar.{HasTree}
-use Rattle.cfg_expr.specs.parsing.State.{initial}
-use Rattle.cfg_expr.specs.parsing.Step.{run}
-use Rattle.cfg_expr.proofs.Reading.{Follows-stands}
-use Rattle.cfg_expr.proofs.spelled.Whole.{Finds-tree}
+use Rattle.cfgx_grammar.specs.parsing.State.{initial}
+use Rattle.cfgx_grammar.specs.parsing.Step.{run}
+use Rattle.cfgx_syntax.proofs.TokenList.{Follows-stands}
+use Rattle.cfgx_grammar.proofs.spelled.Trees.{tree_laws}
+use Rattle.cfgx_grammar.proofs.spelled.Whole.{Finds-tree}
 
 -- `cfg` and `(` are the first two tokens of a text that begins with them
 abbrev word : Item
@@ -71,7 +72,7 @@ module _ (text rest : List ℕ) (is : text ≡ codes "cfg(" ++ rest) where
       in
       let items : has.items ≡ word ∷ opening ∷ second.rest = first.items_are
       ∙ ap (λ l. word ∷ l) second.items_are in
-      let found = Finds-tree text 0 has.items tree has.spelled in
+      let found = Finds-tree tree_laws 0 has.items tree has.spelled in
       let runs : run initial (word ∷ opening ∷ second.rest) ≡ Ok found.read = ap (run initial)
       (sym items) ∙ found.runs in
       absurd (cc)

@@ -10,16 +10,16 @@ use Rattle.std.proofs.lemmas.List.{append-nil}
 use Rattle.cfgx_syntax.specs.Items.{Item, Ending, lexical}
 use Rattle.cfgx_syntax.specs.Error.{Refusal}
 use Rattle.cfgx_grammar.specs.FirstFault.{first_below, fault_behind, fault_at, end_fault, first_fault}
-use Rattle.cfg_expr.specs.parsing.State.{State, initial}
-use Rattle.cfg_expr.specs.parsing.Step.{and_then, step, run}
-use Rattle.cfg_expr.specs.parsing.Parser.{ended_as, answer_from}
 use Rattle.cfgx_grammar.proofs.faults.Counting.{slice_get_next, length_more, first_below-none}
 use Rattle.cfgx_grammar.proofs.faults.Counting.{first_below-found}
-use Rattle.cfg_expr.proofs.faults.Matches.{Matches, Matches-initial}
-use Rattle.cfg_expr.proofs.faults.Steps.{Agrees, EndAgrees, step_agrees, end_agrees}
+use Rattle.cfgx_grammar.specs.parsing.State.{Builder, State, initial}
+use Rattle.cfgx_grammar.specs.parsing.Step.{and_then, step, run, ended_as, answer_from}
+use Rattle.cfgx_grammar.proofs.faults.Matches.{Matches, Matches-initial}
+use Rattle.cfgx_grammar.proofs.faults.Steps.{Agrees, EndAgrees, step_agrees, end_agrees}
 
 -- the tokens lead on where none shows a fault, and otherwise to the first fault
-abbrev Scanned : List Item → Result State Refusal → Type 0
+abbrev Scanned : {W M L : Type 0} {builder : Builder W M L} → List Item
+    → Result (State builder) Refusal → Type 0
 Scanned all (Ok t) = (first_below (fault_at all) (length all) ≡ None) × Matches all t
 Scanned all (Err refusal) = first_below (fault_at all) (length all) ≡ Some refusal
 
@@ -49,15 +49,15 @@ module _ (all front : List Item) (item : Item) (items : List Item)
           let same : k ≡ length front = omega (arith, lt, past, length_more front item) in
           ap (fault_at all) same ∙ fault_next ∙ here
 
-  scan_next : (r : Result State Refusal) → HasNone all (length front)
+  scan_next : {W M L : Type 0} {builder : Builder W M L} (r : Result (State builder) Refusal) → HasNone all (length front)
       → Agrees (front ++ item ∷ []) r (fault_behind front item)
-      → ((t : State) → Matches (front ++ item ∷ []) t → fault_behind front item ≡ None
+      → ((t : State builder) → Matches (front ++ item ∷ []) t → fault_behind front item ≡ None
       → Scanned all (run t items)) → Scanned all (and_then (λ t. run t items) r)
   scan_next (Err refusal) none agrees go = first_below-found (fault_at all) (length front)
       (length all) refusal next_inside none (fault_next ∙ agrees)
   scan_next (Ok t) none agrees go = go t agrees.1 agrees.0
 
-scan : (items all front : List Item) (s : State) → all ≡ front ++ items → Matches front s
+scan : {W M L : Type 0} {builder : Builder W M L} (items all front : List Item) (s : State builder) → all ≡ front ++ items → Matches front s
     → HasNone all (length front) → Scanned all (run s items)
 scan [] all front s is m none =
     let same : all ≡ front = is ∙ append-nil front in (
@@ -72,13 +72,14 @@ scan (item ∷ items) all front s is m none =
     (is ∙ sym (append_assoc front (item ∷ []) items)) more
     (none_more all front item items is none here))
 
-module _ (text : List ℕ) (items : List Item) (ending : Ending) where
-  at_end : (o : Option Refusal) (t : State) → Matches items t
+module _ {W M L : Type 0} (builder : Builder W M L) (text : List ℕ) (items : List Item)
+    (ending : Ending) where
+  at_end : (o : Option Refusal) (t : State builder) → Matches items t
       → EndAgrees (ended_as text o t) (option_or o (end_fault (length text) items))
   at_end (Some refusal) t m = refl
   at_end None t m = end_agrees items t m (length text)
 
-  whole_by : (r : Result State Refusal) → Scanned items r
+  whole_by : (r : Result (State builder) Refusal) → Scanned items r
       → EndAgrees (and_then (ended_as text (lexical text ending)) r)
       (first_fault text items ending)
   whole_by (Err refusal) scanned = ap (λ o. option_or o
@@ -89,7 +90,7 @@ module _ (text : List ℕ) (items : List Item) (ending : Ending) where
       (option_or (lexical text ending) (end_fault (length text) items))) scanned.0))
       (at_end (lexical text ending) t scanned.1)
 
-  pub whole_agrees : EndAgrees (answer_from initial text items ending)
+  pub whole_agrees : EndAgrees (answer_from (initial {builder = builder}) text items ending)
       (first_fault text items ending)
   whole_agrees = whole_by (run initial items)
       (scan items items [] initial refl Matches-initial (λ k lt. absurd (omega (arith, lt))))

@@ -1,3 +1,0 @@
--- What the steps accept is spelled by a tree.
-pub mod Reads
-pub mod Steps

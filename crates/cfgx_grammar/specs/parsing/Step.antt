@@ -1,0 +1,176 @@
+-- The parser: what one token does to the state, or the fault that it shows, and what the end of the
+-- text shows.
+use Rattle.std.specs.Prelude.{ℕ, ◌+◌, ◌-◌, ◌==◌, Bool, true, List, [], ◌∷◌, codes, length, Option}
+use Rattle.std.specs.Prelude.{Some, None, option_map, Result, Ok, Err, if◌then◌else◌}
+use Rattle.cfgx_syntax.specs.Token.{Token}
+use Rattle.cfgx_syntax.specs.Items.{Item, Ending, lexical}
+use Rattle.cfgx_syntax.specs.Error.{Refusal, unexpected, unopened_parens, unclosed_parens}
+use Rattle.cfgx_syntax.specs.Error.{invalid_not, empty, multiple_root_predicates}
+use Rattle.cfgx_grammar.specs.Classification.{Class}
+use Rattle.cfgx_grammar.specs.FirstFault.{refusal, word_of, with_value, part_of, class_of}
+use Rattle.cfgx_grammar.specs.FirstFault.{lacks_value}
+use Rattle.cfgx_grammar.specs.Neighbours.{next, expected}
+use Rattle.cfgx_grammar.specs.parsing.State.{Function, Pending, Builder, Open, State}
+
+-- the next step of what went well
+abbrev pub and_then : {A B E : Type 0} → (A → Result B E) → Result A E → Result B E
+and_then f (Ok a) = f a
+and_then f (Err e) = Err e
+
+abbrev pub result_map : {A B E : Type 0} → (A → B) → Result A E → Result B E
+result_map f (Ok a) = Ok (f a)
+result_map f (Err e) = Err e
+
+-- Open functions.
+
+-- `not` has one member, and the other functions any number
+abbrev pub has_room : Function → ℕ → Bool
+has_room Function.not n = n == 1
+has_room Function.all n = true
+has_room Function.any n = true
+
+module _ {M : Type 0} where
+  -- the innermost open function changed
+  abbrev pub over_top : (Open M → Open M) → List (Open M) → List (Open M)
+  over_top f [] = []
+  over_top f (top ∷ rest) = f top ∷ rest
+
+  abbrev pub one_more : Open M → Open M
+  one_more f = record f { members = f.members + 1 }
+
+  -- the `(` of the innermost function
+  abbrev pub with_parens : ℕ → Open M → Open M
+  with_parens place f = record f { parens = Some place }
+
+  abbrev pub root_more : List (Open M) → ℕ → ℕ
+  root_more [] roots = roots + 1
+  root_more (top ∷ rest) roots = roots
+
+  -- how many members the function has when it is closed
+  abbrev pub member_count : Open M → Option Pending → ℕ
+  member_count f None = f.members
+  member_count f (Some p) = f.members + 1
+
+  -- the fault of an open function, at the end of the text
+  abbrev pub unclosed : ℕ → Open M → Option ℕ → Refusal
+  unclosed len f (Some place) = refusal unclosed_parens place len
+  unclosed len f None = refusal (unexpected (codes "(" ∷ [])) f.start f.end
+
+-- Predicates.
+
+-- a predicate by its places, or its fault
+abbrev pub located_class : {W M L : Type 0} → Builder W M L → Pending → Class → Result L Refusal
+located_class builder p (Class.is question) = Ok (builder.located p question)
+located_class builder p (Class.refused cause part) = Err (refusal cause (part_of p part).start
+    (part_of p part).end)
+
+module _ {W M L : Type 0} {builder : Builder W M L} where
+  -- with one more item in the innermost list
+  abbrev pub with_item : State builder → State builder
+  with_item s = record s { stack = over_top one_more s.stack; roots = root_more s.stack s.roots }
+
+  -- the predicate has ended
+  abbrev pub leaf_ended : State builder → L → State builder
+  leaf_ended s predicate =
+      with_item (record s { pending = None; written = builder.leaf predicate s.written })
+
+  abbrev pub ended_by : State builder → Option Pending → Result (State builder) Refusal
+  ended_by s None = Ok s
+  ended_by s (Some p) = result_map (leaf_ended s) (located_class builder p (class_of p))
+
+  -- the predicate has ended, if one has begun
+  abbrev pub predicate_ended : State builder → Result (State builder) Refusal
+  predicate_ended s = ended_by s s.pending
+
+  -- Tokens.
+
+  -- a function whose name has been read
+  abbrev pub new_open : State builder → Function → Item → Open M
+  new_open s function name = record {
+    function = function;
+    start = name.start;
+    end = name.end;
+    parens = None;
+    members = 0;
+    mark = builder.mark_of s.written;
+  }
+
+  abbrev pub opened : State builder → Function → Item → State builder
+  opened s function name = record s {
+    stack = new_open s function name ∷ s.stack;
+    written = builder.function function s.written;
+  }
+
+  -- the innermost function has ended, whose members all have
+  abbrev pub function_ended : List (Open M) → State builder → State builder
+  function_ended [] s = s
+  function_ended (top ∷ rest) s = with_item (record s {
+    stack = rest;
+    written = builder.function_ended top.mark top.function top.members s.written;
+  })
+
+  abbrev pub closed_by : State builder → Item → List (Open M) → Result (State builder) Refusal
+  closed_by s item [] = Err (refusal unopened_parens item.start item.end)
+  closed_by s item (top ∷ rest) =
+      if has_room top.function (member_count top s.pending) then result_map
+      (λ t. function_ended t.stack t) (predicate_ended s)
+      else Err (refusal (invalid_not (member_count top s.pending)) top.start item.end)
+
+  -- what a token does where it may stand
+  abbrev pub apply : State builder → Item → Token → Result (State builder) Refusal
+  apply s item (Token.key text) = Ok (record s {
+    pending = Some (record { key = word_of text item.start item.end; value = None });
+  })
+  apply s item (Token.value text) = Ok (record s {
+    pending = option_map (with_value (word_of text (item.start + 1) (item.end - 1))) s.pending;
+  })
+  apply s item Token.equals = Ok s
+  apply s item Token.all = Ok (opened s Function.all item)
+  apply s item Token.any = Ok (opened s Function.any item)
+  apply s item Token.not = Ok (opened s Function.not item)
+  apply s item Token.open_paren =
+      Ok (record s { stack = over_top (with_parens item.start) s.stack })
+  apply s item Token.close_paren = closed_by s item s.stack
+  apply s item Token.comma = predicate_ended s
+
+  abbrev pub with_last : Token → State builder → State builder
+  with_last token s = record s { last = Some token }
+
+  -- one token
+  abbrev pub step : State builder → Item → Result (State builder) Refusal
+  step s item =
+      if next s.last item.token then result_map (with_last item.token) (apply s item item.token)
+      else Err (refusal (unexpected (expected s.last)) item.start item.end)
+
+  -- one token after another
+  abbrev pub run : State builder → List Item → Result (State builder) Refusal
+  run s [] = Ok s
+  run s (item ∷ items) = and_then (λ t. run t items) (step s item)
+
+  -- The end.
+
+  -- one item stands at the root
+  abbrev pub one_root : ℕ → State builder → Result (State builder) Refusal
+  one_root len s =
+      if s.roots == 0 then Err (refusal empty 0 len)
+      else if s.roots == 1 then Ok (record s { written = builder.root_ended s.written })
+      else Err (refusal multiple_root_predicates 0 len)
+
+  abbrev pub concluded_by : ℕ → State builder → List (Open M) → Result (State builder) Refusal
+  concluded_by len s (top ∷ rest) = Err (unclosed len top top.parens)
+  concluded_by len s [] = and_then (one_root len) (predicate_ended s)
+
+  -- the end of a text of so many bytes
+  abbrev pub conclude : ℕ → State builder → Result (State builder) Refusal
+  conclude len s = if lacks_value s.last then Err (refusal (unexpected (codes "\"<value>\"" ∷ []))
+      len len) else concluded_by len s s.stack
+
+  -- the end of the tokens, by what stands there
+  abbrev pub ended_as : List ℕ → Option Refusal → State builder → Result (State builder) Refusal
+  ended_as text None s = conclude (length text) s
+  ended_as text (Some refusal) s = Err refusal
+
+  -- what the whole of a text's tokens answers, from a state on
+  abbrev pub answer_from : State builder → List ℕ → List Item → Ending
+      → Result (State builder) Refusal
+  answer_from s text items ending = and_then (ended_as text (lexical text ending)) (run s items)
