@@ -5,6 +5,7 @@ pub mod Kept
 pub mod Labels
 pub mod Parsed
 pub mod Reading
+pub mod Worked
 pub mod Writing
 pub mod evaluated
 pub mod filling

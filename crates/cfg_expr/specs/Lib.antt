@@ -2,7 +2,6 @@ pub mod Asking
 pub mod Evaluation
 pub mod Order
 pub mod Predicate
-pub mod Worked
 pub mod Writing
 pub mod nodes
 pub mod parsing

@@ -2,4 +2,5 @@
 pub mod Faults
 pub mod Keys
 pub mod Rows
+pub mod Texts
 pub mod Trees

@@ -10,5 +10,4 @@ pub mod Question
 pub mod Regular
 pub mod Spelling
 pub mod Tree
-pub mod WorkedValues
 pub mod parsing

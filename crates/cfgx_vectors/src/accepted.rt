@@ -292,3 +292,14 @@ fn count_no_functions(rt: HostRuntime) -> Result<(), Fail> {
     assert!(rt; is_next(&mut empty.predicates(), 0, None));
     Ok(())
 }
+
+#[test]
+fn debug_shows_the_stripped_text(rt: HostRuntime) -> Result<(), Fail> {
+    let expression = Expression::parse(rt.alloc(), "cfg(all(a))")?;
+    assert_eq!(rt;
+        format!(in rt.alloc(); "{expression:?}")?.as_str(),
+        "Expression(\"all(a)\")"
+    );
+    assert_eq!(rt; expression.original(), "all(a)");
+    Ok(())
+}

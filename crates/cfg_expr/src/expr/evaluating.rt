@@ -17,8 +17,6 @@ ghost use Rattle.cfg_expr.specs.nodes.Machine.{CanGo, CanTake, Goes, applied, jo
 ghost use Rattle.cfg_expr.specs.nodes.Machine.{standing};
 
 mod open_lists;
-#[cfg(test)]
-mod tests;
 
 use super::Func;
 use super::nodes::ExprNode;
