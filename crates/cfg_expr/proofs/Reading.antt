@@ -1,21 +1,17 @@
 -- What the rest of a text answers, the whole answers: one token after another, as the lexer gives
 -- them.
-use Rattle.std.proofs.Common.{◌≡◌, ℕ, ◌≤◌, List, [], ◌∷◌, length, drop, Some, Result, Ok, Err, sym}
+use Rattle.std.proofs.Common.{◌≡◌, ℕ, List, ◌∷◌, length, drop, Some, Result, Ok, Err, sym}
 use Rattle.std.proofs.Common.{refl, ap, ◌∙◌, subst, arith}
-use Rattle.std.specs.Prelude.{slice_range}
-use Rattle.cfgx_syntax.specs.Items.{Item, Ending, Stands, EndsAs, ItemsFrom, IsBlank, lexical}
+use Rattle.cfgx_syntax.specs.Items.{Item, Ending, ItemsFrom, IsBlank, lexical}
 use Rattle.cfgx_syntax.specs.Error.{Refusal, FailsWith, fault_in}
 use Rattle.cfgx_syntax.specs.LexerState.{LexerState}
 use Rattle.cfgx_syntax.specs.Lexer.{GivesItem, GivesFault, GivesNext, item_of, token_of}
 use Rattle.cfgx_syntax.specs.declared.error.Failure.{Failure}
 use Rattle.cfgx_syntax.specs.declared.error.Failure.TheVariants as failure
 use Rattle.cfgx_syntax.specs.declared.lexer.LexerToken.{LexerToken}
-use Rattle.cfgx_syntax.specs.Token.{Token, Spells}
 use Rattle.cfgx_syntax.specs.Cut.{CanBeCut}
 use Rattle.cfgx_syntax.specs.declared.lexer.Token as declared
 use Rattle.cfgx_syntax.specs.declared.lexer.Token.TheVariants as given
-use Rattle.cfgx_syntax.proofs.Values.{value_inside}
-use Rattle.cfg_expr.specs.nodes.Writes.{IsPlaced}
 use Rattle.cfgx_syntax.proofs.TokenList.{Follows-stands, no_more_items}
 use Rattle.cfg_expr.specs.parsing.State.{State}
 use Rattle.cfgx_grammar.specs.parsing.Step.{and_then, step, run, conclude, ended_as, answer_from}
