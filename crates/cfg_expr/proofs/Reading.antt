@@ -30,14 +30,7 @@ IsQuoted-given now lexed next gives = quoted lexed.token gives.cut
     quoted : (token : declared.Token) → CanBeCut now.text (token_of token) lexed.span.start
         lexed.span.end → IsQuotedAt token lexed.span
     quoted (given.Value text) cut = let inner = cut.value.ordered in omega (arith, inner)
-    quoted (given.Key text) cut = tt
-    quoted given.Equals cut = tt
-    quoted given.All cut = tt
-    quoted given.Any cut = tt
-    quoted given.Not cut = tt
-    quoted given.OpenParen cut = tt
-    quoted given.CloseParen cut = tt
-    quoted given.Comma cut = tt
+    quoted _ cut = tt
 
 -- where the reader stands in the text
 pub record Leads {A : Type 0} (lexer : LexerState) (now : LexerState)
