@@ -1,10 +1,9 @@
 -- What was counted was written: each step keeps it.
 use Rattle.std.proofs.Common.{◌≡◌, ℕ, suc, ◌+◌, ◌-◌, ◌≤◌, List, [], ◌∷◌, length, Option, Some, None}
-use Rattle.std.proofs.Common.{Result, Ok, sym, refl, ap, subst, arith, length-take}
+use Rattle.std.proofs.Common.{Ok, sym, refl, ap, subst, arith, length-take}
 use Rattle.std.proofs.lemmas.List.{length_push, length-set}
 use Rattle.cfgx_syntax.specs.Token.{Token}
 use Rattle.cfgx_syntax.specs.Items.{Item}
-use Rattle.cfgx_syntax.specs.Error.{Refusal}
 use Rattle.cfgx_grammar.specs.parsing.State.{Function, Pending}
 use Rattle.cfg_expr.specs.parsing.State.{Open, State, counted}
 use Rattle.cfgx_grammar.specs.parsing.Step.{over_top, one_more, root_more, leaf_ended}
@@ -13,11 +12,8 @@ use Rattle.cfgx_grammar.specs.parsing.Step.{apply, step}
 use Rattle.cfg_expr.specs.parsing.Bounded.{counted_in, AreMarked, IsHeld}
 use Rattle.cfg_expr.specs.declared.expr.nodes.InnerPredicate.{InnerPredicate}
 use Rattle.cfg_expr.specs.declared.expr.nodes.ExprNode.TheVariants as node
-use Rattle.cfgx_grammar.proofs.accepted.Reads.{LeafEnds-ended, same_ended}
+use Rattle.cfgx_grammar.proofs.accepted.Reads.{ok_same, LeafEnds-ended, same_ended}
 use Rattle.cfgx_grammar.proofs.accepted.Steps.{Closes-stack, Steps-step}
-
-ok_same : (s t : State) → ◌≡◌ {A = Result State Refusal} (Ok s) (Ok t) → s ≡ t
-ok_same s t e = cc
 
 -- one more item, wherever it is counted
 counted-with_item : (stack : List Open) (roots : ℕ)

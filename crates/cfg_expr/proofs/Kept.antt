@@ -1,5 +1,5 @@
 -- What is kept of a text that is accepted: the nodes of its tree.
-use Rattle.std.proofs.Common.{◌≡◌, ℕ, List, [], ◌∷◌, ◌++◌, map, length, Result, Ok, sym, refl, ap}
+use Rattle.std.proofs.Common.{◌≡◌, ℕ, List, [], ◌∷◌, ◌++◌, map, length, Ok, sym, refl, ap}
 use Rattle.std.proofs.Common.{◌∙◌, subst}
 use Rattle.std.specs.Prelude.{if◌then◌else◌, slice_range, ◌≤◌}
 use Rattle.std.specs.List.{AllByRecursion}
@@ -30,13 +30,7 @@ placed_at : (text : List ℕ) (token : Token) (start end : ℕ)
 placed_at text (Token.key word) start end spelled inside cut = (spelled.0, cut.spelling)
 placed_at text (Token.value word) start end spelled inside cut =
     (value_inside text word start end inside spelled.0, cut.value)
-placed_at text Token.equals start end spelled inside cut = tt
-placed_at text Token.all start end spelled inside cut = tt
-placed_at text Token.any start end spelled inside cut = tt
-placed_at text Token.not start end spelled inside cut = tt
-placed_at text Token.open_paren start end spelled inside cut = tt
-placed_at text Token.close_paren start end spelled inside cut = tt
-placed_at text Token.comma start end spelled inside cut = tt
+placed_at text _ start end spelled inside cut = tt
 
 -- the leaves at the root are the last that are asked
 KeepsTree-writes : (text : List ℕ) (w : Written) (tree : Tree)

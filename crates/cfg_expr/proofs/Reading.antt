@@ -1,24 +1,21 @@
 -- What the rest of a text answers, the whole answers: one token after another, as the lexer gives
 -- them.
-use Rattle.std.proofs.Common.{◌≡◌, ℕ, ◌≤◌, List, [], ◌∷◌, length, drop, Some, Result, Ok, Err, sym}
+use Rattle.std.proofs.Common.{◌≡◌, ℕ, List, length, drop, Some, Result, Ok, Err, sym}
 use Rattle.std.proofs.Common.{refl, ap, ◌∙◌, subst, arith}
-use Rattle.std.specs.Prelude.{slice_range}
-use Rattle.cfgx_syntax.specs.Items.{Item, Ending, Stands, EndsAs, ItemsFrom, IsBlank, lexical}
+use Rattle.cfgx_syntax.specs.Items.{Item, Ending, IsBlank, Stands, EndsAs, lexical}
 use Rattle.cfgx_syntax.specs.Error.{Refusal, FailsWith, fault_in}
 use Rattle.cfgx_syntax.specs.LexerState.{LexerState}
 use Rattle.cfgx_syntax.specs.Lexer.{GivesItem, GivesFault, GivesNext, item_of, token_of}
 use Rattle.cfgx_syntax.specs.declared.error.Failure.{Failure}
 use Rattle.cfgx_syntax.specs.declared.error.Failure.TheVariants as failure
 use Rattle.cfgx_syntax.specs.declared.lexer.LexerToken.{LexerToken}
-use Rattle.cfgx_syntax.specs.Token.{Token, Spells}
 use Rattle.cfgx_syntax.specs.Cut.{CanBeCut}
 use Rattle.cfgx_syntax.specs.declared.lexer.Token as declared
 use Rattle.cfgx_syntax.specs.declared.lexer.Token.TheVariants as given
-use Rattle.cfgx_syntax.proofs.Values.{value_inside}
-use Rattle.cfg_expr.specs.nodes.Writes.{IsPlaced}
-use Rattle.cfgx_syntax.proofs.TokenList.{Follows-stands, no_more_items}
+use Rattle.cfgx_grammar.proofs.Reading.{Continues, Continues-start, Continues-step}
+use Rattle.cfgx_grammar.proofs.Reading.{Continues-refused, Continues-ended}
 use Rattle.cfg_expr.specs.parsing.State.{State}
-use Rattle.cfgx_grammar.specs.parsing.Step.{and_then, step, run, conclude, ended_as, answer_from}
+use Rattle.cfgx_grammar.specs.parsing.Step.{step, conclude, ended_as, answer_from}
 use Rattle.cfg_expr.specs.parsing.Bounded.{IsHeld, IsBounded}
 use Rattle.cfg_expr.specs.parsing.Parser.{state_of, FailsAs, Reaches, Gives, IsQuoted, IsQuotedAt}
 use Rattle.cfg_expr.specs.parsing.Parser.{ReadsAll}
@@ -33,14 +30,7 @@ IsQuoted-given now lexed next gives = quoted lexed.token gives.cut
     quoted : (token : declared.Token) → CanBeCut now.text (token_of token) lexed.span.start
         lexed.span.end → IsQuotedAt token lexed.span
     quoted (given.Value text) cut = let inner = cut.value.ordered in omega (arith, inner)
-    quoted (given.Key text) cut = tt
-    quoted given.Equals cut = tt
-    quoted given.All cut = tt
-    quoted given.Any cut = tt
-    quoted given.Not cut = tt
-    quoted given.OpenParen cut = tt
-    quoted given.CloseParen cut = tt
-    quoted given.Comma cut = tt
+    quoted _ cut = tt
 
 -- where the reader stands in the text
 pub record Leads {A : Type 0} (lexer : LexerState) (now : LexerState)
@@ -48,50 +38,43 @@ pub record Leads {A : Type 0} (lexer : LexerState) (now : LexerState)
   pub bounded : IsBounded (state_of {A = A} parser)
   pub text : now.text ≡ lexer.text
   pub same_text : parser.original.now ≡ old.original.now
-  pub leads : (items : List Item) (ending : Ending) → ItemsFrom lexer.text lexer.place items ending
-      → (rest : List Item) × ItemsFrom now.text now.place rest ending
-      × (answer_from (state_of {A = A} old) lexer.text items ending ≡ answer_from (state_of {A =
-      A} parser) lexer.text rest ending)
+  pub continues : Continues lexer.text lexer.place (state_of {A = A} old) now.place
+      (state_of {A = A} parser)
 
 pub Leads-start : {A : Type 0} (lexer : LexerState)
     (parser : Parser A) → IsBounded (state_of {A = A} parser)
     → Leads {A = A} lexer lexer parser parser
-Leads-start lexer parser bounded = record {
+Leads-start {A} lexer parser bounded = record {
   bounded = bounded;
   text = refl;
-  same_text =
-      refl;
-  leads = λ items ending come. (items, come, refl);
+  same_text = refl;
+  continues = Continues-start lexer.text lexer.place (state_of {A = A} parser);
 }
 
-answer_more : (s t : State) (text : List ℕ) (item : Item) (rest : List Item)
-    (ending : Ending) → step s item ≡ Ok t
-    → answer_from s text (item ∷ rest) ending ≡ answer_from t text rest ending
-answer_more s t text item rest ending steps = ap (λ r. and_then
-    (ended_as text (lexical text ending)) (and_then (λ u. run u rest) r)) steps
+stands_there : (lexer now next : LexerState) (item : Item) → now.text ≡ lexer.text
+    → GivesItem now item next → Stands lexer.text now.place item
+stands_there lexer now next item text gives =
+    subst (λ t. Stands t now.place item) text gives.stands
 
 pub Leads-read : {A : Type 0} (lexer now next : LexerState) (old before after : Parser A)
     (item : Item) (state : State) → Leads {A = A} lexer now old before
     → GivesItem now item next → step (state_of {A = A} before) item ≡ Ok state
     → Reaches {A = A} before after state → Leads {A = A} lexer next old after
 Leads-read {A} lexer now next old before after item state l gives steps reaches =
-    let held : IsHeld (state_of {A = A} after) = subst IsHeld reaches.is
-    (IsHeld-step (state_of {A = A} before) state item steps l.bounded.held) in
+    let start = state_of {A = A} old in
+    let went = Continues-step lexer.text lexer.place now.place start (state_of {A = A} before) state
+    item l.continues (stands_there lexer now next item l.text gives) steps in
     record {
-      bounded = record { held = held; fits = reaches.fits };
+      bounded = record {
+        held = subst IsHeld reaches.is
+            (IsHeld-step (state_of {A = A} before) state item steps l.bounded.held);
+        fits = reaches.fits;
+      };
       text = ap (λ (n : LexerState). n.text) gives.goes_on ∙ l.text;
       same_text = reaches.same_text ∙ l.same_text;
-      leads = λ items ending come.
-          let so_far = l.leads items ending come in
-          let f = Follows-stands now.text now.place item so_far.0 ending gives.stands so_far.1 in
-          let going : ItemsFrom next.text next.place f.rest ending =
-          subst (λ (n : LexerState). ItemsFrom n.text n.place f.rest ending)
-          (sym gives.goes_on) f.come in
-          let answer = so_far.2 ∙ ap (λ r. answer_from (state_of {A = A} before) lexer.text r
-          ending) f.items_are
-          ∙ answer_more (state_of {A = A} before) state lexer.text item f.rest ending steps
-          ∙ ap (λ s. answer_from s lexer.text f.rest ending) reaches.is in
-          (f.rest, going, answer);
+      continues = subst (λ (n : LexerState). Continues lexer.text lexer.place start n.place
+          (state_of {A = A} after)) (sym gives.goes_on)
+          (subst (Continues lexer.text lexer.place start item.end) reaches.is went);
     }
 
 -- a fault of the rest is the fault of the whole
@@ -116,16 +99,11 @@ pub ReadsAll-read : {A : Type 0} (lexer now next : LexerState) (old before after
     → FailsAs before.original.now failure (step (state_of {A = A} before) item)
     → ReadsAll {A = A} lexer old after (Err failure)
 ReadsAll-read {A} lexer now next old before after item failure l gives fails items ending come =
-    let so_far = l.leads items ending come in
-    let f = Follows-stands now.text now.place item so_far.0 ending gives.stands so_far.1 in
-    let at_item = so_far.2 ∙ ap (λ r. answer_from (state_of {A = A} before) lexer.text r ending)
-    f.items_are in
-    let more : (refusal : Refusal) → step (state_of {A = A} before) item ≡ Err refusal
-    → answer_from (state_of {A = A} old) lexer.text items ending ≡ Err refusal =
-    λ refusal e. at_item ∙ ap (λ r. and_then (ended_as lexer.text (lexical lexer.text ending))
-    (and_then (λ u. run u f.rest) r)) e in
     subst (λ t. FailsAs t failure (answer_from (state_of {A = A} old) lexer.text items ending))
-    l.same_text (FailsAs-more before.original.now failure _ _ more fails)
+    l.same_text (FailsAs-more before.original.now failure (step (state_of {A = A} before) item) _
+    (λ refusal e. Continues-refused lexer.text lexer.place now.place (state_of {A = A} old)
+    (state_of {A = A} before) item refusal l.continues
+    (stands_there lexer now next item l.text gives) e items ending come) fails)
 
 -- the lexical fault
 pub ReadsAll-fault : {A : Type 0} (lexer now next : LexerState) (old before after : Parser A)
@@ -133,13 +111,11 @@ pub ReadsAll-fault : {A : Type 0} (lexer now next : LexerState) (old before afte
     → old.original.now ≡ lexer.text → Leads {A = A} lexer now old before
     → GivesFault {A = A} now failure next → ReadsAll {A = A} lexer old after (Err failure)
 ReadsAll-fault {A} lexer now next old before after failure text l gives items ending come =
-    let so_far = l.leads items ending come in
-    let last = no_more_items now.text now.place so_far.0 ending gives.ending gives.ends so_far.1 in
-    let refused : lexical lexer.text ending ≡ Some gives.refusal =
-    ap (lexical lexer.text) last.1 ∙ ap (λ t. lexical t gives.ending)
-    (sym l.text) ∙ gives.refused in
-    let answer : answer_from (state_of {A = A} old) lexer.text items ending ≡ Err gives.refusal =
-    so_far.2 ∙ ap (λ r. answer_from (state_of {A = A} before) lexer.text r ending) last.0
+    let refused : lexical lexer.text gives.ending ≡ Some gives.refusal =
+    ap (λ t. lexical t gives.ending) (sym l.text) ∙ gives.refused in
+    let answer = Continues-ended lexer.text lexer.place now.place (state_of {A = A} old)
+    (state_of {A = A} before) gives.ending l.continues
+    (subst (λ t. EndsAs t now.place gives.ending) l.text gives.ends) items ending come
     ∙ ap (λ o. ended_as lexer.text o (state_of {A = A} before)) refused in
     let fails : FailsAs now.text failure (Err gives.refusal) =
     FailsAs-with now.text failure gives.refusal gives.fails in
@@ -171,14 +147,11 @@ pub ReadsAll-end : {A : Type 0} (lexer now : LexerState) (old before after : Par
     → Gives {A = A} result before after (conclude (length before.original.now)
     (state_of {A = A} before)) → ReadsAll {A = A} lexer old after result
 ReadsAll-end {A} lexer now old before after result text l blank gives items ending come =
-    let so_far = l.leads items ending come in
-    let last = no_more_items now.text now.place so_far.0 ending Ending.blank blank so_far.1 in
-    let at_end : answer_from (state_of {A = A} old) lexer.text items ending ≡ conclude
-    (length before.original.now) (state_of {A = A} before) =
-    so_far.2 ∙ ap (λ r. answer_from (state_of {A = A} before) lexer.text r ending) last.0
-    ∙ ap (λ e. ended_as lexer.text (lexical lexer.text e) (state_of {A = A} before)) last.1
+    let answer = Continues-ended lexer.text lexer.place now.place (state_of {A = A} old)
+    (state_of {A = A} before) Ending.blank l.continues
+    (subst (λ t. IsBlank (drop now.place t)) l.text blank) items ending come
     ∙ ap (λ t. conclude (length t) (state_of {A = A} before)) (sym (l.same_text ∙ text)) in
-    subst (Gives {A = A} result old after) (sym at_end)
+    subst (Gives {A = A} result old after) (sym answer)
     (Gives-text {A = A} result before old after _ l.same_text gives)
 
 -- what `next` gave, as the code takes it apart

@@ -3,6 +3,7 @@ pub mod Arranging
 pub mod Classes
 pub mod Exactness
 pub mod Matched
+pub mod Reading
 pub mod Stripped
 pub mod accepted
 pub mod alone

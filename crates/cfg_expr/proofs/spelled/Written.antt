@@ -1,10 +1,10 @@
 -- What is written for a tree, part by part.
 use Rattle.std.proofs.Common.{◌≡◌, ℕ, ◌+◌, ◌-◌, List, [], ◌∷◌, ◌++◌, length, map, take, drop, set}
 use Rattle.std.proofs.Common.{sym, refl, ap, ◌∙◌, arith, append_assoc, length-append}
-use Rattle.std.specs.List.{AllByRecursion}
 use Rattle.std.proofs.lemmas.List.{append-nil, map-append, length-map, length_push, set_at, take_at}
 use Rattle.std.proofs.lemmas.List.{drop_at}
 use Rattle.cfgx_grammar.specs.Question.{Question}
+use Rattle.cfgx_grammar.proofs.alone.Regular.{all_of_both}
 use Rattle.cfg_expr.specs.nodes.Located.{question_at, HasCut}
 use Rattle.cfg_expr.specs.nodes.Node.{Written, mark_of, with_leaf, with_function}
 use Rattle.cfg_expr.specs.nodes.Node.{with_function_ended}
@@ -13,11 +13,6 @@ use Rattle.cfg_expr.specs.nodes.Writes.{NodeHasCut, Writes}
 use Rattle.cfg_expr.specs.declared.expr.Func.{Func}
 use Rattle.cfg_expr.specs.declared.expr.nodes.InnerPredicate.{InnerPredicate}
 use Rattle.cfg_expr.specs.declared.expr.nodes.ExprNode.TheVariants as node
-
-pub AllByRecursion-append : {X : Type 0} (P : X → Type 0)
-    (xs ys : List X) → AllByRecursion P xs → AllByRecursion P ys → AllByRecursion P (xs ++ ys)
-AllByRecursion-append P [] ys hs gs = gs
-AllByRecursion-append P (x ∷ xs) ys hs gs = (hs.0, AllByRecursion-append P xs ys hs.1 gs)
 
 pub Writes-none : (text : List ℕ) (w : Written) → Writes text w w [] [] []
 Writes-none text w = record {
@@ -43,7 +38,7 @@ Writes-then text old mid new shown more own own_more inner inner_more a b = reco
   nodes_are = behind old.nodes mid.nodes new.nodes a.added b.added a.nodes_are b.nodes_are;
   shown_are = map-append (node_at text) a.added b.added
       ∙ ap (λ l. l ++ map (node_at text) b.added) a.shown_are ∙ ap (λ l. shown ++ l) b.shown_are;
-  cuts = AllByRecursion-append (NodeHasCut text) a.added b.added a.cuts b.cuts;
+  cuts = all_of_both (NodeHasCut text) a.added b.added a.cuts b.cuts;
   leaves_are = behind old.leaves mid.leaves new.leaves own own_more a.leaves_are b.leaves_are;
   asked_are = behind old.asked mid.asked new.asked inner inner_more a.asked_are b.asked_are;
 }

@@ -27,13 +27,7 @@ IsPlaced text item (Token.value word) = Holds text (record {
   end =
       item.end - 1;
 }) word
-IsPlaced text item Token.equals = Unit {0}
-IsPlaced text item Token.all = Unit {0}
-IsPlaced text item Token.any = Unit {0}
-IsPlaced text item Token.not = Unit {0}
-IsPlaced text item Token.open_paren = Unit {0}
-IsPlaced text item Token.close_paren = Unit {0}
-IsPlaced text item Token.comma = Unit {0}
+IsPlaced text item _ = Unit {0}
 
 abbrev pub ArePlaced : List ℕ → List Item → Type 0
 ArePlaced text items = AllByRecursion (λ item. IsPlaced text item item.token) items

@@ -78,14 +78,7 @@ pub record AddsValue {A : Type 0} (old new : Parser A) (text : List ℕ)
 -- a value's span has room for its quotes
 abbrev pub IsQuotedAt : Token → Range ℕ → Type 0
 IsQuotedAt (given.Value text) span = span.start + 1 ≤ span.end
-IsQuotedAt (given.Key text) span = Unit {0}
-IsQuotedAt given.Equals span = Unit {0}
-IsQuotedAt given.All span = Unit {0}
-IsQuotedAt given.Any span = Unit {0}
-IsQuotedAt given.Not span = Unit {0}
-IsQuotedAt given.OpenParen span = Unit {0}
-IsQuotedAt given.CloseParen span = Unit {0}
-IsQuotedAt given.Comma span = Unit {0}
+IsQuotedAt _ span = Unit {0}
 
 abbrev pub IsQuoted : LexerToken → Type 0
 IsQuoted lexed = IsQuotedAt lexed.token lexed.span
