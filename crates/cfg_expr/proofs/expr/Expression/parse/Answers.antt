@@ -38,7 +38,7 @@ measure-requires g c =
     let nodes = c.into_parts-expr.ensures.nodes in
     let fits : length c.read_all.new.self.writer.nodes.items < 2 ^ 64 =
     omega (arith, ap (λ v. length v.items) nodes, c.len-fits.ensures.fits) in
-    rw (c.as_slice.ensures, nodes) (values-fit _ _ _ kept fits)
+    rw (c.as_slice.ensures, nodes) (values-fit kept fits)
 
 pub returns-in_err-room : goal.returns-in_err-room
 returns-in_err-room g c =

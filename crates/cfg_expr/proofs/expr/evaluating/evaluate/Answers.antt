@@ -1,7 +1,6 @@
 -- Each node's steps are taken as the walk has them.
-use Rattle.std.proofs.Common.{◌≤◌, [], length, reverse, rules, subst}
-use Rattle.cfg_expr.specs.nodes.Steps.{most_open}
-use Rattle.cfg_expr.specs.nodes.Machine.{CanTake, standing}
+use Rattle.std.proofs.Common.{[], reverse, rules}
+use Rattle.cfg_expr.specs.nodes.Machine.{standing}
 use Rattle.cfg_expr.specs.declared.expr.Func.TheVariants.{Not}
 use Rattle.cfg_expr.specs.declared.expr.nodes.ExprNode.TheVariants as node
 use Rattle.cfg_expr.proofs.evaluated.Going.{Goes-step, Goes-to}

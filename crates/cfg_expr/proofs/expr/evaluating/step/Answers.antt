@@ -1,5 +1,5 @@
 -- A node begins its list, and then lists end.
-use Rattle.std.proofs.Common.{rules, sym}
+use Rattle.std.proofs.Common.{rules}
 use Rattle.cfg_expr.specs.nodes.Steps.{shape}
 use Rattle.cfg_expr.proofs.evaluated.Going.{Goes-begins, Goes-then}
 use Rattle.cfg_expr.proofs.expr.evaluating.step.Goals as goal
