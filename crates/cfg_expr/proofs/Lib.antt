@@ -2,6 +2,7 @@ pub mod Answering
 pub mod Asked
 pub mod Bounded
 pub mod Chains
+pub mod Functions
 pub mod Labels
 pub mod Parsed
 pub mod Reading

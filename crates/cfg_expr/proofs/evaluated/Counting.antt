@@ -2,12 +2,26 @@
 use Rattle.std.proofs.Common.{◌≡◌, ℕ, zero, suc, ◌+◌, ◌-◌, ◌≤◌, ◌<◌, ◌^◌, List, [], ◌∷◌}
 use Rattle.std.proofs.Common.{Option, Some, sym, refl, ap, ◌∙◌, arith}
 use Rattle.std.specs.Prelude.{max, length, true, false, ◌==◌, if◌then◌else◌}
-use Rattle.cfg_expr.specs.nodes.Steps.{Step, OpenList, asks, most_values, most_open}
+use Rattle.cfgx_grammar.specs.Tree.{Tree, Trees, count, is_function}
+use Rattle.cfg_expr.specs.nodes.Steps.{Step, OpenList, asks, leaves, most_values, most_open}
 use Rattle.cfg_expr.specs.nodes.Steps.{height_behind, finishes, still_open}
 use Rattle.cfg_expr.specs.nodes.Steps.{PopsEnded, IsOpen}
 use Rattle.cfg_expr.specs.nodes.Measure.{needed, NeedSame}
 use Rattle.cfg_expr.specs.declared.expr.evaluating.Heights.{Heights}
 use Rattle.cfg_expr.specs.declared.expr.Func.{Func}
+
+-- how many members of a list are functions
+abbrev pub one_if_function : Tree → ℕ
+one_if_function tree = if is_function tree then 1 else 0
+
+abbrev pub functions : Trees → ℕ
+functions Trees.none = 0
+functions (Trees.more tree trees) = one_if_function tree + functions trees
+
+pub count-split : (trees : Trees) → count trees ≡ leaves trees + functions trees
+count-split Trees.none = refl
+count-split (Trees.more (Tree.leaf question) trees) = omega (arith, count-split trees)
+count-split (Trees.more tree trees) = omega (arith, count-split trees)
 
 pub most_values-asks : (n height : ℕ) (steps : List Step)
     → most_values height (asks n steps) ≡ most_values (height + n) steps
