@@ -1,5 +1,5 @@
 -- The steps of a tree make its value.
-use Rattle.std.proofs.Common.{◌≡◌, ℕ, zero, suc, ◌+◌, ◌≤◌, true, List, [], ◌∷◌}
+use Rattle.std.proofs.Common.{◌≡◌, ℕ, suc, ◌+◌, ◌≤◌, true, List, [], ◌∷◌}
 use Rattle.std.proofs.Common.{◌++◌, length, take, drop, Option, Some, None, sym, refl, ap, ◌∙◌}
 use Rattle.std.proofs.Common.{arith, drop-drop, length-append, length-drop}
 use Rattle.std.specs.Prelude.{fold}

@@ -1,4 +1,7 @@
 //! The definitions, computed on rows whose answers are known from outside, and what no clause says.
+#![tactic(auto, unfolding(cfgx_grammar::specs::Classification::class,
+    cfgx_targets::specs::Endian::endian_named, cfgx_targets::specs::HasAtomic::atomic_named,
+    cfgx_targets::specs::Number::read_below))]
 ghost use Rattle.std.specs.Prelude.{◌≡◌, [], ◌∷◌, codes, true, false, Some, None, Ok, Err};
 ghost use Rattle.cfgx_syntax.specs.Error.{unexpected, invalid_integer, invalid_has_atomic};
 ghost use Rattle.cfgx_syntax.specs.Error.{invalid_not, unclosed_parens, unopened_parens};
