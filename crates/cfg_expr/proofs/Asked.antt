@@ -3,7 +3,7 @@ use Rattle.std.proofs.Common.{◌≡◌, ℕ, zero, suc, Bool, true, false, not,
 use Rattle.std.proofs.Common.{length, map, Option, Some, None, option_map, sym, refl, ap, ◌∙◌}
 use Rattle.std.specs.Prelude.{if◌then◌else◌, option_and_then}
 use Rattle.std.specs.List.{AllByRecursion, slice_get, filter_map}
-use Rattle.std.proofs.lemmas.List.{append-nil, map-append}
+use Rattle.std.proofs.lemmas.List.{map-id}
 use Rattle.cfgx_grammar.specs.Question.{Question}
 use Rattle.cfgx_grammar.specs.Tree.{Tree, Trees, is_function, is_leaf, count, asked}
 use Rattle.cfgx_grammar.specs.Tree.{asked_by}
@@ -12,112 +12,55 @@ use Rattle.cfg_expr.specs.nodes.Prefix.{Node, node_at, headed, prefix, prefix_ea
 use Rattle.cfg_expr.specs.nodes.Writes.{NodeHasCut}
 use Rattle.cfg_expr.specs.nodes.Keeps.{KeepsTree, leaf_of, leaf_at, questions_at, NamesLeaf}
 use Rattle.cfg_expr.specs.nodes.Keeps.{NameLeaves}
-use Rattle.cfg_expr.specs.declared.expr.Func.TheVariants.{Not, All, Any}
+use Rattle.cfg_expr.specs.declared.expr.Func.{Func}
 use Rattle.cfg_expr.specs.declared.expr.nodes.ExprNode.{ExprNode}
 use Rattle.cfg_expr.specs.declared.expr.nodes.ExprNode.TheVariants as node
-use Rattle.cfg_expr.proofs.Labels.{labels, labels_each, leaf_labels, leaf_labels_by}
-use Rattle.cfg_expr.proofs.Labels.{leaf_labels-places, read-StandAt}
+use Rattle.cfg_expr.proofs.Labels.{Alike-length, labels, labels-prefix, leaf_labels-asked}
+use Rattle.cfg_expr.proofs.Labels.{read-places}
 
 -- the question of a node that is a leaf
 abbrev question_of_node : Node → Option Question
 question_of_node (Node.leaf question) = Some question
 question_of_node (Node.function func len) = None
 
-abbrev shown_at : List Node → ℕ → Option Question
-shown_at nodes place = option_and_then question_of_node (slice_get nodes place)
-
--- what a place shows, where a node stands there
-shown_at-some : (nodes : List Node) (place : ℕ) (x : Node) → slice_get nodes place ≡ Some x
-    → shown_at nodes place ≡ question_of_node x
-shown_at-some nodes place x is = ap (option_and_then question_of_node) is
-
 -- the nodes as labels
-abbrev nodes_of : Bool → Tree → List Node
-nodes_of = labels (λ odd question. Node.leaf question) (λ odd func len. Node.function func len)
+abbrev node_of_leaf : Bool → Question → Node
+node_of_leaf odd question = Node.leaf question
 
-abbrev nodes_of_each : Bool → Trees → List Node
-nodes_of_each = labels_each (λ odd question. Node.leaf question)
-    (λ odd func len. Node.function func len)
+abbrev node_of_function : Bool → Func → ℕ → Node
+node_of_function odd func len = Node.function func len
 
-abbrev leaves_of : Bool → Tree → List Node
-leaves_of = leaf_labels (λ odd question. Node.leaf question)
-    (λ odd func len. Node.function func len)
+labels_are : (tree : Tree) → labels node_of_leaf node_of_function false tree ≡ prefix tree
+labels_are tree =
+    sym (map-id _) ∙ labels-prefix node_of_leaf node_of_function (λ n. n) (λ n. n)
+    (λ odd question. refl) (λ odd func len. refl) false tree
+    ∙ map-id (prefix tree)
 
-abbrev leaves_of_by : Bool → (Tree → Bool) → Trees → List Node
-leaves_of_by = leaf_labels_by (λ odd question. Node.leaf question)
-    (λ odd func len. Node.function func len)
+-- what is asked at a place
+abbrev question_in : List ℕ → List ExprNode → ℕ → Option Question
+question_in text nodes place = option_map (question_at text) (leaf_at nodes place)
 
-mutual
-  nodes_of-prefix : (odd : Bool) (tree : Tree) → nodes_of odd tree ≡ prefix tree
-  nodes_of-prefix odd (Tree.leaf question) = refl
-  nodes_of-prefix odd (Tree.all trees) =
-      ap (headed (All (count trees))) (nodes_of_each-prefix odd trees)
-  nodes_of-prefix odd (Tree.any trees) =
-      ap (headed (Any (count trees))) (nodes_of_each-prefix odd trees)
-  nodes_of-prefix odd (Tree.not tree) = ap (headed Not) (nodes_of-prefix (not odd) tree)
+shown_same : (text : List ℕ) (nodes : List ExprNode) (place : ℕ) (x : Node)
+    → slice_get (map (node_at text) nodes) place ≡ Some x
+    → question_in text nodes place ≡ question_of_node x
+shown_same text [] place x is = absurd (cc)
+shown_same text (node.Fn func len ∷ nodes) zero x is =
+    let same : Node.function func len ≡ x = cc in ap question_of_node same
+shown_same text (node.Predicate predicate ∷ nodes) zero x is =
+    let same : Node.leaf (question_at text predicate) ≡ x = cc in ap question_of_node same
+shown_same text (first ∷ nodes) (suc place) x is = shown_same text nodes place x is
 
-  nodes_of_each-prefix : (odd : Bool) (trees : Trees) → nodes_of_each odd trees ≡ prefix_each trees
-  nodes_of_each-prefix odd Trees.none = refl
-  nodes_of_each-prefix odd (Trees.more tree trees) =
-      ap (λ l. l ++ nodes_of_each odd trees) (nodes_of-prefix odd tree)
-      ∙ ap (λ l. prefix tree ++ l) (nodes_of_each-prefix odd trees)
-
--- the leaves show these questions
-abbrev Show : List Node → List Question → Type 0
-Show nodes questions = map question_of_node nodes ≡ map (λ (q : Question). Some q) questions
-
-Show-both : (xs ys : List Node) (ps qs : List Question) → Show xs ps → Show ys qs
-    → Show (xs ++ ys) (ps ++ qs)
-Show-both xs ys ps qs first rest =
-    map-append question_of_node xs ys ∙ ap (λ l. l ++ map question_of_node ys) first
-    ∙ ap (λ l. map (λ (q : Question). Some q) ps ++ l) rest
-    ∙ sym (map-append (λ (q : Question). Some q) ps qs)
-
-Show-if : (b : Bool) (xs : List Node) (ps : List Question) → Show xs ps
-    → Show (if b then xs else []) (if b then ps else [])
-Show-if true xs ps show = show
-Show-if false xs ps show = refl
-
-mutual
-  Show-leaves : (odd : Bool) (tree : Tree) → Show (leaves_of odd tree) (asked tree)
-  Show-leaves odd (Tree.leaf question) = refl
-  Show-leaves odd (Tree.all trees) = Show-both _ _ _ _ (Show-leaves_by odd is_function trees)
-      (Show-leaves_by odd is_leaf trees)
-  Show-leaves odd (Tree.any trees) = Show-both _ _ _ _ (Show-leaves_by odd is_function trees)
-      (Show-leaves_by odd is_leaf trees)
-  Show-leaves odd (Tree.not tree) = Show-leaves (not odd) tree
-
-  Show-leaves_by : (odd : Bool) (test : Tree → Bool) (trees : Trees)
-      → Show (leaves_of_by odd test trees) (asked_by test trees)
-  Show-leaves_by odd test Trees.none = refl
-  Show-leaves_by odd test (Trees.more tree trees) = Show-both _ _ _ _
-      (Show-if (test tree) _ _ (Show-leaves odd tree)) (Show-leaves_by odd test trees)
-
--- the leaves at a tree's places show what it asks
-shown-places : (tree : Tree) (nodes : List Node) → nodes ≡ prefix tree
-    → map (shown_at nodes) (places 0 tree) ≡ map (λ (q : Question). Some q) (asked tree)
-shown-places tree nodes are =
-    let all : nodes ≡ [] ++ (nodes_of false tree ++ []) = are ∙ sym (nodes_of-prefix false tree)
-    ∙ sym (append-nil (nodes_of false tree)) in
-    read-StandAt nodes (shown_at nodes) question_of_node (shown_at-some nodes) (places 0 tree)
-    (leaves_of false tree)
-    (leaf_labels-places (λ odd question. Node.leaf question)
-    (λ odd func len. Node.function func len) false tree nodes [] [] 0 all refl)
-    ∙ Show-leaves false tree
-
--- the nodes as they are kept, and as they are shown
-
-shown_same : (text : List ℕ) (nodes : List ExprNode) (place : ℕ)
-    → shown_at (map (node_at text) nodes) place ≡ option_map (question_at text)
-    (leaf_at nodes place)
-shown_same text [] place = refl
-shown_same text (node.Fn func len ∷ nodes) zero = refl
-shown_same text (node.Predicate predicate ∷ nodes) zero = refl
-shown_same text (x ∷ nodes) (suc place) = shown_same text nodes place
-
-map_same : {X Y : Type 0} (f g : X → Y) (xs : List X) → ((x : X) → f x ≡ g x) → map f xs ≡ map g xs
-map_same f g [] same = refl
-map_same f g (x ∷ xs) same = let first = same x in let rest = map_same f g xs same in cc
+-- the leaves at a tree's places are what it asks
+asks_kept : (text : List ℕ) (nodes : List ExprNode) (asks : List ℕ)
+    (tree : Tree) → KeepsTree text nodes asks tree
+    → map (question_in text nodes) asks ≡ map (λ (q : Question). Some q) (asked tree)
+asks_kept text nodes asks tree k =
+    ap (map (question_in text nodes)) k.asked_are
+    ∙ read-places node_of_leaf node_of_function (map (node_at text) nodes) tree
+    (question_in text nodes) question_of_node (k.nodes_are ∙ sym (labels_are tree))
+    (shown_same text nodes)
+    ∙ leaf_labels-asked node_of_leaf node_of_function question_of_node (λ (q : Question). Some q)
+    (λ odd question. refl) false tree
 
 filtered : {X Y : Type 0} (h : X → Option Y) (xs : List X)
     (ys : List Y) → map h xs ≡ map (λ (y : Y). Some y) ys → filter_map h xs ≡ ys
@@ -129,15 +72,6 @@ filtered h (x ∷ xs) (y ∷ ys) e =
     let rest : map h xs ≡ map (λ (y : _). Some y) ys = cc in
     rw first (ap (λ l. y ∷ l) (filtered h xs ys rest))
 
-asks_kept : (text : List ℕ) (nodes : List ExprNode) (asks : List ℕ)
-    (tree : Tree) → KeepsTree text nodes asks tree
-    → map (λ place. option_map (question_at text) (leaf_at nodes place)) asks ≡ map
-    (λ (q : Question). Some q) (asked tree)
-asks_kept text nodes asks tree k =
-    sym (map_same (shown_at (map (node_at text) nodes)) _ asks (shown_same text nodes))
-    ∙ ap (map (shown_at (map (node_at text) nodes))) k.asked_are
-    ∙ shown-places tree (map (node_at text) nodes) k.nodes_are
-
 pub questions_at-kept : (text : List ℕ) (nodes : List ExprNode) (asks : List ℕ)
     (tree : Tree) → KeepsTree text nodes asks tree
     → questions_at text nodes asks ≡ asked tree
@@ -148,7 +82,7 @@ questions_at-kept text nodes asks tree k = filtered _ asks (asked tree)
 
 NamesLeaf-found : (text : List ℕ) (nodes : List ExprNode) (place : ℕ)
     (question : Question) → AllByRecursion (NodeHasCut text) nodes
-    → option_map (question_at text) (leaf_at nodes place) ≡ Some question
+    → question_in text nodes place ≡ Some question
     → NamesLeaf text nodes place
 NamesLeaf-found text [] place question cuts e = absurd (cc)
 NamesLeaf-found text (node.Fn func len ∷ nodes) zero question cuts e = absurd (cc)
@@ -164,8 +98,8 @@ NamesLeaf-found text (x ∷ nodes) (suc place) question cuts e =
 
 NameLeaves-asks : (text : List ℕ) (nodes : List ExprNode) (asks : List ℕ)
     (questions : List Question) → AllByRecursion (NodeHasCut text) nodes
-    → map (λ place. option_map (question_at text) (leaf_at nodes place)) asks ≡ map
-    (λ (q : Question). Some q) questions → NameLeaves text nodes asks
+    → map (question_in text nodes) asks ≡ map (λ (q : Question). Some q) questions
+    → NameLeaves text nodes asks
 NameLeaves-asks text nodes [] questions cuts e = tt
 NameLeaves-asks text nodes (place ∷ asks) [] cuts e = absurd (cc)
 NameLeaves-asks text nodes (place ∷ asks) (question ∷ questions) cuts e = (
@@ -191,5 +125,5 @@ length-questions_at text nodes (place ∷ asks) names =
 pub length-asked_kept : (text : List ℕ) (nodes : List ExprNode) (asks : List ℕ) (tree : Tree)
     → KeepsTree text nodes asks tree → length asks ≡ length (asked tree)
 length-asked_kept text nodes asks tree k =
-    sym (length-questions_at text nodes asks (NameLeaves-kept text nodes asks tree k))
-    ∙ ap length (questions_at-kept text nodes asks tree k)
+    Alike-length (question_in text nodes) (λ q. Some q) asks (asked tree)
+    (asks_kept text nodes asks tree k)

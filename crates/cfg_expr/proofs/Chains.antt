@@ -1,6 +1,6 @@
 -- What a chain of calls says to a caller of `eval`.
 use Rattle.std.proofs.Common.{◌≡◌, ◌≤◌, ℕ, suc, List, [], ◌∷◌, length, map, take, drop, refl, ap}
-use Rattle.std.proofs.Common.{◌∙◌, sym, arith}
+use Rattle.std.proofs.Common.{◌∙◌, arith}
 use Rattle.std.specs.Prelude.{fold}
 use Rattle.std.specs.List.{AllZip}
 use Rattle.cfgx_grammar.specs.Question.{Question}
@@ -102,17 +102,6 @@ MayAskEach-always asker may state [] = MayAskEach.none state
 MayAskEach-always asker may state (question ∷ questions) =
     MayAskEach.more state question questions (may state question)
     (λ answer after asks. MayAskEach-always asker may after questions)
-
--- two expressions of one text have equal values where their closures gave equal answers
-pub Evaluates-same : {F G T : Type 0} (logic : Operations T) (asker : Asker F T)
-    (other : Asker G T) (text : List ℕ) (before after : F) (before' after' : G) (value value' : T)
-    → (e : Evaluates logic asker text before value after)
-    → (e' : Evaluates logic other text before' value' after') → e.answers ≡ e'.answers
-    → value ≡ value'
-Evaluates-same logic asker other text before after before' after' value value' e e' same =
-    let trees = e'.one.only e.one.tree e.one.has_tree in
-    e.value_is ∙ ap (λ t. tree_value.fold logic t e.answers) trees
-    ∙ ap (tree_value.fold logic e'.one.tree) same ∙ sym e'.value_is
 
 -- where each call gives what a function says of the question, the value is that of the tree over
 -- this function

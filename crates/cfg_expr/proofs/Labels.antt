@@ -1,58 +1,82 @@
 -- Labels of the nodes of a tree: those of the leaves stand at their places.
-use Rattle.std.proofs.Common.{◌≡◌, ℕ, suc, ◌+◌, Bool, true, false, not, List, [], ◌∷◌, ◌++◌}
+use Rattle.std.proofs.Common.{◌≡◌, ℕ, zero, suc, ◌+◌, Bool, true, false, not, List, [], ◌∷◌, ◌++◌}
 use Rattle.std.proofs.Common.{length, map, Some, sym, refl, ap, ◌∙◌, arith}
 use Rattle.std.proofs.Common.{append_assoc, length-append}
 use Rattle.std.specs.Prelude.{if◌then◌else◌}
 use Rattle.std.specs.List.{slice_get}
-use Rattle.std.proofs.lemmas.List.{map-append}
+use Rattle.std.proofs.lemmas.List.{append-nil, length-map, map-append}
 use Rattle.cfgx_grammar.specs.Question.{Question}
 use Rattle.cfgx_grammar.specs.Tree.{Tree, Trees, is_function, is_leaf, count, asked, asked_by}
-use Rattle.cfg_expr.specs.nodes.Prefix.{prefix, prefix_each, own_places, places, inner_places}
+use Rattle.cfg_expr.specs.nodes.Prefix.{Node, headed, prefix, prefix_each}
+use Rattle.cfg_expr.specs.nodes.Prefix.{own_places, places, inner_places}
 use Rattle.cfg_expr.specs.declared.expr.Func.{Func}
 use Rattle.cfg_expr.specs.declared.expr.Func.TheVariants.{Not, All, Any}
 
--- the element behind a front
-slice_get_behind : {X : Type 0} (front rest : List X) (n : ℕ) → slice_get (front ++ rest)
-    (length front + n) ≡ slice_get rest n
-slice_get_behind [] rest n = ap (slice_get rest) (omega arith)
-slice_get_behind (x ∷ front) rest n =
-    let more : suc (length front) + n ≡ suc (length front + n) = omega arith in
-    ap (slice_get (x ∷ (front ++ rest))) more ∙ slice_get_behind front rest n
+-- two lists look alike where each is looked at in its way
+module _ {X Y Z : Type 0} (f : X → Z) (g : Y → Z) where
+  abbrev Alike : List X → List Y → Type 0
+  Alike xs ys = map f xs ≡ map g ys
+
+  Alike-both : (xs xs' : List X) (ys ys' : List Y) → Alike xs ys → Alike xs' ys'
+      → Alike (xs ++ xs') (ys ++ ys')
+  Alike-both xs xs' ys ys' first rest = map-append f xs xs' ∙ ap (λ l. l ++ map f xs') first
+      ∙ ap (λ l. map g ys ++ l) rest ∙ sym (map-append g ys ys')
+
+  Alike-if : (b : Bool) (xs : List X) (ys : List Y) → Alike xs ys
+      → Alike (if b then xs else []) (if b then ys else [])
+  Alike-if true xs ys alike = alike
+  Alike-if false xs ys alike = refl
+
+  pub Alike-length : (xs : List X) (ys : List Y) → Alike xs ys → length xs ≡ length ys
+  Alike-length xs ys alike = sym (length-map xs f) ∙ ap length alike ∙ length-map ys g
 
 -- these elements stand at the places
-abbrev pub StandAt : {X : Type 0} → List X → List ℕ → List X → Type 0
-StandAt {X} all places xs = map (slice_get all) places ≡ map (λ (x : X). Some x) xs
+abbrev StandAt : {X : Type 0} → List X → List ℕ → List X → Type 0
+StandAt {X} all = Alike (slice_get all) (λ (x : X). Some x)
 
-StandAt-both : {X : Type 0} (all : List X) (ps qs : List ℕ) (xs ys : List X) → StandAt all ps xs
-    → StandAt all qs ys → StandAt all (ps ++ qs) (xs ++ ys)
-StandAt-both {X} all ps qs xs ys p q =
-    map-append (slice_get all) ps qs ∙ ap (λ l. l ++ map (slice_get all) qs) p
-    ∙ ap (λ l. map (λ (x : X). Some x) xs ++ l) q ∙ sym (map-append (λ (x : X). Some x) xs ys)
+-- what is read at the places
+read-StandAt : {X Y : Type 0} (all : List X) (read : ℕ → Y) (of : X → Y)
+    → ((place : ℕ) (x : X) → slice_get all place ≡ Some x → read place ≡ of x)
+    → (ps : List ℕ) (xs : List X) → StandAt all ps xs → map read ps ≡ map of xs
+read-StandAt all read of each [] [] stand = refl
+read-StandAt all read of each [] (x ∷ xs) stand = absurd (cc)
+read-StandAt all read of each (p ∷ ps) [] stand = absurd (cc)
+read-StandAt {X} all read of each (p ∷ ps) (x ∷ xs) stand =
+    let first : slice_get all p ≡ Some x = cc in
+    let rest : StandAt all ps xs = cc in
+    let one = each p x first in
+    let others = read-StandAt all read of each ps xs rest in
+    cc
 
-StandAt-if : {X : Type 0} (all : List X) (b : Bool) (ps : List ℕ) (xs : List X)
-    → StandAt all ps xs → StandAt all (if b then ps else []) (if b then xs else [])
-StandAt-if all true ps xs p = p
-StandAt-if all false ps xs p = refl
+-- a part of a list, which begins at a place
+record Lies {X : Type 0} (all : List X) (place : ℕ) (part : List X) : Type 0 where
+  front : List X
+  back : List X
+  is : all ≡ front ++ (part ++ back)
+  at : length front ≡ place
 
--- what stands behind the label of a function
-inside_is : {X : Type 0} (all front back members : List X) (head : X)
-    → all ≡ front ++ ((head ∷ members) ++ back) → all ≡ (front ++ head ∷ []) ++ (members ++ back)
-inside_is all front back members head is =
-    is ∙ sym (append_assoc front (head ∷ []) (members ++ back))
+Lies-parts : {X : Type 0} {all : List X} {place : ℕ} (xs ys : List X) (n : ℕ) → length xs ≡ n
+    → Lies all place (xs ++ ys) → Lies all place xs × Lies all (place + n) ys
+Lies-parts {place} xs ys n many l =
+    let first = l.is ∙ ap (λ r. l.front ++ r) (append_assoc xs ys l.back) in (
+      record { front = l.front; back = ys ++ l.back; is = first; at = l.at },
+      record {
+        front = l.front ++ xs;
+        back = l.back;
+        is = first ∙ sym (append_assoc l.front xs (ys ++ l.back));
+        at = omega (arith, l.at, many, length-append l.front xs);
+      },
+    )
 
-inside_place : {X : Type 0} (front : List X) (head : X) (place : ℕ) → length front ≡ place
-    → length (front ++ head ∷ []) ≡ place + 1
-inside_place front head place is = omega (arith, is, length-append front (head ∷ []))
+found-behind : {X : Type 0} (front back : List X) (x : X)
+    → slice_get (front ++ x ∷ back) (length front) ≡ Some x
+found-behind [] back x = refl
+found-behind (first ∷ front) back x = found-behind front back x
 
-length-both : {X Y : Type 0} (xs xs' : List X) (ys ys' : List Y) → length xs ≡ length ys
-    → length xs' ≡ length ys' → length (xs ++ xs') ≡ length (ys ++ ys')
-length-both xs xs' ys ys' first rest =
-    omega (arith, length-append xs xs', length-append ys ys', first, rest)
-
-length-if : {X Y : Type 0} (b : Bool) (xs : List X) (ys : List Y) → length xs ≡ length ys
-    → length (if b then xs else []) ≡ length (if b then ys else [])
-length-if true xs ys same = same
-length-if false xs ys same = refl
+Lies-found : {X : Type 0} (all : List X) (place : ℕ) (x : X) → Lies all place (x ∷ [])
+    → slice_get all place ≡ Some x
+Lies-found all place x l = ap (slice_get all) (sym l.at)
+    ∙ ap (λ a. slice_get a (length l.front)) l.is ∙ found-behind l.front l.back x
 
 -- A label for each node, in source order: it depends on what the node is, and on whether it stands
 -- below an odd number of `not`.
@@ -86,127 +110,121 @@ module _ {X : Type 0} (leaf : Bool → Question → X) (function : Bool → Func
     leaf_labels_by odd test (Trees.more tree trees) =
         (if test tree then leaf_labels odd tree else []) ++ leaf_labels_by odd test trees
 
-  -- one for each node
+-- where leaves and functions look like the nodes, so do the labels of a tree
+module _ {X Z : Type 0} (leaf : Bool → Question → X) (function : Bool → Func → ℕ → X) (f : X → Z)
+    (g : Node → Z) (leaves : (odd : Bool) (question : Question)
+    → f (leaf odd question) ≡ g (Node.leaf question))
+    (functions : (odd : Bool) (func : Func) (len : ℕ)
+    → f (function odd func len) ≡ g (Node.function func len)) where
+  Alike-headed : (odd : Bool) (func : Func) (xs : List X) (ys : List Node) → Alike f g xs ys
+      → Alike f g (function odd func (length xs + 1) ∷ xs) (headed func ys)
+  Alike-headed odd func xs ys alike =
+      let many = Alike-length f g xs ys alike in
+      let head = functions odd func (length xs + 1) in
+      cc
+
   mutual
-    pub length-labels : (odd : Bool) (tree : Tree)
-        → length (labels odd tree) ≡ length (prefix tree)
-    length-labels odd (Tree.leaf question) = refl
-    length-labels odd (Tree.all trees) = ap suc (length-labels_each odd trees)
-    length-labels odd (Tree.any trees) = ap suc (length-labels_each odd trees)
-    length-labels odd (Tree.not tree) = ap suc (length-labels (not odd) tree)
+    pub labels-prefix : (odd : Bool) (tree : Tree)
+        → map f (labels leaf function odd tree) ≡ map g (prefix tree)
+    labels-prefix odd (Tree.leaf question) = ap (λ z. z ∷ []) (leaves odd question)
+    labels-prefix odd (Tree.all trees) = Alike-headed odd _ _ _ (labels_each-prefix odd trees)
+    labels-prefix odd (Tree.any trees) = Alike-headed odd _ _ _ (labels_each-prefix odd trees)
+    labels-prefix odd (Tree.not tree) = Alike-headed odd _ _ _ (labels-prefix (not odd) tree)
 
-    length-labels_each : (odd : Bool) (trees : Trees)
-        → length (labels_each odd trees) ≡ length (prefix_each trees)
-    length-labels_each odd Trees.none = refl
-    length-labels_each odd (Trees.more tree trees) = omega (
-      arith,
-      length-append (labels odd tree) (labels_each odd trees),
-      length-append (prefix tree) (prefix_each trees),
-      length-labels odd tree,
-      length-labels_each odd trees,
-    )
+    labels_each-prefix : (odd : Bool) (trees : Trees)
+        → map f (labels_each leaf function odd trees) ≡ map g (prefix_each trees)
+    labels_each-prefix odd Trees.none = refl
+    labels_each-prefix odd (Trees.more tree trees) =
+        Alike-both f g _ _ _ _ (labels-prefix odd tree) (labels_each-prefix odd trees)
 
-  -- one for each question
+-- where they look like the questions, so do the labels of the leaves
+module _ {X Z : Type 0} (leaf : Bool → Question → X) (function : Bool → Func → ℕ → X) (f : X → Z)
+    (g : Question → Z)
+    (leaves : (odd : Bool) (question : Question) → f (leaf odd question) ≡ g question) where
   mutual
-    pub length-leaf_labels : (odd : Bool) (tree : Tree)
-        → length (leaf_labels odd tree) ≡ length (asked tree)
-    length-leaf_labels odd (Tree.leaf question) = refl
-    length-leaf_labels odd (Tree.all trees) =
-        length-both _ _ _ _ (length-leaf_labels_by odd is_function trees)
-        (length-leaf_labels_by odd is_leaf trees)
-    length-leaf_labels odd (Tree.any trees) =
-        length-both _ _ _ _ (length-leaf_labels_by odd is_function trees)
-        (length-leaf_labels_by odd is_leaf trees)
-    length-leaf_labels odd (Tree.not tree) = length-leaf_labels (not odd) tree
+    pub leaf_labels-asked : (odd : Bool) (tree : Tree)
+        → map f (leaf_labels leaf function odd tree) ≡ map g (asked tree)
+    leaf_labels-asked odd (Tree.leaf question) = ap (λ z. z ∷ []) (leaves odd question)
+    leaf_labels-asked odd (Tree.all trees) = Alike-both f g _ _ _ _
+        (leaf_labels-asked_by odd is_function trees) (leaf_labels-asked_by odd is_leaf trees)
+    leaf_labels-asked odd (Tree.any trees) = Alike-both f g _ _ _ _
+        (leaf_labels-asked_by odd is_function trees) (leaf_labels-asked_by odd is_leaf trees)
+    leaf_labels-asked odd (Tree.not tree) = leaf_labels-asked (not odd) tree
 
-    pub length-leaf_labels_by : (odd : Bool) (test : Tree → Bool) (trees : Trees)
-        → length (leaf_labels_by odd test trees) ≡ length (asked_by test trees)
-    length-leaf_labels_by odd test Trees.none = refl
-    length-leaf_labels_by odd test (Trees.more tree trees) =
-        length-both _ _ _ _ (length-if (test tree) _ _ (length-leaf_labels odd tree))
-        (length-leaf_labels_by odd test trees)
+    pub leaf_labels-asked_by : (odd : Bool) (test : Tree → Bool) (trees : Trees)
+        → map f (leaf_labels_by leaf function odd test trees) ≡ map g (asked_by test trees)
+    leaf_labels-asked_by odd test Trees.none = refl
+    leaf_labels-asked_by odd test (Trees.more tree trees) = Alike-both f g _ _ _ _
+        (Alike-if f g (test tree) _ _ (leaf_labels-asked odd tree))
+        (leaf_labels-asked_by odd test trees)
 
-  StandAt-one : (odd : Bool) (tree : Tree) (all : List X) (place : ℕ)
-      → StandAt all (places place tree) (leaf_labels odd tree)
+module _ {X : Type 0} (leaf : Bool → Question → X) (function : Bool → Func → ℕ → X) where
+  -- one for each node, and one for each question
+  length-labels : (odd : Bool) (tree : Tree)
+      → length (labels leaf function odd tree) ≡ length (prefix tree)
+  length-labels odd tree = Alike-length (λ _. zero) (λ _. zero) _ _ (labels-prefix leaf function
+      (λ _. zero) (λ _. zero) (λ odd question. refl) (λ odd func len. refl) odd tree)
+
+  pub length-leaf_labels : (odd : Bool) (tree : Tree)
+      → length (leaf_labels leaf function odd tree) ≡ length (asked tree)
+  length-leaf_labels odd tree = Alike-length (λ _. zero) (λ _. zero) _ _ (leaf_labels-asked leaf
+      function (λ _. zero) (λ _. zero) (λ odd question. refl) odd tree)
+
+  pub length-leaf_labels_by : (odd : Bool) (test : Tree → Bool) (trees : Trees)
+      → length (leaf_labels_by leaf function odd test trees) ≡ length (asked_by test trees)
+  length-leaf_labels_by odd test trees = Alike-length (λ _. zero) (λ _. zero) _ _
+      (leaf_labels-asked_by leaf function (λ _. zero) (λ _. zero) (λ odd question. refl) odd test
+      trees)
+
+  StandAt-own : (odd : Bool) (tree : Tree) (all : List X) (place : ℕ)
+      → StandAt all (places place tree) (leaf_labels leaf function odd tree)
       → StandAt all (if is_leaf tree then place ∷ [] else [])
-      (if is_leaf tree then leaf_labels odd tree else [])
-  StandAt-one odd (Tree.leaf question) all place stand = stand
-  StandAt-one odd (Tree.all trees) all place stand = refl
-  StandAt-one odd (Tree.any trees) all place stand = refl
-  StandAt-one odd (Tree.not tree) all place stand = refl
-
-  -- where the labels of the first of some trees end
-  next_is : (odd : Bool) (tree : Tree) (trees : Trees) (all front back : List X) (place : ℕ)
-      → all ≡ front ++ (labels_each odd (Trees.more tree trees) ++ back) → length front ≡ place
-      → (all ≡ front ++ (labels odd tree ++ (labels_each odd trees ++ back)))
-      × (all ≡ (front ++ labels odd tree) ++ (labels_each odd trees ++ back))
-      × (length (front ++ labels odd tree) ≡ place + length (prefix tree))
-  next_is odd tree trees all front back place is at =
-      let first = is ∙ ap (λ l. front ++ l)
-      (append_assoc (labels odd tree) (labels_each odd trees) back) in (
-        first,
-        first ∙ sym (append_assoc front (labels odd tree) (labels_each odd trees ++ back)),
-        omega (arith, at, length-append front (labels odd tree), length-labels odd tree),
-      )
+      (if is_leaf tree then leaf_labels leaf function odd tree else [])
+  StandAt-own odd (Tree.leaf question) all place stand = stand
+  StandAt-own odd tree all place stand = refl
 
   mutual
-    pub leaf_labels-places : (odd : Bool) (tree : Tree) (all front back : List X) (place : ℕ)
-        → all ≡ front ++ (labels odd tree ++ back) → length front ≡ place
-        → StandAt all (places place tree) (leaf_labels odd tree)
-    leaf_labels-places odd (Tree.leaf question) all front back place is at =
-        let here : place ≡ length front + 0 = omega (arith, at) in
-        let found : slice_get all place ≡ Some (leaf odd question) =
-        ap (slice_get all) here ∙ ap (λ l. slice_get l (length front + 0)) is
-        ∙ slice_get_behind front (leaf odd question ∷ back) 0 in
-        ap (λ o. o ∷ []) found
-    leaf_labels-places odd (Tree.all trees) all front back place is at =
-        let inside = inside_is all front back (labels_each odd trees) _ is in
-        let begins = inside_place front _ place at in
-        StandAt-both all _ _ _ _ (leaf_labels-inner odd trees all _ back (place + 1) inside begins)
-        (leaf_labels-own odd trees all _ back (place + 1) inside begins)
-    leaf_labels-places odd (Tree.any trees) all front back place is at =
-        let inside = inside_is all front back (labels_each odd trees) _ is in
-        let begins = inside_place front _ place at in
-        StandAt-both all _ _ _ _ (leaf_labels-inner odd trees all _ back (place + 1) inside begins)
-        (leaf_labels-own odd trees all _ back (place + 1) inside begins)
-    leaf_labels-places odd (Tree.not tree) all front back place is at =
-        leaf_labels-places (not odd) tree all _ back (place + 1)
-        (inside_is all front back (labels (not odd) tree) _ is) (inside_place front _ place at)
+    leaf_labels-places : (odd : Bool) (tree : Tree) (all : List X) (place : ℕ)
+        → Lies all place (labels leaf function odd tree)
+        → StandAt all (places place tree) (leaf_labels leaf function odd tree)
+    leaf_labels-places odd (Tree.leaf question) all place l =
+        ap (λ o. o ∷ []) (Lies-found all place (leaf odd question) l)
+    leaf_labels-places odd (Tree.all trees) all place l =
+        let both = leaf_labels-members odd trees all _ (Lies-parts (_ ∷ []) _ 1 refl l).1 in
+        Alike-both (slice_get all) (λ x. Some x) _ _ _ _ both.0 both.1
+    leaf_labels-places odd (Tree.any trees) all place l =
+        let both = leaf_labels-members odd trees all _ (Lies-parts (_ ∷ []) _ 1 refl l).1 in
+        Alike-both (slice_get all) (λ x. Some x) _ _ _ _ both.0 both.1
+    leaf_labels-places odd (Tree.not tree) all place l =
+        leaf_labels-places (not odd) tree all (place + 1) (Lies-parts (_ ∷ []) _ 1 refl l).1
 
-    leaf_labels-inner : (odd : Bool) (trees : Trees) (all front back : List X) (place : ℕ)
-        → all ≡ front ++ (labels_each odd trees ++ back) → length front ≡ place
-        → StandAt all (inner_places place trees) (leaf_labels_by odd is_function trees)
-    leaf_labels-inner odd Trees.none all front back place is at = refl
-    leaf_labels-inner odd (Trees.more tree trees) all front back place is at =
-        let next = next_is odd tree trees all front back place is at in
-        StandAt-both all _ _ _ _
-        (StandAt-if all (is_function tree) (places place tree) (leaf_labels odd tree)
-        (leaf_labels-places odd tree all front (labels_each odd trees ++ back) place next.0 at))
-        (leaf_labels-inner odd trees all (front ++ labels odd tree) back
-        (place + length (prefix tree)) next.1 next.2)
+    -- the members that are functions, and those that are leaves
+    leaf_labels-members : (odd : Bool) (trees : Trees) (all : List X) (place : ℕ)
+        → Lies all place (labels_each leaf function odd trees)
+        → StandAt all (inner_places place trees)
+        (leaf_labels_by leaf function odd is_function trees)
+        × StandAt all (own_places place trees) (leaf_labels_by leaf function odd is_leaf trees)
+    leaf_labels-members odd Trees.none all place l = (refl, refl)
+    leaf_labels-members odd (Trees.more tree trees) all place l =
+        let parts = Lies-parts (labels leaf function odd tree) _ _ (length-labels odd tree) l in
+        let here = leaf_labels-places odd tree all place parts.0 in
+        let others = leaf_labels-members odd trees all _ parts.1 in
+        let both = Alike-both (slice_get all) (λ (x : X). Some x) in (
+          both _ _ _ _ (Alike-if (slice_get all) (λ x. Some x) (is_function tree) _ _ here)
+              others.0,
+          both _ _ _ _ (StandAt-own odd tree all place here) others.1,
+        )
 
-    leaf_labels-own : (odd : Bool) (trees : Trees) (all front back : List X) (place : ℕ)
-        → all ≡ front ++ (labels_each odd trees ++ back) → length front ≡ place
-        → StandAt all (own_places place trees) (leaf_labels_by odd is_leaf trees)
-    leaf_labels-own odd Trees.none all front back place is at = refl
-    leaf_labels-own odd (Trees.more tree trees) all front back place is at =
-        let next = next_is odd tree trees all front back place is at in
-        StandAt-both all _ _ _ _
-        (StandAt-one odd tree all place
-        (leaf_labels-places odd tree all front (labels_each odd trees ++ back) place next.0 at))
-        (leaf_labels-own odd trees all (front ++ labels odd tree) back
-        (place + length (prefix tree)) next.1 next.2)
-
--- what is read at the places
-pub read-StandAt : {X Y : Type 0} (all : List X) (read : ℕ → Y) (of : X → Y)
-    → ((place : ℕ) (x : X) → slice_get all place ≡ Some x → read place ≡ of x)
-    → (ps : List ℕ) (xs : List X) → StandAt all ps xs → map read ps ≡ map of xs
-read-StandAt all read of each [] [] stand = refl
-read-StandAt all read of each [] (x ∷ xs) stand = absurd (cc)
-read-StandAt all read of each (p ∷ ps) [] stand = absurd (cc)
-read-StandAt {X} all read of each (p ∷ ps) (x ∷ xs) stand =
-    let first : slice_get all p ≡ Some x = cc in
-    let rest : StandAt all ps xs = cc in
-    let one = each p x first in
-    let others = read-StandAt all read of each ps xs rest in
-    cc
+  -- what is read at the places of a tree's leaves
+  pub read-places : {Y : Type 0} (all : List X) (tree : Tree) (read : ℕ → Y) (of : X → Y)
+      → all ≡ labels leaf function false tree
+      → ((place : ℕ) (x : X) → slice_get all place ≡ Some x → read place ≡ of x)
+      → map read (places 0 tree) ≡ map of (leaf_labels leaf function false tree)
+  read-places all tree read of is each =
+      read-StandAt all read of each (places 0 tree) (leaf_labels leaf function false tree)
+      (leaf_labels-places false tree all 0 (record {
+        front = [];
+        back = [];
+        is = is ∙ sym (append-nil (labels leaf function false tree));
+        at = refl;
+      }))

@@ -1,6 +1,7 @@
 pub mod Asked
 pub mod Bounded
 pub mod Chains
+pub mod Functions
 pub mod Kept
 pub mod Labels
 pub mod Parsed

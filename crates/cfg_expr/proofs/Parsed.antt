@@ -25,20 +25,10 @@ pub record Begins {A : Type 0} (text : List ℕ) (lexer : LexerState)
   pub state_is : state_of {A = A} parser ≡ initial
   pub text_is : parser.original.now ≡ text
 
-pub Begins-start : {A : Type 0} (text : List ℕ) (lexer : LexerState) (parser : Parser A)
-    → HasOneTokenList text → lexer ≡ starting text → state_of {A = A} parser ≡ initial
-    → parser.original.now ≡ lexer.text → Begins {A = A} text lexer parser
-Begins-start text lexer parser one is state original = record {
-  one = one;
-  lexer_is = is;
-  state_is = state;
-  text_is = original ∙ ap (λ (l : LexerState). l.text) is;
-}
-
-given : {A : Type 0} (text : List ℕ) (lexer : LexerState) (old new : Parser A)
-    (result : Result (Unit {0}) (Failure A)) → (b : Begins {A = A} text lexer old)
+given : {A : Type 0} {text : List ℕ} {lexer : LexerState} {old : Parser A} (new : Parser A)
+    (result : Result (Unit {0}) (Failure A)) (b : Begins {A = A} text lexer old)
     → ReadsAll {A = A} lexer old new result → Gives {A = A} result old new (answer text b.one)
-given {A} text lexer old new result b reads =
+given {A} {text} {lexer} {old} new result b reads =
     let come : ItemsFrom lexer.text lexer.place b.one.items b.one.ending =
     subst (λ (l : LexerState). ItemsFrom l.text l.place b.one.items b.one.ending)
     (sym b.lexer_is) b.one.are in
@@ -54,11 +44,11 @@ fails_as text one (failure.Parse error) fails =
     (fails.0, fails.2, IsRefused-refused text one fails.0 fails.1)
 fails_as text one (failure.Memory error) fails = accepted_or_refused text one
 
-pub Answers-fails : {A : Type 0} (text : List ℕ) (lexer : LexerState) (old new : Parser A)
-    (f : Failure A) → Begins {A = A} text lexer old
+pub Answers-fails : {A : Type 0} {text : List ℕ} {lexer : LexerState} {old : Parser A}
+    (new : Parser A) (f : Failure A) → Begins {A = A} text lexer old
     → ReadsAll {A = A} lexer old new (Err f) → Answers text (Err f)
-Answers-fails {A} text lexer old new f b reads =
-    let fails = given {A = A} text lexer old new (Err f) b reads in
+Answers-fails {text} new f b reads =
+    let fails = given new (Err f) b reads in
     fails_as text b.one f (subst (λ t. FailsAs t f (answer text b.one)) b.text_is fails)
 
 -- where memory runs out
@@ -68,19 +58,18 @@ Answers-memory {A} text f one error is = subst (λ (g : Failure A). Answers {A =
     (sym is) (accepted_or_refused text one)
 
 -- what is accepted
-pub Keeps-reads : {A : Type 0} (text : List ℕ) (lexer : LexerState)
-    (old new : Parser A) → Begins {A = A} text lexer old
-    → ReadsAll {A = A} lexer old new (Ok tt) → Keeps text new.writer.nodes.items
-    new.writer.asked.items
-Keeps-reads {A} text lexer old new b reads =
-    let gives = given {A = A} text lexer old new (Ok tt) b reads in
+pub Keeps-reads : {A : Type 0} {text : List ℕ} {lexer : LexerState} {old : Parser A}
+    (new : Parser A) → Begins {A = A} text lexer old → ReadsAll {A = A} lexer old new (Ok tt)
+    → Keeps text new.writer.nodes.items new.writer.asked.items
+Keeps-reads {text} new b reads =
+    let gives = given new (Ok tt) b reads in
     subst (λ (s : State). Keeps text s.written.nodes s.written.asked) gives.2.is
     (Keeps-accepted text b.one gives.0 gives.1)
 
-pub IsAccepted-reads : {A : Type 0} (text : List ℕ) (lexer : LexerState)
-    (old new : Parser A) → Begins {A = A} text lexer old
-    → ReadsAll {A = A} lexer old new (Ok tt) → (strip text ≡ text) × IsAccepted text
-IsAccepted-reads {A} text lexer old new b reads =
-    let gives = given {A = A} text lexer old new (Ok tt) b reads in
+pub IsAccepted-reads : {A : Type 0} {text : List ℕ} {lexer : LexerState} {old : Parser A}
+    (new : Parser A) → Begins {A = A} text lexer old → ReadsAll {A = A} lexer old new (Ok tt)
+    → (strip text ≡ text) × IsAccepted text
+IsAccepted-reads {text} new b reads =
+    let gives = given new (Ok tt) b reads in
     let found = tree_of text b.one gives.0 gives.1 in
     (strip-tree text found.0 found.1, IsAccepted-accepted text b.one gives.0 gives.1)

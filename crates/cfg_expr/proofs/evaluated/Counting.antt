@@ -1,13 +1,27 @@
 -- How many values and open lists the steps need.
 use Rattle.std.proofs.Common.{◌≡◌, ℕ, zero, suc, ◌+◌, ◌-◌, ◌≤◌, ◌<◌, ◌^◌, List, [], ◌∷◌}
-use Rattle.std.proofs.Common.{Option, Some, sym, refl, ap, ◌∙◌, arith}
+use Rattle.std.proofs.Common.{Option, Some, refl, ap, ◌∙◌, arith}
 use Rattle.std.specs.Prelude.{max, length, true, false, ◌==◌, if◌then◌else◌}
-use Rattle.cfg_expr.specs.nodes.Steps.{Step, OpenList, asks, most_values, most_open}
+use Rattle.cfgx_grammar.specs.Tree.{Tree, Trees, count, is_function}
+use Rattle.cfg_expr.specs.nodes.Steps.{Step, OpenList, asks, leaves, most_values, most_open}
 use Rattle.cfg_expr.specs.nodes.Steps.{height_behind, finishes, still_open}
 use Rattle.cfg_expr.specs.nodes.Steps.{PopsEnded, IsOpen}
-use Rattle.cfg_expr.specs.nodes.Measure.{needed, NeedSame}
+use Rattle.cfg_expr.specs.nodes.Measure.{needed}
 use Rattle.cfg_expr.specs.declared.expr.evaluating.Heights.{Heights}
 use Rattle.cfg_expr.specs.declared.expr.Func.{Func}
+
+-- how many members of a list are functions
+abbrev pub one_if_function : Tree → ℕ
+one_if_function tree = if is_function tree then 1 else 0
+
+abbrev pub functions : Trees → ℕ
+functions Trees.none = 0
+functions (Trees.more tree trees) = one_if_function tree + functions trees
+
+pub count-split : (trees : Trees) → count trees ≡ leaves trees + functions trees
+count-split Trees.none = refl
+count-split (Trees.more (Tree.leaf question) trees) = omega (arith, count-split trees)
+count-split (Trees.more tree trees) = omega (arith, count-split trees)
 
 pub most_values-asks : (n height : ℕ) (steps : List Step)
     → most_values height (asks n steps) ≡ most_values (height + n) steps
@@ -82,17 +96,3 @@ finishes-open (top ∷ rest) steps is = rw is refl
 pub still_open-open : (lists : List OpenList) → IsOpen lists → still_open lists ≡ lists
 still_open-open [] is = refl
 still_open-open (top ∷ rest) is = rw is refl
-
-pub NeedSame-popped : (start now next : Heights) (all old new : List OpenList) (top : OpenList)
-    → NeedSame start (finishes all) now (finishes old) → PopsEnded old (Some top) new
-    → NeedSame now (λ s. asks top.leaves (Step.finish top.func ∷ s)) next (λ s. s)
-    → NeedSame start (finishes all) next (finishes new)
-NeedSame-popped start now next all old new top before pops end steps =
-    end (finishes new steps) ∙ ap (needed now) (sym (finishes-popped old new top steps pops))
-    ∙ before steps
-
-pub NeedSame-ended : (start now : Heights) (all old : List OpenList)
-    → NeedSame start (finishes all) now (finishes old) → IsOpen old
-    → NeedSame start (finishes all) now (λ s. s)
-NeedSame-ended start now all old before is steps =
-    ap (needed now) (sym (finishes-open old steps is)) ∙ before steps

@@ -1,7 +1,7 @@
 -- How an evaluation goes on, step by step.
 use Rattle.std.proofs.Common.{◌≡◌, ℕ, zero, suc, ◌+◌, ◌-◌, ◌≤◌, ◌<◌, List, [], ◌∷◌, ◌++◌, reverse}
 use Rattle.std.proofs.Common.{length, drop, Option, Some, None, sym, refl, ap, ◌∙◌, arith, subst}
-use Rattle.std.proofs.Common.{length-drop, take}
+use Rattle.std.proofs.Common.{drop-drop, length-drop, take}
 use Rattle.std.specs.Prelude.{fold}
 use Rattle.std.proofs.lemmas.List.{length-reverse, reverse-append}
 use Rattle.smallvec.specs.SmallVec.{SmallVec}
@@ -17,71 +17,56 @@ use Rattle.cfg_expr.proofs.evaluated.Counting.{below-most_values}
 
 -- the first question may be asked, and behind its answer the others
 
-pub MayAsk-first : {F T : Type 0} (asker : Asker F T) (state : F) (question : Question)
-    (rest : List Question) → MayAskEach asker state (question ∷ rest)
+pub MayAsk-first : {F T : Type 0} {asker : Asker F T} {state : F} {question : Question}
+    {rest : List Question} → MayAskEach asker state (question ∷ rest)
     → MayAsk asker state question
-MayAsk-first asker state question rest (MayAskEach.more _ _ _ may others) = may
+MayAsk-first (MayAskEach.more _ _ _ may others) = may
 
-pub MayAskEach-rest : {F T : Type 0} (asker : Asker F T) (before : F) (question : Question)
-    (rest : List Question) (answer : T) (after : F) → MayAskEach asker before (question ∷ rest)
+MayAskEach-rest : {F T : Type 0} {asker : Asker F T} {before after : F} {question : Question}
+    {rest : List Question} {answer : T} → MayAskEach asker before (question ∷ rest)
     → Asks asker before question answer after → MayAskEach asker after rest
-MayAskEach-rest asker before question rest answer after (MayAskEach.more _ _ _ may others) asks =
-    others answer after asks
+MayAskEach-rest {after} {answer} (MayAskEach.more _ _ _ may others) asked =
+    others answer after asked
 
 -- ways that are gone one behind the other
 
-pub Goes-step : {F T : Type 0} (logic : Operations T) (asker : Asker F T)
-    (a b c : Standing F T) (front back step back' : List Step → List Step)
-    → Goes logic asker a front b back → Goes logic asker b step c (λ s. s)
-    → ((s : List Step) → back s ≡ step (back' s)) → Goes logic asker a front c back'
-Goes-step logic asker a b c front back step back' ab bc same = record {
-  leads = λ steps closure values ends. ab.leads steps closure values
-      (subst (λ s. Ends logic asker b s closure values) (sym (same steps))
-      (bc.leads (back' steps) closure values ends));
-  can = λ steps can. bc.can (back' steps)
-      (subst (CanTake asker b) (same steps) (ab.can steps can));
-}
+module _ {F T : Type 0} {logic : Operations T} {asker : Asker F T} where
+  pub Goes-step : {a b c : Standing F T} {front back step back' : List Step → List Step}
+      → Goes logic asker a front b back → Goes logic asker b step c (λ s. s)
+      → ((s : List Step) → back s ≡ step (back' s)) → Goes logic asker a front c back'
+  Goes-step {b} {back'} ab bc same = record {
+    leads = λ steps closure values ends. ab.leads steps closure values
+        (subst (λ s. Ends logic asker b s closure values) (sym (same steps))
+        (bc.leads (back' steps) closure values ends));
+    can = λ steps can. bc.can (back' steps)
+        (subst (CanTake asker b) (same steps) (ab.can steps can));
+  }
 
-pub Goes-then : {F T : Type 0} (logic : Operations T) (asker : Asker F T)
-    (a b c : Standing F T) (front step : List Step → List Step)
-    → Goes logic asker a front b (λ s. s) → Goes logic asker b step c (λ s. s)
-    → Goes logic asker a (λ s. front (step s)) c (λ s. s)
-Goes-then logic asker a b c front step ab bc = record {
-  leads = λ steps closure values ends. ab.leads (step steps) closure values
-      (bc.leads steps closure values ends);
-  can = λ steps can. bc.can steps (ab.can (step steps) can);
-}
+  Goes-nowhere : (a : Standing F T) → Goes logic asker a (λ s. s) a (λ s. s)
+  Goes-nowhere a = record {
+    leads = λ steps closure values ends. ends;
+    can = λ steps can. can;
+  }
 
-pub Goes-to : {F T : Type 0} (logic : Operations T) (asker : Asker F T)
-    (a b : Standing F T) (front back back' : List Step → List Step)
-    → Goes logic asker a front b back → ((s : List Step) → back s ≡ back' s)
-    → Goes logic asker a front b back'
-Goes-to logic asker a b front back back' ab same = record {
-  leads = λ steps closure values ends. ab.leads steps closure values
-      (subst (λ s. Ends logic asker b s closure values) (sym (same steps)) ends);
-  can = λ steps can. subst (CanTake asker b) (same steps) (ab.can steps can);
-}
+  pub Goes-to : {a b : Standing F T} {front back back' : List Step → List Step}
+      → Goes logic asker a front b back → ((s : List Step) → back s ≡ back' s)
+      → Goes logic asker a front b back'
+  Goes-to {b} ab same = Goes-step ab (Goes-nowhere b) same
 
-pub Goes-back : {F T : Type 0} (logic : Operations T) (asker : Asker F T)
-    (a b : Standing F T) (front back : List Step → List Step)
-    → Goes logic asker a front b back → ((s : List Step) → back s ≡ s)
-    → Goes logic asker a front b (λ s. s)
-Goes-back logic asker a b front back ab same =
-    Goes-to logic asker a b front back (λ s. s) ab same
+  pub Goes-then : {a b c : Standing F T} {front step : List Step → List Step}
+      → Goes logic asker a front b (λ s. s) → Goes logic asker b step c (λ s. s)
+      → Goes logic asker a (λ s. front (step s)) c (λ s. s)
+  Goes-then {step} ab bc = record {
+    leads = λ steps closure values ends. ab.leads (step steps) closure values
+        (bc.leads steps closure values ends);
+    can = λ steps can. bc.can steps (ab.can (step steps) can);
+  }
 
-pub Goes-nowhere : {F T : Type 0} (logic : Operations T) (asker : Asker F T) (a : Standing F T)
-    (front : List Step → List Step) → Goes logic asker a front a front
-Goes-nowhere logic asker a front = record {
-  leads = λ steps closure values ends. ends;
-  can = λ steps can. can;
-}
-
-pub CanGo-on : {F T : Type 0} (logic : Operations T) (asker : Asker F T)
-    (a b : Standing F T) (front back step back' : List Step → List Step)
-    → CanGo asker a front → Goes logic asker a front b back
-    → ((s : List Step) → back s ≡ step (back' s)) → CanGo asker b step
-CanGo-on logic asker a b front back step back' can ab same =
-    (back' can.0, subst (CanTake asker b) (same can.0) (ab.can can.0 can.1))
+  pub CanGo-on : {a b : Standing F T} {front back step : List Step → List Step}
+      (back' : List Step → List Step) → CanGo asker a front → Goes logic asker a front b back
+      → ((s : List Step) → back s ≡ step (back' s)) → CanGo asker b step
+  CanGo-on {b} back' can ab same =
+      (back' can.0, subst (CanTake asker b) (same can.0) (ab.can can.0 can.1))
 
 -- a question is asked
 
@@ -93,13 +78,14 @@ pub room-ask : {F T : Type 0} (asker : Asker F T) (now : Standing F T)
 room-ask asker now can =
     omega (arith, can.1.room, below-most_values can.0 (length now.values.items + 1))
 
-pub Goes-asked : {F T : Type 0} (logic : Operations T) (asker : Asker F T) (before after : F)
-    (questions rest : List Question) (question : Question) (values new : SmallVec (Option T))
-    (answer : T) → questions ≡ question ∷ rest → Asks asker before question answer after
+pub Goes-asked : {F T : Type 0} {logic : Operations T} {asker : Asker F T} {before after : F}
+    {questions rest : List Question} {question : Question} {values new : SmallVec (Option T)}
+    {answer : T} → questions ≡ question ∷ rest → Asks asker before question answer after
     → new.items ≡ values.items ++ Some answer ∷ [] → new.capacity ≡ values.capacity
     → Goes logic asker (standing before questions values) (λ s. Step.ask ∷ s)
     (standing after rest new) (λ s. s)
-Goes-asked logic asker before after questions rest question values new answer are asks items same =
+Goes-asked {logic} {asker} {before} {after} {rest} {question} {values} {new} {answer} are asks items
+    same =
     let lies : reverse new.items ≡ Some answer ∷ reverse values.items =
     ap reverse items ∙ reverse-snoc values.items (Some answer) in
     let longer : length new.items ≡ length values.items + 1 = sym (length-reverse new.items)
@@ -112,8 +98,7 @@ Goes-asked logic asker before after questions rest question values new answer ar
         values_are = ap (λ l. run logic steps l ends.answers) (sym lies) ∙ ends.values_are;
       };
       can = λ steps can. record {
-        may = MayAskEach-rest asker before question rest answer after
-            (subst (MayAskEach asker before) are can.may) asks;
+        may = MayAskEach-rest (subst (MayAskEach asker before) are can.may) asks;
         all = omega (arith, can.all, ap length are);
         room = rw (longer, same) can.room;
       };
@@ -130,7 +115,7 @@ asks-none count i steps outside =
 
 -- values are joined
 
-pub fold-next : {T : Type 0} (join : T → T → T) (value : T) (k : ℕ) (values : List (Option T))
+fold-next : {T : Type 0} (join : T → T → T) (value : T) (k : ℕ) (values : List (Option T))
     → fold (joined join) value (take (suc k) values)
     ≡ fold (joined join) (joined join value (last_of values)) (take k (drop 1 values))
 fold-next join value zero [] = refl
@@ -146,16 +131,11 @@ fold-joined join value value' members i values new last inside is rest becomes =
     let k : members - i ≡ suc (members - (i + 1)) = omega arith in
     rw (becomes, is, rest, k) (sym (fold-next join value (members - (i + 1)) values))
 
-drop-one : {X : Type 0} (k : ℕ) (xs : List X) → drop k (drop 1 xs) ≡ drop (suc k) xs
-drop-one zero [] = refl
-drop-one (suc k) [] = refl
-drop-one k (x ∷ xs) = refl
-
 pub drop-joined : {T : Type 0} (members i : ℕ) (values new : List (Option T)) → i < members
     → new ≡ drop 1 values → drop (members - (i + 1)) new ≡ drop (members - i) values
 drop-joined members i values new inside rest =
-    let k : members - i ≡ suc (members - (i + 1)) = omega arith in
-    rw (rest, k) (drop-one (members - (i + 1)) values)
+    let k : 1 + (members - (i + 1)) ≡ members - i = omega arith in
+    rw (rest, drop-drop (members - (i + 1)) 1 values, k) refl
 
 length-finished : {T : Type 0} (logic : Operations T) (func : Option Func)
     (values : List (Option T))
@@ -168,19 +148,16 @@ length-finished logic (Some (Any n)) values = omega (arith, length-drop n values
 pub room-finish : {F T : Type 0} (asker : Asker F T) (now : Standing F T) (func : Option Func)
     → CanGo asker now (λ s. Step.finish func ∷ s)
     → height_behind func (length now.values.items) ≤ now.values.capacity
-room-finish asker now func can = omega (
-  arith,
-  can.1.room,
-  below-most_values can.0 (height_behind func (length now.values.items)),
-)
+room-finish asker now func can =
+    omega (arith, can.1.room, below-most_values can.0 (height_behind func (length now.values.items)))
 
-pub Goes-finished : {F T : Type 0} (logic : Operations T) (asker : Asker F T) (closure : F)
-    (questions : List Question) (func : Option Func) (values new : SmallVec (Option T))
+pub Goes-finished : {F T : Type 0} {logic : Operations T} {asker : Asker F T} {closure : F}
+    {questions : List Question} {values new : SmallVec (Option T)} (func : Option Func)
     → reverse new.items ≡ finished logic func (reverse values.items)
     → new.capacity ≡ values.capacity
     → Goes logic asker (standing closure questions values) (λ s. Step.finish func ∷ s)
     (standing closure questions new) (λ s. s)
-Goes-finished logic asker closure questions func values new are same =
+Goes-finished {logic} {values} {new} func are same =
     let length_is : length new.items ≡ height_behind func (length values.items) =
     sym (length-reverse new.items) ∙ ap length are
     ∙ length-finished logic func (reverse values.items)
@@ -200,10 +177,10 @@ Goes-finished logic asker closure questions func values new are same =
 
 -- a node is gone over
 
-pub Goes-begins : {F T : Type 0} (logic : Operations T) (asker : Asker F T) (a : Standing F T)
+pub Goes-begins : {F T : Type 0} {logic : Operations T} {asker : Asker F T} {a : Standing F T}
     (first : Option Func) → Goes logic asker a (begins first) a (λ s. s)
-Goes-begins logic asker a None = Goes-nowhere logic asker a (λ s. s)
-Goes-begins logic asker a (Some func) = record {
+Goes-begins {a} None = Goes-nowhere a
+Goes-begins (Some func) = record {
   leads = λ steps after left ends. record {
     answers = ends.answers;
     calls = ends.calls;

@@ -23,13 +23,7 @@ spelled-bytes bytes (Token.key word) spells =
     omega (arith, ap length spells.0, word-bytes word spells.1.spelled)
 spelled-bytes bytes (Token.value inside) spells =
     omega (arith, ap length spells.0, length-append (codes "\"" ++ inside) (codes "\""))
-spelled-bytes bytes Token.equals spells = rw spells (omega arith)
-spelled-bytes bytes Token.all spells = rw spells (omega arith)
-spelled-bytes bytes Token.any spells = rw spells (omega arith)
-spelled-bytes bytes Token.not spells = rw spells (omega arith)
-spelled-bytes bytes Token.open_paren spells = rw spells (omega arith)
-spelled-bytes bytes Token.close_paren spells = rw spells (omega arith)
-spelled-bytes bytes Token.comma spells = rw spells (omega arith)
+spelled-bytes bytes token spells = rw spells (omega arith)
 
 item-bytes : (text : List ℕ) (from : ℕ) (item : Item) → Stands text from item
     → from + 1 ≤ item.end

@@ -10,60 +10,29 @@ use Rattle.cfg_expr.specs.nodes.Steps.{Step, OpenList, asks, leaves, steps_of, s
 use Rattle.cfg_expr.specs.nodes.Steps.{all_steps, opened, with_leaf, with_function}
 use Rattle.cfg_expr.specs.nodes.Steps.{over_top, shape, finishes, still_open, walk, text_list}
 use Rattle.cfg_expr.specs.declared.expr.Func.{Func}
-use Rattle.cfg_expr.specs.declared.expr.Func.TheVariants.{Not, All, Any}
 use Rattle.cfg_expr.specs.declared.expr.nodes.ExprNode.{ExprNode}
 use Rattle.cfg_expr.specs.declared.expr.nodes.ExprNode.TheVariants as node
+use Rattle.cfg_expr.proofs.Functions.{IsFunction, by_list, count_is, function_is, nodes_are}
+use Rattle.cfg_expr.proofs.Functions.{steps_are}
+use Rattle.cfg_expr.proofs.evaluated.Counting.{functions, count-split}
 
--- the shapes of a tree's nodes, and then these
-abbrev mutual
-  shapes : Tree → List (Option Func) → List (Option Func)
-  shapes (Tree.leaf question) rest = None ∷ rest
-  shapes (Tree.all trees) rest = Some (All (count trees)) ∷ shapes_each trees rest
-  shapes (Tree.any trees) rest = Some (Any (count trees)) ∷ shapes_each trees rest
-  shapes (Tree.not tree) rest = Some Not ∷ shapes tree rest
-
-  shapes_each : Trees → List (Option Func) → List (Option Func)
-  shapes_each Trees.none rest = rest
-  shapes_each (Trees.more tree trees) rest = shapes tree (shapes_each trees rest)
+abbrev shape_of : Node → Option Func
+shape_of (Node.leaf question) = None
+shape_of (Node.function func len) = Some func
 
 -- what comes behind a node, when these are the open lists
 abbrev after : List OpenList → List (Option Func) → List Step
 after lists rest = finishes lists (walk rest (still_open lists))
 
 abbrev with_member : Tree → OpenList → OpenList
-with_member (Tree.leaf question) list = with_leaf list
-with_member (Tree.all trees) list = with_function list
-with_member (Tree.any trees) list = with_function list
-with_member (Tree.not tree) list = with_function list
+with_member tree list = if is_function tree then with_function list else with_leaf list
 
 abbrev list_of : Option Func → ℕ → ℕ → OpenList
 list_of func left own = record { func = func; left = left; leaves = own }
 
--- how many members of a list are functions
-abbrev functions : Trees → ℕ
-functions Trees.none = 0
-functions (Trees.more tree trees) =
-    if is_function tree then suc (functions trees) else functions trees
-
-count-split : (trees : Trees) → count trees ≡ leaves trees + functions trees
-count-split Trees.none = refl
-count-split (Trees.more (Tree.leaf question) trees) = omega (arith, count-split trees)
-count-split (Trees.more (Tree.all others) trees) = omega (arith, count-split trees)
-count-split (Trees.more (Tree.any others) trees) = omega (arith, count-split trees)
-count-split (Trees.more (Tree.not tree) trees) = omega (arith, count-split trees)
-
 same_list : (func : Option Func) (left own left' own' : ℕ) → left ≡ left' → own ≡ own'
     → list_of func left own ≡ list_of func left' own'
 same_list func left own left' own' p q = cc
-
--- a list of one member ends behind it
-ends-single : (tree : Tree) (func : Option Func) (lists : List OpenList)
-    (rest : List (Option Func)) → after (with_member tree (opened func 1) ∷ lists) rest
-    ≡ asks (leaves (Trees.more tree Trees.none)) (Step.finish func ∷ after lists rest)
-ends-single (Tree.leaf question) func lists rest = refl
-ends-single (Tree.all trees) func lists rest = refl
-ends-single (Tree.any trees) func lists rest = refl
-ends-single (Tree.not tree) func lists rest = refl
 
 -- one member of a list, and the others
 next-member : (tree : Tree) (trees : Trees) (func : Option Func) (own o : ℕ)
@@ -72,67 +41,56 @@ next-member : (tree : Tree) (trees : Trees) (func : Option Func) (own o : ℕ)
     × (with_member tree (list_of func (suc (count trees)) own) ≡ list_of func (count trees) own')
 next-member (Tree.leaf question) trees func own o is =
     (own, omega arith, same_list func _ _ _ _ (omega arith) (omega arith))
-next-member (Tree.all others) trees func own o is =
-    (own - 1, omega arith, same_list func _ _ _ _ (omega arith) (omega arith))
-next-member (Tree.any others) trees func own o is =
-    (own - 1, omega arith, same_list func _ _ _ _ (omega arith) (omega arith))
-next-member (Tree.not other) trees func own o is =
+next-member tree trees func own o is =
     (own - 1, omega arith, same_list func _ _ _ _ (omega arith) (omega arith))
 
-mutual
-  walk-tree : (tree : Tree) (rest : List (Option Func)) (lists : List OpenList)
-      → walk (shapes tree rest) lists
-      ≡ steps_of tree (after (over_top (with_member tree) lists) rest)
-  walk-tree (Tree.leaf question) rest lists = refl
-  walk-tree (Tree.all trees) rest lists =
-      ap (λ l. Step.begin ∷ l) (walk-list trees rest (Some (All (count trees))) (count trees)
-      (leaves trees) (over_top with_function lists) (count-split trees))
-  walk-tree (Tree.any trees) rest lists =
-      ap (λ l. Step.begin ∷ l) (walk-list trees rest (Some (Any (count trees))) (count trees)
-      (leaves trees) (over_top with_function lists) (count-split trees))
-  walk-tree (Tree.not tree) rest lists =
-      ap (λ l. Step.begin ∷ l) (walk-tree tree rest (opened (Some Not) 1
-      ∷ over_top with_function lists)
-      ∙ ap (steps_of tree) (ends-single tree (Some Not) (over_top with_function lists) rest))
+-- Behind the shapes of a tree stand the shapes of the rest. A list asks its leaves where it ends.
+abbrev WalksTree : Tree → Type 0
+WalksTree tree = (rest : List (Option Func)) (lists : List OpenList)
+    → walk (map shape_of (prefix tree) ++ rest) lists
+    ≡ steps_of tree (after (over_top (with_member tree) lists) rest)
 
-  walk-list : (trees : Trees) (rest : List (Option Func)) (func : Option Func) (own o : ℕ)
-      (lists : List OpenList) → own ≡ o + functions trees
-      → after (list_of func (count trees) own ∷ lists) (shapes_each trees rest)
-      ≡ steps_of_each trees (asks o (Step.finish func ∷ after lists rest))
-  walk-list Trees.none rest func own o lists is =
-      let same : own ≡ o = omega arith in
-      ap (λ n. asks n (Step.finish func ∷ after lists rest)) same
-  walk-list (Trees.more tree trees) rest func own o lists is =
-      let next = next-member tree trees func own o is in
-      rw (eqb-suc-zero (count trees))
-      (walk-tree tree (shapes_each trees rest) (list_of func (suc (count trees)) own ∷ lists)
-      ∙ ap (λ l. steps_of tree (after (l ∷ lists) (shapes_each trees rest))) next.2
-      ∙ ap (steps_of tree) (walk-list trees rest func next.0 o lists next.1))
+abbrev WalksEach : Trees → Type 0
+WalksEach trees = (rest : List (Option Func)) (func : Option Func) (own o : ℕ)
+    (lists : List OpenList) → own ≡ o + functions trees
+    → after (list_of func (count trees) own ∷ lists) (map shape_of (prefix_each trees) ++ rest)
+    ≡ steps_of_each trees (asks o (Step.finish func ∷ after lists rest))
+
+walk-function : (tree : Tree) (func : Func) (trees : Trees) → IsFunction tree func trees
+    → WalksEach trees → WalksTree tree
+walk-function tree func trees is each rest lists =
+    ap (λ l. walk (map shape_of l ++ rest) lists) (nodes_are is)
+    ∙ ap (λ n. Step.begin ∷ after (opened (Some func) n ∷ over_top with_function lists)
+    (map shape_of (prefix_each trees) ++ rest)) (count_is is)
+    ∙ ap (λ l. Step.begin ∷ l) (each rest (Some func) (count trees) (leaves trees)
+    (over_top with_function lists) (count-split trees))
+    ∙ sym (steps_are is (after (over_top with_function lists) rest))
+    ∙ ap (λ b. steps_of tree (after (over_top (λ list.
+    if b then with_function list else with_leaf list) lists) rest)) (sym (function_is is))
+
+walk-none : WalksEach Trees.none
+walk-none rest func own o lists is =
+    let same : own ≡ o = omega arith in ap (λ n. asks n (Step.finish func ∷ after lists rest)) same
+
+walk-more : (tree : Tree) (trees : Trees) → WalksTree tree → WalksEach trees
+    → WalksEach (Trees.more tree trees)
+walk-more tree trees first others rest func own o lists is =
+    let next = next-member tree trees func own o is in
+    let own_shapes = map shape_of (prefix tree) in
+    let shapes = map shape_of (prefix_each trees) ++ rest in
+    let all : map shape_of (prefix tree ++ prefix_each trees) ++ rest ≡ own_shapes ++ shapes =
+    ap (λ l. l ++ rest) (map-append shape_of (prefix tree) (prefix_each trees))
+    ∙ append_assoc own_shapes (map shape_of (prefix_each trees)) rest in
+    rw (eqb-suc-zero (count trees), all)
+    (first shapes (list_of func (suc (count trees)) own ∷ lists)
+    ∙ ap (λ l. steps_of tree (after (l ∷ lists) shapes)) next.2
+    ∙ ap (steps_of tree) (others rest func next.0 o lists next.1))
+
+walk-each : (trees : Trees) → WalksEach trees
+walk-each =
+    by_list WalksTree WalksEach (λ question rest lists. refl) walk-function walk-none walk-more
 
 -- the nodes of a tree
-
-abbrev shape_of : Node → Option Func
-shape_of (Node.leaf question) = None
-shape_of (Node.function func len) = Some func
-
-mutual
-  shapes-prefix : (tree : Tree) (rest : List (Option Func))
-      → map shape_of (prefix tree) ++ rest ≡ shapes tree rest
-  shapes-prefix (Tree.leaf question) rest = refl
-  shapes-prefix (Tree.all trees) rest =
-      ap (λ l. Some (All (count trees)) ∷ l) (shapes-prefix_each trees rest)
-  shapes-prefix (Tree.any trees) rest =
-      ap (λ l. Some (Any (count trees)) ∷ l) (shapes-prefix_each trees rest)
-  shapes-prefix (Tree.not tree) rest = ap (λ l. Some Not ∷ l) (shapes-prefix tree rest)
-
-  shapes-prefix_each : (trees : Trees) (rest : List (Option Func))
-      → map shape_of (prefix_each trees) ++ rest ≡ shapes_each trees rest
-  shapes-prefix_each Trees.none rest = refl
-  shapes-prefix_each (Trees.more tree trees) rest =
-      ap (λ l. l ++ rest) (map-append shape_of (prefix tree) (prefix_each trees))
-      ∙ append_assoc (map shape_of (prefix tree)) (map shape_of (prefix_each trees)) rest
-      ∙ ap (λ l. map shape_of (prefix tree) ++ l) (shapes-prefix_each trees rest)
-      ∙ shapes-prefix tree (shapes_each trees rest)
 
 shape-shown : (text : List ℕ) (nodes : List ExprNode)
     → map shape_of (map (node_at text) nodes) ≡ map shape nodes
@@ -145,8 +103,9 @@ pub walk-nodes : (text : List ℕ) (nodes : List ExprNode) (tree : Tree)
     → map (node_at text) nodes ≡ prefix tree
     → walk (map shape nodes) (text_list ∷ []) ≡ all_steps tree
 walk-nodes text nodes tree are =
-    let shown : map shape nodes ≡ shapes tree [] = sym (shape-shown text nodes)
-    ∙ ap (map shape_of) are ∙ sym (append-nil (map shape_of (prefix tree)))
-    ∙ shapes-prefix tree [] in
-    ap (λ l. walk l (text_list ∷ [])) shown ∙ walk-tree tree [] (text_list ∷ [])
-    ∙ ap (steps_of tree) (ends-single tree None [] [])
+    let text_trees = Trees.more tree Trees.none in
+    let shown : map shape nodes ≡ map shape_of (prefix_each text_trees) ++ [] =
+    sym (shape-shown text nodes) ∙ ap (map shape_of) (are ∙ sym (append-nil (prefix tree)))
+    ∙ sym (append-nil (map shape_of (prefix_each text_trees))) in
+    ap (λ l. walk l (text_list ∷ [])) shown
+    ∙ walk-each text_trees [] None 1 (leaves text_trees) [] (count-split text_trees)

@@ -4,16 +4,17 @@ use Rattle.std.proofs.Common.{length, map, drop, get_or, replicate, Option, Some
 use Rattle.std.proofs.Common.{◌∙◌, arith, drop-drop}
 use Rattle.std.specs.Prelude.{if◌then◌else◌, unwrap_or}
 use Rattle.std.specs.List.{slice_get}
-use Rattle.std.proofs.lemmas.List.{append-nil, length-map, map-id}
+use Rattle.std.proofs.lemmas.List.{length-map, map-id}
+use Rattle.std.proofs.lemmas.Option.{get_or_from_slice_get}
 use Rattle.cfgx_grammar.specs.Tree.{Tree, Trees, is_function, is_leaf, asked, asked_by}
-use Rattle.cfgx_grammar.specs.Fold.{first_or}
+use Rattle.cfgx_grammar.specs.Fold.{behind, first_or}
 use Rattle.cfgx_grammar.specs.Filling.{polar, polar_by}
 use Rattle.cfg_expr.specs.nodes.Keeps.{KeepsTree}
 use Rattle.cfg_expr.specs.nodes.Parity.{turned, reach, pass, filled}
 use Rattle.cfg_expr.specs.nodes.Prefix.{node_at, prefix, places}
 use Rattle.cfg_expr.specs.declared.expr.nodes.ExprNode.{ExprNode}
 use Rattle.cfg_expr.proofs.Labels.{leaf_labels, leaf_labels_by, length-leaf_labels}
-use Rattle.cfg_expr.proofs.Labels.{length-leaf_labels_by, leaf_labels-places, read-StandAt}
+use Rattle.cfg_expr.proofs.Labels.{length-leaf_labels_by, read-places}
 use Rattle.cfg_expr.proofs.filling.Passing.{odds, reach_of, reaches-shown, pass-all}
 
 -- whether the leaves stand below an odd number of `not`, in the order in which they are asked
@@ -22,13 +23,6 @@ leaf_odds = leaf_labels (λ odd question. odd) (λ odd func len. odd)
 
 abbrev leaf_odds_by : Bool → (Tree → Bool) → Trees → List Bool
 leaf_odds_by = leaf_labels_by (λ odd question. odd) (λ odd func len. odd)
-
-length-leaf_odds : (odd : Bool) (tree : Tree) → length (leaf_odds odd tree) ≡ length (asked tree)
-length-leaf_odds = length-leaf_labels (λ odd question. odd) (λ odd func len. odd)
-
-length-leaf_odds_by : (odd : Bool) (test : Tree → Bool) (trees : Trees)
-    → length (leaf_odds_by odd test trees) ≡ length (asked_by test trees)
-length-leaf_odds_by = length-leaf_labels_by (λ odd question. odd) (λ odd func len. odd)
 
 filled-append : (these those : List Bool) (answers : List (Option Bool)) (fill : Bool)
     → filled (these ++ those) answers fill
@@ -61,56 +55,54 @@ turned-not fill false = refl
 turned-not true true = refl
 turned-not false true = refl
 
+-- the filling of the members that pass a test
+abbrev FillsBy : Trees → Type 0
+FillsBy trees = (test : Tree → Bool) (odd : Bool) (answers : List (Option Bool)) (fill : Bool)
+    → polar_by test trees answers (turned fill odd)
+    ≡ filled (leaf_odds_by odd test trees) answers fill
+
+polar-members : (trees : Trees) → FillsBy trees → (odd : Bool) (answers : List (Option Bool))
+    (fill : Bool) → polar_by is_function trees answers (turned fill odd)
+    ++ polar_by is_leaf trees (behind (asked_by is_function trees) answers) (turned fill odd)
+    ≡ filled (leaf_odds_by odd is_function trees ++ leaf_odds_by odd is_leaf trees) answers fill
+polar-members trees fills odd answers fill =
+    let n = length (asked_by is_function trees) in
+    filled-parts true (leaf_odds_by odd is_function trees) (leaf_odds_by odd is_leaf trees)
+    _ _ _ n answers fill
+    (length-leaf_labels_by (λ odd question. odd) (λ odd func len. odd) odd is_function trees)
+    (fills is_function odd answers fill) (fills is_leaf odd (drop n answers) fill)
+    (fills is_leaf odd answers fill)
+
 mutual
   polar-filled : (tree : Tree) (odd : Bool) (answers : List (Option Bool)) (fill : Bool)
       → polar tree answers (turned fill odd) ≡ filled (leaf_odds odd tree) answers fill
   polar-filled (Tree.leaf question) odd answers fill = refl
   polar-filled (Tree.all trees) odd answers fill =
-      let n = length (asked_by is_function trees) in
-      filled-parts true (leaf_odds_by odd is_function trees) (leaf_odds_by odd is_leaf trees)
-      _ _ _ n answers fill (length-leaf_odds_by odd is_function trees)
-      (polar_by-filled is_function trees odd answers fill)
-      (polar_by-filled is_leaf trees odd (drop n answers) fill)
-      (polar_by-filled is_leaf trees odd answers fill)
+      polar-members trees (polar_by-filled trees) odd answers fill
   polar-filled (Tree.any trees) odd answers fill =
-      let n = length (asked_by is_function trees) in
-      filled-parts true (leaf_odds_by odd is_function trees) (leaf_odds_by odd is_leaf trees)
-      _ _ _ n answers fill (length-leaf_odds_by odd is_function trees)
-      (polar_by-filled is_function trees odd answers fill)
-      (polar_by-filled is_leaf trees odd (drop n answers) fill)
-      (polar_by-filled is_leaf trees odd answers fill)
+      polar-members trees (polar_by-filled trees) odd answers fill
   polar-filled (Tree.not tree) odd answers fill =
       ap (polar tree answers) (turned-not fill odd) ∙ polar-filled tree (not odd) answers fill
 
-  polar_by-filled : (test : Tree → Bool) (trees : Trees) (odd : Bool)
-      (answers : List (Option Bool)) (fill : Bool)
-      → polar_by test trees answers (turned fill odd)
-      ≡ filled (leaf_odds_by odd test trees) answers fill
-  polar_by-filled test Trees.none odd answers fill = refl
-  polar_by-filled test (Trees.more tree trees) odd answers fill =
+  polar_by-filled : (trees : Trees) → FillsBy trees
+  polar_by-filled Trees.none test odd answers fill = refl
+  polar_by-filled (Trees.more tree trees) test odd answers fill =
       let n = length (asked tree) in
       filled-parts (test tree) (leaf_odds odd tree) (leaf_odds_by odd test trees)
-      _ _ _ n answers fill (length-leaf_odds odd tree)
+      _ _ _ n answers fill
+      (length-leaf_labels (λ odd question. odd) (λ odd func len. odd) odd tree)
       (polar-filled tree odd answers fill)
-      (polar_by-filled test trees odd (drop n answers) fill)
-      (polar_by-filled test trees odd answers fill)
+      (polar_by-filled trees test odd (drop n answers) fill)
+      (polar_by-filled trees test odd answers fill)
 
--- What the pass finds at the places of the leaves.
-
-found : (all : List Bool) (place : ℕ) (odd : Bool) → slice_get all place ≡ Some odd
-    → get_or all place false ≡ odd
-found [] place odd is = absurd (cc)
-found (x ∷ all) zero odd is = cc
-found (x ∷ all) (suc place) odd is = found all place odd is
-
+-- what the pass finds at the places of the leaves
 odds-places : (tree : Tree)
     → map (λ place. get_or (odds false tree) place false) (places 0 tree) ≡ leaf_odds false tree
 odds-places tree =
     let all = odds false tree in
-    read-StandAt all (λ place. get_or all place false) (λ odd. odd) (found all) (places 0 tree)
-    (leaf_odds false tree)
-    (leaf_labels-places (λ odd question. odd) (λ odd func len. odd) false tree all [] [] 0
-    (sym (append-nil all)) refl)
+    read-places (λ odd question. odd) (λ odd func len. odd) all tree
+    (λ place. get_or all place false) (λ odd. odd) refl
+    (λ place odd is. get_or_from_slice_get all place odd false is)
     ∙ map-id (leaf_odds false tree)
 
 module _ (text : List ℕ) (nodes : List ExprNode) (asks : List ℕ) (tree : Tree)

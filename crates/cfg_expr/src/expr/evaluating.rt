@@ -14,7 +14,7 @@ ghost use Rattle.cfg_expr.specs.nodes.Steps.{still_open, text_list};
 ghost use Rattle.cfg_expr.specs.nodes.Steps.{RoomFor, begun, shape};
 ghost use Rattle.cfg_expr.specs.nodes.Steps.{height_behind, steps_at};
 ghost use Rattle.cfg_expr.specs.nodes.Machine.{CanGo, CanTake, Goes, applied, joined, last_of};
-ghost use Rattle.cfg_expr.specs.nodes.Machine.{standing};
+ghost use Rattle.cfg_expr.specs.nodes.Machine.{begin_of, join_of, standing};
 
 mod open_lists;
 
@@ -234,34 +234,49 @@ fn pop_value<T: Logic, A: Allocator>(values: &mut SmallVec<Option<T>, 33, &A>) -
     values.pop().flatten()
 }
 
-/// Takes the last values off, this many, and joins them by `and` from the last one back.
-fn join_all<T: Logic, A: Allocator>(members: usize, values: &mut SmallVec<Option<T>, 33, &A>) -> T
-    ensures value { result
-        ≡ fold (joined T.and) T.top (take members (reverse values.old.items)) }
-    ensures rest { reverse values.new.items ≡ drop members (reverse values.old.items) }
-    ensures capacity { values.new.capacity ≡ values.old.capacity }
-{
-    let mut value = T::top();
-    for _joined in 0..members {
-        value = match pop_value(values) {
-            Some(last) => value.and(last),
-            None => value,
-        };
-    }
-    value
+/// How the values of a function's members are joined.
+#[derive(Clone, Copy)]
+pub(crate) enum Joint {
+    And,
+    Or,
 }
 
-/// Takes the last values off, this many, and joins them by `or` from the last one back.
-fn join_any<T: Logic, A: Allocator>(members: usize, values: &mut SmallVec<Option<T>, 33, &A>) -> T
-    ensures value { result
-        ≡ fold (joined T.or) T.bottom (take members (reverse values.old.items)) }
+impl Joint {
+    /// The value of no members.
+    fn begin<T: Logic>(self) -> T
+        ensures { result ≡ begin_of T.Logic self }
+    {
+        match self {
+            Joint::And => T::top(),
+            Joint::Or => T::bottom(),
+        }
+    }
+
+    fn join<T: Logic>(self, value: T, last: T) -> T
+        ensures { result ≡ join_of T.Logic self value last }
+    {
+        match self {
+            Joint::And => value.and(last),
+            Joint::Or => value.or(last),
+        }
+    }
+}
+
+/// Takes the last values off, this many, and joins them from the last one back.
+fn join_last<T: Logic, A: Allocator>(
+    joint: Joint,
+    members: usize,
+    values: &mut SmallVec<Option<T>, 33, &A>,
+) -> T
+    ensures value { result ≡ fold (joined (join_of T.Logic joint)) (begin_of T.Logic joint)
+        (take members (reverse values.old.items)) }
     ensures rest { reverse values.new.items ≡ drop members (reverse values.old.items) }
     ensures capacity { values.new.capacity ≡ values.old.capacity }
 {
-    let mut value = T::bottom();
+    let mut value = joint.begin();
     for _joined in 0..members {
         value = match pop_value(values) {
-            Some(last) => value.or(last),
+            Some(last) => joint.join(value, last),
             None => value,
         };
     }
@@ -277,8 +292,8 @@ fn apply<T: Logic, A: Allocator>(func: Func, values: &mut SmallVec<Option<T>, 33
 {
     let value = match func {
         Func::Not => pop_value(values).map(|value| value.not()),
-        Func::All(members) => Some(join_all(members, values)),
-        Func::Any(members) => Some(join_any(members, values)),
+        Func::All(members) => Some(join_last(Joint::And, members, values)),
+        Func::Any(members) => Some(join_last(Joint::Or, members, values)),
     };
     values.push_reserved(value);
 }

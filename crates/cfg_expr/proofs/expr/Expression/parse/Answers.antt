@@ -2,74 +2,68 @@
 use Rattle.std.proofs.Common.{[], ◌∷◌, ◌<◌, ◌^◌, ap, ◌∙◌, arith, length, map, subst}
 use Rattle.std.proofs.lemmas.Result.{err_from_is_err_and}
 use Rattle.cfgx_syntax.specs.Stripping.{strip}
-use Rattle.cfg_expr.proofs.Parsed.{Begins-start, Answers-fails, Answers-memory, Keeps-reads}
+use Rattle.cfg_expr.proofs.Parsed.{Begins, Answers-fails, Answers-memory, Keeps-reads}
 use Rattle.cfg_expr.specs.nodes.Measure.{Measures}
 use Rattle.cfg_expr.specs.nodes.Steps.{shape, text_list, walk}
 use Rattle.cfg_expr.proofs.Parsed.{IsAccepted-reads}
 use Rattle.cfg_expr.proofs.evaluated.Valued.{values-fit}
+use Rattle.cfg_expr.proofs.expr.Expression.parse.Given.{Over}
+use Rattle.cfg_expr.proofs.expr.Expression.parse.Goals.{After-read_all}
 use Rattle.cfg_expr.proofs.expr.Expression.parse.Goals as goal
+
+-- the parser starts at the text's start
+begins : (g : Over) (c : After-read_all g) → Begins {A = g.row.A.Denot} (strip c.args.original.now)
+    c.new-lexer.result c.new-parser.result
+begins g c = record {
+  one = c.new-lexer.ensures.one;
+  lexer_is = c.new-lexer.ensures.starts;
+  state_is = c.new-parser.ensures.state;
+  text_is = c.new-parser.ensures.text ∙ c.original-text.ensures
+      ∙ ap (λ l. l.text) c.new-lexer.ensures.starts;
+}
 
 pub returns-in_err-read_all : goal.returns-in_err-read_all
 returns-in_err-read_all g c =
     let p = err_from_is_err_and c.from_residual.result c.from_residual.ensures.1 in
-    let text = strip c.args.original.now in
-    let begins = Begins-start {A = g.row.A.Denot} text c.new-lexer.result c.new-parser.result
-    c.new-lexer.ensures.one c.new-lexer.ensures.starts c.new-parser.ensures.state
-    (c.new-parser.ensures.text ∙ c.original-text.ensures) in
-    rw (p.1, p.2) (Answers-fails {A = g.row.A.Denot} text c.new-lexer.result
-    c.new-parser.result c.read_all.new.self c.in_err-read_all.field-0.0 begins
-    c.in_err-read_all.ensures)
+    rw (p.1, p.2) (Answers-fails c.read_all.new.self c.in_err-read_all.field-0.0
+    (begins g (goal.at.returns-in_err-read_all g c).After-read_all) c.in_err-read_all.ensures)
 
 pub returns-in_err-original : goal.returns-in_err-original
 returns-in_err-original g c =
     let p = err_from_is_err_and c.from_residual-in_err-original.result
     c.from_residual-in_err-original.ensures.1 in
-    rw p.1 (Answers-memory {A = g.row.A.Denot} (strip c.args.original.now) p.0
-    c.new-lexer.ensures.one _ p.2)
+    rw p.1 (Answers-memory (strip c.args.original.now) p.0 c.new-lexer.ensures.one _ p.2)
 
 pub measure-requires : goal.measure-requires
 measure-requires g c =
-    let text = strip c.args.original.now in
-    let begins = Begins-start {A = g.row.A.Denot} text c.new-lexer.result c.new-parser.result
-    c.new-lexer.ensures.one c.new-lexer.ensures.starts c.new-parser.ensures.state
-    (c.new-parser.ensures.text ∙ c.original-text.ensures) in
-    let kept = Keeps-reads {A = g.row.A.Denot} text c.new-lexer.result c.new-parser.result
-    c.read_all.new.self begins c.in_ok-read_all.ensures in
+    let kept = Keeps-reads c.read_all.new.self
+    (begins g (goal.at.measure-requires g c).After-read_all) c.in_ok-read_all.ensures in
     let nodes = c.into_parts-expr.ensures.nodes in
     let fits : length c.read_all.new.self.writer.nodes.items < 2 ^ 64 =
     omega (arith, ap (λ v. length v.items) nodes, c.len-fits.ensures.fits) in
-    rw (c.as_slice.ensures, nodes) (values-fit _ _ _ kept fits)
+    rw (c.as_slice.ensures, nodes) (values-fit kept fits)
 
 pub returns-in_err-room : goal.returns-in_err-room
 returns-in_err-room g c =
     let p = err_from_is_err_and c.from_residual-in_err-room.result
     c.from_residual-in_err-room.ensures.1 in
-    rw p.1 (Answers-memory {A = g.row.A.Denot} (strip c.args.original.now) p.0
-    c.new-lexer.ensures.one _ p.2)
+    rw p.1 (Answers-memory (strip c.args.original.now) p.0 c.new-lexer.ensures.one _ p.2)
 
 pub invariant_of-result : goal.invariant_of-result
 invariant_of-result g c =
-    let text = strip c.args.original.now in
-    let begins = Begins-start {A = g.row.A.Denot} text c.new-lexer.result c.new-parser.result
-    c.new-lexer.ensures.one c.new-lexer.ensures.starts c.new-parser.ensures.state
-    (c.new-parser.ensures.text ∙ c.original-text.ensures) in
-    let kept = Keeps-reads {A = g.row.A.Denot} text c.new-lexer.result c.new-parser.result
-    c.read_all.new.self begins c.in_ok-read_all.ensures in
+    let begun = begins g (goal.at.invariant_of-result g c).After-read_all in
     let same = c.in_ok-original.ensures.ok ∙ c.original-text.ensures
-    ∙ ap (λ l. l.text) c.new-lexer.ensures.starts in (
-      rw (same, c.into_parts-expr.ensures.nodes, c.into_parts-expr.ensures.asked) kept,
+    ∙ ap (λ l. l.text) begun.lexer_is in (
+      rw (same, c.into_parts-expr.ensures.nodes, c.into_parts-expr.ensures.asked)
+          (Keeps-reads c.read_all.new.self begun c.in_ok-read_all.ensures),
       subst (λ nodes. Measures (walk (map shape nodes) (text_list ∷ [])) c.in_ok-room.room)
           c.as_slice.ensures c.in_ok-room.ensures,
     )
 
 pub returns : goal.returns
 returns g c =
-    let text = strip c.args.original.now in
-    let begins = Begins-start {A = g.row.A.Denot} text c.new-lexer.result c.new-parser.result
-    c.new-lexer.ensures.one c.new-lexer.ensures.starts c.new-parser.ensures.state
-    (c.new-parser.ensures.text ∙ c.original-text.ensures) in
-    let found = IsAccepted-reads {A = g.row.A.Denot} text c.new-lexer.result c.new-parser.result
-    c.read_all.new.self begins c.in_ok-read_all.ensures in
+    let begun = begins g (goal.at.returns g c).After-read_all in
+    let found = IsAccepted-reads c.read_all.new.self begun c.in_ok-read_all.ensures in
     let same = c.in_ok-original.ensures.ok ∙ c.original-text.ensures
-    ∙ ap (λ l. l.text) c.new-lexer.ensures.starts in
+    ∙ ap (λ l. l.text) begun.lexer_is in
     (same, found.0, found.1)

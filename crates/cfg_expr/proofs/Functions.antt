@@ -1,0 +1,64 @@
+-- The functions `all`, `any` and `not` as one kind of tree: a function and its members.
+use Rattle.std.proofs.Common.{◌≡◌, true, List, ◌∷◌, ◌++◌, sym, refl, ap, ◌∙◌, Some}
+use Rattle.std.proofs.lemmas.List.{append-nil}
+use Rattle.cfgx_grammar.specs.Question.{Question}
+use Rattle.cfgx_grammar.specs.Tree.{Tree, Trees, is_function, is_leaf, count, asked, asked_by}
+use Rattle.cfg_expr.specs.nodes.Prefix.{headed, prefix, prefix_each}
+use Rattle.cfg_expr.specs.nodes.Steps.{Step, asks, leaves, members_of, steps_of, steps_of_each}
+use Rattle.cfg_expr.specs.declared.expr.Func.{Func}
+use Rattle.cfg_expr.specs.declared.expr.Func.TheVariants.{Not, All, Any}
+
+pub data IsFunction : Tree → Func → Trees → Type 0 where
+  all : (trees : Trees) → IsFunction (Tree.all trees) (All (count trees)) trees
+  any : (trees : Trees) → IsFunction (Tree.any trees) (Any (count trees)) trees
+  not : (tree : Tree) → IsFunction (Tree.not tree) Not (Trees.more tree Trees.none)
+
+pub function_is : {tree : Tree} {func : Func} {trees : Trees} → IsFunction tree func trees
+    → is_function tree ≡ true
+function_is (IsFunction.all trees) = refl
+function_is (IsFunction.any trees) = refl
+function_is (IsFunction.not tree) = refl
+
+pub count_is : {tree : Tree} {func : Func} {trees : Trees} → IsFunction tree func trees
+    → members_of func ≡ count trees
+count_is (IsFunction.all trees) = refl
+count_is (IsFunction.any trees) = refl
+count_is (IsFunction.not tree) = refl
+
+pub steps_are : {tree : Tree} {func : Func} {trees : Trees} → IsFunction tree func trees
+    → (steps : List Step) → steps_of tree steps
+    ≡ Step.begin ∷ steps_of_each trees (asks (leaves trees) (Step.finish (Some func) ∷ steps))
+steps_are (IsFunction.all trees) steps = refl
+steps_are (IsFunction.any trees) steps = refl
+steps_are (IsFunction.not tree) steps = refl
+
+pub nodes_are : {tree : Tree} {func : Func} {trees : Trees} → IsFunction tree func trees
+    → prefix tree ≡ headed func (prefix_each trees)
+nodes_are (IsFunction.all trees) = refl
+nodes_are (IsFunction.any trees) = refl
+nodes_are (IsFunction.not tree) = ap (headed Not) (sym (append-nil (prefix tree)))
+
+pub asked_are : {tree : Tree} {func : Func} {trees : Trees} → IsFunction tree func trees
+    → asked tree ≡ asked_by is_function trees ++ asked_by is_leaf trees
+asked_are (IsFunction.all trees) = refl
+asked_are (IsFunction.any trees) = refl
+asked_are (IsFunction.not (Tree.leaf question)) = refl
+asked_are (IsFunction.not tree) = sym (append-nil _ ∙ append-nil (asked tree))
+
+-- what holds of leaves, and of a function where it holds of its members, holds of all trees
+module _ (P : Tree → Type 0) (Q : Trees → Type 0)
+    (leaf : (question : Question) → P (Tree.leaf question))
+    (function : (tree : Tree) (func : Func) (trees : Trees) → IsFunction tree func trees
+    → Q trees → P tree) (none : Q Trees.none)
+    (more : (tree : Tree) (trees : Trees) → P tree → Q trees → Q (Trees.more tree trees)) where
+  mutual
+    by_tree : (tree : Tree) → P tree
+    by_tree (Tree.leaf question) = leaf question
+    by_tree (Tree.all trees) = function _ _ _ (IsFunction.all trees) (by_list trees)
+    by_tree (Tree.any trees) = function _ _ _ (IsFunction.any trees) (by_list trees)
+    by_tree (Tree.not tree) =
+        function _ _ _ (IsFunction.not tree) (more tree Trees.none (by_tree tree) none)
+
+    pub by_list : (trees : Trees) → Q trees
+    by_list Trees.none = none
+    by_list (Trees.more tree trees) = more tree trees (by_tree tree) (by_list trees)
