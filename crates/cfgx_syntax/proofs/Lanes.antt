@@ -1,6 +1,6 @@
 -- What the operations on two planes do in each lane.
 use Rattle.std.proofs.Common.{◌≡◌, ℕ, ◌+◌, ◌-◌, ◌<◌, ◌≤◌, ◌^◌, min, max, true, false}
-use Rattle.std.proofs.Common.{Bool, Option, Some, sym, ap, ◌∙◌, ⊎_elim, arith, ◌==◌}
+use Rattle.std.proofs.Common.{Bool, Option, Some, refl, sym, ap, ◌∙◌, ⊎_elim, arith, ◌==◌}
 use Rattle.std.specs.Prelude.{bit_and, bit_or}
 use Rattle.std.specs.Int.{bit_at}
 use Rattle.std.proofs.lemmas.Bool.{cases_Bool}
@@ -71,29 +71,39 @@ answer t f few =
     Answer.unknown (other t not_yes (omega arith)) (other f not_no (omega arith)))
     (cases_Bool (f == 1))) (cases_Bool (t == 1))
 
+-- what holds of each two of the three answers holds of any two
+each_pair : (P : ℕ → ℕ → ℕ → ℕ → Type 0)
+    → P 1 0 1 0 → P 1 0 0 1 → P 1 0 0 0 → P 0 1 1 0 → P 0 1 0 1 → P 0 1 0 0
+    → P 0 0 1 0 → P 0 0 0 1 → P 0 0 0 0
+    → (t f u g : ℕ) → Answer t f → Answer u g → P t f u g
+each_pair P it _ _ _ _ _ _ _ _ t f u g (Answer.yes p q) (Answer.yes r s) =
+    rw (p, q, r, s) it
+each_pair P _ it _ _ _ _ _ _ _ t f u g (Answer.yes p q) (Answer.no r s) =
+    rw (p, q, r, s) it
+each_pair P _ _ it _ _ _ _ _ _ t f u g (Answer.yes p q) (Answer.unknown r s) =
+    rw (p, q, r, s) it
+each_pair P _ _ _ it _ _ _ _ _ t f u g (Answer.no p q) (Answer.yes r s) =
+    rw (p, q, r, s) it
+each_pair P _ _ _ _ it _ _ _ _ t f u g (Answer.no p q) (Answer.no r s) =
+    rw (p, q, r, s) it
+each_pair P _ _ _ _ _ it _ _ _ t f u g (Answer.no p q) (Answer.unknown r s) =
+    rw (p, q, r, s) it
+each_pair P _ _ _ _ _ _ it _ _ t f u g (Answer.unknown p q) (Answer.yes r s) =
+    rw (p, q, r, s) it
+each_pair P _ _ _ _ _ _ _ it _ t f u g (Answer.unknown p q) (Answer.no r s) =
+    rw (p, q, r, s) it
+each_pair P _ _ _ _ _ _ _ _ it t f u g (Answer.unknown p q) (Answer.unknown r s) =
+    rw (p, q, r, s) it
+
 by_and : (t f u g : ℕ) → Answer t f → Answer u g
     → answer_of (min t u) (max f g) ≡ kleene_and (answer_of t f) (answer_of u g)
-by_and t f u g (Answer.yes a b) (Answer.yes c d) = simp (a, b, c, d)
-by_and t f u g (Answer.yes a b) (Answer.no c d) = simp (a, b, c, d)
-by_and t f u g (Answer.yes a b) (Answer.unknown c d) = simp (a, b, c, d)
-by_and t f u g (Answer.no a b) (Answer.yes c d) = simp (a, b, c, d)
-by_and t f u g (Answer.no a b) (Answer.no c d) = simp (a, b, c, d)
-by_and t f u g (Answer.no a b) (Answer.unknown c d) = simp (a, b, c, d)
-by_and t f u g (Answer.unknown a b) (Answer.yes c d) = simp (a, b, c, d)
-by_and t f u g (Answer.unknown a b) (Answer.no c d) = simp (a, b, c, d)
-by_and t f u g (Answer.unknown a b) (Answer.unknown c d) = simp (a, b, c, d)
+by_and = each_pair (λ t f u g. answer_of (min t u) (max f g)
+    ≡ kleene_and (answer_of t f) (answer_of u g)) refl refl refl refl refl refl refl refl refl
 
 by_or : (t f u g : ℕ) → Answer t f → Answer u g
     → answer_of (max t u) (min f g) ≡ kleene_or (answer_of t f) (answer_of u g)
-by_or t f u g (Answer.yes a b) (Answer.yes c d) = simp (a, b, c, d)
-by_or t f u g (Answer.yes a b) (Answer.no c d) = simp (a, b, c, d)
-by_or t f u g (Answer.yes a b) (Answer.unknown c d) = simp (a, b, c, d)
-by_or t f u g (Answer.no a b) (Answer.yes c d) = simp (a, b, c, d)
-by_or t f u g (Answer.no a b) (Answer.no c d) = simp (a, b, c, d)
-by_or t f u g (Answer.no a b) (Answer.unknown c d) = simp (a, b, c, d)
-by_or t f u g (Answer.unknown a b) (Answer.yes c d) = simp (a, b, c, d)
-by_or t f u g (Answer.unknown a b) (Answer.no c d) = simp (a, b, c, d)
-by_or t f u g (Answer.unknown a b) (Answer.unknown c d) = simp (a, b, c, d)
+by_or = each_pair (λ t f u g. answer_of (max t u) (min f g)
+    ≡ kleene_or (answer_of t f) (answer_of u g)) refl refl refl refl refl refl refl refl refl
 
 by_not : (t f : ℕ) → Answer t f → answer_of f t ≡ kleene_not (answer_of t f)
 by_not t f (Answer.yes a b) = simp (a, b)

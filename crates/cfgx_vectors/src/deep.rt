@@ -125,11 +125,7 @@ fn count_of(alloc: Global, text: Result<String, AllocError>) -> Result<Option<us
 // How many predicates there are to come, and how many came, where these agree.
 fn count(predicates: Predicates<'_>) -> Option<usize> {
     let left = predicates.left();
-    let mut came = 0usize;
-    for _predicate in predicates {
-        came = came.saturating_add(1);
-    }
-    (came == left).then_some(left)
+    (predicates.count() == left).then_some(left)
 }
 
 #[test]

@@ -30,7 +30,7 @@ fn described(alloc: Global, reason: Reason) -> &'static str {
     error.description()
 }
 
-const REASONS: [(Reason, &str, &str); 15] = [
+const REASONS: &[(Reason, &str, &str)] = &[
     (
         Reason::InvalidNot(0),
         "not() takes 1 predicate, found 0",
@@ -88,8 +88,8 @@ const REASONS: [(Reason, &str, &str); 15] = [
 fn each_reason_has_its_texts(rt: HostRuntime) -> Result<(), Fail> {
     for (reason, text, description) in REASONS {
         let shown = format!(in rt.alloc(); "{reason}")?;
-        assert_eq!(rt; shown.as_str(), text);
-        assert_eq!(rt; described(rt.alloc(), reason), description);
+        assert_eq!(rt; shown.as_str(), *text);
+        assert_eq!(rt; described(rt.alloc(), *reason), *description);
     }
     Ok(())
 }

@@ -119,6 +119,7 @@ mod tests {
     use crate::evaluating::terms::Terms;
     use crate::evaluating::{Lawless, questions_of, terms_of, value_with_flags};
     use crate::refusing::{EVERY, Refusing};
+    use cfg_expr::error::Failure;
     use cfg_expr::expr::Logic;
     use cfg_expr::{Expression, Predicate};
     use std::alloc::Global;
@@ -188,22 +189,25 @@ mod tests {
         Ok(())
     }
 
+    // Texts, flags that are set, and the values.
+    const BY_FLAGS: &[(&str, &[&str], bool)] = &[
+        ("all(a, not(test))", &["a"], true),
+        ("all(a, not(test))", &["test"], false),
+        ("any(a, b)", &["c", "b"], true),
+        ("any(a, feature = \"b\")", &["b", "feature"], false),
+        ("all(a, b)", &["a"], false),
+    ];
+
+    // The value of the text with these flags.
+    fn value_by(alloc: Global, text: &str, flags: &[&str]) -> Result<bool, Failure> {
+        let expression = Expression::parse(alloc, text)?;
+        Ok(value_with_flags(alloc, &expression, flags)?)
+    }
+
     #[test]
     fn values_by_a_list_of_flags(rt: HostRuntime) -> Result<(), Fail> {
-        let rows: [(&str, &[&str], bool); 5] = [
-            ("all(a, not(test))", &["a"], true),
-            ("all(a, not(test))", &["test"], false),
-            ("any(a, b)", &["c", "b"], true),
-            ("any(a, feature = \"b\")", &["b", "feature"], false),
-            ("all(a, b)", &["a"], false),
-        ];
-        for (text, flags, wanted) in rows {
-            let expression = Expression::parse(rt.alloc(), text)?;
-            assert_eq!(rt;
-                value_with_flags(rt.alloc(), &expression, flags)?,
-                wanted,
-                "{text}"
-            );
+        for (text, flags, wanted) in BY_FLAGS {
+            assert_eq!(rt; value_by(rt.alloc(), text, flags)?, *wanted, "{text}");
         }
         Ok(())
     }
