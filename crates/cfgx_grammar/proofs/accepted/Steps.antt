@@ -394,7 +394,8 @@ module _ {W M L : Type 0} {builder : Builder W M L} where
   Steps-step s t item steps =
       let (may, taken) = allowed (takes s.last (kind_of item.token))
       (result_map (with_last item.token) (apply s item item.token)) _ t steps in
-      let (applied, does, after) = mapped (with_last item.token) (apply s item item.token) t taken in
+      let (applied, does, after) = mapped (with_last item.token) (apply s item item.token) t taken
+      in
       record { may = may; applied = applied; does = does; after = after }
 
   -- one token keeps what the state says of the tokens
