@@ -378,13 +378,9 @@ module _ {W M L : Type 0} {builder : Builder W M L} (front : List Item) (s : Sta
   root_ends : (len : ℕ) (r : Result (State builder) Refusal) (fault : Option Refusal)
       → s.stack ≡ [] → EndsAs front named s r fault
       → EndAgrees (and_then (one_root len) r) (option_or fault (root_fault len (roots front)))
-  root_ends len (Err refusal) fault is ends =
-      ap (λ o. option_or o (root_fault len (roots front))) ends
-  root_ends len (Ok t) fault is ends =
-      let e = ends.1 in
-      let counted = roots_counted t named t.stack refl (e.height ∙ ap length is) e.levels in
-      subst (EndAgrees (one_root len t)) (sym (ap (λ o. option_or o
-      (root_fault len (roots front))) ends.0 ∙ ap (root_fault len) counted))
+  root_ends len (Err refusal) fault is ends = rw ends refl
+  root_ends len (Ok t) fault is (none, e) =
+      rw (none, roots_counted t named t.stack refl (e.height ∙ ap length is) e.levels)
       (root_agrees len t (t.roots == 0) (t.roots == 1))
 
   end_stack : (len : ℕ) (stack : List (Open M)) → s.stack ≡ stack

@@ -83,13 +83,8 @@ module _ {W M L : Type 0} (builder : Builder W M L) (text : List ℕ) (items : L
   whole_by : (r : Result (State builder) Refusal) → Scanned items r
       → EndAgrees (and_then (ended_as text (lexical text ending)) r)
       (first_fault text items ending)
-  whole_by (Err refusal) scanned = ap (λ o. option_or o
-      (option_or (lexical text ending) (end_fault (length text) items))) scanned
-  whole_by (Ok t) scanned =
-      subst (EndAgrees (ended_as text (lexical text ending) t))
-      (sym (ap (λ o. option_or o
-      (option_or (lexical text ending) (end_fault (length text) items))) scanned.0))
-      (at_end (lexical text ending) t scanned.1)
+  whole_by (Err refusal) scanned = rw scanned refl
+  whole_by (Ok t) scanned = rw scanned.0 (at_end (lexical text ending) t scanned.1)
 
   pub whole_agrees : EndAgrees (answer_from (initial {builder = builder}) text items ending)
       (first_fault text items ending)
