@@ -1,6 +1,6 @@
 -- What was counted was written: each step keeps it.
 use Rattle.std.proofs.Common.{◌≡◌, ℕ, suc, ◌+◌, ◌-◌, ◌≤◌, List, [], ◌∷◌, length, Option, Some, None}
-use Rattle.std.proofs.Common.{Ok, sym, refl, ap, subst, arith, length-take}
+use Rattle.std.proofs.Common.{Ok, sym, refl, subst, arith, length-take}
 use Rattle.std.proofs.lemmas.List.{length_push, length-set}
 use Rattle.cfgx_syntax.specs.Token.{Token}
 use Rattle.cfgx_syntax.specs.Items.{Item}
@@ -83,27 +83,24 @@ IsHeld-closed t (top ∷ rest) is h =
           (AreMarked-top rest _ _ one_more (λ f. refl) marks.2);
     }
 
-IsHeld-parens : (s : State) (place : ℕ) (stack : List Open) → s.stack ≡ stack → IsHeld s
-    → IsHeld (record s { stack = over_top (with_parens place) stack })
-IsHeld-parens s place [] is h = record {
-  counts = omega (
-    arith,
-    ap counted_in is,
-    h.counts,
-  );
-  marks = tt;
-}
-IsHeld-parens s place (top ∷ rest) is h = record {
-  counts = omega (arith, ap counted_in is, h.counts);
-  marks = subst (λ l. AreMarked l (length s.written.nodes) (length s.written.leaves)) is h.marks;
+counted-parens : (place : ℕ) (stack : List Open)
+    → counted_in (over_top (with_parens place) stack) ≡ counted_in stack
+counted-parens place [] = refl
+counted-parens place (top ∷ rest) = refl
+
+IsHeld-parens : (s : State) (place : ℕ) → IsHeld s
+    → IsHeld (record s { stack = over_top (with_parens place) s.stack })
+IsHeld-parens s place h = record {
+  counts = omega (arith, counted-parens place s.stack, h.counts);
+  marks = AreMarked-top s.stack _ _ (with_parens place) (λ top. refl) h.marks;
 }
 
 IsHeld-applied : (s u : State) (item : Item) (token : Token) → apply s item token ≡ Ok u → IsHeld s
     → IsHeld u
-IsHeld-applied s u item (Token.key text) does h = let same =
-    ok_same _ u does in subst IsHeld same (record { counts = h.counts; marks = h.marks })
-IsHeld-applied s u item (Token.value text) does h = let same =
-    ok_same _ u does in subst IsHeld same (record { counts = h.counts; marks = h.marks })
+IsHeld-applied s u item (Token.key text) does h =
+    subst IsHeld (ok_same _ u does) (record { counts = h.counts; marks = h.marks })
+IsHeld-applied s u item (Token.value text) does h =
+    subst IsHeld (ok_same _ u does) (record { counts = h.counts; marks = h.marks })
 IsHeld-applied s u item Token.equals does h = subst IsHeld (ok_same s u does) h
 IsHeld-applied s u item Token.all does h = subst IsHeld (ok_same _ u does)
     (IsHeld-opened s Function.all item h)
@@ -112,7 +109,7 @@ IsHeld-applied s u item Token.any does h = subst IsHeld (ok_same _ u does)
 IsHeld-applied s u item Token.not does h = subst IsHeld (ok_same _ u does)
     (IsHeld-opened s Function.not item h)
 IsHeld-applied s u item Token.open_paren does h = subst IsHeld (ok_same _ u does)
-    (IsHeld-parens s item.start s.stack refl h)
+    (IsHeld-parens s item.start h)
 IsHeld-applied s u item Token.close_paren does h =
     let c = Closes-stack s u item s.stack refl does in
     subst IsHeld c.closed (IsHeld-closed c.settled c.settled.stack refl

@@ -1,4 +1,5 @@
--- The parser as a function over tokens. Internal: no public contract names it.
+-- What the parser's functions keep and answer, by the parser as a function. Internal: no public
+-- contract names it.
 pub mod Bounded
 pub mod Fields
 pub mod Parser

@@ -17,8 +17,9 @@ module _ {W M L : Type 0} {builder : Builder W M L} (text : List ℕ) where
   Continues-start from s = record { rest_of = λ items ending come. (items, come, refl) }
 
   -- at the token that comes next, the answer is what its step leads to
-  at_token : (from place : ℕ) (s t : State builder) (item : Item) (r : Result (State builder) Refusal)
-      → Continues from s place t → Stands text place item → step t item ≡ r
+  at_token : (from place : ℕ) (s t : State builder) (item : Item)
+      (r : Result (State builder) Refusal) → Continues from s place t → Stands text place item
+      → step t item ≡ r
       → (items : List Item) (ending : Ending) → ItemsFrom text from items ending
       → (rest : List Item) × ItemsFrom text item.end rest ending
       × (answer_from s text items ending

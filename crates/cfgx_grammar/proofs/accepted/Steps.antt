@@ -9,8 +9,7 @@ use Rattle.std.proofs.lemmas.List.{append-nil}
 use Rattle.std.proofs.lemmas.Bool.Decides.{Decides-eqb}
 use Rattle.cfgx_syntax.specs.Token.{Token}
 use Rattle.cfgx_syntax.specs.Items.{Item}
-use Rattle.cfgx_syntax.specs.Error.{Refusal, empty, multiple_root_predicates}
-use Rattle.cfgx_grammar.specs.FirstFault.{refusal, word_of, lacks_value}
+use Rattle.cfgx_grammar.specs.FirstFault.{word_of, lacks_value}
 use Rattle.cfgx_grammar.specs.Tree.{Tree}
 use Rattle.cfgx_grammar.specs.Grammar.{IsItem, IsTree}
 use Rattle.cfgx_grammar.specs.Neighbours.{Kind, kind_of, takes}
@@ -66,11 +65,21 @@ IsClosed-list Function.not list count full room =
 abbrev pub tokens_of : List Item → List Token
 tokens_of items = map (λ item. item.token) items
 
--- what a step that succeeds has done
+-- what went well, part by part
 mapped : {A B E : Type 0} (f : A → B) (r : Result A E) (u : B) → result_map f r ≡ Ok u
     → (t : A) × (r ≡ Ok t) × (f t ≡ u)
 mapped f (Ok t) u e = (t, refl, ok_same (f t) u e)
 mapped f (Err e) u is = absurd (cc)
+
+allowed : {A E : Type 0} (b : Bool) (r : Result A E) (e : E) (u : A)
+    → (if b then r else Err e) ≡ Ok u → (b ≡ true) × (r ≡ Ok u)
+allowed true r e u is = (refl, is)
+allowed false r e u is = absurd (cc)
+
+not_refused : {A E : Type 0} (b : Bool) (r : Result A E) (e : E) (u : A)
+    → (if b then Err e else r) ≡ Ok u → (b ≡ false) × (r ≡ Ok u)
+not_refused false r e u is = (refl, is)
+not_refused true r e u is = absurd (cc)
 
 pub ran : {A B E : Type 0} (r : Result A E) (f : A → Result B E) (u : B) → and_then f r ≡ Ok u
     → (t : A) × (r ≡ Ok t) × (f t ≡ Ok u)
@@ -339,28 +348,23 @@ module _ {W M L : Type 0} {builder : Builder W M L} where
     pub ends : predicate_ended s ≡ Ok settled
     pub closed : function_ended settled.stack settled ≡ u
 
-  Closes-if : (s u : State builder) (item : Item) (top : Open M) (rest : List (Open M)) (b : Bool)
-      (refusal : Refusal) → s.stack ≡ top ∷ rest
-      → has_room top.function (member_count top s.pending) ≡ b
-      → (if b then result_map (λ t. function_ended t.stack t) (predicate_ended s)
-      else Err refusal) ≡ Ok u → Closes s u item
-  Closes-if s u item top rest false refusal stack room does = absurd (cc)
-  Closes-if s u item top rest true refusal stack room does =
-      let m = mapped (λ t. function_ended t.stack t) (predicate_ended s) u does in
-      record {
-        top = top;
-        rest = rest;
-        settled = m.0;
-        stack_is = stack;
-        room = room;
-        ends = m.1;
-        closed = m.2;
-      }
-
   pub Closes-stack : (s u : State builder) (item : Item) (stack : List (Open M)) → s.stack ≡ stack
       → closed_by s item stack ≡ Ok u → Closes s u item
   Closes-stack s u item [] is does = absurd (cc)
-  Closes-stack s u item (top ∷ rest) is does = Closes-if s u item top rest _ _ is refl does
+  Closes-stack s u item (top ∷ rest) is does =
+      let (room, closes) = allowed (has_room top.function (member_count top s.pending))
+      (result_map (λ t. function_ended t.stack t) (predicate_ended s)) _ u does in
+      let (settled, ends, closed) = mapped (λ t. function_ended t.stack t) (predicate_ended s) u
+      closes in
+      record {
+        top = top;
+        rest = rest;
+        settled = settled;
+        stack_is = is;
+        room = room;
+        ends = ends;
+        closed = closed;
+      }
 
   Reads-close : (s u : State builder) (tokens : List Token) (item : Item)
       → takes s.last Kind.closing ≡ true → Reads s.last s tokens
@@ -386,17 +390,13 @@ module _ {W M L : Type 0} {builder : Builder W M L} where
     pub does : apply s item item.token ≡ Ok applied
     pub after : with_last item.token applied ≡ t
 
-  Steps-if : (s t : State builder) (item : Item) (b : Bool) (refusal : Refusal)
-      → takes s.last (kind_of item.token) ≡ b
-      → (if b then result_map (with_last item.token) (apply s item item.token)
-      else Err refusal) ≡ Ok t → Steps s t item
-  Steps-if s t item false refusal may does = absurd (cc)
-  Steps-if s t item true refusal may does =
-      let m = mapped (with_last item.token) (apply s item item.token) t does in
-      record { may = may; applied = m.0; does = m.1; after = m.2 }
-
   pub Steps-step : (s t : State builder) (item : Item) → step s item ≡ Ok t → Steps s t item
-  Steps-step s t item steps = Steps-if s t item _ _ refl steps
+  Steps-step s t item steps =
+      let (may, taken) = allowed (takes s.last (kind_of item.token))
+      (result_map (with_last item.token) (apply s item item.token)) _ t steps in
+      let (applied, does, after) = mapped (with_last item.token) (apply s item item.token) t taken
+      in
+      record { may = may; applied = applied; does = does; after = after }
 
   -- one token keeps what the state says of the tokens
   module _ (s u : State builder) (tokens : List Token) (start end : ℕ) where
@@ -455,39 +455,32 @@ module _ {W M L : Type 0} {builder : Builder W M L} where
       Settled-close last s t tokens refl reads ends
 
   -- what the end of the text has found
-  pub record Concludes (s u : State builder) : Type 0 where
+  pub record Concludes (s : State builder) : Type 0 where
     pub settled : State builder
     pub closed : s.stack ≡ []
     pub ends : predicate_ended s ≡ Ok settled
     pub whole : lacks_value s.last ≡ false
     pub one : settled.roots ≡ 1
-    pub written : u ≡ record settled { written = builder.root_ended settled.written }
-
-  one_found : (len : ℕ) (s u : State builder) (a b : Bool) → s.roots == 0 ≡ a → s.roots == 1 ≡ b
-      → (if a then Err (refusal empty 0 len) else if b then Ok (record s {
-        written = builder.root_ended s.written;
-      }) else Err (refusal multiple_root_predicates 0 len)) ≡ Ok u
-      → (s.roots ≡ 1) × (u ≡ record s { written = builder.root_ended s.written })
-  one_found len s u true b p q e = absurd (cc)
-  one_found len s u false true p q e = ((Decides-eqb s.roots 1).0 q, (cc))
-  one_found len s u false false p q e = absurd (cc)
 
   Concludes-stack : (len : ℕ) (s u : State builder) (stack : List (Open M)) → s.stack ≡ stack
-      → lacks_value s.last ≡ false → concluded_by len s stack ≡ Ok u → Concludes s u
+      → lacks_value s.last ≡ false → concluded_by len s stack ≡ Ok u → Concludes s
   Concludes-stack len s u (top ∷ rest) is whole e = absurd (cc)
   Concludes-stack len s u [] is whole e =
-      let r = ran (predicate_ended s) (one_root len) u e in
-      let one = one_found len r.0 u _ _ refl refl r.2 in
-      record { settled = r.0; closed = is; ends = r.1; whole = whole; one = one.0; written = one.1 }
+      let (settled, ends, rooted) = ran (predicate_ended s) (one_root len) u e in
+      let (some, found) = not_refused (settled.roots == 0) _ _ u rooted in
+      let (one, done) = allowed (settled.roots == 1) _ _ u found in
+      record {
+        settled = settled;
+        closed = is;
+        ends = ends;
+        whole = whole;
+        one = (Decides-eqb settled.roots 1).0 one;
+      }
 
-  Concludes-if : (len : ℕ) (s u : State builder) (b : Bool) (refusal : Refusal)
-      → lacks_value s.last ≡ b → (if b then Err refusal else concluded_by len s s.stack) ≡ Ok u
-      → Concludes s u
-  Concludes-if len s u true refusal is e = absurd (cc)
-  Concludes-if len s u false refusal is e = Concludes-stack len s u s.stack refl is e
-
-  pub Concludes-conclude : (len : ℕ) (s u : State builder) → conclude len s ≡ Ok u → Concludes s u
-  Concludes-conclude len s u e = Concludes-if len s u _ _ refl e
+  pub Concludes-conclude : (len : ℕ) (s u : State builder) → conclude len s ≡ Ok u → Concludes s
+  Concludes-conclude len s u e =
+      let (whole, concludes) = not_refused (lacks_value s.last) (concluded_by len s s.stack) _ u e
+      in Concludes-stack len s u s.stack refl whole concludes
 
   -- the stack stays empty
   pub stack_ended : (s t : State builder) → s.stack ≡ [] → predicate_ended s ≡ Ok t

@@ -135,8 +135,9 @@ module _ (front : List Item) (item : Item) where
   less_high height (inl other) = inl other
   less_high height (inr deeper) = inr (omega (arith, deeper))
 
-  pub Levels-same : {M : Type 0} (roots going : ℕ) (stack : List (Open M)) → length stack ≤ depth more
-      → AddsNothing (length stack) → Levels front roots false stack going
+  pub Levels-same : {M : Type 0} (roots going : ℕ) (stack : List (Open M))
+      → length stack ≤ depth more → AddsNothing (length stack)
+      → Levels front roots false stack going
       → Levels more roots false stack going
   Levels-same roots going [] deep adds levels =
       same_count 0 0 0 (omega arith) adds ∙ omega arith ∙ levels
@@ -167,8 +168,8 @@ module _ (front : List Item) (item : Item) where
   )
 
   -- the token is the `(` of the innermost function
-  pub Levels-open : {M : Type 0} (roots going : ℕ) (stack : List (Open M)) → length stack ≤ depth more
-      → is_kind Kind.item (kind_of item.token) ≡ false → Levels front roots true stack going
+  pub Levels-open : {M : Type 0} (roots going : ℕ) (stack : List (Open M))
+      → length stack ≤ depth more → is_kind Kind.item (kind_of item.token) ≡ false → Levels front roots true stack going
       → Levels more roots false (over_top (with_parens item.start) stack) going
   Levels-open roots going [] deep other levels =
       members_at_other front item 0 0 other ∙ levels

@@ -165,7 +165,8 @@ module _ {W M L : Type 0} {builder : Builder W M L} where
   pub Matches-initial : Matches [] (initial {builder = builder})
   Matches-initial = record { last = refl; pending = refl; balance = refl; levels = refl }
 
-  pub depth_is : (front : List Item) (s : State builder) → Matches front s → depth front ≡ length s.stack
+  pub depth_is : (front : List Item) (s : State builder) → Matches front s
+      → depth front ≡ length s.stack
   depth_is front s m = omega (arith, m.balance)
 
   -- The predicate that ends.
@@ -177,12 +178,13 @@ module _ {W M L : Type 0} {builder : Builder W M L} where
     pub levels : Levels front t.roots is_named t.stack 0
 
   -- it ends well where the tokens show no fault of it, and otherwise with that fault
-  abbrev pub EndsAs : List Item → Bool → State builder → Result (State builder) Refusal → Option Refusal → Type 0
+  abbrev pub EndsAs : List Item → Bool → State builder → Result (State builder) Refusal
+      → Option Refusal → Type 0
   EndsAs front is_named s (Ok t) fault = (fault ≡ None) × Ended front is_named s t
   EndsAs front is_named s (Err refusal) fault = fault ≡ Some refusal
 
-  class_ends : (front : List Item) (is_named : Bool) (s : State builder) (p : Pending) (class : Class)
-      → Levels front s.roots is_named s.stack 1
+  class_ends : (front : List Item) (is_named : Bool) (s : State builder) (p : Pending)
+      (class : Class) → Levels front s.roots is_named s.stack 1
       → EndsAs front is_named s (result_map (leaf_ended s) (located_class builder p class))
       (class_fault p class)
   class_ends front is_named s p (Class.is question) levels = (
@@ -195,8 +197,8 @@ module _ {W M L : Type 0} {builder : Builder W M L} where
   )
   class_ends front is_named s p (Class.refused cause part) levels = refl
 
-  pending_ends : (front : List Item) (is_named : Bool) (s : State builder) (pending : Option Pending)
-      → s.pending ≡ pending → Levels front s.roots is_named s.stack (going pending)
+  pending_ends : (front : List Item) (is_named : Bool) (s : State builder)
+      (pending : Option Pending) → s.pending ≡ pending → Levels front s.roots is_named s.stack (going pending)
       → EndsAs front is_named s (ended_by s pending)
       (option_and_then (λ p. class_fault p (class_of p)) pending)
   pending_ends front is_named s None is levels =

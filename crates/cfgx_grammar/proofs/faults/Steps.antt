@@ -13,7 +13,8 @@ use Rattle.cfgx_syntax.specs.Error.{Refusal, unexpected}
 use Rattle.cfgx_syntax.specs.Error.{invalid_not, empty, multiple_root_predicates}
 use Rattle.cfgx_grammar.specs.Neighbours.{Kind, kind_of, is_kind, next, expected, takes}
 use Rattle.cfgx_grammar.specs.FirstFault.{depth, depth_at, innermost, members, roots, members_at}
-use Rattle.cfgx_grammar.specs.FirstFault.{Word, word_of, with_value, names_function, closes, last_token}
+use Rattle.cfgx_grammar.specs.FirstFault.{Word, word_of, with_value, names_function, closes}
+use Rattle.cfgx_grammar.specs.FirstFault.{last_token}
 use Rattle.cfgx_grammar.specs.FirstFault.{predicate_fault, count_fault, not_fault, fault_by}
 use Rattle.cfgx_grammar.specs.FirstFault.{fault_behind, unclosed_fault, open_fault, root_fault}
 use Rattle.cfgx_grammar.specs.FirstFault.{end_fault, refusal, lacks_value}
@@ -101,32 +102,27 @@ module _ {W M L : Type 0} {builder : Builder W M L} (front : List Item) (s : Sta
         → option_and_then (not_fault front close) (innermost front)
         ≡ (if has_room top.function (member_count top s.pending) then None
         else Some (refusal (invalid_not (member_count top s.pending)) top.start close.end))
-    close_fault_is close = ap (option_and_then (not_fault front close)) innermost_is
-        ∙ ap (option_and_then (λ name. count_fault name (members front level.place) close))
-        level.opened.stands
-        ∙ ap (λ n. count_fault level.opened.name n close) members_are
-        ∙ room_fault top.function level.opened.name close top.start
-        (member_count top s.pending) level.opened.named level.opened.starts
+    close_fault_is close = rw (innermost_is, level.opened.stands, members_are)
+        (room_fault top.function level.opened.name close top.start
+        (member_count top s.pending) level.opened.named level.opened.starts)
 
     -- it stays open
     unclosed_is : (len : ℕ) (b : Bool) → HasParens b front top.parens level.place
         → unclosed_fault len level.opened.name (slice_get front (level.place + 1))
         ≡ unclosed len top top.parens
-    unclosed_is len false entered = ap (unclosed_fault len level.opened.name) entered.stands
-        ∙ ap (unclosed len top) (sym entered.noted)
-    unclosed_is len true last = ap (unclosed_fault len level.opened.name)
-        (ap (slice_get front) last.last ∙ slice_get_past front)
-        ∙ ap (λ start. refusal (unexpected (codes "(" ∷ [])) start level.opened.name.end)
-        level.opened.starts
-        ∙ ap (λ end. refusal (unexpected (codes "(" ∷ [])) top.start end) level.opened.ends
-        ∙ ap (unclosed len top) (sym last.noted)
+    unclosed_is len false entered = rw (entered.stands, entered.noted) refl
+    unclosed_is len true last = rw (
+      last.last,
+      slice_get_past front,
+      level.opened.starts,
+      level.opened.ends,
+      last.noted,
+    ) refl
 
     open_fault_is : (len : ℕ) → option_and_then (open_fault len front) (innermost front)
         ≡ Some (unclosed len top top.parens)
-    open_fault_is len = ap (option_and_then (open_fault len front)) innermost_is
-        ∙ ap (option_map (λ name. unclosed_fault len name (slice_get front (level.place + 1))))
-        level.opened.stands
-        ∙ ap Some (unclosed_is len named level.parens)
+    open_fault_is len = rw (innermost_is, level.opened.stands)
+        (ap Some (unclosed_is len named level.parens))
 
   -- the levels, by whether a name is the last token
   levels_of : (b : Bool) → named ≡ b → Levels front s.roots b s.stack (going s.pending)
@@ -148,8 +144,8 @@ module _ {W M L : Type 0} {builder : Builder W M L} (front : List Item) (s : Sta
 
     -- what the token leaves, by what it says of its own
     matched : (token : Token) (t : State builder) (b : Bool) (w : ℕ) → t.last ≡ Some token
-        → names_function token ≡ b → t.pending ≡ begun_token (at token) (reverse front) token → going t.pending ≡ w
-        → balanced token (length t.stack) → Levels (more token) t.roots b t.stack w
+        → names_function token ≡ b → t.pending ≡ begun_token (at token) (reverse front) token
+        → going t.pending ≡ w → balanced token (length t.stack) → Levels (more token) t.roots b t.stack w
         → Matches (more token) t
     matched token t b w last is pending goes balance levels = record {
       last = last ∙ sym (last_more front (at token));
@@ -169,14 +165,14 @@ module _ {W M L : Type 0} {builder : Builder W M L} (front : List Item) (s : Sta
 
     -- a token that neither opens nor closes a function and begins no item
     stays : (token : Token) (t : State builder) (w : ℕ) → t.last ≡ Some token
-        → names_function token ≡ false → closes token ≡ false → is_kind Kind.item (kind_of token) ≡ false
-        → length t.stack ≡ length s.stack
+        → names_function token ≡ false → closes token ≡ false
+        → is_kind Kind.item (kind_of token) ≡ false → length t.stack ≡ length s.stack
         → t.pending ≡ begun_token (at token) (reverse front) token → going t.pending ≡ w
         → Levels front t.roots false t.stack w → Matches (more token) t
     stays token t w last no_name no_close other height pending goes levels =
         let balance = ap (λ n. closings (more token) + n) height ∙ kept token no_name no_close in
-        matched token t false w last no_name pending goes balance (Levels-same front (at token) t.roots w
-        t.stack (omega (arith, balance)) (inl other) levels)
+        matched token t false w last no_name pending goes balance (Levels-same front (at token)
+        t.roots w t.stack (omega (arith, balance)) (inl other) levels)
 
     key_step : (text : List ℕ) → takes (last_token front) Kind.item ≡ true
         → Agrees (more (Token.key text)) (result_map (with_last (Token.key text))
@@ -382,13 +378,9 @@ module _ {W M L : Type 0} {builder : Builder W M L} (front : List Item) (s : Sta
   root_ends : (len : ℕ) (r : Result (State builder) Refusal) (fault : Option Refusal)
       → s.stack ≡ [] → EndsAs front named s r fault
       → EndAgrees (and_then (one_root len) r) (option_or fault (root_fault len (roots front)))
-  root_ends len (Err refusal) fault is ends =
-      ap (λ o. option_or o (root_fault len (roots front))) ends
-  root_ends len (Ok t) fault is ends =
-      let e = ends.1 in
-      let counted = roots_counted t named t.stack refl (e.height ∙ ap length is) e.levels in
-      subst (EndAgrees (one_root len t)) (sym (ap (λ o. option_or o
-      (root_fault len (roots front))) ends.0 ∙ ap (root_fault len) counted))
+  root_ends len (Err refusal) fault is ends = rw ends refl
+  root_ends len (Ok t) fault is (none, e) =
+      rw (none, roots_counted t named t.stack refl (e.height ∙ ap length is) e.levels)
       (root_agrees len t (t.roots == 0) (t.roots == 1))
 
   end_stack : (len : ℕ) (stack : List (Open M)) → s.stack ≡ stack

@@ -1,15 +1,15 @@
 -- What the steps answer for all tokens of a text is its first fault, or none.
 use Rattle.std.proofs.Common.{◌≡◌, ◌⊎◌, inl, inr, ℕ, ◌<◌, ◌≤◌, List, [], ◌∷◌, ◌++◌}
 use Rattle.std.proofs.Common.{length}
-use Rattle.std.proofs.Common.{take, Option, Some, None, Result, Ok, Err, sym, refl, ap, ◌∙◌, subst}
+use Rattle.std.proofs.Common.{Option, Some, None, Result, Ok, Err, sym, refl, ap, ◌∙◌, subst}
 use Rattle.std.proofs.Common.{arith, append_assoc, length-append, take_at}
-use Rattle.std.specs.Prelude.{slice_get, option_and_then}
 use Rattle.std.specs.Option.{option_or}
 use Rattle.std.proofs.lemmas.Bool.{cases_lt}
 use Rattle.std.proofs.lemmas.List.{append-nil}
 use Rattle.cfgx_syntax.specs.Items.{Item, Ending, lexical}
 use Rattle.cfgx_syntax.specs.Error.{Refusal}
-use Rattle.cfgx_grammar.specs.FirstFault.{first_below, fault_behind, fault_at, end_fault, first_fault}
+use Rattle.cfgx_grammar.specs.FirstFault.{first_below, fault_behind, fault_at, end_fault}
+use Rattle.cfgx_grammar.specs.FirstFault.{first_fault}
 use Rattle.cfgx_grammar.proofs.faults.Counting.{slice_get_next, length_more, first_below-none}
 use Rattle.cfgx_grammar.proofs.faults.Counting.{first_below-found}
 use Rattle.cfgx_grammar.specs.parsing.State.{Builder, State, initial}
@@ -30,11 +30,11 @@ HasNone all n = (k : ℕ) → k < n → fault_at all k ≡ None
 module _ (all front : List Item) (item : Item) (items : List Item)
     (is : all ≡ front ++ item ∷ items) where
   fault_next : fault_at all (length front) ≡ fault_behind front item
-  fault_next = ap (λ l. option_and_then (fault_behind (take (length front) l))
-      (slice_get l (length front))) is
-      ∙ ap (λ l. option_and_then (fault_behind l) (slice_get (front ++ item ∷ items)
-      (length front))) (take_at front (item ∷ items) (length front) refl)
-      ∙ ap (option_and_then (fault_behind front)) (slice_get_next front item items)
+  fault_next = rw (
+    is,
+    take_at front (item ∷ items) (length front) refl,
+    slice_get_next front item items,
+  ) refl
 
   next_inside : length front < length all
   next_inside = omega (arith, ap length is, length-append front (item ∷ items))
@@ -49,16 +49,17 @@ module _ (all front : List Item) (item : Item) (items : List Item)
           let same : k ≡ length front = omega (arith, lt, past, length_more front item) in
           ap (fault_at all) same ∙ fault_next ∙ here
 
-  scan_next : {W M L : Type 0} {builder : Builder W M L} (r : Result (State builder) Refusal) → HasNone all (length front)
-      → Agrees (front ++ item ∷ []) r (fault_behind front item)
+  scan_next : {W M L : Type 0} {builder : Builder W M L} (r : Result (State builder) Refusal)
+      → HasNone all (length front) → Agrees (front ++ item ∷ []) r (fault_behind front item)
       → ((t : State builder) → Matches (front ++ item ∷ []) t → fault_behind front item ≡ None
       → Scanned all (run t items)) → Scanned all (and_then (λ t. run t items) r)
   scan_next (Err refusal) none agrees go = first_below-found (fault_at all) (length front)
       (length all) refusal next_inside none (fault_next ∙ agrees)
   scan_next (Ok t) none agrees go = go t agrees.1 agrees.0
 
-scan : {W M L : Type 0} {builder : Builder W M L} (items all front : List Item) (s : State builder) → all ≡ front ++ items → Matches front s
-    → HasNone all (length front) → Scanned all (run s items)
+scan : {W M L : Type 0} {builder : Builder W M L} (items all front : List Item)
+    (s : State builder) → all ≡ front ++ items → Matches front s → HasNone all (length front)
+    → Scanned all (run s items)
 scan [] all front s is m none =
     let same : all ≡ front = is ∙ append-nil front in (
       first_below-none (fault_at all) (length all)
@@ -82,13 +83,8 @@ module _ {W M L : Type 0} (builder : Builder W M L) (text : List ℕ) (items : L
   whole_by : (r : Result (State builder) Refusal) → Scanned items r
       → EndAgrees (and_then (ended_as text (lexical text ending)) r)
       (first_fault text items ending)
-  whole_by (Err refusal) scanned = ap (λ o. option_or o
-      (option_or (lexical text ending) (end_fault (length text) items))) scanned
-  whole_by (Ok t) scanned =
-      subst (EndAgrees (ended_as text (lexical text ending) t))
-      (sym (ap (λ o. option_or o
-      (option_or (lexical text ending) (end_fault (length text) items))) scanned.0))
-      (at_end (lexical text ending) t scanned.1)
+  whole_by (Err refusal) scanned = rw scanned refl
+  whole_by (Ok t) scanned = rw scanned.0 (at_end (lexical text ending) t scanned.1)
 
   pub whole_agrees : EndAgrees (answer_from (initial {builder = builder}) text items ending)
       (first_fault text items ending)
