@@ -3,8 +3,11 @@ use Rattle.std.proofs.Common.{◌≡◌, ◌≤◌, ℕ, suc, List, [], ◌∷�
 use Rattle.std.proofs.Common.{◌∙◌, arith}
 use Rattle.std.specs.Prelude.{fold}
 use Rattle.std.specs.List.{AllZip}
+use Rattle.std.proofs.lemmas.List.{take_all}
 use Rattle.cfgx_grammar.specs.Question.{Question}
-use Rattle.cfgx_grammar.specs.Tree.{asked}
+use Rattle.cfgx_grammar.specs.Answer.{HasOneTree}
+use Rattle.cfgx_grammar.specs.Grammar.{HasTree}
+use Rattle.cfgx_grammar.specs.Tree.{Tree, asked}
 use Rattle.cfgx_grammar.specs.Fold.{Operations, first_or}
 use Rattle.cfgx_grammar.specs.Fold as tree_value
 use Rattle.cfg_expr.specs.Asking.{Asker, Asks, Calls, MayAsk, MayAskEach}
@@ -93,6 +96,25 @@ Calls-taken {F} {T} asker seen otherwise each _ _ _ _
         let same : take (length questions) (seen between) ≡ take (length questions) all =
         ap (take (length questions)) left in
         cc
+
+-- then the value is that over all the answers that are seen at the start, where there are as many as
+-- a tree of the text asks
+pub Evaluates-taken : {F T : Type 0} {logic : Operations T} {asker : Asker F T} {text : List ℕ}
+    {before after : F} {value : T} (seen : F → List T) (otherwise : T) (answers : List T)
+    → Evaluates logic asker text before value after
+    → ((before : F) (question : Question) (given : T) (after : F)
+    → Asks asker before question given after
+    → (given ≡ first_or otherwise (seen before)) × (seen after ≡ drop 1 (seen before)))
+    → seen before ≡ answers
+    → (tree : Tree) × HasTree text tree × (length answers ≡ length (asked tree))
+    → (one : HasOneTree text) × (value ≡ tree_value.fold logic one.tree answers)
+Evaluates-taken {logic} {asker} {before} {after} seen otherwise answers e each are tree =
+    let many : length (seen before) ≡ length (asked e.one.tree) = ap length are ∙ tree.2
+    ∙ ap (λ tree. length (asked tree)) (e.one.only tree.0 tree.1) in
+    let taken = Calls-taken asker seen otherwise each before (asked e.one.tree) e.answers after
+    e.calls (omega arith) in
+    let all = take_all (length (asked e.one.tree)) (seen before) (omega arith) in
+    (e.one, e.value_is ∙ ap (tree_value.fold logic e.one.tree) (taken ∙ all ∙ are))
 
 -- a closure that may be called in every state may be asked any questions
 pub MayAskEach-always : {F T : Type 0} (asker : Asker F T)
