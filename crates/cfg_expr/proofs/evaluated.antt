@@ -4,6 +4,5 @@ pub mod Folding
 pub mod Going
 pub mod Measuring
 pub mod Rooms
-pub mod Sizes
 pub mod Valued
 pub mod Walking

@@ -31,12 +31,7 @@ pub reaches-shown : (text : List ℕ) (nodes : List ExprNode)
     → map reach nodes ≡ map reach_of (map (node_at text) nodes)
 reaches-shown text [] = refl
 reaches-shown text (node.Fn Not len ∷ nodes) = ap (λ l. Some len ∷ l) (reaches-shown text nodes)
-reaches-shown text (node.Fn (All members) len ∷ nodes) =
-    ap (λ l. None ∷ l) (reaches-shown text nodes)
-reaches-shown text (node.Fn (Any members) len ∷ nodes) =
-    ap (λ l. None ∷ l) (reaches-shown text nodes)
-reaches-shown text (node.Predicate predicate ∷ nodes) =
-    ap (λ l. None ∷ l) (reaches-shown text nodes)
+reaches-shown text (first ∷ nodes) = ap (λ l. None ∷ l) (reaches-shown text nodes)
 
 -- One node more.
 
