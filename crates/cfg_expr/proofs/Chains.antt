@@ -18,8 +18,7 @@ pub Calls-length : {F T : Type 0} (asker : Asker F T) (before : F) (questions : 
     (answers : List T) (after : F) → Calls asker before questions answers after
     → length answers ≡ length questions
 Calls-length asker before questions answers after (Calls.none state) = refl
-Calls-length asker _ _ _ _ (Calls.more before question answer between questions answers after
-    asks calls) =
+Calls-length asker _ _ _ _ (Calls.more _ _ _ between questions answers after _ calls) =
     ap suc (Calls-length asker between questions answers after calls)
 
 -- where each call gives what a function says of the question, and leaves the state as it was, the
@@ -31,8 +30,7 @@ pub Calls-map : {F T : Type 0} (asker : Asker F T) (answer : Question → T)
     → Calls asker before questions answers after → answers ≡ map answer questions
 Calls-map asker answer each before questions answers after (Calls.none state) = refl
 Calls-map asker answer each _ _ _ _
-    (Calls.more before question given between questions answers after
-    asks calls) =
+    (Calls.more before question given between questions answers after asks calls) =
     let first = each before question given between asks in
     let others = Calls-map asker answer each between questions answers after calls in
     cc
@@ -47,8 +45,7 @@ pub Calls-AllZip : {F T : Type 0} (asker : Asker F T) (Holds : F → Type 0)
     → Calls asker before questions answers after → AllZip R questions answers
 Calls-AllZip asker Holds R each before questions answers after holds (Calls.none state) = tt
 Calls-AllZip asker Holds R each _ _ _ _ holds
-    (Calls.more before question given between questions answers after
-    asks calls) =
+    (Calls.more before question given between questions answers after asks calls) =
     let first = each before question given between holds asks in
     (first.0, Calls-AllZip asker Holds R each between questions answers after first.1 calls)
 
@@ -62,8 +59,7 @@ pub Calls-folds : {F T X : Type 0} (asker : Asker F T) (seen : F → X) (next : 
     → seen after ≡ fold next (seen before) questions
 Calls-folds asker seen next each before questions answers after (Calls.none state) = refl
 Calls-folds asker seen next each _ _ _ _
-    (Calls.more before question given between questions answers after
-    asks calls) =
+    (Calls.more before question given between questions answers after asks calls) =
     Calls-folds asker seen next each between questions answers after calls
     ∙ ap (λ x. fold next x questions) (each before question given between asks)
 

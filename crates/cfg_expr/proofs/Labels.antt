@@ -19,8 +19,8 @@ module _ {X Y Z : Type 0} (f : X → Z) (g : Y → Z) where
 
   Alike-both : (xs xs' : List X) (ys ys' : List Y) → Alike xs ys → Alike xs' ys'
       → Alike (xs ++ xs') (ys ++ ys')
-  Alike-both xs xs' ys ys' first rest = map-append f xs xs' ∙ ap (λ l. l ++ map f xs') first
-      ∙ ap (λ l. map g ys ++ l) rest ∙ sym (map-append g ys ys')
+  Alike-both xs xs' ys ys' first rest =
+      rw (map-append f xs xs', map-append g ys ys', first, rest)
 
   Alike-if : (b : Bool) (xs : List X) (ys : List Y) → Alike xs ys
       → Alike (if b then xs else []) (if b then ys else [])

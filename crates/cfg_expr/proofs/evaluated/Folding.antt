@@ -136,10 +136,7 @@ module _ {T : Type 0} (logic : Operations T) where
       (enough-front inner own answers enough)
       ∙ run-asks trees (Step.finish func ∷ steps) (on inside values) (behind inner answers)
       (enough-behind inner own answers enough)
-      ∙ ap (λ l. run logic steps (finished logic func l) (behind own (behind inner answers)))
-      (sym (on-append inside (values_by logic is_leaf trees (behind inner answers)) values))
-      ∙ ap (run logic steps (finished logic func (on (arranged_values trees answers) values)))
-      (behind-both inner own answers)
+      ∙ rw (on-append inside, behind-both inner own answers)
 
   run-function : (tree : Tree) (func : Func) (trees : Trees) → IsFunction tree func trees
       → RunsEach trees → RunsTree tree

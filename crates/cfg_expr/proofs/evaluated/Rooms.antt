@@ -46,14 +46,15 @@ length-asked {trees} is =
 abbrev inner : Tree → List Question
 inner tree = if is_function tree then asked tree else []
 
-asked_in-each : (trees : Trees) (steps : List Step) → asked_in (steps_of_each trees steps)
+abbrev Asks : Trees → Type 0
+Asks trees = (steps : List Step) → asked_in (steps_of_each trees steps)
     ≡ length (asked_by is_function trees) + asked_in steps
+
+asked_in-each : (trees : Trees) → Asks trees
 asked_in-each =
     by_list
     (λ tree. (steps : List Step)
-    → asked_in (steps_of tree steps) ≡ length (inner tree) + asked_in steps)
-    (λ trees. (steps : List Step) → asked_in (steps_of_each trees steps)
-    ≡ length (asked_by is_function trees) + asked_in steps)
+    → asked_in (steps_of tree steps) ≡ length (inner tree) + asked_in steps) Asks
     (λ question steps. omega arith)
     (λ tree func trees is each steps. omega (
       arith,
@@ -97,15 +98,17 @@ count-nodes Trees.none = omega arith
 count-nodes (Trees.more tree trees) =
     omega (arith, nodes-each tree trees, some-node tree, count-nodes trees)
 
-values-each : (trees : Trees) (height : ℕ) (steps : List Step)
+abbrev FitsValues : Trees → Type 0
+FitsValues trees = (height : ℕ) (steps : List Step)
     → most_values height (steps_of_each trees steps)
     ≤ max (height + length (prefix_each trees)) (most_values (height + functions trees) steps)
+
+values-each : (trees : Trees) → FitsValues trees
 values-each =
     by_list
     (λ tree. (height : ℕ) (steps : List Step) → most_values height (steps_of tree steps)
     ≤ max (height + length (prefix tree)) (most_values (height + one_if_function tree) steps))
-    (λ trees. (height : ℕ) (steps : List Step) → most_values height (steps_of_each trees steps)
-    ≤ max (height + length (prefix_each trees)) (most_values (height + functions trees) steps))
+    FitsValues
     (λ question. same 1)
     (λ tree func trees is each height steps.
         let counted : one_if_function tree ≡ 1 =
@@ -184,15 +187,15 @@ open-end depth own func steps =
     most_open-asks own (depth + 1) (Step.finish func ∷ steps)
     ∙ ap (λ d. most_open d steps) less
 
-open-each : (trees : Trees) (depth : ℕ) (steps : List Step)
-    → most_open depth (steps_of_each trees steps)
+abbrev FitsOpen : Trees → Type 0
+FitsOpen trees = (depth : ℕ) (steps : List Step) → most_open depth (steps_of_each trees steps)
     ≤ max (depth + functions_in_each trees) (most_open depth steps)
+
+open-each : (trees : Trees) → FitsOpen trees
 open-each =
     by_list
     (λ tree. (depth : ℕ) (steps : List Step) → most_open depth (steps_of tree steps)
-    ≤ max (depth + functions_in tree) (most_open depth steps))
-    (λ trees. (depth : ℕ) (steps : List Step) → most_open depth (steps_of_each trees steps)
-    ≤ max (depth + functions_in_each trees) (most_open depth steps))
+    ≤ max (depth + functions_in tree) (most_open depth steps)) FitsOpen
     (λ question depth steps. omega arith)
     (λ tree func trees is each depth steps. omega (
       arith,
