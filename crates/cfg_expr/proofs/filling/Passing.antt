@@ -163,11 +163,11 @@ mutual
       let others = prefix_each trees in
       rw (
         map-append reach_of own others,
-        append_assoc,
+        append_assoc (map reach_of own) (map reach_of others) rest,
         length-append own others,
         sym (replicate-append-replicate (length own) (length others) false),
-        append_assoc,
-        append_assoc,
+        append_assoc (replicate (length own) false) (replicate (length others) false) flips,
+        append_assoc (odds odd tree),
       ) (pass-tree tree (map reach_of others ++ rest) odd (replicate (length others) false ++ flips)
       ∙ ap (λ l. odds odd tree ++ l) (pass-each trees rest odd flips))
 
