@@ -88,12 +88,8 @@ NamesLeaf-found text (node.Fn func len ∷ nodes) zero question cuts e = absurd 
 NamesLeaf-found text (node.Predicate predicate ∷ nodes) zero question cuts e =
     record { predicate = predicate; stands = refl; cut = cuts.0 }
 NamesLeaf-found text (x ∷ nodes) (suc place) question cuts e =
-    let n = NamesLeaf-found text nodes place question cuts.1 e in record {
-      predicate =
-          n.predicate;
-      stands = n.stands;
-      cut = n.cut;
-    }
+    let n = NamesLeaf-found text nodes place question cuts.1 e in
+    record { predicate = n.predicate; stands = n.stands; cut = n.cut }
 
 NameLeaves-asks : (text : List ℕ) (nodes : List ExprNode) (asks : List ℕ)
     (questions : List Question) → AllByRecursion (NodeHasCut text) nodes

@@ -44,12 +44,13 @@ below-most_values (Step.finish func ∷ steps) height = omega arith
 
 -- the end of a list, counted
 
-pub end-fits : (heights : Heights) (leaves : ℕ) (func : Option Func) (steps : List Step)
-    → needed heights (asks leaves (Step.finish func ∷ steps)) < 2 ^ 64
+pub end-fits : (heights : Heights) (leaves : ℕ) (func : Option Func)
+    → CanCount heights (λ s. asks leaves (Step.finish func ∷ s))
     → (heights.now + leaves < 2 ^ 64) × (height_behind func (heights.now + leaves) < 2 ^ 64)
-end-fits heights leaves func steps fits =
-    let whole = most_values-asks leaves heights.now (Step.finish func ∷ steps) in
-    let behind = below-most_values steps (height_behind func (heights.now + leaves)) in
+end-fits heights leaves func can =
+    let whole = most_values-asks leaves heights.now (Step.finish func ∷ can.0) in
+    let behind = below-most_values can.0 (height_behind func (heights.now + leaves)) in
+    let fits = can.1 in
     (omega arith, omega arith)
 
 pub end-needed : (heights : Heights) (leaves now most : ℕ) (func : Option Func)
