@@ -89,14 +89,10 @@ some-node : (tree : Tree) → 1 ≤ length (prefix tree)
 some-node (Tree.leaf question) = omega arith
 some-node tree = omega arith
 
-nodes-each : (tree : Tree) (trees : Trees) → length (prefix_each (Trees.more tree trees))
-    ≡ length (prefix tree) + length (prefix_each trees)
-nodes-each tree trees = length-append (prefix tree) (prefix_each trees)
-
 count-nodes : (trees : Trees) → count trees ≤ length (prefix_each trees)
 count-nodes Trees.none = omega arith
 count-nodes (Trees.more tree trees) =
-    omega (arith, nodes-each tree trees, some-node tree, count-nodes trees)
+    omega (arith, length-append (prefix tree) (prefix_each trees), some-node tree, count-nodes trees)
 
 abbrev FitsValues : Trees → Type 0
 FitsValues trees = (height : ℕ) (steps : List Step)
@@ -111,36 +107,36 @@ values-each =
     FitsValues
     (λ question. same 1)
     (λ tree func trees is each height steps.
-        let counted : one_if_function tree ≡ 1 =
-        ap (λ b. if b then 1 else 0) (function_is is) in
-        let behind : height_behind (Some func) (height + functions trees + leaves trees)
-        ≡ height + one_if_function tree =
-        omega (arith, count_is is, count-split trees) in
-        omega (
-          arith,
-          ap (most_values height) (steps_are is steps),
-          each height (ending trees (Some func) steps),
-          most_values-asks (leaves trees) (height + functions trees)
-              (Step.finish (Some func) ∷ steps),
-          ap (λ h. most_values h steps) behind,
-          count-split trees,
-          count-nodes trees,
-          ap length (nodes_are is),
-        ))
+    let counted : one_if_function tree ≡ 1 =
+    ap (λ b. if b then 1 else 0) (function_is is) in
+    let behind : height_behind (Some func) (height + functions trees + leaves trees)
+    ≡ height + one_if_function tree =
+    omega (arith, count_is is, count-split trees) in
+    omega (
+      arith,
+      ap (most_values height) (steps_are is steps),
+      each height (ending trees (Some func) steps),
+      most_values-asks (leaves trees) (height + functions trees)
+          (Step.finish (Some func) ∷ steps),
+      ap (λ h. most_values h steps) behind,
+      count-split trees,
+      count-nodes trees,
+      ap length (nodes_are is),
+    ))
     (same 0)
     (λ tree trees first others height steps.
-        let h = height + one_if_function tree in
-        let e : height + (one_if_function tree + functions trees) ≡ h + functions trees =
-        omega arith in
-        omega (
-          arith,
-          first height (steps_of_each trees steps),
-          others h steps,
-          ap (λ h. most_values h steps) e,
-          nodes-each tree trees,
-          count-split (Trees.more tree Trees.none),
-          some-node tree,
-        ))
+    let h = height + one_if_function tree in
+    let e : height + (one_if_function tree + functions trees) ≡ h + functions trees =
+    omega arith in
+    omega (
+      arith,
+      first height (steps_of_each trees steps),
+      others h steps,
+      ap (λ h. most_values h steps) e,
+      length-append (prefix tree) (prefix_each trees),
+      count-split (Trees.more tree Trees.none),
+      some-node tree,
+    ))
   where
     same : (n height : ℕ) (steps : List Step)
         → most_values height steps ≤ max (height + n) (most_values (height + 0) steps)
@@ -156,7 +152,7 @@ values-all tree =
       values-each text 0 (ending text None []),
       most_values-asks (leaves text) (0 + functions text) (Step.finish None ∷ []),
       count-split text,
-      nodes-each tree Trees.none,
+      length-append (prefix tree) [],
       some-node tree,
     )
 
@@ -206,7 +202,7 @@ open-each =
     ))
     (λ depth steps. omega arith)
     (λ tree trees first others depth steps.
-        omega (arith, first depth (steps_of_each trees steps), others depth steps))
+    omega (arith, first depth (steps_of_each trees steps), others depth steps))
 
 open-all : (tree : Tree) → most_open 1 (all_steps tree) ≤ 1 + functions_in tree
 open-all tree =

@@ -29,18 +29,32 @@ impl<A: Allocator> TargetMatcher for TargetInfo<'_, A> {
         ensures { result ≡ meets self.now (target_of tp.now) }
     {
         match tp {
-            TargetPredicate::Abi(abi) => has(self.abi.as_ref().map(|abi| abi.as_str()), "", abi.as_str()),
+            TargetPredicate::Abi(abi) => has(
+                self.abi.as_ref().map(|abi| abi.as_str()),
+                "",
+                abi.as_str(),
+            ),
             TargetPredicate::Arch(arch) => self.arch.as_str() == arch.as_str(),
             TargetPredicate::Endian(endian) => self.endian == *endian,
-            TargetPredicate::Env(env) => has(self.env.as_ref().map(|env| env.as_str()), "", env.as_str()),
+            TargetPredicate::Env(env) => has(
+                self.env.as_ref().map(|env| env.as_str()),
+                "",
+                env.as_str(),
+            ),
             TargetPredicate::Family(family) => self.families.contains(family),
             TargetPredicate::HasAtomic(width) => self.has_atomics.contains(*width),
-            TargetPredicate::Os(os) => has(self.os.as_ref().map(|os| os.as_str()), "none", os.as_str()),
+            TargetPredicate::Os(os) => has(
+                self.os.as_ref().map(|os| os.as_str()),
+                "none",
+                os.as_str(),
+            ),
             TargetPredicate::Panic(panic) => self.panic.as_str() == panic.as_str(),
             TargetPredicate::PointerWidth(bits) => self.pointer_width == *bits,
-            TargetPredicate::Vendor(vendor) => {
-                has(self.vendor.as_ref().map(|vendor| vendor.as_str()), "unknown", vendor.as_str())
-            }
+            TargetPredicate::Vendor(vendor) => has(
+                self.vendor.as_ref().map(|vendor| vendor.as_str()),
+                "unknown",
+                vendor.as_str(),
+            ),
         }
     }
 }

@@ -1,7 +1,4 @@
 //! The definitions, computed on rows whose answers are known from outside, and what no clause says.
-#![tactic(auto, unfolding(cfgx_grammar::specs::Classification::class,
-    cfgx_targets::specs::Endian::endian_named, cfgx_targets::specs::HasAtomic::atomic_named,
-    cfgx_targets::specs::Number::read_below))]
 ghost use Rattle.std.specs.Prelude.{◌≡◌, [], ◌∷◌, codes, true, false, Some, None, Ok, Err};
 ghost use Rattle.cfgx_syntax.specs.Error.{unexpected, invalid_integer, invalid_has_atomic};
 ghost use Rattle.cfgx_syntax.specs.Error.{invalid_not, unclosed_parens, unopened_parens};
@@ -47,6 +44,7 @@ fn trees()
 {}
 
 // Keys that do not begin with `target_`.
+#[tactic(auto, unfolding(cfgx_grammar::specs::Classification::class))]
 fn keys()
     ensures unix { lone (codes "unix") ≡ Class.is (family (codes "unix")) }
     ensures unix_value { given (codes "unix") (codes "x") ≡ bad_value (unexpected []) }
@@ -109,6 +107,7 @@ fn neighbours()
 
 // What the steps of the parser answer, with the place of each fault. The fault of `feature`, which
 // lacks its value, comes behind that of `not`, which has two members.
+#[tactic(auto, unfolding(cfgx_grammar::specs::Classification::class))]
 fn steps()
     ensures single { reads (codes "all(a)") single_items ≡ Ok single_read }
     ensures unclosed { reads (codes "all(a") open_items ≡ Err (refusal unclosed_parens 3 5) }
@@ -123,6 +122,7 @@ fn steps()
 {}
 
 // The first faults of texts, worked out by hand from the rules.
+#[tactic(auto, unfolding(cfgx_grammar::specs::Classification::class))]
 fn first_faults_at_tokens()
     ensures a_b { shown (codes "all(a b)") ((0, Token.all) ∷ (0, Token.open_paren)
         ∷ (0, key (codes "a")) ∷ (1, key (codes "b")) ∷ (0, Token.close_paren) ∷ [])

@@ -1,15 +1,8 @@
 -- Each text is computed, the number by its digits.
-use Rattle.std.proofs.Common.{refl}
+use Rattle.std.proofs.Common.{rules}
 use Rattle.std.specs.Fmt.{digits}
 use Rattle.cfg_expr.proofs.expr.tests.spellings.Goals as goal
 
 pub returns : goal.returns
 unfolding digits
-returns c = record {
-  flag = refl;
-  feature = refl;
-  panic = refl;
-  endian = refl;
-  width = refl;
-  atomic = refl;
-}
+returns c = search rules
