@@ -1,14 +1,13 @@
 -- The leaves at a tree's places are what the tree asks, in this order.
-use Rattle.std.proofs.Common.{◌≡◌, ℕ, zero, suc, Bool, true, false, not, List, [], ◌∷◌, ◌++◌}
+use Rattle.std.proofs.Common.{◌≡◌, ℕ, zero, suc, Bool, false, List, [], ◌∷◌}
 use Rattle.std.proofs.Common.{length, map, Option, Some, None, option_map, sym, refl, ap, ◌∙◌}
-use Rattle.std.specs.Prelude.{if◌then◌else◌, option_and_then}
+use Rattle.std.specs.Prelude.{option_and_then}
 use Rattle.std.specs.List.{AllByRecursion, slice_get, filter_map}
 use Rattle.std.proofs.lemmas.List.{map-id}
 use Rattle.cfgx_grammar.specs.Question.{Question}
-use Rattle.cfgx_grammar.specs.Tree.{Tree, Trees, is_function, is_leaf, count, asked}
-use Rattle.cfgx_grammar.specs.Tree.{asked_by}
+use Rattle.cfgx_grammar.specs.Tree.{Tree, asked}
 use Rattle.cfg_expr.specs.nodes.Located.{question_at}
-use Rattle.cfg_expr.specs.nodes.Prefix.{Node, node_at, headed, prefix, prefix_each, places}
+use Rattle.cfg_expr.specs.nodes.Prefix.{Node, node_at, prefix}
 use Rattle.cfg_expr.specs.nodes.Writes.{NodeHasCut}
 use Rattle.cfg_expr.specs.nodes.Keeps.{KeepsTree, leaf_of, leaf_at, questions_at, NamesLeaf}
 use Rattle.cfg_expr.specs.nodes.Keeps.{NameLeaves}
@@ -89,12 +88,8 @@ NamesLeaf-found text (node.Fn func len ∷ nodes) zero question cuts e = absurd 
 NamesLeaf-found text (node.Predicate predicate ∷ nodes) zero question cuts e =
     record { predicate = predicate; stands = refl; cut = cuts.0 }
 NamesLeaf-found text (x ∷ nodes) (suc place) question cuts e =
-    let n = NamesLeaf-found text nodes place question cuts.1 e in record {
-      predicate =
-          n.predicate;
-      stands = n.stands;
-      cut = n.cut;
-    }
+    let n = NamesLeaf-found text nodes place question cuts.1 e in
+    record { predicate = n.predicate; stands = n.stands; cut = n.cut }
 
 NameLeaves-asks : (text : List ℕ) (nodes : List ExprNode) (asks : List ℕ)
     (questions : List Question) → AllByRecursion (NodeHasCut text) nodes

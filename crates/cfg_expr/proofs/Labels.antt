@@ -1,5 +1,5 @@
 -- Labels of the nodes of a tree: those of the leaves stand at their places.
-use Rattle.std.proofs.Common.{◌≡◌, ℕ, zero, suc, ◌+◌, Bool, true, false, not, List, [], ◌∷◌, ◌++◌}
+use Rattle.std.proofs.Common.{◌≡◌, ℕ, zero, ◌+◌, Bool, true, false, not, List, [], ◌∷◌, ◌++◌}
 use Rattle.std.proofs.Common.{length, map, Some, sym, refl, ap, ◌∙◌, arith}
 use Rattle.std.proofs.Common.{append_assoc, length-append}
 use Rattle.std.specs.Prelude.{if◌then◌else◌}
@@ -19,8 +19,8 @@ module _ {X Y Z : Type 0} (f : X → Z) (g : Y → Z) where
 
   Alike-both : (xs xs' : List X) (ys ys' : List Y) → Alike xs ys → Alike xs' ys'
       → Alike (xs ++ xs') (ys ++ ys')
-  Alike-both xs xs' ys ys' first rest = map-append f xs xs' ∙ ap (λ l. l ++ map f xs') first
-      ∙ ap (λ l. map g ys ++ l) rest ∙ sym (map-append g ys ys')
+  Alike-both xs xs' ys ys' first rest =
+      rw (map-append f xs xs', map-append g ys ys', first, rest)
 
   Alike-if : (b : Bool) (xs : List X) (ys : List Y) → Alike xs ys
       → Alike (if b then xs else []) (if b then ys else [])

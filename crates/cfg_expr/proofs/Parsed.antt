@@ -1,5 +1,7 @@
 -- What reading the whole text gives, `parse` answers.
 use Rattle.std.proofs.Common.{◌≡◌, ℕ, List, Result, Ok, Err, sym, ap, ◌∙◌, subst}
+use Rattle.std.specs.Prelude.{IsErrAnd}
+use Rattle.std.proofs.lemmas.Result.{err_from_is_err_and}
 use Rattle.cfgx_syntax.specs.Items.{ItemsFrom, HasOneTokenList}
 use Rattle.cfgx_syntax.specs.LexerState.{LexerState, starting}
 use Rattle.cfgx_syntax.specs.Stripping.{strip}
@@ -52,10 +54,12 @@ Answers-fails {text} new f b reads =
     fails_as text b.one f (subst (λ t. FailsAs t f (answer text b.one)) b.text_is fails)
 
 -- where memory runs out
-pub Answers-memory : {A : Type 0} (text : List ℕ) (f : Failure A) → HasOneTokenList text
-    → (error : _) → f ≡ failure.Memory error → Answers text (Err f)
-Answers-memory {A} text f one error is = subst (λ (g : Failure A). Answers {A = A} text (Err g))
-    (sym is) (accepted_or_refused text one)
+pub Answers-memory : {A : Type 0} (text : List ℕ) → HasOneTokenList text → (error : _)
+    (result : Result (List ℕ) (Failure A)) → IsErrAnd result (λ f. f ≡ failure.Memory error)
+    → Answers text result
+Answers-memory text one error result is =
+    let p = err_from_is_err_and result is in
+    rw (p.1, p.2) (accepted_or_refused text one)
 
 -- what is accepted
 pub Keeps-reads : {A : Type 0} {text : List ℕ} {lexer : LexerState} {old : Parser A}

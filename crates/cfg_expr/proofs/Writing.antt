@@ -26,9 +26,9 @@ takes_more {old} {mid} {new} {bytes} {between} {left} first second = record {
 }
 
 -- a beginning of the first part is one of both
-pub front_of_first : {old new : Option (List ℕ)} (first second : List ℕ)
+pub front_of_first : {old new : Option (List ℕ)} {first : List ℕ} (second : List ℕ)
     → TakesFront old new first → TakesFront old new (first ++ second)
-front_of_first first second (left, taken) = (
+front_of_first second (left, taken) = (
   left ++ second,
   record {
     front = taken.front;

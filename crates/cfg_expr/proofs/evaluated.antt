@@ -2,8 +2,6 @@
 pub mod Counting
 pub mod Folding
 pub mod Going
-pub mod Measuring
 pub mod Rooms
-pub mod Sizes
 pub mod Valued
 pub mod Walking

@@ -40,15 +40,6 @@ behind-both : {T : Type 0} (xs ys : List Question) (answers : List T)
 behind-both xs ys answers = drop-drop (length ys) (length xs) answers
     ∙ ap (λ n. drop n answers) (sym (length-append xs ys))
 
-enough-front : {T : Type 0} (xs ys : List Question) (answers : List T)
-    → length (xs ++ ys) ≤ length answers → length xs ≤ length answers
-enough-front xs ys answers enough = omega (arith, length-append xs ys)
-
-enough-behind : {T : Type 0} (xs ys : List Question) (answers : List T)
-    → length (xs ++ ys) ≤ length answers → length ys ≤ length (behind xs answers)
-enough-behind xs ys answers enough =
-    omega (arith, length-append xs ys, length-drop (length xs) answers)
-
 module _ {T : Type 0} (logic : Operations T) where
   -- the leaves of a list are asked one after another
   run-asks : (trees : Trees) (steps : List Step) (values : List (Option T)) (answers : List T)
@@ -133,13 +124,10 @@ module _ {T : Type 0} (logic : Operations T) where
       let own = asked_by is_leaf trees in
       let inside = values_by logic is_function trees answers in
       each (asks (leaves trees) (Step.finish func ∷ steps)) values answers
-      (enough-front inner own answers enough)
+      (omega (arith, length-append inner own))
       ∙ run-asks trees (Step.finish func ∷ steps) (on inside values) (behind inner answers)
-      (enough-behind inner own answers enough)
-      ∙ ap (λ l. run logic steps (finished logic func l) (behind own (behind inner answers)))
-      (sym (on-append inside (values_by logic is_leaf trees (behind inner answers)) values))
-      ∙ ap (run logic steps (finished logic func (on (arranged_values trees answers) values)))
-      (behind-both inner own answers)
+      (omega (arith, length-append inner own, length-drop (length inner) answers))
+      ∙ rw (on-append inside, behind-both inner own answers)
 
   run-function : (tree : Tree) (func : Func) (trees : Trees) → IsFunction tree func trees
       → RunsEach trees → RunsTree tree
@@ -163,9 +151,9 @@ module _ {T : Type 0} (logic : Operations T) where
       let rest = asked_by is_function trees in
       let value = Some (tree_value.fold logic tree answers) in
       first (steps_of_each trees steps) values answers is
-      (enough-front (asked tree) rest answers enough)
+      (omega (arith, length-append (asked tree) rest))
       ∙ others steps (value ∷ values) (behind (asked tree) answers)
-      (enough-behind (asked tree) rest answers enough)
+      (omega (arith, length-append (asked tree) rest, length-drop (length (asked tree)) answers))
       ∙ ap (run logic steps (on (values_by logic is_function trees (behind (asked tree) answers))
       (value ∷ values))) (behind-both (asked tree) rest answers)
 

@@ -70,9 +70,6 @@ module _ {F T : Type 0} {logic : Operations T} {asker : Asker F T} where
 
 -- a question is asked
 
-reverse-snoc : {X : Type 0} (xs : List X) (x : X) → reverse (xs ++ x ∷ []) ≡ x ∷ reverse xs
-reverse-snoc xs x = reverse-append xs (x ∷ [])
-
 pub room-ask : {F T : Type 0} (asker : Asker F T) (now : Standing F T)
     → CanGo asker now (λ s. Step.ask ∷ s) → length now.values.items + 1 ≤ now.values.capacity
 room-ask asker now can =
@@ -87,7 +84,7 @@ pub Goes-asked : {F T : Type 0} {logic : Operations T} {asker : Asker F T} {befo
 Goes-asked {logic} {asker} {before} {after} {rest} {question} {values} {new} {answer} are asks items
     same =
     let lies : reverse new.items ≡ Some answer ∷ reverse values.items =
-    ap reverse items ∙ reverse-snoc values.items (Some answer) in
+    ap reverse items ∙ reverse-append values.items (Some answer ∷ []) in
     let longer : length new.items ≡ length values.items + 1 = sym (length-reverse new.items)
     ∙ ap length lies ∙ omega (arith, length-reverse values.items) in
     record {

@@ -21,8 +21,7 @@ use Rattle.cfg_expr.specs.declared.expr.nodes.ExprNode.{ExprNode}
 use Rattle.cfg_expr.proofs.Asked.{questions_at-kept}
 use Rattle.cfg_expr.proofs.Chains.{Calls-length}
 use Rattle.cfg_expr.proofs.evaluated.Folding.{run-all}
-use Rattle.cfg_expr.proofs.evaluated.Rooms.{asked_in-all, values-all}
-use Rattle.cfg_expr.proofs.evaluated.Sizes.{short-room}
+use Rattle.cfg_expr.proofs.evaluated.Rooms.{asked_in-all, short-room, values-all}
 use Rattle.cfg_expr.proofs.evaluated.Walking.{walk-nodes}
 
 abbrev pub steps_from : List ExprNode → List Step

@@ -76,12 +76,9 @@ walk-more : (tree : Tree) (trees : Trees) → WalksTree tree → WalksEach trees
     → WalksEach (Trees.more tree trees)
 walk-more tree trees first others rest func own o lists is =
     let next = next-member tree trees func own o is in
-    let own_shapes = map shape_of (prefix tree) in
     let shapes = map shape_of (prefix_each trees) ++ rest in
-    let all : map shape_of (prefix tree ++ prefix_each trees) ++ rest ≡ own_shapes ++ shapes =
-    ap (λ l. l ++ rest) (map-append shape_of (prefix tree) (prefix_each trees))
-    ∙ append_assoc own_shapes (map shape_of (prefix_each trees)) rest in
-    rw (eqb-suc-zero (count trees), all)
+    let both = map-append shape_of (prefix tree) (prefix_each trees) in
+    rw (eqb-suc-zero (count trees), both, append_assoc)
     (first shapes (list_of func (suc (count trees)) own ∷ lists)
     ∙ ap (λ l. steps_of tree (after (l ∷ lists) shapes)) next.2
     ∙ ap (steps_of tree) (others rest func next.0 o lists next.1))

@@ -1,7 +1,7 @@
 -- One pass over the nodes of a tree finds which of them stand below an odd number of `not`.
 use Rattle.std.proofs.Common.{◌≡◌, ℕ, zero, suc, ◌+◌, ◌<◌, Bool, true, false, not, List, [], ◌∷◌}
 use Rattle.std.proofs.Common.{◌++◌, length, map, take, drop, set, get_or, replicate, Option, Some}
-use Rattle.std.proofs.Common.{None, sym, refl, ap, ◌∙◌, subst, arith, append_assoc, length-append}
+use Rattle.std.proofs.Common.{None, sym, refl, ap, ◌∙◌, arith, append_assoc, length-append}
 use Rattle.std.proofs.Common.{add-one}
 use Rattle.std.proofs.lemmas.List.{append-nil, map-append, replicate-append-replicate, drop_more}
 use Rattle.std.proofs.lemmas.List.{length-set}
@@ -31,12 +31,7 @@ pub reaches-shown : (text : List ℕ) (nodes : List ExprNode)
     → map reach nodes ≡ map reach_of (map (node_at text) nodes)
 reaches-shown text [] = refl
 reaches-shown text (node.Fn Not len ∷ nodes) = ap (λ l. Some len ∷ l) (reaches-shown text nodes)
-reaches-shown text (node.Fn (All members) len ∷ nodes) =
-    ap (λ l. None ∷ l) (reaches-shown text nodes)
-reaches-shown text (node.Fn (Any members) len ∷ nodes) =
-    ap (λ l. None ∷ l) (reaches-shown text nodes)
-reaches-shown text (node.Predicate predicate ∷ nodes) =
-    ap (λ l. None ∷ l) (reaches-shown text nodes)
+reaches-shown text (first ∷ nodes) = ap (λ l. None ∷ l) (reaches-shown text nodes)
 
 -- One node more.
 
@@ -102,18 +97,14 @@ Leaves-next nodes all otherwise place odd next flips lent new inside leaves same
     let rest = map reach (drop (place + 1) nodes) in
     let here = drop_more nodes place otherwise inside in
     let behind = odd_behind first (turned odd (get_or flips place false)) in
-    let step : Leaves nodes all (place + 1) behind (stepped first place odd flips) = (
+    rw (next_is, new_is, same) (
       length-stepped first place odd flips ∙ leaves.0,
       ap (λ k. take k (stepped first place odd flips)
           ++ pass rest behind (drop k (stepped first place odd flips))) (add-one place)
           ∙ sym (pass-step first rest odd flips place (omega (arith, leaves.0)))
           ∙ ap (λ l. take place flips ++ pass (map reach l) odd (drop place flips)) (sym here)
           ∙ leaves.1,
-    ) in
-    let behind_is : behind ≡ next = cc in
-    let stepped_is : stepped first place odd flips ≡ new = cc in
-    subst (Leaves nodes all (place + 1) next) stepped_is
-    (subst (λ o. Leaves nodes all (place + 1) o (stepped first place odd flips)) behind_is step)
+    )
 
 -- The nodes of a tree.
 
@@ -170,22 +161,15 @@ mutual
   pass-each (Trees.more tree trees) rest odd flips =
       let own = prefix tree in
       let others = prefix_each trees in
-      let n = length own in
-      let m = length others in
-      let nodes : map reach_of (own ++ others) ++ rest
-      ≡ map reach_of own ++ (map reach_of others ++ rest) =
-      ap (λ l. l ++ rest) (map-append reach_of own others)
-      ∙ append_assoc (map reach_of own) (map reach_of others) rest in
-      let noted : replicate (length (own ++ others)) false ++ flips
-      ≡ replicate n false ++ (replicate m false ++ flips) =
-      ap (λ k. replicate k false ++ flips) (length-append own others)
-      ∙ ap (λ l. l ++ flips) (sym (replicate-append-replicate n m false))
-      ∙ append_assoc (replicate n false) (replicate m false) flips in
-      ap (λ l. pass l odd (replicate (length (own ++ others)) false ++ flips)) nodes
-      ∙ ap (pass (map reach_of own ++ (map reach_of others ++ rest)) odd) noted
-      ∙ pass-tree tree (map reach_of others ++ rest) odd (replicate m false ++ flips)
-      ∙ ap (λ l. odds odd tree ++ l) (pass-each trees rest odd flips)
-      ∙ sym (append_assoc (odds odd tree) (odds_each odd trees) (pass rest odd flips))
+      rw (
+        map-append reach_of own others,
+        append_assoc (map reach_of own) (map reach_of others) rest,
+        length-append own others,
+        sym (replicate-append-replicate (length own) (length others) false),
+        append_assoc (replicate (length own) false) (replicate (length others) false) flips,
+        append_assoc (odds odd tree),
+      ) (pass-tree tree (map reach_of others ++ rest) odd (replicate (length others) false ++ flips)
+      ∙ ap (λ l. odds odd tree ++ l) (pass-each trees rest odd flips))
 
 -- the whole pass
 pub pass-all : (tree : Tree) → pass (map reach_of (prefix tree)) false

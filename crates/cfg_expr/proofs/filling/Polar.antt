@@ -1,13 +1,12 @@
 -- The polar fillings, by the parities of the leaves.
-use Rattle.std.proofs.Common.{◌≡◌, ℕ, zero, suc, ◌+◌, Bool, true, false, not, List, [], ◌∷◌, ◌++◌}
-use Rattle.std.proofs.Common.{length, map, drop, get_or, replicate, Option, Some, sym, refl, ap}
+use Rattle.std.proofs.Common.{◌≡◌, ℕ, suc, ◌+◌, Bool, true, false, not, List, [], ◌∷◌, ◌++◌}
+use Rattle.std.proofs.Common.{length, map, drop, get_or, replicate, Option, sym, refl, ap}
 use Rattle.std.proofs.Common.{◌∙◌, arith, drop-drop}
-use Rattle.std.specs.Prelude.{if◌then◌else◌, unwrap_or}
-use Rattle.std.specs.List.{slice_get}
+use Rattle.std.specs.Prelude.{if◌then◌else◌}
 use Rattle.std.proofs.lemmas.List.{length-map, map-id}
 use Rattle.std.proofs.lemmas.Option.{get_or_from_slice_get}
 use Rattle.cfgx_grammar.specs.Tree.{Tree, Trees, is_function, is_leaf, asked, asked_by}
-use Rattle.cfgx_grammar.specs.Fold.{behind, first_or}
+use Rattle.cfgx_grammar.specs.Fold.{behind}
 use Rattle.cfgx_grammar.specs.Filling.{polar, polar_by}
 use Rattle.cfg_expr.specs.nodes.Keeps.{KeepsTree}
 use Rattle.cfg_expr.specs.nodes.Parity.{turned, reach, pass, filled}
@@ -29,12 +28,8 @@ filled-append : (these those : List Bool) (answers : List (Option Bool)) (fill :
     ≡ filled these answers fill ++ filled those (drop (length these) answers) fill
 filled-append [] those answers fill = refl
 filled-append (odd ∷ these) those answers fill =
-    let value = unwrap_or (first_or (Some true) answers) (turned fill odd) in
-    let own = filled these (drop 1 answers) fill in
-    let more : 1 + length these ≡ suc (length these) = omega arith in
-    ap (λ l. value ∷ l) (filled-append these those (drop 1 answers) fill)
-    ∙ ap (λ l. value ∷ (own ++ filled those l fill)) (drop-drop (length these) 1 answers)
-    ∙ ap (λ k. value ∷ (own ++ filled those (drop k answers) fill)) more
+    let one : 1 + length these ≡ suc (length these) = omega arith in
+    rw (filled-append these those (drop 1 answers) fill, drop-drop (length these) 1 answers, one)
 
 -- a filling in two parts, the first of which may be left out
 filled-parts : (b : Bool) (odds others own rest without : List Bool) (n : ℕ)
@@ -44,9 +39,7 @@ filled-parts : (b : Bool) (odds others own rest without : List Bool) (n : ℕ)
     → (if b then own ++ rest else without)
     ≡ filled ((if b then odds else []) ++ others) answers fill
 filled-parts true odds others own rest without n answers fill many own_is rest_is without_is =
-    ap (λ l. l ++ rest) own_is ∙ ap (λ l. filled odds answers fill ++ l) rest_is
-    ∙ ap (λ k. filled odds answers fill ++ filled others (drop k answers) fill) (sym many)
-    ∙ sym (filled-append odds others answers fill)
+    rw (own_is, rest_is, filled-append odds others answers fill, many)
 filled-parts false odds others own rest without n answers fill many own_is rest_is without_is =
     without_is
 

@@ -129,9 +129,11 @@ pub(crate) fn polar_fillings<A: SmallAllocator>(
     ensures { IfOk result (λ found. (one : HasOneTree text.now)
         × PolarFillings one.tree answers.now found) }
 {
-    if value_over(alloc, text, nodes, places, room, answers)?.is_some() {
-        return Ok(None);
+    match value_over(alloc, text, nodes, places, room, answers)? {
+        Some(_) => Ok(None),
+        None => {
+            let odds = parities(alloc, nodes)?;
+            Ok(Some(fillings(alloc, &odds, places, answers)?))
+        }
     }
-    let odds = parities(alloc, nodes)?;
-    Ok(Some(fillings(alloc, &odds, places, answers)?))
 }

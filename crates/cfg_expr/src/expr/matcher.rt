@@ -1,11 +1,9 @@
 //! Whether a target meets a predicate.
-ghost use Rattle.std.specs.Prelude.{◌≡◌, IfOk};
+ghost use Rattle.std.specs.Prelude.{◌≡◌, option_map, IfOk};
 ghost use Rattle.cfgx_grammar.specs.Matching.{has_text, meets};
 ghost use Rattle.cfg_expr.specs.Predicate.{target_of};
 
 use super::TargetPredicate;
-use cfgx_fields as fields;
-use cfgx_places as places;
 use cfgx_targets::info::TargetInfo;
 use std::alloc::{AllocError, Allocator};
 
@@ -31,48 +29,42 @@ impl<A: Allocator> TargetMatcher for TargetInfo<'_, A> {
         ensures { result ≡ meets self.now (target_of tp.now) }
     {
         match tp {
-            TargetPredicate::Abi(abi) => has_field(&self.abi, "", abi.as_str()),
+            TargetPredicate::Abi(abi) => has(
+                self.abi.as_ref().map(|abi| abi.as_str()),
+                "",
+                abi.as_str(),
+            ),
             TargetPredicate::Arch(arch) => self.arch.as_str() == arch.as_str(),
             TargetPredicate::Endian(endian) => self.endian == *endian,
-            TargetPredicate::Env(env) => has_place(&self.env, "", env.as_str()),
+            TargetPredicate::Env(env) => has(
+                self.env.as_ref().map(|env| env.as_str()),
+                "",
+                env.as_str(),
+            ),
             TargetPredicate::Family(family) => self.families.contains(family),
             TargetPredicate::HasAtomic(width) => self.has_atomics.contains(*width),
-            TargetPredicate::Os(os) => has_place(&self.os, "none", os.as_str()),
+            TargetPredicate::Os(os) => has(
+                self.os.as_ref().map(|os| os.as_str()),
+                "none",
+                os.as_str(),
+            ),
             TargetPredicate::Panic(panic) => self.panic.as_str() == panic.as_str(),
             TargetPredicate::PointerWidth(bits) => self.pointer_width == *bits,
-            TargetPredicate::Vendor(vendor) => {
-                has_field(&self.vendor, "unknown", vendor.as_str())
-            }
+            TargetPredicate::Vendor(vendor) => has(
+                self.vendor.as_ref().map(|vendor| vendor.as_str()),
+                "unknown",
+                vendor.as_str(),
+            ),
         }
     }
 }
 
-// Whether the field has this text, where `missing` stands for a missing one.
-fn has_field<K, A: Allocator>(
-    field: &Option<fields::Field<'_, K, A>>,
-    missing: &str,
-    text: &str,
-) -> bool
-    ensures { result ≡ has_text field.now missing.now text.now }
+// Whether a field has this text, where `missing` stands for the text of a missing one.
+fn has(field: Option<&str>, missing: &str, text: &str) -> bool
+    ensures { result ≡ has_text (option_map (λ text. text.now) field.entry)
+        missing.now text.now }
 {
-    match field {
-        Some(field) => field.as_str() == text,
-        None => missing == text,
-    }
-}
-
-// The same of the other fields.
-fn has_place<K, A: Allocator>(
-    place: &Option<places::Field<'_, K, A>>,
-    missing: &str,
-    text: &str,
-) -> bool
-    ensures { result ≡ has_text place.now missing.now text.now }
-{
-    match place {
-        Some(place) => place.as_str() == text,
-        None => missing == text,
-    }
+    field.unwrap_or(missing) == text
 }
 
 impl TargetPredicate<'_> {

@@ -29,10 +29,8 @@ returns-in_err-read_all g c =
     (begins g (goal.at.returns-in_err-read_all g c).After-read_all) c.in_err-read_all.ensures)
 
 pub returns-in_err-original : goal.returns-in_err-original
-returns-in_err-original g c =
-    let p = err_from_is_err_and c.from_residual-in_err-original.result
-    c.from_residual-in_err-original.ensures.1 in
-    rw p.1 (Answers-memory (strip c.args.original.now) p.0 c.new-lexer.ensures.one _ p.2)
+returns-in_err-original g c = Answers-memory (strip c.args.original.now) c.new-lexer.ensures.one _
+    c.from_residual-in_err-original.result c.from_residual-in_err-original.ensures.1
 
 pub measure-requires : goal.measure-requires
 measure-requires g c =
@@ -44,10 +42,8 @@ measure-requires g c =
     rw (c.as_slice.ensures, nodes) (values-fit kept fits)
 
 pub returns-in_err-room : goal.returns-in_err-room
-returns-in_err-room g c =
-    let p = err_from_is_err_and c.from_residual-in_err-room.result
-    c.from_residual-in_err-room.ensures.1 in
-    rw p.1 (Answers-memory (strip c.args.original.now) p.0 c.new-lexer.ensures.one _ p.2)
+returns-in_err-room g c = Answers-memory (strip c.args.original.now) c.new-lexer.ensures.one _
+    c.from_residual-in_err-room.result c.from_residual-in_err-room.ensures.1
 
 pub invariant_of-result : goal.invariant_of-result
 invariant_of-result g c =

@@ -1,15 +1,14 @@
 -- One list ends behind the other.
 use Rattle.std.proofs.Common.{◌∙◌, reverse, sym}
-use Rattle.cfg_expr.proofs.evaluated.Counting.{finishes-popped, finishes-open, still_open-popped}
-use Rattle.cfg_expr.proofs.evaluated.Counting.{still_open-open}
+use Rattle.cfg_expr.proofs.evaluated.Counting.{finishes-open, still_open-open}
 use Rattle.cfg_expr.proofs.evaluated.Going.{Goes-step, Goes-to}
 use Rattle.cfg_expr.proofs.expr.evaluating.end_all.Goals as goal
 
 pub loop-list-preserved : goal.loop-list-preserved
 loop-list-preserved g c =
     let popped = c.in-Some.ensures.lists in (
-      Goes-step c.loop-list.invariant.0 c.end.ensures (λ s. finishes-popped _ _ _ s popped),
-      sym (still_open-popped _ _ _ popped) ∙ c.loop-list.invariant.1,
+      Goes-step c.loop-list.invariant.0 c.end.ensures (λ s. rw (popped.0, popped.1)),
+      rw (popped.0, popped.1) at c.loop-list.invariant.1,
       c.in-Some.ensures.capacity ∙ c.loop-list.invariant.2,
     )
 

@@ -4,7 +4,7 @@ use Rattle.cfg_expr.specs.nodes.Machine.{standing}
 use Rattle.cfg_expr.specs.declared.expr.Func.TheVariants.{Not}
 use Rattle.cfg_expr.specs.declared.expr.nodes.ExprNode.TheVariants as node
 use Rattle.cfg_expr.proofs.evaluated.Going.{Goes-step, Goes-to}
-use Rattle.cfg_expr.proofs.evaluated.Measuring.{RoomFor-begun, room-next, walk-at, walk-end}
+use Rattle.cfg_expr.proofs.evaluated.Counting.{RoomFor-begun, room-next, walk-at, walk-end}
 use Rattle.cfg_expr.proofs.expr.evaluating.evaluate.Goals as goal
 
 pub step-requires : goal.step-requires

@@ -1,6 +1,6 @@
 -- Each node is counted as the walk has it.
 use Rattle.std.proofs.Common.{reverse}
-use Rattle.cfg_expr.proofs.evaluated.Measuring.{IsMeasured-counts, IsMeasured-next, walk-at}
+use Rattle.cfg_expr.proofs.evaluated.Counting.{IsMeasured-counts, IsMeasured-next, walk-at}
 use Rattle.cfg_expr.proofs.expr.evaluating.measure.Goals as goal
 
 pub enter-requires : goal.enter-requires

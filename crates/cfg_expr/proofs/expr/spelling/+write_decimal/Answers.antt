@@ -1,5 +1,4 @@
-use Rattle.std.proofs.Common.{◌+◌, ◌/◌, ◌%◌, [], ◌∷◌, arith}
-use Rattle.std.specs.Fmt.{decimal}
+use Rattle.std.proofs.Common.{arith}
 use Rattle.std.proofs.lemmas.Fmt.{decimal_digit, decimal_step}
 use Rattle.std.proofs.lemmas.Result.{err_from_is_err_and}
 use Rattle.cfg_expr.proofs.Writing.{front_of_first, writes_second}
@@ -17,8 +16,7 @@ returns-in_err-write_decimal g t c =
     let p = err_from_is_err_and c.from_residual.result c.from_residual.ensures.1 in
     let step = decimal_step n (omega (arith, c.if-number-lt10.false))
     (omega (arith, c.ranges.number.fits)) in
-    rw (p.1, step) (front_of_first (decimal (n / 10)) ((48 + n % 10) ∷ [])
-    c.in_err-write_decimal.ensures)
+    rw (p.1, step) (front_of_first _ c.in_err-write_decimal.ensures)
 
 -- the last one was, or not
 pub returns : goal.returns
@@ -26,5 +24,4 @@ returns g t c =
     let n = c.args.number in
     let step = decimal_step n (omega (arith, c.if-number-lt10.false))
     (omega (arith, c.ranges.number.fits)) in
-    rw step (writes_second _ _ _ c.write_bytes-2.result (decimal (n / 10)) ((48 + n % 10) ∷ [])
-    c.in_ok-write_decimal.ensures c.write_bytes-2.ensures)
+    rw step (writes_second _ _ _ _ _ _ c.in_ok-write_decimal.ensures c.write_bytes-2.ensures)

@@ -1,6 +1,4 @@
-use Rattle.std.proofs.Common.{◌++◌}
-use Rattle.std.specs.Prelude.{codes, Err}
-use Rattle.std.specs.Fmt.{decimal}
+use Rattle.std.specs.Prelude.{Err}
 use Rattle.std.proofs.lemmas.Result.{err_from_is_err_and}
 use Rattle.cfg_expr.proofs.Writing.{front_of_first, writes_second, value_parts}
 use Rattle.cfg_expr.proofs.expr.spelling.write_number.Goals as goal
@@ -9,25 +7,18 @@ use Rattle.cfg_expr.proofs.expr.spelling.write_number.Goals as goal
 pub returns-in_err-write_key : goal.returns-in_err-write_key
 returns-in_err-write_key g c =
     let p = err_from_is_err_and c.from_residual.result c.from_residual.ensures.1 in
-    rw (p.1, value_parts c.args.key.now (decimal c.args.number))
-    (front_of_first (c.args.key.now ++ codes " = \"") (decimal c.args.number ++ codes "\"")
-    c.in_err-write_key.ensures)
+    rw (p.1, value_parts c.args.key.now _) (front_of_first _ c.in_err-write_key.ensures)
 
 -- the number was not
 pub returns-in_err-write_decimal : goal.returns-in_err-write_decimal
 returns-in_err-write_decimal g c =
     let p = err_from_is_err_and c.from_residual-in_err-write_decimal.result
     c.from_residual-in_err-write_decimal.ensures.1 in
-    rw (p.1, value_parts c.args.key.now (decimal c.args.number))
-    (writes_second _ _ _ (Err p.0) (c.args.key.now ++ codes " = \"")
-    (decimal c.args.number ++ codes "\"") c.in_ok-write_key.ensures
-    (front_of_first (decimal c.args.number) (codes "\"") c.in_err-write_decimal.ensures))
+    rw (p.1, value_parts c.args.key.now _) (writes_second _ _ _ (Err p.0) _ _
+    c.in_ok-write_key.ensures (front_of_first _ c.in_err-write_decimal.ensures))
 
 -- the last quote was, or a beginning of it
 pub returns : goal.returns
 returns g c =
-    rw (value_parts c.args.key.now (decimal c.args.number))
-    (writes_second _ _ _ c.write_bytes.result (c.args.key.now ++ codes " = \"")
-    (decimal c.args.number ++ codes "\"") c.in_ok-write_key.ensures
-    (writes_second _ _ _ c.write_bytes.result (decimal c.args.number) (codes "\"")
-    c.in_ok-write_decimal.ensures c.write_bytes.ensures))
+    rw (value_parts c.args.key.now _) (writes_second _ _ _ _ _ _ c.in_ok-write_key.ensures
+    (writes_second _ _ _ _ _ _ c.in_ok-write_decimal.ensures c.write_bytes.ensures))

@@ -1,22 +1,18 @@
 -- The values of the list's leaves come, and the value of its function takes their place.
-use Rattle.std.proofs.Common.{◌≡◌, ◌<◌, ◌+◌, ◌^◌, arith, refl, rules, subst, Some}
+use Rattle.std.proofs.Common.{◌≡◌, ◌+◌, arith, refl, rules}
 use Rattle.cfg_expr.specs.nodes.Steps.{height_behind}
 use Rattle.cfg_expr.proofs.evaluated.Counting.{end-fits, end-needed}
 use Rattle.cfg_expr.proofs.expr.evaluating.Heights.end.Goals as goal
 
 pub overflow_add-self : goal.overflow_add-self
 overflow_add-self c =
-    let fits = end-fits c.args.self.now c.args.list.leaves c.args.list.func c.requires.0
-    c.requires.1 in
+    let fits = end-fits c.args.self.now c.args.list.leaves c.args.list.func c.requires in
     search (rules, fits.0)
 
 pub overflow_add-self-in-Some : goal.overflow_add-self-in-Some
 overflow_add-self-in-Some c =
-    let fits = end-fits c.args.self.now c.args.list.leaves c.args.list.func c.requires.0
-    c.requires.1 in
-    let behind : height_behind (Some c.in-Some.func) (c.args.self.now.now + c.args.list.leaves)
-    < 2 ^ 64 = subst (λ f. height_behind f (c.args.self.now.now + c.args.list.leaves) < 2 ^ 64)
-    c.in-Some.is fits.1 in
+    let fits = end-fits c.args.self.now c.args.list.leaves c.args.list.func c.requires in
+    let behind = rw c.in-Some.is at fits.1 in
     omega (arith, behind, c.members.ensures, c.saturating_sub.ensures)
 
 pub returns-in-Some : goal.returns-in-Some
