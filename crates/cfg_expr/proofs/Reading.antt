@@ -1,36 +1,23 @@
 -- What the rest of a text answers, the whole answers: one token after another, as the lexer gives
 -- them.
 use Rattle.std.proofs.Common.{◌≡◌, ℕ, List, length, drop, Some, Result, Ok, Err, sym}
-use Rattle.std.proofs.Common.{refl, ap, ◌∙◌, subst, arith}
+use Rattle.std.proofs.Common.{refl, ap, ◌∙◌, subst}
 use Rattle.cfgx_syntax.specs.Items.{Item, Ending, IsBlank, Stands, EndsAs, lexical}
 use Rattle.cfgx_syntax.specs.Error.{Refusal, FailsWith, fault_in}
 use Rattle.cfgx_syntax.specs.LexerState.{LexerState}
-use Rattle.cfgx_syntax.specs.Lexer.{GivesItem, GivesFault, GivesNext, item_of, token_of}
+use Rattle.cfgx_syntax.specs.Lexer.{GivesItem, GivesFault, GivesNext, item_of}
 use Rattle.cfgx_syntax.specs.declared.error.Failure.{Failure}
 use Rattle.cfgx_syntax.specs.declared.error.Failure.TheVariants as failure
 use Rattle.cfgx_syntax.specs.declared.lexer.LexerToken.{LexerToken}
-use Rattle.cfgx_syntax.specs.Cut.{CanBeCut}
-use Rattle.cfgx_syntax.specs.declared.lexer.Token as declared
-use Rattle.cfgx_syntax.specs.declared.lexer.Token.TheVariants as given
-use Rattle.cfgx_grammar.proofs.Reading.{Continues, Continues-start, Continues-step}
+use Rattle.cfgx_grammar.proofs.Reading.{Continues, Continues-step}
 use Rattle.cfgx_grammar.proofs.Reading.{Continues-refused, Continues-ended}
 use Rattle.cfg_expr.specs.parsing.State.{State}
 use Rattle.cfgx_grammar.specs.parsing.Step.{step, conclude, ended_as, answer_from}
 use Rattle.cfg_expr.specs.parsing.Bounded.{IsHeld, IsBounded}
-use Rattle.cfg_expr.specs.parsing.Parser.{state_of, FailsAs, Reaches, Gives, IsQuoted, IsQuotedAt}
+use Rattle.cfg_expr.specs.parsing.Parser.{state_of, FailsAs, Reaches, Gives}
 use Rattle.cfg_expr.specs.parsing.Parser.{ReadsAll}
 use Rattle.cfg_expr.specs.declared.expr.parser.Parser.{Parser}
 use Rattle.cfg_expr.proofs.Bounded.{IsHeld-step}
-
--- a value's span has room for its quotes
-pub IsQuoted-given : (now : LexerState) (lexed : LexerToken)
-    (next : LexerState) → GivesItem now (item_of lexed) next → IsQuoted lexed
-IsQuoted-given now lexed next gives = quoted lexed.token gives.cut
-  where
-    quoted : (token : declared.Token) → CanBeCut now.text (token_of token) lexed.span.start
-        lexed.span.end → IsQuotedAt token lexed.span
-    quoted (given.Value text) cut = let inner = cut.value.ordered in omega (arith, inner)
-    quoted _ cut = tt
 
 -- where the reader stands in the text
 pub record Leads {A : Type 0} (lexer : LexerState) (now : LexerState)
@@ -40,16 +27,6 @@ pub record Leads {A : Type 0} (lexer : LexerState) (now : LexerState)
   pub same_text : parser.original.now ≡ old.original.now
   pub continues : Continues lexer.text lexer.place (state_of {A = A} old) now.place
       (state_of {A = A} parser)
-
-pub Leads-start : {A : Type 0} (lexer : LexerState)
-    (parser : Parser A) → IsBounded (state_of {A = A} parser)
-    → Leads {A = A} lexer lexer parser parser
-Leads-start {A} lexer parser bounded = record {
-  bounded = bounded;
-  text = refl;
-  same_text = refl;
-  continues = Continues-start lexer.text lexer.place (state_of {A = A} parser);
-}
 
 stands_there : (lexer now next : LexerState) (item : Item) → now.text ≡ lexer.text
     → GivesItem now item next → Stands lexer.text now.place item

@@ -13,9 +13,6 @@ module _ {W M L : Type 0} {builder : Builder W M L} (text : List ℕ) where
         → (rest : List Item) × ItemsFrom text place rest ending
         × (answer_from s text items ending ≡ answer_from t text rest ending)
 
-  pub Continues-start : (from : ℕ) (s : State builder) → Continues from s from s
-  Continues-start from s = record { rest_of = λ items ending come. (items, come, refl) }
-
   -- at the token that comes next, the answer is what its step leads to
   at_token : (from place : ℕ) (s t : State builder) (item : Item)
       (r : Result (State builder) Refusal) → Continues from s place t → Stands text place item

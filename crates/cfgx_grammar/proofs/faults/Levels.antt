@@ -169,7 +169,8 @@ module _ (front : List Item) (item : Item) where
 
   -- the token is the `(` of the innermost function
   pub Levels-open : {M : Type 0} (roots going : ℕ) (stack : List (Open M))
-      → length stack ≤ depth more → is_kind Kind.item (kind_of item.token) ≡ false → Levels front roots true stack going
+      → length stack ≤ depth more → is_kind Kind.item (kind_of item.token) ≡ false
+      → Levels front roots true stack going
       → Levels more roots false (over_top (with_parens item.start) stack) going
   Levels-open roots going [] deep other levels =
       members_at_other front item 0 0 other ∙ levels

@@ -198,7 +198,8 @@ module _ {W M L : Type 0} {builder : Builder W M L} where
   class_ends front is_named s p (Class.refused cause part) levels = refl
 
   pending_ends : (front : List Item) (is_named : Bool) (s : State builder)
-      (pending : Option Pending) → s.pending ≡ pending → Levels front s.roots is_named s.stack (going pending)
+      (pending : Option Pending) → s.pending ≡ pending
+      → Levels front s.roots is_named s.stack (going pending)
       → EndsAs front is_named s (ended_by s pending)
       (option_and_then (λ p. class_fault p (class_of p)) pending)
   pending_ends front is_named s None is levels =

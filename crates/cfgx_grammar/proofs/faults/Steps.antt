@@ -145,7 +145,8 @@ module _ {W M L : Type 0} {builder : Builder W M L} (front : List Item) (s : Sta
     -- what the token leaves, by what it says of its own
     matched : (token : Token) (t : State builder) (b : Bool) (w : ℕ) → t.last ≡ Some token
         → names_function token ≡ b → t.pending ≡ begun_token (at token) (reverse front) token
-        → going t.pending ≡ w → balanced token (length t.stack) → Levels (more token) t.roots b t.stack w
+        → going t.pending ≡ w → balanced token (length t.stack)
+        → Levels (more token) t.roots b t.stack w
         → Matches (more token) t
     matched token t b w last is pending goes balance levels = record {
       last = last ∙ sym (last_more front (at token));
