@@ -1,12 +1,12 @@
 -- A key by whether it begins with `target_`.
-use Rattle.std.proofs.Common.{◌≡◌, ◌≢◌, Bool, true, false, ℕ, List, ◌++◌, drop, nat_eq, Option}
+use Rattle.std.proofs.Common.{◌≡◌, true, ℕ, List, ◌++◌, drop, nat_eq, Option}
 use Rattle.std.proofs.Common.{refl, ap, ◌∙◌}
 use Rattle.std.specs.Prelude.{codes}
 use Rattle.std.specs.List.{starts_with}
 use Rattle.std.proofs.lemmas.List.{drop_at}
 use Rattle.std.proofs.lemmas.Bool.Decides.{Decides-eqb}
 use Rattle.std.proofs.lemmas.Slice.Eq.{starts_is}
-use Rattle.cfgx_grammar.specs.Classification.{valued, target_class, plain, other_class}
+use Rattle.cfgx_grammar.specs.Classification.{valued, target_class, other_class}
 
 pub other_class-target : (key rest : List ℕ) (value : Option (List ℕ)) → key ≡ codes "target_"
     ++ rest
@@ -16,14 +16,3 @@ other_class-target key rest value is =
     (starts_is Decides-eqb key (codes "target_") _ refl).1 rest is in
     let behind : drop 7 key ≡ rest = ap (drop 7) is ∙ drop_at (codes "target_") rest 7 refl in
     rw (starts, behind) refl
-
-starts_not : (key : List ℕ) (b : Bool) → starts_with nat_eq key (codes "target_") ≡ b
-    → ((rest : List ℕ) → key ≢ codes "target_" ++ rest) → b ≡ false
-starts_not key true is none = absurd (none _ ((starts_is Decides-eqb key (codes "target_") _
-    refl).0 is))
-starts_not key false is none = refl
-
-pub other_class-plain : (key : List ℕ) (value : Option (List ℕ))
-    → ((rest : List ℕ) → key ≢ codes "target_" ++ rest)
-    → other_class key value ≡ plain key value
-other_class-plain key value none = rw (starts_not key _ refl none) refl
