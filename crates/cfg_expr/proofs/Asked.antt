@@ -49,18 +49,6 @@ shown_same text (node.Predicate predicate ∷ nodes) zero x is =
     let same : Node.leaf (question_at text predicate) ≡ x = cc in ap question_of_node same
 shown_same text (first ∷ nodes) (suc place) x is = shown_same text nodes place x is
 
--- the leaves at a tree's places are what it asks
-asks_kept : (text : List ℕ) (nodes : List ExprNode) (asks : List ℕ)
-    (tree : Tree) → KeepsTree text nodes asks tree
-    → map (question_in text nodes) asks ≡ map (λ (q : Question). Some q) (asked tree)
-asks_kept text nodes asks tree k =
-    ap (map (question_in text nodes)) k.asked_are
-    ∙ read-places node_of_leaf node_of_function (map (node_at text) nodes) tree
-    (question_in text nodes) question_of_node (k.nodes_are ∙ sym (labels_are tree))
-    (shown_same text nodes)
-    ∙ leaf_labels-asked node_of_leaf node_of_function question_of_node (λ (q : Question). Some q)
-    (λ odd question. refl) false tree
-
 filtered : {X Y : Type 0} (h : X → Option Y) (xs : List X)
     (ys : List Y) → map h xs ≡ map (λ (y : Y). Some y) ys → filter_map h xs ≡ ys
 filtered h [] [] e = refl
@@ -70,12 +58,6 @@ filtered h (x ∷ xs) (y ∷ ys) e =
     let first : h x ≡ Some y = cc in
     let rest : map h xs ≡ map (λ (y : _). Some y) ys = cc in
     rw first (ap (λ l. y ∷ l) (filtered h xs ys rest))
-
-pub questions_at-kept : (text : List ℕ) (nodes : List ExprNode) (asks : List ℕ)
-    (tree : Tree) → KeepsTree text nodes asks tree
-    → questions_at text nodes asks ≡ asked tree
-questions_at-kept text nodes asks tree k = filtered _ asks (asked tree)
-    (asks_kept text nodes asks tree k)
 
 -- where a leaf is found
 
@@ -102,23 +84,33 @@ NameLeaves-asks text nodes (place ∷ asks) (question ∷ questions) cuts e = (
   NameLeaves-asks text nodes asks questions cuts (cc),
 )
 
-pub NameLeaves-kept : (text : List ℕ) (nodes : List ExprNode) (asks : List ℕ)
-    (tree : Tree) → KeepsTree text nodes asks tree → NameLeaves text nodes asks
-NameLeaves-kept text nodes asks tree k = NameLeaves-asks text nodes asks (asked tree) k.cuts
-    (asks_kept text nodes asks tree k)
-
 -- one question for each place
-pub length-questions_at : (text : List ℕ) (nodes : List ExprNode)
-    (asks : List ℕ) → NameLeaves text nodes asks → length (questions_at text nodes asks) ≡ length
-    asks
+pub length-questions_at : (text : List ℕ) (nodes : List ExprNode) (asks : List ℕ)
+    → NameLeaves text nodes asks → length (questions_at text nodes asks) ≡ length asks
 length-questions_at text nodes [] names = refl
 length-questions_at text nodes (place ∷ asks) names =
     let found : leaf_at nodes place ≡ Some names.0.predicate =
     ap (option_and_then leaf_of) names.0.stands in
     rw found (ap suc (length-questions_at text nodes asks names.1))
 
-pub length-asked_kept : (text : List ℕ) (nodes : List ExprNode) (asks : List ℕ) (tree : Tree)
-    → KeepsTree text nodes asks tree → length asks ≡ length (asked tree)
-length-asked_kept text nodes asks tree k =
-    Alike-length (question_in text nodes) (λ q. Some q) asks (asked tree)
-    (asks_kept text nodes asks tree k)
+module _ {text : List ℕ} {nodes : List ExprNode} {asks : List ℕ} {tree : Tree}
+    (k : KeepsTree text nodes asks tree) where
+  -- the leaves at a tree's places are what it asks
+  asks_kept : map (question_in text nodes) asks ≡ map (λ (q : Question). Some q) (asked tree)
+  asks_kept =
+      ap (map (question_in text nodes)) k.asked_are
+      ∙ read-places node_of_leaf node_of_function (map (node_at text) nodes) tree
+      (question_in text nodes) question_of_node (k.nodes_are ∙ sym (labels_are tree))
+      (shown_same text nodes)
+      ∙ leaf_labels-asked node_of_leaf node_of_function question_of_node
+      (λ (q : Question). Some q) (λ odd question. refl) false tree
+
+  pub questions_at-kept : questions_at text nodes asks ≡ asked tree
+  questions_at-kept = filtered (question_in text nodes) asks (asked tree) asks_kept
+
+  pub NameLeaves-kept : NameLeaves text nodes asks
+  NameLeaves-kept = NameLeaves-asks text nodes asks (asked tree) k.cuts asks_kept
+
+  pub length-asked_kept : length asks ≡ length (asked tree)
+  length-asked_kept =
+      Alike-length (question_in text nodes) (λ q. Some q) asks (asked tree) asks_kept

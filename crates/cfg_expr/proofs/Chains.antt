@@ -97,8 +97,8 @@ module _ {F T : Type 0} (asker : Asker F T) where
       MayAskEach.more state question questions (may state question)
       (λ answer after asks. MayAskEach-always may after questions)
 
--- there the value is that over all the answers that are seen at the start, if there are as many as a
--- tree of the text asks
+-- there the value is that over all the answers that are seen at the start, if there are as many as
+-- a tree of the text asks
 pub Evaluates-taken : {F T : Type 0} {logic : Operations T} {asker : Asker F T} {text : List ℕ}
     {before after : F} {value : T} (seen : F → List T) (otherwise : T) (answers : List T)
     → Evaluates logic asker text before value after

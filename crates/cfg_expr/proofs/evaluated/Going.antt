@@ -146,7 +146,8 @@ pub room-finish : {F T : Type 0} (asker : Asker F T) (now : Standing F T) (func 
     → CanGo asker now (λ s. Step.finish func ∷ s)
     → height_behind func (length now.values.items) ≤ now.values.capacity
 room-finish asker now func can =
-    omega (arith, can.1.room, below-most_values can.0 (height_behind func (length now.values.items)))
+    let more = below-most_values can.0 (height_behind func (length now.values.items)) in
+    omega (arith, can.1.room)
 
 pub Goes-finished : {F T : Type 0} {logic : Operations T} {asker : Asker F T} {closure : F}
     {questions : List Question} {values new : SmallVec (Option T)} (func : Option Func)

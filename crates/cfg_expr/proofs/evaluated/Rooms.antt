@@ -92,7 +92,8 @@ some-node tree = omega arith
 count-nodes : (trees : Trees) → count trees ≤ length (prefix_each trees)
 count-nodes Trees.none = omega arith
 count-nodes (Trees.more tree trees) =
-    omega (arith, length-append (prefix tree) (prefix_each trees), some-node tree, count-nodes trees)
+    let both = length-append (prefix tree) (prefix_each trees) in
+    omega (arith, some-node tree, count-nodes trees)
 
 abbrev FitsValues : Trees → Type 0
 FitsValues trees = (height : ℕ) (steps : List Step)

@@ -27,7 +27,8 @@ use Rattle.cfg_expr.proofs.evaluated.Walking.{walk-nodes}
 abbrev pub steps_from : List ExprNode → List Step
 steps_from nodes = walk (map shape nodes) (text_list ∷ [])
 
-module _ {text : List ℕ} {nodes : List ExprNode} {asks : List ℕ} (keeps : Keeps text nodes asks) where
+module _ {text : List ℕ} {nodes : List ExprNode} {asks : List ℕ}
+    (keeps : Keeps text nodes asks) where
   steps-kept : steps_from nodes ≡ all_steps keeps.tree
   steps-kept = walk-nodes text nodes keeps.tree keeps.keeps.nodes_are
 
@@ -56,7 +57,7 @@ module _ {F T : Type 0} {asker : Asker F T} {text : List ℕ} {nodes : List Expr
     (are : questions ≡ questions_at text nodes asks) (measured : Measures (steps_from nodes) room)
     (none : values.items ≡ []) (fits : values.capacity ≡ max 33 room.values) where
   asked_are : questions ≡ asked keeps.tree
-  asked_are = are ∙ questions_at-kept text nodes asks keeps.tree keeps.keeps
+  asked_are = are ∙ questions_at-kept keeps.keeps
 
   pub CanTake-all : CanTake asker (standing before questions values) (steps_from nodes)
   CanTake-all = record {

@@ -98,7 +98,7 @@ odds-places tree =
     (λ place odd is. get_or_from_slice_get all place odd false is)
     ∙ map-id (leaf_odds false tree)
 
-module _ (text : List ℕ) (nodes : List ExprNode) (asks : List ℕ) (tree : Tree)
+module _ {text : List ℕ} {nodes : List ExprNode} {asks : List ℕ} {tree : Tree}
     (keeps : KeepsTree text nodes asks tree) where
   pass-kept : pass (map reach nodes) false (replicate (length nodes) false) ≡ odds false tree
   pass-kept =

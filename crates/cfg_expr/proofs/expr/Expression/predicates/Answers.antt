@@ -10,14 +10,14 @@ use Rattle.cfg_expr.proofs.expr.Expression.predicates.Goals as goal
 pub new-requires : goal.new-requires
 new-requires g c =
     rw (c.as_str.ensures.value, c.as_slice.ensures, c.as_slice-2.ensures)
-    (NameLeaves-kept _ _ _ c.self.invariant.0.tree c.self.invariant.0.keeps)
+    (NameLeaves-kept c.self.invariant.0.keeps)
 
 pub returns-clause-asked : goal.returns-clause-asked
 returns-clause-asked g c = (
   c.self.invariant.0.tree,
   subst (λ text. HasTree text c.self.invariant.0.tree) c.self.view_is c.self.invariant.0.has_tree,
   c.new.ensures ∙ rw (c.as_str.ensures.value, c.as_slice.ensures, c.as_slice-2.ensures)
-      (questions_at-kept _ _ _ c.self.invariant.0.tree c.self.invariant.0.keeps),
+      (questions_at-kept c.self.invariant.0.keeps),
 )
 
 -- what a text asks can stand in a text

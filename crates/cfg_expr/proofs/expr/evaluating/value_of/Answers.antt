@@ -24,7 +24,7 @@ returns-in_err-values-clause-short g c few =
     absurd (cc ok)
 
 pub new-predicates-requires : goal.new-predicates-requires
-new-predicates-requires g c = NameLeaves-kept _ _ _ c.requires.keeps.tree c.requires.keeps.keeps
+new-predicates-requires g c = NameLeaves-kept c.requires.keeps.keeps
 
 pub evaluate-requires : goal.evaluate-requires
 evaluate-requires g c =

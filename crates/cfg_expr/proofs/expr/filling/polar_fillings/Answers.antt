@@ -12,7 +12,7 @@ fillings-requires g c =
     let keeps = c.requires.keeps in
     let given = c.requires.answered in
     let one = c.in_ok-value_over.ensures.0 in
-    length-asked_kept _ _ _ keeps.tree keeps.keeps
+    length-asked_kept keeps.keeps
     ∙ ap (λ tree. length (asked tree))
     (one.only keeps.tree keeps.has_tree ∙ sym (one.only given.0 given.1)) ∙ sym given.2
 
@@ -28,7 +28,7 @@ returns-in_ok-fillings-in-None g c =
     let kept = subst (KeepsTree c.args.text.now c.args.nodes.now c.args.places.now)
     (value.0.only keeps.tree keeps.has_tree) keeps.keeps in
     let odds = c.deref.ensures.value ∙ c.in_ok-odds-in-None.ensures in
-    let is = polar-kept _ _ _ value.0.tree kept c.deref.result.now c.args.answers.now in (
+    let is = polar-kept kept c.deref.result.now c.args.answers.now in (
       value.0,
       (
         sym value.1 ∙ c.in-None.is,
