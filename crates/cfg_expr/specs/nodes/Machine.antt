@@ -7,17 +7,17 @@ use Rattle.cfgx_grammar.specs.Question.{Question}
 use Rattle.cfgx_grammar.specs.Fold.{Operations}
 use Rattle.cfg_expr.specs.Asking.{Asker, Calls, MayAskEach}
 use Rattle.cfg_expr.specs.nodes.Steps.{Step, asked_in, most_values}
-use Rattle.cfg_expr.specs.declared.expr.evaluating.Joint.{Joint}
-use Rattle.cfg_expr.specs.declared.expr.evaluating.Joint.TheVariants.{And, Or}
+use Rattle.cfg_expr.specs.declared.expr.evaluating.Connective.{Connective}
+use Rattle.cfg_expr.specs.declared.expr.evaluating.Connective.TheVariants.{And, Or}
 use Rattle.cfg_expr.specs.declared.expr.Func.{Func}
 use Rattle.cfg_expr.specs.declared.expr.Func.TheVariants.{Not, All, Any}
 
--- what a joint begins with, and how it joins two values
-abbrev pub begin_of : {T : Type 0} → Operations T → Joint → T
+-- what a connective begins with, and how it joins two values
+abbrev pub begin_of : {T : Type 0} → Operations T → Connective → T
 begin_of logic And = logic.top
 begin_of logic Or = logic.bottom
 
-abbrev pub join_of : {T : Type 0} → Operations T → Joint → T → T → T
+abbrev pub join_of : {T : Type 0} → Operations T → Connective → T → T → T
 join_of logic And = logic.and
 join_of logic Or = logic.or
 

@@ -236,19 +236,19 @@ fn pop_value<T: Logic, A: Allocator>(values: &mut SmallVec<Option<T>, 33, &A>) -
 
 /// How the values of a function's members are joined.
 #[derive(Clone, Copy)]
-pub(crate) enum Joint {
+pub(crate) enum Connective {
     And,
     Or,
 }
 
-impl Joint {
+impl Connective {
     /// The value of no members.
     fn begin<T: Logic>(self) -> T
         ensures { result ≡ begin_of T.Logic self }
     {
         match self {
-            Joint::And => T::top(),
-            Joint::Or => T::bottom(),
+            Connective::And => T::top(),
+            Connective::Or => T::bottom(),
         }
     }
 
@@ -256,27 +256,28 @@ impl Joint {
         ensures { result ≡ join_of T.Logic self value last }
     {
         match self {
-            Joint::And => value.and(last),
-            Joint::Or => value.or(last),
+            Connective::And => value.and(last),
+            Connective::Or => value.or(last),
         }
     }
 }
 
 /// Takes the last values off, this many, and joins them from the last one back.
 fn join_last<T: Logic, A: Allocator>(
-    joint: Joint,
+    connective: Connective,
     members: usize,
     values: &mut SmallVec<Option<T>, 33, &A>,
 ) -> T
-    ensures value { result ≡ fold (joined (join_of T.Logic joint)) (begin_of T.Logic joint)
+    ensures value { result
+        ≡ fold (joined (join_of T.Logic connective)) (begin_of T.Logic connective)
         (take members (reverse values.old.items)) }
     ensures rest { reverse values.new.items ≡ drop members (reverse values.old.items) }
     ensures capacity { values.new.capacity ≡ values.old.capacity }
 {
-    let mut value = joint.begin();
+    let mut value = connective.begin();
     for _joined in 0..members {
         value = match pop_value(values) {
-            Some(last) => joint.join(value, last),
+            Some(last) => connective.join(value, last),
             None => value,
         };
     }
@@ -292,8 +293,8 @@ fn apply<T: Logic, A: Allocator>(func: Func, values: &mut SmallVec<Option<T>, 33
 {
     let value = match func {
         Func::Not => pop_value(values).map(|value| value.not()),
-        Func::All(members) => Some(join_last(Joint::And, members, values)),
-        Func::Any(members) => Some(join_last(Joint::Or, members, values)),
+        Func::All(members) => Some(join_last(Connective::And, members, values)),
+        Func::Any(members) => Some(join_last(Connective::Or, members, values)),
     };
     values.push_reserved(value);
 }

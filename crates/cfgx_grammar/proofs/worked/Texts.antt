@@ -116,13 +116,14 @@ empty_not_has_none = none_read (codes "not()") not_items _ not_are refl
 abbrev reads : List ℕ → List Item → Result (State tree_builder) Refusal
 reads text items = answer_from (initial {builder = tree_builder}) text items Ending.blank
 
--- The place of each fault. The fault of `feature`, which
--- lacks its value, comes behind that of `not`, which has two members.
+-- The place of each fault. The fault of `feature`, which lacks its value, comes behind that of
+-- `not`, which has two members.
 pub unclosed : reads (codes "all(a") open_items ≡ Err (refusal unclosed_parens 3 5)
 unfolding class
 unclosed = refl
 
-pub lone_comma : reads (codes "any(,)") comma_items ≡ Err (refusal (unexpected (expected (Some Token.open_paren))) 4 5)
+pub lone_comma : reads (codes "any(,)") comma_items
+    ≡ Err (refusal (unexpected (expected (Some Token.open_paren))) 4 5)
 unfolding class
 lone_comma = refl
 

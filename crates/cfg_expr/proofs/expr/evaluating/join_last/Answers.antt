@@ -8,7 +8,7 @@ use Rattle.cfg_expr.proofs.expr.evaluating.join_last.Goals.{in-Some, in-None}
 pub loop-joined-preserved : goal.loop-joined-preserved
 loop-joined-preserved g c =
     let value : c.match-pop_value.value
-    ≡ joined (join_of g.T.Logic c.args.joint) c.loop-joined.value c.pop_value.result =
+    ≡ joined (join_of g.T.Logic c.args.connective) c.loop-joined.value c.pop_value.result =
     elim c.match-pop_value.branch [
       | in-Some w ↦ w.value-is ∙ rw w.in-Some.is w.join.ensures
       | in-None w ↦ w.value-is ∙ rw w.in-None.is refl
