@@ -25,7 +25,7 @@ use Rattle.cfgx_grammar.proofs.accepted.Reads.{ok_same, Counted, Counted-item, c
 use Rattle.cfgx_grammar.proofs.accepted.Reads.{current-with_item, Around-with_item, Settled}
 use Rattle.cfgx_grammar.proofs.accepted.Reads.{Settled-as, PendsKey, PendsEquals, PendsValue}
 use Rattle.cfgx_grammar.proofs.accepted.Reads.{Named, Reads, LeafEnds-ended, Settled-leaf}
-use Rattle.cfgx_grammar.proofs.accepted.Reads.{same_ended}
+use Rattle.cfgx_grammar.proofs.accepted.Reads.{same_ended, Pends}
 
 -- one more token behind a list and what has begun in it
 behind_more : (tokens before list item more : List Token) → tokens ≡ before ++ (list ++ item)
@@ -207,19 +207,24 @@ module _ {W M L : Type 0} {builder : Builder W M L} where
     },
   )
 
+  -- more tokens of a predicate that has begun
+  Pends-more : (s : State builder) (pending : Option Pending) (last : Option Token)
+      (tokens item others : List Token) (p q : Pending) → Pends s tokens item p
+      → pending ≡ Some q → Pends (record s { pending = pending; last = last }) (tokens ++ others)
+      (item ++ others) q
+  Pends-more s pending last tokens item others p q begun is = record {
+    before = begun.before;
+    list = begun.list;
+    tokens_are = behind_more tokens begun.before begun.list item others begun.tokens_are;
+    around = begun.around;
+    ready = begun.ready;
+    pending = is;
+  }
+
   Reads-equals : (s : State builder) (tokens : List Token) → PendsKey s tokens
       → PendsEquals (with_last Token.equals s) (tokens ++ Token.equals ∷ [])
-  Reads-equals s tokens (key, begun) = (
-    key,
-    record {
-      before = begun.before;
-      list = begun.list;
-      tokens_are = behind_more tokens begun.before begun.list _ _ begun.tokens_are;
-      around = begun.around;
-      ready = begun.ready;
-      pending = begun.pending;
-    },
-  )
+  Reads-equals s tokens (key, begun) =
+      (key, Pends-more s s.pending _ tokens _ _ _ _ begun begun.pending)
 
   Reads-value : (s t : State builder) (tokens : List Token) (item : Item) (text : List ℕ)
       → PendsEquals s tokens → apply s item (Token.value text) ≡ Ok t
@@ -231,18 +236,7 @@ module _ {W M L : Type 0} {builder : Builder W M L} where
       ok_same _ _ (ap (λ (p : Option Pending). apply (record s { pending = p }) item
       (Token.value text)) (sym begun.pending) ∙ does) in
       subst (λ u. PendsValue (with_last (Token.value text) u) (tokens ++ Token.value text ∷ []))
-      same (
-        key,
-        value,
-        record {
-          before = begun.before;
-          list = begun.list;
-          tokens_are = behind_more tokens begun.before begun.list _ _ begun.tokens_are;
-          around = begun.around;
-          ready = begun.ready;
-          pending = refl;
-        },
-      )
+      same (key, value, Pends-more s pending _ tokens _ _ _ _ begun refl)
 
   Reads-name : (s : State builder) (tokens : List Token) (function : Function) (item : Item)
       → Settled Ready s tokens → Named (with_last (name_of function) (opened s function item))

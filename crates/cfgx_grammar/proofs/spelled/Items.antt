@@ -523,6 +523,22 @@ module _ {W M L : Type 0} {builder : Builder W M L} (laws : Laws builder) where
             (calls c.head c.opening c.closing c.members s.written l.written l.builds);
       })
 
+  -- a call of `all` or of `any`, whose list may be any
+  ItemEnds-listed : (s : State builder) (items : List Item) (function : Function)
+      (inner : List Token) (tree : Tree) (trees : Trees) → takes s.last Kind.item ≡ true
+      → s.pending ≡ None → IsCall (name_of function) (tokens_of items) inner
+      → has_room function (count trees) ≡ true
+      → Calls builder laws.ItemBuilds laws.ListBuilds function tree trees → IsList inner trees
+      → ((before start : State builder) (top : Open M) (members : List Item)
+      → Starts before start top s.stack trees → IsList (tokens_of members) trees
+      → ListEnds before start top s.stack members trees)
+      → ItemEnds s items tree
+  ItemEnds-listed s items function inner tree trees may none call room calls list each =
+      let c = CallItems-call items (name_of function) inner call in
+      let start = Starts-inside s function c.head c.opening trees none in
+      ItemEnds-call s items function inner tree trees may c room calls
+      (each _ _ _ c.members start (subst (λ l. IsList l trees) (sym c.members_are) list))
+
   mutual
     pub ItemEnds-item : (tree : Tree) (s : State builder) (items : List Item)
         → takes s.last Kind.item ≡ true → s.pending ≡ None → IsItem (tokens_of items) tree
@@ -530,17 +546,11 @@ module _ {W M L : Type 0} {builder : Builder W M L} (laws : Laws builder) where
     ItemEnds-item (Tree.leaf question) s items may none (key, value, is, classed) =
         ItemEnds-leaf s items question key value may is classed
     ItemEnds-item (Tree.all trees) s items may none (inner, call, list) =
-        let c = CallItems-call items Token.all inner call in
-        let start = Starts-inside s Function.all c.head c.opening trees none in
-        ItemEnds-call s items Function.all inner (Tree.all trees) trees may c refl
-        (laws.all trees) (ListEnds-list trees _ _ _ s.stack c.members start
-        (subst (λ l. IsList l trees) (sym c.members_are) list))
+        ItemEnds-listed s items Function.all inner (Tree.all trees) trees may none call refl
+        (laws.all trees) list (λ b t top is. ListEnds-list trees b t top s.stack is)
     ItemEnds-item (Tree.any trees) s items may none (inner, call, list) =
-        let c = CallItems-call items Token.any inner call in
-        let start = Starts-inside s Function.any c.head c.opening trees none in
-        ItemEnds-call s items Function.any inner (Tree.any trees) trees may c refl
-        (laws.any trees) (ListEnds-list trees _ _ _ s.stack c.members start
-        (subst (λ l. IsList l trees) (sym c.members_are) list))
+        ItemEnds-listed s items Function.any inner (Tree.any trees) trees may none call refl
+        (laws.any trees) list (λ b t top is. ListEnds-list trees b t top s.stack is)
     ItemEnds-item (Tree.not tree) s items may none (item, n, call, spelled) =
         let c = CallItems-call items Token.not (item ++ commas n) call in
         let start = inside s Function.not c.head c.opening in
