@@ -1,5 +1,5 @@
 -- The nodes of worked trees, and the places of their leaves.
-use Rattle.std.proofs.Common.{◌≡◌, refl, [], ◌∷◌, ℕ, List, None, Some, Ok}
+use Rattle.std.proofs.Common.{◌≡◌, refl, [], ◌∷◌, ℕ, None, Some, Ok}
 use Rattle.std.specs.Prelude.{codes}
 use Rattle.std.specs.declared.ops.Range.{Range}
 use Rattle.cfgx_syntax.specs.Items.{Ending}
