@@ -1,5 +1,5 @@
-//! Tests that cross crates: what `run`, `Expression` and `Lexer` answer to texts whose answers are
-//! known from outside.
+//! The tests that need nothing private, whose answers are known from outside; callers that are
+//! proved; and an allocator that refuses on demand.
 #![tactic(auto)]
 
 #[cfg(test)]
