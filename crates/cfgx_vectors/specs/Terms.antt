@@ -1,5 +1,5 @@
 -- Terms of at most 64 bytes, as a logic writes them down.
-use Rattle.std.specs.Prelude.{ℕ, List, [], ◌∷◌, ◌++◌, codes, take}
+use Rattle.std.specs.Prelude.{ℕ, List, ◌∷◌, ◌++◌, codes, take}
 
 -- what there is room for
 abbrev pub cut : List ℕ → List ℕ
