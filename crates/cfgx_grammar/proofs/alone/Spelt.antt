@@ -25,7 +25,8 @@ use Rattle.cfgx_targets.proofs.AtomicLemmas.{endian_named-text, atomic_named-tex
 use Rattle.cfgx_targets.proofs.NumberLemmas.{read_below-decimal}
 use Rattle.cfgx_grammar.specs.Question.{Question, TargetQuestion}
 use Rattle.cfgx_grammar.specs.Classification.{asks}
-use Rattle.cfgx_grammar.specs.Classification.{Class, Part, class, bare, valued, if_read, target_feature}
+use Rattle.cfgx_grammar.specs.Classification.{Class, Part, class, bare, valued, if_read}
+use Rattle.cfgx_grammar.specs.Classification.{target_feature}
 use Rattle.cfgx_grammar.specs.Classification.{Line, by_name, key_lines, target_lines, target_class}
 use Rattle.cfgx_grammar.specs.Classification.{plain, other_class, family, target_names}
 use Rattle.cfgx_grammar.specs.Regular.{CanBeQuoted, IsRegular}

@@ -2,7 +2,8 @@
 use Rattle.std.proofs.Common.{◌-◌, length, arith, rules}
 use Rattle.cfgx_syntax.specs.Error.{cause_of}
 use Rattle.cfgx_syntax.specs.Lexer.{token_of}
-use Rattle.cfgx_syntax.proofs.Scanning.{IsBehind-trimmed, Stands-found, CanBeCut-found, GivesFault-found}
+use Rattle.cfgx_syntax.proofs.Scanning.{IsBehind-trimmed, Stands-found, CanBeCut-found}
+use Rattle.cfgx_syntax.proofs.Scanning.{GivesFault-found}
 use Rattle.cfgx_syntax.proofs.Scanning.{state_at}
 use Rattle.cfgx_syntax.proofs.lexer.LexerIterator.next.Goals as goal
 
