@@ -5,7 +5,7 @@ use Rattle.std.proofs.Common.{◌∙◌, subst, arith, append_assoc}
 use Rattle.std.proofs.lemmas.List.{append-nil}
 use Rattle.cfgx_syntax.specs.Token.{Token}
 use Rattle.cfgx_grammar.specs.Tree.{Tree, Trees}
-use Rattle.cfgx_grammar.specs.Grammar.{commas, IsItem, IsList, IsTree}
+use Rattle.cfgx_grammar.specs.Grammar.{commas, Separates, IsItem, IsList, IsTree}
 
 -- a list of trees as the members of a function
 abbrev pub trees_of : List Tree → Trees
@@ -35,13 +35,16 @@ pub record Full (tokens : List Token) (trees : List Tree) : Type 0 where
   pub list : IsList tokens (trees_of trees)
   pub single : (tree : Tree) → trees ≡ tree ∷ [] → IsTree tokens tree
 
+-- a comma at least separates a tree from whatever follows
+separated : (n : ℕ) (trees : List Tree) → Separates (suc n) (trees_of trees)
+separated n [] = tt
+separated n (tree ∷ trees) = omega arith
+
 pub Ready-list : (tokens : List Token) (trees : List Tree) → Ready tokens trees
     → IsList tokens (trees_of trees)
 Ready-list tokens [] ready = ready
-Ready-list tokens (tree ∷ []) (item, n, rest, is, spelled, ready) =
-    (item, suc n, rest, is, tt, spelled, ready)
-Ready-list tokens (tree ∷ other ∷ others) (item, n, rest, is, spelled, ready) =
-    (item, suc n, rest, is, omega arith, spelled, Ready-list rest (other ∷ others) ready)
+Ready-list tokens (tree ∷ trees) (item, n, rest, is, spelled, ready) =
+    (item, suc n, rest, is, separated n trees, spelled, Ready-list rest trees ready)
 
 -- an item behind a list that is ready for it
 pub Ready-item : (front : List Token) (trees : List Tree) (item : List Token)
@@ -56,23 +59,14 @@ Ready-item front [] item tree ready spelled = (
   spelled,
   refl,
 )
-Ready-item front (first ∷ []) item tree (head, n, rest, is, said, ready) spelled = (
+Ready-item front (first ∷ others) item tree (head, n, rest, is, said, ready) spelled = (
   head,
   suc n,
   rest ++ item,
   rw is (simp append_assoc),
-  omega arith,
+  separated n (others ++ tree ∷ []),
   said,
-  Ready-item rest [] item tree ready spelled,
-)
-Ready-item front (first ∷ other ∷ others) item tree (head, n, rest, is, said, ready) spelled = (
-  head,
-  suc n,
-  rest ++ item,
-  rw is (simp append_assoc),
-  omega arith,
-  said,
-  Ready-item rest (other ∷ others) item tree ready spelled,
+  Ready-item rest others item tree ready spelled,
 )
 
 -- an item and a comma behind a list that is ready for it
