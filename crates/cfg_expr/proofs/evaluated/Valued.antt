@@ -1,5 +1,5 @@
 -- An evaluation from the first node to the last gives the value of the tree.
-use Rattle.std.proofs.Common.{◌≡◌, ℕ, ◌≤◌, ◌<◌, ◌^◌, List, [], ◌∷◌, length}
+use Rattle.std.proofs.Common.{◌≡◌, ℕ, ◌+◌, ◌≤◌, ◌<◌, ◌^◌, List, [], ◌∷◌, ◌++◌, length}
 use Rattle.std.proofs.Common.{map, reverse, Option, Some, sym, refl, ap, ◌∙◌, arith, subst}
 use Rattle.std.specs.Prelude.{max}
 use Rattle.std.proofs.lemmas.List.{length-map, nil_from_length}
@@ -42,6 +42,16 @@ module _ {text : List ℕ} {nodes : List ExprNode} {asks : List ℕ}
       → (most_open 1 (steps_from nodes) ≤ 11) × (most_values 0 (steps_from nodes) ≤ 33)
   short-fits short = rw steps-kept (short-room text keeps.tree keeps.has_tree short)
 
+-- the text's list is the first that is open, and there is room for those inside it
+pub first_list : {before after : List OpenList} {list : OpenList} → after ≡ before ++ list ∷ []
+    → before ≡ [] → list ≡ text_list → after ≡ text_list ∷ []
+first_list pushed none is = rw (pushed, none, is) refl
+
+pub room-from : (nodes : List ExprNode) {room : Room} {lists : List OpenList} {capacity : ℕ}
+    → Measures (steps_from nodes) room → lists ≡ text_list ∷ [] → capacity ≡ max 10 room.around + 1
+    → most_open (length lists) (walk (map shape nodes) (reverse lists)) ≤ capacity
+room-from nodes measured is many = rw (is, many) measured.lists
+
 -- what an evaluation leaves
 pub record Leaves {F T : Type 0} (logic : Operations T) (asker : Asker F T) (text : List ℕ)
     (before after : F) (values : List (Option T)) : Type 0 where
@@ -59,12 +69,16 @@ module _ {F T : Type 0} {asker : Asker F T} {text : List ℕ} {nodes : List Expr
   asked_are : questions ≡ asked keeps.tree
   asked_are = are ∙ questions_at-kept keeps.keeps
 
-  pub CanTake-all : CanTake asker (standing before questions values) (steps_from nodes)
+  CanTake-all : CanTake asker (standing before questions values) (steps_from nodes)
   CanTake-all = record {
     may = subst (MayAskEach asker before) (sym asked_are) (may keeps.tree keeps.has_tree);
     all = ap asked_in (steps-kept keeps) ∙ asked_in-all keeps.tree ∙ ap length (sym asked_are);
     room = rw none (omega (arith, measured.values));
   }
+
+  pub CanTake-from : {lists : List OpenList} → lists ≡ text_list ∷ []
+      → CanTake asker (standing before questions values) (walk (map shape nodes) (reverse lists))
+  CanTake-from is = rw is CanTake-all
 
   pub Leaves-all : {logic : Operations T} {after : F} {rest : List Question}
       {left : SmallVec (Option T)} {lists : List OpenList} → lists ≡ text_list ∷ []

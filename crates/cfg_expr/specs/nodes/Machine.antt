@@ -9,6 +9,7 @@ use Rattle.cfg_expr.specs.Asking.{Asker, Calls, MayAskEach}
 use Rattle.cfg_expr.specs.nodes.Steps.{Step, asked_in, most_values}
 use Rattle.cfg_expr.specs.declared.expr.evaluating.Connective.{Connective}
 use Rattle.cfg_expr.specs.declared.expr.evaluating.Connective.TheVariants.{And, Or}
+use Rattle.cfg_expr.specs.declared.expr.evaluating.Evaluation.{Evaluation}
 use Rattle.cfg_expr.specs.declared.expr.Func.{Func}
 use Rattle.cfg_expr.specs.declared.expr.Func.TheVariants.{Not, All, Any}
 
@@ -67,6 +68,9 @@ standing closure questions values = record {
   questions = questions;
   values = values;
 }
+
+abbrev pub standing_of : {F T A : Type 0} → F → Evaluation T A → Standing F T
+standing_of closure evaluation = standing closure evaluation.predicates evaluation.values.now
 
 -- the questions may be asked, the steps ask them all, and there is room for the values
 pub record CanTake {F T : Type 0} (asker : Asker F T) (now : Standing F T)

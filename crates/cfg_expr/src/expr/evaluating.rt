@@ -14,7 +14,7 @@ ghost use Rattle.cfg_expr.specs.nodes.Steps.{still_open, text_list};
 ghost use Rattle.cfg_expr.specs.nodes.Steps.{RoomFor, begun, shape};
 ghost use Rattle.cfg_expr.specs.nodes.Steps.{height_behind, steps_at};
 ghost use Rattle.cfg_expr.specs.nodes.Machine.{CanGo, CanTake, Goes, applied, joined, last_of};
-ghost use Rattle.cfg_expr.specs.nodes.Machine.{begin_of, join_of, standing};
+ghost use Rattle.cfg_expr.specs.nodes.Machine.{begin_of, join_of, standing_of};
 
 mod open_lists;
 
@@ -185,46 +185,6 @@ where
     ep(predicate)
 }
 
-/// Asks the next predicate, and keeps its answer.
-fn ask_next<EP, T, A>(
-    predicates: &mut Predicates<'_>,
-    values: &mut SmallVec<Option<T>, 33, &A>,
-    ep: &mut EP,
-)
-where
-    EP: FnMut(&Predicate<'_>) -> T,
-    T: Logic,
-    A: Allocator,
-    requires { CanGo EP.FnMut (standing ep.old predicates.old values.old) (λ s. Step.ask ∷ s) }
-    ensures { Goes T.Logic EP.FnMut (standing ep.old predicates.old values.old)
-        (λ s. Step.ask ∷ s) (standing ep.new predicates.new values.new) (λ s. s) }
-{
-    match predicates.next() {
-        Some(predicate) => values.push_reserved(Some(ask(&predicate, ep))),
-        None => unreachable!(),
-    }
-}
-
-/// Asks the next predicates, this many, and keeps their answers.
-fn ask_each<EP, T, A>(
-    count: usize,
-    predicates: &mut Predicates<'_>,
-    values: &mut SmallVec<Option<T>, 33, &A>,
-    ep: &mut EP,
-)
-where
-    EP: FnMut(&Predicate<'_>) -> T,
-    T: Logic,
-    A: Allocator,
-    requires { CanGo EP.FnMut (standing ep.old predicates.old values.old) (asks count) }
-    ensures { Goes T.Logic EP.FnMut (standing ep.old predicates.old values.old) (asks count)
-        (standing ep.new predicates.new values.new) (λ s. s) }
-{
-    for _asked in 0..count {
-        ask_next(predicates, values, ep);
-    }
-}
-
 /// Takes the last value off.
 fn pop_value<T: Logic, A: Allocator>(values: &mut SmallVec<Option<T>, 33, &A>) -> Option<T>
     ensures last { result ≡ last_of (reverse values.old.items) }
@@ -299,100 +259,107 @@ fn apply<T: Logic, A: Allocator>(func: Func, values: &mut SmallVec<Option<T>, 33
     values.push_reserved(value);
 }
 
-/// Ends a list: its leaves are asked, and where it is a function's, its members are joined.
-fn end<EP, T, A>(
-    list: OpenList,
-    predicates: &mut Predicates<'_>,
-    values: &mut SmallVec<Option<T>, 33, &A>,
-    ep: &mut EP,
-)
-where
-    EP: FnMut(&Predicate<'_>) -> T,
-    T: Logic,
-    A: Allocator,
-    requires { CanGo EP.FnMut (standing ep.old predicates.old values.old)
-        (λ s. asks list.leaves (Step.finish list.func ∷ s)) }
-    ensures { Goes T.Logic EP.FnMut (standing ep.old predicates.old values.old)
-        (λ s. asks list.leaves (Step.finish list.func ∷ s))
-        (standing ep.new predicates.new values.new) (λ s. s) }
-{
-    ask_each(list.leaves, predicates, values, ep);
-    if let Some(func) = list.func {
-        apply(func, values);
+/// Where an evaluation stands.
+#[derive(Drop)]
+struct Evaluation<'p, 'v, 'a, T: Logic, A: SmallAllocator> {
+    /// The predicates that are still to be asked
+    predicates: Predicates<'p>,
+    /// The values of members whose list is open
+    values: &'v mut SmallVec<Option<T>, 33, &'a A>,
+}
+
+impl<'p, 'v, 'a, T: Logic, A: SmallAllocator> Evaluation<'p, 'v, 'a, T, A> {
+    /// These are to be asked, and the values are kept there.
+    fn new(predicates: Predicates<'p>, values: &'v mut SmallVec<Option<T>, 33, &'a A>) -> Self
+        ensures predicates { result.predicates ≡ predicates.entry }
+        ensures values { result.values.now ≡ values.old }
+    {
+        Evaluation { predicates, values }
     }
-}
 
-/// Ends the lists that have no member to come.
-fn end_all<EP, T, A>(
-    lists: &mut OpenLists<A>,
-    predicates: &mut Predicates<'_>,
-    values: &mut SmallVec<Option<T>, 33, &A>,
-    ep: &mut EP,
-)
-where
-    EP: FnMut(&Predicate<'_>) -> T,
-    T: Logic,
-    A: SmallAllocator,
-    requires { CanGo EP.FnMut (standing ep.old predicates.old values.old)
-        (finishes (reverse lists.old.items)) }
-    ensures lists { reverse lists.new.items ≡ still_open (reverse lists.old.items) }
-    ensures capacity { lists.new.capacity ≡ lists.old.capacity }
-    ensures goes { Goes T.Logic EP.FnMut (standing ep.old predicates.old values.old)
-        (finishes (reverse lists.old.items)) (standing ep.new predicates.new values.new) (λ s. s) }
-{
-    while let Some(list) = lists.pop_ended() {
-        end(list, predicates, values, ep);
+    /// Asks the next predicate, and keeps its answer.
+    fn ask_next<EP: FnMut(&Predicate<'_>) -> T>(&mut self, ep: &mut EP)
+        requires { CanGo EP.FnMut (standing_of ep.old self.old) (λ s. Step.ask ∷ s) }
+        ensures { Goes T.Logic EP.FnMut (standing_of ep.old self.old) (λ s. Step.ask ∷ s)
+            (standing_of ep.new self.new) (λ s. s) }
+    {
+        match self.predicates.next() {
+            Some(predicate) => self.values.push_reserved(Some(ask(&predicate, ep))),
+            None => unreachable!(),
+        }
     }
-}
 
-/// Goes over a node, and ends the lists that it ends.
-fn step<EP, T, A>(
-    node: &ExprNode,
-    lists: &mut OpenLists<A>,
-    predicates: &mut Predicates<'_>,
-    values: &mut SmallVec<Option<T>, 33, &A>,
-    ep: &mut EP,
-)
-where
-    EP: FnMut(&Predicate<'_>) -> T,
-    T: Logic,
-    A: SmallAllocator,
-    requires room { RoomFor (shape node.now) lists.old }
-    requires can { CanGo EP.FnMut (standing ep.old predicates.old values.old)
-        (steps_at (shape node.now) (reverse lists.old.items)) }
-    ensures lists { reverse lists.new.items
-        ≡ still_open (entered (shape node.now) (reverse lists.old.items)) }
-    ensures capacity { lists.new.capacity ≡ lists.old.capacity }
-    ensures goes { Goes T.Logic EP.FnMut (standing ep.old predicates.old values.old)
-        (steps_at (shape node.now) (reverse lists.old.items))
-        (standing ep.new predicates.new values.new) (λ s. s) }
-{
-    enter(lists, node);
-    end_all(lists, predicates, values, ep);
-}
+    /// Asks the next predicates, this many, and keeps their answers.
+    fn ask_each<EP: FnMut(&Predicate<'_>) -> T>(&mut self, count: usize, ep: &mut EP)
+        requires { CanGo EP.FnMut (standing_of ep.old self.old) (asks count) }
+        ensures { Goes T.Logic EP.FnMut (standing_of ep.old self.old) (asks count)
+            (standing_of ep.new self.new) (λ s. s) }
+    {
+        for _asked in 0..count {
+            self.ask_next(ep);
+        }
+    }
 
-/// Takes the steps of the nodes.
-fn evaluate<EP, T, A>(
-    nodes: &[ExprNode],
-    lists: &mut OpenLists<A>,
-    predicates: &mut Predicates<'_>,
-    values: &mut SmallVec<Option<T>, 33, &A>,
-    ep: &mut EP,
-)
-where
-    EP: FnMut(&Predicate<'_>) -> T,
-    T: Logic,
-    A: SmallAllocator,
-    requires room { most_open (length lists.old.items)
-        (walk (map shape nodes.now) (reverse lists.old.items)) ≤ lists.old.capacity }
-    requires can { CanTake EP.FnMut (standing ep.old predicates.old values.old)
-        (walk (map shape nodes.now) (reverse lists.old.items)) }
-    ensures { Goes T.Logic EP.FnMut (standing ep.old predicates.old values.old)
-        (λ _. walk (map shape nodes.now) (reverse lists.old.items))
-        (standing ep.new predicates.new values.new) (λ _. []) }
-{
-    for node in nodes {
-        step(node, lists, predicates, values, ep);
+    /// Ends a list: its leaves are asked, and where it is a function's, its members are joined.
+    fn end<EP: FnMut(&Predicate<'_>) -> T>(&mut self, list: OpenList, ep: &mut EP)
+        requires { CanGo EP.FnMut (standing_of ep.old self.old)
+            (λ s. asks list.leaves (Step.finish list.func ∷ s)) }
+        ensures { Goes T.Logic EP.FnMut (standing_of ep.old self.old)
+            (λ s. asks list.leaves (Step.finish list.func ∷ s))
+            (standing_of ep.new self.new) (λ s. s) }
+    {
+        self.ask_each(list.leaves, ep);
+        if let Some(func) = list.func {
+            apply(func, self.values);
+        }
+    }
+
+    /// Ends the lists that have no member to come.
+    fn end_all<EP: FnMut(&Predicate<'_>) -> T>(&mut self, lists: &mut OpenLists<A>, ep: &mut EP)
+        requires { CanGo EP.FnMut (standing_of ep.old self.old) (finishes (reverse lists.old.items)) }
+        ensures lists { reverse lists.new.items ≡ still_open (reverse lists.old.items) }
+        ensures capacity { lists.new.capacity ≡ lists.old.capacity }
+        ensures goes { Goes T.Logic EP.FnMut (standing_of ep.old self.old)
+            (finishes (reverse lists.old.items)) (standing_of ep.new self.new) (λ s. s) }
+    {
+        while let Some(list) = lists.pop_ended() {
+            self.end(list, ep);
+        }
+    }
+
+    /// Goes over a node, and ends the lists that it ends.
+    fn step<EP>(&mut self, node: &ExprNode, lists: &mut OpenLists<A>, ep: &mut EP)
+    where
+        EP: FnMut(&Predicate<'_>) -> T,
+        requires room { RoomFor (shape node.now) lists.old }
+        requires can { CanGo EP.FnMut (standing_of ep.old self.old)
+            (steps_at (shape node.now) (reverse lists.old.items)) }
+        ensures lists { reverse lists.new.items
+            ≡ still_open (entered (shape node.now) (reverse lists.old.items)) }
+        ensures capacity { lists.new.capacity ≡ lists.old.capacity }
+        ensures goes { Goes T.Logic EP.FnMut (standing_of ep.old self.old)
+            (steps_at (shape node.now) (reverse lists.old.items))
+            (standing_of ep.new self.new) (λ s. s) }
+    {
+        enter(lists, node);
+        self.end_all(lists, ep);
+    }
+
+    /// Takes the steps of the nodes.
+    fn evaluate<EP>(&mut self, nodes: &[ExprNode], lists: &mut OpenLists<A>, ep: &mut EP)
+    where
+        EP: FnMut(&Predicate<'_>) -> T,
+        requires room { most_open (length lists.old.items)
+            (walk (map shape nodes.now) (reverse lists.old.items)) ≤ lists.old.capacity }
+        requires can { CanTake EP.FnMut (standing_of ep.old self.old)
+            (walk (map shape nodes.now) (reverse lists.old.items)) }
+        ensures { Goes T.Logic EP.FnMut (standing_of ep.old self.old)
+            (λ _. walk (map shape nodes.now) (reverse lists.old.items))
+            (standing_of ep.new self.new) (λ _. []) }
+    {
+        for node in nodes {
+            self.step(node, lists, ep);
+        }
     }
 }
 
@@ -400,11 +367,11 @@ where
 /// asked, and this need of room.
 ///
 /// The error is that `alloc` refused room for the lists that are open at once, or for the values.
-pub(crate) fn value_of<EP, T, A>(
+pub(crate) fn value_of<'e, EP, T, A>(
     alloc: A,
-    text: &str,
-    nodes: &[ExprNode],
-    asked: &[usize],
+    text: &'e str,
+    nodes: &'e [ExprNode],
+    asked: &'e [usize],
     room: Room,
     ep: &mut EP,
 ) -> Result<T, AllocError>
@@ -423,9 +390,10 @@ where
     let mut lists = OpenLists::with_room(alloc, room.around)?;
     lists.push_reserved(OpenList::new(None, 1));
     let mut values = SmallVec::with_capacity(&alloc, room.values)?;
-    let mut predicates = Predicates::new(text, nodes, asked);
-    evaluate(nodes, &mut lists, &mut predicates, &mut values, ep);
-    match pop_value(&mut values) {
+    let predicates = Predicates::new(text, nodes, asked);
+    let mut evaluation = Evaluation::new(predicates, &mut values);
+    evaluation.evaluate(nodes, &mut lists, ep);
+    match pop_value(evaluation.values) {
         Some(value) => Ok(value),
         None => unreachable!(),
     }

@@ -1,11 +1,11 @@
 -- What the walk gives is the value of the text's tree.
-use Rattle.std.proofs.Common.{◌≡◌, [], ◌∷◌, ◌∙◌, rules, arith, refl}
+use Rattle.std.proofs.Common.{◌≡◌, [], ◌∷◌, ◌∙◌, ap, rules, arith, refl}
 use Rattle.cfg_expr.specs.nodes.Steps.{text_list}
 use Rattle.cfgx_syntax.proofs.Finding.{HasOneTokenList-of}
 use Rattle.cfgx_grammar.proofs.Answering.{HasOneTree-tree}
 use Rattle.cfg_expr.proofs.Asked.{NameLeaves-kept}
-use Rattle.cfg_expr.proofs.evaluated.Valued.{short-fits, CanTake-all, Leaves}
-use Rattle.cfg_expr.proofs.evaluated.Valued.{Leaves-all, Evaluates-left}
+use Rattle.cfg_expr.proofs.evaluated.Valued.{short-fits, CanTake-from, first_list, room-from}
+use Rattle.cfg_expr.proofs.evaluated.Valued.{Leaves, Leaves-all, Evaluates-left}
 use Rattle.cfg_expr.proofs.expr.evaluating.value_of.Given.{Over}
 use Rattle.cfg_expr.proofs.expr.evaluating.value_of.Goals.{After-pop_value}
 use Rattle.cfg_expr.proofs.expr.evaluating.value_of.Goals as goal
@@ -28,27 +28,29 @@ new-predicates-requires g c = NameLeaves-kept c.requires.keeps.keeps
 
 pub evaluate-requires : goal.evaluate-requires
 evaluate-requires g c =
-    let value_small = g.met.T.Logic.small in
-    let items : c.push_reserved.new.self.items ≡ text_list ∷ [] =
-    c.push_reserved.ensures.items ∙ rw (c.in_ok-lists.ensures.items, c.new.ensures) refl in
-    let values = c.in_ok-values.ensures in (
-      search (rules, value_small),
-      (
-        rw (items, c.push_reserved.ensures.capacity, c.in_ok-lists.ensures.capacity)
-            c.requires.measured.lists,
-        rw items (CanTake-all c.requires.keeps c.requires.may c.new-predicates.ensures
-            c.requires.measured values.items values.capacity),
-      ),
-    )
+    let lists = c.in_ok-lists.ensures in
+    let values = c.in_ok-values.ensures in
+    let made = c.new-evaluation.ensures in
+    let items = first_list c.push_reserved.ensures.items lists.items c.new.ensures in
+    record {
+      room = room-from c.args.nodes.now c.requires.measured items
+          (c.push_reserved.ensures.capacity ∙ lists.capacity);
+      can = CanTake-from c.requires.keeps c.requires.may
+          (made.predicates ∙ c.new-predicates.ensures) c.requires.measured
+          (ap (λ v. v.items) made.values ∙ values.items)
+          (ap (λ v. v.capacity) made.values ∙ values.capacity) items;
+    }
 
 left : (g : Over) (c : After-pop_value g) → Leaves g.T.Logic g.EP.FnMut c.args.text.now
-    c.args.ep.now c.evaluate.new.ep c.evaluate.new.values.items
+    c.args.ep.now c.evaluate.new.ep c.evaluate.new.self.values.now.items
 left g c =
-    let items : c.push_reserved.new.self.items ≡ text_list ∷ [] =
-    c.push_reserved.ensures.items ∙ rw (c.in_ok-lists.ensures.items, c.new.ensures) refl in
     let values = c.in_ok-values.ensures in
-    Leaves-all c.requires.keeps c.requires.may c.new-predicates.ensures c.requires.measured
-    values.items values.capacity items c.evaluate.ensures
+    let made = c.new-evaluation.ensures in
+    let items = first_list c.push_reserved.ensures.items c.in_ok-lists.ensures.items c.new.ensures
+    in
+    Leaves-all c.requires.keeps c.requires.may (made.predicates ∙ c.new-predicates.ensures)
+    c.requires.measured (ap (λ v. v.items) made.values ∙ values.items)
+    (ap (λ v. v.capacity) made.values ∙ values.capacity) items c.evaluate.ensures
 
 pub unreachable-requires : goal.unreachable-requires
 unreachable-requires g c =

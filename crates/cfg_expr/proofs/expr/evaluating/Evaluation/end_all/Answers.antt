@@ -2,7 +2,7 @@
 use Rattle.std.proofs.Common.{◌∙◌, reverse, sym}
 use Rattle.cfg_expr.proofs.evaluated.Counting.{finishes-open, still_open-open}
 use Rattle.cfg_expr.proofs.evaluated.Going.{Goes-step, Goes-to}
-use Rattle.cfg_expr.proofs.expr.evaluating.end_all.Goals as goal
+use Rattle.cfg_expr.proofs.expr.evaluating.Evaluation.end_all.Goals as goal
 
 pub loop-list-preserved : goal.loop-list-preserved
 loop-list-preserved g c =

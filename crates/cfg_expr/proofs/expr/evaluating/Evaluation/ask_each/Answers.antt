@@ -1,14 +1,11 @@
 -- The questions are asked one behind the other.
-use Rattle.std.proofs.Common.{rules}
 use Rattle.cfg_expr.proofs.evaluated.Going.{CanGo-on, Goes-step, Goes-to, asks-next, asks-none}
-use Rattle.cfg_expr.proofs.expr.evaluating.ask_each.Goals as goal
+use Rattle.cfg_expr.proofs.expr.evaluating.Evaluation.ask_each.Goals as goal
 
 pub ask_next-requires : goal.ask_next-requires
-ask_next-requires g c = (
-  search rules,
-  CanGo-on _ c.requires c.loop-asked.invariant
-      (λ s. asks-next c.args.count c.loop-asked._asked s c.loop-asked-test.true),
-)
+ask_next-requires g c =
+    CanGo-on _ c.requires c.loop-asked.invariant
+    (λ s. asks-next c.args.count c.loop-asked._asked s c.loop-asked-test.true)
 
 pub loop-asked-preserved : goal.loop-asked-preserved
 loop-asked-preserved g c =

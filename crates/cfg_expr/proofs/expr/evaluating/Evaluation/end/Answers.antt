@@ -1,15 +1,15 @@
 -- The leaves are asked, and behind them the list ends.
 use Rattle.std.proofs.Common.{◌∷◌, rules, refl, Some}
 use Rattle.cfg_expr.specs.nodes.Steps.{Step}
-use Rattle.cfg_expr.specs.nodes.Machine.{standing}
+use Rattle.cfg_expr.specs.nodes.Machine.{standing_of}
 use Rattle.cfg_expr.proofs.evaluated.Going.{Goes-then, Goes-finished, room-finish}
-use Rattle.cfg_expr.proofs.expr.evaluating.end.Goals as goal
+use Rattle.cfg_expr.proofs.expr.evaluating.Evaluation.end.Goals as goal
 
 pub apply-requires : goal.apply-requires
 apply-requires g c =
-    let now = standing c.ask_each.new.ep c.ask_each.new.predicates c.ask_each.new.values in
+    let now = standing_of c.ask_each.new.ep c.ask_each.new.self in
     let can = c.ask_each.ensures.can (Step.finish c.args.list.func ∷ c.requires.0) c.requires.1 in
-    (search rules, room-finish _ now (Some c.in-Some.func) (_, rw c.in-Some.is at can))
+    (search (rules, g.met.T.Logic.small), room-finish _ now (Some c.in-Some.func) (_, rw c.in-Some.is at can))
 
 pub returns-in-Some : goal.returns-in-Some
 returns-in-Some g c =

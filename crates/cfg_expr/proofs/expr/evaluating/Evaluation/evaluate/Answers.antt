@@ -1,21 +1,21 @@
 -- Each node's steps are taken as the walk has them.
-use Rattle.std.proofs.Common.{[], reverse, rules}
-use Rattle.cfg_expr.specs.nodes.Machine.{standing}
+use Rattle.std.proofs.Common.{[], reverse}
+use Rattle.cfg_expr.specs.nodes.Machine.{standing_of}
 use Rattle.cfg_expr.specs.declared.expr.Func.TheVariants.{Not}
 use Rattle.cfg_expr.specs.declared.expr.nodes.ExprNode.TheVariants as node
 use Rattle.cfg_expr.proofs.evaluated.Going.{Goes-step, Goes-to}
 use Rattle.cfg_expr.proofs.evaluated.Counting.{RoomFor-begun, room-next, walk-at, walk-end}
-use Rattle.cfg_expr.proofs.expr.evaluating.evaluate.Goals as goal
+use Rattle.cfg_expr.proofs.expr.evaluating.Evaluation.evaluate.Goals as goal
 
 pub step-requires : goal.step-requires
 step-requires g c =
-    let now = standing c.loop-node.ep c.loop-node.predicates c.loop-node.values in
+    let now = standing_of c.loop-node.ep c.loop-node.self in
     let lists = c.loop-node.lists in
     let at = walk-at c.args.nodes.now (reverse lists.items) c.loop-node.node-index _
     c.loop-node-test.true in
     let room = rw at at c.loop-node.invariant.1 in
     let can = rw at at (c.loop-node.invariant.0.can [] c.requires.can) in
-    (search rules, (RoomFor-begun _ lists _ room, (_, can)))
+    record { room = RoomFor-begun _ lists _ room; can = (_, can) }
 
 pub loop-node-preserved : goal.loop-node-preserved
 loop-node-preserved g c =
