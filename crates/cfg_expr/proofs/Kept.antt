@@ -9,7 +9,7 @@ use Rattle.cfgx_syntax.specs.Items.{Item, ItemsFrom, HasOneTokenList}
 use Rattle.cfgx_syntax.specs.Token.{Token, Spells}
 use Rattle.cfgx_syntax.proofs.Values.{value_inside}
 use Rattle.cfgx_grammar.specs.Tree.{Tree, is_function, is_leaf}
-use Rattle.cfgx_grammar.proofs.Answering.{answer, tree_of, FindsTree-tree}
+use Rattle.cfgx_grammar.proofs.Answering.{answer, tree_of, FindsTree-tree, HasOneTree-tree}
 use Rattle.cfgx_grammar.proofs.alone.Regular.{all_of_first}
 use Rattle.cfg_expr.specs.nodes.Keeps.{KeepsTree, Keeps}
 use Rattle.cfg_expr.specs.nodes.Node.{Written, nothing, with_list_ended}
@@ -75,4 +75,8 @@ module _ (text : List ℕ) (one : HasOneTokenList text) where
       let keeps : KeepsTree text u.written.nodes u.written.asked t.0 =
       subst (λ (w : Written). KeepsTree text w.nodes w.asked t.0) written
       (KeepsTree-writes text f.found.written t.0 writes) in
-      record { tree = t.0; has_tree = t.1; keeps = keeps }
+      let whole = HasOneTree-tree text one t.0 t.1 in
+      record {
+        one = whole;
+        keeps = subst (KeepsTree text u.written.nodes u.written.asked) (whole.only t.0 t.1) keeps;
+      }

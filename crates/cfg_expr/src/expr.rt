@@ -169,7 +169,7 @@ impl<A: SmallAllocator> Expression<A> {
     /// whole, and then the list's own predicates. Each of them can stand in a text. It takes no
     /// memory.
     pub fn predicates(&self) -> Predicates<'_>
-        ensures asked { (tree : Tree) × HasTree self.now tree × (result ≡ asked tree) }
+        ensures asked { (one : HasOneTree self.now) × (result ≡ asked one.tree) }
         ensures regular { AllByRecursion IsRegular result }
     {
         Predicates::new(
@@ -197,8 +197,7 @@ impl<A: SmallAllocator> Expression<A> {
         ensures refused { OnErr result (ep.new ≡ ep.old) }
         ensures short { length self.now ≤ 32 → IsOk result }
     {
-        let (nodes, asked) = (self.expr.as_slice(), self.asked.as_slice());
-        evaluating::value_of(alloc, self.original(), nodes, asked, self.room, ep)
+        evaluating::value_of(alloc, self, ep)
     }
 
     /// The fillings that show why the value over the answers is unknown, or `None` where it is
@@ -223,7 +222,6 @@ impl<A: SmallAllocator> Expression<A> {
         ensures fillings { IfOk result (λ found. (one : HasOneTree self.now)
             × PolarFillings one.tree answers.now found) }
     {
-        let (nodes, asked) = (self.expr.as_slice(), self.asked.as_slice());
-        filling::polar_fillings(alloc, self.original(), nodes, asked, self.room, answers)
+        filling::polar_fillings(alloc, self, answers)
     }
 }

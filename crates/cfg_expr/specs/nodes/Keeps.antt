@@ -4,7 +4,7 @@ use Rattle.std.specs.Prelude.{◌≡◌, ℕ, List, map, Option, Some, None, opt
 use Rattle.std.specs.List.{AllByRecursion, slice_get, filter_map}
 use Rattle.cfgx_grammar.specs.Question.{Question}
 use Rattle.cfgx_grammar.specs.Tree.{Tree}
-use Rattle.cfgx_grammar.specs.Grammar.{HasTree}
+use Rattle.cfgx_grammar.specs.Answer.{HasOneTree}
 use Rattle.cfg_expr.specs.nodes.Located.{HasCut, question_at}
 use Rattle.cfg_expr.specs.nodes.Prefix.{node_at, prefix, places}
 use Rattle.cfg_expr.specs.nodes.Writes.{NodeHasCut}
@@ -19,11 +19,10 @@ pub record KeepsTree (text : List ℕ) (nodes : List ExprNode) (asked : List ℕ
   pub cuts : AllByRecursion (NodeHasCut text) nodes
   pub asked_are : asked ≡ places 0 tree
 
--- they are those of a tree of the text
+-- they are those of the text's one tree
 pub record Keeps (text : List ℕ) (nodes : List ExprNode) (asked : List ℕ) : Type 0 where
-  pub tree : Tree
-  pub has_tree : HasTree text tree
-  pub keeps : KeepsTree text nodes asked tree
+  pub one : HasOneTree text
+  pub keeps : KeepsTree text nodes asked one.tree
 
 abbrev pub leaf_of : ExprNode → Option InnerPredicate
 leaf_of (node.Fn func len) = None

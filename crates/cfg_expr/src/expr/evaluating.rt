@@ -6,7 +6,6 @@ ghost use Rattle.smallvec.specs.SmallVec.{small_vec_len};
 ghost use Rattle.cfg_expr.specs.Asking.{Asks, MayAsk};
 ghost use Rattle.cfg_expr.specs.Predicate.{question_of};
 ghost use Rattle.cfg_expr.specs.Evaluation.{Evaluates, MayEvaluate};
-ghost use Rattle.cfg_expr.specs.nodes.Keeps.{Keeps};
 ghost use Rattle.cfg_expr.specs.nodes.Measure.{CanCount, Measures, NeedSame};
 ghost use Rattle.cfg_expr.specs.nodes.Steps.{Step, asks, entered, finishes, members_of};
 ghost use Rattle.cfg_expr.specs.nodes.Steps.{most_open, most_values, opened, walk};
@@ -18,7 +17,7 @@ ghost use Rattle.cfg_expr.specs.nodes.Machine.{begin_of, join_of, standing_of};
 
 mod open_lists;
 
-use super::Func;
+use super::{Expression, Func};
 use super::nodes::ExprNode;
 use super::predicates::{Predicate, Predicates};
 use crate::memory::SmallAllocator;
@@ -363,36 +362,31 @@ impl<'p, 'v, 'a, T: Logic, A: SmallAllocator> Evaluation<'p, 'v, 'a, T, A> {
     }
 }
 
-/// The value of the expression with this text, these nodes, these places of the leaves that are
-/// asked, and this need of room.
+/// What `Expression::eval` answers.
 ///
 /// The error is that `alloc` refused room for the lists that are open at once, or for the values.
-pub(crate) fn value_of<'e, EP, T, A>(
+pub(crate) fn value_of<EP, T, A>(
     alloc: A,
-    text: &'e str,
-    nodes: &'e [ExprNode],
-    asked: &'e [usize],
-    room: Room,
+    expression: &Expression<A>,
     ep: &mut EP,
 ) -> Result<T, AllocError>
 where
     EP: FnMut(&Predicate<'_>) -> T,
     T: Logic,
     A: SmallAllocator,
-    requires keeps { Keeps text.now nodes.now asked.now }
-    requires measured { Measures (walk (map shape nodes.now) (text_list ∷ [])) room }
-    requires may { MayEvaluate EP.FnMut text.now ep.old }
+    requires { MayEvaluate EP.FnMut expression.now ep.old }
     ensures value { IfOk result (λ value.
-        Evaluates T.Logic EP.FnMut text.now ep.old value ep.new) }
+        Evaluates T.Logic EP.FnMut expression.now ep.old value ep.new) }
     ensures refused { OnErr result (ep.new ≡ ep.old) }
-    ensures short { length text.now ≤ 32 → IsOk result }
+    ensures short { length expression.now ≤ 32 → IsOk result }
 {
+    let room = expression.room;
     let mut lists = OpenLists::with_room(alloc, room.around)?;
     lists.push_reserved(OpenList::new(None, 1));
     let mut values = SmallVec::with_capacity(&alloc, room.values)?;
-    let predicates = Predicates::new(text, nodes, asked);
+    let predicates = expression.predicates();
     let mut evaluation = Evaluation::new(predicates, &mut values);
-    evaluation.evaluate(nodes, &mut lists, ep);
+    evaluation.evaluate(expression.expr.as_slice(), &mut lists, ep);
     match pop_value(evaluation.values) {
         Some(value) => Ok(value),
         None => unreachable!(),

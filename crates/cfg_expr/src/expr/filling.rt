@@ -1,20 +1,17 @@
 //! The fillings that tell whether a value is known: where it is not, the condition is true with the
 //! one and false with the other.
-ghost use Rattle.std.specs.Prelude.{◌≡◌, ◌<◌, ◌∷◌, [], true, false, length, map};
+ghost use Rattle.std.specs.Prelude.{◌≡◌, ◌<◌, true, false, length, map};
 ghost use Rattle.std.specs.Prelude.{get_or, replicate, set, IfOk};
 ghost use Rattle.cfgx_grammar.specs.Answer.{HasOneTree};
 ghost use Rattle.cfgx_grammar.specs.Filling.{three_valued, PolarFillings};
 ghost use Rattle.cfgx_grammar.specs.Fold.{fold};
 ghost use Rattle.cfgx_grammar.specs.Grammar.{HasTree};
 ghost use Rattle.cfgx_grammar.specs.Tree.{Tree, asked};
-ghost use Rattle.cfg_expr.specs.nodes.Keeps.{Keeps};
-ghost use Rattle.cfg_expr.specs.nodes.Measure.{Measures};
-ghost use Rattle.cfg_expr.specs.nodes.Steps.{shape, text_list, walk};
 ghost use Rattle.cfg_expr.specs.nodes.Parity.{reach, turned, turned_at, odd_behind, end_noted};
 ghost use Rattle.cfg_expr.specs.nodes.Parity.{pass, filled};
 
-use super::Func;
-use super::evaluating::{self, Room};
+use super::evaluating;
+use super::{Expression, Func};
 use super::nodes::ExprNode;
 use super::predicates::Predicate;
 use crate::memory::SmallAllocator;
@@ -23,22 +20,17 @@ use std::alloc::AllocError;
 /// The value over the answers, which come in the order of the questions.
 fn value_over<A: SmallAllocator>(
     alloc: A,
-    text: &str,
-    nodes: &[ExprNode],
-    places: &[usize],
-    room: Room,
+    expression: &Expression<A>,
     answers: &[Option<bool>],
 ) -> Result<Option<bool>, AllocError>
-    requires keeps { Keeps text.now nodes.now places.now }
-    requires measured { Measures (walk (map shape nodes.now) (text_list ∷ [])) room }
-    requires answered { (tree : Tree) × HasTree text.now tree
+    requires { (tree : Tree) × HasTree expression.now tree
         × (length answers.now ≡ length (asked tree)) }
-    ensures { IfOk result (λ value. (one : HasOneTree text.now)
+    ensures { IfOk result (λ value. (one : HasOneTree expression.now)
         × (value ≡ fold three_valued one.tree answers.now)) }
 {
     let mut left = answers.iter();
     let mut answer = |_predicate: &Predicate<'_>| left.next().copied().flatten();
-    let value = evaluating::value_of(alloc, text, nodes, places, room, &mut answer)?;
+    let value = evaluating::value_of(alloc, expression, &mut answer)?;
     Ok(value)
 }
 
@@ -110,26 +102,22 @@ fn fillings<A: SmallAllocator>(
     Ok((with_true, with_false))
 }
 
-/// What `Expression::polar_fillings` answers for the expression with this text, these nodes, and
-/// these places of the leaves that are asked.
+/// What `Expression::polar_fillings` answers.
 ///
 /// The error is that `alloc` refused room.
 pub(crate) fn polar_fillings<A: SmallAllocator>(
     alloc: A,
-    text: &str,
-    nodes: &[ExprNode],
-    places: &[usize],
-    room: Room,
+    expression: &Expression<A>,
     answers: &[Option<bool>],
 ) -> Result<Option<(Vec<bool, A>, Vec<bool, A>)>, AllocError>
-    requires keeps { Keeps text.now nodes.now places.now }
-    requires measured { Measures (walk (map shape nodes.now) (text_list ∷ [])) room }
-    requires answered { (tree : Tree) × HasTree text.now tree
+    requires { (tree : Tree) × HasTree expression.now tree
         × (length answers.now ≡ length (asked tree)) }
-    ensures { IfOk result (λ found. (one : HasOneTree text.now)
+    ensures one { HasOneTree expression.now }
+    ensures fillings { IfOk result (λ found. (one : HasOneTree expression.now)
         × PolarFillings one.tree answers.now found) }
 {
-    match value_over(alloc, text, nodes, places, room, answers)? {
+    let (nodes, places) = (expression.expr.as_slice(), expression.asked.as_slice());
+    match value_over(alloc, expression, answers)? {
         Some(_) => Ok(None),
         None => {
             let odds = parities(alloc, nodes)?;
