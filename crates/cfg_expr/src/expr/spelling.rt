@@ -7,7 +7,7 @@ ghost use Rattle.cfgx_targets.specs.HasAtomic.{atomic_text};
 ghost use Rattle.cfg_expr.specs.Predicate.{question_of, target_of};
 ghost use Rattle.cfgx_grammar.specs.Regular.{IsAlone, IsRegular};
 ghost use Rattle.cfgx_grammar.specs.Spelling.{spelling, target_spelling, with_value};
-ghost use Rattle.cfg_expr.specs.Writing.{Takes, Writes};
+ghost use Rattle.cfg_expr.specs.Writing.{Takes, Writes, value_bytes};
 
 use super::predicates::{Predicate, TargetPredicate};
 use cfgx_targets::atomic::HasAtomic;
@@ -49,16 +49,6 @@ fn write_key<W: Write>(writer: &mut W, key: &str) -> io::Result<()>
     write_bytes(writer, b" = \"")
 }
 
-/// Writes a key and its value, in quotes.
-fn write_value<W: Write>(writer: &mut W, key: &str, value: &str) -> io::Result<()>
-    ensures { Writes (W.contents writer.old) (W.contents writer.new) result
-        (with_value key.now value.now) }
-{
-    write_key(writer, key)?;
-    write_bytes(writer, value.as_bytes())?;
-    write_bytes(writer, b"\"")
-}
-
 /// Writes a number in decimal.
 fn write_decimal<W: Write>(writer: &mut W, number: u16) -> io::Result<()>
     ensures { Writes (W.contents writer.old) (W.contents writer.new) result (decimal number) }
@@ -70,13 +60,33 @@ fn write_decimal<W: Write>(writer: &mut W, number: u16) -> io::Result<()>
     write_bytes(writer, &[b'0' + (number % 10) as u8])
 }
 
-/// Writes a key and its value, a number, in quotes.
-fn write_number<W: Write>(writer: &mut W, key: &str, number: u16) -> io::Result<()>
+/// A value of a predicate: a text, or a number that is written in decimal.
+#[derive(Clone, Copy)]
+pub(crate) enum Value<'a> {
+    Text(&'a str),
+    Number(u16),
+}
+
+impl Value<'_> {
+    /// Writes the value, without quotes.
+    fn write<W: Write>(self, writer: &mut W) -> io::Result<()>
+        ensures { Writes (W.contents writer.old) (W.contents writer.new) result
+            (value_bytes self.entry) }
+    {
+        match self {
+            Value::Text(text) => write_bytes(writer, text.as_bytes()),
+            Value::Number(number) => write_decimal(writer, number),
+        }
+    }
+}
+
+/// Writes a key and its value, in quotes.
+fn write_value<W: Write>(writer: &mut W, key: &str, value: Value<'_>) -> io::Result<()>
     ensures { Writes (W.contents writer.old) (W.contents writer.new) result
-        (with_value key.now (decimal number)) }
+        (with_value key.now (value_bytes value.entry)) }
 {
     write_key(writer, key)?;
-    write_decimal(writer, number)?;
+    value.write(writer)?;
     write_bytes(writer, b"\"")
 }
 
@@ -90,14 +100,34 @@ fn endian_name(endian: Endian) -> &'static str
     }
 }
 
-/// Writes a predicate on the width of atomics.
-fn write_atomic<W: Write>(writer: &mut W, atomic: HasAtomic) -> io::Result<()>
-    ensures { Writes (W.contents writer.old) (W.contents writer.new) result
-        (with_value (codes "target_has_atomic") (atomic_text atomic)) }
+/// The value of a predicate on the width of atomics.
+fn atomic_value(atomic: HasAtomic) -> Value<'static>
+    ensures { value_bytes result ≡ atomic_text atomic }
 {
     match atomic {
-        HasAtomic::IntegerSize(bits) => write_number(writer, "target_has_atomic", bits),
-        HasAtomic::Pointer => write_value(writer, "target_has_atomic", "ptr"),
+        HasAtomic::IntegerSize(bits) => Value::Number(bits),
+        HasAtomic::Pointer => Value::Text("ptr"),
+    }
+}
+
+/// The key and the value of a predicate on the target.
+fn target_parts<'a>(target: &'a TargetPredicate<'_>) -> (&'static str, Value<'a>)
+    ensures { with_value result.0.now (value_bytes result.1)
+        ≡ target_spelling (target_of target.now) }
+{
+    match target {
+        TargetPredicate::Abi(abi) => ("target_abi", Value::Text(abi.as_str())),
+        TargetPredicate::Arch(arch) => ("target_arch", Value::Text(arch.as_str())),
+        TargetPredicate::Endian(endian) => ("target_endian", Value::Text(endian_name(*endian))),
+        TargetPredicate::Env(env) => ("target_env", Value::Text(env.as_str())),
+        TargetPredicate::Family(family) => ("target_family", Value::Text(family.as_str())),
+        TargetPredicate::HasAtomic(atomic) => ("target_has_atomic", atomic_value(*atomic)),
+        TargetPredicate::Os(os) => ("target_os", Value::Text(os.as_str())),
+        TargetPredicate::Panic(panic) => ("panic", Value::Text(panic.as_str())),
+        TargetPredicate::PointerWidth(bits) => {
+            ("target_pointer_width", Value::Number(u16::from(*bits)))
+        }
+        TargetPredicate::Vendor(vendor) => ("target_vendor", Value::Text(vendor.as_str())),
     }
 }
 
@@ -106,22 +136,8 @@ fn spell_target<W: Write>(target: &TargetPredicate<'_>, writer: &mut W) -> io::R
     ensures { Writes (W.contents writer.old) (W.contents writer.new) result
         (target_spelling (target_of target.now)) }
 {
-    match target {
-        TargetPredicate::Abi(abi) => write_value(writer, "target_abi", abi.as_str()),
-        TargetPredicate::Arch(arch) => write_value(writer, "target_arch", arch.as_str()),
-        TargetPredicate::Endian(endian) => {
-            write_value(writer, "target_endian", endian_name(*endian))
-        }
-        TargetPredicate::Env(env) => write_value(writer, "target_env", env.as_str()),
-        TargetPredicate::Family(family) => write_value(writer, "target_family", family.as_str()),
-        TargetPredicate::HasAtomic(atomic) => write_atomic(writer, *atomic),
-        TargetPredicate::Os(os) => write_value(writer, "target_os", os.as_str()),
-        TargetPredicate::Panic(panic) => write_value(writer, "panic", panic.as_str()),
-        TargetPredicate::PointerWidth(bits) => {
-            write_number(writer, "target_pointer_width", u16::from(*bits))
-        }
-        TargetPredicate::Vendor(vendor) => write_value(writer, "target_vendor", vendor.as_str()),
-    }
+    let (key, value) = target_parts(target);
+    write_value(writer, key, value)
 }
 
 /// Writes a predicate.
@@ -134,10 +150,12 @@ fn write_predicate<W: Write>(predicate: &Predicate<'_>, writer: &mut W) -> io::R
         Predicate::Test => write_bytes(writer, b"test"),
         Predicate::DebugAssertions => write_bytes(writer, b"debug_assertions"),
         Predicate::ProcMacro => write_bytes(writer, b"proc_macro"),
-        Predicate::Feature(name) => write_value(writer, "feature", name),
-        Predicate::TargetFeature(name) => write_value(writer, "target_feature", name),
+        Predicate::Feature(name) => write_value(writer, "feature", Value::Text(name)),
+        Predicate::TargetFeature(name) => {
+            write_value(writer, "target_feature", Value::Text(name))
+        }
         Predicate::Flag(key) => write_bytes(writer, key.as_bytes()),
-        Predicate::KeyValue { key, val } => write_value(writer, key, val),
+        Predicate::KeyValue { key, val } => write_value(writer, key, Value::Text(val)),
     }
 }
 

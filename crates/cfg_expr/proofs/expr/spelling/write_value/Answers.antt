@@ -1,4 +1,3 @@
-use Rattle.std.proofs.Common.{sym}
 use Rattle.std.specs.Prelude.{Err}
 use Rattle.std.proofs.lemmas.Result.{err_from_is_err_and}
 use Rattle.cfg_expr.proofs.Writing.{front_of_first, writes_second, value_parts}
@@ -11,17 +10,15 @@ returns-in_err-write_key g c =
     rw (p.1, value_parts c.args.key.now _) (front_of_first _ c.in_err-write_key.ensures)
 
 -- the value was not
-pub returns-in_err-write_bytes : goal.returns-in_err-write_bytes
-returns-in_err-write_bytes g c =
-    let p = err_from_is_err_and c.from_residual-in_err-write_bytes.result
-    c.from_residual-in_err-write_bytes.ensures.1 in
-    rw (p.1, value_parts c.args.key.now _, sym c.as_bytes.ensures.value)
-    (writes_second _ _ _ (Err p.0) _ _ c.in_ok-write_key.ensures
-    (front_of_first _ c.in_err-write_bytes.ensures))
+pub returns-in_err-write : goal.returns-in_err-write
+returns-in_err-write g c =
+    let p = err_from_is_err_and c.from_residual-in_err-write.result
+    c.from_residual-in_err-write.ensures.1 in
+    rw (p.1, value_parts c.args.key.now _) (writes_second _ _ _ (Err p.0) _ _
+    c.in_ok-write_key.ensures (front_of_first _ c.in_err-write.ensures))
 
 -- the last quote was, or a beginning of it
 pub returns : goal.returns
 returns g c =
-    rw (value_parts c.args.key.now _, sym c.as_bytes.ensures.value)
-    (writes_second _ _ _ _ _ _ c.in_ok-write_key.ensures
-    (writes_second _ _ _ _ _ _ c.in_ok-write_bytes.ensures c.write_bytes-2.ensures))
+    rw (value_parts c.args.key.now _) (writes_second _ _ _ _ _ _ c.in_ok-write_key.ensures
+    (writes_second _ _ _ _ _ _ c.in_ok-write.ensures c.write_bytes.ensures))

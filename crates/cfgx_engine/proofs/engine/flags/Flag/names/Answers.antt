@@ -32,8 +32,8 @@ returns g c =
       λ (is : false ≡ true). absurd (cc),
       λ names.
           let has = subst (λ text. HasTree text names.0) (sym c.self.view_is) names.1 in
-          let same = ap asked (one.only asks.0 asks.1 ∙ sym (one.only names.0 has)) in
-          let all = c.into_iter-named-iterator.ensures.into_iter_gives ∙ asks.2 ∙ same in
+          let same = ap asked (one.only asks.0.tree asks.0.has_tree ∙ sym (one.only names.0 has)) in
+          let all = c.into_iter-named-iterator.ensures.into_iter_gives ∙ asks.1 ∙ same in
           let among = c.loop-named.invariant.0 (subst asks_it
           (sym all) names.2) in
           absurd (Contains-nothing question (subst asks_it
