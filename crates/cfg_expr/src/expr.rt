@@ -109,8 +109,7 @@ impl<A: Allocator> PartialEq for Expression<A> {
     ghost laws = { partial_equiv_from_equiv nat_list_eq_equiv };
 
     fn eq(&self, other: &Self) -> bool
-        ensures value { result ≡ pointwise nat_eq self.now other.now }
-        ensures same_text { IsTrue result ↔ (self.now ≡ other.now) }
+        ensures { IsTrue result ↔ (self.now ≡ other.now) }
     {
         self.original() == other.original()
     }

@@ -82,16 +82,15 @@ pub Refuses-one : (text : List ℕ) (shown : Output) → RefusesFirst (text ∷ 
     → Refuses text shown
 Refuses-one text shown refused = ⊎_elim (λ this. this) (λ none. absurd none.1) refused
 
--- what any tree of the text asks is what its one tree asks
+-- what the one tree of the text asks, a line each
 pub Lists-one : (text shown written : List ℕ) (questions : List Question) → shown ≡ strip text
-    → HasOneTree shown → (tree : Tree) × HasTree shown tree × (questions ≡ asked tree)
-    → written ≡ lines questions → Lists text (record { bytes = written; status = 0 })
-Lists-one text shown written questions is one asks is_written =
-    let same = ap (λ tree. lines (asked tree)) (one.only asks.0 asks.1) in (
-      one_tree shown (strip text) is one,
-      ap (λ (bytes : List ℕ). record { bytes = bytes; status = 0 })
-          (is_written ∙ ap lines asks.2 ∙ same),
-    )
+    → (one : HasOneTree shown) × (questions ≡ asked one.tree) → written ≡ lines questions
+    → Lists text (record { bytes = written; status = 0 })
+Lists-one text shown written questions is asks is_written = (
+  one_tree shown (strip text) is asks.0,
+  ap (λ (bytes : List ℕ). record { bytes = bytes; status = 0 })
+      (is_written ∙ ap lines asks.1),
+)
 
 -- the status of an output by its kind
 Shows-status : (IsValue : Option Bool → Type 0) (shown : Output) → Shows IsValue shown
