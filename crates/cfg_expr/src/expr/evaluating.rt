@@ -17,9 +17,9 @@ ghost use Rattle.cfg_expr.specs.nodes.Machine.{begin_of, join_of, standing_of};
 
 mod open_lists;
 
-use super::{Expression, Func};
 use super::nodes::ExprNode;
 use super::predicates::{Predicate, Predicates};
+use super::{Expression, Func};
 use crate::memory::SmallAllocator;
 use cfgx_syntax::logic::Logic;
 use open_lists::OpenLists;
@@ -365,15 +365,11 @@ impl<'p, 'v, 'a, T: Logic, A: SmallAllocator> Evaluation<'p, 'v, 'a, T, A> {
 /// What `Expression::eval` answers.
 ///
 /// The error is that `alloc` refused room for the lists that are open at once, or for the values.
-pub(crate) fn value_of<EP, T, A>(
+pub(crate) fn value_of<EP: FnMut(&Predicate<'_>) -> T, T: Logic, A: SmallAllocator>(
     alloc: A,
     expression: &Expression<A>,
     ep: &mut EP,
 ) -> Result<T, AllocError>
-where
-    EP: FnMut(&Predicate<'_>) -> T,
-    T: Logic,
-    A: SmallAllocator,
     requires { MayEvaluate EP.FnMut expression.now ep.old }
     ensures value { IfOk result (λ value.
         Evaluates T.Logic EP.FnMut expression.now ep.old value ep.new) }

@@ -10,10 +10,9 @@ ghost use Rattle.cfgx_grammar.specs.Tree.{Tree, asked};
 ghost use Rattle.cfg_expr.specs.nodes.Parity.{reach, turned, turned_at, odd_behind, end_noted};
 ghost use Rattle.cfg_expr.specs.nodes.Parity.{pass, filled};
 
-use super::evaluating;
-use super::{Expression, Func};
 use super::nodes::ExprNode;
 use super::predicates::Predicate;
+use super::{Expression, Func, evaluating};
 use crate::memory::SmallAllocator;
 use std::alloc::AllocError;
 
