@@ -7,7 +7,7 @@ ghost use Rattle.cfgx_grammar.specs.Filling.{three_valued, PolarFillings};
 ghost use Rattle.cfgx_grammar.specs.Fold.{fold};
 ghost use Rattle.cfgx_grammar.specs.Grammar.{HasTree};
 ghost use Rattle.cfgx_grammar.specs.Tree.{Tree, asked};
-ghost use Rattle.cfg_expr.specs.nodes.Keeps.{Keeps};
+ghost use Rattle.cfgx_parser.specs.nodes.Keeps.{Keeps};
 ghost use Rattle.cfg_expr.specs.nodes.Measure.{Measures};
 ghost use Rattle.cfg_expr.specs.nodes.Steps.{shape, text_list, walk};
 ghost use Rattle.cfg_expr.specs.nodes.Parity.{reach, turned, turned_at, odd_behind, end_noted};
@@ -15,9 +15,9 @@ ghost use Rattle.cfg_expr.specs.nodes.Parity.{pass, filled};
 
 use super::Func;
 use super::evaluating::{self, Room};
-use super::nodes::ExprNode;
-use super::predicates::Predicate;
 use crate::memory::SmallAllocator;
+use cfgx_parser::nodes::ExprNode;
+use cfgx_parser::predicates::Predicate;
 use std::alloc::AllocError;
 
 /// The value over the answers, which come in the order of the questions.

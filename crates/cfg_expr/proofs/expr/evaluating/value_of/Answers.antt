@@ -3,7 +3,7 @@ use Rattle.std.proofs.Common.{◌≡◌, [], ◌∷◌, ◌∙◌, rules, arith,
 use Rattle.cfg_expr.specs.nodes.Steps.{text_list}
 use Rattle.cfgx_syntax.proofs.Finding.{HasOneTokenList-of}
 use Rattle.cfgx_grammar.proofs.Answering.{HasOneTree-tree}
-use Rattle.cfg_expr.proofs.Asked.{NameLeaves-kept}
+use Rattle.cfgx_parser.proofs.Asked.{NameLeaves-kept}
 use Rattle.cfg_expr.proofs.evaluated.Valued.{short-fits, CanTake-all, Leaves}
 use Rattle.cfg_expr.proofs.evaluated.Valued.{Leaves-all, Evaluates-left}
 use Rattle.cfg_expr.proofs.expr.evaluating.value_of.Given.{Over}
