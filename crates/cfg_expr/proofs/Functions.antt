@@ -3,10 +3,10 @@ use Rattle.std.proofs.Common.{◌≡◌, true, List, ◌∷◌, ◌++◌, sym, r
 use Rattle.std.proofs.lemmas.List.{append-nil}
 use Rattle.cfgx_grammar.specs.Question.{Question}
 use Rattle.cfgx_grammar.specs.Tree.{Tree, Trees, is_function, is_leaf, count, asked, asked_by}
-use Rattle.cfg_expr.specs.nodes.Prefix.{headed, prefix, prefix_each}
+use Rattle.cfgx_parser.specs.nodes.Prefix.{headed, prefix, prefix_each}
 use Rattle.cfg_expr.specs.nodes.Steps.{Step, asks, leaves, members_of, steps_of, steps_of_each}
-use Rattle.cfg_expr.specs.declared.expr.Func.{Func}
-use Rattle.cfg_expr.specs.declared.expr.Func.TheVariants.{Not, All, Any}
+use Rattle.cfgx_parser.specs.declared.function.Func.{Func}
+use Rattle.cfgx_parser.specs.declared.function.Func.TheVariants.{Not, All, Any}
 
 pub data IsFunction : Tree → Func → Trees → Type 0 where
   all : (trees : Trees) → IsFunction (Tree.all trees) (All (count trees)) trees

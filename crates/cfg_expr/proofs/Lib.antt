@@ -1,13 +1,4 @@
-pub mod Asked
-pub mod Bounded
 pub mod Chains
 pub mod Functions
-pub mod Kept
-pub mod Labels
-pub mod Parsed
-pub mod Reading
-pub mod Worked
-pub mod Writing
 pub mod evaluated
 pub mod filling
-pub mod spelled

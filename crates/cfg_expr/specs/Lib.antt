@@ -1,7 +1,3 @@
 pub mod Asking
 pub mod Evaluation
-pub mod Order
-pub mod Predicate
-pub mod Writing
 pub mod nodes
-pub mod parsing

@@ -9,48 +9,25 @@ ghost use Rattle.cfgx_grammar.specs.Tree.{Tree, asked};
 ghost use Rattle.cfgx_grammar.specs.Grammar.{HasTree};
 ghost use Rattle.cfgx_grammar.specs.Regular.{IsRegular};
 
-mod classification;
 mod evaluating;
 mod filling;
-mod laws;
-mod matcher;
-mod nodes;
-mod parser;
-mod predicates;
-mod spelling;
-#[cfg(test)]
-mod tests;
 
 use crate::error::Failure;
 use crate::memory::SmallAllocator;
+pub use cfgx_parser::function::Func;
+pub use cfgx_parser::matcher::TargetMatcher;
+use cfgx_parser::nodes::ExprNode;
+use cfgx_parser::parser::Parser;
+pub use cfgx_parser::predicates::{Predicate, Predicates, TargetPredicate};
+pub use cfgx_parser::spelling::spell;
 pub use cfgx_syntax::logic::Logic;
 pub use cfgx_syntax::{lexer, logic};
 use evaluating::Room;
 use lexer::Lexer;
-pub use matcher::TargetMatcher;
-use nodes::ExprNode;
-use parser::Parser;
-pub use predicates::{Predicate, Predicates, TargetPredicate};
 use smallvec::SmallVec;
-pub use spelling::spell;
 use std::alloc::{AllocError, Allocator, Global};
 use std::fmt;
 use std::marker::Model;
-use std::ops::Range;
-
-/// A function of a condition, with the number of its members.
-#[derive(Clone, Copy, PartialEq, Eq, PartialOrd, Ord, Debug)]
-pub enum Func {
-    /// `not()`, which has one member
-    Not,
-    /// `all()` with this many members
-    All(usize),
-    /// `any()` with this many members
-    Any(usize),
-}
-
-/// Bytes of an expression's text.
-pub(crate) type Span = Range<usize>;
 
 /// A parsed condition, which is seen as its stripped text.
 #[derive(Drop)]
@@ -66,7 +43,7 @@ pub struct Expression<A: Allocator = Global> {
 
 impl<A: Allocator> Model for Expression<A> {
     ghost use Rattle.std.specs.Prelude.{List, [], ◌∷◌, ℕ, map, string_bytes};
-    ghost use Rattle.cfg_expr.specs.nodes.Keeps.{Keeps};
+    ghost use Rattle.cfgx_parser.specs.nodes.Keeps.{Keeps};
     ghost use Rattle.cfg_expr.specs.nodes.Measure.{Measures};
     ghost use Rattle.cfg_expr.specs.nodes.Steps.{shape, text_list, walk};
 

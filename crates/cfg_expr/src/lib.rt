@@ -3,8 +3,8 @@
 
 pub mod error;
 pub mod expr;
-pub mod memory;
 pub mod targets;
 
+pub use cfgx_parser::memory;
 pub use error::ParseError;
 pub use expr::{Expression, Predicate, TargetPredicate};

@@ -3,7 +3,7 @@
 ghost use Rattle.std.specs.Prelude.{◌≡◌, ◌+◌, ◌^◌, ◌*◌, ◌%◌, ◌-◌, length, map, min, IfOk};
 ghost use Rattle.cfgx_grammar.specs.Answer.{HasOneTree};
 ghost use Rattle.cfgx_grammar.specs.Fold.{fold};
-ghost use Rattle.cfg_expr.specs.Predicate.{question_of};
+ghost use Rattle.cfgx_parser.specs.Predicate.{question_of};
 ghost use Rattle.cfgx_grammar.specs.Tree.{asked};
 ghost use Rattle.cfgx_vectors.specs.Callers.{is_among, one_more, term_of};
 

@@ -23,6 +23,8 @@ mod memory;
 #[cfg(test)]
 mod named;
 #[cfg(test)]
+mod nodes;
+#[cfg(test)]
 mod program;
 pub mod refusing;
 #[cfg(test)]

@@ -9,11 +9,11 @@ use Rattle.cfg_expr.specs.nodes.Steps.{entered, over_top, steps_at, begun, walk,
 use Rattle.cfg_expr.specs.nodes.Steps.{with_leaf, with_function}
 use Rattle.cfg_expr.specs.nodes.Measure.{needed, NeedSame, CanCount}
 use Rattle.cfg_expr.specs.declared.expr.evaluating.Heights.{Heights}
-use Rattle.cfg_expr.specs.declared.expr.Func.{Func}
+use Rattle.cfgx_parser.specs.declared.function.Func.{Func}
 use Rattle.std.proofs.Math.ListN.{drop_of_length-le}
 use Rattle.std.proofs.lemmas.List.{drop_more, length-reverse}
 use Rattle.smallvec.specs.SmallVec.{SmallVec}
-use Rattle.cfg_expr.specs.declared.expr.nodes.ExprNode.{ExprNode}
+use Rattle.cfgx_parser.specs.declared.nodes.ExprNode.{ExprNode}
 
 -- how many members of a list are functions
 abbrev pub one_if_function : Tree → ℕ

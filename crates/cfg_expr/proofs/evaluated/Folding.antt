@@ -9,7 +9,7 @@ use Rattle.cfgx_grammar.specs.Fold.{Operations, from_last, first_or, behind, val
 use Rattle.cfgx_grammar.specs.Fold as tree_value
 use Rattle.cfg_expr.specs.nodes.Steps.{Step, asks, leaves, steps_of, steps_of_each, all_steps}
 use Rattle.cfg_expr.specs.nodes.Machine.{applied, finished, joined, run}
-use Rattle.cfg_expr.specs.declared.expr.Func.{Func}
+use Rattle.cfgx_parser.specs.declared.function.Func.{Func}
 use Rattle.cfg_expr.proofs.Functions.{IsFunction, asked_are, by_list, steps_are}
 
 -- the values lie on those below, the last one on top

@@ -11,8 +11,8 @@ use Rattle.cfg_expr.specs.Asking.{Asker, Asks, Calls, MayAsk, MayAskEach}
 use Rattle.cfg_expr.specs.nodes.Steps.{Step, asks, begins, height_behind}
 use Rattle.cfg_expr.specs.nodes.Machine.{CanGo, CanTake, Ends, Goes, Standing, standing, run}
 use Rattle.cfg_expr.specs.nodes.Machine.{finished, joined, last_of}
-use Rattle.cfg_expr.specs.declared.expr.Func.{Func}
-use Rattle.cfg_expr.specs.declared.expr.Func.TheVariants.{Not, All, Any}
+use Rattle.cfgx_parser.specs.declared.function.Func.{Func}
+use Rattle.cfgx_parser.specs.declared.function.Func.TheVariants.{Not, All, Any}
 use Rattle.cfg_expr.proofs.evaluated.Counting.{below-most_values}
 
 -- the first question may be asked, and behind its answer the others

@@ -9,10 +9,10 @@ use Rattle.cfgx_syntax.specs.Items.{Item, Ending, ItemsFrom, Stands}
 use Rattle.cfgx_grammar.specs.Grammar.{predicate_tokens, IsCall, IsItem, IsList, HasTree, commas}
 use Rattle.cfgx_grammar.specs.Question.{Question}
 use Rattle.cfgx_grammar.specs.Tree.{Tree, Trees, is_function, is_leaf, count, asked, asked_by}
-use Rattle.cfg_expr.specs.nodes.Prefix.{prefix, prefix_each}
+use Rattle.cfgx_parser.specs.nodes.Prefix.{prefix, prefix_each}
 use Rattle.cfg_expr.specs.nodes.Steps.{Step, asks, leaves, steps_of, steps_of_each, all_steps}
 use Rattle.cfg_expr.specs.nodes.Steps.{asked_in, most_values, most_open, height_behind}
-use Rattle.cfg_expr.specs.declared.expr.Func.{Func}
+use Rattle.cfgx_parser.specs.declared.function.Func.{Func}
 use Rattle.cfg_expr.proofs.Functions.{IsFunction, function_is, count_is, steps_are, nodes_are}
 use Rattle.cfg_expr.proofs.Functions.{asked_are, by_list}
 use Rattle.cfg_expr.proofs.evaluated.Counting.{functions, one_if_function, count-split}

@@ -5,13 +5,13 @@ use Rattle.std.specs.Prelude.{if◌then◌else◌}
 use Rattle.std.proofs.Math.Dec.{eqb-suc-zero}
 use Rattle.std.proofs.lemmas.List.{append-nil, map-append}
 use Rattle.cfgx_grammar.specs.Tree.{Tree, Trees, is_function, count}
-use Rattle.cfg_expr.specs.nodes.Prefix.{Node, node_at, prefix, prefix_each}
+use Rattle.cfgx_parser.specs.nodes.Prefix.{Node, node_at, prefix, prefix_each}
 use Rattle.cfg_expr.specs.nodes.Steps.{Step, OpenList, asks, leaves, steps_of, steps_of_each}
 use Rattle.cfg_expr.specs.nodes.Steps.{all_steps, opened, with_leaf, with_function}
 use Rattle.cfg_expr.specs.nodes.Steps.{over_top, shape, finishes, still_open, walk, text_list}
-use Rattle.cfg_expr.specs.declared.expr.Func.{Func}
-use Rattle.cfg_expr.specs.declared.expr.nodes.ExprNode.{ExprNode}
-use Rattle.cfg_expr.specs.declared.expr.nodes.ExprNode.TheVariants as node
+use Rattle.cfgx_parser.specs.declared.function.Func.{Func}
+use Rattle.cfgx_parser.specs.declared.nodes.ExprNode.{ExprNode}
+use Rattle.cfgx_parser.specs.declared.nodes.ExprNode.TheVariants as node
 use Rattle.cfg_expr.proofs.Functions.{IsFunction, by_list, count_is, function_is, nodes_are}
 use Rattle.cfg_expr.proofs.Functions.{steps_are}
 use Rattle.cfg_expr.proofs.evaluated.Counting.{functions, count-split}

@@ -7,11 +7,11 @@ use Rattle.std.proofs.lemmas.List.{append-nil, map-append, replicate-append-repl
 use Rattle.std.proofs.lemmas.List.{length-set}
 use Rattle.cfgx_grammar.specs.Tree.{Tree, Trees}
 use Rattle.cfg_expr.specs.nodes.Parity.{turned, turned_at, reach, odd_behind, end_noted, pass}
-use Rattle.cfg_expr.specs.nodes.Prefix.{Node, node_at, prefix, prefix_each}
-use Rattle.cfg_expr.specs.declared.expr.Func.TheVariants.{Not, All, Any}
-use Rattle.cfg_expr.specs.declared.expr.nodes.ExprNode.{ExprNode}
-use Rattle.cfg_expr.specs.declared.expr.nodes.ExprNode.TheVariants as node
-use Rattle.cfg_expr.proofs.Labels.{labels, labels_each}
+use Rattle.cfgx_parser.specs.nodes.Prefix.{Node, node_at, prefix, prefix_each}
+use Rattle.cfgx_parser.specs.declared.function.Func.TheVariants.{Not, All, Any}
+use Rattle.cfgx_parser.specs.declared.nodes.ExprNode.{ExprNode}
+use Rattle.cfgx_parser.specs.declared.nodes.ExprNode.TheVariants as node
+use Rattle.cfgx_parser.proofs.Labels.{labels, labels_each}
 
 -- whether each node stands below an odd number of `not`
 abbrev pub odds : Bool → Tree → List Bool

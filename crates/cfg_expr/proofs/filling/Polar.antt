@@ -8,12 +8,12 @@ use Rattle.std.proofs.lemmas.Option.{get_or_from_slice_get}
 use Rattle.cfgx_grammar.specs.Tree.{Tree, Trees, is_function, is_leaf, asked, asked_by}
 use Rattle.cfgx_grammar.specs.Fold.{behind}
 use Rattle.cfgx_grammar.specs.Filling.{polar, polar_by}
-use Rattle.cfg_expr.specs.nodes.Keeps.{KeepsTree}
+use Rattle.cfgx_parser.specs.nodes.Keeps.{KeepsTree}
 use Rattle.cfg_expr.specs.nodes.Parity.{turned, reach, pass, filled}
-use Rattle.cfg_expr.specs.nodes.Prefix.{node_at, prefix, places}
-use Rattle.cfg_expr.specs.declared.expr.nodes.ExprNode.{ExprNode}
-use Rattle.cfg_expr.proofs.Labels.{leaf_labels, leaf_labels_by, length-leaf_labels}
-use Rattle.cfg_expr.proofs.Labels.{length-leaf_labels_by, read-places}
+use Rattle.cfgx_parser.specs.nodes.Prefix.{node_at, prefix, places}
+use Rattle.cfgx_parser.specs.declared.nodes.ExprNode.{ExprNode}
+use Rattle.cfgx_parser.proofs.Labels.{leaf_labels, leaf_labels_by, length-leaf_labels}
+use Rattle.cfgx_parser.proofs.Labels.{length-leaf_labels_by, read-places}
 use Rattle.cfg_expr.proofs.filling.Passing.{odds, reach_of, reaches-shown, pass-all}
 
 -- whether the leaves stand below an odd number of `not`, in the order in which they are asked

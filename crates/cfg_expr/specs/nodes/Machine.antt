@@ -10,8 +10,8 @@ use Rattle.cfg_expr.specs.nodes.Steps.{Step, asked_in, most_values}
 use Rattle.cfg_expr.specs.declared.expr.evaluating.Connective.{Connective}
 use Rattle.cfg_expr.specs.declared.expr.evaluating.Connective.TheVariants.{And, Or}
 use Rattle.cfg_expr.specs.declared.expr.evaluating.Evaluation.{Evaluation}
-use Rattle.cfg_expr.specs.declared.expr.Func.{Func}
-use Rattle.cfg_expr.specs.declared.expr.Func.TheVariants.{Not, All, Any}
+use Rattle.cfgx_parser.specs.declared.function.Func.{Func}
+use Rattle.cfgx_parser.specs.declared.function.Func.TheVariants.{Not, All, Any}
 
 -- what a connective begins with, and how it joins two values
 abbrev pub begin_of : {T : Type 0} → Operations T → Connective → T

@@ -4,10 +4,10 @@ use Rattle.std.specs.Prelude.{Option, Some, None}
 use Rattle.std.specs.Prelude.{◌≡◌, true, false, if◌then◌else◌}
 use Rattle.smallvec.specs.SmallVec.{SmallVec, HasRoomFor}
 use Rattle.cfgx_grammar.specs.Tree.{Tree, Trees, is_leaf, count}
-use Rattle.cfg_expr.specs.declared.expr.Func.{Func}
-use Rattle.cfg_expr.specs.declared.expr.Func.TheVariants.{Not, All, Any}
-use Rattle.cfg_expr.specs.declared.expr.nodes.ExprNode.{ExprNode}
-use Rattle.cfg_expr.specs.declared.expr.nodes.ExprNode.TheVariants as node
+use Rattle.cfgx_parser.specs.declared.function.Func.{Func}
+use Rattle.cfgx_parser.specs.declared.function.Func.TheVariants.{Not, All, Any}
+use Rattle.cfgx_parser.specs.declared.nodes.ExprNode.{ExprNode}
+use Rattle.cfgx_parser.specs.declared.nodes.ExprNode.TheVariants as node
 pub use Rattle.cfg_expr.specs.declared.expr.evaluating.OpenList.{OpenList}
 
 pub data Step : Type 0 where

@@ -4,7 +4,7 @@ ghost use Rattle.std.specs.Prelude.{◌≡◌, ◌+◌, ◌-◌, ◌<◌, ◌≤
 ghost use Rattle.std.specs.Prelude.{reverse, take, drop, fold, Some, None, IfOk, OnOk, OnErr, IsOk};
 ghost use Rattle.smallvec.specs.SmallVec.{small_vec_len};
 ghost use Rattle.cfg_expr.specs.Asking.{Asks, MayAsk};
-ghost use Rattle.cfg_expr.specs.Predicate.{question_of};
+ghost use Rattle.cfgx_parser.specs.Predicate.{question_of};
 ghost use Rattle.cfg_expr.specs.Evaluation.{Evaluates, MayEvaluate};
 ghost use Rattle.cfg_expr.specs.nodes.Measure.{CanCount, Measures, NeedSame};
 ghost use Rattle.cfg_expr.specs.nodes.Steps.{Step, asks, entered, finishes, members_of};
@@ -17,10 +17,10 @@ ghost use Rattle.cfg_expr.specs.nodes.Machine.{begin_of, join_of, standing_of};
 
 mod open_lists;
 
-use super::nodes::ExprNode;
-use super::predicates::{Predicate, Predicates};
 use super::{Expression, Func};
 use crate::memory::SmallAllocator;
+use cfgx_parser::nodes::ExprNode;
+use cfgx_parser::predicates::{Predicate, Predicates};
 use cfgx_syntax::logic::Logic;
 use open_lists::OpenLists;
 use smallvec::SmallVec;

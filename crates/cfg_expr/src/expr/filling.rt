@@ -10,10 +10,10 @@ ghost use Rattle.cfgx_grammar.specs.Tree.{Tree, asked};
 ghost use Rattle.cfg_expr.specs.nodes.Parity.{reach, turned, turned_at, odd_behind, end_noted};
 ghost use Rattle.cfg_expr.specs.nodes.Parity.{pass, filled};
 
-use super::nodes::ExprNode;
-use super::predicates::Predicate;
 use super::{Expression, Func, evaluating};
 use crate::memory::SmallAllocator;
+use cfgx_parser::nodes::ExprNode;
+use cfgx_parser::predicates::Predicate;
 use std::alloc::AllocError;
 
 /// The value over the answers, which come in the order of the questions.

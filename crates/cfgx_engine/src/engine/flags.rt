@@ -2,7 +2,7 @@
 
 ghost use Rattle.std.specs.Prelude.{◌≡◌, ◌∷◌, ◌↔◌, [], IfErr, IsTrue, OnOk, map};
 ghost use Rattle.cfgx_grammar.specs.Answer.{Answers};
-ghost use Rattle.cfg_expr.specs.Predicate.{question_of};
+ghost use Rattle.cfgx_parser.specs.Predicate.{question_of};
 ghost use Rattle.cfgx_syntax.specs.Stripping.{strip};
 ghost use Rattle.cfgx_engine.specs.Answer.{AddsFlag, BlamesFirst, GivesValue, ReadsFlags};
 ghost use Rattle.cfgx_engine.specs.Flags.{flag_text, IsAnswer, IsNamed, Names};

@@ -1,7 +1,7 @@
 // The value of a text on a target.
 
 ghost use Rattle.std.specs.Prelude.{◌≡◌, ◌∷◌, []};
-ghost use Rattle.cfg_expr.specs.Predicate.{question_of};
+ghost use Rattle.cfgx_parser.specs.Predicate.{question_of};
 ghost use Rattle.cfgx_engine.specs.Answer.{GivesValue};
 ghost use Rattle.cfgx_engine.specs.Output.{answer_on, HasValueOn};
 

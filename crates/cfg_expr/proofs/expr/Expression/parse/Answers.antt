@@ -2,10 +2,10 @@
 use Rattle.std.proofs.Common.{[], ◌∷◌, ◌<◌, ◌^◌, ap, ◌∙◌, arith, length, map, subst}
 use Rattle.std.proofs.lemmas.Result.{err_from_is_err_and}
 use Rattle.cfgx_syntax.specs.Stripping.{strip}
-use Rattle.cfg_expr.proofs.Parsed.{Begins, Answers-fails, Answers-memory, Keeps-reads}
+use Rattle.cfgx_parser.proofs.Parsed.{Begins, Answers-fails, Answers-memory, Keeps-reads}
 use Rattle.cfg_expr.specs.nodes.Measure.{Measures}
 use Rattle.cfg_expr.specs.nodes.Steps.{shape, text_list, walk}
-use Rattle.cfg_expr.proofs.Parsed.{IsAccepted-reads}
+use Rattle.cfgx_parser.proofs.Parsed.{IsAccepted-reads}
 use Rattle.cfg_expr.proofs.evaluated.Valued.{values-fit}
 use Rattle.cfg_expr.proofs.expr.Expression.parse.Given.{Over}
 use Rattle.cfg_expr.proofs.expr.Expression.parse.Goals.{After-read_all}

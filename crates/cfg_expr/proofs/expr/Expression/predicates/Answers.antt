@@ -5,7 +5,7 @@ use Rattle.cfgx_grammar.specs.Answer.{HasOneTree}
 use Rattle.cfgx_grammar.specs.Regular.{IsRegular}
 use Rattle.cfgx_grammar.specs.Tree.{asked}
 use Rattle.cfgx_grammar.proofs.alone.Regular.{regular_tree}
-use Rattle.cfg_expr.proofs.Asked.{NameLeaves-kept, questions_at-kept}
+use Rattle.cfgx_parser.proofs.Asked.{NameLeaves-kept, questions_at-kept}
 use Rattle.cfg_expr.proofs.expr.Expression.predicates.Goals as goal
 
 pub new-requires : goal.new-requires

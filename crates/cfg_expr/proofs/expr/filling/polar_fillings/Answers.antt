@@ -1,8 +1,8 @@
 -- The pass and the places give the fillings of the text's tree.
 use Rattle.std.proofs.Common.{◌∙◌, true, false, ap, length, subst, sym}
 use Rattle.cfgx_grammar.specs.Tree.{asked}
-use Rattle.cfg_expr.specs.nodes.Keeps.{KeepsTree}
-use Rattle.cfg_expr.proofs.Asked.{length-asked_kept}
+use Rattle.cfgx_parser.specs.nodes.Keeps.{KeepsTree}
+use Rattle.cfgx_parser.proofs.Asked.{length-asked_kept}
 use Rattle.cfg_expr.proofs.evaluated.Valued.{Keeps-seen}
 use Rattle.cfg_expr.proofs.filling.Polar.{polar-kept}
 use Rattle.cfg_expr.proofs.expr.filling.polar_fillings.Goals as goal

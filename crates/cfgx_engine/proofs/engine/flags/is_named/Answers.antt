@@ -2,7 +2,7 @@ use Rattle.std.proofs.Common.{true, false, refl, subst, ◌≡◌}
 use Rattle.std.specs.List.{All}
 use Rattle.std.proofs.lemmas.List.{take_all}
 use Rattle.std.proofs.lemmas.List.Elements.{All-more}
-use Rattle.cfg_expr.specs.Predicate.{question_of}
+use Rattle.cfgx_parser.specs.Predicate.{question_of}
 use Rattle.cfgx_engine.specs.Flags.{Names}
 use Rattle.cfgx_engine.proofs.Members.{IsNamed-at, IsNamed-none}
 use Rattle.cfgx_engine.proofs.engine.flags.is_named.Goals as goal

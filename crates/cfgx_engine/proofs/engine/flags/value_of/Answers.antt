@@ -1,7 +1,7 @@
 -- Each call answers as the flags do, and leaves them.
 use Rattle.std.proofs.Common.{◌≡◌, refl, rules, subst}
 use Rattle.cfg_expr.proofs.Chains.{Calls-AllZip, MayAskEach-always}
-use Rattle.cfg_expr.specs.Predicate.{question_of}
+use Rattle.cfgx_parser.specs.Predicate.{question_of}
 use Rattle.cfgx_engine.specs.Flags.{IsAnswer}
 use Rattle.cfgx_engine.specs.Output.{texts}
 use Rattle.cfgx_engine.specs.declared.engine.flags.Flags.{Flags}

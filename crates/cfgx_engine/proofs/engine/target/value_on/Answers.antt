@@ -1,7 +1,7 @@
 -- Each call answers as the target does, and leaves it.
 use Rattle.std.proofs.Common.{◌≡◌, ◌∙◌, ap, refl, rules}
 use Rattle.cfg_expr.proofs.Chains.{Calls-AllZip, MayAskEach-always}
-use Rattle.cfg_expr.specs.Predicate.{question_of}
+use Rattle.cfgx_parser.specs.Predicate.{question_of}
 use Rattle.cfgx_engine.specs.Output.{answer_on}
 use Rattle.cfgx_targets.specs.declared.info.TargetInfo.{TargetInfo}
 use Rattle.cfgx_engine.proofs.OutputLemmas.{HasValueOn-row}

@@ -1,8 +1,8 @@
 -- Each node's steps are taken as the walk has them.
 use Rattle.std.proofs.Common.{[], reverse}
 use Rattle.cfg_expr.specs.nodes.Machine.{standing_of}
-use Rattle.cfg_expr.specs.declared.expr.Func.TheVariants.{Not}
-use Rattle.cfg_expr.specs.declared.expr.nodes.ExprNode.TheVariants as node
+use Rattle.cfgx_parser.specs.declared.function.Func.TheVariants.{Not}
+use Rattle.cfgx_parser.specs.declared.nodes.ExprNode.TheVariants as node
 use Rattle.cfg_expr.proofs.evaluated.Going.{Goes-step, Goes-to}
 use Rattle.cfg_expr.proofs.evaluated.Counting.{RoomFor-begun, room-next, walk-at, walk-end}
 use Rattle.cfg_expr.proofs.expr.evaluating.Evaluation.evaluate.Goals as goal

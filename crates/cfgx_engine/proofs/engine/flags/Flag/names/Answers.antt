@@ -1,5 +1,5 @@
 use Rattle.std.proofs.Common.{◌≡◌, true, false, List, ◌∷◌, sym, ap, subst, ◌∙◌, ⊎_elim}
-use Rattle.cfg_expr.specs.Predicate.{question_of}
+use Rattle.cfgx_parser.specs.Predicate.{question_of}
 use Rattle.cfgx_grammar.specs.Question.{Question}
 use Rattle.cfgx_grammar.specs.Grammar.{HasTree}
 use Rattle.cfgx_grammar.specs.Tree.{asked}

@@ -1,6 +1,6 @@
 use Rattle.std.proofs.Common.{◌↔◌}
 use Rattle.std.specs.List.{Contains}
-use Rattle.cfg_expr.specs.Predicate.{question_of}
+use Rattle.cfgx_parser.specs.Predicate.{question_of}
 use Rattle.cfgx_engine.proofs.engine.flags.Flag.names.Given as goal
 
 -- the predicate is among those still to come where it is among all

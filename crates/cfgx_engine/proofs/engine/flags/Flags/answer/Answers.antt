@@ -1,5 +1,5 @@
 use Rattle.std.proofs.Common.{sym, subst}
-use Rattle.cfg_expr.specs.Predicate.{question_of}
+use Rattle.cfgx_parser.specs.Predicate.{question_of}
 use Rattle.cfgx_engine.specs.Flags.{IsNamed}
 use Rattle.cfgx_engine.proofs.engine.flags.Flags.answer.Goals as goal
 

@@ -1,5 +1,0 @@
-use Rattle.cfgx_grammar.proofs.Arranging.{asked_each-arranged}
-use Rattle.cfg_expr.proofs.expr.laws.asks_as_arranged.Goals as goal
-
-pub returns : goal.returns
-returns c = record { all = asked_each-arranged; any = asked_each-arranged }

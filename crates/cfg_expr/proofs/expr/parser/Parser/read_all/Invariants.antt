@@ -1,7 +1,0 @@
--- What the rest of the text answers, the whole answers.
-use Rattle.cfg_expr.proofs.Reading.{Leads}
-use Rattle.cfg_expr.proofs.expr.parser.Parser.read_all.Given as goal
-
-abbrev pub invariant-loop-lexed : goal.invariant-loop-lexed
-invariant-loop-lexed g l =
-    Leads {A = g.row.A.Denot} l.fn.lexer l.lexed-iterator l.initial.self l.self

@@ -1,5 +1,0 @@
-use Rattle.cfgx_grammar.proofs.alone.Whole.{spelling_alone}
-use Rattle.cfg_expr.proofs.expr.spelling.spell.Goals as goal
-
-pub returns-clause-alone : goal.returns-clause-alone
-returns-clause-alone g c = λ regular. spelling_alone _ regular

@@ -1,6 +1,0 @@
--- What the parser's functions keep and answer, by the parser as a function. Internal: no public
--- contract names it.
-pub mod Bounded
-pub mod Fields
-pub mod Parser
-pub mod State

@@ -1,0 +1,116 @@
+-- The leaves at a tree's places are what the tree asks, in this order.
+use Rattle.std.proofs.Common.{◌≡◌, ℕ, zero, suc, Bool, false, List, [], ◌∷◌}
+use Rattle.std.proofs.Common.{length, map, Option, Some, None, option_map, sym, refl, ap, ◌∙◌}
+use Rattle.std.specs.Prelude.{option_and_then}
+use Rattle.std.specs.List.{AllByRecursion, slice_get, filter_map}
+use Rattle.std.proofs.lemmas.List.{map-id}
+use Rattle.cfgx_grammar.specs.Question.{Question}
+use Rattle.cfgx_grammar.specs.Tree.{Tree, asked}
+use Rattle.cfgx_parser.specs.nodes.Located.{question_at}
+use Rattle.cfgx_parser.specs.nodes.Prefix.{Node, node_at, prefix}
+use Rattle.cfgx_parser.specs.nodes.Writes.{NodeHasCut}
+use Rattle.cfgx_parser.specs.nodes.Keeps.{KeepsTree, leaf_of, leaf_at, questions_at, NamesLeaf}
+use Rattle.cfgx_parser.specs.nodes.Keeps.{NameLeaves}
+use Rattle.cfgx_parser.specs.declared.function.Func.{Func}
+use Rattle.cfgx_parser.specs.declared.nodes.ExprNode.{ExprNode}
+use Rattle.cfgx_parser.specs.declared.nodes.ExprNode.TheVariants as node
+use Rattle.cfgx_parser.proofs.Labels.{Alike-length, labels, labels-prefix, leaf_labels-asked}
+use Rattle.cfgx_parser.proofs.Labels.{read-places}
+
+-- the question of a node that is a leaf
+abbrev question_of_node : Node → Option Question
+question_of_node (Node.leaf question) = Some question
+question_of_node (Node.function func len) = None
+
+-- the nodes as labels
+abbrev node_of_leaf : Bool → Question → Node
+node_of_leaf odd question = Node.leaf question
+
+abbrev node_of_function : Bool → Func → ℕ → Node
+node_of_function odd func len = Node.function func len
+
+labels_are : (tree : Tree) → labels node_of_leaf node_of_function false tree ≡ prefix tree
+labels_are tree =
+    sym (map-id _) ∙ labels-prefix node_of_leaf node_of_function (λ n. n) (λ n. n)
+    (λ odd question. refl) (λ odd func len. refl) false tree
+    ∙ map-id (prefix tree)
+
+-- what is asked at a place
+abbrev question_in : List ℕ → List ExprNode → ℕ → Option Question
+question_in text nodes place = option_map (question_at text) (leaf_at nodes place)
+
+shown_same : (text : List ℕ) (nodes : List ExprNode) (place : ℕ) (x : Node)
+    → slice_get (map (node_at text) nodes) place ≡ Some x
+    → question_in text nodes place ≡ question_of_node x
+shown_same text [] place x is = absurd (cc)
+shown_same text (node.Fn func len ∷ nodes) zero x is =
+    let same : Node.function func len ≡ x = cc in ap question_of_node same
+shown_same text (node.Predicate predicate ∷ nodes) zero x is =
+    let same : Node.leaf (question_at text predicate) ≡ x = cc in ap question_of_node same
+shown_same text (first ∷ nodes) (suc place) x is = shown_same text nodes place x is
+
+filtered : {X Y : Type 0} (h : X → Option Y) (xs : List X)
+    (ys : List Y) → map h xs ≡ map (λ (y : Y). Some y) ys → filter_map h xs ≡ ys
+filtered h [] [] e = refl
+filtered h [] (y ∷ ys) e = absurd (cc)
+filtered h (x ∷ xs) [] e = absurd (cc)
+filtered h (x ∷ xs) (y ∷ ys) e =
+    let first : h x ≡ Some y = cc in
+    let rest : map h xs ≡ map (λ (y : _). Some y) ys = cc in
+    rw first (ap (λ l. y ∷ l) (filtered h xs ys rest))
+
+-- where a leaf is found
+
+NamesLeaf-found : (text : List ℕ) (nodes : List ExprNode) (place : ℕ)
+    (question : Question) → AllByRecursion (NodeHasCut text) nodes
+    → question_in text nodes place ≡ Some question
+    → NamesLeaf text nodes place
+NamesLeaf-found text [] place question cuts e = absurd (cc)
+NamesLeaf-found text (node.Fn func len ∷ nodes) zero question cuts e = absurd (cc)
+NamesLeaf-found text (node.Predicate predicate ∷ nodes) zero question cuts e =
+    record { predicate = predicate; stands = refl; cut = cuts.0 }
+NamesLeaf-found text (x ∷ nodes) (suc place) question cuts e =
+    let n = NamesLeaf-found text nodes place question cuts.1 e in
+    record { predicate = n.predicate; stands = n.stands; cut = n.cut }
+
+NameLeaves-asks : (text : List ℕ) (nodes : List ExprNode) (asks : List ℕ)
+    (questions : List Question) → AllByRecursion (NodeHasCut text) nodes
+    → map (question_in text nodes) asks ≡ map (λ (q : Question). Some q) questions
+    → NameLeaves text nodes asks
+NameLeaves-asks text nodes [] questions cuts e = tt
+NameLeaves-asks text nodes (place ∷ asks) [] cuts e = absurd (cc)
+NameLeaves-asks text nodes (place ∷ asks) (question ∷ questions) cuts e = (
+  NamesLeaf-found text nodes place question cuts (cc),
+  NameLeaves-asks text nodes asks questions cuts (cc),
+)
+
+-- one question for each place
+pub length-questions_at : (text : List ℕ) (nodes : List ExprNode) (asks : List ℕ)
+    → NameLeaves text nodes asks → length (questions_at text nodes asks) ≡ length asks
+length-questions_at text nodes [] names = refl
+length-questions_at text nodes (place ∷ asks) names =
+    let found : leaf_at nodes place ≡ Some names.0.predicate =
+    ap (option_and_then leaf_of) names.0.stands in
+    rw found (ap suc (length-questions_at text nodes asks names.1))
+
+module _ {text : List ℕ} {nodes : List ExprNode} {asks : List ℕ} {tree : Tree}
+    (k : KeepsTree text nodes asks tree) where
+  -- the leaves at a tree's places are what it asks
+  asks_kept : map (question_in text nodes) asks ≡ map (λ (q : Question). Some q) (asked tree)
+  asks_kept =
+      ap (map (question_in text nodes)) k.asked_are
+      ∙ read-places node_of_leaf node_of_function (map (node_at text) nodes) tree
+      (question_in text nodes) question_of_node (k.nodes_are ∙ sym (labels_are tree))
+      (shown_same text nodes)
+      ∙ leaf_labels-asked node_of_leaf node_of_function question_of_node
+      (λ (q : Question). Some q) (λ odd question. refl) false tree
+
+  pub questions_at-kept : questions_at text nodes asks ≡ asked tree
+  questions_at-kept = filtered (question_in text nodes) asks (asked tree) asks_kept
+
+  pub NameLeaves-kept : NameLeaves text nodes asks
+  NameLeaves-kept = NameLeaves-asks text nodes asks (asked tree) k.cuts asks_kept
+
+  pub length-asked_kept : length asks ≡ length (asked tree)
+  length-asked_kept =
+      Alike-length (question_in text nodes) (λ q. Some q) asks (asked tree) asks_kept

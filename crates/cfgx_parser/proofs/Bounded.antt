@@ -1,0 +1,123 @@
+-- What was counted was written: each step keeps it.
+use Rattle.std.proofs.Common.{◌≡◌, ℕ, suc, ◌+◌, ◌-◌, ◌≤◌, List, [], ◌∷◌, length, Option, Some, None}
+use Rattle.std.proofs.Common.{Ok, sym, refl, subst, arith, length-take}
+use Rattle.std.proofs.lemmas.List.{length_push, length-set}
+use Rattle.cfgx_syntax.specs.Token.{Token}
+use Rattle.cfgx_syntax.specs.Items.{Item}
+use Rattle.cfgx_grammar.specs.parsing.State.{Function, Pending}
+use Rattle.cfgx_parser.specs.parsing.State.{Open, State, counted}
+use Rattle.cfgx_grammar.specs.parsing.Step.{over_top, one_more, root_more, leaf_ended}
+use Rattle.cfgx_grammar.specs.parsing.Step.{predicate_ended, opened, function_ended, with_parens}
+use Rattle.cfgx_grammar.specs.parsing.Step.{apply, step}
+use Rattle.cfgx_parser.specs.parsing.Bounded.{counted_in, AreMarked, IsHeld}
+use Rattle.cfgx_parser.specs.declared.nodes.InnerPredicate.{InnerPredicate}
+use Rattle.cfgx_parser.specs.declared.nodes.ExprNode.TheVariants as node
+use Rattle.cfgx_grammar.proofs.accepted.Reads.{ok_same, LeafEnds-ended, same_ended}
+use Rattle.cfgx_grammar.proofs.accepted.Steps.{Closes-stack, Steps-step}
+
+-- one more item, wherever it is counted
+counted-with_item : (stack : List Open) (roots : ℕ)
+    → root_more stack roots + counted_in (over_top one_more stack) ≡ suc (roots + counted_in stack)
+counted-with_item [] roots = omega arith
+counted-with_item (top ∷ rest) roots = omega arith
+
+AreMarked-more : (stack : List Open) (n m k l : ℕ) → n ≤ m → k ≤ l → AreMarked stack n k
+    → AreMarked stack m l
+AreMarked-more [] n m k l p q marks = tt
+AreMarked-more (top ∷ rest) n m k l p q marks = (
+  omega (arith, marks.0),
+  omega (arith, marks.1),
+  marks.2,
+)
+
+AreMarked-top : (stack : List Open) (n k : ℕ) (f : Open → Open)
+    → ((top : Open) → (f top).mark ≡ top.mark) → AreMarked stack n k
+    → AreMarked (over_top f stack) n k
+AreMarked-top [] n k f same marks = tt
+AreMarked-top (top ∷ rest) n k f same marks = rw same marks
+
+IsHeld-leaf : (s : State) (predicate : InnerPredicate) → IsHeld s → IsHeld (leaf_ended s predicate)
+IsHeld-leaf s predicate h =
+    let nodes = length_push s.written.nodes (node.Predicate predicate) in
+    let leaves = length_push s.written.leaves (length s.written.nodes) in
+    record {
+      counts = omega (arith, counted-with_item s.stack s.roots, nodes, h.counts);
+      marks = AreMarked-more (over_top one_more s.stack)
+          (length s.written.nodes) _ (length s.written.leaves) _ (omega (arith, nodes))
+          (omega (arith, leaves))
+          (AreMarked-top s.stack _ _ one_more (λ top. refl) h.marks);
+    }
+
+pub IsHeld-ended : (s t : State) (pending : Option Pending) → s.pending ≡ pending
+    → predicate_ended s ≡ Ok t → IsHeld s → IsHeld t
+IsHeld-ended s t None none ends h = subst IsHeld (same_ended s t none ends) h
+IsHeld-ended s t (Some p) pending ends h =
+    let leaf = LeafEnds-ended s t p pending ends in
+    subst IsHeld (sym leaf.ended) (IsHeld-leaf s leaf.predicate h)
+
+IsHeld-opened : (s : State) (function : Function) (item : Item) → IsHeld s
+    → IsHeld (opened s function item)
+IsHeld-opened s function item h =
+    let nodes = length_push s.written.nodes (node.Fn (counted function 0) 0) in
+    record {
+      counts = omega (arith, nodes, h.counts);
+      marks =
+          (omega (arith, nodes), omega arith, h.marks);
+    }
+
+IsHeld-closed : (t : State) (stack : List Open) → t.stack ≡ stack → IsHeld t
+    → IsHeld (function_ended stack t)
+IsHeld-closed t [] is h = h
+IsHeld-closed t (top ∷ rest) is h =
+    let marks : AreMarked (top ∷ rest) (length t.written.nodes) (length t.written.leaves) =
+    subst (λ l. AreMarked l (length t.written.nodes) (length t.written.leaves)) is h.marks in
+    let counts : t.roots + counted_in (top ∷ rest) ≤ length t.written.nodes =
+    subst (λ l. t.roots + counted_in l ≤ length t.written.nodes) is h.counts in
+    let nodes = length-set t.written.nodes top.mark.node
+    (node.Fn (counted top.function top.members) (length t.written.nodes - top.mark.node)) in
+    let leaves = length-take top.mark.leaves t.written.leaves in
+    record {
+      counts = omega (arith, counted-with_item rest t.roots, nodes, counts);
+      marks = AreMarked-more (over_top one_more rest) top.mark.node _ top.mark.leaves _
+          (omega (arith, nodes, marks.0)) (omega (arith, leaves, marks.1))
+          (AreMarked-top rest _ _ one_more (λ f. refl) marks.2);
+    }
+
+counted-parens : (place : ℕ) (stack : List Open)
+    → counted_in (over_top (with_parens place) stack) ≡ counted_in stack
+counted-parens place [] = refl
+counted-parens place (top ∷ rest) = refl
+
+IsHeld-parens : (s : State) (place : ℕ) → IsHeld s
+    → IsHeld (record s { stack = over_top (with_parens place) s.stack })
+IsHeld-parens s place h = record {
+  counts = omega (arith, counted-parens place s.stack, h.counts);
+  marks = AreMarked-top s.stack _ _ (with_parens place) (λ top. refl) h.marks;
+}
+
+IsHeld-applied : (s u : State) (item : Item) (token : Token) → apply s item token ≡ Ok u → IsHeld s
+    → IsHeld u
+IsHeld-applied s u item (Token.key text) does h =
+    subst IsHeld (ok_same _ u does) (record { counts = h.counts; marks = h.marks })
+IsHeld-applied s u item (Token.value text) does h =
+    subst IsHeld (ok_same _ u does) (record { counts = h.counts; marks = h.marks })
+IsHeld-applied s u item Token.equals does h = subst IsHeld (ok_same s u does) h
+IsHeld-applied s u item Token.all does h = subst IsHeld (ok_same _ u does)
+    (IsHeld-opened s Function.all item h)
+IsHeld-applied s u item Token.any does h = subst IsHeld (ok_same _ u does)
+    (IsHeld-opened s Function.any item h)
+IsHeld-applied s u item Token.not does h = subst IsHeld (ok_same _ u does)
+    (IsHeld-opened s Function.not item h)
+IsHeld-applied s u item Token.open_paren does h = subst IsHeld (ok_same _ u does)
+    (IsHeld-parens s item.start h)
+IsHeld-applied s u item Token.close_paren does h =
+    let c = Closes-stack s u item s.stack refl does in
+    subst IsHeld c.closed (IsHeld-closed c.settled c.settled.stack refl
+    (IsHeld-ended s c.settled s.pending refl c.ends h))
+IsHeld-applied s u item Token.comma does h = IsHeld-ended s u s.pending refl does h
+
+pub IsHeld-step : (s t : State) (item : Item) → step s item ≡ Ok t → IsHeld s → IsHeld t
+IsHeld-step s t item steps h =
+    let d = Steps-step s t item steps in
+    let applied = IsHeld-applied s d.applied item item.token d.does h in
+    subst IsHeld d.after (record { counts = applied.counts; marks = applied.marks })

@@ -1,0 +1,82 @@
+-- What is kept of a text that is accepted: the nodes of its tree.
+use Rattle.std.proofs.Common.{◌≡◌, ℕ, List, [], ◌∷◌, ◌++◌, map, length, Ok, sym, refl, ap}
+use Rattle.std.proofs.Common.{◌∙◌, subst}
+use Rattle.std.specs.Prelude.{if◌then◌else◌, slice_range, ◌≤◌}
+use Rattle.std.specs.List.{AllByRecursion}
+use Rattle.std.proofs.lemmas.List.{append-nil}
+use Rattle.cfgx_syntax.specs.Cut.{CanBeCut}
+use Rattle.cfgx_syntax.specs.Items.{Item, ItemsFrom, HasOneTokenList}
+use Rattle.cfgx_syntax.specs.Token.{Token, Spells}
+use Rattle.cfgx_syntax.proofs.Values.{value_inside}
+use Rattle.cfgx_grammar.specs.Tree.{Tree, is_function, is_leaf}
+use Rattle.cfgx_grammar.proofs.Answering.{answer, tree_of, FindsTree-tree, HasOneTree-tree}
+use Rattle.cfgx_grammar.proofs.alone.Regular.{all_of_first}
+use Rattle.cfgx_parser.specs.nodes.Keeps.{KeepsTree, Keeps}
+use Rattle.cfgx_parser.specs.nodes.Node.{Written, nothing, with_list_ended}
+use Rattle.cfgx_parser.specs.nodes.Prefix.{node_at, prefix, places}
+use Rattle.cfgx_parser.specs.nodes.Writes.{NodeHasCut, IsPlaced, ArePlaced, Writes}
+use Rattle.cfgx_parser.specs.parsing.State.{State}
+use Rattle.cfgx_parser.proofs.spelled.Laws.{node_laws, laws_written}
+
+-- the text of a key or of a value stands at its place
+placed_at : (text : List ℕ) (token : Token) (start end : ℕ)
+    → Spells (slice_range text start end) token → end ≤ length text
+    → CanBeCut text token start end → IsPlaced text (record {
+      token = token;
+      start = start;
+      end =
+          end;
+    }) token
+placed_at text (Token.key word) start end spelled inside cut = (spelled.0, cut.spelling)
+placed_at text (Token.value word) start end spelled inside cut =
+    (value_inside text word start end inside spelled.0, cut.value)
+placed_at text _ start end spelled inside cut = tt
+
+-- the leaves at the root are the last that are asked
+KeepsTree-writes : (text : List ℕ) (w : Written) (tree : Tree)
+    → Writes text nothing w (prefix tree) (if is_leaf tree then 0 ∷ [] else [])
+    (if is_function tree then places 0 tree else [])
+    → KeepsTree text w.nodes (with_list_ended 0 w).asked tree
+KeepsTree-writes text w tree a = record {
+  nodes_are = ap (map (node_at text)) a.nodes_are ∙ a.shown_are;
+  cuts = subst (AllByRecursion (NodeHasCut text)) (sym a.nodes_are) a.cuts;
+  asked_are = rw (a.asked_are, a.leaves_are) (last tree);
+}
+  where
+    last : (tree : Tree) → (if is_function tree then places 0 tree else [])
+        ++ (if is_leaf tree then 0 ∷ [] else []) ≡ places 0 tree
+    last (Tree.leaf question) = refl
+    last tree = append-nil (places 0 tree)
+
+module _ (text : List ℕ) (one : HasOneTokenList text) where
+  -- keys and values stand at their places
+  placed : ArePlaced text one.items
+  placed = places one.items 0 one.are one.cuts
+    where
+      places : (items : List Item) (from : ℕ) → ItemsFrom text from items one.ending
+          → AllByRecursion (λ i. CanBeCut text i.token i.start i.end) items → ArePlaced text items
+      places [] from are cuts = tt
+      places (item ∷ items) from are cuts = (
+        placed_at text item.token item.start item.end are.0.spelled are.0.inside cuts.0,
+        places items item.end are.1 cuts.1,
+      )
+
+  pub Keeps-accepted : (u : State) → answer text one ≡ Ok u
+      → Keeps text u.written.nodes u.written.asked
+  Keeps-accepted u e =
+      let t = tree_of text one u e in
+      let f = FindsTree-tree text one (node_laws text) t.0 t.1 in
+      let same : Ok f.found.whole ≡ Ok u = sym f.answers ∙ e in
+      let written : with_list_ended 0 f.found.written ≡ u.written =
+      sym f.found.whole_is ∙ cc in
+      let writes = laws_written text f.found.first nothing f.found.written t.0 f.found.builds
+      (all_of_first (λ (item : Item). IsPlaced text item item.token) f.found.first f.found.rest
+      (subst (ArePlaced text) f.found.items_are placed)) in
+      let keeps : KeepsTree text u.written.nodes u.written.asked t.0 =
+      subst (λ (w : Written). KeepsTree text w.nodes w.asked t.0) written
+      (KeepsTree-writes text f.found.written t.0 writes) in
+      let whole = HasOneTree-tree text one t.0 t.1 in
+      record {
+        one = whole;
+        keeps = subst (KeepsTree text u.written.nodes u.written.asked) (whole.only t.0 t.1) keeps;
+      }

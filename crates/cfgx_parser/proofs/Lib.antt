@@ -1,0 +1,9 @@
+pub mod Asked
+pub mod Bounded
+pub mod Kept
+pub mod Labels
+pub mod Parsed
+pub mod Reading
+pub mod Worked
+pub mod Writing
+pub mod spelled

@@ -1,0 +1,79 @@
+-- What reading the whole text gives, `parse` answers.
+use Rattle.std.proofs.Common.{◌≡◌, ℕ, List, Result, Ok, Err, sym, ap, ◌∙◌, subst}
+use Rattle.std.specs.Prelude.{IsErrAnd}
+use Rattle.std.proofs.lemmas.Result.{err_from_is_err_and}
+use Rattle.cfgx_syntax.specs.Items.{ItemsFrom, HasOneTokenList}
+use Rattle.cfgx_syntax.specs.LexerState.{LexerState, starting}
+use Rattle.cfgx_syntax.specs.Stripping.{strip}
+use Rattle.cfgx_syntax.specs.declared.error.Failure.{Failure}
+use Rattle.cfgx_syntax.specs.declared.error.Failure.TheVariants as failure
+use Rattle.cfgx_grammar.specs.Answer.{Answers, IsAccepted}
+use Rattle.cfgx_parser.specs.nodes.Keeps.{Keeps}
+use Rattle.cfgx_parser.specs.parsing.State.{State}
+use Rattle.cfgx_grammar.specs.parsing.State.{initial}
+use Rattle.cfgx_parser.specs.parsing.Parser.{state_of, FailsAs, Gives, ReadsAll}
+use Rattle.cfgx_grammar.specs.parsing.Step.{answer_from}
+use Rattle.cfgx_parser.specs.declared.parser.Parser.{Parser}
+use Rattle.cfgx_grammar.proofs.Answering.{answer, tree_of, IsAccepted-accepted, IsRefused-refused}
+use Rattle.cfgx_grammar.proofs.Answering.{accepted_or_refused}
+use Rattle.cfgx_parser.proofs.Kept.{Keeps-accepted}
+use Rattle.cfgx_grammar.proofs.Stripped.{strip-tree}
+
+-- the start of a text, and of the parser
+pub record Begins {A : Type 0} (text : List ℕ) (lexer : LexerState)
+    (parser : Parser A) : Type 0 where
+  pub one : HasOneTokenList text
+  pub lexer_is : lexer ≡ starting text
+  pub state_is : state_of {A = A} parser ≡ initial
+  pub text_is : parser.original.now ≡ text
+
+given : {A : Type 0} {text : List ℕ} {lexer : LexerState} {old : Parser A} (new : Parser A)
+    (result : Result (Unit {0}) (Failure A)) (b : Begins {A = A} text lexer old)
+    → ReadsAll {A = A} lexer old new result → Gives {A = A} result old new (answer text b.one)
+given {A} {text} {lexer} {old} new result b reads =
+    let come : ItemsFrom lexer.text lexer.place b.one.items b.one.ending =
+    subst (λ (l : LexerState). ItemsFrom l.text l.place b.one.items b.one.ending)
+    (sym b.lexer_is) b.one.are in
+    let same : answer_from (state_of {A = A} old) lexer.text b.one.items b.one.ending ≡ answer text
+    b.one =
+    ap (λ s. answer_from s lexer.text b.one.items b.one.ending) b.state_is
+    ∙ ap (λ (l : LexerState). answer_from initial l.text b.one.items b.one.ending) b.lexer_is in
+    subst (Gives {A = A} result old new) same (reads b.one.items b.one.ending come)
+
+fails_as : {A : Type 0} (text : List ℕ) (one : HasOneTokenList text)
+    (f : Failure A) → FailsAs text f (answer text one) → Answers text (Err f)
+fails_as text one (failure.Parse error) fails =
+    (fails.0, fails.2, IsRefused-refused text one fails.0 fails.1)
+fails_as text one (failure.Memory error) fails = accepted_or_refused text one
+
+pub Answers-fails : {A : Type 0} {text : List ℕ} {lexer : LexerState} {old : Parser A}
+    (new : Parser A) (f : Failure A) → Begins {A = A} text lexer old
+    → ReadsAll {A = A} lexer old new (Err f) → Answers text (Err f)
+Answers-fails {text} new f b reads =
+    let fails = given new (Err f) b reads in
+    fails_as text b.one f (subst (λ t. FailsAs t f (answer text b.one)) b.text_is fails)
+
+-- where memory runs out
+pub Answers-memory : {A : Type 0} (text : List ℕ) → HasOneTokenList text → (error : _)
+    (result : Result (List ℕ) (Failure A)) → IsErrAnd result (λ f. f ≡ failure.Memory error)
+    → Answers text result
+Answers-memory text one error result is =
+    let p = err_from_is_err_and result is in
+    rw (p.1, p.2) (accepted_or_refused text one)
+
+-- what is accepted
+pub Keeps-reads : {A : Type 0} {text : List ℕ} {lexer : LexerState} {old : Parser A}
+    (new : Parser A) → Begins {A = A} text lexer old → ReadsAll {A = A} lexer old new (Ok tt)
+    → Keeps text new.writer.nodes.items new.writer.asked.items
+Keeps-reads {text} new b reads =
+    let gives = given new (Ok tt) b reads in
+    subst (λ (s : State). Keeps text s.written.nodes s.written.asked) gives.2.is
+    (Keeps-accepted text b.one gives.0 gives.1)
+
+pub IsAccepted-reads : {A : Type 0} {text : List ℕ} {lexer : LexerState} {old : Parser A}
+    (new : Parser A) → Begins {A = A} text lexer old → ReadsAll {A = A} lexer old new (Ok tt)
+    → (strip text ≡ text) × IsAccepted text
+IsAccepted-reads {text} new b reads =
+    let gives = given new (Ok tt) b reads in
+    let found = tree_of text b.one gives.0 gives.1 in
+    (strip-tree text found.0 found.1, IsAccepted-accepted text b.one gives.0 gives.1)

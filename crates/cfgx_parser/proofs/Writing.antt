@@ -1,0 +1,58 @@
+-- How writes one after another add up.
+use Rattle.std.proofs.Common.{◌≡◌, ℕ, List, ◌++◌, Option, None, Some, Result, Ok, Err, ap}
+use Rattle.std.proofs.Common.{sym, ◌∙◌, append_assoc}
+use Rattle.std.specs.Io.KnownBytes.{Appends}
+use Rattle.std.specs.Prelude.{codes}
+use Rattle.cfgx_grammar.specs.Spelling.{with_value}
+use Rattle.cfgx_parser.specs.Writing.{Takes, TakesFront, Writes}
+
+-- known bytes that grow twice
+pub appends_twice : (old mid new : Option (List ℕ)) (first second : List ℕ)
+    → Appends old mid first → Appends mid new second → Appends old new (first ++ second)
+appends_twice None mid new first second a b = tt
+appends_twice (Some xs) None new first second a b = absurd a
+appends_twice (Some xs) (Some ys) None first second a b = absurd b
+appends_twice (Some xs) (Some ys) (Some zs) first second a b =
+    b ∙ ap (λ s. s ++ second) a ∙ append_assoc xs first second
+
+-- what is taken of the bytes that were left is taken of all
+pub takes_more : {old mid new : Option (List ℕ)} {bytes between left : List ℕ}
+    → Takes old mid bytes between → Takes mid new between left → Takes old new bytes left
+takes_more {old} {mid} {new} {bytes} {between} {left} first second = record {
+  front = first.front ++ second.front;
+  whole = append_assoc first.front second.front left
+      ∙ ap (λ s. first.front ++ s) second.whole ∙ first.whole;
+  taken = appends_twice old mid new first.front second.front first.taken second.taken;
+}
+
+-- a beginning of the first part is one of both
+pub front_of_first : {old new : Option (List ℕ)} {first : List ℕ} (second : List ℕ)
+    → TakesFront old new first → TakesFront old new (first ++ second)
+front_of_first second (left, taken) = (
+  left ++ second,
+  record {
+    front = taken.front;
+    whole = sym (append_assoc taken.front left second) ∙ ap (λ s. s ++ second) taken.whole;
+    taken = taken.taken;
+  },
+)
+
+-- the first part whole, and then a write of the second
+pub writes_second : {E : Type 0} (old mid new : Option (List ℕ)) (result : Result (Unit {0}) E)
+    (first second : List ℕ) → Appends old mid first → Writes mid new result second
+    → Writes old new result (first ++ second)
+writes_second old mid new (Ok done) first second taken more =
+    appends_twice old mid new first second taken more
+writes_second old mid new (Err error) first second taken (left, more) = (
+  left,
+  record {
+    front = first ++ more.front;
+    whole = append_assoc first more.front left ∙ ap (λ s. first ++ s) more.whole;
+    taken = appends_twice old mid new first more.front taken more.taken;
+  },
+)
+
+-- a key with a value in two parts
+pub value_parts : (key value : List ℕ) → with_value key value
+    ≡ (key ++ codes " = \"") ++ (value ++ codes "\"")
+value_parts key value = sym (append_assoc key (codes " = \"") (value ++ codes "\""))

@@ -1,0 +1,10 @@
+-- Each place names a leaf, and so a question.
+use Rattle.std.proofs.Common.{sym, ap, ◌∙◌, length}
+use Rattle.cfgx_parser.proofs.Asked.{length-questions_at}
+use Rattle.cfgx_parser.proofs.predicates.Predicates.left.Goals as goal
+
+pub returns : goal.returns
+returns c =
+    sym (length-questions_at c.self.inside.text.now c.self.inside.nodes.now c.self.inside.asked.now
+    c.self.invariant)
+    ∙ ap length c.self.view_is

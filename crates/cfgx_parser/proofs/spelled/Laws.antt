@@ -1,0 +1,124 @@
+-- The nodes of a tree are written for its items: the laws of the builder of nodes.
+use Rattle.std.proofs.Common.{◌≡◌, ℕ, ◌+◌, true, false, List, [], ◌∷◌, ◌++◌, length, Option}
+use Rattle.std.proofs.Common.{Some, None, sym, refl, ap, ◌∙◌, subst}
+use Rattle.std.specs.Prelude.{if◌then◌else◌}
+use Rattle.std.proofs.lemmas.List.{append-nil, length_push}
+use Rattle.std.specs.declared.ops.Range.{Range}
+use Rattle.cfgx_syntax.specs.Items.{Item}
+use Rattle.cfgx_grammar.specs.Question.{Question}
+use Rattle.cfgx_grammar.specs.Classification.{Class, class}
+use Rattle.cfgx_grammar.specs.Tree.{Tree, Trees, is_function, is_leaf, count}
+use Rattle.cfgx_grammar.specs.parsing.State.{Function}
+use Rattle.cfgx_parser.specs.nodes.Located.{located}
+use Rattle.cfgx_parser.specs.nodes.Node.{Written, with_leaf}
+use Rattle.cfgx_parser.specs.nodes.Prefix.{headed, prefix, prefix_each, own_places, places}
+use Rattle.cfgx_parser.specs.nodes.Prefix.{inner_places}
+use Rattle.cfgx_parser.specs.nodes.Writes.{IsPlaced, ArePlaced, Writes}
+use Rattle.cfgx_parser.specs.parsing.State.{counted, node_builder}
+use Rattle.cfgx_parser.specs.declared.function.Func.TheVariants.{Not}
+use Rattle.cfgx_parser.specs.declared.nodes.ExprNode.TheVariants as node
+use Rattle.cfgx_grammar.proofs.alone.Regular.{all_of_first, all_of_second}
+use Rattle.cfgx_grammar.proofs.spelled.Items.{Calls, Laws}
+use Rattle.cfgx_parser.proofs.spelled.Located.{Stands, NamesClass, NamesClass-class}
+use Rattle.cfgx_parser.proofs.spelled.Written.{Writes-none, Writes-then, Writes-leaf}
+use Rattle.cfgx_parser.proofs.spelled.Written.{Writes-function, length-nodes}
+
+-- a function's tree, by its kind and its members
+record Called (function : Function) (tree : Tree) (trees : Trees) : Type 0 where
+  pub prefix_is : prefix tree ≡ headed (counted function (count trees)) (prefix_each trees)
+  pub places_are : (place : ℕ) → places place tree ≡ inner_places (place + 1) trees
+      ++ own_places (place + 1) trees
+  pub is_no_leaf : is_leaf tree ≡ false
+  pub is_one : is_function tree ≡ true
+
+-- the two ways of writing the one member of a `not`
+places_one : (place : ℕ) (tree : Tree) → places place tree ≡ inner_places place
+    (Trees.more tree Trees.none) ++ own_places place (Trees.more tree Trees.none)
+places_one place (Tree.leaf question) = refl
+places_one place tree = sym (append-nil (places place tree ++ []) ∙ append-nil (places place tree))
+
+Called-all : (trees : Trees) → Called Function.all (Tree.all trees) trees
+Called-all trees =
+    record { prefix_is = refl; places_are = λ place. refl; is_no_leaf = refl; is_one = refl }
+
+Called-any : (trees : Trees) → Called Function.any (Tree.any trees) trees
+Called-any trees =
+    record { prefix_is = refl; places_are = λ place. refl; is_no_leaf = refl; is_one = refl }
+
+Called-not : (tree : Tree) → Called Function.not (Tree.not tree) (Trees.more tree Trees.none)
+Called-not tree = record {
+  prefix_is = ap (headed Not) (sym (append-nil (prefix tree)));
+  places_are = λ place. places_one (place + 1) tree;
+  is_no_leaf = refl;
+  is_one = refl;
+}
+
+module _ (text : List ℕ) where
+  -- for a tree whose items stand at their places, and for a list
+  abbrev pub ItemWrites : List Item → Written → Written → Tree → Type 0
+  ItemWrites items w v tree = ArePlaced text items
+      → Writes text w v (prefix tree) (if is_leaf tree then length w.nodes ∷ [] else [])
+      (if is_function tree then places (length w.nodes) tree else [])
+
+  abbrev ListWrites : List Item → Written → Written → Trees → Type 0
+  ListWrites items w v trees = ArePlaced text items
+      → Writes text w v (prefix_each trees) (own_places (length w.nodes) trees)
+      (inner_places (length w.nodes) trees)
+
+  leaf_writes : (w : Written) (key_span : Range ℕ) (span : Option (Range ℕ)) (key : List ℕ)
+      (value : Option (List ℕ)) (question : Question) → Stands text key_span span key value
+      → class key value ≡ Class.is question
+      → Writes text w (with_leaf (located key_span span question) w) (prefix (Tree.leaf question))
+      (length w.nodes ∷ []) []
+  leaf_writes w key_span span key value question stands classed =
+      let named : NamesClass text key_span span (Class.is question) =
+      subst (NamesClass text key_span span) classed
+      (NamesClass-class text key_span span key value stands) in
+      Writes-leaf text w _ question named.0 named.1
+
+  list_writes : (xs ys zs : List Item) (tree : Tree) (trees : Trees) (w v u : Written)
+      → ItemWrites xs w v tree → ListWrites zs v u trees
+      → ListWrites (xs ++ (ys ++ zs)) w u (Trees.more tree trees)
+  list_writes xs ys zs tree trees w v u writes more placed =
+      let P = λ (item : Item). IsPlaced text item item.token in
+      let first = writes (all_of_first P xs (ys ++ zs) placed) in
+      let others = more (all_of_second P ys zs (all_of_second P xs (ys ++ zs) placed)) in
+      let at = subst (λ k. Writes text v u (prefix_each trees) (own_places k trees)
+      (inner_places k trees)) (length-nodes text w v (prefix tree) _ _ first) others in
+      Writes-then text w v u _ _ _ _ _ _ first at
+
+  call_writes : (function : Function) (tree : Tree) (trees : Trees) → Called function tree trees
+      → Calls node_builder ItemWrites ListWrites function tree trees
+  call_writes function tree trees called head opening closing members w v writes placed =
+      let P = λ (item : Item). IsPlaced text item item.token in
+      let written = writes (all_of_first P members (closing ∷ []) placed.1.1) in
+      let place = length_push w.nodes (node.Fn (counted function 0) 0) in
+      let whole = Writes-function text w v (counted function 0) (counted function (count trees))
+      _ _ _ written in
+      rw (called.prefix_is, called.is_no_leaf, called.is_one, called.places_are, ← place) whole
+
+  pub node_laws : Laws node_builder
+  node_laws = record {
+    ItemBuilds = ItemWrites;
+    ListBuilds = ListWrites;
+    key = λ x key question w is classed placed. leaf_writes w _ None key None question (record {
+      key_holds = subst (IsPlaced text x) is placed.0;
+      value_holds = tt;
+    }) classed;
+    value = λ x y z key value question w x_is z_is classed placed.
+        leaf_writes w _ (Some _) key (Some value) question (record {
+          key_holds = subst (IsPlaced text x) x_is placed.0;
+          value_holds = subst (IsPlaced text z) z_is placed.1.1.0;
+        }) classed;
+    none = λ w placed. Writes-none text w;
+    more = list_writes;
+    all = λ trees. call_writes Function.all (Tree.all trees) trees (Called-all trees);
+    any = λ trees. call_writes Function.any (Tree.any trees) trees (Called-any trees);
+    not = λ tree. call_writes Function.not (Tree.not tree) (Trees.more tree Trees.none)
+        (Called-not tree);
+  }
+
+  pub laws_written : (items : List Item) (w v : Written) (tree : Tree)
+      → node_laws.ItemBuilds items w v tree → ItemWrites items w v tree
+  unfolding node_laws
+  laws_written items w v tree writes = writes

@@ -1,0 +1,47 @@
+-- What an `Expression` keeps of its text: the nodes of its tree, and the places of the leaves as
+-- they are asked.
+use Rattle.std.specs.Prelude.{◌≡◌, ℕ, List, map, Option, Some, None, option_map, option_and_then}
+use Rattle.std.specs.List.{AllByRecursion, slice_get, filter_map}
+use Rattle.cfgx_grammar.specs.Question.{Question}
+use Rattle.cfgx_grammar.specs.Tree.{Tree}
+use Rattle.cfgx_grammar.specs.Answer.{HasOneTree}
+use Rattle.cfgx_parser.specs.nodes.Located.{HasCut, question_at}
+use Rattle.cfgx_parser.specs.nodes.Prefix.{node_at, prefix, places}
+use Rattle.cfgx_parser.specs.nodes.Writes.{NodeHasCut}
+use Rattle.cfgx_parser.specs.declared.nodes.InnerPredicate.{InnerPredicate}
+use Rattle.cfgx_parser.specs.declared.nodes.ExprNode.{ExprNode}
+use Rattle.cfgx_parser.specs.declared.nodes.ExprNode.TheVariants as node
+
+-- the nodes and the places are those of the tree, and the text can be cut at their spans
+pub record KeepsTree (text : List ℕ) (nodes : List ExprNode) (asked : List ℕ)
+    (tree : Tree) : Type 0 where
+  pub nodes_are : map (node_at text) nodes ≡ prefix tree
+  pub cuts : AllByRecursion (NodeHasCut text) nodes
+  pub asked_are : asked ≡ places 0 tree
+
+-- they are those of the text's one tree
+pub record Keeps (text : List ℕ) (nodes : List ExprNode) (asked : List ℕ) : Type 0 where
+  pub one : HasOneTree text
+  pub keeps : KeepsTree text nodes asked one.tree
+
+abbrev pub leaf_of : ExprNode → Option InnerPredicate
+leaf_of (node.Fn func len) = None
+leaf_of (node.Predicate predicate) = Some predicate
+
+-- the leaf at a place
+abbrev pub leaf_at : List ExprNode → ℕ → Option InnerPredicate
+leaf_at nodes place = option_and_then leaf_of (slice_get nodes place)
+
+-- the questions of the leaves at the places
+abbrev pub questions_at : List ℕ → List ExprNode → List ℕ → List Question
+questions_at text nodes asked = filter_map (λ place. option_map (question_at text)
+    (leaf_at nodes place)) asked
+
+-- a leaf stands at the place, and its parts can be cut out of the text
+pub record NamesLeaf (text : List ℕ) (nodes : List ExprNode) (place : ℕ) : Type 0 where
+  pub predicate : InnerPredicate
+  pub stands : slice_get nodes place ≡ Some (node.Predicate predicate)
+  pub cut : HasCut text predicate
+
+abbrev pub NameLeaves : List ℕ → List ExprNode → List ℕ → Type 0
+NameLeaves text nodes asked = AllByRecursion (NamesLeaf text nodes) asked

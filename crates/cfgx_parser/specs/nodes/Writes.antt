@@ -1,0 +1,43 @@
+-- What is written for trees of a text.
+use Rattle.std.specs.Prelude.{◌≡◌, ℕ, ◌+◌, ◌-◌, List, ◌++◌, map}
+use Rattle.std.specs.List.{AllByRecursion}
+use Rattle.cfgx_syntax.specs.Token.{Token}
+use Rattle.cfgx_syntax.specs.Items.{Item}
+use Rattle.cfgx_parser.specs.nodes.Located.{IsSpan, HasCut, at}
+use Rattle.cfgx_parser.specs.nodes.Node.{Written}
+use Rattle.cfgx_parser.specs.nodes.Prefix.{Node, node_at}
+use Rattle.std.specs.declared.ops.Range.{Range}
+use Rattle.cfgx_parser.specs.declared.nodes.ExprNode.{ExprNode}
+use Rattle.cfgx_parser.specs.declared.nodes.ExprNode.TheVariants as node
+
+abbrev pub NodeHasCut : List ℕ → ExprNode → Type 0
+NodeHasCut text (node.Fn func len) = Unit {0}
+NodeHasCut text (node.Predicate predicate) = HasCut text predicate
+
+-- a word stands at its span, and can be cut out of the text there
+abbrev pub Holds : List ℕ → Range ℕ → List ℕ → Type 0
+Holds text span word = (at text span ≡ word) × IsSpan text span
+
+-- the text of a key or of a value stands at its place
+abbrev pub IsPlaced : List ℕ → Item → Token → Type 0
+IsPlaced text item (Token.key word) = Holds text (record { start = item.start; end = item.end })
+    word
+IsPlaced text item (Token.value word) = Holds text (record {
+  start = item.start + 1;
+  end =
+      item.end - 1;
+}) word
+IsPlaced text item _ = Unit {0}
+
+abbrev pub ArePlaced : List ℕ → List Item → Type 0
+ArePlaced text items = AllByRecursion (λ item. IsPlaced text item item.token) items
+
+-- these nodes were written, these places of leaves wait, and those are asked
+pub record Writes (text : List ℕ) (old new : Written) (shown : List Node)
+    (own inner : List ℕ) : Type 0 where
+  pub added : List ExprNode
+  pub nodes_are : new.nodes ≡ old.nodes ++ added
+  pub shown_are : map (node_at text) added ≡ shown
+  pub cuts : AllByRecursion (NodeHasCut text) added
+  pub leaves_are : new.leaves ≡ old.leaves ++ own
+  pub asked_are : new.asked ≡ old.asked ++ inner

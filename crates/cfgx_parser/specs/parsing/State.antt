@@ -1,0 +1,49 @@
+-- The state of the parser that builds nodes.
+use Rattle.std.specs.Prelude.{ℕ, option_map, Result}
+use Rattle.std.specs.declared.ops.Range.{Range}
+use Rattle.cfgx_syntax.specs.Error.{Refusal}
+use Rattle.cfgx_grammar.specs.Classification.{Class}
+use Rattle.cfgx_grammar.specs.FirstFault.{class_of}
+use Rattle.cfgx_grammar.specs.parsing.State as parser
+use Rattle.cfgx_grammar.specs.parsing.State.{Function, Word, Pending, Builder}
+use Rattle.cfgx_grammar.specs.parsing.Step as steps
+use Rattle.cfgx_parser.specs.nodes.Node.{Mark, Written, nothing, mark_of, with_leaf, with_function}
+use Rattle.cfgx_parser.specs.nodes.Node.{with_list_ended, with_function_ended}
+use Rattle.cfgx_parser.specs.nodes.Located.{located}
+use Rattle.cfgx_parser.specs.declared.function.Func.{Func}
+use Rattle.cfgx_parser.specs.declared.function.Func.TheVariants as func
+use Rattle.cfgx_parser.specs.declared.nodes.InnerPredicate.{InnerPredicate}
+
+-- a function with so many members
+abbrev pub counted : Function → ℕ → Func
+counted Function.not n = func.Not
+counted Function.all n = func.All n
+counted Function.any n = func.Any n
+
+abbrev pub span_of : Word → Range ℕ
+span_of word = record { start = word.start; end = word.end }
+
+-- what the parser's steps do to the nodes
+abbrev pub node_builder : Builder Written Mark InnerPredicate
+node_builder = record {
+  nothing = nothing;
+  mark_of = mark_of;
+  located = λ p question. located (span_of p.key) (option_map span_of p.value) question;
+  leaf = with_leaf;
+  function = λ function. with_function (counted function 0);
+  function_ended = λ mark function members. with_function_ended mark (counted function members);
+  root_ended = with_list_ended 0;
+}
+
+abbrev pub Open : Type 0
+Open = parser.Open Mark
+
+abbrev pub State : Type 0
+State = parser.State node_builder
+
+-- a predicate by its places, or its fault
+abbrev pub located_class : Pending → Class → Result InnerPredicate Refusal
+located_class = steps.located_class node_builder
+
+abbrev pub classified : Pending → Result InnerPredicate Refusal
+classified p = located_class p (class_of p)

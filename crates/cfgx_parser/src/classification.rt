@@ -1,0 +1,119 @@
+//! What a predicate's key and value say, or what is wrong with them and where.
+ghost use Rattle.std.specs.Prelude.{◌≡◌, option_map};
+ghost use Rattle.cfgx_parser.specs.parsing.State.{classified};
+ghost use Rattle.cfgx_parser.specs.parsing.Fields.{word_of, pending_of, answer_of, bare_answer};
+ghost use Rattle.cfgx_parser.specs.parsing.Fields.{target_answer, other_answer};
+
+use crate::nodes::{InnerPredicate, InnerTarget, Span};
+use cfgx_syntax::error::Reason;
+use cfgx_targets::reading::{read_endian, read_has_atomic, read_u8};
+
+/// Bytes of the text, and where they stand.
+#[derive(Drop)]
+pub(crate) struct Word<'a> {
+    pub(crate) text: &'a str,
+    pub(crate) span: Span,
+}
+
+/// A predicate that has not ended: its key, and its value, without the quotes, where that was read.
+#[derive(Drop)]
+pub(crate) struct Pending<'a> {
+    pub(crate) key: Word<'a>,
+    pub(crate) value: Option<Word<'a>>,
+}
+
+/// What is wrong with a predicate, and the bytes that are at fault.
+pub(crate) type Refused = (Reason, Span);
+
+/// The predicate of a key that stands without a value.
+fn bare(predicate: InnerPredicate, value: Option<Word<'_>>) -> Result<InnerPredicate, Refused>
+    ensures { answer_of result ≡ bare_answer predicate (option_map word_of value.entry) }
+{
+    match value {
+        None => Ok(predicate),
+        Some(value) => Err((Reason::Unexpected(&[]), value.span)),
+    }
+}
+
+/// The predicate of a key that begins with `target_`, by what follows and by its value.
+fn target(which: &str, key: Word<'_>, value: Word<'_>) -> Result<InnerPredicate, Refused>
+    ensures { answer_of result ≡ target_answer which.now (word_of key.entry) (word_of value.entry) }
+{
+    let Word { text, span } = value;
+    Ok(InnerPredicate::Target(match which {
+        "abi" => InnerTarget::Abi(span),
+        "arch" => InnerTarget::Arch(span),
+        "os" => InnerTarget::Os(span),
+        "family" => InnerTarget::Family(span),
+        "env" => InnerTarget::Env(span),
+        "vendor" => InnerTarget::Vendor(span),
+        "feature" if text.is_empty() => return Err((Reason::Unexpected(&["<feature>"]), span)),
+        "feature" => return Ok(InnerPredicate::TargetFeature(span)),
+        "endian" => match read_endian(text) {
+            Some(endian) => InnerTarget::Endian(endian),
+            None => return Err((Reason::InvalidInteger, span)),
+        },
+        "has_atomic" => match read_has_atomic(text) {
+            Some(atomic) => InnerTarget::HasAtomic(atomic),
+            None => return Err((Reason::InvalidHasAtomic, span)),
+        },
+        "pointer_width" => match read_u8(text) {
+            Some(width) => InnerTarget::PointerWidth(width),
+            None => return Err((Reason::InvalidInteger, span)),
+        },
+        _ => return Err((Reason::Unexpected(TARGET_KEYS), key.span)),
+    }))
+}
+
+/// The predicate of a key that is in none of the tables, or that begins with `target_`.
+fn other(key: Word<'_>, value: Option<Word<'_>>) -> Result<InnerPredicate, Refused>
+    ensures { answer_of result ≡ other_answer (word_of key.entry) (option_map word_of value.entry) }
+{
+    let Some(which) = key.text.strip_prefix("target_") else {
+        return Ok(InnerPredicate::Other {
+            identifier: key.span,
+            value: value.map(|value| value.span),
+        });
+    };
+    match value {
+        Some(value) => target(which, key, value),
+        None => Err((Reason::Unexpected(&["= \"<target_cfg_value>\""]), key.span)),
+    }
+}
+
+/// The predicate of a key and its value, or what is wrong with them.
+#[tactic(auto, unfolding(cfgx_grammar::specs::Classification::class))]
+pub(crate) fn classify(pending: Pending<'_>) -> Result<InnerPredicate, Refused>
+    ensures { answer_of result ≡ classified (pending_of pending.entry) }
+{
+    let Pending { key, value } = pending;
+    match key.text {
+        "unix" => bare(InnerPredicate::Target(InnerTarget::Family(key.span)), value),
+        "windows" => bare(InnerPredicate::Target(InnerTarget::Family(key.span)), value),
+        "test" => bare(InnerPredicate::Test, value),
+        "debug_assertions" => bare(InnerPredicate::DebugAssertions, value),
+        "proc_macro" => bare(InnerPredicate::ProcMacro, value),
+        "feature" => match value {
+            Some(value) => Ok(InnerPredicate::Feature(value.span)),
+            None => Err((Reason::Unexpected(&["= \"<feature_name>\""]), key.span)),
+        },
+        "panic" => match value {
+            Some(value) => Ok(InnerPredicate::Target(InnerTarget::Panic(value.span))),
+            None => Err((Reason::Unexpected(&["= \"<panic_strategy>\""]), key.span)),
+        },
+        _ => other(key, value),
+    }
+}
+
+/// The keys that begin with `target_`, as the fault of an unknown one names them.
+const TARGET_KEYS: &[&str] = &[
+    "target_arch",
+    "target_feature",
+    "target_os",
+    "target_family",
+    "target_env",
+    "target_endian",
+    "target_has_atomic",
+    "target_pointer_width",
+    "target_vendor",
+];

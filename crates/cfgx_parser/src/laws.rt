@@ -1,0 +1,45 @@
+//! What the comparisons and the order of questions mean: each function's clause is the law, and its
+//! body is only there to be proved.
+ghost use Rattle.std.specs.Prelude.{◌≡◌, ◌↔◌, IsTrue};
+ghost use Rattle.cfgx_parser.specs.Predicate.{question_of, target_of};
+ghost use Rattle.cfgx_parser.specs.Order.{func_cmp};
+ghost use Rattle.cfgx_grammar.specs.Tree.{Tree, Trees, asked, asked_each, arranged};
+
+use crate::function::Func;
+use crate::predicates::{Predicate, TargetPredicate};
+use std::cmp::Ordering;
+
+/// Two target predicates are equal where they are of one kind and have equal texts, wherever these
+/// lie.
+pub fn are_same_targets(one: &TargetPredicate<'_>, other: &TargetPredicate<'_>) -> bool
+    ensures { IsTrue result ↔ (target_of one.now ≡ target_of other.now) }
+{
+    *one == *other
+}
+
+/// Two predicates are equal where they are of one kind and have equal texts, wherever these lie.
+pub fn are_same_predicates(one: &Predicate<'_>, other: &Predicate<'_>) -> bool
+    ensures { IsTrue result ↔ (question_of one.now ≡ question_of other.now) }
+{
+    *one == *other
+}
+
+/// Functions are ordered by kind, and those of one kind by the number of their members.
+pub fn function_order(one: Func, other: Func) -> Ordering
+    ensures { result ≡ func_cmp one other }
+{
+    one.cmp(&other)
+}
+
+/// Functions are equal where they are the same.
+pub fn are_same_functions(one: Func, other: Func) -> bool
+    ensures { IsTrue result ↔ (one ≡ other) }
+{
+    one == other
+}
+
+/// A function asks what its members ask, one after another as they are arranged.
+pub fn asks_as_arranged()
+    ensures all { (trees : Trees) → asked (Tree.all trees) ≡ asked_each (arranged trees) }
+    ensures any { (trees : Trees) → asked (Tree.any trees) ≡ asked_each (arranged trees) }
+{}

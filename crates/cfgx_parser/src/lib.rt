@@ -1,0 +1,12 @@
+//! From a `cfg()` text to the nodes of its tree, in one pass, and the predicates that they ask.
+#![tactic(auto)]
+
+mod classification;
+pub mod function;
+mod laws;
+pub mod matcher;
+pub mod memory;
+pub mod nodes;
+pub mod parser;
+pub mod predicates;
+pub mod spelling;

@@ -1,0 +1,179 @@
+//! The nodes in which an expression keeps its tree.
+ghost use Rattle.std.specs.Prelude.{◌≡◌, ◌<◌, ◌≤◌, length, OnOk};
+
+use crate::function::Func;
+use crate::memory::SmallAllocator;
+use cfgx_targets::atomic::HasAtomic;
+use cfgx_targets::endian::Endian;
+use smallvec::SmallVec;
+use std::alloc::AllocError;
+use std::ops::Range;
+
+/// Bytes of a text.
+pub type Span = Range<usize>;
+
+/// A predicate on the target, by where its text stands.
+#[derive(Clone, Drop)]
+pub enum InnerTarget {
+    /// `target_abi`, by its value
+    Abi(Span),
+    /// `target_arch`, by its value
+    Arch(Span),
+    /// `target_endian`
+    Endian(Endian),
+    /// `target_env`, by its value
+    Env(Span),
+    /// `target_family`, by its value, and the bare keys `unix` and `windows`, by the key
+    Family(Span),
+    /// `target_has_atomic`
+    HasAtomic(HasAtomic),
+    /// `target_os`, by its value
+    Os(Span),
+    /// `panic`, by its value
+    Panic(Span),
+    /// `target_pointer_width`, in bits
+    PointerWidth(u8),
+    /// `target_vendor`, by its value
+    Vendor(Span),
+}
+
+/// A predicate, by where its parts stand in the text.
+#[derive(Clone, Drop)]
+pub enum InnerPredicate {
+    /// A predicate on the target
+    Target(InnerTarget),
+    /// `test`
+    Test,
+    /// `debug_assertions`
+    DebugAssertions,
+    /// `proc_macro`
+    ProcMacro,
+    /// `feature`, by its value
+    Feature(Span),
+    /// `target_feature`, by its value
+    TargetFeature(Span),
+    /// A key of no other meaning
+    Other {
+        /// The key
+        identifier: Span,
+        /// Its value, without the quotes, if it has one
+        value: Option<Span>,
+    },
+}
+
+/// A node of a condition. A function stands in front of its members, in source order.
+#[derive(Clone, Drop)]
+pub enum ExprNode {
+    /// A function
+    Fn {
+        /// The function, with the number of its members
+        func: Func,
+        /// The number of nodes of its tree, itself among them
+        len: usize,
+    },
+    /// A predicate
+    Predicate(InnerPredicate),
+}
+
+impl Default for ExprNode {
+    fn default() -> Self {
+        ExprNode::Fn {
+            func: Func::Not,
+            len: 0,
+        }
+    }
+}
+
+/// Where an open function began.
+#[derive(Clone, Copy)]
+pub(crate) struct Mark {
+    /// The place of its node
+    pub(crate) node: usize,
+    /// How many leaves of the lists around it wait
+    pub(crate) leaves: usize,
+}
+
+/// The nodes of a tree as they are written, one pass over the text.
+#[derive(Drop)]
+pub struct Writer<A: SmallAllocator> {
+    /// The nodes, in source order
+    pub nodes: SmallVec<ExprNode, 5, A>,
+    /// The places of leaves whose list is open, those of inner lists last
+    pub(crate) leaves: SmallVec<usize, 5, A>,
+    /// The places of the other leaves, in the order in which they are asked
+    pub asked: SmallVec<usize, 5, A>,
+}
+
+impl<A: SmallAllocator> Writer<A> {
+    ghost use Rattle.cfgx_parser.specs.nodes.Node.{nothing, mark_of, with_leaf, with_function};
+    ghost use Rattle.cfgx_parser.specs.nodes.Node.{with_list_ended, with_function_ended};
+    ghost use Rattle.cfgx_parser.specs.nodes.Writer.{written_of, Fits};
+
+    /// Nothing is written.
+    pub(crate) fn new(alloc: A) -> Self
+        ensures { written_of result ≡ nothing }
+    {
+        Writer {
+            nodes: SmallVec::new(alloc),
+            leaves: SmallVec::new(alloc),
+            asked: SmallVec::new(alloc),
+        }
+    }
+
+    /// Where a function would begin.
+    pub(crate) fn mark(&self) -> Mark
+        ensures { result ≡ mark_of (written_of self.now) }
+    {
+        Mark {
+            node: self.nodes.len(),
+            leaves: self.leaves.len(),
+        }
+    }
+
+    /// Writes a predicate of the innermost list.
+    pub(crate) fn leaf(&mut self, predicate: InnerPredicate) -> Result<(), AllocError>
+        ensures written { OnOk result
+            (written_of self.new ≡ with_leaf predicate (written_of self.old)) }
+        ensures fits { OnOk result (Fits (written_of self.new)) }
+    {
+        let place = self.nodes.len();
+        self.nodes.push(ExprNode::Predicate(predicate))?;
+        self.leaves.push(place)?;
+        let _fits = self.nodes.len();
+        Ok(())
+    }
+
+    /// Writes a function whose members are still to come.
+    pub(crate) fn function(&mut self, func: Func) -> Result<(), AllocError>
+        ensures written { OnOk result
+            (written_of self.new ≡ with_function func (written_of self.old)) }
+        ensures fits { OnOk result (Fits (written_of self.new)) }
+    {
+        self.nodes.push(ExprNode::Fn { func, len: 0 })?;
+        let _fits = self.nodes.len();
+        Ok(())
+    }
+
+    /// Ends a list: its own leaves, which are behind the first `leaves`, are the next to be asked.
+    pub(crate) fn end_list(&mut self, leaves: usize) -> Result<(), AllocError>
+        requires { leaves ≤ length (written_of self.old).leaves }
+        ensures { OnOk result (written_of self.new ≡ with_list_ended leaves (written_of self.old)) }
+    {
+        self.asked
+            .extend_from_slice(&self.leaves.as_slice()[leaves..])?;
+        self.leaves.truncate(leaves);
+        Ok(())
+    }
+
+    /// Ends the function that began at the mark.
+    pub(crate) fn end_function(&mut self, mark: Mark, func: Func) -> Result<(), AllocError>
+        requires node { mark.node < length (written_of self.old).nodes }
+        requires leaves { mark.leaves ≤ length (written_of self.old).leaves }
+        ensures { OnOk result
+            (written_of self.new ≡ with_function_ended mark func (written_of self.old)) }
+    {
+        let len = self.nodes.len() - mark.node;
+        self.nodes[mark.node] = ExprNode::Fn { func, len };
+        self.end_list(mark.leaves)
+    }
+}

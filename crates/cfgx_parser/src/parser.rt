@@ -1,0 +1,364 @@
+//! From a text to the nodes of its tree, in one pass.
+ghost use Rattle.std.specs.Prelude.{◌≡◌, ◌+◌, ◌≤◌, length, ◌<◌, ◌↔◌, ◌≢◌, [], true, option_map};
+ghost use Rattle.std.specs.Prelude.{map, reverse, IsTrue, OnOk, IfOk};
+ghost use Rattle.cfgx_syntax.specs.Error.{cause_of, unexpected, FailsWith, fault_in};
+ghost use Rattle.cfgx_syntax.specs.Lexer.{token_of, item_of};
+ghost use Rattle.cfgx_grammar.specs.Neighbours.{next, expected};
+ghost use Rattle.cfgx_parser.specs.nodes.Writer.{Fits, written_of};
+ghost use Rattle.cfgx_parser.specs.parsing.State.{State, counted};
+ghost use Rattle.cfgx_grammar.specs.FirstFault.{refusal};
+ghost use Rattle.cfgx_grammar.specs.parsing.Step.{over_top, one_more, root_more, with_item};
+ghost use Rattle.cfgx_grammar.specs.parsing.Step.{with_parens, leaf_ended, predicate_ended, opened};
+ghost use Rattle.cfgx_grammar.specs.parsing.Step.{new_open, member_count, has_room, function_ended};
+ghost use Rattle.cfgx_grammar.specs.parsing.Step.{closed_by, apply, step, unclosed, conclude};
+ghost use Rattle.cfgx_parser.specs.parsing.Fields.{function_of, open_of, opens_of, is_some_open};
+ghost use Rattle.cfgx_parser.specs.parsing.Bounded.{TopHasRoom};
+
+use crate::classification::{Pending, Word, classify};
+use crate::function::Func;
+use crate::memory::SmallAllocator;
+use crate::nodes::{ExprNode, Mark, Span, Writer};
+use cfgx_syntax::error::{Failure, Reason};
+use cfgx_syntax::lexer::{Lexer, LexerToken, Token};
+use smallvec::SmallVec;
+use std::alloc::AllocError;
+
+/// A function whose `)` was not read yet.
+#[derive(Drop)]
+pub(crate) struct FuncAndSpan {
+    func: Func,
+    /// Where its name stands
+    span: Span,
+    /// Where its `(` stands, once that was read
+    parens_index: Option<usize>,
+    /// How many of its members have ended
+    members: usize,
+    /// Where it began among the nodes
+    mark: Mark,
+}
+
+impl Default for FuncAndSpan {
+    fn default() -> Self {
+        FuncAndSpan {
+            func: Func::Not,
+            span: 0..0,
+            parens_index: None,
+            members: 0,
+            mark: Mark { node: 0, leaves: 0 },
+        }
+    }
+}
+
+/// What was read so far.
+#[derive(Drop)]
+pub struct Parser<'a, A: SmallAllocator> {
+    alloc: A,
+    /// The stripped text
+    pub original: &'a str,
+    func_stack: SmallVec<FuncAndSpan, 5, A>,
+    /// The nodes of what has ended
+    pub writer: Writer<A>,
+    last_token: Option<Token<'a>>,
+    /// The predicate that has not ended
+    pending: Option<Pending<'a>>,
+    /// How many items at the root have ended
+    root_count: usize,
+}
+
+/// Whether the token may stand behind the last one, or at the start.
+fn may_follow(last: Option<Token<'_>>, token: Token<'_>) -> bool
+    ensures { result ≡ next (option_map token_of last.entry) (token_of token.entry) }
+{
+    use Token::*;
+    match last {
+        None => matches!(token, Key(_) | All | Any | Not),
+        Some(OpenParen) => matches!(token, Key(_) | All | Any | Not | CloseParen),
+        Some(Comma) => matches!(token, Key(_) | All | Any | Not | CloseParen | Comma),
+        Some(Key(_)) => matches!(token, Equals | CloseParen | Comma),
+        Some(Equals) => matches!(token, Value(_)),
+        Some(Value(_) | CloseParen) => matches!(token, CloseParen | Comma),
+        Some(All | Any | Not) => matches!(token, OpenParen),
+    }
+}
+
+/// What a fault says that it expected behind the last token, or at the start.
+fn expected(last: Option<Token<'_>>) -> Reason
+    ensures { cause_of result ≡ unexpected (expected (option_map token_of last.entry)) }
+{
+    use Token::*;
+    Reason::Unexpected(match last {
+        None => &["<key>", "all", "any", "not"],
+        Some(OpenParen) => &["<key>", ")", "all", "any", "not"],
+        Some(Comma) => &[")", "<key>"],
+        Some(Key(_)) => &["=", ",", ")"],
+        Some(Equals) => &["\""],
+        Some(Value(_)) => &[",", ")"],
+        Some(All | Any | Not) => &["("],
+        Some(CloseParen) => &[")", ","],
+    })
+}
+
+/// The function with this many members.
+fn counted(func: Func, members: usize) -> Func
+    ensures { result ≡ counted (function_of func) members }
+{
+    match func {
+        Func::Not => Func::Not,
+        Func::All(_) => Func::All(members),
+        Func::Any(_) => Func::Any(members),
+    }
+}
+
+/// Whether the function may have this many members.
+fn has_room(func: Func, members: usize) -> bool
+    ensures { result ≡ has_room (function_of func) members }
+{
+    match func {
+        Func::Not => members == 1,
+        Func::All(_) | Func::Any(_) => true,
+    }
+}
+
+/// Counts one more member of the innermost open function. It answers whether one is open.
+fn count_member<A: SmallAllocator>(stack: &mut SmallVec<FuncAndSpan, 5, A>) -> bool
+    requires { TopHasRoom (opens_of stack.old.items) }
+    ensures counted { opens_of stack.new.items ≡ over_top one_more (opens_of stack.old.items) }
+    ensures open { result ≡ is_some_open (opens_of stack.old.items) }
+{
+    let Some(top) = stack.last_mut() else {
+        return false;
+    };
+    top.members += 1;
+    true
+}
+
+/// Notes where the `(` of the innermost open function stands.
+fn open_parens<A: SmallAllocator>(stack: &mut SmallVec<FuncAndSpan, 5, A>, place: usize)
+    ensures { opens_of stack.new.items ≡ over_top (with_parens place) (opens_of stack.old.items) }
+{
+    if let Some(top) = stack.last_mut() {
+        top.parens_index = Some(place);
+    }
+}
+
+impl<'a, A: SmallAllocator> Parser<'a, A> {
+    ghost use Rattle.cfgx_grammar.specs.parsing.State.{initial};
+    ghost use Rattle.cfgx_parser.specs.parsing.Parser.{state_of, Gives, Opens, EndsFunction};
+    ghost use Rattle.cfgx_parser.specs.parsing.Parser.{AddsValue, IsQuoted, closed_at, ReadsAll};
+    ghost use Rattle.cfgx_parser.specs.parsing.Bounded.{IsBounded, HasRoom};
+
+    /// A parser of a stripped text, of which nothing was read. It takes no memory.
+    pub fn new(alloc: A, original: &'a str) -> Self
+        ensures state { state_of result ≡ initial }
+        ensures text { result.original.now ≡ original.now }
+    {
+        Parser {
+            alloc,
+            original,
+            func_stack: SmallVec::new(alloc),
+            writer: Writer::new(alloc),
+            last_token: None,
+            pending: None,
+            root_count: 0,
+        }
+    }
+
+    /// A fault of the text, or want of memory for its copy.
+    fn fault(&self, span: Span, reason: Reason) -> Failure<A>
+        ensures { FailsWith (fault_in self.now.original.now
+            (refusal (cause_of reason) span.start span.end)) result }
+    {
+        Failure::of(self.alloc, self.original, span, reason)
+    }
+
+    /// Counts an item that has ended in the innermost list.
+    fn count_item(&mut self)
+        requires { HasRoom (state_of self.old) }
+        ensures state { state_of self.new ≡ with_item (state_of self.old) }
+        ensures text { self.new.original.now ≡ self.old.original.now }
+    {
+        if !count_member(&mut self.func_stack) {
+            self.root_count += 1;
+        }
+    }
+
+    /// Ends the predicate that has begun, if one has.
+    fn end_predicate(&mut self) -> Result<(), Failure<A>>
+        requires { IsBounded (state_of self.old) }
+        ensures { Gives result self.old self.new (predicate_ended (state_of self.old)) }
+    {
+        let Some(pending) = self.pending.take() else {
+            return Ok(());
+        };
+        let predicate = match classify(pending) {
+            Ok(predicate) => predicate,
+            Err((reason, span)) => return Err(self.fault(span, reason)),
+        };
+        self.writer.leaf(predicate)?;
+        self.count_item();
+        Ok(())
+    }
+
+    /// Opens a function, whose name stands at the span.
+    fn open(&mut self, func: Func, span: Span) -> Result<(), AllocError>
+        ensures { OnOk result (Opens self.old self.new (function_of func) span) }
+    {
+        let mark = self.writer.mark();
+        self.writer.function(counted(func, 0))?;
+        self.func_stack.push(FuncAndSpan {
+            func,
+            span,
+            parens_index: None,
+            members: 0,
+            mark,
+        })?;
+        Ok(())
+    }
+
+    /// Ends the innermost function, whose members all have ended.
+    fn end_function(&mut self) -> Result<(), AllocError>
+        requires { IsBounded (state_of self.old) }
+        ensures { OnOk result (EndsFunction self.old self.new) }
+    {
+        if let Some(top) = self.func_stack.pop() {
+            let func = counted(top.func, top.members);
+            self.writer.end_function(top.mark, func)?;
+            self.count_item();
+        }
+        Ok(())
+    }
+
+    /// Closes the innermost function at a `)`, which stands at the span.
+    fn close(&mut self, span: Span) -> Result<(), Failure<A>>
+        requires { IsBounded (state_of self.old) }
+        ensures { Gives result self.old self.new (closed_at (state_of self.old) span) }
+    {
+        let Some(top) = self.func_stack.last() else {
+            return Err(self.fault(span, Reason::UnopenedParens));
+        };
+        let (func, start, ended) = (top.func, top.span.start, top.members);
+        let members = ended + usize::from(self.pending.is_some());
+        if !has_room(func, members) {
+            return Err(self.fault(start..span.end, Reason::InvalidNot(members)));
+        }
+        self.end_predicate()?;
+        self.end_function()?;
+        Ok(())
+    }
+
+    /// Notes the value of the predicate that has begun, which stands in quotes at the span.
+    fn add_value(&mut self, text: &'a str, span: Span)
+        requires { span.start + 1 ≤ span.end }
+        ensures { AddsValue self.old self.new text.now span }
+    {
+        if let Some(pending) = &mut self.pending {
+            pending.value = Some(Word {
+                text,
+                span: span.start + 1..span.end - 1,
+            });
+        }
+    }
+
+    /// What a token does where it may stand.
+    fn apply(&mut self, lexed: LexerToken<'a>) -> Result<(), Failure<A>>
+        requires bounded { IsBounded (state_of self.old) }
+        requires quoted { IsQuoted lexed }
+        ensures { Gives result self.old self.new
+            (apply (state_of self.old) (item_of lexed.entry) (token_of lexed.entry.token)) }
+    {
+        let LexerToken { token, span } = lexed;
+        match token {
+            Token::Key(text) => {
+                let key = Word { text, span };
+                self.pending = Some(Pending { key, value: None });
+                Ok(())
+            }
+            Token::Value(text) => {
+                self.add_value(text, span);
+                Ok(())
+            }
+            Token::Equals => Ok(()),
+            Token::All => Ok(self.open(Func::All(0), span)?),
+            Token::Any => Ok(self.open(Func::Any(0), span)?),
+            Token::Not => Ok(self.open(Func::Not, span)?),
+            Token::OpenParen => {
+                open_parens(&mut self.func_stack, span.start);
+                Ok(())
+            }
+            Token::CloseParen => self.close(span),
+            Token::Comma => self.end_predicate(),
+        }
+    }
+
+    /// Reads one token.
+    fn read(&mut self, lexed: LexerToken<'a>) -> Result<(), Failure<A>>
+        requires bounded { IsBounded (state_of self.old) }
+        requires quoted { IsQuoted lexed }
+        ensures { Gives result self.old self.new (step (state_of self.old) (item_of lexed.entry)) }
+    {
+        let token = lexed.token;
+        if !may_follow(self.last_token, token) {
+            return Err(self.fault(lexed.span, expected(self.last_token)));
+        }
+        self.apply(lexed)?;
+        self.last_token = Some(token);
+        Ok(())
+    }
+
+    /// Ends the text: one item is left, whose nodes are written.
+    fn finish(&mut self) -> Result<(), Failure<A>>
+        requires { IsBounded (state_of self.old) }
+        ensures { Gives result self.old self.new
+            (conclude (length self.old.original.now) (state_of self.old)) }
+    {
+        let len = self.original.len();
+        if matches!(self.last_token, Some(Token::Equals)) {
+            return Err(self.fault(len..len, Reason::Unexpected(&["\"<value>\""])));
+        }
+        if let Some(top) = self.func_stack.last() {
+            return Err(self.unclosed(top));
+        }
+        self.end_predicate()?;
+        match self.root_count {
+            0 => Err(self.fault(0..len, Reason::Empty)),
+            1 => Ok(self.writer.end_list(0)?),
+            _ => Err(self.fault(0..len, Reason::MultipleRootPredicates)),
+        }
+    }
+
+    /// The fault of a text that ends while a function is open.
+    fn unclosed(&self, top: &FuncAndSpan) -> Failure<A>
+        ensures { FailsWith (fault_in self.now.original.now
+            (unclosed (length self.now.original.now) (open_of top.now)
+            top.now.parens_index)) result }
+    {
+        match top.parens_index {
+            Some(place) => self.fault(place..self.original.len(), Reason::UnclosedParens),
+            None => self.fault(top.span.start..top.span.end, Reason::Unexpected(&["("])),
+        }
+    }
+
+    /// Reads what the lexer gives, to the end of the text.
+    ///
+    /// The error is the first fault of the text, or that memory was refused.
+    pub fn read_all(&mut self, lexer: Lexer<'a, A>) -> Result<(), Failure<A>>
+        requires bounded { IsBounded (state_of self.old) }
+        requires text { self.old.original.now ≡ lexer.text }
+        ensures { ReadsAll lexer.entry self.old self.new result }
+    {
+        for lexed in lexer {
+            self.read(lexed?)?;
+        }
+        self.finish()
+    }
+
+    /// The nodes that were written, and the places of the predicates among them.
+    pub fn into_parts(self) -> (SmallVec<ExprNode, 5, A>, SmallVec<usize, 5, A>)
+        ensures nodes { result.0 ≡ self.entry.writer.nodes }
+        ensures asked { result.1 ≡ self.entry.writer.asked }
+    {
+        let Parser { writer, .. } = self;
+        let Writer { nodes, asked, .. } = writer;
+        (nodes, asked)
+    }
+}

@@ -1,0 +1,191 @@
+//! Predicates as they are asked, and the iterator over those of an expression.
+ghost use Rattle.std.specs.Prelude.{◌≡◌, length};
+ghost use Rattle.cfgx_parser.specs.Predicate.{question_of, target_of};
+ghost use Rattle.cfgx_parser.specs.nodes.Located.{HasCut, TargetHasCut, question_at};
+ghost use Rattle.cfgx_parser.specs.nodes.Located.{target_question_at};
+
+use crate::nodes::{ExprNode, InnerPredicate, InnerTarget};
+use cfgx_fields::{Abi, Arch, Vendor};
+use cfgx_places::{Env, Family, Os, Panic};
+use cfgx_targets::atomic::HasAtomic;
+use cfgx_targets::endian::Endian;
+use std::alloc::{Allocator, Global};
+use std::marker::Model;
+
+/// A predicate on the target that is compiled for.
+#[derive(Drop)]
+#[derive_where(Debug, PartialEq, Eq)]
+pub enum TargetPredicate<'a, A: Allocator = Global> {
+    /// `target_abi`
+    Abi(Abi<'a, A>),
+    /// `target_arch`
+    Arch(Arch<'a, A>),
+    /// `target_endian`
+    Endian(Endian),
+    /// `target_env`
+    Env(Env<'a, A>),
+    /// `target_family`, and the bare keys `unix` and `windows`
+    Family(Family<'a, A>),
+    /// `target_has_atomic`
+    HasAtomic(HasAtomic),
+    /// `target_os`
+    Os(Os<'a, A>),
+    /// `panic`
+    Panic(Panic<'a, A>),
+    /// `target_pointer_width`, in bits
+    PointerWidth(u8),
+    /// `target_vendor`
+    Vendor(Vendor<'a, A>),
+}
+
+/// A predicate of a condition. Its texts are those of the expression.
+#[derive(Drop)]
+#[derive_where(Debug, PartialEq, Eq)]
+pub enum Predicate<'a, A: Allocator = Global> {
+    /// A predicate on the target
+    Target(TargetPredicate<'a, A>),
+    /// `test`
+    Test,
+    /// `debug_assertions`
+    DebugAssertions,
+    /// `proc_macro`
+    ProcMacro,
+    /// `feature`, with the name of the feature, which may be empty
+    Feature(&'a str),
+    /// `target_feature`, with the name of the feature
+    TargetFeature(&'a str),
+    /// A bare key of no other meaning, such as `loom`
+    Flag(&'a str),
+    /// A key with a value, of no other meaning
+    KeyValue {
+        /// The key
+        key: &'a str,
+        /// The value, without its quotes; it may be empty
+        val: &'a str,
+    },
+}
+
+impl InnerTarget {
+    /// The predicate of the text in which it stands.
+    fn to_pred<'a>(&self, text: &'a str) -> TargetPredicate<'a>
+        requires { TargetHasCut text.now self.now }
+        ensures { target_of result ≡ target_question_at text.now self.now }
+    {
+        match self {
+            InnerTarget::Abi(span) => TargetPredicate::Abi(Abi::new_const(
+                &text[span.start..span.end],
+            )),
+            InnerTarget::Arch(span) => TargetPredicate::Arch(Arch::new_const(
+                &text[span.start..span.end],
+            )),
+            InnerTarget::Endian(endian) => TargetPredicate::Endian(*endian),
+            InnerTarget::Env(span) => TargetPredicate::Env(Env::new_const(
+                &text[span.start..span.end],
+            )),
+            InnerTarget::Family(span) => {
+                TargetPredicate::Family(Family::new_const(&text[span.start..span.end]))
+            }
+            InnerTarget::HasAtomic(atomic) => TargetPredicate::HasAtomic(*atomic),
+            InnerTarget::Os(span) => TargetPredicate::Os(Os::new_const(
+                &text[span.start..span.end],
+            )),
+            InnerTarget::Panic(span) => TargetPredicate::Panic(Panic::new_const(
+                &text[span.start..span.end],
+            )),
+            InnerTarget::PointerWidth(width) => TargetPredicate::PointerWidth(*width),
+            InnerTarget::Vendor(span) => {
+                TargetPredicate::Vendor(Vendor::new_const(&text[span.start..span.end]))
+            }
+        }
+    }
+}
+
+impl InnerPredicate {
+    /// The predicate of the text in which it stands.
+    pub(crate) fn to_pred<'a>(&self, text: &'a str) -> Predicate<'a>
+        requires { HasCut text.now self.now }
+        ensures { question_of result ≡ question_at text.now self.now }
+    {
+        match self {
+            InnerPredicate::Target(target) => Predicate::Target(target.to_pred(text)),
+            InnerPredicate::Test => Predicate::Test,
+            InnerPredicate::DebugAssertions => Predicate::DebugAssertions,
+            InnerPredicate::ProcMacro => Predicate::ProcMacro,
+            InnerPredicate::Feature(span) => Predicate::Feature(&text[span.start..span.end]),
+            InnerPredicate::TargetFeature(span) => {
+                Predicate::TargetFeature(&text[span.start..span.end])
+            }
+            InnerPredicate::Other {
+                identifier,
+                value: None,
+            } => Predicate::Flag(&text[identifier.start..identifier.end]),
+            InnerPredicate::Other {
+                identifier,
+                value: Some(value),
+            } => Predicate::KeyValue {
+                key: &text[identifier.start..identifier.end],
+                val: &text[value.start..value.end],
+            },
+        }
+    }
+}
+
+/// The predicates of an expression, in the order in which they are asked.
+#[derive(Drop)]
+pub struct Predicates<'a> {
+    text: &'a str,
+    nodes: &'a [ExprNode],
+    /// The places of those that are still to come
+    asked: &'a [usize],
+}
+
+impl<'a> Model for Predicates<'a> {
+    ghost use Rattle.std.specs.Prelude.{List};
+    ghost use Rattle.cfgx_grammar.specs.Question.{Question};
+    ghost use Rattle.cfgx_parser.specs.nodes.Keeps.{questions_at, NameLeaves};
+
+    ghost Value = { List Question };
+
+    ghost view = { λ p. questions_at p.text.now p.nodes.now p.asked.now };
+
+    ghost invariant = { λ p. NameLeaves p.text.now p.nodes.now p.asked.now };
+}
+
+impl<'a> Predicates<'a> {
+    ghost use Rattle.cfgx_parser.specs.nodes.Keeps.{questions_at, NameLeaves};
+
+    /// The predicates of the nodes at the places, one after another as these come. The nodes are
+    /// those of the text.
+    pub fn new(text: &'a str, nodes: &'a [ExprNode], asked: &'a [usize]) -> Self
+        requires { NameLeaves text.now nodes.now asked.now }
+        ensures { result ≡ questions_at text.now nodes.now asked.now }
+    {
+        Predicates { text, nodes, asked }
+    }
+
+    /// The number of predicates that are still to come.
+    pub fn left(&self) -> usize
+        ensures { result ≡ length self.now }
+    {
+        self.asked.len()
+    }
+}
+
+impl<'a> Iterator for Predicates<'a> {
+    type Item = Predicate<'a>;
+
+    ghost use Rattle.std.specs.Iterator.{YieldsFirstBy, item_count};
+
+    ghost next_gives = { YieldsFirstBy question_of (λ s. s) };
+
+    ghost remaining = { item_count (λ s. s) };
+
+    fn next(&mut self) -> Option<Predicate<'a>> {
+        let (place, others) = self.asked.split_first()?;
+        self.asked = others;
+        match self.nodes.get(*place) {
+            Some(ExprNode::Predicate(predicate)) => Some(predicate.to_pred(self.text)),
+            _ => unreachable!(),
+        }
+    }
+}

@@ -1,0 +1,178 @@
+//! How predicates are written.
+ghost use Rattle.std.specs.Prelude.{◌≡◌, ◌<◌, ◌++◌, codes, length, IfOk, IfErr};
+ghost use Rattle.std.specs.Io.KnownBytes.{Keeps};
+ghost use Rattle.std.specs.Fmt.{decimal};
+ghost use Rattle.cfgx_targets.specs.Endian.{endian_text};
+ghost use Rattle.cfgx_targets.specs.HasAtomic.{atomic_text};
+ghost use Rattle.cfgx_parser.specs.Predicate.{question_of, target_of};
+ghost use Rattle.cfgx_grammar.specs.Regular.{IsAlone, IsRegular};
+ghost use Rattle.cfgx_grammar.specs.Spelling.{spelling, target_spelling, with_value};
+ghost use Rattle.cfgx_parser.specs.Writing.{Takes, Writes, value_bytes};
+
+use crate::predicates::{Predicate, TargetPredicate};
+use cfgx_targets::atomic::HasAtomic;
+use cfgx_targets::endian::Endian;
+use std::io::{self, ErrorKind, Write};
+
+/// One call of `write`. It answers what is left behind the bytes that went out.
+fn write_once<'a, W: Write>(writer: &mut W, bytes: &'a [u8]) -> io::Result<&'a [u8]>
+    requires { 0 < length bytes.now }
+    ensures taken { IfOk result (λ left.
+        Takes (W.contents writer.old) (W.contents writer.new) bytes.now left.now) }
+    ensures fewer { IfOk result (λ left. length left.now < length bytes.now) }
+    ensures failed { IfErr result (λ _. Keeps (W.contents writer.old) (W.contents writer.new)) }
+{
+    match writer.write(bytes) {
+        Ok(0) => Err(io::Error::from(ErrorKind::WriteZero)),
+        Ok(taken) => Ok(&bytes[taken..]),
+        Err(error) => Err(error),
+    }
+}
+
+/// Writes all the bytes, in as many calls as the writer needs. No failed call is tried again.
+fn write_bytes<W: Write>(writer: &mut W, bytes: &[u8]) -> io::Result<()>
+    ensures { Writes (W.contents writer.old) (W.contents writer.new) result bytes.now }
+{
+    let mut left = bytes;
+    while !left.is_empty() {
+        left = write_once(writer, left)?;
+    }
+    Ok(())
+}
+
+/// Writes a key, and what stands between it and its value.
+fn write_key<W: Write>(writer: &mut W, key: &str) -> io::Result<()>
+    ensures { Writes (W.contents writer.old) (W.contents writer.new) result
+        (key.now ++ codes " = \"") }
+{
+    write_bytes(writer, key.as_bytes())?;
+    write_bytes(writer, b" = \"")
+}
+
+/// Writes a number in decimal.
+fn write_decimal<W: Write>(writer: &mut W, number: u16) -> io::Result<()>
+    ensures { Writes (W.contents writer.old) (W.contents writer.new) result (decimal number) }
+{
+    if number < 10 {
+        return write_bytes(writer, &[b'0' + number as u8]);
+    }
+    write_decimal(writer, number / 10)?;
+    write_bytes(writer, &[b'0' + (number % 10) as u8])
+}
+
+/// A value of a predicate: a text, or a number that is written in decimal.
+#[derive(Clone, Copy)]
+pub(crate) enum Value<'a> {
+    Text(&'a str),
+    Number(u16),
+}
+
+impl Value<'_> {
+    /// Writes the value, without quotes.
+    fn write<W: Write>(self, writer: &mut W) -> io::Result<()>
+        ensures { Writes (W.contents writer.old) (W.contents writer.new) result
+            (value_bytes self.entry) }
+    {
+        match self {
+            Value::Text(text) => write_bytes(writer, text.as_bytes()),
+            Value::Number(number) => write_decimal(writer, number),
+        }
+    }
+}
+
+/// Writes a key and its value, in quotes.
+fn write_value<W: Write>(writer: &mut W, key: &str, value: Value<'_>) -> io::Result<()>
+    ensures { Writes (W.contents writer.old) (W.contents writer.new) result
+        (with_value key.now (value_bytes value.entry)) }
+{
+    write_key(writer, key)?;
+    value.write(writer)?;
+    write_bytes(writer, b"\"")
+}
+
+/// The value that names the byte order.
+fn endian_name(endian: Endian) -> &'static str
+    ensures { result.now ≡ endian_text endian }
+{
+    match endian {
+        Endian::big => "big",
+        Endian::little => "little",
+    }
+}
+
+/// The value of a predicate on the width of atomics.
+fn atomic_value(atomic: HasAtomic) -> Value<'static>
+    ensures { value_bytes result ≡ atomic_text atomic }
+{
+    match atomic {
+        HasAtomic::IntegerSize(bits) => Value::Number(bits),
+        HasAtomic::Pointer => Value::Text("ptr"),
+    }
+}
+
+/// The key and the value of a predicate on the target.
+fn target_parts<'a>(target: &'a TargetPredicate<'_>) -> (&'static str, Value<'a>)
+    ensures { with_value result.0.now (value_bytes result.1)
+        ≡ target_spelling (target_of target.now) }
+{
+    match target {
+        TargetPredicate::Abi(abi) => ("target_abi", Value::Text(abi.as_str())),
+        TargetPredicate::Arch(arch) => ("target_arch", Value::Text(arch.as_str())),
+        TargetPredicate::Endian(endian) => ("target_endian", Value::Text(endian_name(*endian))),
+        TargetPredicate::Env(env) => ("target_env", Value::Text(env.as_str())),
+        TargetPredicate::Family(family) => ("target_family", Value::Text(family.as_str())),
+        TargetPredicate::HasAtomic(atomic) => ("target_has_atomic", atomic_value(*atomic)),
+        TargetPredicate::Os(os) => ("target_os", Value::Text(os.as_str())),
+        TargetPredicate::Panic(panic) => ("panic", Value::Text(panic.as_str())),
+        TargetPredicate::PointerWidth(bits) => {
+            ("target_pointer_width", Value::Number(u16::from(*bits)))
+        }
+        TargetPredicate::Vendor(vendor) => ("target_vendor", Value::Text(vendor.as_str())),
+    }
+}
+
+/// Writes a predicate on the target.
+fn spell_target<W: Write>(target: &TargetPredicate<'_>, writer: &mut W) -> io::Result<()>
+    ensures { Writes (W.contents writer.old) (W.contents writer.new) result
+        (target_spelling (target_of target.now)) }
+{
+    let (key, value) = target_parts(target);
+    write_value(writer, key, value)
+}
+
+/// Writes a predicate.
+fn write_predicate<W: Write>(predicate: &Predicate<'_>, writer: &mut W) -> io::Result<()>
+    ensures { Writes (W.contents writer.old) (W.contents writer.new) result
+        (spelling (question_of predicate.now)) }
+{
+    match predicate {
+        Predicate::Target(target) => spell_target(target, writer),
+        Predicate::Test => write_bytes(writer, b"test"),
+        Predicate::DebugAssertions => write_bytes(writer, b"debug_assertions"),
+        Predicate::ProcMacro => write_bytes(writer, b"proc_macro"),
+        Predicate::Feature(name) => write_value(writer, "feature", Value::Text(name)),
+        Predicate::TargetFeature(name) => {
+            write_value(writer, "target_feature", Value::Text(name))
+        }
+        Predicate::Flag(key) => write_bytes(writer, key.as_bytes()),
+        Predicate::KeyValue { key, val } => write_value(writer, key, Value::Text(val)),
+    }
+}
+
+/// Writes the predicate as it is spelled: its key, and with a value one space, `=`, one space and
+/// the value in quotes. It takes no memory.
+///
+/// The bytes go out in as many calls of `write` as the writer needs, none of them of an empty
+/// slice, and no failed call is tried again. The error is the writer's, or `WriteZero` where it
+/// took no byte; then a beginning of the spelling was written. The table is in `docs/RULES.md`.
+///
+/// The spelling of a predicate that can stand in a text, as each one of an expression can, is a
+/// text of this predicate alone: parsed, it asks just this one.
+pub fn spell<W: Write>(predicate: &Predicate<'_>, writer: &mut W) -> io::Result<()>
+    ensures written { Writes (W.contents writer.old) (W.contents writer.new) result
+        (spelling (question_of predicate.now)) }
+    ensures alone { IsRegular (question_of predicate.now)
+        → IsAlone (spelling (question_of predicate.now)) (question_of predicate.now) }
+{
+    write_predicate(predicate, writer)
+}
