@@ -165,38 +165,21 @@ known_filled tree answers filling value is fills =
 abbrev side : Bool → Option Bool → Bool
 side fill value = unwrap_or value fill
 
-side_and : (fill : Bool) (x y : Option Bool)
-    → (side fill x && side fill y) ≡ side fill (kleene_and x y)
-side_and fill (Some true) (Some y) = chosen y
-  where
-    chosen : (b : Bool) → (true && b) ≡ side fill (kleene_and (Some true) (Some b))
-    chosen true = refl
-    chosen false = refl
-side_and fill (Some true) None = refl
-side_and fill (Some false) (Some true) = refl
-side_and fill (Some false) (Some false) = refl
-side_and fill (Some false) None = refl
-side_and true None (Some true) = refl
-side_and true None (Some false) = refl
-side_and true None None = refl
-side_and false None (Some true) = refl
-side_and false None (Some false) = refl
-side_and false None None = refl
-
-side_or : (fill : Bool) (x y : Option Bool)
-    → (side fill x || side fill y) ≡ side fill (kleene_or x y)
-side_or fill (Some true) (Some true) = refl
-side_or fill (Some true) (Some false) = refl
-side_or fill (Some true) None = refl
-side_or fill (Some false) (Some true) = refl
-side_or fill (Some false) (Some false) = refl
-side_or fill (Some false) None = refl
-side_or true None (Some true) = refl
-side_or true None (Some false) = refl
-side_or true None None = refl
-side_or false None (Some true) = refl
-side_or false None (Some false) = refl
-side_or false None None = refl
+side_joined : (fill : Bool) (x y : Option Bool)
+    → ((side fill x && side fill y) ≡ side fill (kleene_and x y))
+    × ((side fill x || side fill y) ≡ side fill (kleene_or x y))
+side_joined fill (Some true) (Some true) = (refl, refl)
+side_joined fill (Some true) (Some false) = (refl, refl)
+side_joined fill (Some true) None = (refl, refl)
+side_joined fill (Some false) (Some true) = (refl, refl)
+side_joined fill (Some false) (Some false) = (refl, refl)
+side_joined fill (Some false) None = (refl, refl)
+side_joined true None (Some true) = (refl, refl)
+side_joined true None (Some false) = (refl, refl)
+side_joined true None None = (refl, refl)
+side_joined false None (Some true) = (refl, refl)
+side_joined false None (Some false) = (refl, refl)
+side_joined false None None = (refl, refl)
 
 side_not : (fill : Bool) (x : Option Bool) → not (side (not fill) x) ≡ side fill (kleene_not x)
 side_not true (Some true) = refl
@@ -220,14 +203,14 @@ all_sides : (fill : Bool) (values : List (Option Bool))
     ≡ side fill (from_last kleene_and (Some true) values)
 all_sides fill [] = refl
 all_sides fill (value ∷ values) = ap (λ b. b && side fill value) (all_sides fill values)
-    ∙ side_and fill (from_last kleene_and (Some true) values) value
+    ∙ (side_joined fill (from_last kleene_and (Some true) values) value).0
 
 any_sides : (fill : Bool) (values : List (Option Bool))
     → from_last (λ x y. x || y) false (sides fill values)
     ≡ side fill (from_last kleene_or (Some false) values)
 any_sides fill [] = refl
 any_sides fill (value ∷ values) = ap (λ b. b || side fill value) (any_sides fill values)
-    ∙ side_or fill (from_last kleene_or (Some false) values) value
+    ∙ (side_joined fill (from_last kleene_or (Some false) values) value).1
 
 length-polar_list : (trees : Trees) (answers : List (Option Bool)) (fill : Bool)
     → ((test : Tree → Bool) (others : List (Option Bool))

@@ -2,11 +2,12 @@
 use Rattle.std.proofs.Common.{◌≡◌, ℕ, ◌+◌, ◌-◌, ◌<◌, ◌≤◌, ◌≢◌, true, false, List, []}
 use Rattle.std.proofs.Common.{◌∷◌, ◌++◌, length, take, drop, get_or, sym, refl, ◌∙◌, arith}
 use Rattle.std.proofs.Common.{⊎_elim, add-one, length-append, length-take, length-drop, cond, ap}
+use Rattle.std.proofs.Common.{subst}
 use Rattle.std.specs.Prelude.{codes}
 use Rattle.std.specs.List.{list_all, prefix_len, position_or_len}
 use Rattle.std.specs.Str.{bytes_eq}
 use Rattle.std.proofs.lemmas.List.{get_or-take, get_or-drop, take_at, get_or_at}
-use Rattle.std.proofs.lemmas.List.{get_or_append_left}
+use Rattle.std.proofs.lemmas.List.{get_or_append_left, take-append-drop}
 use Rattle.std.proofs.lemmas.List.Folds.{list_any_at}
 use Rattle.std.proofs.lemmas.List.Sums.{prefix_len_is, position_or_len_is, AllPass-from_list_all}
 use Rattle.std.proofs.lemmas.Bool.{cases_Bool}
@@ -194,49 +195,38 @@ token_by_is bytes Token.open_paren is = ap token_by is
 token_by_is bytes Token.close_paren is = ap token_by is
 token_by_is bytes Token.comma is = ap token_by is
 
--- the first byte of a token begins one
-first_starts : (rest : List ℕ) (byte : ℕ) → get_or rest 0 0 ≡ byte → 0 < length rest
-    → starts_token byte ≡ true → (c : ℕ) × (more : List ℕ) × (rest ≡ c ∷ more)
-    × (starts_token c ≡ true)
-first_starts [] byte is some starts = absurd (omega arith)
-first_starts (c ∷ more) byte is some starts = (c, more, refl, ap starts_token is ∙ starts)
-
 starts_word-token : (byte : ℕ) → starts_word byte ≡ true → starts_token byte ≡ true
 starts_word-token byte h = grind (arith, nat_tests, common_steps)
 
--- the bytes in front of the text are this, and so the text begins with its first byte
-front_starts : (rest bytes : List ℕ) (byte len : ℕ) → take len rest ≡ bytes → len ≤ length rest
-    → 0 < length bytes → get_or bytes 0 0 ≡ byte → starts_token byte ≡ true
-    → (c : ℕ) × (more : List ℕ) × (rest ≡ c ∷ more) × (starts_token c ≡ true)
-front_starts rest bytes byte len is inside some first starts =
-    let long : len ≡ length bytes = front_length rest bytes len inside is in
-    let here : get_or rest 0 0 ≡ byte =
-    front_byte rest bytes len 0 is (omega (arith, long, some)) ∙ first in
-    first_starts rest byte here (omega (arith, long, some, inside)) starts
+-- the first byte begins a token
+abbrev Starts : List ℕ → Type 0
+Starts bytes = (c : ℕ) × (more : List ℕ) × (bytes ≡ c ∷ more) × (starts_token c ≡ true)
+
+IsWord-starts : (word : List ℕ) → IsWord word → Starts word
+IsWord-starts [] is = absurd (let wrong : false ≡ true = is in cc)
+IsWord-starts (c ∷ more) is = (c, more, refl, starts_word-token c is.0)
+
+Spells-starts : (bytes : List ℕ) (token : Token) → Spells bytes token → Starts bytes
+Spells-starts bytes (Token.key word) (is, key) =
+    subst Starts (sym is) (IsWord-starts word key.spelled)
+Spells-starts bytes (Token.value inside) is = (34, inside ++ codes "\"", is.0, refl)
+Spells-starts bytes Token.equals is = (61, [], is, refl)
+Spells-starts bytes Token.all is = (97, codes "ll", is, refl)
+Spells-starts bytes Token.any is = (97, codes "ny", is, refl)
+Spells-starts bytes Token.not is = (110, codes "ot", is, refl)
+Spells-starts bytes Token.open_paren is = (40, [], is, refl)
+Spells-starts bytes Token.close_paren is = (41, [], is, refl)
+Spells-starts bytes Token.comma is = (44, [], is, refl)
+
+Starts-more : (bytes others : List ℕ) → Starts bytes → Starts (bytes ++ others)
+Starts-more bytes others (c, more, is, starts) =
+    (c, more ++ others, ap (λ l. l ++ others) is, starts)
 
 pub IsFront-starts : (rest : List ℕ) (token : Token) (len : ℕ) → IsFront rest token len
     → (c : ℕ) × (more : List ℕ) × (rest ≡ c ∷ more) × (starts_token c ≡ true)
-IsFront-starts rest (Token.key word) len front =
-    let is = front.spelled.1.spelled in
-    let starts = starts_word-token (get_or word 0 0) (word_starts word is) in
-    front_starts rest word (get_or word 0 0) len front.spelled.0 front.inside (word_some word is)
-    refl starts
-IsFront-starts rest (Token.value inside) len front =
-    front_starts rest (in_quotes inside) 34 len front.spelled.0 front.inside (omega arith) refl refl
-IsFront-starts rest Token.equals len front =
-    front_starts rest (codes "=") 61 len front.spelled front.inside (omega arith) refl refl
-IsFront-starts rest Token.all len front =
-    front_starts rest (codes "all") 97 len front.spelled front.inside (omega arith) refl refl
-IsFront-starts rest Token.any len front =
-    front_starts rest (codes "any") 97 len front.spelled front.inside (omega arith) refl refl
-IsFront-starts rest Token.not len front =
-    front_starts rest (codes "not") 110 len front.spelled front.inside (omega arith) refl refl
-IsFront-starts rest Token.open_paren len front =
-    front_starts rest (codes "(") 40 len front.spelled front.inside (omega arith) refl refl
-IsFront-starts rest Token.close_paren len front =
-    front_starts rest (codes ")") 41 len front.spelled front.inside (omega arith) refl refl
-IsFront-starts rest Token.comma len front =
-    front_starts rest (codes ",") 44 len front.spelled front.inside (omega arith) refl refl
+IsFront-starts rest token len front =
+    subst Starts (take-append-drop len rest) (Starts-more (take len rest) (drop len rest)
+    (Spells-starts (take len rest) token front.spelled))
 
 -- no token stands where a quote is never closed
 pub IsFront-not_unclosed : (rest : List ℕ) (token : Token) (len : ℕ) → IsFront rest token len

@@ -1,6 +1,6 @@
 -- What the operations on two planes do in each lane.
 use Rattle.std.proofs.Common.{◌≡◌, ℕ, ◌+◌, ◌-◌, ◌<◌, ◌≤◌, ◌^◌, min, max, true, false}
-use Rattle.std.proofs.Common.{Bool, Option, Some, refl, sym, ap, ◌∙◌, ⊎_elim, arith, ◌==◌}
+use Rattle.std.proofs.Common.{Bool, Option, Some, None, refl, sym, ap, ◌∙◌, ⊎_elim, arith, ◌==◌}
 use Rattle.std.specs.Prelude.{bit_and, bit_or}
 use Rattle.std.specs.Int.{bit_at}
 use Rattle.std.proofs.lemmas.Bool.{cases_Bool}
@@ -71,86 +71,71 @@ answer t f few =
     Answer.unknown (other t not_yes (omega arith)) (other f not_no (omega arith)))
     (cases_Bool (f == 1))) (cases_Bool (t == 1))
 
--- what holds of each two of the three answers holds of any two
-each_pair : (P : ℕ → ℕ → ℕ → ℕ → Type 0)
-    → P 1 0 1 0 → P 1 0 0 1 → P 1 0 0 0 → P 0 1 1 0 → P 0 1 0 1 → P 0 1 0 0
-    → P 0 0 1 0 → P 0 0 0 1 → P 0 0 0 0
-    → (t f u g : ℕ) → Answer t f → Answer u g → P t f u g
-each_pair P it _ _ _ _ _ _ _ _ t f u g (Answer.yes p q) (Answer.yes r s) =
-    rw (p, q, r, s) it
-each_pair P _ it _ _ _ _ _ _ _ t f u g (Answer.yes p q) (Answer.no r s) =
-    rw (p, q, r, s) it
-each_pair P _ _ it _ _ _ _ _ _ t f u g (Answer.yes p q) (Answer.unknown r s) =
-    rw (p, q, r, s) it
-each_pair P _ _ _ it _ _ _ _ _ t f u g (Answer.no p q) (Answer.yes r s) =
-    rw (p, q, r, s) it
-each_pair P _ _ _ _ it _ _ _ _ t f u g (Answer.no p q) (Answer.no r s) =
-    rw (p, q, r, s) it
-each_pair P _ _ _ _ _ it _ _ _ t f u g (Answer.no p q) (Answer.unknown r s) =
-    rw (p, q, r, s) it
-each_pair P _ _ _ _ _ _ it _ _ t f u g (Answer.unknown p q) (Answer.yes r s) =
-    rw (p, q, r, s) it
-each_pair P _ _ _ _ _ _ _ it _ t f u g (Answer.unknown p q) (Answer.no r s) =
-    rw (p, q, r, s) it
-each_pair P _ _ _ _ _ _ _ _ it t f u g (Answer.unknown p q) (Answer.unknown r s) =
-    rw (p, q, r, s) it
+-- what holds of each of the three answers holds of any
+each_one : (P : ℕ → ℕ → Type 0) → P 1 0 → P 0 1 → P 0 0 → (t f : ℕ) → Answer t f → P t f
+each_one P true_is false_is none_is t f (Answer.yes p q) = rw (p, q) true_is
+each_one P true_is false_is none_is t f (Answer.no p q) = rw (p, q) false_is
+each_one P true_is false_is none_is t f (Answer.unknown p q) = rw (p, q) none_is
 
 by_and : (t f u g : ℕ) → Answer t f → Answer u g
     → answer_of (min t u) (max f g) ≡ kleene_and (answer_of t f) (answer_of u g)
-by_and = each_pair (λ t f u g. answer_of (min t u) (max f g)
-    ≡ kleene_and (answer_of t f) (answer_of u g)) refl refl refl refl refl refl refl refl refl
-
-by_or : (t f u g : ℕ) → Answer t f → Answer u g
-    → answer_of (max t u) (min f g) ≡ kleene_or (answer_of t f) (answer_of u g)
-by_or = each_pair (λ t f u g. answer_of (max t u) (min f g)
-    ≡ kleene_or (answer_of t f) (answer_of u g)) refl refl refl refl refl refl refl refl refl
+by_and t f u g one other =
+    let beside = λ (v h : ℕ). each_one (λ u g. answer_of (min v u) (max h g)
+    ≡ kleene_and (answer_of v h) (answer_of u g)) in
+    each_one (λ t f. answer_of (min t u) (max f g) ≡ kleene_and (answer_of t f) (answer_of u g))
+    (beside 1 0 refl refl refl u g other) (beside 0 1 refl refl refl u g other)
+    (beside 0 0 refl refl refl u g other) t f one
 
 by_not : (t f : ℕ) → Answer t f → answer_of f t ≡ kleene_not (answer_of t f)
-by_not t f (Answer.yes a b) = simp (a, b)
-by_not t f (Answer.no a b) = simp (a, b)
-by_not t f (Answer.unknown a b) = simp (a, b)
+by_not = each_one (λ t f. answer_of f t ≡ kleene_not (answer_of t f)) refl refl refl
 
 -- the answer of equal bits
 same_answer : (t f u g : ℕ) → t ≡ u → f ≡ g → answer_of t f ≡ answer_of u g
 same_answer t f u g p q i = answer_of (p i) (q i)
 
--- two planes joined, each bit by bit, by what each lane's answers make
-each_lane : (one other both : Planes) (of_true of_false : ℕ → ℕ → ℕ)
-    (table : Option Bool → Option Bool → Option Bool) → AreApart one.is_true one.is_false
-    → AreApart other.is_true other.is_false
-    → ((i : ℕ) → bit_at both.is_true i ≡ of_true (bit_at one.is_true i) (bit_at other.is_true i))
-    → ((i : ℕ) → bit_at both.is_false i
-    ≡ of_false (bit_at one.is_false i) (bit_at other.is_false i))
-    → ((t f u g : ℕ) → Answer t f → Answer u g
-    → answer_of (of_true t u) (of_false f g) ≡ table (answer_of t f) (answer_of u g))
-    → EachLane both (λ i. table (lane i one) (lane i other))
-each_lane one other both of_true of_false table apart apart_too trues falses by i below =
-    same_answer (bit_at both.is_true i) (bit_at both.is_false i) _ _ (trues i) (falses i)
-    ∙ by (bit_at one.is_true i) (bit_at one.is_false i) (bit_at other.is_true i)
-    (bit_at other.is_false i)
-    (answer _ _ (apart_at one.is_true one.is_false i apart))
-    (answer _ _ (apart_at other.is_true other.is_false i apart_too))
+lane_answer : (planes : Planes) (i : ℕ) → AreApart planes.is_true planes.is_false
+    → Answer (bit_at planes.is_true i) (bit_at planes.is_false i)
+lane_answer planes i apart = answer _ _ (apart_at planes.is_true planes.is_false i apart)
 
 pub EachLane-and : (one other : Planes) → AreApart one.is_true one.is_false
     → AreApart other.is_true other.is_false
     → EachLane (planes_and one other) (λ i. kleene_and (lane i one) (lane i other))
-EachLane-and one other apart apart_too =
-    each_lane one other (planes_and one other) min max kleene_and apart apart_too
-    (bit_at_and one.is_true other.is_true) (bit_at_or one.is_false other.is_false) by_and
+EachLane-and one other apart apart_too i below =
+    same_answer _ _ _ _ (bit_at_and one.is_true other.is_true i)
+    (bit_at_or one.is_false other.is_false i)
+    ∙ by_and _ _ _ _ (lane_answer one i apart) (lane_answer other i apart_too)
+
+pub EachLane-not : (planes : Planes) → AreApart planes.is_true planes.is_false
+    → EachLane (planes_not planes) (λ i. kleene_not (lane i planes))
+EachLane-not planes apart i below = by_not _ _ (lane_answer planes i apart)
+
+-- "or" is "and" of the opposites
+opposite : (a b : Option Bool)
+    → kleene_not (kleene_and (kleene_not a) (kleene_not b)) ≡ kleene_or a b
+opposite (Some true) (Some true) = refl
+opposite (Some true) (Some false) = refl
+opposite (Some true) None = refl
+opposite (Some false) (Some true) = refl
+opposite (Some false) (Some false) = refl
+opposite (Some false) None = refl
+opposite None (Some true) = refl
+opposite None (Some false) = refl
+opposite None None = refl
 
 pub EachLane-or : (one other : Planes) → AreApart one.is_true one.is_false
     → AreApart other.is_true other.is_false
     → EachLane (planes_or one other) (λ i. kleene_or (lane i one) (lane i other))
-EachLane-or one other apart apart_too =
-    each_lane one other (planes_or one other) max min kleene_or apart apart_too
-    (bit_at_or one.is_true other.is_true) (bit_at_and one.is_false other.is_false) by_or
-
-pub EachLane-not : (planes : Planes) → AreApart planes.is_true planes.is_false
-    → EachLane (planes_not planes) (λ i. kleene_not (lane i planes))
-EachLane-not planes apart i below =
-    let t = planes.is_true in
-    let f = planes.is_false in
-    by_not (bit_at t i) (bit_at f i) (answer (bit_at t i) (bit_at f i) (apart_at t f i apart))
+EachLane-or one other apart apart_too i below =
+    let no = planes_not one in
+    let no_too = planes_not other in
+    let no_apart = AreApart-not one.is_true one.is_false apart in
+    let no_apart_too = AreApart-not other.is_true other.is_false apart_too in
+    let both_apart = AreApart-and no.is_true no.is_false _ _ no_apart no_apart_too in
+    EachLane-not (planes_and no no_too) both_apart i below
+    ∙ ap kleene_not (EachLane-and no no_too no_apart no_apart_too i below)
+    ∙ (λ j. kleene_not (kleene_and (EachLane-not one apart i below j)
+    (EachLane-not other apart_too i below j)))
+    ∙ opposite (lane i one) (lane i other)
 
 pub EachLane-top : EachLane planes_top (λ _. Some true)
 EachLane-top i below =
@@ -159,3 +144,15 @@ EachLane-top i below =
 pub EachLane-bottom : EachLane planes_bottom (λ _. Some false)
 EachLane-bottom i below =
     same_answer (bit_at 0 i) (bit_at (2 ^ 64 - 1) i) 0 1 (bit_at-zero i) (bit_at_ones 64 i below)
+
+-- what each operation on two planes keeps and does
+pub ruleset lanes = (
+  AreApart-and,
+  AreApart-or,
+  AreApart-not,
+  EachLane-and,
+  EachLane-or,
+  EachLane-not,
+  EachLane-top,
+  EachLane-bottom,
+)

@@ -5,8 +5,6 @@ use crate::reading::read_has_atomic;
 use std::alloc::{AllocError, Allocator, Global};
 use std::fmt;
 
-mod laws;
-
 /// A width of atomics. Widths in bits are ordered by their number, and the pointer's is above them.
 #[derive(Clone, Copy, Debug, PartialEq, Eq, PartialOrd, Ord, Hash)]
 pub enum HasAtomic {

@@ -4,8 +4,6 @@ use crate::reading::read_endian;
 use cfgx_syntax::error::Reason;
 use std::str::FromStr;
 
-mod laws;
-
 /// A byte order. The variants are spelled as the values of `target_endian`.
 #[derive(Clone, Copy, Debug, PartialEq, Eq, PartialOrd, Ord, Hash)]
 pub enum Endian {

@@ -5,9 +5,7 @@ ghost use Rattle.std.specs.Prelude.{◌≡◌, IfOk};
 use crate::atomics::HasAtomics;
 use crate::endian::Endian;
 use crate::families::Families;
-use cfgx_fields as fields;
 use cfgx_fields::{Abi, Arch, Triple, Vendor};
-use cfgx_places as places;
 use cfgx_places::{Env, Os, Panic};
 use std::alloc::{AllocError, Allocator, Global};
 
@@ -42,6 +40,16 @@ pub struct TargetInfo<'a, A: Allocator = Global> {
     pub has_atomics: HasAtomics<A>,
     /// The panic strategy, as `panic`.
     pub panic: Panic<'a, A>,
+}
+
+// A copy of what the option holds, where it holds something. The fields are of two types.
+macro_rules! copied {
+    ($field:expr, $alloc:expr) => {
+        match &$field {
+            Some(field) => Some(field.try_clone($alloc)?),
+            None => None,
+        }
+    };
 }
 
 // The triple, the architecture and the vendor.
@@ -88,15 +96,15 @@ impl<'a, A: Allocator + Copy> TargetInfo<'a, A> {
     {
         let triple = self.triple.try_clone(alloc)?;
         let arch = self.arch.try_clone(alloc)?;
-        Ok((triple, arch, copied_field(&self.vendor, alloc)?))
+        Ok((triple, arch, copied!(self.vendor, alloc)))
     }
 
     fn copied_places(&self, alloc: A) -> Result<Places<'a, A>, AllocError>
         ensures { IfOk result (λ copy. copy ≡ (self.now.os, self.now.abi, self.now.env)) }
     {
-        let os = copied_place(&self.os, alloc)?;
-        let abi = copied_field(&self.abi, alloc)?;
-        Ok((os, abi, copied_place(&self.env, alloc)?))
+        let os = copied!(self.os, alloc);
+        let abi = copied!(self.abi, alloc);
+        Ok((os, abi, copied!(self.env, alloc)))
     }
 
     fn copied_lists(&self, alloc: A) -> Result<Lists<'a, A>, AllocError>
@@ -106,31 +114,5 @@ impl<'a, A: Allocator + Copy> TargetInfo<'a, A> {
         let families = self.families.try_clone(alloc)?;
         let has_atomics = self.has_atomics.try_clone(alloc)?;
         Ok((families, has_atomics, self.panic.try_clone(alloc)?))
-    }
-}
-
-// A copy of the field, where there is one.
-fn copied_field<'a, K, A: Allocator>(
-    field: &Option<fields::Field<'a, K, A>>,
-    alloc: A,
-) -> Result<Option<fields::Field<'a, K, A>>, AllocError>
-    ensures { IfOk result (λ copy. copy ≡ field.now) }
-{
-    match field {
-        Some(field) => Ok(Some(field.try_clone(alloc)?)),
-        None => Ok(None),
-    }
-}
-
-// A copy of the field, where there is one.
-fn copied_place<'a, K, A: Allocator>(
-    field: &Option<places::Field<'a, K, A>>,
-    alloc: A,
-) -> Result<Option<places::Field<'a, K, A>>, AllocError>
-    ensures { IfOk result (λ copy. copy ≡ field.now) }
-{
-    match field {
-        Some(field) => Ok(Some(field.try_clone(alloc)?)),
-        None => Ok(None),
     }
 }

@@ -8,6 +8,7 @@ pub mod endian;
 pub mod error;
 pub mod families;
 pub mod info;
+mod laws;
 pub mod list;
 pub mod reading;
 pub mod table;

@@ -77,12 +77,20 @@ module _ (Z : Al) where
     pub within : short ⊑ long
     pub self : Bor Whole.Denot
 
+  abbrev pub loan_of : (short long : Lft) → Share → Share → short ⊑ long → Bor Whole.Denot → Loan
+  loan_of s l p q w b =
+      record { short = s; long = l; short_share = p; long_share = q; within = w; self = b }
+
 pub record Request : Type 0 where
   pub ty : Ty
   pub bytes : ℕ
   pub aligned : ℕ
   pub bytes_fit : bytes < 2 ^ 64
   pub aligned_fits : aligned < 2 ^ 64
+
+abbrev pub request : Ty → (bytes aligned : ℕ) → bytes < 2 ^ 64 → aligned < 2 ^ 64 → Request
+request τ n a fit fits =
+    record { ty = τ; bytes = n; aligned = a; bytes_fit = fit; aligned_fits = fits }
 
 module _ (Z : Al) {M : Type 1} {𝓤 : Ura M} (𝓛 : Logic 𝓤) (at_mem : Memory → SProp 𝓤)
     (run : Routine → Fun 𝓤) where
@@ -95,18 +103,19 @@ module _ (Z : Al) {M : Type 1} {𝓤 : Ura M} (𝓛 : Logic 𝓤) (at_mem : Memo
   abbrev pub Inner : Contract 𝓤
   Inner = triple_of 𝓛 (inner.signature Z.row) (inner.spec Z.row Z.g Z.d Z.drops 𝓛 at_mem run)
 
+module _ (Z : Al) {M : Type 1} {𝓤 : Ura M} (loan : Loan Z) where
+  abbrev beyond : Item 𝓤
+  beyond = ‵ (flft loan.long loan.long_share) ⊛ ‵ ftrue
+
+  abbrev pub alive : Item 𝓤
+  alive = ‵ (flft loan.short loan.short_share) ⊛ beyond
+
 module _ (Z : Al) {M : Type 1} {𝓤 : Ura M} (𝓛 : Logic 𝓤) (at_mem : Memory → SProp 𝓤)
     (run : Routine → Fun 𝓤) (loan : Loan Z) where
   open 𝓛 use {H}
 
   abbrev pub lent : Item 𝓤
   lent = ‵ (hidden_shr (Whole Z) loan.short loan.self.now loan.self.ref_ptr.0 loan.self.ref_ptr.1)
-
-  abbrev beyond : Item 𝓤
-  beyond = ‵ (flft loan.long loan.long_share) ⊛ ‵ ftrue
-
-  abbrev pub alive : Item 𝓤
-  alive = ‵ (flft loan.short loan.short_share) ⊛ beyond
 
   -- what either method of `Refusing` is called with
   abbrev pub at_self : (Countdown Z 𝓛 at_mem run).Ghost
@@ -122,10 +131,10 @@ module _ (Z : Al) {M : Type 1} {𝓤 : Ura M} (𝓛 : Logic 𝓤) (at_mem : Memo
   )
 
   -- either asks for this
-  self_handed : loan.long ⊑ Z.row.lives → ent 𝓤 (sep 𝓤 (mean 𝓛 lent) (mean 𝓛 alive))
+  self_handed : loan.long ⊑ Z.row.lives → ent 𝓤 (sep 𝓤 (mean 𝓛 lent) (mean 𝓛 (alive Z loan)))
       ((Countdown Z 𝓛 at_mem run).pre at_self)
   self_handed lives =
-      qed 𝓛 (lent ∷ alive ∷ []) ∵ feq_i ! (List Val) (shr_vals loan.self) _ refl $ fjoin ! $
+      qed 𝓛 (lent ∷ alive Z loan ∷ []) ∵ feq_i ! (List Val) (shr_vals loan.self) _ refl $ fjoin ! $
       nothing ! $ move ! (1 ∷ []) $ fjoin ! $ move ! (1 ∷ []) $ join ! $ frame ! $
       nothing ! $ use0 𝓛 (raw (fact 𝓤 (loan.long ⊑ Z.row.lives))) (fact_i 𝓤 _ (emp 𝓤) lives) $
       done !
@@ -136,16 +145,17 @@ module _ (Z : Al) {M : Type 1} {𝓤 : Ura M} (𝓛 : Logic 𝓤) (at_mem : Memo
         (Countdown Z 𝓛 at_mem run) → loan.long ⊑ Z.row.lives
         → Opds K 𝓛 (raw ((Countdown Z 𝓛 at_mem run).pre at_self) ∷ lent ∷ Γ) E operands
         (shr_vals loan.self)
-        → ((ended : Bool) (v : Val) → v ≡ vbool ended → Seq K 𝓛 (lent ∷ alive ∷ Γ)
+        → ((ended : Bool) (v : Val) → v ≡ vbool ended → Seq K 𝓛 (lent ∷ alive Z loan ∷ Γ)
         (lands C Λ E to v rest q))
-        → Seq K 𝓛 (lent ∷ alive ∷ Γ) (runs C Λ E (seq (call (countdown_at Z) operands to) rest) q)
+        → Seq K 𝓛 (lent ∷ alive Z loan ∷ Γ)
+        (runs C Λ E (seq (call (countdown_at Z) operands to) rest) q)
     counts_down t frames callee lives reads next =
         shr_dup t (Whole Z) (the_row_laws (param 0 Z.row) (param_laws 0 Z.row Z.laws)).shr_laws
         loan.self.now loan.self.ref_ptr.0 loan.self.ref_ptr.1 loan.short $ move t (0 ∷ 2 ∷ []) $
         use2 𝓛 (raw ((Countdown Z 𝓛 at_mem run).pre at_self)) (self_handed lives) $
         calls_at t frames (Countdown Z 𝓛 at_mem run) callee at_self reads (λ v.
-        use1 𝓛 (later (some (λ (ended : Bool). (alive ⊛ ‵ (bool.own_val ended (v ∷ []))) ⊛ some
-        (λ (last : Unit {0} × Unit {0}). ‵ (fsep ftrue ftrue) ⊛ ‵ ftrue)))) (id⊢ 𝓤 _) $
+        use1 𝓛 (later (some (λ (ended : Bool). (alive Z loan ⊛ ‵ (bool.own_val ended (v ∷ []))) ⊛
+        some (λ (last : Unit {0} × Unit {0}). ‵ (fsep ftrue ftrue) ⊛ ‵ ftrue)))) (id⊢ 𝓤 _) $
         await t tt $ pick t (λ ended. split t $ move t (1 ∷ []) $ drop t $ split t $
         move t (1 ∷ []) $ feq_l t (λ is. move t (1 ∷ 0 ∷ []) $ next ended v (ap only is))))
 
@@ -153,13 +163,14 @@ module _ (Z : Al) {M : Type 1} {𝓤 : Ura M} (𝓛 : Logic 𝓤) (at_mem : Memo
         loan.long ⊑ Z.row.lives
         → Opds K 𝓛 (raw ((Inner Z 𝓛 at_mem run).pre at_self) ∷ Γ) E operands (shr_vals loan.self)
         → ((p : ℕ × ℕ) (v : Val) → v ≡ vptr p.0 p.1 → Seq K 𝓛
-        (‵ (seen Z loan.short p loan.self.now.inner) ∷ alive ∷ Γ) (lands C Λ E to v rest q))
-        → Seq K 𝓛 (lent ∷ alive ∷ Γ) (runs C Λ E (seq (call (inner_at Z) operands to) rest) q)
+        (‵ (seen Z loan.short p loan.self.now.inner) ∷ alive Z loan ∷ Γ) (lands C Λ E to v rest q))
+        → Seq K 𝓛 (lent ∷ alive Z loan ∷ Γ)
+        (runs C Λ E (seq (call (inner_at Z) operands to) rest) q)
     reaches_inner t frames callee lives reads next =
         use2 𝓛 (raw ((Inner Z 𝓛 at_mem run).pre at_self)) (self_handed lives) $
         calls_at t frames (Inner Z 𝓛 at_mem run) callee at_self reads (λ v.
         use1 𝓛 (later (some (λ (found : Bor Z.row.Denot).
-        (alive ⊛ ‵ ((ShrRef (named 0) loan.short (param 0 Z.row)).own_val found (v ∷ []))) ⊛
+        (alive Z loan ⊛ ‵ ((ShrRef (named 0) loan.short (param 0 Z.row)).own_val found (v ∷ []))) ⊛
         some (λ (last : Unit {0} × Unit {0}). ‵ (fsep ftrue ftrue) ⊛ given
         (found.now ≡ loan.self.now.inner) (‵ ftrue))))) (id⊢ 𝓤 _) $
         await t tt $ pick t (λ found. split t $ move t (1 ∷ []) $
@@ -184,12 +195,12 @@ module _ (Z : Al) {M : Type 1} {𝓤 : Ura M} (𝓛 : Logic 𝓤) (at_mem : Memo
         asked.aligned) {K : Type 0} {Γ : List (Item 𝓤)} {C : Calls 𝓤 H} {Λ : Loops 𝓤 H}
         {E : Env 𝓤 H} {operands : List Operand} {to : Place} {rest : Body} {q : Post 𝓤 H} where
       pub allocates : K → FmC 𝓤 H 𝓛.laws C → Triple 𝓤 (C (takes_key Z)) (Takes Z 𝓛 at_mem run)
-          → Opds K 𝓛 (raw ((Takes Z 𝓛 at_mem run).pre at_allocate) ∷ beyond ∷ Γ) E operands
+          → Opds K 𝓛 (raw ((Takes Z 𝓛 at_mem run).pre at_allocate) ∷ beyond Z loan ∷ Γ) E operands
           (vptr p.0 p.1 ∷ vint w64 asked.bytes ∷ vint w64 asked.aligned ∷ [])
           → ((came : Bool × (ℕ × ℕ)) (v : Val) → v ≡ answer_val came.0 came.1.0 came.1.1 → Seq K 𝓛
-          (‵ (got (token Z h) asked.ty came.0 came.1.0 came.1.1) ∷ alive ∷ Γ)
+          (‵ (got (token Z h) asked.ty came.0 came.1.0 came.1.1) ∷ alive Z loan ∷ Γ)
           (lands C Λ E to v rest q))
-          → Seq K 𝓛 (‵ (seen Z loan.short p h) ∷ alive ∷ Γ)
+          → Seq K 𝓛 (‵ (seen Z loan.short p h) ∷ alive Z loan ∷ Γ)
           (runs C Λ E (seq (call (takes_key Z) operands to) rest) q)
       allocates t frames callee reads next =
           move t (1 ∷ []) $ split t $ move t (2 ∷ 0 ∷ []) $
@@ -207,11 +218,11 @@ module _ (Z : Al) {M : Type 1} {𝓤 : Ura M} (𝓛 : Logic 𝓤) (at_mem : Memo
 
       pub deallocates : K → FmC 𝓤 H 𝓛.laws C → Triple 𝓤 (C (gives_key Z)) (Gives Z 𝓛 at_mem run) →
           (block : ℕ × ℕ)
-          → Opds K 𝓛 (raw ((Gives Z 𝓛 at_mem run).pre (at_deallocate block)) ∷ beyond ∷ Γ) E
+          → Opds K 𝓛 (raw ((Gives Z 𝓛 at_mem run).pre (at_deallocate block)) ∷ beyond Z loan ∷ Γ) E
           operands (vptr p.0 p.1 ∷ vptr block.0 block.1 ∷ vint w64 asked.bytes ∷ vint w64
           asked.aligned ∷ [])
-          → ((v : Val) → v ≡ vunit → Seq K 𝓛 (alive ∷ Γ) (lands C Λ E to v rest q))
-          → Seq K 𝓛 (‵ (seen Z loan.short p h) ∷ alive ∷ ‵
+          → ((v : Val) → v ≡ vunit → Seq K 𝓛 (alive Z loan ∷ Γ) (lands C Λ E to v rest q))
+          → Seq K 𝓛 (‵ (seen Z loan.short p h) ∷ alive Z loan ∷ ‵
           (fsep (froom asked.ty block.0 block.1) (token Z h asked.ty
           (block_ptr block.0 block.1))) ∷ Γ) (runs C Λ E
           (seq (call (gives_key Z) operands to) rest) q)

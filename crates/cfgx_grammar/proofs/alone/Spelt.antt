@@ -37,14 +37,18 @@ abbrev pub text_of : List ℕ → Option (List ℕ) → List ℕ
 text_of key None = key
 text_of key (Some value) = with_value key value
 
--- the predicate is spelled by a key and perhaps a value, which say it again
+-- a key and perhaps a value say the predicate, and its spelling is theirs
 pub record IsSpelt (question : Question) : Type 0 where
-  pub key : List ℕ
-  pub value : Option (List ℕ)
-  pub is_key : IsKey key
-  pub can_be_quoted : CanBeQuoted value
-  pub says : class key value ≡ Class.is question
-  pub spelled : spelling question ≡ text_of key value
+  pub regular : IsRegular question
+  pub spelled : spelling question ≡ text_of regular.key regular.value
+
+spelt : (key : List ℕ) (value : Option (List ℕ)) (question : Question) → IsKey key
+    → CanBeQuoted value → class key value ≡ Class.is question
+    → spelling question ≡ text_of key value → IsSpelt question
+spelt k v question is quoted says spelled = record {
+  regular = record { key = k; value = v; is_key = is; can_be_quoted = quoted; says = says };
+  spelled = spelled;
+}
 
 -- a word of more than three letters names no function
 long_key : (word : List ℕ) → IsWord word → 3 < length word → IsKey word
@@ -119,26 +123,14 @@ no_quote_endian little = refl
 
 spelt_bare : (key : List ℕ) (question : Question) → IsWord key → 3 < length key
     → class key None ≡ Class.is question → spelling question ≡ key → IsSpelt question
-spelt_bare key question word long says spelled = record {
-  key = key;
-  value = None;
-  is_key = long_key key word long;
-  can_be_quoted = tt;
-  says = says;
-  spelled = spelled;
-}
+spelt_bare key question word long says spelled =
+    spelt key None question (long_key key word long) tt says spelled
 
 spelt_value : (key value : List ℕ) (question : Question) → IsWord key → 3 < length key
     → HasNoQuote value → class key (Some value) ≡ Class.is question
     → spelling question ≡ with_value key value → IsSpelt question
-spelt_value key value question word long quoted says spelled = record {
-  key = key;
-  value = Some value;
-  is_key = long_key key word long;
-  can_be_quoted = quoted;
-  says = says;
-  spelled = spelled;
-}
+spelt_value key value question word long quoted says spelled =
+    spelt key (Some value) question (long_key key word long) quoted says spelled
 
 spelt_family : (name : List ℕ) → HasNoQuote name → IsSpelt (family name)
 unfolding class
@@ -244,24 +236,12 @@ module _ (key : List ℕ) (value : Option (List ℕ)) (is_key : IsKey key)
   good_plain : (v : Option (List ℕ)) → value ≡ v → CanBeQuoted v → Good (plain key v)
   good_plain None is quotes question same says =
       let asked : Question.flag key ≡ question = cc in
-      subst IsSpelt asked (record {
-        key = key;
-        value = None;
-        is_key = is_key;
-        can_be_quoted = tt;
-        says = ap (class key) (sym is) ∙ says ∙ ap Class.is (sym asked);
-        spelled = refl;
-      })
+      subst IsSpelt asked (spelt key None _ is_key tt
+      (ap (class key) (sym is) ∙ says ∙ ap Class.is (sym asked)) refl)
   good_plain (Some v) is quotes question same says =
       let asked : Question.key_value key v ≡ question = cc in
-      subst IsSpelt asked (record {
-        key = key;
-        value = Some v;
-        is_key = is_key;
-        can_be_quoted = quotes;
-        says = ap (class key) (sym is) ∙ says ∙ ap Class.is (sym asked);
-        spelled = refl;
-      })
+      subst IsSpelt asked (spelt key (Some v) _ is_key quotes
+      (ap (class key) (sym is) ∙ says ∙ ap Class.is (sym asked)) refl)
 
   good_other : Good (other_class key value)
   good_other = chosen (starts_with nat_eq key (codes "target_"))

@@ -203,5 +203,6 @@ pub spelling_alone : (question : Question) → IsRegular question
     → IsAlone (spelling question) question
 spelling_alone question regular =
     let s = spelt_regular question regular in
+    let r = s.regular in
     subst (λ t. IsAlone t question) (sym s.spelled)
-    (alone_text s.key s.value question s.is_key s.can_be_quoted s.says)
+    (alone_text r.key r.value question r.is_key r.can_be_quoted r.says)

@@ -73,57 +73,37 @@ module _ (front : List Item) (item : Item) where
 
 -- What may stand behind the last token says which it is.
 
--- in front of an item no predicate has begun, and no name is the last token
-item_after : (item : Item) (before : List Item) (token : Token)
-    → takes (Some token) Kind.item ≡ true
-    → (begun_token item before token ≡ None) × (names_function token ≡ false)
-item_after item before Token.open_paren may = (refl, refl)
-item_after item before Token.comma may = (refl, refl)
-item_after item before _ may = absurd (false≢true may)
+-- What a token of this kind says of those in front of it. In front of an item no predicate has
+-- begun and no name is the last token; in front of `(` stands a name, in front of `=` a key, and in
+-- front of a value `=`.
+abbrev pub Says : Kind → Option Pending → Option Pending → Option Pending → Bool → Type 0
+Says Kind.item begun key equals names = (begun ≡ None) × (names ≡ false)
+Says Kind.opening begun key equals names = (begun ≡ None) × (names ≡ true)
+Says Kind.equals begun key equals names = (begun ≡ key) × (names ≡ false)
+Says Kind.value begun key equals names = (begun ≡ equals) × (names ≡ false)
+Says _ begun key equals names = Unit {0}
 
-pub after_item : (back : List Item) → takes (head_token back) Kind.item ≡ true
-    → (begun_last back ≡ None) × (names_last (head_token back) ≡ false)
-after_item [] may = (refl, refl)
-after_item (item ∷ before) may = item_after item before item.token may
+says_token : (kind : Kind) (item : Item) (before : List Item) (token : Token)
+    → takes (Some token) kind ≡ true → Says kind (begun_token item before token)
+    (key_token item token) (equals_token before token) (names_function token)
+says_token Kind.closing item before token may = tt
+says_token Kind.comma item before token may = tt
+says_token Kind.item item before Token.open_paren may = (refl, refl)
+says_token Kind.item item before Token.comma may = (refl, refl)
+says_token Kind.opening item before Token.all may = (refl, refl)
+says_token Kind.opening item before Token.any may = (refl, refl)
+says_token Kind.opening item before Token.not may = (refl, refl)
+says_token Kind.equals item before (Token.key _) may = (refl, refl)
+says_token Kind.value item before Token.equals may = (refl, refl)
+says_token _ item before _ may = absurd (false≢true may)
 
--- in front of `(` stands a name
-name_after : (item : Item) (before : List Item) (token : Token)
-    → takes (Some token) Kind.opening ≡ true
-    → (begun_token item before token ≡ None) × (names_function token ≡ true)
-name_after item before Token.all may = (refl, refl)
-name_after item before Token.any may = (refl, refl)
-name_after item before Token.not may = (refl, refl)
-name_after item before _ may = absurd (false≢true may)
-
-pub after_name : (back : List Item) → takes (head_token back) Kind.opening ≡ true
-    → (begun_last back ≡ None) × (names_last (head_token back) ≡ true)
-after_name [] may = absurd (false≢true may)
-after_name (item ∷ before) may = name_after item before item.token may
-
--- in front of `=` stands a key
-key_after : (item : Item) (before : List Item) (token : Token)
-    → takes (Some token) Kind.equals ≡ true
-    → (begun_token item before token ≡ key_token item token) × (names_function token ≡ false)
-key_after item before (Token.key _) may = (refl, refl)
-key_after item before _ may = absurd (false≢true may)
-
-pub after_key : (back : List Item) → takes (head_token back) Kind.equals ≡ true
-    → (begun_last back ≡ key_last back) × (names_last (head_token back) ≡ false)
-after_key [] may = absurd (false≢true may)
-after_key (item ∷ before) may = key_after item before item.token may
-
--- in front of a value stands `=`
-equals_after : (item : Item) (before : List Item) (token : Token)
-    → takes (Some token) Kind.value ≡ true
-    → (begun_token item before token ≡ equals_token before token)
-    × (names_function token ≡ false)
-equals_after item before Token.equals may = (refl, refl)
-equals_after item before _ may = absurd (false≢true may)
-
-pub after_equals : (back : List Item) → takes (head_token back) Kind.value ≡ true
-    → (begun_last back ≡ equals_last back) × (names_last (head_token back) ≡ false)
-after_equals [] may = absurd (false≢true may)
-after_equals (item ∷ before) may = equals_after item before item.token may
+pub says : (kind : Kind) (back : List Item) → takes (head_token back) kind ≡ true
+    → Says kind (begun_last back) (key_last back) (equals_last back) (names_last (head_token back))
+says Kind.item [] may = (refl, refl)
+says Kind.closing [] may = tt
+says Kind.comma [] may = tt
+says _ [] may = absurd (false≢true may)
+says kind (item ∷ before) may = says_token kind item before item.token may
 
 -- a predicate that has begun has ended but behind `=`
 ended_token : (item : Item) (before : List Item) (token : Token)

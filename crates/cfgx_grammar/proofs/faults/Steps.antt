@@ -31,7 +31,7 @@ use Rattle.cfgx_grammar.proofs.faults.Levels.{IsLevel, HasParens, Levels, Levels
 use Rattle.cfgx_grammar.proofs.faults.Levels.{Levels-same, Levels-item, Levels-open}
 use Rattle.cfgx_grammar.proofs.faults.Matches.{names_last, going, Matches, depth_is, last_more}
 use Rattle.cfgx_grammar.proofs.faults.Matches.{begun_token, begun_more, names_more, closings_more}
-use Rattle.cfgx_grammar.proofs.faults.Matches.{after_item, after_name, after_key, after_equals}
+use Rattle.cfgx_grammar.proofs.faults.Matches.{says}
 use Rattle.cfgx_grammar.proofs.faults.Matches.{after_end, height_kept, Ended, EndsAs}
 use Rattle.cfgx_grammar.proofs.faults.Matches.{predicate_ends, names, closings}
 
@@ -180,7 +180,7 @@ module _ {W M L : Type 0} {builder : Builder W M L} (front : List Item) (s : Sta
         (apply s (at (Token.key text)) (Token.key text))) None
     key_step text may =
         let token = Token.key text in
-        let a = after_item (reverse front) may in
+        let a = says Kind.item (reverse front) may in
         let balance = kept token refl refl in
         let levels = Levels-item front (at token) s.roots s.stack (omega (arith, balance))
         (depth_is front s m) refl (plain_levels false (m.pending ∙ a.0) a.1) in
@@ -189,7 +189,7 @@ module _ {W M L : Type 0} {builder : Builder W M L} (front : List Item) (s : Sta
     equals_step : takes (last_token front) Kind.equals ≡ true → Agrees (more Token.equals)
         (result_map (with_last Token.equals) (apply s (at Token.equals) Token.equals)) None
     equals_step may =
-        let a = after_key (reverse front) may in (
+        let a = says Kind.equals (reverse front) may in (
           refl,
           stays Token.equals _ _ refl refl refl refl refl (m.pending ∙ a.0) refl
               (levels_of false a.1),
@@ -200,7 +200,7 @@ module _ {W M L : Type 0} {builder : Builder W M L} (front : List Item) (s : Sta
         (apply s (at (Token.value text)) (Token.value text))) None
     value_step text may =
         let value = word_of text (start + 1) (end - 1) in
-        let a = after_equals (reverse front) may in (
+        let a = says Kind.value (reverse front) may in (
           refl,
           stays (Token.value text) _ _ refl refl refl refl refl
               (ap (option_map (with_value value)) (m.pending ∙ a.0))
@@ -217,7 +217,7 @@ module _ {W M L : Type 0} {builder : Builder W M L} (front : List Item) (s : Sta
     name_step function may is_name no_close begins none =
         let token = name_of function in
         let item = at token in
-        let a = after_item (reverse front) may in
+        let a = says Kind.item (reverse front) may in
         let pending : s.pending ≡ None = m.pending ∙ a.0 in
         let n = names_more front item ∙ ap (λ b. names front + cond b 1 0) is_name in
         let c = closings_more front item ∙ ap (λ b. closings front + cond b 1 0) no_close in
@@ -251,7 +251,7 @@ module _ {W M L : Type 0} {builder : Builder W M L} (front : List Item) (s : Sta
         None
     open_step may =
         let token = Token.open_paren in
-        let a = after_name (reverse front) may in
+        let a = says Kind.opening (reverse front) may in
         let balance = kept token refl refl in
         let levels = Levels-open front (at token) s.roots (going s.pending) s.stack
         (omega (arith, balance)) refl (levels_of true a.1) in (

@@ -109,30 +109,14 @@ unfolding class atomic_named read_below
 pointer = refl
 
 -- How predicates are written.
-pub spelled_flag : spelling (Question.flag (codes "a")) ≡ codes "a"
+pub spelled : (spelling (Question.flag (codes "a")) ≡ codes "a")
+    × (spelling (Question.feature []) ≡ codes "feature = \"\"")
+    × (spelling (Question.target (TargetQuestion.panic (codes "abort")))
+    ≡ codes "panic = \"abort\"")
+    × (spelling (Question.target (TargetQuestion.endian big)) ≡ codes "target_endian = \"big\"")
+    × (spelling (Question.target (TargetQuestion.pointer_width 64))
+    ≡ codes "target_pointer_width = \"64\"")
+    × (spelling (Question.target (TargetQuestion.has_atomic Pointer))
+    ≡ codes "target_has_atomic = \"ptr\"")
 unfolding digits
-spelled_flag = refl
-
-pub spelled_feature : spelling (Question.feature []) ≡ codes "feature = \"\""
-unfolding digits
-spelled_feature = refl
-
-pub spelled_panic : spelling (Question.target (TargetQuestion.panic (codes "abort"))) ≡ codes
-    "panic = \"abort\""
-unfolding digits
-spelled_panic = refl
-
-pub spelled_endian : spelling (Question.target (TargetQuestion.endian big)) ≡ codes
-    "target_endian = \"big\""
-unfolding digits
-spelled_endian = refl
-
-pub spelled_width : spelling (Question.target (TargetQuestion.pointer_width 64)) ≡ codes
-    "target_pointer_width = \"64\""
-unfolding digits
-spelled_width = refl
-
-pub spelled_atomic : spelling (Question.target (TargetQuestion.has_atomic Pointer)) ≡ codes
-    "target_has_atomic = \"ptr\""
-unfolding digits
-spelled_atomic = refl
+spelled = (refl, refl, refl, refl, refl, refl)

@@ -1,6 +1,6 @@
 -- Texts with their trees, texts without one, and what the parser's steps answer to both.
 use Rattle.std.proofs.Common.{◌≡◌, ℕ, ◌≤◌, List, [], ◌∷◌, Ok, Err, refl, sym, ap, ◌∙◌, subst}
-use Rattle.std.proofs.Common.{arith, drop, length}
+use Rattle.std.proofs.Common.{arith, drop, length, rules}
 use Rattle.std.specs.Prelude.{codes, Some, None, Result, slice_range}
 use Rattle.std.proofs.lemmas.Str.{NoCharPasses-nil}
 use Rattle.cfgx_syntax.specs.Error.{Refusal, unexpected, invalid_not, unclosed_parens}
@@ -18,7 +18,7 @@ use Rattle.cfgx_grammar.specs.parsing.State.{State, initial}
 use Rattle.cfgx_grammar.specs.parsing.Step.{run, answer_from}
 use Rattle.cfgx_grammar.proofs.spelled.Trees.{tree_builder, tree_laws}
 use Rattle.cfgx_grammar.proofs.spelled.Whole.{Finds-tree}
-use Rattle.cfgx_grammar.proofs.worked.Rows.{flag, one, item, key_a, key_b, listed, listed_tokens}
+use Rattle.cfgx_grammar.proofs.worked.Rows.{flag, one, key_a, key_b, listed, listed_tokens}
 use Rattle.cfgx_grammar.proofs.worked.Rows.{single, single_items, open_items, comma_items}
 use Rattle.cfgx_grammar.proofs.worked.Rows.{not_items, two_items, root_items, unopened_items}
 
@@ -54,30 +54,13 @@ here text i none spelled ordered inside whole = record {
 }
 
 single_are : AreItems (codes "all(a)") single_items Ending.blank
-single_are =
-    let at = here (codes "all(a)") in
-    let closing = at (item Token.close_paren 5 6) refl refl (omega arith) (omega arith) refl in
-    let key = at (item key_a 4 5) refl (refl, is_a) (omega arith) (omega arith) refl in
-    let opening = at (item Token.open_paren 3 4) refl refl (omega arith) (omega arith) refl in
-    let name = at (item Token.all 0 3) refl refl (omega arith) (omega arith) refl in
-    (name, (opening, (key, (closing, NoCharPasses-nil _))))
+single_are = search (rules, here, is_a, NoCharPasses-nil)
 
 comma_are : AreItems (codes "any(,)") comma_items Ending.blank
-comma_are =
-    let at = here (codes "any(,)") in
-    let closing = at (item Token.close_paren 5 6) refl refl (omega arith) (omega arith) refl in
-    let comma = at (item Token.comma 4 5) refl refl (omega arith) (omega arith) refl in
-    let opening = at (item Token.open_paren 3 4) refl refl (omega arith) (omega arith) refl in
-    let name = at (item Token.any 0 3) refl refl (omega arith) (omega arith) refl in
-    (name, (opening, (comma, (closing, NoCharPasses-nil _))))
+comma_are = search (rules, here, NoCharPasses-nil)
 
 not_are : AreItems (codes "not()") not_items Ending.blank
-not_are =
-    let at = here (codes "not()") in
-    let closing = at (item Token.close_paren 4 5) refl refl (omega arith) (omega arith) refl in
-    let opening = at (item Token.open_paren 3 4) refl refl (omega arith) (omega arith) refl in
-    let name = at (item Token.not 0 3) refl refl (omega arith) (omega arith) refl in
-    (name, (opening, (closing, NoCharPasses-nil _)))
+not_are = search (rules, here, NoCharPasses-nil)
 
 is_flag_a : IsItem (key_a ∷ []) (flag (codes "a"))
 unfolding class

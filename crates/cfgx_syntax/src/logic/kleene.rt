@@ -1,4 +1,6 @@
 //! Sixty-four answers that may be unknown, joined all at once.
+#![tactic(auto, using(crate::proofs::Lanes::lanes))]
+
 ghost use Rattle.std.specs.Prelude.{◌≡◌, ℕ, ◌<◌, Some, true, false};
 ghost use Rattle.cfgx_syntax.specs.Kleene.{AreApart, EachLane, lane};
 ghost use Rattle.cfgx_syntax.specs.Kleene.{planes_and, planes_bottom, planes_not, planes_or};

@@ -36,6 +36,16 @@ impl io::Read for Pieces<'_> {
     }
 }
 
+// A reader of at most three bytes a call, whose second read fails.
+fn second_failing(left: &[u8]) -> Pieces<'_> {
+    Pieces {
+        left,
+        each: 3,
+        failing_read: 2,
+        reads: 0,
+    }
+}
+
 // Such a reader as a source that tells its bytes.
 #[derive(Drop)]
 struct Told<'a> {
@@ -59,14 +69,8 @@ impl Source for Told<'_> {
 
 #[test]
 fn a_failed_read_takes_no_bytes(rt: HostRuntime) -> Result<(), Fail> {
-    let pieces = Pieces {
-        left: b"abcd",
-        each: 3,
-        failing_read: 2,
-        reads: 0,
-    };
     let mut source = Told {
-        pieces,
+        pieces: second_failing(b"abcd"),
         failures: 0,
     };
     let mut buffer = [0u8; 8];
@@ -82,12 +86,7 @@ fn a_failed_read_takes_no_bytes(rt: HostRuntime) -> Result<(), Fail> {
 
 #[test]
 fn a_counted_reader_counts_its_failed_reads(rt: HostRuntime) -> Result<(), Fail> {
-    let mut source = Counted::new(Pieces {
-        left: b"abcdefg",
-        each: 3,
-        failing_read: 2,
-        reads: 0,
-    });
+    let mut source = Counted::new(second_failing(b"abcdefg"));
     let mut buffer = [0u8; 8];
     assert_eq!(rt; source.read(&mut buffer).ok(), Some(3));
     assert_eq!(rt; buffer[0], b'a');

@@ -1,6 +1,6 @@
 -- One byte is a token by itself, and a word runs as far as it can.
 use Rattle.std.proofs.Common.{◌≡◌, ◌<◌, List, [], ◌∷◌, ℕ, length, drop, get_or, ap, ◌∙◌, sym, subst}
-use Rattle.std.proofs.Common.{lit<, refl}
+use Rattle.std.proofs.Common.{rules}
 use Rattle.std.specs.Str.{IsUtf8}
 use Rattle.cfgx_syntax.specs.Cut.{IsValueCut}
 use Rattle.cfgx_syntax.specs.Token.{Token, IsWhole, IsWord, Spells}
@@ -17,24 +17,16 @@ one_byte text bytes token byte utf8 some same is =
     BeginsWith-byte text token byte utf8 some (ap (λ l. get_or l 0 0) (sym same) ∙ is)
 
 pub returns-in-40 : goal.returns-in-40
-returns-in-40 c =
-    one_byte c.args.text.now _ Token.open_paren 40 c.utf8.text c.requires c.as_bytes.ensures.value
-    c.in-40.is (lit< tt) refl refl tt
+returns-in-40 c = search (rules, one_byte)
 
 pub returns-in-41 : goal.returns-in-41
-returns-in-41 c =
-    one_byte c.args.text.now _ Token.close_paren 41 c.utf8.text c.requires c.as_bytes.ensures.value
-    c.in-41.is (lit< tt) refl refl tt
+returns-in-41 c = search (rules, one_byte)
 
 pub returns-in-44 : goal.returns-in-44
-returns-in-44 c =
-    one_byte c.args.text.now _ Token.comma 44 c.utf8.text c.requires c.as_bytes.ensures.value
-    c.in-44.is (lit< tt) refl refl tt
+returns-in-44 c = search (rules, one_byte)
 
 pub returns-in-61 : goal.returns-in-61
-returns-in-61 c =
-    one_byte c.args.text.now _ Token.equals 61 c.utf8.text c.requires c.as_bytes.ensures.value
-    c.in-61.is (lit< tt) refl refl tt
+returns-in-61 c = search (rules, one_byte)
 
 pub range-requires-clause-end_boundary : goal.range-requires-clause-end_boundary
 range-requires-clause-end_boundary c =

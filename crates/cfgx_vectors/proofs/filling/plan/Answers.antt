@@ -37,6 +37,14 @@ AreFound-clauses text answers found shown is given exact fillings =
           (subst (λ (tree : Tree). PolarFillings tree answers found) same fillings.1);
     }
 
+-- a value of the text is that of the one tree
+value_of_one : {text : List ℕ} {answers : List (Option Bool)} {shown : Fillings}
+    {value : Option Bool} (found : AreFound text answers shown)
+    → (one : HasOneTree text) × (value ≡ fold three_valued one.tree answers)
+    → value ≡ fold three_valued found.one.tree answers
+value_of_one {answers = answers} found (one, is) =
+    is ∙ ap (λ tree. fold three_valued tree answers) (found.one.only one.tree one.has_tree)
+
 pub returns-in-Some : goal.returns-in-Some
 returns-in-Some c =
     let clauses = c.in_ok-with_true.ensures in
@@ -48,22 +56,16 @@ returns-in-Some c =
 
 pub unreachable-requires : goal.unreachable-requires
 unreachable-requires c =
-    let answers = c.args.answers.now in
     let clauses = c.in_ok-with_true.ensures in
-    let found = AreFound-clauses _ answers _ _ c.in_default.is c.requires clauses.exact
+    let found = AreFound-clauses _ c.args.answers.now _ _ c.in_default.is c.requires clauses.exact
     clauses.fillings in
-    let value = c.in_ok-value.ensures in
-    let same = found.one.only value.0.tree value.0.has_tree in
-    let is = value.1 ∙ ap (λ tree. fold three_valued tree answers) same ∙ found.fillings.1 in
+    let is = value_of_one found c.in_ok-value.ensures ∙ found.fillings.1 in
     absurd (cc (is, c.in-None.is))
 
 pub returns : goal.returns
 returns c =
-    let answers = c.args.answers.now in
     let clauses = c.in_ok-with_true.ensures in
-    let found = AreFound-clauses _ answers _ _ c.in_default.is c.requires clauses.exact
+    let found = AreFound-clauses _ c.args.answers.now _ _ c.in_default.is c.requires clauses.exact
     clauses.fillings in
-    let value = c.in_ok-value.ensures in
-    let same = found.one.only value.0.tree value.0.has_tree in
-    let is = value.1 ∙ ap (λ tree. fold three_valued tree answers) same in
+    let is = value_of_one found c.in_ok-value.ensures in
     (found.one, (found.exact.known _).0 (sym is ∙ c.in-Some-2.is))

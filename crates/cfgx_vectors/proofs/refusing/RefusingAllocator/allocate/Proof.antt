@@ -14,7 +14,7 @@ use types.Logic.{Logic}
 use types.Part.{agg}
 use types.Run.{lit, enter, no_more, and_then, first, branches, skips, exec, returns, returns_within}
 use types.ByLocal.{alloc_all, pass_all, free_all, look_at, get, sets, lands_as, env, holding}
-use types.Kit.{Item, Sq, prop, runs, at_ret, ‵, raw, ◌⊛◌, ◌$◌, ◌∵◌, !, qed, done, move, keep, drop}
+use types.Kit.{Sq, prop, runs, at_ret, ‵, raw, ◌⊛◌, ◌$◌, ◌∵◌, !, qed, done, move, keep, drop}
 use types.Kit.{use1, split, join, fsplit, fjoin, suffices}
 use contract.BorrowLft.{◌⊑◌}
 use contract.Monad.{Fun, fact}
@@ -34,7 +34,8 @@ use Rattle.std.specs.Allocator.{HasLayout}
 use Rattle.std.proofs.alloc.Calls.{Al, Answer-typed, answer_val, got, token, takes_key, Takes}
 use Rattle.std.proofs.alloc.Shapes.{after}
 use Rattle.std.proofs.raw_atomic.Walks.{leaves, proved}
-use Rattle.cfgx_vectors.proofs.Loan.{type_args, Loan, Request, countdown_at, inner_at, by_ref}
+use Rattle.cfgx_vectors.proofs.Loan.{type_args, Loan, loan_of, Request, request}
+use Rattle.cfgx_vectors.proofs.Loan.{countdown_at, inner_at, by_ref}
 use Rattle.cfgx_vectors.proofs.Loan.{Countdown, Inner, lent, alive, counts_down, reaches_inner}
 use Rattle.cfgx_vectors.proofs.Loan.{allocates, answer_of, answer_owned, answer_made}
 use Rattle.cfgx_vectors.proofs.refusing.Refusing.ends_countdown.Met as countdown
@@ -58,9 +59,6 @@ module _ (Z : Al) {M : Type 1} {𝓤 : Ura M} (𝓛 : Logic 𝓤) (at_mem : Memo
   abbrev clauses : Clauses 𝓤 (parts Z)
   clauses = f.clauses Z.row Z.g Z.d Z.drops 𝓛 at_mem run
 
-  abbrev tokens : Item 𝓤
-  tokens = alive Z 𝓛 at_mem run loan
-
   abbrev bound : (walk_of 𝓛 (parts Z) (spent Z) clauses).Ghost
   bound = (
     (
@@ -77,7 +75,7 @@ module _ (Z : Al) {M : Type 1} {𝓤 : Ura M} (𝓛 : Logic 𝓤) (at_mem : Memo
   Ends = (walk_of 𝓛 (parts Z) (spent Z) clauses).post bound
 
   ends : (came : Bool × (ℕ × ℕ)) → Sq 𝓛 (‵ (got (token Z loan.self.now.inner) asked.ty came.0
-      came.1.0 came.1.1) ∷ tokens ∷ []) (prop (Ends (answer_val came.0 came.1.0 came.1.1)))
+      came.1.0 came.1.1) ∷ alive Z loan ∷ []) (prop (Ends (answer_val came.0 came.1.0 came.1.1)))
   ends came =
       suffices ! _ (leaves 𝓛 (parts Z) (spent Z) clauses bound (answer_val came.0 came.1.0 came.1.1)
       (answer_of came) (tt, (tt, (tt, tt))) (tt, (tt, (tt, tt)))) $
@@ -101,7 +99,7 @@ module _ (Z : Al) {M : Type 1} {𝓤 : Ura M} (𝓛 : Logic 𝓤) (at_mem : Memo
       cells = env (function Z).locals l
 
       -- what is left to do once the growth is known not to end the countdown
-      let_through : (ended : Bool) → Sq 𝓛 (lent Z 𝓛 at_mem run loan ∷ tokens ∷ holding 𝓛 cells
+      let_through : (ended : Bool) → Sq 𝓛 (lent Z 𝓛 at_mem run loan ∷ alive Z loan ∷ holding 𝓛 cells
           ((4, vbool ended) ∷ (3, vint w64 asked.aligned) ∷ (2, vint w64 asked.bytes) ∷
           (1, vptr loan.self.ref_ptr.0 loan.self.ref_ptr.1) ∷ []))
           (runs 𝓣.C 𝓣.Λ cells (after 2 (function Z).body) (at_ret cells Ends))
@@ -117,7 +115,7 @@ module _ (Z : Al) {M : Type 1} {𝓤 : Ura M} (𝓛 : Logic 𝓤) (at_mem : Memo
     walk : ent 𝓤 ((walk_of 𝓛 (parts Z) (spent Z) clauses).pre bound)
         (WpFn 𝓤 𝓛.H 𝓣.C 𝓣.Λ (function Z) handed Ends)
     walk =
-        qed 𝓛 ((tokens ⊛ ‵ (owns (types_at (parts Z).signature.params bound.0.0) bound.0.3
+        qed 𝓛 ((alive Z loan ⊛ ‵ (owns (types_at (parts Z).signature.params bound.0.0) bound.0.3
         bound.0.4)) ∷ (raw (fact 𝓤 (loan.long ⊑ Z.row.lives)) ⊛ raw
         (fact 𝓤 (HasLayout asked.ty asked.bytes asked.aligned))) ∷ []) ∵
         split ! $ move ! (2 ∷ []) $ split ! $ heard ! _
@@ -152,22 +150,9 @@ allocate_spec 𝓤 𝓛 𝓜 𝓡 wired row laws g d drops met dropped =
     (f.Key.name (type_args Z)) (function Z) (code.unfolded 𝓤 𝓛.H 𝓜 𝓡 wired (row, tt) d drops)
     (λ κs. (shr_vals, (uint_vals w64, (uint_vals w64, tt))))
     (λ κs. ((λ r vs is. is.0), (uint_Tells w64, (uint_Tells w64, tt)))) (λ κs qs bounds a τ are.
-    let loan : Loan Z = record {
-      short = κs.0;
-      long = κs.1.0;
-      short_share = qs.0;
-      long_share =
-          qs.1.0;
-      within = bounds.0;
-      self = a.0;
-    } in
-    let asked : Request = record {
-      ty = τ;
-      bytes = a.1.0;
-      aligned = a.1.1.0;
-      bytes_fit = are.1.0.1;
-      aligned_fits = are.1.1.0.1;
-    } in
+    let loan : Loan Z = loan_of Z κs.0 κs.1.0 qs.0 qs.1.0 bounds.0 a.0 in
+    let asked : Request =
+    request τ a.1.0 a.1.1.0 are.1.0.1 are.1.1.0.1 in
     walk Z 𝓛 𝓜.mem 𝓡.returns loan asked (tables_of 𝓤 𝓛.H 𝓜 (tables 𝓤 𝓛.H 𝓜 𝓡 𝓡.env))
     (countdown.met 𝓤 𝓛 𝓜 𝓡 (code.calls-cfgx_vectors::refusing::Refusing::ends_countdown 𝓡.env wired)
     row laws g d drops met dropped)

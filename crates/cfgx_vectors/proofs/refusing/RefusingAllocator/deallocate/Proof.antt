@@ -32,7 +32,8 @@ use denote.Triple.Walked.{Stays, stay_dropped, Goes-dropped, walk_of}
 use Rattle.std.specs.Allocator.{HasLayout, owned_block}
 use Rattle.std.proofs.alloc.Calls.{Al, token, gives_key, Gives}
 use Rattle.std.proofs.raw_atomic.Walks.{leaves, proved}
-use Rattle.cfgx_vectors.proofs.Loan.{type_args, Loan, Request, inner_at, by_ref, Inner, alive}
+use Rattle.cfgx_vectors.proofs.Loan.{type_args, Loan, loan_of, Request, request}
+use Rattle.cfgx_vectors.proofs.Loan.{inner_at, by_ref, Inner, alive}
 use Rattle.cfgx_vectors.proofs.Loan.{reaches_inner, deallocates}
 use Rattle.cfgx_vectors.proofs.refusing.Refusing.inner.Met as inner
 use Rattle.cfgx_vectors.specs.contracts.refusing.RefusingAllocator.deallocate as f
@@ -60,9 +61,6 @@ module _ (Z : Al) {M : Type 1} {𝓤 : Ura M} (𝓛 : Logic 𝓤) (at_mem : Memo
   abbrev clauses : Clauses 𝓤 (parts Z)
   clauses = f.clauses Z.row Z.g Z.d Z.drops 𝓛 at_mem run
 
-  abbrev tokens : Item 𝓤
-  tokens = alive Z 𝓛 at_mem run loan
-
   abbrev bound : Ptr → (walk_of 𝓛 (parts Z) (spent Z) clauses).Ghost
   bound ptr = (
     (
@@ -87,7 +85,7 @@ module _ (Z : Al) {M : Type 1} {𝓤 : Ura M} (𝓛 : Logic 𝓤) (at_mem : Memo
   abbrev Ends : Ptr → Val → SProp 𝓤
   Ends ptr = (walk_of 𝓛 (parts Z) (spent Z) clauses).post (bound ptr)
 
-  ends : (ptr : Ptr) → Sq 𝓛 (tokens ∷ []) (prop (Ends ptr vunit))
+  ends : (ptr : Ptr) → Sq 𝓛 (alive Z loan ∷ []) (prop (Ends ptr vunit))
   ends ptr =
       suffices ! _ (leaves 𝓛 (parts Z) (spent Z) clauses (bound ptr) vunit tt
       (tt, (tt, (tt, (tt, tt)))) (tt, (tt, (tt, (tt, tt))))) $
@@ -110,7 +108,7 @@ module _ (Z : Al) {M : Type 1} {𝓤 : Ura M} (𝓛 : Logic 𝓤) (at_mem : Memo
     walk : (ptr : Ptr) → ent 𝓤 ((walk_of 𝓛 (parts Z) (spent Z) clauses).pre (bound ptr))
         (WpFn 𝓤 𝓛.H 𝓣.C 𝓣.Λ (function Z) (handed ptr) (Ends ptr))
     walk ptr =
-        qed 𝓛 ((tokens ⊛ ‵ (owns (types_at (parts Z).signature.params (bound ptr).0.0)
+        qed 𝓛 ((alive Z loan ⊛ ‵ (owns (types_at (parts Z).signature.params (bound ptr).0.0)
         (bound ptr).0.3 (bound ptr).0.4))
         ∷ (raw (fact 𝓤 (loan.long ⊑ Z.row.lives)) ⊛ raw
         (fact 𝓤 (HasLayout asked.ty asked.bytes asked.aligned)) ⊛ owned_at ptr) ∷ []) ∵
@@ -156,23 +154,9 @@ deallocate_spec 𝓤 𝓛 𝓜 𝓡 wired row laws g d drops met dropped =
     (λ κs. (shr_vals, (rawptr_vals, (uint_vals w64, (uint_vals w64, tt)))))
     (λ κs. ((λ r vs is. is.0), (rawptr_Tells, (uint_Tells w64, (uint_Tells w64, tt)))))
     (λ κs qs bounds a τ are.
-    let loan : Loan Z = record {
-      short = κs.0;
-      long = κs.1.0;
-      short_share = qs.0;
-      long_share =
-          qs.1.0;
-      within = bounds.0;
-      self = a.0;
-    } in
-    let asked : Request = record {
-      ty = τ;
-      bytes = a.1.1.0;
-      aligned = a.1.1.1.0;
-      bytes_fit =
-          are.1.1.0.1;
-      aligned_fits = are.1.1.1.0.1;
-    } in
+    let loan : Loan Z = loan_of Z κs.0 κs.1.0 qs.0 qs.1.0 bounds.0 a.0 in
+    let asked : Request =
+    request τ a.1.1.0 a.1.1.1.0 are.1.1.0.1 are.1.1.1.0.1 in
     walk Z 𝓛 𝓜.mem 𝓡.returns loan asked (tables_of 𝓤 𝓛.H 𝓜 (tables 𝓤 𝓛.H 𝓜 𝓡 𝓡.env))
     (inner.met 𝓤 𝓛 𝓜 𝓡 (code.calls-cfgx_vectors::refusing::Refusing::inner 𝓡.env wired) row laws g d
     drops met dropped) (met.deallocate drops) a.1.0)
