@@ -28,29 +28,18 @@ impl<A: Allocator> TargetMatcher for TargetInfo<'_, A> {
     fn matches(&self, tp: &TargetPredicate<'_>) -> bool
         ensures { result ≡ meets self.now (target_of tp.now) }
     {
+        use TargetPredicate::*;
         match tp {
-            TargetPredicate::Abi(abi) => has(
-                self.abi.as_ref().map(|abi| abi.as_str()),
-                "",
-                abi.as_str(),
-            ),
-            TargetPredicate::Arch(arch) => self.arch.as_str() == arch.as_str(),
-            TargetPredicate::Endian(endian) => self.endian == *endian,
-            TargetPredicate::Env(env) => has(
-                self.env.as_ref().map(|env| env.as_str()),
-                "",
-                env.as_str(),
-            ),
-            TargetPredicate::Family(family) => self.families.contains(family),
-            TargetPredicate::HasAtomic(width) => self.has_atomics.contains(*width),
-            TargetPredicate::Os(os) => has(
-                self.os.as_ref().map(|os| os.as_str()),
-                "none",
-                os.as_str(),
-            ),
-            TargetPredicate::Panic(panic) => self.panic.as_str() == panic.as_str(),
-            TargetPredicate::PointerWidth(bits) => self.pointer_width == *bits,
-            TargetPredicate::Vendor(vendor) => has(
+            Abi(abi) => has(self.abi.as_ref().map(|abi| abi.as_str()), "", abi.as_str()),
+            Arch(arch) => self.arch.as_str() == arch.as_str(),
+            Endian(endian) => self.endian == *endian,
+            Env(env) => has(self.env.as_ref().map(|env| env.as_str()), "", env.as_str()),
+            Family(family) => self.families.contains(family),
+            HasAtomic(width) => self.has_atomics.contains(*width),
+            Os(os) => has(self.os.as_ref().map(|os| os.as_str()), "none", os.as_str()),
+            Panic(panic) => self.panic.as_str() == panic.as_str(),
+            PointerWidth(bits) => self.pointer_width == *bits,
+            Vendor(vendor) => has(
                 self.vendor.as_ref().map(|vendor| vendor.as_str()),
                 "unknown",
                 vendor.as_str(),
