@@ -123,26 +123,26 @@ where
     Ok(is_free && is_refused && stays && try_clone(owned)? == *borrowed)
 }
 
+// The same of a field of a crate, whose text is borrowed or owned.
+macro_rules! copies_may_be_refused {
+    ($fields:ident, $kind:ty, $heap:ident) => {{
+        let owned: $fields::Field<$kind, &Refusing<Global>> =
+            $fields::Field::new(String::from_str($heap, "é")?);
+        may_be_refused(
+            $heap,
+            &$fields::Field::new_const("é"),
+            &owned,
+            |field| field.try_clone($heap),
+        )
+    }};
+}
+
 fn field_may_be_refused<K: Drop>(heap: &Refusing<Global>) -> Result<bool, AllocError> {
-    use cfgx_fields::Field;
-    let owned: Field<K, &Refusing<Global>> = Field::new(String::from_str(heap, "é")?);
-    may_be_refused(
-        heap,
-        &Field::new_const("é"),
-        &owned,
-        |field| field.try_clone(heap),
-    )
+    copies_may_be_refused!(cfgx_fields, K, heap)
 }
 
 fn place_may_be_refused<K: Drop>(heap: &Refusing<Global>) -> Result<bool, AllocError> {
-    use cfgx_places::Field;
-    let owned: Field<K, &Refusing<Global>> = Field::new(String::from_str(heap, "é")?);
-    may_be_refused(
-        heap,
-        &Field::new_const("é"),
-        &owned,
-        |field| field.try_clone(heap),
-    )
+    copies_may_be_refused!(cfgx_places, K, heap)
 }
 
 #[test]

@@ -107,139 +107,39 @@ pub(crate) fn is_answer(alloc: Global, words: &[&str], status: u8, written: &str
 
 const ALL: usize = usize::MAX;
 
-/// A sink, and what a run with it answers and does.
-struct Row {
-    text: &'static str,
-    // The most bytes a call, the room, the failing write, and whether the flush fails.
-    each: usize,
-    room: usize,
-    failing_write: u64,
-    is_flush_failing: bool,
-    status: u8,
-    written: &'static str,
-    // The calls of `write` and `flush`.
-    writes: u64,
-    flushes: u64,
-}
+/// The most bytes a call, the room, the failing write, and whether the flush fails.
+type Limits = (usize, usize, u64, bool);
+
+/// A text, a sink's limits, the status, what is written, and the calls of `write` and of `flush`.
+type Row = (&'static str, Limits, u8, &'static str, (u64, u64));
 
 const TEXT: &str = "all(a, any(b), c)";
 
 const ROWS: &[Row] = &[
-    Row {
-        text: TEXT,
-        each: ALL,
-        room: ALL,
-        failing_write: 0,
-        is_flush_failing: false,
-        status: 0,
-        written: "b\na\nc\n",
-        writes: 1,
-        flushes: 1,
-    },
-    Row {
-        text: TEXT,
-        each: 1,
-        room: ALL,
-        failing_write: 0,
-        is_flush_failing: false,
-        status: 0,
-        written: "b\na\nc\n",
-        writes: 6,
-        flushes: 1,
-    },
-    Row {
-        text: TEXT,
-        each: 4,
-        room: ALL,
-        failing_write: 0,
-        is_flush_failing: false,
-        status: 0,
-        written: "b\na\nc\n",
-        writes: 2,
-        flushes: 1,
-    },
-    Row {
-        text: TEXT,
-        each: 2,
-        room: ALL,
-        failing_write: 2,
-        is_flush_failing: false,
-        status: 3,
-        written: "b\n",
-        writes: 2,
-        flushes: 0,
-    },
-    Row {
-        text: TEXT,
-        each: ALL,
-        room: 4,
-        failing_write: 0,
-        is_flush_failing: false,
-        status: 3,
-        written: "b\na\n",
-        writes: 2,
-        flushes: 0,
-    },
-    Row {
-        text: TEXT,
-        each: ALL,
-        room: ALL,
-        failing_write: 0,
-        is_flush_failing: true,
-        status: 3,
-        written: "b\na\nc\n",
-        writes: 1,
-        flushes: 1,
-    },
-    Row {
-        text: "all()",
-        each: ALL,
-        room: ALL,
-        failing_write: 0,
-        is_flush_failing: false,
-        status: 0,
-        written: "",
-        writes: 0,
-        flushes: 1,
-    },
-    Row {
-        text: "all()",
-        each: ALL,
-        room: ALL,
-        failing_write: 0,
-        is_flush_failing: true,
-        status: 3,
-        written: "",
-        writes: 0,
-        flushes: 1,
-    },
-    Row {
-        text: "key)",
-        each: ALL,
-        room: ALL,
-        failing_write: 1,
-        is_flush_failing: false,
-        status: 3,
-        written: "",
-        writes: 1,
-        flushes: 0,
-    },
+    (TEXT, (ALL, ALL, 0, false), 0, "b\na\nc\n", (1, 1)),
+    (TEXT, (1, ALL, 0, false), 0, "b\na\nc\n", (6, 1)),
+    (TEXT, (4, ALL, 0, false), 0, "b\na\nc\n", (2, 1)),
+    (TEXT, (2, ALL, 2, false), 3, "b\n", (2, 0)),
+    (TEXT, (ALL, 4, 0, false), 3, "b\na\n", (2, 0)),
+    (TEXT, (ALL, ALL, 0, true), 3, "b\na\nc\n", (1, 1)),
+    ("all()", (ALL, ALL, 0, false), 0, "", (0, 1)),
+    ("all()", (ALL, ALL, 0, true), 3, "", (0, 1)),
+    ("key)", (ALL, ALL, 1, false), 3, "", (1, 0)),
 ];
 
 // Whether a run with this sink ends and writes as the row says.
 fn is_as_said(alloc: Global, row: &Row) -> bool {
+    let (text, (each, room, failing_write, is_flush_failing), wanted, written, calls) = *row;
     let mut sink = Recorder::new(alloc);
-    sink.each = row.each;
-    sink.room = row.room;
-    sink.failing_write = row.failing_write;
-    sink.is_flush_failing = row.is_flush_failing;
-    let status = run(alloc, &["parse", row.text], &mut Ended, &mut sink);
-    let failures = if row.status == 3 { 1 } else { 0 };
-    status == row.status
-        && sink.bytes.as_slice() == row.written.as_bytes()
-        && sink.failures == failures
-        && sink.writes == row.writes
-        && sink.flushes == row.flushes
+    sink.each = each;
+    sink.room = room;
+    sink.failing_write = failing_write;
+    sink.is_flush_failing = is_flush_failing;
+    let status = run(alloc, &["parse", text], &mut Ended, &mut sink);
+    status == wanted
+        && sink.bytes.as_slice() == written.as_bytes()
+        && sink.failures == if wanted == 3 { 1 } else { 0 }
+        && (sink.writes, sink.flushes) == calls
 }
 
 #[test]
