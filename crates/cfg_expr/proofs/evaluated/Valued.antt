@@ -6,19 +6,17 @@ use Rattle.std.proofs.lemmas.List.{length-map, nil_from_length}
 use Rattle.smallvec.specs.SmallVec.{SmallVec}
 use Rattle.cfgx_grammar.specs.Question.{Question}
 use Rattle.cfgx_grammar.specs.Tree.{Tree, asked}
-use Rattle.cfgx_grammar.specs.Grammar.{HasTree}
 use Rattle.cfgx_grammar.specs.Fold.{Operations, fold}
 use Rattle.cfg_expr.specs.Asking.{Asker, Calls, MayAskEach}
 use Rattle.cfgx_grammar.specs.Answer.{HasOneTree}
 use Rattle.cfg_expr.specs.Evaluation.{Evaluates, MayEvaluate}
-use Rattle.cfgx_parser.specs.nodes.Keeps.{Keeps, questions_at}
+use Rattle.cfgx_parser.specs.nodes.Keeps.{Keeps}
 use Rattle.cfgx_parser.specs.nodes.Prefix.{node_at}
 use Rattle.cfg_expr.specs.nodes.Steps.{Step, OpenList, all_steps, asked_in, most_open, most_values}
 use Rattle.cfg_expr.specs.nodes.Steps.{shape, text_list, walk}
 use Rattle.cfg_expr.specs.nodes.Measure.{Measures, Room}
 use Rattle.cfg_expr.specs.nodes.Machine.{CanTake, Ends, Goes, last_of, standing, run}
 use Rattle.cfgx_parser.specs.declared.nodes.ExprNode.{ExprNode}
-use Rattle.cfgx_parser.proofs.Asked.{questions_at-kept}
 use Rattle.cfg_expr.proofs.Chains.{Calls-length}
 use Rattle.cfg_expr.proofs.evaluated.Folding.{run-all}
 use Rattle.cfg_expr.proofs.evaluated.Rooms.{asked_in-all, short-room, values-all}

@@ -315,7 +315,8 @@ impl<'p, 'v, 'a, T: Logic, A: SmallAllocator> Evaluation<'p, 'v, 'a, T, A> {
 
     /// Ends the lists that have no member to come.
     fn end_all<EP: FnMut(&Predicate<'_>) -> T>(&mut self, lists: &mut OpenLists<A>, ep: &mut EP)
-        requires { CanGo EP.FnMut (standing_of ep.old self.old) (finishes (reverse lists.old.items)) }
+        requires { CanGo EP.FnMut (standing_of ep.old self.old)
+            (finishes (reverse lists.old.items)) }
         ensures lists { reverse lists.new.items ≡ still_open (reverse lists.old.items) }
         ensures capacity { lists.new.capacity ≡ lists.old.capacity }
         ensures goes { Goes T.Logic EP.FnMut (standing_of ep.old self.old)

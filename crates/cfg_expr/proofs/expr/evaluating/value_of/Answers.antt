@@ -1,5 +1,5 @@
 -- What the walk gives is the value of the text's tree.
-use Rattle.std.proofs.Common.{◌≡◌, ◌∙◌, ap, arith}
+use Rattle.std.proofs.Common.{◌∙◌, ap, arith}
 use Rattle.cfgx_grammar.specs.Tree.{asked}
 use Rattle.cfg_expr.proofs.evaluated.Valued.{Keeps-seen, short-fits, first_list, room-from}
 use Rattle.cfg_expr.proofs.evaluated.Valued.{CanTake-from, Leaves, Leaves-all, Evaluates-left}

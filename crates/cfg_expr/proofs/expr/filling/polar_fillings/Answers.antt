@@ -19,14 +19,16 @@ returns-in-Some-clause-fillings g c =
     let value = c.in_ok-value_over.ensures in
     (value.0, (c.in-Some.field-0, sym value.1 ∙ c.in-Some.is))
 
-pub returns-in_ok-fillings-in-None-clause-fillings : goal.returns-in_ok-fillings-in-None-clause-fillings
+pub returns-in_ok-fillings-in-None-clause-fillings
+    : goal.returns-in_ok-fillings-in-None-clause-fillings
 returns-in_ok-fillings-in-None-clause-fillings g c =
     let value = c.in_ok-value_over.ensures in
     let keeps = Keeps-seen c.expression.view_is c.expression.invariant.0 in
     let kept = subst (KeepsTree c.args.expression.now c.expression.inside.expr.items
     c.expression.inside.asked.items) (value.0.only keeps.one.tree keeps.one.has_tree)
     keeps.keeps in
-    let odds = rw c.as_slice-nodes.ensures at (c.deref.ensures.value ∙ c.in_ok-odds-in-None.ensures) in
+    let passed = c.deref.ensures.value ∙ c.in_ok-odds-in-None.ensures in
+    let odds = rw c.as_slice-nodes.ensures at passed in
     let is = polar-kept kept c.deref.result.now c.args.answers.now in
     let found = rw c.as_slice-places.ensures at c.in_ok-fillings-in-None.ensures in (
       value.0,

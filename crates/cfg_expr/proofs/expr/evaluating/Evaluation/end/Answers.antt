@@ -9,7 +9,8 @@ pub apply-requires : goal.apply-requires
 apply-requires g c =
     let now = standing_of c.ask_each.new.ep c.ask_each.new.self in
     let can = c.ask_each.ensures.can (Step.finish c.args.list.func ∷ c.requires.0) c.requires.1 in
-    (search (rules, g.met.T.Logic.small), room-finish _ now (Some c.in-Some.func) (_, rw c.in-Some.is at can))
+    let fits = room-finish _ now (Some c.in-Some.func) (_, rw c.in-Some.is at can) in
+    (search (rules, g.met.T.Logic.small), fits)
 
 pub returns-in-Some : goal.returns-in-Some
 returns-in-Some g c =
