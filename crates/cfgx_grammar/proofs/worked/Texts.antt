@@ -1,12 +1,12 @@
 -- Texts with their trees, texts without one, and what the parser's steps answer to both.
-use Rattle.std.proofs.Common.{◌≡◌, ℕ, ◌≤◌, List, [], ◌∷◌, Ok, Err, refl, sym, ap, ◌∙◌, subst}
-use Rattle.std.proofs.Common.{arith, drop, length, rules}
-use Rattle.std.specs.Prelude.{codes, Some, None, Result, slice_range}
+use Rattle.std.proofs.Common.{◌≡◌, ℕ, List, [], ◌∷◌, Ok, Err, refl, sym, ap, ◌∙◌}
+use Rattle.std.proofs.Common.{arith, rules}
+use Rattle.std.specs.Prelude.{codes, Some, None, Result}
 use Rattle.std.proofs.lemmas.Str.{NoCharPasses-nil}
 use Rattle.cfgx_syntax.specs.Error.{Refusal, unexpected, invalid_not, unclosed_parens}
 use Rattle.cfgx_syntax.specs.Error.{unopened_parens, multiple_root_predicates}
-use Rattle.cfgx_syntax.specs.Items.{Item, Ending, IsBlank, Stands, AreItems}
-use Rattle.cfgx_syntax.specs.Token.{Token, IsKey, Spells, IsWhole}
+use Rattle.cfgx_syntax.specs.Items.{Item, Ending, AreItems}
+use Rattle.cfgx_syntax.specs.Token.{Token, IsKey}
 use Rattle.cfgx_syntax.proofs.TokenList.{ItemsFrom-same}
 use Rattle.cfgx_grammar.specs.Answer.{HasNoTree}
 use Rattle.cfgx_grammar.specs.Classification.{class}
@@ -40,27 +40,14 @@ is_a = record {
   not_not = λ e. cc;
 }
 
--- an item with no white space in front of it
-here : (text : List ℕ) (i : Item) → slice_range text i.start i.start ≡ []
-    → Spells (slice_range text i.start i.end) i.token → i.start ≤ i.end → i.end ≤ length text
-    → IsWhole i.token (drop i.end text) → Stands text i.start i
-here text i none spelled ordered inside whole = record {
-  behind = omega arith;
-  gap = subst IsBlank (sym none) (NoCharPasses-nil _);
-  spelled = spelled;
-  ordered = ordered;
-  inside = inside;
-  whole = whole;
-}
-
 single_are : AreItems (codes "all(a)") single_items Ending.blank
-single_are = search (rules, here, is_a, NoCharPasses-nil)
+single_are = search (rules, is_a, NoCharPasses-nil)
 
 comma_are : AreItems (codes "any(,)") comma_items Ending.blank
-comma_are = search (rules, here, NoCharPasses-nil)
+comma_are = search (rules, NoCharPasses-nil)
 
 not_are : AreItems (codes "not()") not_items Ending.blank
-not_are = search (rules, here, NoCharPasses-nil)
+not_are = search (rules, NoCharPasses-nil)
 
 is_flag_a : IsItem (key_a ∷ []) (flag (codes "a"))
 unfolding class
