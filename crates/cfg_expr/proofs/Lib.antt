@@ -1,4 +1,3 @@
 pub mod Chains
-pub mod Functions
 pub mod evaluated
 pub mod filling

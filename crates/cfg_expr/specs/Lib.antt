@@ -1,3 +1,4 @@
 pub mod Asking
 pub mod Evaluation
+pub mod Value
 pub mod nodes

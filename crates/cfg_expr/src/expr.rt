@@ -11,6 +11,7 @@ ghost use Rattle.cfgx_grammar.specs.Regular.{IsRegular};
 
 mod evaluating;
 mod filling;
+mod spelling;
 
 use crate::error::Failure;
 use crate::memory::SmallAllocator;
@@ -19,12 +20,12 @@ pub use cfgx_parser::matcher::TargetMatcher;
 use cfgx_parser::nodes::ExprNode;
 use cfgx_parser::parser::Parser;
 pub use cfgx_parser::predicates::{Predicate, Predicates, TargetPredicate};
-pub use cfgx_parser::spelling::spell;
 pub use cfgx_syntax::logic::Logic;
 pub use cfgx_syntax::{lexer, logic};
 use evaluating::Room;
 use lexer::Lexer;
 use smallvec::SmallVec;
+pub use spelling::spell;
 use std::alloc::{AllocError, Allocator, Global};
 use std::fmt;
 use std::marker::Model;

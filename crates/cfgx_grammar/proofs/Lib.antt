@@ -2,9 +2,11 @@ pub mod Answering
 pub mod Arranging
 pub mod Classes
 pub mod Exactness
+pub mod Folding
 pub mod Matched
 pub mod Reading
 pub mod Stripped
+pub mod Writing
 pub mod accepted
 pub mod alone
 pub mod faults

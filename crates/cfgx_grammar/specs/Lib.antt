@@ -10,4 +10,5 @@ pub mod Question
 pub mod Regular
 pub mod Spelling
 pub mod Tree
+pub mod Writing
 pub mod parsing

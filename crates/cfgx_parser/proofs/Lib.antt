@@ -1,9 +1,10 @@
 pub mod Asked
 pub mod Bounded
+pub mod Functions
 pub mod Kept
 pub mod Labels
 pub mod Parsed
 pub mod Reading
+pub mod Sizes
 pub mod Worked
-pub mod Writing
 pub mod spelled

@@ -1,5 +1,4 @@
 pub mod Order
 pub mod Predicate
-pub mod Writing
 pub mod nodes
 pub mod parsing

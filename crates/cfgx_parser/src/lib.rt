@@ -9,4 +9,3 @@ pub mod memory;
 pub mod nodes;
 pub mod parser;
 pub mod predicates;
-pub mod spelling;

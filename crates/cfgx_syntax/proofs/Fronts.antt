@@ -218,6 +218,11 @@ Spells-starts bytes Token.open_paren is = (40, [], is, refl)
 Spells-starts bytes Token.close_paren is = (41, [], is, refl)
 Spells-starts bytes Token.comma is = (44, [], is, refl)
 
+-- a token takes a byte at least
+pub Spells-some : (bytes : List ℕ) (token : Token) → Spells bytes token → 1 ≤ length bytes
+Spells-some bytes token spells =
+    let starts = Spells-starts bytes token spells in omega (arith, ap length starts.2)
+
 Starts-more : (bytes others : List ℕ) → Starts bytes → Starts (bytes ++ others)
 Starts-more bytes others (c, more, is, starts) =
     (c, more ++ others, ap (λ l. l ++ others) is, starts)

@@ -6,6 +6,7 @@ pub mod Fronts
 pub mod Lanes
 pub mod Repeated
 pub mod Scanning
+pub mod Sizes
 pub mod TokenList
 pub mod Values
 pub mod Words

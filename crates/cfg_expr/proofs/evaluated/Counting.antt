@@ -6,7 +6,9 @@ use Rattle.cfgx_grammar.specs.Tree.{Tree, Trees, count, is_function}
 use Rattle.cfg_expr.specs.nodes.Steps.{Step, OpenList, asks, leaves, most_values, most_open}
 use Rattle.cfg_expr.specs.nodes.Steps.{height_behind, finishes, still_open, IsOpen}
 use Rattle.cfg_expr.specs.nodes.Steps.{entered, over_top, steps_at, begun, walk, RoomFor, shape}
-use Rattle.cfg_expr.specs.nodes.Steps.{with_leaf, with_function}
+use Rattle.cfg_expr.specs.nodes.Steps.{with_leaf, with_function, members_of, steps_of}
+use Rattle.cfg_expr.specs.nodes.Steps.{steps_of_each}
+use Rattle.cfgx_parser.proofs.Functions.{IsFunction}
 use Rattle.cfg_expr.specs.nodes.Measure.{needed, NeedSame, CanCount}
 use Rattle.cfg_expr.specs.declared.expr.evaluating.Heights.{Heights}
 use Rattle.cfgx_parser.specs.declared.function.Func.{Func}
@@ -14,6 +16,21 @@ use Rattle.std.proofs.Math.ListN.{drop_of_length-le}
 use Rattle.std.proofs.lemmas.List.{drop_more, length-reverse}
 use Rattle.smallvec.specs.SmallVec.{SmallVec}
 use Rattle.cfgx_parser.specs.declared.nodes.ExprNode.{ExprNode}
+
+-- a function by its members
+
+pub count_is : {tree : Tree} {func : Func} {trees : Trees} → IsFunction tree func trees
+    → members_of func ≡ count trees
+count_is (IsFunction.all trees) = refl
+count_is (IsFunction.any trees) = refl
+count_is (IsFunction.not tree) = refl
+
+pub steps_are : {tree : Tree} {func : Func} {trees : Trees} → IsFunction tree func trees
+    → (steps : List Step) → steps_of tree steps
+    ≡ Step.begin ∷ steps_of_each trees (asks (leaves trees) (Step.finish (Some func) ∷ steps))
+steps_are (IsFunction.all trees) steps = refl
+steps_are (IsFunction.any trees) steps = refl
+steps_are (IsFunction.not tree) steps = refl
 
 -- how many members of a list are functions
 abbrev pub one_if_function : Tree → ℕ

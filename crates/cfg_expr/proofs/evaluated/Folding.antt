@@ -1,16 +1,17 @@
 -- The steps of a tree make its value.
 use Rattle.std.proofs.Common.{◌≡◌, ℕ, suc, ◌+◌, ◌≤◌, true, List, [], ◌∷◌}
 use Rattle.std.proofs.Common.{◌++◌, length, take, drop, Option, Some, None, sym, refl, ap, ◌∙◌}
-use Rattle.std.proofs.Common.{arith, drop-drop, length-append, length-drop}
+use Rattle.std.proofs.Common.{arith, length-append, length-drop}
 use Rattle.std.specs.Prelude.{fold}
-use Rattle.cfgx_grammar.specs.Question.{Question}
 use Rattle.cfgx_grammar.specs.Tree.{Tree, Trees, is_function, is_leaf, count, asked, asked_by}
 use Rattle.cfgx_grammar.specs.Fold.{Operations, from_last, first_or, behind, values_by}
 use Rattle.cfgx_grammar.specs.Fold as tree_value
 use Rattle.cfg_expr.specs.nodes.Steps.{Step, asks, leaves, steps_of, steps_of_each, all_steps}
 use Rattle.cfg_expr.specs.nodes.Machine.{applied, finished, joined, run}
 use Rattle.cfgx_parser.specs.declared.function.Func.{Func}
-use Rattle.cfg_expr.proofs.Functions.{IsFunction, asked_are, by_list, steps_are}
+use Rattle.cfgx_grammar.proofs.Folding.{behind-both, length-values}
+use Rattle.cfgx_parser.proofs.Functions.{IsFunction, asked_are, by_list}
+use Rattle.cfg_expr.proofs.evaluated.Counting.{steps_are}
 
 -- the values lie on those below, the last one on top
 abbrev on : {T : Type 0} → List T → List (Option T) → List (Option T)
@@ -32,14 +33,6 @@ taken join begin n k [] below is = let same : n ≡ k = omega arith in rw same (
 taken join begin n k (value ∷ values) below is =
     taken join begin n (suc k) values (Some value ∷ below) (omega arith)
 
--- parts of the answers
-
--- what two lists of questions leave of the answers
-behind-both : {T : Type 0} (xs ys : List Question) (answers : List T)
-    → behind ys (behind xs answers) ≡ behind (xs ++ ys) answers
-behind-both xs ys answers = drop-drop (length ys) (length xs) answers
-    ∙ ap (λ n. drop n answers) (sym (length-append xs ys))
-
 module _ {T : Type 0} (logic : Operations T) where
   -- the leaves of a list are asked one after another
   run-asks : (trees : Trees) (steps : List Step) (values : List (Option T)) (answers : List T)
@@ -53,16 +46,6 @@ module _ {T : Type 0} (logic : Operations T) where
       run-asks trees steps (Some answer ∷ values) answers (omega arith)
   run-asks (Trees.more tree trees) steps values answers enough =
       run-asks trees steps values answers enough
-
-  -- a list has as many values as members
-  length-values : (trees : Trees) (answers others : List T)
-      → count trees ≡ length (values_by logic is_function trees answers)
-      + length (values_by logic is_leaf trees others)
-  length-values Trees.none answers others = refl
-  length-values (Trees.more (Tree.leaf question) trees) answers others =
-      omega (arith, length-values trees answers (behind (question ∷ []) others))
-  length-values (Trees.more tree trees) answers others =
-      omega (arith, length-values trees (behind (asked tree) answers) others)
 
   -- the values of a list's members as they are arranged
   abbrev arranged_values : Trees → List T → List T
@@ -80,7 +63,7 @@ module _ {T : Type 0} (logic : Operations T) where
       let own = behind (asked_by is_function trees) answers in
       let all = taken join begin (count trees) 0 (arranged_values trees answers) below (omega (
         arith,
-        length-values trees answers own,
+        length-values logic trees answers own,
         length-append (values_by logic is_function trees answers)
             (values_by logic is_leaf trees own),
       )) in

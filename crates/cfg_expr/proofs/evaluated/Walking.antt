@@ -12,9 +12,8 @@ use Rattle.cfg_expr.specs.nodes.Steps.{over_top, shape, finishes, still_open, wa
 use Rattle.cfgx_parser.specs.declared.function.Func.{Func}
 use Rattle.cfgx_parser.specs.declared.nodes.ExprNode.{ExprNode}
 use Rattle.cfgx_parser.specs.declared.nodes.ExprNode.TheVariants as node
-use Rattle.cfg_expr.proofs.Functions.{IsFunction, by_list, count_is, function_is, nodes_are}
-use Rattle.cfg_expr.proofs.Functions.{steps_are}
-use Rattle.cfg_expr.proofs.evaluated.Counting.{functions, count-split}
+use Rattle.cfgx_parser.proofs.Functions.{IsFunction, by_list, function_is, nodes_are}
+use Rattle.cfg_expr.proofs.evaluated.Counting.{count_is, steps_are, functions, count-split}
 
 abbrev shape_of : Node → Option Func
 shape_of (Node.leaf question) = None

@@ -1,5 +1,5 @@
 use Rattle.cfgx_grammar.proofs.alone.Whole.{spelling_alone}
-use Rattle.cfgx_parser.proofs.spelling.spell.Goals as goal
+use Rattle.cfg_expr.proofs.expr.spelling.spell.Goals as goal
 
 pub returns-clause-alone : goal.returns-clause-alone
 returns-clause-alone g c = λ regular. spelling_alone _ regular

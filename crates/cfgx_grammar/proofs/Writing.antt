@@ -4,7 +4,7 @@ use Rattle.std.proofs.Common.{sym, ◌∙◌, append_assoc}
 use Rattle.std.specs.Io.KnownBytes.{Appends}
 use Rattle.std.specs.Prelude.{codes}
 use Rattle.cfgx_grammar.specs.Spelling.{with_value}
-use Rattle.cfgx_parser.specs.Writing.{Takes, TakesFront, Writes}
+use Rattle.cfgx_grammar.specs.Writing.{Takes, TakesFront, Writes}
 
 -- known bytes that grow twice
 pub appends_twice : (old mid new : Option (List ℕ)) (first second : List ℕ)

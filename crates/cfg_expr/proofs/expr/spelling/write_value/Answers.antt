@@ -1,7 +1,7 @@
 use Rattle.std.specs.Prelude.{Err}
 use Rattle.std.proofs.lemmas.Result.{err_from_is_err_and}
-use Rattle.cfgx_parser.proofs.Writing.{front_of_first, writes_second, value_parts}
-use Rattle.cfgx_parser.proofs.spelling.write_value.Goals as goal
+use Rattle.cfgx_grammar.proofs.Writing.{front_of_first, writes_second, value_parts}
+use Rattle.cfg_expr.proofs.expr.spelling.write_value.Goals as goal
 
 -- the key was not written whole
 pub returns-in_err-write_key : goal.returns-in_err-write_key

@@ -1,8 +1,8 @@
 use Rattle.std.proofs.Common.{arith}
 use Rattle.std.proofs.lemmas.Fmt.{decimal_digit, decimal_step}
 use Rattle.std.proofs.lemmas.Result.{err_from_is_err_and}
-use Rattle.cfgx_parser.proofs.Writing.{front_of_first, writes_second}
-use Rattle.cfgx_parser.proofs.spelling.+write_decimal.Goals as goal
+use Rattle.cfgx_grammar.proofs.Writing.{front_of_first, writes_second}
+use Rattle.cfg_expr.proofs.expr.spelling.+write_decimal.Goals as goal
 
 -- one digit
 pub returns-then-number-lt10 : goal.returns-then-number-lt10

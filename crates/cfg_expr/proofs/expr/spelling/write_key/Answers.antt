@@ -1,7 +1,7 @@
 use Rattle.std.proofs.Common.{sym}
 use Rattle.std.proofs.lemmas.Result.{err_from_is_err_and}
-use Rattle.cfgx_parser.proofs.Writing.{front_of_first, writes_second}
-use Rattle.cfgx_parser.proofs.spelling.write_key.Goals as goal
+use Rattle.cfgx_grammar.proofs.Writing.{front_of_first, writes_second}
+use Rattle.cfg_expr.proofs.expr.spelling.write_key.Goals as goal
 
 -- the key was not written whole
 pub returns-in_err-write_bytes : goal.returns-in_err-write_bytes

@@ -1,6 +1,6 @@
 use Rattle.std.proofs.Common.{length}
-use Rattle.cfgx_parser.specs.Writing.{Takes}
-use Rattle.cfgx_parser.proofs.spelling.write_bytes.Given as goal
+use Rattle.cfgx_grammar.specs.Writing.{Takes}
+use Rattle.cfg_expr.proofs.expr.spelling.write_bytes.Given as goal
 
 -- the bytes in front of `left` were taken
 abbrev pub invariant-loop-left : goal.invariant-loop-left

@@ -1,4 +1,4 @@
-use Rattle.cfgx_parser.proofs.spelling.+write_decimal.Given as goal
+use Rattle.cfg_expr.proofs.expr.spelling.+write_decimal.Given as goal
 
 abbrev pub decreases-write_decimal : goal.decreases-write_decimal
 decreases-write_decimal g l = l.number

@@ -1,10 +1,9 @@
 -- The functions `all`, `any` and `not` as one kind of tree: a function and its members.
-use Rattle.std.proofs.Common.{◌≡◌, true, List, ◌∷◌, ◌++◌, sym, refl, ap, ◌∙◌, Some}
+use Rattle.std.proofs.Common.{◌≡◌, true, ◌++◌, sym, refl, ap, ◌∙◌}
 use Rattle.std.proofs.lemmas.List.{append-nil}
 use Rattle.cfgx_grammar.specs.Question.{Question}
 use Rattle.cfgx_grammar.specs.Tree.{Tree, Trees, is_function, is_leaf, count, asked, asked_by}
 use Rattle.cfgx_parser.specs.nodes.Prefix.{headed, prefix, prefix_each}
-use Rattle.cfg_expr.specs.nodes.Steps.{Step, asks, leaves, members_of, steps_of, steps_of_each}
 use Rattle.cfgx_parser.specs.declared.function.Func.{Func}
 use Rattle.cfgx_parser.specs.declared.function.Func.TheVariants.{Not, All, Any}
 
@@ -18,19 +17,6 @@ pub function_is : {tree : Tree} {func : Func} {trees : Trees} → IsFunction tre
 function_is (IsFunction.all trees) = refl
 function_is (IsFunction.any trees) = refl
 function_is (IsFunction.not tree) = refl
-
-pub count_is : {tree : Tree} {func : Func} {trees : Trees} → IsFunction tree func trees
-    → members_of func ≡ count trees
-count_is (IsFunction.all trees) = refl
-count_is (IsFunction.any trees) = refl
-count_is (IsFunction.not tree) = refl
-
-pub steps_are : {tree : Tree} {func : Func} {trees : Trees} → IsFunction tree func trees
-    → (steps : List Step) → steps_of tree steps
-    ≡ Step.begin ∷ steps_of_each trees (asks (leaves trees) (Step.finish (Some func) ∷ steps))
-steps_are (IsFunction.all trees) steps = refl
-steps_are (IsFunction.any trees) steps = refl
-steps_are (IsFunction.not tree) steps = refl
 
 pub nodes_are : {tree : Tree} {func : Func} {trees : Trees} → IsFunction tree func trees
     → prefix tree ≡ headed func (prefix_each trees)

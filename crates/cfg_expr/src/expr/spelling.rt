@@ -7,9 +7,10 @@ ghost use Rattle.cfgx_targets.specs.HasAtomic.{atomic_text};
 ghost use Rattle.cfgx_parser.specs.Predicate.{question_of, target_of};
 ghost use Rattle.cfgx_grammar.specs.Regular.{IsAlone, IsRegular};
 ghost use Rattle.cfgx_grammar.specs.Spelling.{spelling, target_spelling, with_value};
-ghost use Rattle.cfgx_parser.specs.Writing.{Takes, Writes, value_bytes};
+ghost use Rattle.cfgx_grammar.specs.Writing.{Takes, Writes};
+ghost use Rattle.cfg_expr.specs.Value.{value_bytes};
 
-use crate::predicates::{Predicate, TargetPredicate};
+use cfgx_parser::predicates::{Predicate, TargetPredicate};
 use cfgx_targets::atomic::HasAtomic;
 use cfgx_targets::endian::Endian;
 use std::io::{self, ErrorKind, Write};

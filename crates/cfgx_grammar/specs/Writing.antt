@@ -1,10 +1,7 @@
--- What a writer has taken of some bytes, and the bytes of a value.
+-- What a writer has taken of some bytes.
 -- Source: the documentation of `std::io::Write::write`.
 use Rattle.std.specs.Prelude.{◌≡◌, ℕ, List, ◌++◌, Option, Result, Ok, Err}
-use Rattle.std.specs.Fmt.{decimal}
 use Rattle.std.specs.Io.KnownBytes.{Appends}
-use Rattle.cfgx_parser.specs.declared.spelling.Value.{Value}
-use Rattle.cfgx_parser.specs.declared.spelling.Value.TheVariants.{Text, Number}
 
 -- a writer has taken `bytes` up to where `left` begins; it says nothing of a writer that does not
 -- tell its bytes
@@ -22,8 +19,3 @@ abbrev pub Writes : {E : Type 0} → Option (List ℕ) → Option (List ℕ) →
     → List ℕ → Type 0
 Writes old new (Ok done) bytes = Appends old new bytes
 Writes old new (Err error) bytes = TakesFront old new bytes
-
--- a value as it is written: a text, or a number in decimal
-abbrev pub value_bytes : Value → List ℕ
-value_bytes (Text text) = text.now
-value_bytes (Number number) = decimal number
