@@ -139,8 +139,8 @@ impl Logic for Option<bool> {
         ensures { result ≡ kleene_or self other }
     {
         match (self, other) {
-            (Some(true), _) | (_, Some(true)) => Some(true),
             (Some(false), Some(false)) => Some(false),
+            (Some(true), _) | (_, Some(true)) => Some(true),
             _ => None,
         }
     }

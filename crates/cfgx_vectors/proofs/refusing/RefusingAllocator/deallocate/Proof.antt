@@ -41,11 +41,11 @@ use Rattle.cfgx_vectors.proofs.refusing.RefusingAllocator.deallocate.Statement.{
 use Rattle.cfgx_vectors.proofs.refusing.RefusingAllocator.deallocate.Code as code
 
 module _ (Z : Al) where
-  abbrev function : Fn
-  function = inst_fn (type_args Z) code.function
-
   abbrev parts : Ended
   parts = f.ended Z.row Z.g Z.d Z.drops
+
+  abbrev function : Fn
+  function = inst_fn (type_args Z) code.function
 
   abbrev spent : Stays parts.signature.params parts.kept
   spent = (
