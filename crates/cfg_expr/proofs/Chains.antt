@@ -106,7 +106,7 @@ pub Evaluates-taken : {F T : Type 0} {logic : Operations T} {asker : Asker F T} 
     → Asks asker before question given after
     → (given ≡ first_or otherwise (seen before)) × (seen after ≡ drop 1 (seen before)))
     → seen before ≡ answers
-    → (tree : Tree) × HasTree text tree × (length answers ≡ length (asked tree))
+    → (tree : Tree Question) × HasTree text tree × (length answers ≡ length (asked tree))
     → (one : HasOneTree text) × (value ≡ tree_value.fold logic one.tree answers)
 Evaluates-taken {logic} {asker} {before} {after} seen otherwise answers e each are tree =
     let many : length (seen before) ≡ length (asked e.one.tree) = ap length are ∙ tree.2

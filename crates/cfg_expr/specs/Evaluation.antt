@@ -18,4 +18,4 @@ module _ {F T : Type 0} (logic : Operations T) (asker : Asker F T) where
 -- the closure may be asked what the text's tree asks
 abbrev pub MayEvaluate : {F T : Type 0} → Asker F T → List ℕ → F → Type 0
 MayEvaluate asker text state =
-    (tree : Tree) → HasTree text tree → MayAskEach asker state (asked tree)
+    (tree : Tree Question) → HasTree text tree → MayAskEach asker state (asked tree)

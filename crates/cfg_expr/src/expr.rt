@@ -191,7 +191,7 @@ impl<A: SmallAllocator> Expression<A> {
         alloc: A,
         answers: &[Option<bool>],
     ) -> Result<Option<(Vec<bool, A>, Vec<bool, A>)>, AllocError>
-        requires { (tree : Tree) × HasTree self.now tree
+        requires { (tree : Tree Question) × HasTree self.now tree
             × (length answers.now ≡ length (asked tree)) }
         // This holds of all answers to the text's one tree, also where memory runs out.
         ensures exact { (one : HasOneTree self.now) × ((given : List (Option Bool))

@@ -116,7 +116,7 @@ same_on text one other (Some row) this that =
 same_list : (text : List ℕ) (one other : Output) → Lists text one → Lists text other
     → one ≡ other
 same_list text one other this that =
-    this.1 ∙ ap (λ (tree : Tree). record { bytes = lines (asked tree); status = 0 })
+    this.1 ∙ ap (λ (tree : Tree Question). record { bytes = lines (asked tree); status = 0 })
     (sym (same_tree (strip text) this.0 that.0)) ∙ sym that.1
 
 -- a request has one output

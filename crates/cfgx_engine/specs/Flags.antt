@@ -31,7 +31,7 @@ unknown_texts flags = map strip (filter_map unknown_text flags)
 
 -- the text's tree asks the question
 abbrev pub Names : List ℕ → Question → Type 0
-Names text question = (tree : Tree) × HasTree text tree × Contains (asked tree) question
+Names text question = (tree : Tree Question) × HasTree text tree × Contains (asked tree) question
 
 -- one of the texts names the predicate
 abbrev pub IsNamed : List (List ℕ) → Question → Type 0

@@ -3,6 +3,7 @@ use Rattle.std.proofs.Common.{◌≡◌, ◌⊎◌, inl, inr, ℕ, List, [], ◌
 use Rattle.std.proofs.Common.{Err, sym, refl, ap, ◌∙◌, subst}
 use Rattle.cfgx_syntax.specs.Items.{Ending, AreItems, HasOneTokenList, lexical}
 use Rattle.cfgx_syntax.specs.Error.{Refusal}
+use Rattle.cfgx_grammar.specs.Question.{Question}
 use Rattle.cfgx_grammar.specs.Tree.{Tree}
 use Rattle.cfgx_grammar.specs.Grammar.{IsTree, HasTree}
 use Rattle.cfgx_grammar.specs.FirstFault.{HasFault, first_fault}
@@ -37,12 +38,12 @@ module _ {W M L : Type 0} {builder : Builder W M L} (text : List ℕ)
   answer = answer_from initial text one.items one.ending
 
   -- what is found for a tree
-  pub record FindsTree (laws : Laws builder) (tree : Tree) : Type 0 where
+  pub record FindsTree (laws : Laws builder) (tree : Tree Question) : Type 0 where
     pub found : Finds laws (length text) one.items tree
     pub answers : answer ≡ Ok found.whole
 
   -- a tree is spelled by the one token list
-  pub FindsTree-tree : (laws : Laws builder) (tree : Tree) → HasTree text tree
+  pub FindsTree-tree : (laws : Laws builder) (tree : Tree Question) → HasTree text tree
       → FindsTree laws tree
   FindsTree-tree laws tree has =
       let same = one.only has.items Ending.blank has.are_items in
@@ -63,7 +64,7 @@ module _ {W M L : Type 0} {builder : Builder W M L} (text : List ℕ)
   ended_blank (Ending.no_token place) s u is = absurd (cc)
   ended_blank (Ending.unclosed_quotes place) s u is = absurd (cc)
 
-  pub tree_of : (u : State builder) → answer ≡ Ok u → (tree : Tree) × HasTree text tree
+  pub tree_of : (u : State builder) → answer ≡ Ok u → (tree : Tree Question) × HasTree text tree
   tree_of u e =
       let r = ran (run initial one.items) (ended_as text (lexical text one.ending)) u e in
       let ended = ended_blank one.ending r.0 u r.2 in
@@ -85,7 +86,7 @@ module _ {W M L : Type 0} {builder : Builder W M L} (text : List ℕ)
 
 module _ (text : List ℕ) (one : HasOneTokenList text) where
   -- the tree of a text is one: it is what the parser builds that builds the tree
-  pub HasOneTree-tree : (tree : Tree) → HasTree text tree → HasOneTree text
+  pub HasOneTree-tree : (tree : Tree Question) → HasTree text tree → HasOneTree text
   HasOneTree-tree tree has = record {
     tree = tree;
     has_tree = has;

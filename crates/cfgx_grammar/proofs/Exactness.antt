@@ -1,40 +1,23 @@
 -- Three values are exact: a value is known exactly where every filling leads to it.
-use Rattle.std.proofs.Common.{◌≡◌, ℕ, zero, suc, ◌+◌, ◌≤◌, Bool, true, false, not, ◌&&◌}
-use Rattle.std.proofs.Common.{◌||◌, List, [], ◌∷◌, ◌++◌, length, drop, Option, Some, None, sym}
-use Rattle.std.proofs.Common.{refl}
-use Rattle.std.proofs.Common.{ap, ◌∙◌, subst, arith, append_assoc, length-append, drop_at}
-use Rattle.std.proofs.Common.{drop-drop}
-use Rattle.std.proofs.Common.{length-drop, drop_of_length-le}
-use Rattle.std.specs.Prelude.{if◌then◌else◌, unwrap_or}
+use Rattle.std.proofs.Common.{◌≡◌, Bool, true, false, not, ◌&&◌, ◌||◌, List, [], ◌∷◌, ◌++◌}
+use Rattle.std.proofs.Common.{length, Option, Some, None, sym, refl, ap, ◌∙◌, subst}
+use Rattle.std.specs.Prelude.{unwrap_or}
 use Rattle.std.specs.List.{AllZip}
 use Rattle.std.proofs.lemmas.Bool.{true≢false}
-use Rattle.std.proofs.lemmas.List.{append-nil}
 use Rattle.cfgx_syntax.specs.Logic.{kleene_and, kleene_or, kleene_not}
-use Rattle.cfgx_grammar.specs.Tree.{Tree, Trees, is_function, is_leaf, asked, asked_by}
-use Rattle.cfgx_grammar.specs.Fold.{Operations, from_last, first_or, behind, fold, values_by}
-use Rattle.cfgx_grammar.specs.Filling.{two_valued, three_valued, Agrees, IsFilling, polar, polar_by}
-use Rattle.cfgx_grammar.specs.Filling.{IsExact}
+use Rattle.cfgx_grammar.specs.Tree.{Tree, Trees, is_function, is_leaf, asked}
+use Rattle.cfgx_grammar.specs.Fold.{Operations, from_last, value_of, values_by, answered, fold}
+use Rattle.cfgx_grammar.specs.Filling.{two_valued, three_valued, Agrees, IsFilling, IsExact}
+use Rattle.cfgx_grammar.specs.Filling.{filled, filled_each, polar}
+use Rattle.cfgx_grammar.proofs.Alike.{Alike, AlikeEach, SameShape, SameShapes, SameTests}
+use Rattle.cfgx_grammar.proofs.Alike.{AllZip-append, AllZip-if, same_functions, same_leaves}
+use Rattle.cfgx_grammar.proofs.Alike.{asked-alike, answered-alike, answered-shape}
+use Rattle.cfgx_grammar.proofs.Dealing.{answered-asked, asked-answered}
 
 -- Values of two logics that are related stay so.
 
-AllZip-drop : {T U : Type 0} (R : T → U → Type 0) (n : ℕ) (xs : List T) (ys : List U)
-    → AllZip R xs ys → AllZip R (drop n xs) (drop n ys)
-AllZip-drop R zero xs ys all = all
-AllZip-drop R (suc n) [] [] all = all
-AllZip-drop R (suc n) [] (y ∷ ys) all = absurd all
-AllZip-drop R (suc n) (x ∷ xs) [] all = absurd all
-AllZip-drop R (suc n) (x ∷ xs) (y ∷ ys) all = AllZip-drop R n xs ys all.1
-
-AllZip-append : {T U : Type 0} (R : T → U → Type 0) (xs others : List T) (ys more : List U)
-    → AllZip R xs ys → AllZip R others more → AllZip R (xs ++ others) (ys ++ more)
-AllZip-append R [] others [] more all rest = rest
-AllZip-append R [] others (y ∷ ys) more all rest = absurd all
-AllZip-append R (x ∷ xs) others [] more all rest = absurd all
-AllZip-append R (x ∷ xs) others (y ∷ ys) more all rest =
-    (all.0, AllZip-append R xs others ys more all.1 rest)
-
--- the operations of two logics keep a relation of their values
-pub record Keeps {T U : Type 0} (one : Operations T) (other : Operations U)
+-- the operations of two logics preserve a relation of their values
+pub record Preserve {T U : Type 0} (one : Operations T) (other : Operations U)
     (R : T → U → Type 0) : Type 0 where
   pub top : R one.top other.top
   pub bottom : R one.bottom other.bottom
@@ -43,7 +26,7 @@ pub record Keeps {T U : Type 0} (one : Operations T) (other : Operations U)
   pub not : (x : T) (u : U) → R x u → R (one.not x) (other.not u)
 
 module _ {T U : Type 0} (one : Operations T) (other : Operations U) (R : T → U → Type 0)
-    (keeps : Keeps one other R) where
+    (preserve : Preserve one other R) where
   from_last_kept : (join : T → T → T) (joined : U → U → U) (begin : T) (begun : U)
       → R begin begun
       → ((x y : T) (u v : U) → R x u → R y v → R (join x y) (joined u v))
@@ -56,59 +39,37 @@ module _ {T U : Type 0} (one : Operations T) (other : Operations U) (R : T → U
       each (from_last join begin xs) x (from_last joined begun ys) y
       (from_last_kept join joined begin begun base each xs ys all.1) all.0
 
-  first_kept : (xs : List T) (ys : List U) → AllZip R xs ys
-      → R (first_or one.top xs) (first_or other.top ys)
-  first_kept [] [] all = keeps.top
-  first_kept [] (y ∷ ys) all = absurd all
-  first_kept (x ∷ xs) [] all = absurd all
-  first_kept (x ∷ xs) (y ∷ ys) all = all.0
-
-  values_kept : (trees : Trees) (xs : List T) (ys : List U) → AllZip R xs ys
-      → ((test : Tree → Bool) (us : List T) (vs : List U) → AllZip R us vs
-      → AllZip R (values_by one test trees us) (values_by other test trees vs))
-      → AllZip R (values_by one is_function trees xs
-      ++ values_by one is_leaf trees (behind (asked_by is_function trees) xs))
-      (values_by other is_function trees ys
-      ++ values_by other is_leaf trees (behind (asked_by is_function trees) ys))
-  values_kept trees xs ys all each =
-      let n = length (asked_by is_function trees) in
-      AllZip-append R _ _ _ _ (each is_function xs ys all)
-      (each is_leaf (drop n xs) (drop n ys) (AllZip-drop R n xs ys all))
-
   mutual
-    -- related answers lead to related values
-    pub fold_kept : (tree : Tree) (xs : List T) (ys : List U) → AllZip R xs ys
-        → R (fold one tree xs) (fold other tree ys)
-    fold_kept (Tree.leaf question) xs ys all = first_kept xs ys all
-    fold_kept (Tree.all trees) xs ys all =
-        from_last_kept one.and other.and one.top other.top keeps.top keeps.and _ _
-        (values_kept trees xs ys all (λ test us vs. values_by_kept test trees us vs))
-    fold_kept (Tree.any trees) xs ys all =
-        from_last_kept one.or other.or one.bottom other.bottom keeps.bottom keeps.or _ _
-        (values_kept trees xs ys all (λ test us vs. values_by_kept test trees us vs))
-    fold_kept (Tree.not tree) xs ys all = keeps.not _ _ (fold_kept tree xs ys all)
+    -- leaves that are related make related values
+    pub value_kept : (x : Tree T) (y : Tree U) → Alike R x y
+        → R (value_of one x) (value_of other y)
+    value_kept _ _ (Alike.leaf x y related) = related
+    value_kept _ _ (Alike.all xs ys each) =
+        from_last_kept one.and other.and one.top other.top preserve.top preserve.and _ _
+        (AllZip-append R _ _ _ _
+        (values_kept is_function is_function (same_functions R) xs ys each)
+        (values_kept is_leaf is_leaf (same_leaves R) xs ys each))
+    value_kept _ _ (Alike.any xs ys each) =
+        from_last_kept one.or other.or one.bottom other.bottom preserve.bottom preserve.or _ _
+        (AllZip-append R _ _ _ _
+        (values_kept is_function is_function (same_functions R) xs ys each)
+        (values_kept is_leaf is_leaf (same_leaves R) xs ys each))
+    value_kept _ _ (Alike.not x y alike) = preserve.not _ _ (value_kept x y alike)
 
-    values_by_kept : (test : Tree → Bool) (trees : Trees) (xs : List T) (ys : List U)
-        → AllZip R xs ys
-        → AllZip R (values_by one test trees xs) (values_by other test trees ys)
-    values_by_kept test Trees.none xs ys all = tt
-    values_by_kept test (Trees.more tree trees) xs ys all =
-        let n = length (asked tree) in
-        chosen (test tree) (fold_kept tree xs ys all)
-        (values_by_kept test trees (drop n xs) (drop n ys) (AllZip-drop R n xs ys all))
-        (values_by_kept test trees xs ys all)
-      where
-        chosen : (b : Bool) → R (fold one tree xs) (fold other tree ys)
-            → AllZip R (values_by one test trees (behind (asked tree) xs))
-            (values_by other test trees (behind (asked tree) ys))
-            → AllZip R (values_by one test trees xs) (values_by other test trees ys)
-            → AllZip R (if b then fold one tree xs
-            ∷ values_by one test trees (behind (asked tree) xs) else values_by one test trees xs)
-            (if b then fold other tree ys
-            ∷ values_by other test trees (behind (asked tree) ys)
-            else values_by other test trees ys)
-        chosen true here more without = (here, more)
-        chosen false here more without = without
+    values_kept : (f : Tree T → Bool) (g : Tree U → Bool) → SameTests R f g
+        → (xs : Trees T) (ys : Trees U) → AlikeEach R xs ys
+        → AllZip R (values_by one f xs) (values_by other g ys)
+    values_kept f g same _ _ AlikeEach.none = tt
+    values_kept f g same _ _ (AlikeEach.more x y xs ys first rest) =
+        let others = values_kept f g same xs ys rest in
+        AllZip-if R (f x) (g y) (same x y first) (value_of one x ∷ []) (values_by one f xs)
+        (value_of other y ∷ []) (values_by other g ys) (value_kept x y first, others) others
+
+  -- and so do answers that are related
+  pub fold_kept : {X : Type 0} (tree : Tree X) (xs : List T) (ys : List U) → AllZip R xs ys
+      → R (fold one tree xs) (fold other tree ys)
+  fold_kept tree xs ys all =
+      value_kept _ _ (answered-alike R one.top other.top preserve.top tree xs ys all)
 
 -- a filling makes a known value
 
@@ -143,7 +104,7 @@ agrees_not (Some true) u p = ap not p
 agrees_not (Some false) u p = ap not p
 agrees_not None u p = tt
 
-agreement : Keeps three_valued two_valued Agrees
+agreement : Preserve three_valued two_valued Agrees
 agreement = record {
   top = refl;
   bottom = refl;
@@ -153,7 +114,7 @@ agreement = record {
 }
 
 -- what is known holds under every filling
-pub known_filled : (tree : Tree) (answers : List (Option Bool)) (filling : List Bool) (value : Bool)
+pub known_filled : {X : Type 0} (tree : Tree X) (answers : List (Option Bool)) (filling : List Bool) (value : Bool)
     → fold three_valued tree answers ≡ Some value → IsFilling answers filling
     → fold two_valued tree filling ≡ value
 known_filled tree answers filling value is fills =
@@ -212,247 +173,97 @@ any_sides fill [] = refl
 any_sides fill (value ∷ values) = ap (λ b. b || side fill value) (any_sides fill values)
     ∙ (side_joined fill (from_last kleene_or (Some false) values) value).1
 
-length-polar_list : (trees : Trees) (answers : List (Option Bool)) (fill : Bool)
-    → ((test : Tree → Bool) (others : List (Option Bool))
-    → length (polar_by test trees others fill) ≡ length (asked_by test trees))
-    → length (polar_by is_function trees answers fill
-    ++ polar_by is_leaf trees (behind (asked_by is_function trees) answers) fill)
-    ≡ length (asked_by is_function trees ++ asked_by is_leaf trees)
-length-polar_list trees answers fill each =
-    let inner = each is_function answers in
-    let own = each is_leaf (behind (asked_by is_function trees) answers) in
-    length-append (polar_by is_function trees answers fill) _
-    ∙ ap (λ n. n + length (polar_by is_leaf trees (behind (asked_by is_function trees) answers)
-    fill)) inner ∙ ap (λ n. length (asked_by is_function trees) + n) own
-    ∙ sym (length-append (asked_by is_function trees) (asked_by is_leaf trees))
+-- the values of a list's members, as they are joined
+abbrev arranged_values : Trees (Option Bool) → List (Option Bool)
+arranged_values trees = values_by three_valued is_function trees
+    ++ values_by three_valued is_leaf trees
+
+-- the values of its functions, and of its leaves, are sides of those in three values
+abbrev SidesOf : Bool → Trees (Option Bool) → Type 0
+SidesOf fill trees =
+    (values_by two_valued is_function (filled_each fill trees)
+    ≡ sides fill (values_by three_valued is_function trees))
+    × (values_by two_valued is_leaf (filled_each fill trees)
+    ≡ sides fill (values_by three_valued is_leaf trees))
+
+sides-both : (fill : Bool) (trees : Trees (Option Bool)) → SidesOf fill trees
+    → values_by two_valued is_function (filled_each fill trees)
+    ++ values_by two_valued is_leaf (filled_each fill trees) ≡ sides fill (arranged_values trees)
+sides-both fill trees sides_are = rw (sides_are.0, sides_are.1)
+    (sides-append fill (values_by three_valued is_function trees)
+    (values_by three_valued is_leaf trees))
 
 mutual
-  -- it has one truth value for each occurrence
-  length-polar : (tree : Tree) (answers : List (Option Bool)) (fill : Bool)
-      → length (polar tree answers fill) ≡ length (asked tree)
-  length-polar (Tree.leaf question) answers fill = refl
-  length-polar (Tree.all trees) answers fill =
-      length-polar_list trees answers fill (λ test others. length-polar_by test trees others fill)
-  length-polar (Tree.any trees) answers fill =
-      length-polar_list trees answers fill (λ test others. length-polar_by test trees others fill)
-  length-polar (Tree.not tree) answers fill = length-polar tree answers (not fill)
+  value-filled : (fill : Bool) (tree : Tree (Option Bool))
+      → value_of two_valued (filled fill tree) ≡ side fill (value_of three_valued tree)
+  value-filled fill (Tree.leaf answer) = refl
+  value-filled fill (Tree.all trees) = ap (from_last (λ x y. x && y) true)
+      (sides-both fill trees (values-filled fill trees)) ∙ all_sides fill (arranged_values trees)
+  value-filled fill (Tree.any trees) = ap (from_last (λ x y. x || y) false)
+      (sides-both fill trees (values-filled fill trees)) ∙ any_sides fill (arranged_values trees)
+  value-filled fill (Tree.not tree) =
+      ap not (value-filled (not fill) tree) ∙ side_not fill (value_of three_valued tree)
 
-  length-polar_by : (test : Tree → Bool) (trees : Trees) (answers : List (Option Bool))
-      (fill : Bool) → length (polar_by test trees answers fill) ≡ length (asked_by test trees)
-  length-polar_by test Trees.none answers fill = refl
-  length-polar_by test (Trees.more tree trees) answers fill =
-      chosen (test tree) (length-polar tree answers fill)
-      (length-polar_by test trees (behind (asked tree) answers) fill)
-      (length-polar_by test trees answers fill)
-    where
-      chosen : (b : Bool) → length (polar tree answers fill) ≡ length (asked tree)
-          → length (polar_by test trees (behind (asked tree) answers) fill)
-          ≡ length (asked_by test trees)
-          → length (polar_by test trees answers fill) ≡ length (asked_by test trees)
-          → length (if b then polar tree answers fill
-          ++ polar_by test trees (behind (asked tree) answers) fill
-          else polar_by test trees answers fill)
-          ≡ length ((if b then asked tree else []) ++ asked_by test trees)
-      chosen true here more without = length-append (polar tree answers fill) _
-          ∙ ap (λ n. n + length (polar_by test trees (behind (asked tree) answers) fill)) here
-          ∙ ap (λ n. length (asked tree) + n) more
-          ∙ sym (length-append (asked tree) (asked_by test trees))
-      chosen false here more without = without
-
-values_polar : (trees : Trees) (answers : List (Option Bool)) (fill : Bool) (rest : List Bool)
-    → ((test : Tree → Bool) (others : List (Option Bool)) (more : List Bool)
-    → values_by two_valued test trees (polar_by test trees others fill ++ more)
-    ≡ sides fill (values_by three_valued test trees others))
-    → let filling = polar_by is_function trees answers fill
-    ++ polar_by is_leaf trees (behind (asked_by is_function trees) answers) fill in
-    values_by two_valued is_function trees (filling ++ rest)
-    ++ values_by two_valued is_leaf trees (behind (asked_by is_function trees) (filling ++ rest))
-    ≡ sides fill (values_by three_valued is_function trees answers
-    ++ values_by three_valued is_leaf trees (behind (asked_by is_function trees) answers))
-values_polar trees answers fill rest each =
-    let n = length (asked_by is_function trees) in
-    let inner = polar_by is_function trees answers fill in
-    let own = polar_by is_leaf trees (drop n answers) fill in
-    let functions = values_by two_valued is_function trees in
-    let leaves = values_by two_valued is_leaf trees in
-    let cut = drop_at inner (own ++ rest) n (length-polar_by is_function trees answers fill) in
-    ap (λ l. functions l ++ leaves (drop n l)) (append_assoc inner own rest)
-    ∙ ap (λ l. functions (inner ++ (own ++ rest)) ++ leaves l) cut
-    ∙ ap (λ l. l ++ leaves (own ++ rest))
-    (each is_function answers (own ++ rest))
-    ∙ ap (λ l. sides fill (values_by three_valued is_function trees answers) ++ l)
-    (each is_leaf (drop n answers) rest)
-    ∙ sides-append fill _ _
-
--- the values of the members of a function, as they are joined
-abbrev three_values : Trees → List (Option Bool) → List (Option Bool)
-three_values trees answers = values_by three_valued is_function trees answers
-    ++ values_by three_valued is_leaf trees (behind (asked_by is_function trees) answers)
+  values-filled : (fill : Bool) (trees : Trees (Option Bool)) → SidesOf fill trees
+  values-filled fill Trees.none = (refl, refl)
+  values-filled fill (Trees.more (Tree.leaf answer) trees) =
+      let others = values-filled fill trees in
+      (others.0, ap (λ l. side fill answer ∷ l) others.1)
+  values-filled fill (Trees.more tree trees) =
+      let first = value-filled fill tree in
+      let others = values-filled fill trees in
+      (rw (first, others.0) refl, others.1)
 
 mutual
-  pub fold_polar : (tree : Tree) (answers : List (Option Bool)) (fill : Bool) (rest : List Bool)
-      → fold two_valued tree (polar tree answers fill ++ rest)
-      ≡ side fill (fold three_valued tree answers)
-  fold_polar (Tree.leaf question) answers fill rest = refl
-  fold_polar (Tree.all trees) answers fill rest =
-      ap (from_last (λ x y. x && y) true) (values_polar trees answers fill rest
-      (λ test others more. values_polar_by test trees others fill more))
-      ∙ all_sides fill (three_values trees answers)
-  fold_polar (Tree.any trees) answers fill rest =
-      ap (from_last (λ x y. x || y) false) (values_polar trees answers fill rest
-      (λ test others more. values_polar_by test trees others fill more))
-      ∙ any_sides fill (three_values trees answers)
-  fold_polar (Tree.not tree) answers fill rest =
-      ap not (fold_polar tree answers (not fill) rest)
-      ∙ side_not fill (fold three_valued tree answers)
+  -- known answers stay, and a filling is of the tree's shape
+  filled-agrees : (fill : Bool) (tree : Tree (Option Bool)) → Alike Agrees tree (filled fill tree)
+  filled-agrees fill (Tree.leaf (Some answer)) = Alike.leaf _ _ refl
+  filled-agrees fill (Tree.leaf None) = Alike.leaf _ _ tt
+  filled-agrees fill (Tree.all trees) = Alike.all _ _ (filled_each-agrees fill trees)
+  filled-agrees fill (Tree.any trees) = Alike.any _ _ (filled_each-agrees fill trees)
+  filled-agrees fill (Tree.not tree) = Alike.not _ _ (filled-agrees (not fill) tree)
 
-  values_polar_by : (test : Tree → Bool) (trees : Trees) (answers : List (Option Bool))
-      (fill : Bool) (rest : List Bool)
-      → values_by two_valued test trees (polar_by test trees answers fill ++ rest)
-      ≡ sides fill (values_by three_valued test trees answers)
-  values_polar_by test Trees.none answers fill rest = refl
-  values_polar_by test (Trees.more tree trees) answers fill rest =
-      let n = length (asked tree) in
-      let more = polar_by test trees (drop n answers) fill in
-      chosen (test tree) (fold_polar tree answers fill (more ++ rest))
-      (values_polar_by test trees (drop n answers) fill rest)
-      (values_polar_by test trees answers fill rest)
-    where
-      chosen : (b : Bool)
-          → fold two_valued tree (polar tree answers fill
-          ++ (polar_by test trees (behind (asked tree) answers) fill ++ rest))
-          ≡ side fill (fold three_valued tree answers)
-          → values_by two_valued test trees
-          (polar_by test trees (behind (asked tree) answers) fill ++ rest)
-          ≡ sides fill (values_by three_valued test trees (behind (asked tree) answers))
-          → values_by two_valued test trees (polar_by test trees answers fill ++ rest)
-          ≡ sides fill (values_by three_valued test trees answers)
-          → let filling = (if b then polar tree answers fill
-          ++ polar_by test trees (behind (asked tree) answers) fill
-          else polar_by test trees answers fill) ++ rest in
-          (if b then fold two_valued tree filling
-          ∷ values_by two_valued test trees (behind (asked tree) filling)
-          else values_by two_valued test trees filling)
-          ≡ sides fill (if b then fold three_valued tree answers
-          ∷ values_by three_valued test trees (behind (asked tree) answers)
-          else values_by three_valued test trees answers)
-      chosen true here more without =
-          let n = length (asked tree) in
-          let own = polar tree answers fill in
-          let others = polar_by test trees (drop n answers) fill in
-          let cut = drop_at own (others ++ rest) n (length-polar tree answers fill) in
-          ap (λ l. fold two_valued tree l ∷ values_by two_valued test trees (drop n l))
-          (append_assoc own others rest)
-          ∙ ap (λ l. fold two_valued tree (own ++ (others ++ rest))
-          ∷ values_by two_valued test trees l) cut
-          ∙ ap (λ v. v ∷ values_by two_valued test trees (others ++ rest)) here
-          ∙ ap (λ l. side fill (fold three_valued tree answers) ∷ l) more
-      chosen false here more without = without
+  filled_each-agrees : (fill : Bool) (trees : Trees (Option Bool))
+      → AlikeEach Agrees trees (filled_each fill trees)
+  filled_each-agrees fill Trees.none = AlikeEach.none
+  filled_each-agrees fill (Trees.more tree trees) =
+      AlikeEach.more _ _ _ _ (filled-agrees fill tree) (filled_each-agrees fill trees)
 
-agrees_side : (fill : Bool) (answer : Option Bool) → Agrees answer (side fill answer)
-agrees_side fill None = tt
-agrees_side fill (Some answer) = refl
+module _ {X : Type 0} where
+  mutual
+    filled-shape : (fill : Bool) (tree : Tree X) (answers : Tree (Option Bool))
+        → SameShape tree answers → SameShape tree (filled fill answers)
+    filled-shape fill _ _ (Alike.leaf x y related) = Alike.leaf _ _ tt
+    filled-shape fill _ _ (Alike.all xs ys each) = Alike.all _ _ (filled_each-shape fill xs ys each)
+    filled-shape fill _ _ (Alike.any xs ys each) = Alike.any _ _ (filled_each-shape fill xs ys each)
+    filled-shape fill _ _ (Alike.not x y alike) = Alike.not _ _ (filled-shape (not fill) x y alike)
 
-polar_list_fills : (trees : Trees) (answers : List (Option Bool)) (fill : Bool)
-    (rest : List Bool)
-    → ((test : Tree → Bool) (others : List (Option Bool)) (more : List Bool)
-    → length (asked_by test trees) ≤ length others
-    → IsFilling (behind (asked_by test trees) others) more
-    → IsFilling others (polar_by test trees others fill ++ more))
-    → length (asked_by is_function trees ++ asked_by is_leaf trees) ≤ length answers
-    → IsFilling (behind (asked_by is_function trees ++ asked_by is_leaf trees) answers) rest
-    → IsFilling answers ((polar_by is_function trees answers fill
-    ++ polar_by is_leaf trees (behind (asked_by is_function trees) answers) fill) ++ rest)
-polar_list_fills trees answers fill rest each enough fills =
-    let n = length (asked_by is_function trees) in
-    let m = length (asked_by is_leaf trees) in
-    let both = length-append (asked_by is_function trees) (asked_by is_leaf trees) in
-    let inner = polar_by is_function trees answers fill in
-    let own = polar_by is_leaf trees (drop n answers) fill in
-    let left = length-drop n answers in
-    let behind_all : drop (length (asked_by is_function trees ++ asked_by is_leaf trees)) answers
-    ≡ drop m (drop n answers) = ap (λ k. drop k answers) both ∙ sym (drop-drop m n answers) in
-    subst (IsFilling answers) (sym (append_assoc inner own rest))
-    (each is_function answers (own ++ rest) (omega (arith, both, enough))
-    (each is_leaf (drop n answers) rest (omega (arith, both, enough, left))
-    (subst (λ l. IsFilling l rest) behind_all fills)))
-
-mutual
-  -- a polar filling is a filling
-  polar_fills : (tree : Tree) (answers : List (Option Bool)) (fill : Bool) (rest : List Bool)
-      → length (asked tree) ≤ length answers → IsFilling (behind (asked tree) answers) rest
-      → IsFilling answers (polar tree answers fill ++ rest)
-  polar_fills (Tree.leaf question) [] fill rest enough fills = absurd (omega (arith, enough))
-  polar_fills (Tree.leaf question) (answer ∷ answers) fill rest enough fills =
-      (agrees_side fill answer, fills)
-  polar_fills (Tree.all trees) answers fill rest enough fills =
-      polar_list_fills trees answers fill rest
-      (λ test others more. polar_by_fills test trees others fill more) enough fills
-  polar_fills (Tree.any trees) answers fill rest enough fills =
-      polar_list_fills trees answers fill rest
-      (λ test others more. polar_by_fills test trees others fill more) enough fills
-  polar_fills (Tree.not tree) answers fill rest enough fills =
-      polar_fills tree answers (not fill) rest enough fills
-
-  polar_by_fills : (test : Tree → Bool) (trees : Trees) (answers : List (Option Bool))
-      (fill : Bool) (rest : List Bool) → length (asked_by test trees) ≤ length answers
-      → IsFilling (behind (asked_by test trees) answers) rest
-      → IsFilling answers (polar_by test trees answers fill ++ rest)
-  polar_by_fills test Trees.none answers fill rest enough fills = fills
-  polar_by_fills test (Trees.more tree trees) answers fill rest enough fills =
-      chosen (test tree) enough fills
-      (λ others. polar_fills tree answers fill others)
-      (polar_by_fills test trees (behind (asked tree) answers) fill rest)
-      (polar_by_fills test trees answers fill rest)
-    where
-      chosen : (b : Bool)
-          → length ((if b then asked tree else []) ++ asked_by test trees) ≤ length answers
-          → IsFilling (behind ((if b then asked tree else []) ++ asked_by test trees) answers) rest
-          → ((others : List Bool) → length (asked tree) ≤ length answers
-          → IsFilling (behind (asked tree) answers) others
-          → IsFilling answers (polar tree answers fill ++ others))
-          → (length (asked_by test trees) ≤ length (behind (asked tree) answers)
-          → IsFilling (behind (asked_by test trees) (behind (asked tree) answers)) rest
-          → IsFilling (behind (asked tree) answers)
-          (polar_by test trees (behind (asked tree) answers) fill ++ rest))
-          → (length (asked_by test trees) ≤ length answers
-          → IsFilling (behind (asked_by test trees) answers) rest
-          → IsFilling answers (polar_by test trees answers fill ++ rest))
-          → IsFilling answers ((if b then polar tree answers fill
-          ++ polar_by test trees (behind (asked tree) answers) fill
-          else polar_by test trees answers fill) ++ rest)
-      chosen true enough fills here more without =
-          let n = length (asked tree) in
-          let m = length (asked_by test trees) in
-          let both = length-append (asked tree) (asked_by test trees) in
-          let own = polar tree answers fill in
-          let others = polar_by test trees (drop n answers) fill in
-          let left = length-drop n answers in
-          let behind_all : drop (length (asked tree ++ asked_by test trees)) answers
-          ≡ drop m (drop n answers) =
-          ap (λ k. drop k answers) both ∙ sym (drop-drop m n answers) in
-          subst (IsFilling answers) (sym (append_assoc own others rest))
-          (here (others ++ rest) (omega (arith, both, enough))
-          (more (omega (arith, both, enough, left)) (subst (λ l. IsFilling l rest) behind_all
-          fills)))
-      chosen false enough fills here more without = without enough fills
+    filled_each-shape : (fill : Bool) (trees : Trees X)
+        (answers : Trees (Option Bool)) → SameShapes trees answers
+        → SameShapes trees (filled_each fill answers)
+    filled_each-shape fill _ _ AlikeEach.none = AlikeEach.none
+    filled_each-shape fill _ _ (AlikeEach.more x y xs ys first rest) = AlikeEach.more _ _ _ _
+        (filled-shape fill x y first) (filled_each-shape fill xs ys rest)
 
 -- Both directions.
 
-module _ (tree : Tree) (answers : List (Option Bool))
+module _ {X : Type 0} (tree : Tree X) (answers : List (Option Bool))
     (all : length answers ≡ length (asked tree)) where
+  abbrev given : Tree (Option Bool)
+  given = answered three_valued.top tree answers
+
   polar_value : (fill : Bool) → fold two_valued tree (polar tree answers fill)
       ≡ side fill (fold three_valued tree answers)
-  polar_value fill = ap (fold two_valued tree) (sym (append-nil (polar tree answers fill)))
-      ∙ fold_polar tree answers fill []
+  polar_value fill =
+      ap (value_of two_valued) (answered-asked two_valued.top tree (filled fill given)
+      (filled-shape fill tree given (answered-shape three_valued.top tree answers)))
+      ∙ value-filled fill given
 
   polar_filling : (fill : Bool) → IsFilling answers (polar tree answers fill)
   polar_filling fill =
-      let none : behind (asked tree) answers ≡ [] =
-      drop_of_length-le answers (omega (arith, all)) in
-      subst (IsFilling answers) (append-nil (polar tree answers fill))
-      (polar_fills tree answers fill [] (omega (arith, all))
-      (subst (λ l. IsFilling l []) (sym none) tt))
+      subst (λ l. IsFilling l (polar tree answers fill))
+      (asked-answered three_valued.top tree answers all)
+      (asked-alike Agrees given (filled fill given) (filled-agrees fill given))
 
   known_from : (value : Bool) (found : Option Bool) → fold three_valued tree answers ≡ found
       → ((filling : List Bool) → IsFilling answers filling

@@ -1,8 +1,9 @@
+pub mod Alike
 pub mod Answering
 pub mod Arranging
 pub mod Classes
+pub mod Dealing
 pub mod Exactness
-pub mod Folding
 pub mod Matched
 pub mod Reading
 pub mod Stripped

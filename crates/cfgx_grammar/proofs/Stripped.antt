@@ -11,6 +11,7 @@ use Rattle.std.proofs.lemmas.Str.{NoCharPasses-nil}
 use Rattle.cfgx_syntax.specs.Stripping.{strip}
 use Rattle.cfgx_syntax.specs.Token.{Token, IsKey}
 use Rattle.cfgx_syntax.specs.Items.{Item, Ending, Stands}
+use Rattle.cfgx_grammar.specs.Question.{Question}
 use Rattle.cfgx_grammar.specs.Tree.{Tree}
 use Rattle.cfgx_grammar.specs.Grammar.{HasTree}
 use Rattle.cfgx_grammar.specs.parsing.State.{initial}
@@ -65,7 +66,7 @@ module _ (text rest : List ℕ) (is : text ≡ codes "cfg(" ++ rest) where
   }
 
   -- such a text has no tree
-  no_tree : (tree : Tree) → HasTree text tree → ⊥
+  no_tree : (tree : Tree Question) → HasTree text tree → ⊥
   no_tree tree has =
       let first = Follows-stands text 0 word has.items Ending.blank Stands-word has.are_items in
       let second = Follows-stands text 3 opening first.rest Ending.blank Stands-opening first.come
@@ -83,7 +84,7 @@ unfolding strip
 strip_by text true is = inr (_, (starts_is Decides-eqb text (codes "cfg(") _ refl).0 is)
 strip_by text false is = inl (rw is refl)
 
-pub strip-tree : (text : List ℕ) (tree : Tree) → HasTree text tree → strip text ≡ text
+pub strip-tree : (text : List ℕ) (tree : Tree Question) → HasTree text tree → strip text ≡ text
 strip-tree text tree has =
     ⊎_elim (λ same. same) (λ wrapped. absurd (no_tree text wrapped.0 wrapped.1 tree has))
     (strip_by text _ refl)

@@ -4,18 +4,19 @@ use Rattle.cfgx_syntax.specs.Stripping.{strip}
 use Rattle.cfgx_syntax.specs.Error.{Refusal, fault_in, fault_of}
 use Rattle.cfgx_syntax.specs.declared.error.Failure.{Failure}
 use Rattle.cfgx_syntax.specs.declared.error.Failure.TheVariants as failure
+use Rattle.cfgx_grammar.specs.Question.{Question}
 use Rattle.cfgx_grammar.specs.Tree.{Tree}
 use Rattle.cfgx_grammar.specs.Grammar.{HasTree}
 use Rattle.cfgx_grammar.specs.FirstFault.{HasFault}
 
 -- the text has a tree, and no other
 pub record HasOneTree (text : List ℕ) : Type 0 where
-  pub tree : Tree
+  pub tree : Tree Question
   pub has_tree : HasTree text tree
-  pub only : (other : Tree) → HasTree text other → other ≡ tree
+  pub only : (other : Tree Question) → HasTree text other → other ≡ tree
 
 abbrev pub HasNoTree : List ℕ → Type 0
-HasNoTree text = (tree : Tree) → HasTree text tree → ⊥
+HasNoTree text = (tree : Tree Question) → HasTree text tree → ⊥
 
 -- the text has this first fault, and no other
 pub record HasOneFault (text : List ℕ) (fault : Refusal) : Type 0 where

@@ -11,33 +11,51 @@ abbrev pub from_last : {T : Type 0} → (T → T → T) → T → List T → T
 from_last join begin [] = begin
 from_last join begin (value ∷ values) = join (from_last join begin values) value
 
--- the first answer; each predicate has one
+-- the value of a tree whose leaves are answers: in each list the functions are joined in front of
+-- the leaves
+abbrev mutual
+  pub value_of : {T : Type 0} → Operations T → Tree T → T
+  value_of logic (Tree.leaf answer) = answer
+  value_of logic (Tree.all trees) = from_last logic.and logic.top
+      (values_by logic is_function trees ++ values_by logic is_leaf trees)
+  value_of logic (Tree.any trees) = from_last logic.or logic.bottom
+      (values_by logic is_function trees ++ values_by logic is_leaf trees)
+  value_of logic (Tree.not tree) = logic.not (value_of logic tree)
+
+  -- the values of the trees of a list that pass the test
+  pub values_by : {T : Type 0} → Operations T → (Tree T → Bool) → Trees T → List T
+  values_by logic test Trees.none = []
+  values_by logic test (Trees.more tree trees) = if test tree
+      then value_of logic tree ∷ values_by logic test trees else values_by logic test trees
+
+-- the first answer; each leaf has one
 abbrev pub first_or : {T : Type 0} → T → List T → T
 first_or otherwise [] = otherwise
 first_or otherwise (answer ∷ answers) = answer
 
--- the answers of the second of two parts, where the first one asks these predicates
+-- the answers of the second of two parts, where the first one asks these
 abbrev pub behind : {X T : Type 0} → List X → List T → List T
 behind questions answers = drop (length questions) answers
 
+-- the tree with answers at its leaves, which are dealt out in the order in which it asks
 abbrev mutual
-  -- the value of a tree over as many answers as it asks predicates, which stand in front; a leaf is
-  -- its answer
-  pub fold : {T : Type 0} → Operations T → Tree → List T → T
-  fold logic (Tree.leaf question) answers = first_or logic.top answers
-  fold logic (Tree.all trees) answers = from_last logic.and logic.top
-      (values_by logic is_function trees answers
-      ++ values_by logic is_leaf trees (behind (asked_by is_function trees) answers))
-  fold logic (Tree.any trees) answers = from_last logic.or logic.bottom
-      (values_by logic is_function trees answers
-      ++ values_by logic is_leaf trees (behind (asked_by is_function trees) answers))
-  fold logic (Tree.not tree) answers = logic.not (fold logic tree answers)
+  pub answered : {X T : Type 0} → T → Tree X → List T → Tree T
+  answered otherwise (Tree.leaf x) answers = Tree.leaf (first_or otherwise answers)
+  answered otherwise (Tree.all trees) answers = Tree.all
+      (answered_each otherwise trees answers (behind (asked_by is_function trees) answers))
+  answered otherwise (Tree.any trees) answers = Tree.any
+      (answered_each otherwise trees answers (behind (asked_by is_function trees) answers))
+  answered otherwise (Tree.not tree) answers = Tree.not (answered otherwise tree answers)
 
-  -- the values of the trees of a list that pass the test, which take their answers from the front,
-  -- each as many as it asks
-  pub values_by : {T : Type 0} → Operations T → (Tree → Bool) → Trees → List T → List T
-  values_by logic test Trees.none answers = []
-  values_by logic test (Trees.more tree trees) answers =
-      if test tree then fold logic tree answers
-      ∷ values_by logic test trees (behind (asked tree) answers)
-      else values_by logic test trees answers
+  -- the functions of a list take the inner answers, and its leaves its own
+  pub answered_each : {X T : Type 0} → T → Trees X → List T → List T → Trees T
+  answered_each otherwise Trees.none inner own = Trees.none
+  answered_each otherwise (Trees.more tree trees) inner own = if is_function tree
+      then Trees.more (answered otherwise tree inner)
+      (answered_each otherwise trees (behind (asked tree) inner) own)
+      else Trees.more (answered otherwise tree own)
+      (answered_each otherwise trees inner (behind (asked tree) own))
+
+-- the value of a tree over as many answers as it asks
+abbrev pub fold : {X T : Type 0} → Operations T → Tree X → List T → T
+fold logic tree answers = value_of logic (answered logic.top tree answers)

@@ -27,13 +27,13 @@ IsCall name tokens inner = tokens ≡ name ∷ Token.open_paren ∷ (inner ++ To
 
 -- n commas stand between a member and those behind it: any number behind the last, else at least
 -- one
-abbrev pub Separates : ℕ → Trees → Type 0
+abbrev pub Separates : ℕ → Trees Question → Type 0
 Separates n Trees.none = Unit {0}
 Separates n (Trees.more tree trees) = 0 < n
 
 abbrev mutual
   -- the tokens spell the tree as one item
-  pub IsItem : List Token → Tree → Type 0
+  pub IsItem : List Token → Tree Question → Type 0
   IsItem tokens (Tree.leaf question) = IsPredicate tokens question
   IsItem tokens (Tree.all trees) = (inner : List Token) × IsCall Token.all tokens inner
       × IsList inner trees
@@ -43,19 +43,19 @@ abbrev mutual
       × IsCall Token.not tokens (item ++ commas n) × IsItem item tree
 
   -- the tokens spell the trees as a list
-  pub IsList : List Token → Trees → Type 0
+  pub IsList : List Token → Trees Question → Type 0
   IsList tokens Trees.none = tokens ≡ []
   IsList tokens (Trees.more tree trees) =
       (item : List Token) × (n : ℕ) × (rest : List Token) × (tokens ≡ item ++ (commas n ++ rest))
       × Separates n trees × IsItem item tree × IsList rest trees
 
 -- the tokens are one item and any number of commas
-abbrev pub IsTree : List Token → Tree → Type 0
+abbrev pub IsTree : List Token → Tree Question → Type 0
 IsTree tokens tree = (item : List Token) × (n : ℕ) × (tokens ≡ item ++ commas n) × IsItem item tree
 
 -- a text, already stripped, has this tree: it ends with no place where no token can start, and its
 -- tokens spell the tree
-pub record HasTree (text : List ℕ) (tree : Tree) : Type 0 where
+pub record HasTree (text : List ℕ) (tree : Tree Question) : Type 0 where
   pub items : List Item
   pub are_items : AreItems text items Ending.blank
   pub spelled : IsTree (map (λ item. item.token) items) tree

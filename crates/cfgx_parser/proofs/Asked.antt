@@ -29,7 +29,7 @@ node_of_leaf odd question = Node.leaf question
 abbrev node_of_function : Bool → Func → ℕ → Node
 node_of_function odd func len = Node.function func len
 
-labels_are : (tree : Tree) → labels node_of_leaf node_of_function false tree ≡ prefix tree
+labels_are : (tree : Tree Question) → labels node_of_leaf node_of_function false tree ≡ prefix tree
 labels_are tree =
     sym (map-id _) ∙ labels-prefix node_of_leaf node_of_function (λ n. n) (λ n. n)
     (λ odd question. refl) (λ odd func len. refl) false tree
@@ -93,7 +93,7 @@ length-questions_at text nodes (place ∷ asks) names =
     ap (option_and_then leaf_of) names.0.stands in
     rw found (ap suc (length-questions_at text nodes asks names.1))
 
-module _ {text : List ℕ} {nodes : List ExprNode} {asks : List ℕ} {tree : Tree}
+module _ {text : List ℕ} {nodes : List ExprNode} {asks : List ℕ} {tree : Tree Question}
     (k : KeepsTree text nodes asks tree) where
   -- the leaves at a tree's places are what it asks
   asks_kept : map (question_in text nodes) asks ≡ map (λ (q : Question). Some q) (asked tree)

@@ -33,7 +33,7 @@ placed_at text (Token.value word) start end spelled inside cut =
 placed_at text _ start end spelled inside cut = tt
 
 -- the leaves at the root are the last that are asked
-KeepsTree-writes : (text : List ℕ) (w : Written) (tree : Tree)
+KeepsTree-writes : (text : List ℕ) (w : Written) (tree : Tree Question)
     → Writes text nothing w (prefix tree) (if is_leaf tree then 0 ∷ [] else [])
     (if is_function tree then places 0 tree else [])
     → KeepsTree text w.nodes (with_list_ended 0 w).asked tree
@@ -43,7 +43,7 @@ KeepsTree-writes text w tree a = record {
   asked_are = rw (a.asked_are, a.leaves_are) (last tree);
 }
   where
-    last : (tree : Tree) → (if is_function tree then places 0 tree else [])
+    last : (tree : Tree Question) → (if is_function tree then places 0 tree else [])
         ++ (if is_leaf tree then 0 ∷ [] else []) ≡ places 0 tree
     last (Tree.leaf question) = refl
     last tree = append-nil (places 0 tree)

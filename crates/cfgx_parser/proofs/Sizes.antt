@@ -8,11 +8,11 @@ use Rattle.cfgx_parser.specs.nodes.Prefix.{prefix, prefix_each}
 use Rattle.cfgx_parser.specs.declared.function.Func.{Func}
 use Rattle.cfgx_parser.proofs.Functions.{IsFunction}
 
-pub some-node : (tree : Tree) → 1 ≤ length (prefix tree)
+pub some-node : (tree : Tree Question) → 1 ≤ length (prefix tree)
 some-node (Tree.leaf question) = omega arith
 some-node tree = omega arith
 
-pub count-nodes : (trees : Trees) → count trees ≤ length (prefix_each trees)
+pub count-nodes : (trees : Trees Question) → count trees ≤ length (prefix_each trees)
 count-nodes Trees.none = omega arith
 count-nodes (Trees.more tree trees) =
     let both = length-append (prefix tree) (prefix_each trees) in
@@ -20,17 +20,17 @@ count-nodes (Trees.more tree trees) =
 
 abbrev mutual
   -- how many functions a tree has
-  pub functions_in : Tree → ℕ
+  pub functions_in : Tree Question → ℕ
   functions_in (Tree.leaf question) = 0
   functions_in (Tree.all trees) = suc (functions_in_each trees)
   functions_in (Tree.any trees) = suc (functions_in_each trees)
   functions_in (Tree.not tree) = suc (functions_in tree)
 
-  pub functions_in_each : Trees → ℕ
+  pub functions_in_each : Trees Question → ℕ
   functions_in_each Trees.none = 0
   functions_in_each (Trees.more tree trees) = functions_in tree + functions_in_each trees
 
-pub functions_in-members : {tree : Tree} {func : Func} {trees : Trees} → IsFunction tree func trees
+pub functions_in-members : {tree : Tree Question} {func : Func} {trees : Trees Question} → IsFunction tree func trees
     → functions_in tree ≡ suc (functions_in_each trees)
 functions_in-members (IsFunction.all trees) = refl
 functions_in-members (IsFunction.any trees) = refl
@@ -52,7 +52,7 @@ abbrev FitsIn : ℕ → ℕ → ℕ → Type 0
 FitsIn nodes functions tokens = (nodes ≤ tokens) × (3 * functions ≤ tokens)
 
 mutual
-  pub tree-tokens : (tree : Tree) (tokens : List Token) → IsItem tokens tree
+  pub tree-tokens : (tree : Tree Question) (tokens : List Token) → IsItem tokens tree
       → FitsIn (length (prefix tree)) (functions_in tree) (length tokens)
   tree-tokens (Tree.leaf question) tokens is =
       let some : 1 ≤ length tokens = omega (arith, predicate-tokens is.0 is.1, ap length is.2) in
@@ -71,7 +71,7 @@ mutual
       let both = length-append is.0 (commas is.1) in
       (omega arith, omega arith)
 
-  trees-tokens : (trees : Trees) (tokens : List Token) → IsList tokens trees
+  trees-tokens : (trees : Trees Question) (tokens : List Token) → IsList tokens trees
       → FitsIn (length (prefix_each trees)) (functions_in_each trees) (length tokens)
   trees-tokens Trees.none tokens is = (omega arith, omega arith)
   trees-tokens (Trees.more tree trees) tokens is =

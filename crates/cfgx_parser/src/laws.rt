@@ -40,6 +40,6 @@ pub fn are_same_functions(one: Func, other: Func) -> bool
 
 /// A function asks what its members ask, one after another as they are arranged.
 pub fn asks_as_arranged()
-    ensures all { (trees : Trees) → asked (Tree.all trees) ≡ asked_each (arranged trees) }
-    ensures any { (trees : Trees) → asked (Tree.any trees) ≡ asked_each (arranged trees) }
+    ensures all { (trees : Trees Question) → asked (Tree.all trees) ≡ asked_each (arranged trees) }
+    ensures any { (trees : Trees Question) → asked (Tree.any trees) ≡ asked_each (arranged trees) }
 {}

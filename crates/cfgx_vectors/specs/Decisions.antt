@@ -7,7 +7,7 @@ use Rattle.cfgx_vectors.specs.declared.filling.Decision.{Decision}
 use Rattle.cfgx_vectors.specs.declared.filling.Decision.TheVariants as decision
 
 -- it acts on a value that no unknown answer can change, and postpones with a filling for each side
-abbrev pub IsSound : Tree → List (Option Bool) → Decision → Type 0
+abbrev pub IsSound : Tree Question → List (Option Bool) → Decision → Type 0
 IsSound tree answers (decision.Act value) = (filling : List Bool) → IsFilling answers filling
     → fold two_valued tree filling ≡ value
 IsSound tree answers (decision.Postpone with_true with_false) =

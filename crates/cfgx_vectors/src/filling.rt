@@ -31,7 +31,7 @@ fn value_over(
     expression: &Expression,
     answers: &[Option<bool>],
 ) -> Result<Option<bool>, AllocError>
-    requires { (tree : Tree) × HasTree expression.now tree
+    requires { (tree : Tree Question) × HasTree expression.now tree
         × (length answers.now ≡ length (asked tree)) }
     ensures { IfOk result (λ value. (one : HasOneTree expression.now)
         × (value ≡ fold ⟦<Option<bool> as Logic>⟧ one.tree answers.now)) }
@@ -50,7 +50,7 @@ pub fn plan(
     expression: &Expression,
     answers: &[Option<bool>],
 ) -> Result<Decision, AllocError>
-    requires { (tree : Tree) × HasTree expression.now tree
+    requires { (tree : Tree Question) × HasTree expression.now tree
         × (length answers.now ≡ length (asked tree)) }
     ensures { IfOk result (λ decision. (one : HasOneTree expression.now)
         × IsSound one.tree answers.now decision) }

@@ -14,10 +14,10 @@ use Rattle.cfgx_parser.specs.declared.nodes.ExprNode.TheVariants as node
 use Rattle.cfgx_parser.proofs.Labels.{labels, labels_each}
 
 -- whether each node stands below an odd number of `not`
-abbrev pub odds : Bool → Tree → List Bool
+abbrev pub odds : Bool → Tree Question → List Bool
 odds = labels (λ odd question. odd) (λ odd func len. odd)
 
-abbrev odds_each : Bool → Trees → List Bool
+abbrev odds_each : Bool → Trees Question → List Bool
 odds_each = labels_each (λ odd question. odd) (λ odd func len. odd)
 
 -- how far a `not` reaches, of a node as it is shown
@@ -140,7 +140,7 @@ noted n flips =
     ∙ noted-behind n flips
 
 mutual
-  pass-tree : (tree : Tree) (rest : List (Option ℕ)) (odd : Bool) (flips : List Bool)
+  pass-tree : (tree : Tree Question) (rest : List (Option ℕ)) (odd : Bool) (flips : List Bool)
       → pass (map reach_of (prefix tree) ++ rest) odd
       (replicate (length (prefix tree)) false ++ flips)
       ≡ odds odd tree ++ pass rest odd flips
@@ -153,7 +153,7 @@ mutual
       ∙ ap (λ l. odd ∷ l) (pass-tree tree rest (not odd) (turned_at flips 0))
       ∙ ap (λ l. odd ∷ (odds (not odd) tree ++ l)) (pass-ended rest odd flips)
 
-  pass-each : (trees : Trees) (rest : List (Option ℕ)) (odd : Bool) (flips : List Bool)
+  pass-each : (trees : Trees Question) (rest : List (Option ℕ)) (odd : Bool) (flips : List Bool)
       → pass (map reach_of (prefix_each trees) ++ rest) odd
       (replicate (length (prefix_each trees)) false ++ flips)
       ≡ odds_each odd trees ++ pass rest odd flips
@@ -172,7 +172,7 @@ mutual
       ∙ ap (λ l. odds odd tree ++ l) (pass-each trees rest odd flips))
 
 -- the whole pass
-pub pass-all : (tree : Tree) → pass (map reach_of (prefix tree)) false
+pub pass-all : (tree : Tree Question) → pass (map reach_of (prefix tree)) false
     (replicate (length (prefix tree)) false) ≡ odds false tree
 pass-all tree =
     let nodes = map reach_of (prefix tree) in

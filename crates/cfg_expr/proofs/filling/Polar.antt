@@ -17,10 +17,10 @@ use Rattle.cfgx_parser.proofs.Labels.{length-leaf_labels_by, read-places}
 use Rattle.cfg_expr.proofs.filling.Passing.{odds, reach_of, reaches-shown, pass-all}
 
 -- whether the leaves stand below an odd number of `not`, in the order in which they are asked
-abbrev leaf_odds : Bool → Tree → List Bool
+abbrev leaf_odds : Bool → Tree Question → List Bool
 leaf_odds = leaf_labels (λ odd question. odd) (λ odd func len. odd)
 
-abbrev leaf_odds_by : Bool → (Tree → Bool) → Trees → List Bool
+abbrev leaf_odds_by : Bool → (Tree Question → Bool) → Trees Question → List Bool
 leaf_odds_by = leaf_labels_by (λ odd question. odd) (λ odd func len. odd)
 
 filled-append : (these those : List Bool) (answers : List (Option Bool)) (fill : Bool)
@@ -49,12 +49,12 @@ turned-not true true = refl
 turned-not false true = refl
 
 -- the filling of the members that pass a test
-abbrev FillsBy : Trees → Type 0
-FillsBy trees = (test : Tree → Bool) (odd : Bool) (answers : List (Option Bool)) (fill : Bool)
+abbrev FillsBy : Trees Question → Type 0
+FillsBy trees = (test : Tree Question → Bool) (odd : Bool) (answers : List (Option Bool)) (fill : Bool)
     → polar_by test trees answers (turned fill odd)
     ≡ filled (leaf_odds_by odd test trees) answers fill
 
-polar-members : (trees : Trees) → FillsBy trees → (odd : Bool) (answers : List (Option Bool))
+polar-members : (trees : Trees Question) → FillsBy trees → (odd : Bool) (answers : List (Option Bool))
     (fill : Bool) → polar_by is_function trees answers (turned fill odd)
     ++ polar_by is_leaf trees (behind (asked_by is_function trees) answers) (turned fill odd)
     ≡ filled (leaf_odds_by odd is_function trees ++ leaf_odds_by odd is_leaf trees) answers fill
@@ -67,7 +67,7 @@ polar-members trees fills odd answers fill =
     (fills is_leaf odd answers fill)
 
 mutual
-  polar-filled : (tree : Tree) (odd : Bool) (answers : List (Option Bool)) (fill : Bool)
+  polar-filled : (tree : Tree Question) (odd : Bool) (answers : List (Option Bool)) (fill : Bool)
       → polar tree answers (turned fill odd) ≡ filled (leaf_odds odd tree) answers fill
   polar-filled (Tree.leaf question) odd answers fill = refl
   polar-filled (Tree.all trees) odd answers fill =
@@ -77,7 +77,7 @@ mutual
   polar-filled (Tree.not tree) odd answers fill =
       ap (polar tree answers) (turned-not fill odd) ∙ polar-filled tree (not odd) answers fill
 
-  polar_by-filled : (trees : Trees) → FillsBy trees
+  polar_by-filled : (trees : Trees Question) → FillsBy trees
   polar_by-filled Trees.none test odd answers fill = refl
   polar_by-filled (Trees.more tree trees) test odd answers fill =
       let n = length (asked tree) in
@@ -89,7 +89,7 @@ mutual
       (polar_by-filled trees test odd answers fill)
 
 -- what the pass finds at the places of the leaves
-odds-places : (tree : Tree)
+odds-places : (tree : Tree Question)
     → map (λ place. get_or (odds false tree) place false) (places 0 tree) ≡ leaf_odds false tree
 odds-places tree =
     let all = odds false tree in
@@ -98,7 +98,7 @@ odds-places tree =
     (λ place odd is. get_or_from_slice_get all place odd false is)
     ∙ map-id (leaf_odds false tree)
 
-module _ {text : List ℕ} {nodes : List ExprNode} {asks : List ℕ} {tree : Tree}
+module _ {text : List ℕ} {nodes : List ExprNode} {asks : List ℕ} {tree : Tree Question}
     (keeps : KeepsTree text nodes asks tree) where
   pass-kept : pass (map reach nodes) false (replicate (length nodes) false) ≡ odds false tree
   pass-kept =

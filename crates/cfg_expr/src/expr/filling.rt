@@ -22,7 +22,7 @@ fn value_over<A: SmallAllocator>(
     expression: &Expression<A>,
     answers: &[Option<bool>],
 ) -> Result<Option<bool>, AllocError>
-    requires { (tree : Tree) × HasTree expression.now tree
+    requires { (tree : Tree Question) × HasTree expression.now tree
         × (length answers.now ≡ length (asked tree)) }
     ensures { IfOk result (λ value. (one : HasOneTree expression.now)
         × (value ≡ fold three_valued one.tree answers.now)) }
@@ -109,7 +109,7 @@ pub(crate) fn polar_fillings<A: SmallAllocator>(
     expression: &Expression<A>,
     answers: &[Option<bool>],
 ) -> Result<Option<(Vec<bool, A>, Vec<bool, A>)>, AllocError>
-    requires { (tree : Tree) × HasTree expression.now tree
+    requires { (tree : Tree Question) × HasTree expression.now tree
         × (length answers.now ≡ length (asked tree)) }
     ensures one { HasOneTree expression.now }
     ensures fillings { IfOk result (λ found. (one : HasOneTree expression.now)

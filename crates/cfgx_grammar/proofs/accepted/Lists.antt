@@ -4,51 +4,52 @@ use Rattle.std.proofs.Common.{◌≡◌, ℕ, zero, suc, ◌<◌, List, [], ◌�
 use Rattle.std.proofs.Common.{◌∙◌, subst, arith, append_assoc}
 use Rattle.std.proofs.lemmas.List.{append-nil}
 use Rattle.cfgx_syntax.specs.Token.{Token}
+use Rattle.cfgx_grammar.specs.Question.{Question}
 use Rattle.cfgx_grammar.specs.Tree.{Tree, Trees}
 use Rattle.cfgx_grammar.specs.Grammar.{commas, Separates, IsItem, IsList, IsTree}
 
 -- a list of trees as the members of a function
-abbrev pub trees_of : List Tree → Trees
+abbrev pub trees_of : List (Tree Question) → Trees Question
 trees_of [] = Trees.none
 trees_of (tree ∷ trees) = Trees.more tree (trees_of trees)
 
 -- the tokens spell these trees, each with at least one comma behind it
-abbrev pub Ready : List Token → List Tree → Type 0
+abbrev pub Ready : List Token → List (Tree Question) → Type 0
 Ready tokens [] = tokens ≡ []
 Ready tokens (tree ∷ trees) =
     (item : List Token) × (n : ℕ) × (rest : List Token)
     × (tokens ≡ item ++ (commas (suc n) ++ rest)) × IsItem item tree × Ready rest trees
 
 -- the tokens spell these trees, with no comma behind the last
-pub record Behind (tokens : List Token) (trees : List Tree) : Type 0 where
+pub record Behind (tokens : List Token) (trees : List (Tree Question)) : Type 0 where
   pub front : List Token
-  pub others : List Tree
+  pub others : List (Tree Question)
   pub item : List Token
-  pub tree : Tree
+  pub tree : Tree Question
   pub tokens_are : tokens ≡ front ++ item
   pub trees_are : trees ≡ others ++ tree ∷ []
   pub ready : Ready front others
   pub spelled : IsItem item tree
 
 -- the tokens spell these trees as a list
-pub record Full (tokens : List Token) (trees : List Tree) : Type 0 where
+pub record Full (tokens : List Token) (trees : List (Tree Question)) : Type 0 where
   pub list : IsList tokens (trees_of trees)
-  pub single : (tree : Tree) → trees ≡ tree ∷ [] → IsTree tokens tree
+  pub single : (tree : Tree Question) → trees ≡ tree ∷ [] → IsTree tokens tree
 
 -- a comma at least separates a tree from whatever follows
-separated : (n : ℕ) (trees : List Tree) → Separates (suc n) (trees_of trees)
+separated : (n : ℕ) (trees : List (Tree Question)) → Separates (suc n) (trees_of trees)
 separated n [] = tt
 separated n (tree ∷ trees) = omega arith
 
-pub Ready-list : (tokens : List Token) (trees : List Tree) → Ready tokens trees
+pub Ready-list : (tokens : List Token) (trees : List (Tree Question)) → Ready tokens trees
     → IsList tokens (trees_of trees)
 Ready-list tokens [] ready = ready
 Ready-list tokens (tree ∷ trees) (item, n, rest, is, spelled, ready) =
     (item, suc n, rest, is, separated n trees, spelled, Ready-list rest trees ready)
 
 -- an item behind a list that is ready for it
-pub Ready-item : (front : List Token) (trees : List Tree) (item : List Token)
-    (tree : Tree) → Ready front trees → IsItem item tree
+pub Ready-item : (front : List Token) (trees : List (Tree Question)) (item : List Token)
+    (tree : Tree Question) → Ready front trees → IsItem item tree
     → IsList (front ++ item) (trees_of (trees ++ tree ∷ []))
 Ready-item front [] item tree ready spelled = (
   item,
@@ -70,8 +71,8 @@ Ready-item front (first ∷ others) item tree (head, n, rest, is, said, ready) s
 )
 
 -- an item and a comma behind a list that is ready for it
-pub Ready-push : (front : List Token) (trees : List Tree) (item : List Token)
-    (tree : Tree) → Ready front trees → IsItem item tree
+pub Ready-push : (front : List Token) (trees : List (Tree Question)) (item : List Token)
+    (tree : Tree Question) → Ready front trees → IsItem item tree
     → Ready ((front ++ item) ++ Token.comma ∷ []) (trees ++ tree ∷ [])
 Ready-push front [] item tree ready spelled = (item, 0, [], rw ready refl, spelled, refl)
 Ready-push front (first ∷ others) item tree (head, n, rest, is, said, ready) spelled = (
@@ -88,7 +89,7 @@ commas_more : (n : ℕ) → commas n ++ Token.comma ∷ [] ≡ commas (suc n)
 commas_more zero = refl
 commas_more (suc n) = ap (λ l. Token.comma ∷ l) (commas_more n)
 
-pub Ready-comma : (tokens : List Token) (trees : List Tree) → Ready tokens trees → 0 < length trees
+pub Ready-comma : (tokens : List Token) (trees : List (Tree Question)) → Ready tokens trees → 0 < length trees
     → Ready (tokens ++ Token.comma ∷ []) trees
 Ready-comma tokens [] ready some = absurd (omega arith)
 Ready-comma tokens (tree ∷ []) (item, n, rest, is, spelled, ready) some =
@@ -115,7 +116,7 @@ Ready-comma tokens (tree ∷ other ∷ others) (item, n, rest, is, spelled, read
 )
 
 -- what the end of a list, and of the text, needs
-Ready-single : (tokens : List Token) (trees : List Tree) → Ready tokens trees → (tree : Tree)
+Ready-single : (tokens : List Token) (trees : List (Tree Question)) → Ready tokens trees → (tree : Tree Question)
     → trees ≡ tree ∷ [] → IsTree tokens tree
 Ready-single tokens trees ready tree e =
     let one : Ready tokens (tree ∷ []) = subst (Ready tokens) e ready in (
@@ -126,16 +127,16 @@ Ready-single tokens trees ready tree e =
       one.4,
     )
 
-pub Full-ready : (tokens : List Token) (trees : List Tree) → Ready tokens trees → Full tokens trees
+pub Full-ready : (tokens : List Token) (trees : List (Tree Question)) → Ready tokens trees → Full tokens trees
 Full-ready tokens trees ready = record {
   list = Ready-list tokens trees ready;
   single =
       Ready-single tokens trees ready;
 }
 
-Behind-single : (front item : List Token) (others : List Tree)
-    (tree : Tree) → Ready front others → IsItem item tree
-    → (one : Tree) → others ++ tree ∷ [] ≡ one ∷ [] → IsTree (front ++ item) one
+Behind-single : (front item : List Token) (others : List (Tree Question))
+    (tree : Tree Question) → Ready front others → IsItem item tree
+    → (one : Tree Question) → others ++ tree ∷ [] ≡ one ∷ [] → IsTree (front ++ item) one
 Behind-single front item [] tree ready spelled one e =
     let same : tree ≡ one = cc in
     (item, 0, ap (λ l. l ++ item) ready ∙ sym (append-nil item), subst (IsItem item) same spelled)
@@ -143,7 +144,7 @@ Behind-single front item (first ∷ []) tree ready spelled one e = absurd (omega
 Behind-single front item (first ∷ second ∷ others) tree ready spelled one e =
     absurd (omega (arith, ap length e))
 
-pub Full-behind : (tokens : List Token) (trees : List Tree) → Behind tokens trees
+pub Full-behind : (tokens : List Token) (trees : List (Tree Question)) → Behind tokens trees
     → Full tokens trees
 Full-behind tokens trees b = record {
   list = rw (b.tokens_are, b.trees_are) (Ready-item b.front b.others b.item b.tree b.ready
@@ -152,7 +153,7 @@ Full-behind tokens trees b = record {
       (Behind-single b.front b.item b.others b.tree b.ready b.spelled one (sym b.trees_are ∙ e));
 }
 
-pub Ready-behind : (tokens : List Token) (trees : List Tree) → Behind tokens trees
+pub Ready-behind : (tokens : List Token) (trees : List (Tree Question)) → Behind tokens trees
     → Ready (tokens ++ Token.comma ∷ []) trees
 Ready-behind tokens trees b = rw (b.tokens_are, b.trees_are)
     (Ready-push b.front b.others b.item b.tree b.ready b.spelled)

@@ -17,14 +17,14 @@ pub ok_same : {A E : Type 0} (s t : A) → ◌≡◌ {A = Result A E} (Ok s) (Ok
 ok_same s t e = cc
 
 -- the tokens are a list of so many items, as `Is` says
-pub record Counted (Is : List Token → List Tree → Type 0) (tokens : List Token)
+pub record Counted (Is : List Token → List (Tree Question) → Type 0) (tokens : List Token)
     (count : ℕ) : Type 0 where
-  pub trees : List Tree
+  pub trees : List (Tree Question)
   pub are : Is tokens trees
   pub counted : length trees ≡ count
 
 -- an item behind a list that is ready for it
-pub Counted-item : (list item : List Token) (tree : Tree) (n m : ℕ) → Counted Ready list n
+pub Counted-item : (list item : List Token) (tree : Tree Question) (n m : ℕ) → Counted Ready list n
     → IsItem item tree → m ≡ n + 1 → Counted Behind (list ++ item) m
 Counted-item list item tree n m ready spelled is = record {
   trees = ready.trees ++ tree ∷ [];
@@ -69,7 +69,7 @@ module _ {M : Type 0} where
 
 module _ {W M L : Type 0} {builder : Builder W M L} where
   -- every predicate has ended, and the innermost list is as `Is` says
-  pub record Settled (Is : List Token → List Tree → Type 0) (s : State builder)
+  pub record Settled (Is : List Token → List (Tree Question) → Type 0) (s : State builder)
       (tokens : List Token) : Type 0 where
     pub before : List Token
     pub list : List Token
@@ -78,8 +78,8 @@ module _ {W M L : Type 0} {builder : Builder W M L} where
     pub items : Counted Is list (current s.stack s.roots)
     pub settled : s.pending ≡ None
 
-  pub Settled-as : (P Q : List Token → List Tree → Type 0) (s : State builder)
-      (tokens : List Token) → ((list : List Token) (trees : List Tree) → P list trees
+  pub Settled-as : (P Q : List Token → List (Tree Question) → Type 0) (s : State builder)
+      (tokens : List Token) → ((list : List Token) (trees : List (Tree Question)) → P list trees
       → Q list trees) → Settled P s tokens → Settled Q s tokens
   Settled-as P Q s tokens change w = record {
     before = w.before;

@@ -10,6 +10,7 @@ use Rattle.std.proofs.lemmas.Bool.Decides.{Decides-eqb}
 use Rattle.cfgx_syntax.specs.Token.{Token}
 use Rattle.cfgx_syntax.specs.Items.{Item}
 use Rattle.cfgx_grammar.specs.FirstFault.{word_of, lacks_value}
+use Rattle.cfgx_grammar.specs.Question.{Question}
 use Rattle.cfgx_grammar.specs.Tree.{Tree}
 use Rattle.cfgx_grammar.specs.Grammar.{IsItem, IsTree}
 use Rattle.cfgx_grammar.specs.Neighbours.{Kind, kind_of, takes}
@@ -41,11 +42,11 @@ close_tokens tokens before list outer front name p q = rw (p, q) (simp append_as
 
 -- the item that a closed function is
 record IsClosed (function : Function) (list : List Token) : Type 0 where
-  pub tree : Tree
+  pub tree : Tree Question
   pub spelled : IsItem (name_of function ∷ Token.open_paren ∷ (list ++ Token.close_paren ∷ [])) tree
 
-one_tree : (tokens : List Token) (trees : List Tree) → Full tokens trees → length trees ≡ 1
-    → (tree : Tree) × IsTree tokens tree
+one_tree : (tokens : List Token) (trees : List (Tree Question)) → Full tokens trees → length trees ≡ 1
+    → (tree : Tree Question) × IsTree tokens tree
 one_tree tokens [] full one = absurd (omega arith)
 one_tree tokens (tree ∷ []) full one = (tree, full.single tree refl)
 one_tree tokens (tree ∷ other ∷ others) full one = absurd (omega arith)
@@ -145,7 +146,7 @@ module _ {W M L : Type 0} {builder : Builder W M L} where
   Settled-close _ s t tokens may reads ends = absurd (false≢true may)
 
   -- a comma behind what has ended
-  Reads-then_comma : (Is : List Token → List Tree → Type 0) (s : State builder)
+  Reads-then_comma : (Is : List Token → List (Tree Question) → Type 0) (s : State builder)
       (tokens : List Token) (w : Settled Is s tokens)
       → Ready (w.list ++ Token.comma ∷ []) w.items.trees → 0 < current s.stack s.roots
       → Reads (Some Token.comma) (with_last Token.comma s) (tokens ++ Token.comma ∷ [])
@@ -488,7 +489,7 @@ module _ {W M L : Type 0} {builder : Builder W M L} where
   -- What the steps accept has a tree.
   pub IsTree-accepted : (items : List Item) (s u : State builder) (len : ℕ)
       → run initial items ≡ Ok s → conclude len s ≡ Ok u
-      → (tree : Tree) × IsTree (tokens_of items) tree
+      → (tree : Tree Question) × IsTree (tokens_of items) tree
   IsTree-accepted items s u len runs ends =
       let c = Concludes-conclude len s u ends in
       let reads = Reads-run items initial s [] runs (Reads-initial builder) in

@@ -149,7 +149,7 @@ no_call key (Some v) name more is = cc
 
 module _ (key : List ℕ) (value : Option (List ℕ)) (question : Question)
     (says : class key value ≡ Class.is question) where
-  only_leaf : (tree : Tree) → IsTree (predicate_tokens key value) tree
+  only_leaf : (tree : Tree Question) → IsTree (predicate_tokens key value) tree
       → tree ≡ Tree.leaf question
   only_leaf (Tree.leaf asked) (item, n, is, (other, given, tokens, said)) =
       let same = same_predicate key other value given n (is ∙ ap (λ l. l ++ commas n) tokens) in

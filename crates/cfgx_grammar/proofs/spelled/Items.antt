@@ -31,8 +31,8 @@ value_at x key z value = record {
 }
 
 -- where a call of the function ends, with these members
-abbrev pub Calls : {W M L : Type 0} → Builder W M L → (List Item → W → W → Tree → Type 0)
-    → (List Item → W → W → Trees → Type 0) → Function → Tree → Trees → Type 0
+abbrev pub Calls : {W M L : Type 0} → Builder W M L → (List Item → W → W → Tree Question → Type 0)
+    → (List Item → W → W → Trees Question → Type 0) → Function → Tree Question → Trees Question → Type 0
 Calls {W} builder ItemBuilds ListBuilds function tree trees = (head opening closing : Item)
     (members : List Item) (w v : W) → ListBuilds members (builder.function function w) v trees
     → ItemBuilds (head ∷ opening ∷ (members ++ closing ∷ [])) w
@@ -40,8 +40,8 @@ Calls {W} builder ItemBuilds ListBuilds function tree trees = (head opening clos
 
 -- what is built of the items of a tree, and of those of a list: from the first to the second
 pub record Laws {W M L : Type 0} (builder : Builder W M L) : Type 1 where
-  pub ItemBuilds : List Item → W → W → Tree → Type 0
-  pub ListBuilds : List Item → W → W → Trees → Type 0
+  pub ItemBuilds : List Item → W → W → Tree Question → Type 0
+  pub ListBuilds : List Item → W → W → Trees Question → Type 0
   pub key : (x : Item) (key : List ℕ) (question : Question) (w : W) → x.token ≡ Token.key key
       → class key None ≡ Class.is question
       → ItemBuilds (x ∷ []) w (builder.leaf (builder.located (key_at x key) question) w)
@@ -52,14 +52,14 @@ pub record Laws {W M L : Type 0} (builder : Builder W M L) : Type 1 where
       → ItemBuilds (x ∷ y ∷ z ∷ []) w
       (builder.leaf (builder.located (value_at x key z value) question) w) (Tree.leaf question)
   pub none : (w : W) → ListBuilds [] w w Trees.none
-  pub more : (xs ys zs : List Item) (tree : Tree) (trees : Trees) (w v u : W)
+  pub more : (xs ys zs : List Item) (tree : Tree Question) (trees : Trees Question) (w v u : W)
       → ItemBuilds xs w v tree → ListBuilds zs v u trees
       → ListBuilds (xs ++ (ys ++ zs)) w u (Trees.more tree trees)
-  pub all : (trees : Trees)
+  pub all : (trees : Trees Question)
       → Calls builder ItemBuilds ListBuilds Function.all (Tree.all trees) trees
-  pub any : (trees : Trees)
+  pub any : (trees : Trees Question)
       → Calls builder ItemBuilds ListBuilds Function.any (Tree.any trees) trees
-  pub not : (tree : Tree) → Calls builder ItemBuilds ListBuilds Function.not (Tree.not tree)
+  pub not : (tree : Tree Question) → Calls builder ItemBuilds ListBuilds Function.not (Tree.not tree)
       (Trees.more tree Trees.none)
 
 -- the items of some tokens, and those of others behind them
@@ -318,14 +318,14 @@ module _ {W M L : Type 0} {builder : Builder W M L} where
   }
 
   -- a member may come, where there is one
-  abbrev pub Needs : Trees → State builder → State builder → Type 0
+  abbrev pub Needs : Trees Question → State builder → State builder → Type 0
   Needs Trees.none before start = Unit {0}
   Needs (Trees.more tree trees) before start =
       (takes before.last Kind.item ≡ true) × (before ≡ start)
 
   -- the state in front of a list: `start` once the predicate before it has ended
   pub record Starts (before start : State builder) (top : Open M) (rest : List (Open M))
-      (trees : Trees) : Type 0 where
+      (trees : Trees Question) : Type 0 where
     pub ends : predicate_ended before ≡ Ok start
     pub stack_is : start.stack ≡ top ∷ rest
     pub settled : start.pending ≡ None
@@ -334,7 +334,7 @@ module _ {W M L : Type 0} {builder : Builder W M L} where
     pub needs : Needs trees before start
 
   -- the members of a call, in front of which an item or `)` may come
-  Starts-inside : (s : State builder) (function : Function) (head opening : Item) (trees : Trees)
+  Starts-inside : (s : State builder) (function : Function) (head opening : Item) (trees : Trees Question)
       → s.pending ≡ None
       → Starts (inside s function head opening) (inside s function head opening)
       (with_parens opening.start (new_open s function head)) s.stack trees
@@ -347,14 +347,14 @@ module _ {W M L : Type 0} {builder : Builder W M L} where
     needs = needs trees;
   }
     where
-      needs : (trees : Trees)
+      needs : (trees : Trees Question)
           → Needs trees (inside s function head opening) (inside s function head opening)
       needs Trees.none = tt
       needs (Trees.more tree trees) = (refl, refl)
 
   -- behind a member and its commas
   Starts-between : (start after : State builder) (written : W) (top : Open M)
-      (rest : List (Open M)) (trees : Trees) (ys : List Item) (n : ℕ) → start.stack ≡ top ∷ rest
+      (rest : List (Open M)) (trees : Trees Question) (ys : List Item) (n : ℕ) → start.stack ≡ top ∷ rest
       → Separates n trees → (c : CommasTaken start after written ys n)
       → Starts c.reached (between start c.reached.last written) (one_more top) rest trees
   Starts-between start after written top rest trees ys n stack separates c = record {
@@ -366,7 +366,7 @@ module _ {W M L : Type 0} {builder : Builder W M L} where
     needs = needs trees separates;
   }
     where
-      needs : (trees : Trees) → Separates n trees
+      needs : (trees : Trees Question) → Separates n trees
           → Needs trees c.reached (between start c.reached.last written)
       needs Trees.none separates = tt
       needs (Trees.more tree trees) some =
@@ -377,7 +377,7 @@ module _ {W M L : Type 0} {builder : Builder W M L} where
 
 module _ {W M L : Type 0} {builder : Builder W M L} (laws : Laws builder) where
   -- what the state is when an item has been taken, and its predicate ended
-  pub record ItemEnds (s : State builder) (items : List Item) (tree : Tree) : Type 0 where
+  pub record ItemEnds (s : State builder) (items : List Item) (tree : Tree Question) : Type 0 where
     pub after : State builder
     pub written : W
     pub runs : run s items ≡ Ok after
@@ -387,7 +387,7 @@ module _ {W M L : Type 0} {builder : Builder W M L} (laws : Laws builder) where
 
   -- what the state is when a list has been taken, inside the function `top`
   pub record ListEnds (before start : State builder) (top : Open M) (rest : List (Open M))
-      (items : List Item) (trees : Trees) : Type 0 where
+      (items : List Item) (trees : Trees Question) : Type 0 where
     pub after : State builder
     pub written : W
     pub runs : run before items ≡ Ok after
@@ -452,7 +452,7 @@ module _ {W M L : Type 0} {builder : Builder W M L} (laws : Laws builder) where
 
   -- a member, its commas, and what follows
   ListEnds-more : (before start : State builder) (top : Open M) (rest : List (Open M))
-      (xs ys zs : List Item) (tree : Tree) (trees : Trees) (n : ℕ) → before ≡ start
+      (xs ys zs : List Item) (tree : Tree Question) (trees : Trees Question) (n : ℕ) → before ≡ start
       → start.stack ≡ top ∷ rest → (i : ItemEnds start xs tree)
       (c : CommasTaken start i.after i.written ys n)
       → ListEnds c.reached (between start c.reached.last i.written) (one_more top) rest zs trees
@@ -474,7 +474,7 @@ module _ {W M L : Type 0} {builder : Builder W M L} (laws : Laws builder) where
       }
 
   ListEnds-member : (before start : State builder) (top : Open M) (rest : List (Open M))
-      (items : List Item) (item others : List Token) (tree : Tree) (trees : Trees) (n : ℕ)
+      (items : List Item) (item others : List Token) (tree : Tree Question) (trees : Trees Question) (n : ℕ)
       (m : MemberItems items item others n) → before ≡ start → start.stack ≡ top ∷ rest
       → Separates n trees → ItemEnds start m.xs tree
       → ((b t : State builder) → Starts b t (one_more top) rest trees
@@ -490,7 +490,7 @@ module _ {W M L : Type 0} {builder : Builder W M L} (laws : Laws builder) where
 
   -- a call, by its members
   ItemEnds-call : (s : State builder) (items : List Item) (function : Function)
-      (inner : List Token) (tree : Tree) (trees : Trees) → takes s.last Kind.item ≡ true
+      (inner : List Token) (tree : Tree Question) (trees : Trees Question) → takes s.last Kind.item ≡ true
       → (c : CallItems items (name_of function) inner) → has_room function (count trees) ≡ true
       → Calls builder laws.ItemBuilds laws.ListBuilds function tree trees
       → ListEnds (inside s function c.head c.opening) (inside s function c.head c.opening)
@@ -525,7 +525,7 @@ module _ {W M L : Type 0} {builder : Builder W M L} (laws : Laws builder) where
 
   -- a call of `all` or of `any`, whose list may be any
   ItemEnds-listed : (s : State builder) (items : List Item) (function : Function)
-      (inner : List Token) (tree : Tree) (trees : Trees) → takes s.last Kind.item ≡ true
+      (inner : List Token) (tree : Tree Question) (trees : Trees Question) → takes s.last Kind.item ≡ true
       → s.pending ≡ None → IsCall (name_of function) (tokens_of items) inner
       → has_room function (count trees) ≡ true
       → Calls builder laws.ItemBuilds laws.ListBuilds function tree trees → IsList inner trees
@@ -540,7 +540,7 @@ module _ {W M L : Type 0} {builder : Builder W M L} (laws : Laws builder) where
       (each _ _ _ c.members start (subst (λ l. IsList l trees) (sym c.members_are) list))
 
   mutual
-    pub ItemEnds-item : (tree : Tree) (s : State builder) (items : List Item)
+    pub ItemEnds-item : (tree : Tree Question) (s : State builder) (items : List Item)
         → takes s.last Kind.item ≡ true → s.pending ≡ None → IsItem (tokens_of items) tree
         → ItemEnds s items tree
     ItemEnds-item (Tree.leaf question) s items may none (key, value, is, classed) =
@@ -563,7 +563,7 @@ module _ {W M L : Type 0} {builder : Builder W M L} (laws : Laws builder) where
         (ListEnds-member start start _ s.stack c.members item [] tree Trees.none n m refl refl tt i
         (λ b t st. ListEnds-end b t _ s.stack m.zs m.rest_is st))
 
-    pub ListEnds-list : (trees : Trees) (before start : State builder) (top : Open M)
+    pub ListEnds-list : (trees : Trees Question) (before start : State builder) (top : Open M)
         (rest : List (Open M)) (items : List Item) → Starts before start top rest trees
         → IsList (tokens_of items) trees → ListEnds before start top rest items trees
     ListEnds-list Trees.none before start top rest items s is =

@@ -10,7 +10,7 @@ use Rattle.cfgx_grammar.proofs.accepted.Lists.{trees_of}
 use Rattle.cfgx_grammar.proofs.spelled.Items.{Calls, Laws}
 
 -- a function's tree, of its members; a `not` always has one
-abbrev called : Function → List Tree → Tree
+abbrev called : Function → List (Tree Question) → Tree Question
 called Function.all trees = Tree.all (trees_of trees)
 called Function.any trees = Tree.any (trees_of trees)
 called Function.not [] = Tree.all Trees.none
@@ -18,7 +18,7 @@ called Function.not (tree ∷ trees) = Tree.not tree
 
 -- it keeps the trees of the open lists that have ended, those of inner lists behind those of outer
 -- ones
-abbrev pub tree_builder : Builder (List Tree) ℕ Question
+abbrev pub tree_builder : Builder (List (Tree Question)) ℕ Question
 tree_builder = record {
   nothing = [];
   mark_of = length;
@@ -30,15 +30,15 @@ tree_builder = record {
   root_ended = λ trees. trees;
 }
 
-abbrev list_of : Trees → List Tree
+abbrev list_of : Trees Question → List (Tree Question)
 list_of Trees.none = []
 list_of (Trees.more tree trees) = tree ∷ list_of trees
 
-trees_listed : (trees : Trees) → trees_of (list_of trees) ≡ trees
+trees_listed : (trees : Trees Question) → trees_of (list_of trees) ≡ trees
 trees_listed Trees.none = refl
 trees_listed (Trees.more tree trees) = ap (Trees.more tree) (trees_listed trees)
 
-calls : (function : Function) (tree : Tree) (trees : Trees)
+calls : (function : Function) (tree : Tree Question) (trees : Trees Question)
     → called function (list_of trees) ≡ tree → Calls tree_builder (λ items w v t. v ≡ w ++ t ∷ [])
     (λ items w v ts. v ≡ w ++ list_of ts) function tree trees
 calls function tree trees is head opening closing members w v built =
@@ -63,7 +63,7 @@ tree_laws = record {
   not = λ tree. calls Function.not (Tree.not tree) (Trees.more tree Trees.none) refl;
 }
 
-pub tree_built : (items : List Item) (built : List Tree) (tree : Tree)
+pub tree_built : (items : List Item) (built : List (Tree Question)) (tree : Tree Question)
     → tree_laws.ItemBuilds items [] built tree → built ≡ tree ∷ []
 unfolding tree_laws
 tree_built items built tree is = is

@@ -3,6 +3,7 @@ use Rattle.std.proofs.Common.{◌≡◌, ℕ, false, List, [], ◌∷◌, ◌++�
 use Rattle.cfgx_syntax.specs.Items.{Item}
 use Rattle.cfgx_grammar.specs.FirstFault.{lacks_value}
 use Rattle.cfgx_grammar.specs.Grammar.{commas, IsItem, IsTree}
+use Rattle.cfgx_grammar.specs.Question.{Question}
 use Rattle.cfgx_grammar.specs.Tree.{Tree}
 use Rattle.cfgx_grammar.specs.parsing.State.{Builder, Open, State, initial}
 use Rattle.cfgx_grammar.specs.parsing.Step.{and_then, predicate_ended, run, one_root, concluded_by}
@@ -31,7 +32,7 @@ module _ {W M L : Type 0} {builder : Builder W M L} where
 
 module _ {W M L : Type 0} {builder : Builder W M L} (laws : Laws builder) where
   -- the tokens are taken, and the tree is built of the first of them: commas may follow
-  pub record Finds (len : ℕ) (items : List Item) (tree : Tree) : Type 0 where
+  pub record Finds (len : ℕ) (items : List Item) (tree : Tree Question) : Type 0 where
     pub read : State builder
     pub runs : run initial items ≡ Ok read
     pub first : List Item
@@ -43,7 +44,7 @@ module _ {W M L : Type 0} {builder : Builder W M L} (laws : Laws builder) where
     pub concludes : conclude len read ≡ Ok whole
     pub whole_is : whole.written ≡ builder.root_ended written
 
-  pub Finds-tree : (len : ℕ) (items : List Item) (tree : Tree) → IsTree (tokens_of items) tree
+  pub Finds-tree : (len : ℕ) (items : List Item) (tree : Tree Question) → IsTree (tokens_of items) tree
       → Finds len items tree
   Finds-tree len items tree (item, n, is, spelled) =
       let s = Splits-tokens item (commas n) items is in

@@ -11,30 +11,30 @@ use Rattle.cfgx_grammar.specs.Question.{Question}
 use Rattle.cfgx_grammar.specs.Tree.{Tree, Trees}
 
 -- a key that stands alone
-abbrev pub flag : List ℕ → Tree
+abbrev pub flag : List ℕ → Tree Question
 flag key = Tree.leaf (Question.flag key)
 
 abbrev pub flags : List (List ℕ) → List Question
 flags keys = map Question.flag keys
 
-abbrev pub one : Tree → Trees
+abbrev pub one : Tree Question → Trees Question
 one tree = Trees.more tree Trees.none
 
 -- `all(a, any(b), c)`
-abbrev pub shallow : Tree
+abbrev pub shallow : Tree Question
 shallow = Tree.all (Trees.more (flag (codes "a"))
     (Trees.more (Tree.any (one (flag (codes "b")))) (one (flag (codes "c")))))
 
 -- `all(b, not(c))`
-abbrev pub inside : Tree
+abbrev pub inside : Tree Question
 inside = Tree.all (Trees.more (flag (codes "b")) (one (Tree.not (flag (codes "c")))))
 
 -- `any(a, all(b, not(c)), d)`
-abbrev pub nested : Tree
+abbrev pub nested : Tree Question
 nested = Tree.any (Trees.more (flag (codes "a")) (Trees.more inside (one (flag (codes "d")))))
 
 -- `all(a,,b)`
-abbrev pub listed : Tree
+abbrev pub listed : Tree Question
 listed = Tree.all (Trees.more (flag (codes "a")) (one (flag (codes "b"))))
 
 abbrev pub key_a : Token
@@ -48,7 +48,7 @@ listed_tokens = Token.all ∷ Token.open_paren ∷ key_a ∷ Token.comma ∷ Tok
     ∷ Token.close_paren ∷ []
 
 -- `all(a)`
-abbrev pub single : Tree
+abbrev pub single : Tree Question
 single = Tree.all (one (flag (codes "a")))
 
 abbrev pub item : Token → ℕ → ℕ → Item

@@ -6,6 +6,7 @@ use Rattle.cfgx_syntax.specs.contracts.logic.BoolLogic.TheImpl as bool_logic
 use Rattle.cfgx_syntax.specs.contracts.logic.OptionBoolLogic.TheImpl as kleene_logic
 use Rattle.cfgx_grammar.specs.Fold.{fold}
 use Rattle.cfgx_grammar.specs.Neighbours.{next, expected}
+use Rattle.cfgx_grammar.specs.Question.{Question}
 use Rattle.cfgx_grammar.specs.Tree.{Tree, Trees, asked}
 use Rattle.cfgx_grammar.proofs.worked.Rows.{flag, flags, one, shallow, nested, listed, terms}
 
@@ -61,7 +62,7 @@ pub negated : fold terms (Tree.not (Tree.any (one (flag (codes "x"))))) (codes "
     "!(F|x)"
 negated = refl
 
-pub none : fold terms (Tree.all Trees.none) [] ≡ codes "T"
+pub none : fold {X = Question} terms (Tree.all Trees.none) [] ≡ codes "T"
 none = refl
 
 pub alone : fold terms (flag (codes "a")) (codes "a" ∷ []) ≡ codes "a"

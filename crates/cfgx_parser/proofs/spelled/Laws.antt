@@ -24,7 +24,7 @@ use Rattle.cfgx_parser.proofs.spelled.Written.{Writes-none, Writes-then, Writes-
 use Rattle.cfgx_parser.proofs.spelled.Written.{Writes-function, length-nodes}
 
 -- a function's tree, by its kind and its members
-record Called (function : Function) (tree : Tree) (trees : Trees) : Type 0 where
+record Called (function : Function) (tree : Tree Question) (trees : Trees Question) : Type 0 where
   pub prefix_is : prefix tree ≡ headed (counted function (count trees)) (prefix_each trees)
   pub places_are : (place : ℕ) → places place tree ≡ inner_places (place + 1) trees
       ++ own_places (place + 1) trees
@@ -32,20 +32,20 @@ record Called (function : Function) (tree : Tree) (trees : Trees) : Type 0 where
   pub is_one : is_function tree ≡ true
 
 -- the two ways of writing the one member of a `not`
-places_one : (place : ℕ) (tree : Tree) → places place tree ≡ inner_places place
+places_one : (place : ℕ) (tree : Tree Question) → places place tree ≡ inner_places place
     (Trees.more tree Trees.none) ++ own_places place (Trees.more tree Trees.none)
 places_one place (Tree.leaf question) = refl
 places_one place tree = sym (append-nil (places place tree ++ []) ∙ append-nil (places place tree))
 
-Called-all : (trees : Trees) → Called Function.all (Tree.all trees) trees
+Called-all : (trees : Trees Question) → Called Function.all (Tree.all trees) trees
 Called-all trees =
     record { prefix_is = refl; places_are = λ place. refl; is_no_leaf = refl; is_one = refl }
 
-Called-any : (trees : Trees) → Called Function.any (Tree.any trees) trees
+Called-any : (trees : Trees Question) → Called Function.any (Tree.any trees) trees
 Called-any trees =
     record { prefix_is = refl; places_are = λ place. refl; is_no_leaf = refl; is_one = refl }
 
-Called-not : (tree : Tree) → Called Function.not (Tree.not tree) (Trees.more tree Trees.none)
+Called-not : (tree : Tree Question) → Called Function.not (Tree.not tree) (Trees.more tree Trees.none)
 Called-not tree = record {
   prefix_is = ap (headed Not) (sym (append-nil (prefix tree)));
   places_are = λ place. places_one (place + 1) tree;
@@ -55,12 +55,12 @@ Called-not tree = record {
 
 module _ (text : List ℕ) where
   -- for a tree whose items stand at their places, and for a list
-  abbrev pub ItemWrites : List Item → Written → Written → Tree → Type 0
+  abbrev pub ItemWrites : List Item → Written → Written → Tree Question → Type 0
   ItemWrites items w v tree = ArePlaced text items
       → Writes text w v (prefix tree) (if is_leaf tree then length w.nodes ∷ [] else [])
       (if is_function tree then places (length w.nodes) tree else [])
 
-  abbrev ListWrites : List Item → Written → Written → Trees → Type 0
+  abbrev ListWrites : List Item → Written → Written → Trees Question → Type 0
   ListWrites items w v trees = ArePlaced text items
       → Writes text w v (prefix_each trees) (own_places (length w.nodes) trees)
       (inner_places (length w.nodes) trees)
@@ -76,7 +76,7 @@ module _ (text : List ℕ) where
       (NamesClass-class text key_span span key value stands) in
       Writes-leaf text w _ question named.0 named.1
 
-  list_writes : (xs ys zs : List Item) (tree : Tree) (trees : Trees) (w v u : Written)
+  list_writes : (xs ys zs : List Item) (tree : Tree Question) (trees : Trees Question) (w v u : Written)
       → ItemWrites xs w v tree → ListWrites zs v u trees
       → ListWrites (xs ++ (ys ++ zs)) w u (Trees.more tree trees)
   list_writes xs ys zs tree trees w v u writes more placed =
@@ -87,7 +87,7 @@ module _ (text : List ℕ) where
       (inner_places k trees)) (length-nodes text w v (prefix tree) _ _ first) others in
       Writes-then text w v u _ _ _ _ _ _ first at
 
-  call_writes : (function : Function) (tree : Tree) (trees : Trees) → Called function tree trees
+  call_writes : (function : Function) (tree : Tree Question) (trees : Trees Question) → Called function tree trees
       → Calls node_builder ItemWrites ListWrites function tree trees
   call_writes function tree trees called head opening closing members w v writes placed =
       let P = λ (item : Item). IsPlaced text item item.token in
@@ -118,7 +118,7 @@ module _ (text : List ℕ) where
         (Called-not tree);
   }
 
-  pub laws_written : (items : List Item) (w v : Written) (tree : Tree)
+  pub laws_written : (items : List Item) (w v : Written) (tree : Tree Question)
       → node_laws.ItemBuilds items w v tree → ItemWrites items w v tree
   unfolding node_laws
   laws_written items w v tree writes = writes

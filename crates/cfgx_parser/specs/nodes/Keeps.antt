@@ -14,7 +14,7 @@ use Rattle.cfgx_parser.specs.declared.nodes.ExprNode.TheVariants as node
 
 -- the nodes and the places are those of the tree, and the text can be cut at their spans
 pub record KeepsTree (text : List ℕ) (nodes : List ExprNode) (asked : List ℕ)
-    (tree : Tree) : Type 0 where
+    (tree : Tree Question) : Type 0 where
   pub nodes_are : map (node_at text) nodes ≡ prefix tree
   pub cuts : AllByRecursion (NodeHasCut text) nodes
   pub asked_are : asked ≡ places 0 tree

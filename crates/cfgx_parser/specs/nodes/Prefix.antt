@@ -22,18 +22,18 @@ abbrev pub headed : Func → List Node → List Node
 headed func members = Node.function func (length members + 1) ∷ members
 
 abbrev mutual
-  pub prefix : Tree → List Node
+  pub prefix : Tree Question → List Node
   prefix (Tree.leaf question) = Node.leaf question ∷ []
   prefix (Tree.all trees) = headed (All (count trees)) (prefix_each trees)
   prefix (Tree.any trees) = headed (Any (count trees)) (prefix_each trees)
   prefix (Tree.not tree) = headed Not (prefix tree)
 
-  pub prefix_each : Trees → List Node
+  pub prefix_each : Trees Question → List Node
   prefix_each Trees.none = []
   prefix_each (Trees.more tree trees) = prefix tree ++ prefix_each trees
 
 -- where the trees of a list stand that are leaves, when the first stands at the place
-abbrev pub own_places : ℕ → Trees → List ℕ
+abbrev pub own_places : ℕ → Trees Question → List ℕ
 own_places place Trees.none = []
 own_places place (Trees.more tree trees) = (if is_leaf tree then place ∷ [] else [])
     ++ own_places (place + length (prefix tree)) trees
@@ -41,14 +41,14 @@ own_places place (Trees.more tree trees) = (if is_leaf tree then place ∷ [] el
 abbrev mutual
   -- where the leaves of a tree stand, in the order in which they are asked, when the tree stands at
   -- the place
-  pub places : ℕ → Tree → List ℕ
+  pub places : ℕ → Tree Question → List ℕ
   places place (Tree.leaf question) = place ∷ []
   places place (Tree.all trees) = inner_places (place + 1) trees ++ own_places (place + 1) trees
   places place (Tree.any trees) = inner_places (place + 1) trees ++ own_places (place + 1) trees
   places place (Tree.not tree) = places (place + 1) tree
 
   -- where those of the functions of a list stand
-  pub inner_places : ℕ → Trees → List ℕ
+  pub inner_places : ℕ → Trees Question → List ℕ
   inner_places place Trees.none = []
   inner_places place (Trees.more tree trees) =
       (if is_function tree then places place tree else [])

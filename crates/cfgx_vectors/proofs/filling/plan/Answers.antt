@@ -21,7 +21,7 @@ record AreFound (text : List ℕ) (answers : List (Option Bool)) (found : Fillin
 
 AreFound-clauses : (text : List ℕ) (answers : List (Option Bool)) (found shown : Fillings)
     → found ≡ shown
-    → (tree : Tree) × HasTree text tree × (length answers ≡ length (asked tree))
+    → (tree : Tree Question) × HasTree text tree × (length answers ≡ length (asked tree))
     → (one : HasOneTree text) × ((given : List (Option Bool))
     → length given ≡ length (asked one.tree) → IsExact one.tree given)
     → (one : HasOneTree text) × PolarFillings one.tree answers found
@@ -34,7 +34,7 @@ AreFound-clauses text answers found shown is given exact fillings =
       one = one;
       exact = exact.1 answers many;
       fillings = subst (PolarFillings one.tree answers) is
-          (subst (λ (tree : Tree). PolarFillings tree answers found) same fillings.1);
+          (subst (λ (tree : Tree Question). PolarFillings tree answers found) same fillings.1);
     }
 
 -- a value of the text is that of the one tree

@@ -1,0 +1,163 @@
+-- Trees of one shape, whose leaves stand in a relation one by one.
+use Rattle.std.proofs.Common.{◌≡◌, ℕ, suc, zero, Bool, true, false, List, [], ◌∷◌, ◌++◌, length}
+use Rattle.std.proofs.Common.{drop, refl, sym}
+use Rattle.std.specs.Prelude.{if◌then◌else◌}
+use Rattle.std.specs.List.{AllZip}
+use Rattle.std.proofs.lemmas.Bool.{true≢false}
+use Rattle.std.proofs.lemmas.Slice.Zip.{AllZip-long}
+use Rattle.cfgx_grammar.specs.Tree.{Tree, Trees, is_function, is_leaf, asked, asked_by}
+use Rattle.cfgx_grammar.specs.Fold.{first_or, answered, answered_each}
+
+-- Lists whose items stand in a relation.
+
+AllZip-drop : {T U : Type 0} (R : T → U → Type 0) (n : ℕ) (xs : List T) (ys : List U)
+    → AllZip R xs ys → AllZip R (drop n xs) (drop n ys)
+AllZip-drop R zero xs ys zipped = zipped
+AllZip-drop R (suc n) [] [] zipped = zipped
+AllZip-drop R (suc n) [] (y ∷ ys) zipped = absurd zipped
+AllZip-drop R (suc n) (x ∷ xs) [] zipped = absurd zipped
+AllZip-drop R (suc n) (x ∷ xs) (y ∷ ys) zipped = AllZip-drop R n xs ys zipped.1
+
+pub AllZip-append : {T U : Type 0} (R : T → U → Type 0) (xs others : List T) (ys more : List U)
+    → AllZip R xs ys → AllZip R others more → AllZip R (xs ++ others) (ys ++ more)
+AllZip-append R [] others [] more zipped rest = rest
+AllZip-append R [] others (y ∷ ys) more zipped rest = absurd zipped
+AllZip-append R (x ∷ xs) others [] more zipped rest = absurd zipped
+AllZip-append R (x ∷ xs) others (y ∷ ys) more zipped rest =
+    (zipped.0, AllZip-append R xs others ys more zipped.1 rest)
+
+-- what stands in both lists or in none
+pub AllZip-if : {T U : Type 0} (R : T → U → Type 0) (b c : Bool) → b ≡ c → (xs others : List T)
+    (ys more : List U) → AllZip R (xs ++ others) (ys ++ more) → AllZip R others more
+    → AllZip R (if b then xs ++ others else others) (if c then ys ++ more else more)
+AllZip-if R true true same xs others ys more with without = with
+AllZip-if R false false same xs others ys more with without = without
+AllZip-if R true false same xs others ys more with without = absurd (true≢false same)
+AllZip-if R false true same xs others ys more with without = absurd (true≢false (sym same))
+
+module _ {T U : Type 0} (R : T → U → Type 0) where
+  mutual
+    pub data Alike : Tree T → Tree U → Type 0 where
+      leaf : (x : T) (y : U) → R x y → Alike (Tree.leaf x) (Tree.leaf y)
+      all : (xs : Trees T) (ys : Trees U) → AlikeEach xs ys → Alike (Tree.all xs) (Tree.all ys)
+      any : (xs : Trees T) (ys : Trees U) → AlikeEach xs ys → Alike (Tree.any xs) (Tree.any ys)
+      not : (x : Tree T) (y : Tree U) → Alike x y → Alike (Tree.not x) (Tree.not y)
+
+    pub data AlikeEach : Trees T → Trees U → Type 0 where
+      none : AlikeEach Trees.none Trees.none
+      more : (x : Tree T) (y : Tree U) (xs : Trees T) (ys : Trees U) → Alike x y
+          → AlikeEach xs ys → AlikeEach (Trees.more x xs) (Trees.more y ys)
+
+-- trees of one shape, whatever their leaves are
+abbrev pub SameShape : {T U : Type 0} → Tree T → Tree U → Type 0
+SameShape {T} {U} = Alike (λ (x : T) (y : U). Unit {0})
+
+abbrev pub SameShapes : {T U : Type 0} → Trees T → Trees U → Type 0
+SameShapes {T} {U} = AlikeEach (λ (x : T) (y : U). Unit {0})
+
+-- two tests that say the same of trees that are alike
+abbrev pub SameTests : {T U : Type 0} (R : T → U → Type 0) → (Tree T → Bool) → (Tree U → Bool) → Type 0
+SameTests {T} {U} R f g = (x : Tree T) (y : Tree U) → Alike R x y → f x ≡ g y
+
+module _ {T U : Type 0} (R : T → U → Type 0) where
+  pub same_functions : SameTests R is_function is_function
+  same_functions _ _ (Alike.leaf x y related) = refl
+  same_functions _ _ (Alike.all xs ys each) = refl
+  same_functions _ _ (Alike.any xs ys each) = refl
+  same_functions _ _ (Alike.not x y alike) = refl
+
+  pub same_leaves : SameTests R is_leaf is_leaf
+  same_leaves _ _ (Alike.leaf x y related) = refl
+  same_leaves _ _ (Alike.all xs ys each) = refl
+  same_leaves _ _ (Alike.any xs ys each) = refl
+  same_leaves _ _ (Alike.not x y alike) = refl
+
+  mutual
+    -- they ask alike
+    pub asked-alike : (x : Tree T) (y : Tree U) → Alike R x y → AllZip R (asked x) (asked y)
+    asked-alike _ _ (Alike.leaf x y related) = (related, tt)
+    asked-alike _ _ (Alike.all xs ys each) = AllZip-append R _ _ _ _
+        (asked_by-alike is_function is_function same_functions xs ys each)
+        (asked_by-alike is_leaf is_leaf same_leaves xs ys each)
+    asked-alike _ _ (Alike.any xs ys each) = AllZip-append R _ _ _ _
+        (asked_by-alike is_function is_function same_functions xs ys each)
+        (asked_by-alike is_leaf is_leaf same_leaves xs ys each)
+    asked-alike _ _ (Alike.not x y alike) = asked-alike x y alike
+
+    pub asked_by-alike : (f : Tree T → Bool) (g : Tree U → Bool) → SameTests R f g
+        → (xs : Trees T) (ys : Trees U) → AlikeEach R xs ys
+        → AllZip R (asked_by f xs) (asked_by g ys)
+    asked_by-alike f g same _ _ AlikeEach.none = tt
+    asked_by-alike f g same _ _ (AlikeEach.more x y xs ys first rest) =
+        chosen (f x) (g y) (same x y first) (asked-alike x y first)
+        (asked_by-alike f g same xs ys rest)
+      where
+        chosen : (b c : Bool) → b ≡ c → AllZip R (asked x) (asked y)
+            → AllZip R (asked_by f xs) (asked_by g ys)
+            → AllZip R ((if b then asked x else []) ++ asked_by f xs)
+            ((if c then asked y else []) ++ asked_by g ys)
+        chosen true true is here others = AllZip-append R _ _ _ _ here others
+        chosen false false is here others = others
+        chosen true false is here others = absurd (true≢false is)
+        chosen false true is here others = absurd (true≢false (sym is))
+
+  pub length-asked : (x : Tree T) (y : Tree U) → Alike R x y → length (asked y) ≡ length (asked x)
+  length-asked x y alike = AllZip-long R (asked x) (asked y) (asked-alike x y alike)
+
+  pub length-asked_by : (xs : Trees T) (ys : Trees U) → AlikeEach R xs ys
+      → length (asked_by is_function ys) ≡ length (asked_by is_function xs)
+  length-asked_by xs ys each = AllZip-long R _ _
+      (asked_by-alike is_function is_function same_functions xs ys each)
+
+-- Answers that are alike, dealt out to one tree, make trees that are alike.
+module _ {T U : Type 0} (R : T → U → Type 0) (one : T) (other : U) (related : R one other) where
+  first-alike : (xs : List T) (ys : List U) → AllZip R xs ys
+      → R (first_or one xs) (first_or other ys)
+  first-alike [] [] zipped = related
+  first-alike [] (y ∷ ys) zipped = absurd zipped
+  first-alike (x ∷ xs) [] zipped = absurd zipped
+  first-alike (x ∷ xs) (y ∷ ys) zipped = zipped.0
+
+  mutual
+    pub answered-alike : {X : Type 0} (tree : Tree X) (xs : List T) (ys : List U) → AllZip R xs ys
+        → Alike R (answered one tree xs) (answered other tree ys)
+    answered-alike (Tree.leaf x) xs ys zipped = Alike.leaf _ _ (first-alike xs ys zipped)
+    answered-alike (Tree.all trees) xs ys zipped = Alike.all _ _ (answered_each-alike trees _ _ _ _
+        zipped (AllZip-drop R (length (asked_by is_function trees)) xs ys zipped))
+    answered-alike (Tree.any trees) xs ys zipped = Alike.any _ _ (answered_each-alike trees _ _ _ _
+        zipped (AllZip-drop R (length (asked_by is_function trees)) xs ys zipped))
+    answered-alike (Tree.not tree) xs ys zipped = Alike.not _ _ (answered-alike tree xs ys zipped)
+
+    answered_each-alike : {X : Type 0} (trees : Trees X) (xs others : List T) (ys further : List U)
+        → AllZip R xs ys → AllZip R others further
+        → AlikeEach R (answered_each one trees xs others) (answered_each other trees ys further)
+    answered_each-alike Trees.none xs others ys further inner own = AlikeEach.none
+    answered_each-alike (Trees.more (Tree.leaf x) trees) xs others ys further inner own =
+        AlikeEach.more _ _ _ _ (answered-alike (Tree.leaf x) others further own)
+        (answered_each-alike trees xs _ ys _ inner (AllZip-drop R 1 others further own))
+    answered_each-alike (Trees.more tree trees) xs others ys further inner own =
+        AlikeEach.more _ _ _ _ (answered-alike tree xs ys inner)
+        (answered_each-alike trees _ others _ further
+        (AllZip-drop R (length (asked tree)) xs ys inner) own)
+
+mutual
+  -- a tree keeps its shape when it is answered
+  pub answered-shape : {X T : Type 0} (otherwise : T) (tree : Tree X) (answers : List T)
+      → SameShape tree (answered otherwise tree answers)
+  answered-shape otherwise (Tree.leaf x) answers = Alike.leaf _ _ tt
+  answered-shape otherwise (Tree.all trees) answers =
+      Alike.all _ _ (answered_each-shape otherwise trees _ _)
+  answered-shape otherwise (Tree.any trees) answers =
+      Alike.any _ _ (answered_each-shape otherwise trees _ _)
+  answered-shape otherwise (Tree.not tree) answers =
+      Alike.not _ _ (answered-shape otherwise tree answers)
+
+  answered_each-shape : {X T : Type 0} (otherwise : T) (trees : Trees X) (inner own : List T)
+      → SameShapes trees (answered_each otherwise trees inner own)
+  answered_each-shape otherwise Trees.none inner own = AlikeEach.none
+  answered_each-shape otherwise (Trees.more (Tree.leaf x) trees) inner own =
+      AlikeEach.more _ _ _ _ (answered-shape otherwise (Tree.leaf x) own)
+      (answered_each-shape otherwise trees _ _)
+  answered_each-shape otherwise (Trees.more tree trees) inner own =
+      AlikeEach.more _ _ _ _ (answered-shape otherwise tree inner)
+      (answered_each-shape otherwise trees _ _)

@@ -1,0 +1,175 @@
+-- Answers that are dealt out to a tree are what the answered tree asks.
+use Rattle.std.proofs.Common.{◌≡◌, ℕ, zero, suc, ◌+◌, ◌≤◌, List, [], ◌∷◌, ◌++◌, length, take, drop}
+use Rattle.std.proofs.Common.{refl, sym, ap, ◌∙◌, arith, append_assoc, length-append, length-drop}
+use Rattle.std.proofs.Common.{drop_at}
+use Rattle.std.proofs.lemmas.List.{append-nil, take_all}
+use Rattle.cfgx_grammar.specs.Tree.{Tree, Trees, is_function, is_leaf, asked, asked_by}
+use Rattle.cfgx_grammar.specs.Fold.{behind, answered, answered_each}
+use Rattle.cfgx_grammar.proofs.Alike.{Alike, AlikeEach, SameShape, SameShapes}
+use Rattle.cfgx_grammar.proofs.Alike.{length-asked, length-asked_by}
+
+-- What a tree asks, dealt out to a tree of its shape, makes it again.
+module _ {X T : Type 0} (otherwise : T) where
+  abbrev Any : X → T → Type 0
+  Any x y = Unit {0}
+
+  -- the first of some members is a function
+  module _ (tree : Tree X) (answer : Tree T) (trees : Trees X) (answers : Trees T)
+      (inner rest : List T) where
+    function_first : length (asked answer) ≡ length (asked tree)
+        → ((more : List T) → answered otherwise tree (asked answer ++ more) ≡ answer)
+        → (own : List T) → answered_each otherwise trees (inner ++ rest) own ≡ answers
+        → Trees.more (answered otherwise tree ((asked answer ++ inner) ++ rest))
+        (answered_each otherwise trees (behind (asked tree) ((asked answer ++ inner) ++ rest)) own)
+        ≡ Trees.more answer answers
+    function_first many here own others = rw (
+      append_assoc (asked answer) inner rest,
+      here (inner ++ rest),
+      drop_at (asked answer) (inner ++ rest) (length (asked tree)) many,
+      others,
+    ) refl
+
+  -- the members of a list, whatever comes behind
+  abbrev Remade : Trees X → Trees T → Type 0
+  Remade trees answers = (inner own : List T) → answered_each otherwise trees
+      (asked_by is_function answers ++ inner) (asked_by is_leaf answers ++ own) ≡ answers
+
+  list_front : (trees : Trees X) (answers : Trees T)
+      → length (asked_by is_function answers) ≡ length (asked_by is_function trees)
+      → Remade trees answers → (more : List T)
+      → let all = (asked_by is_function answers ++ asked_by is_leaf answers) ++ more in
+      answered_each otherwise trees all (behind (asked_by is_function trees) all) ≡ answers
+  list_front trees answers many remade more =
+      let inner = asked_by is_function answers in
+      let own = asked_by is_leaf answers in
+      rw (
+        append_assoc inner own more,
+        drop_at inner (own ++ more) (length (asked_by is_function trees)) many,
+      ) (remade (own ++ more) more)
+
+  mutual
+    answered-front : (tree : Tree X) (answer : Tree T) → SameShape tree answer → (more : List T)
+        → answered otherwise tree (asked answer ++ more) ≡ answer
+    answered-front _ _ (Alike.leaf x y related) more = refl
+    answered-front _ _ (Alike.all xs ys each) more =
+        ap Tree.all (list_front xs ys (length-asked_by Any xs ys each)
+        (answered_each-front xs ys each) more)
+    answered-front _ _ (Alike.any xs ys each) more =
+        ap Tree.any (list_front xs ys (length-asked_by Any xs ys each)
+        (answered_each-front xs ys each) more)
+    answered-front _ _ (Alike.not x y alike) more = ap Tree.not (answered-front x y alike more)
+
+    answered_each-front : (trees : Trees X) (answers : Trees T) → SameShapes trees answers
+        → Remade trees answers
+    answered_each-front _ _ AlikeEach.none inner own = refl
+    answered_each-front _ _ (AlikeEach.more _ _ xs ys (Alike.leaf x y related) rest) inner own =
+        ap (Trees.more (Tree.leaf y)) (answered_each-front xs ys rest inner own)
+    answered_each-front _ _ (AlikeEach.more x y xs ys (Alike.all us vs each) rest) inner own =
+        function_first (Tree.all us) (Tree.all vs) xs ys _ inner
+        (length-asked Any _ _ (Alike.all us vs each)) (answered-front _ _ (Alike.all us vs each)) _
+        (answered_each-front xs ys rest inner own)
+    answered_each-front _ _ (AlikeEach.more x y xs ys (Alike.any us vs each) rest) inner own =
+        function_first (Tree.any us) (Tree.any vs) xs ys _ inner
+        (length-asked Any _ _ (Alike.any us vs each)) (answered-front _ _ (Alike.any us vs each)) _
+        (answered_each-front xs ys rest inner own)
+    answered_each-front _ _ (AlikeEach.more x y xs ys (Alike.not u v alike) rest) inner own =
+        function_first (Tree.not u) (Tree.not v) xs ys _ inner
+        (length-asked Any _ _ (Alike.not u v alike)) (answered-front _ _ (Alike.not u v alike)) _
+        (answered_each-front xs ys rest inner own)
+
+  pub answered-asked : (tree : Tree X) (answer : Tree T) → SameShape tree answer
+      → answered otherwise tree (asked answer) ≡ answer
+  answered-asked tree answer shape =
+      ap (answered otherwise tree) (sym (append-nil (asked answer)))
+      ∙ answered-front tree answer shape []
+
+-- And an answered tree asks the answers that it took.
+
+take-none : {T : Type 0} (n : ℕ) → take n [] ≡ take {A = T} 0 []
+take-none zero = refl
+take-none (suc n) = refl
+
+take-both : {T : Type 0} (n m : ℕ) (xs : List T) → take n xs ++ take m (drop n xs) ≡ take (n + m) xs
+take-both zero m xs =
+    let none : 0 + m ≡ m = omega arith in
+    ap (λ n. take n xs) (sym none)
+take-both (suc n) m [] =
+    let one : suc n + m ≡ suc (n + m) = omega arith in
+    rw one (take-none m)
+take-both (suc n) m (x ∷ xs) =
+    let one : suc n + m ≡ suc (n + m) = omega arith in
+    rw one (ap (λ l. x ∷ l) (take-both n m xs))
+
+-- two parts of what is asked, one after another
+taken_both : {X T : Type 0} (first second : List X) (answers these those : List T)
+    → these ≡ take (length first) answers
+    → those ≡ take (length second) (behind first answers)
+    → these ++ those ≡ take (length (first ++ second)) answers
+taken_both first second answers these those these_are those_are =
+    rw (these_are, those_are, length-append first second)
+    (take-both (length first) (length second) answers)
+
+-- enough is left for the second part
+enough_behind : {X T : Type 0} (first second : List X) (answers : List T)
+    → length (first ++ second) ≤ length answers → length second ≤ length (behind first answers)
+enough_behind first second answers enough =
+    omega (arith, length-append first second, length-drop (length first) answers)
+
+enough_first : {X T : Type 0} (first second : List X) (answers : List T)
+    → length (first ++ second) ≤ length answers → length first ≤ length answers
+enough_first first second answers enough = omega (arith, length-append first second)
+
+module _ {X T : Type 0} (otherwise : T) where
+  -- what the members of a list ask that are functions, and those that are leaves
+  abbrev Takes : Trees X → List T → List T → Type 0
+  Takes trees inner own = let answers = answered_each otherwise trees inner own in
+      (asked_by is_function answers ≡ take (length (asked_by is_function trees)) inner)
+      × (asked_by is_leaf answers ≡ take (length (asked_by is_leaf trees)) own)
+
+  abbrev TakesAll : Trees X → Type 0
+  TakesAll trees = (inner own : List T) → length (asked_by is_function trees) ≤ length inner
+      → length (asked_by is_leaf trees) ≤ length own → Takes trees inner own
+
+  list_taken : (trees : Trees X) (answers : List T) → TakesAll trees
+      → let inner = asked_by is_function trees in let own = asked_by is_leaf trees in
+      let made = answered_each otherwise trees answers (behind inner answers) in
+      length (inner ++ own) ≤ length answers
+      → asked_by is_function made ++ asked_by is_leaf made ≡ take (length (inner ++ own)) answers
+  list_taken trees answers takes enough =
+      let inner = asked_by is_function trees in
+      let own = asked_by is_leaf trees in
+      let taken = takes answers (behind inner answers) (enough_first inner own answers enough)
+      (enough_behind inner own answers enough) in
+      taken_both inner own answers _ _ taken.0 taken.1
+
+  mutual
+    asked-taken : (tree : Tree X) (answers : List T) → length (asked tree) ≤ length answers
+        → asked (answered otherwise tree answers) ≡ take (length (asked tree)) answers
+    asked-taken (Tree.leaf x) [] enough = absurd (omega arith)
+    asked-taken (Tree.leaf x) (answer ∷ answers) enough = refl
+    asked-taken (Tree.all trees) answers enough =
+        list_taken trees answers (asked_each-taken trees) enough
+    asked-taken (Tree.any trees) answers enough =
+        list_taken trees answers (asked_each-taken trees) enough
+    asked-taken (Tree.not tree) answers enough = asked-taken tree answers enough
+
+    asked_each-taken : (trees : Trees X) → TakesAll trees
+    asked_each-taken Trees.none inner own enough some = (refl, refl)
+    asked_each-taken (Trees.more (Tree.leaf x) trees) inner [] enough some = absurd (omega arith)
+    asked_each-taken (Trees.more (Tree.leaf x) trees) inner (answer ∷ own) enough some =
+        let others = asked_each-taken trees inner own enough (omega arith) in
+        (others.0, ap (λ l. answer ∷ l) others.1)
+    asked_each-taken (Trees.more tree trees) inner own enough some =
+        let rest = asked_by is_function trees in
+        let others = asked_each-taken trees (behind (asked tree) inner) own
+        (enough_behind (asked tree) rest inner enough) some in (
+          taken_both (asked tree) rest inner _ _
+              (asked-taken tree inner (enough_first (asked tree) rest inner enough)) others.0,
+          others.1,
+        )
+
+  pub asked-answered : (tree : Tree X) (answers : List T)
+      → length answers ≡ length (asked tree) → asked (answered otherwise tree answers) ≡ answers
+  asked-answered tree answers many =
+      asked-taken tree answers (omega (arith, many))
+      ∙ take_all (length (asked tree)) answers (omega (arith, many))
