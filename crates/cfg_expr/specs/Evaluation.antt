@@ -1,5 +1,6 @@
 -- What `Expression::eval` asks and answers.
 use Rattle.std.specs.Prelude.{◌≡◌, ℕ, List}
+use Rattle.cfgx_grammar.specs.Question.{Question}
 use Rattle.cfgx_grammar.specs.Tree.{Tree, asked}
 use Rattle.cfgx_grammar.specs.Grammar.{HasTree}
 use Rattle.cfgx_grammar.specs.Answer.{HasOneTree}

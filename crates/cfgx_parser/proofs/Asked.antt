@@ -1,45 +1,29 @@
 -- The leaves at a tree's places are what the tree asks, in this order.
-use Rattle.std.proofs.Common.{◌≡◌, ℕ, zero, suc, Bool, false, List, [], ◌∷◌}
-use Rattle.std.proofs.Common.{length, map, Option, Some, None, option_map, sym, refl, ap, ◌∙◌}
+use Rattle.std.proofs.Common.{◌≡◌, ℕ, zero, suc, List, [], ◌∷◌}
+use Rattle.std.proofs.Common.{length, map, Option, Some, None, option_map, refl, ap, ◌∙◌}
 use Rattle.std.specs.Prelude.{option_and_then}
 use Rattle.std.specs.List.{AllByRecursion, slice_get, filter_map}
-use Rattle.std.proofs.lemmas.List.{map-id}
 use Rattle.cfgx_grammar.specs.Question.{Question}
 use Rattle.cfgx_grammar.specs.Tree.{Tree, asked}
 use Rattle.cfgx_parser.specs.nodes.Located.{question_at}
-use Rattle.cfgx_parser.specs.nodes.Prefix.{Node, node_at, prefix}
+use Rattle.cfgx_parser.specs.nodes.Prefix.{Node, node_at}
 use Rattle.cfgx_parser.specs.nodes.Writes.{NodeHasCut}
 use Rattle.cfgx_parser.specs.nodes.Keeps.{KeepsTree, leaf_of, leaf_at, questions_at, NamesLeaf}
 use Rattle.cfgx_parser.specs.nodes.Keeps.{NameLeaves}
-use Rattle.cfgx_parser.specs.declared.function.Func.{Func}
 use Rattle.cfgx_parser.specs.declared.nodes.ExprNode.{ExprNode}
 use Rattle.cfgx_parser.specs.declared.nodes.ExprNode.TheVariants as node
-use Rattle.cfgx_parser.proofs.Labels.{Alike-length, labels, labels-prefix, leaf_labels-asked}
-use Rattle.cfgx_parser.proofs.Labels.{read-places}
+use Rattle.cfgx_parser.proofs.Places.{length-places, read-places}
 
 -- the question of a node that is a leaf
-abbrev question_of_node : Node → Option Question
+abbrev question_of_node : Node Question → Option Question
 question_of_node (Node.leaf question) = Some question
 question_of_node (Node.function func len) = None
-
--- the nodes as labels
-abbrev node_of_leaf : Bool → Question → Node
-node_of_leaf odd question = Node.leaf question
-
-abbrev node_of_function : Bool → Func → ℕ → Node
-node_of_function odd func len = Node.function func len
-
-labels_are : (tree : Tree Question) → labels node_of_leaf node_of_function false tree ≡ prefix tree
-labels_are tree =
-    sym (map-id _) ∙ labels-prefix node_of_leaf node_of_function (λ n. n) (λ n. n)
-    (λ odd question. refl) (λ odd func len. refl) false tree
-    ∙ map-id (prefix tree)
 
 -- what is asked at a place
 abbrev question_in : List ℕ → List ExprNode → ℕ → Option Question
 question_in text nodes place = option_map (question_at text) (leaf_at nodes place)
 
-shown_same : (text : List ℕ) (nodes : List ExprNode) (place : ℕ) (x : Node)
+shown_same : (text : List ℕ) (nodes : List ExprNode) (place : ℕ) (x : Node Question)
     → slice_get (map (node_at text) nodes) place ≡ Some x
     → question_in text nodes place ≡ question_of_node x
 shown_same text [] place x is = absurd (cc)
@@ -99,11 +83,9 @@ module _ {text : List ℕ} {nodes : List ExprNode} {asks : List ℕ} {tree : Tre
   asks_kept : map (question_in text nodes) asks ≡ map (λ (q : Question). Some q) (asked tree)
   asks_kept =
       ap (map (question_in text nodes)) k.asked_are
-      ∙ read-places node_of_leaf node_of_function (map (node_at text) nodes) tree
-      (question_in text nodes) question_of_node (k.nodes_are ∙ sym (labels_are tree))
-      (shown_same text nodes)
-      ∙ leaf_labels-asked node_of_leaf node_of_function question_of_node
-      (λ (q : Question). Some q) (λ odd question. refl) false tree
+      ∙ read-places tree (question_in text nodes) (λ (q : Question). Some q)
+      (λ place question is. shown_same text nodes place (Node.leaf question)
+      (ap (λ l. slice_get l place) k.nodes_are ∙ is))
 
   pub questions_at-kept : questions_at text nodes asks ≡ asked tree
   questions_at-kept = filtered (question_in text nodes) asks (asked tree) asks_kept
@@ -113,4 +95,4 @@ module _ {text : List ℕ} {nodes : List ExprNode} {asks : List ℕ} {tree : Tre
 
   pub length-asked_kept : length asks ≡ length (asked tree)
   length-asked_kept =
-      Alike-length (question_in text nodes) (λ q. Some q) asks (asked tree) asks_kept
+      ap length k.asked_are ∙ length-places tree

@@ -1,6 +1,7 @@
 -- What is kept of a text that is accepted: the nodes of its tree.
 use Rattle.std.proofs.Common.{◌≡◌, ℕ, List, [], ◌∷◌, ◌++◌, map, length, Ok, sym, refl, ap}
-use Rattle.std.proofs.Common.{◌∙◌, subst}
+use Rattle.std.proofs.Common.{◌∙◌, subst, arith}
+use Rattle.std.proofs.lemmas.List.{length-map}
 use Rattle.std.specs.Prelude.{if◌then◌else◌, slice_range, ◌≤◌}
 use Rattle.std.specs.List.{AllByRecursion}
 use Rattle.std.proofs.lemmas.List.{append-nil}
@@ -8,6 +9,7 @@ use Rattle.cfgx_syntax.specs.Cut.{CanBeCut}
 use Rattle.cfgx_syntax.specs.Items.{Item, ItemsFrom, HasOneTokenList}
 use Rattle.cfgx_syntax.specs.Token.{Token, Spells}
 use Rattle.cfgx_syntax.proofs.Values.{value_inside}
+use Rattle.cfgx_grammar.specs.Question.{Question}
 use Rattle.cfgx_grammar.specs.Tree.{Tree, is_function, is_leaf}
 use Rattle.cfgx_grammar.proofs.Answering.{answer, tree_of, FindsTree-tree, HasOneTree-tree}
 use Rattle.cfgx_grammar.proofs.alone.Regular.{all_of_first}
@@ -16,6 +18,8 @@ use Rattle.cfgx_parser.specs.nodes.Node.{Written, nothing, with_list_ended}
 use Rattle.cfgx_parser.specs.nodes.Prefix.{node_at, prefix, places}
 use Rattle.cfgx_parser.specs.nodes.Writes.{NodeHasCut, IsPlaced, ArePlaced, Writes}
 use Rattle.cfgx_parser.specs.parsing.State.{State}
+use Rattle.cfgx_parser.specs.declared.nodes.ExprNode.{ExprNode}
+use Rattle.cfgx_parser.proofs.Sizes.{nodes-bytes}
 use Rattle.cfgx_parser.proofs.spelled.Laws.{node_laws, laws_written}
 
 -- the text of a key or of a value stands at its place
@@ -80,3 +84,17 @@ module _ (text : List ℕ) (one : HasOneTokenList text) where
         one = whole;
         keeps = subst (KeepsTree text u.written.nodes u.written.asked) (whole.only t.0 t.1) keeps;
       }
+
+-- what is kept of a text is kept of it under another name
+pub Keeps-seen : {text seen : List ℕ} {nodes : List ExprNode} {asks : List ℕ} → text ≡ seen
+    → Keeps text nodes asks → Keeps seen nodes asks
+Keeps-seen {nodes} {asks} is = subst (λ (bytes : List ℕ). Keeps bytes nodes asks) is
+
+pub few-nodes : {text : List ℕ} {nodes : List ExprNode} {asks : List ℕ} → Keeps text nodes asks
+    → length nodes ≤ length text
+few-nodes {text} {nodes} keeps = omega (
+  arith,
+  nodes-bytes text keeps.one.tree keeps.one.has_tree,
+  length-map nodes (node_at text),
+  ap length keeps.keeps.nodes_are,
+)

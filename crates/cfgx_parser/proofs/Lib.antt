@@ -1,10 +1,10 @@
 pub mod Asked
 pub mod Bounded
-pub mod Functions
 pub mod Kept
-pub mod Labels
-pub mod Parsed
+pub mod Places
 pub mod Reading
+pub mod Shapes
 pub mod Sizes
+pub mod Whole
 pub mod Worked
 pub mod spelled

@@ -4,5 +4,6 @@ pub mod Keeps
 pub mod Located
 pub mod Node
 pub mod Prefix
+pub mod Shape
 pub mod Writer
 pub mod Writes

@@ -3,6 +3,7 @@
 ghost use Rattle.std.specs.Prelude.{◌≡◌, ◌↔◌, IsTrue};
 ghost use Rattle.cfgx_parser.specs.Predicate.{question_of, target_of};
 ghost use Rattle.cfgx_parser.specs.Order.{func_cmp};
+ghost use Rattle.cfgx_grammar.specs.Question.{Question};
 ghost use Rattle.cfgx_grammar.specs.Tree.{Tree, Trees, asked, asked_each, arranged};
 
 use crate::function::Func;

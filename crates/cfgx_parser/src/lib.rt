@@ -7,5 +7,6 @@ mod laws;
 pub mod matcher;
 pub mod memory;
 pub mod nodes;
-pub mod parser;
+pub mod parsed;
+mod parser;
 pub mod predicates;

@@ -95,13 +95,13 @@ pub(crate) struct Mark {
 
 /// The nodes of a tree as they are written, one pass over the text.
 #[derive(Drop)]
-pub struct Writer<A: SmallAllocator> {
+pub(crate) struct Writer<A: SmallAllocator> {
     /// The nodes, in source order
-    pub nodes: SmallVec<ExprNode, 5, A>,
+    pub(crate) nodes: SmallVec<ExprNode, 5, A>,
     /// The places of leaves whose list is open, those of inner lists last
     pub(crate) leaves: SmallVec<usize, 5, A>,
     /// The places of the other leaves, in the order in which they are asked
-    pub asked: SmallVec<usize, 5, A>,
+    pub(crate) asked: SmallVec<usize, 5, A>,
 }
 
 impl<A: SmallAllocator> Writer<A> {

@@ -51,13 +51,13 @@ impl Default for FuncAndSpan {
 
 /// What was read so far.
 #[derive(Drop)]
-pub struct Parser<'a, A: SmallAllocator> {
+pub(crate) struct Parser<'a, A: SmallAllocator> {
     alloc: A,
     /// The stripped text
-    pub original: &'a str,
+    original: &'a str,
     func_stack: SmallVec<FuncAndSpan, 5, A>,
     /// The nodes of what has ended
-    pub writer: Writer<A>,
+    writer: Writer<A>,
     last_token: Option<Token<'a>>,
     /// The predicate that has not ended
     pending: Option<Pending<'a>>,
@@ -148,7 +148,7 @@ impl<'a, A: SmallAllocator> Parser<'a, A> {
     ghost use Rattle.cfgx_parser.specs.parsing.Bounded.{IsBounded, HasRoom};
 
     /// A parser of a stripped text, of which nothing was read. It takes no memory.
-    pub fn new(alloc: A, original: &'a str) -> Self
+    pub(crate) fn new(alloc: A, original: &'a str) -> Self
         ensures state { state_of result ≡ initial }
         ensures text { result.original.now ≡ original.now }
     {
@@ -341,7 +341,7 @@ impl<'a, A: SmallAllocator> Parser<'a, A> {
     /// Reads what the lexer gives, to the end of the text.
     ///
     /// The error is the first fault of the text, or that memory was refused.
-    pub fn read_all(&mut self, lexer: Lexer<'a, A>) -> Result<(), Failure<A>>
+    pub(crate) fn read_all(&mut self, lexer: Lexer<'a, A>) -> Result<(), Failure<A>>
         requires bounded { IsBounded (state_of self.old) }
         requires text { self.old.original.now ≡ lexer.text }
         ensures { ReadsAll lexer.entry self.old self.new result }
@@ -353,7 +353,7 @@ impl<'a, A: SmallAllocator> Parser<'a, A> {
     }
 
     /// The nodes that were written, and the places of the predicates among them.
-    pub fn into_parts(self) -> (SmallVec<ExprNode, 5, A>, SmallVec<usize, 5, A>)
+    pub(crate) fn into_parts(self) -> (SmallVec<ExprNode, 5, A>, SmallVec<usize, 5, A>)
         ensures nodes { result.0 ≡ self.entry.writer.nodes }
         ensures asked { result.1 ≡ self.entry.writer.asked }
     {

@@ -156,7 +156,7 @@ impl<'a> Predicates<'a> {
 
     /// The predicates of the nodes at the places, one after another as these come. The nodes are
     /// those of the text.
-    pub fn new(text: &'a str, nodes: &'a [ExprNode], asked: &'a [usize]) -> Self
+    pub(crate) fn new(text: &'a str, nodes: &'a [ExprNode], asked: &'a [usize]) -> Self
         requires { NameLeaves text.now nodes.now asked.now }
         ensures { result ≡ questions_at text.now nodes.now asked.now }
     {

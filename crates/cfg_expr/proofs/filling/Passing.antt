@@ -5,6 +5,7 @@ use Rattle.std.proofs.Common.{None, sym, refl, ap, ◌∙◌, arith, append_asso
 use Rattle.std.proofs.Common.{add-one}
 use Rattle.std.proofs.lemmas.List.{append-nil, map-append, replicate-append-replicate, drop_more}
 use Rattle.std.proofs.lemmas.List.{length-set}
+use Rattle.cfgx_grammar.specs.Question.{Question}
 use Rattle.cfgx_grammar.specs.Tree.{Tree, Trees}
 use Rattle.cfg_expr.specs.nodes.Parity.{turned, turned_at, reach, odd_behind, end_noted, pass}
 use Rattle.cfgx_parser.specs.nodes.Prefix.{Node, node_at, prefix, prefix_each}

@@ -5,6 +5,7 @@ use Rattle.std.proofs.Common.{◌∙◌, arith, drop-drop}
 use Rattle.std.specs.Prelude.{if◌then◌else◌}
 use Rattle.std.proofs.lemmas.List.{length-map, map-id}
 use Rattle.std.proofs.lemmas.Option.{get_or_from_slice_get}
+use Rattle.cfgx_grammar.specs.Question.{Question}
 use Rattle.cfgx_grammar.specs.Tree.{Tree, Trees, is_function, is_leaf, asked, asked_by}
 use Rattle.cfgx_grammar.specs.Fold.{behind}
 use Rattle.cfgx_grammar.specs.Filling.{polar, polar_by}

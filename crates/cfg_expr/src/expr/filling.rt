@@ -6,6 +6,7 @@ ghost use Rattle.cfgx_grammar.specs.Answer.{HasOneTree};
 ghost use Rattle.cfgx_grammar.specs.Filling.{three_valued, PolarFillings};
 ghost use Rattle.cfgx_grammar.specs.Fold.{fold};
 ghost use Rattle.cfgx_grammar.specs.Grammar.{HasTree};
+ghost use Rattle.cfgx_grammar.specs.Question.{Question};
 ghost use Rattle.cfgx_grammar.specs.Tree.{Tree, asked};
 ghost use Rattle.cfg_expr.specs.nodes.Parity.{reach, turned, turned_at, odd_behind, end_noted};
 ghost use Rattle.cfg_expr.specs.nodes.Parity.{pass, filled};

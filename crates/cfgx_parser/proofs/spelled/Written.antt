@@ -29,7 +29,7 @@ behind : {X : Type 0} (old mid new xs ys : List X) → mid ≡ old ++ xs → new
 behind old mid new xs ys p q = q ∙ ap (λ l. l ++ ys) p ∙ append_assoc old xs ys
 
 -- one thing after another
-pub Writes-then : (text : List ℕ) (old mid new : Written) (shown more : List Node)
+pub Writes-then : (text : List ℕ) (old mid new : Written) (shown more : List (Node Question))
     (own own_more inner inner_more : List ℕ)
     → Writes text old mid shown own inner → Writes text mid new more own_more inner_more
     → Writes text old new (shown ++ more) (own ++ own_more) (inner ++ inner_more)
@@ -44,7 +44,7 @@ Writes-then text old mid new shown more own own_more inner inner_more a b = reco
 }
 
 -- as many nodes were added as are shown
-pub length-nodes : (text : List ℕ) (old new : Written) (shown : List Node)
+pub length-nodes : (text : List ℕ) (old new : Written) (shown : List (Node Question))
     (own inner : List ℕ) → Writes text old new shown own inner
     → length new.nodes ≡ length old.nodes + length shown
 length-nodes text old new shown own inner w =
@@ -66,7 +66,7 @@ Writes-leaf text w predicate question names cut = record {
 }
 
 -- a function and its members
-pub Writes-function : (text : List ℕ) (w v : Written) (first last : Func) (shown : List Node)
+pub Writes-function : (text : List ℕ) (w v : Written) (first last : Func) (shown : List (Node Question))
     (own inner : List ℕ)
     → Writes text (with_function first w) v shown own inner
     → Writes text w (with_function_ended (mark_of w) last v) (headed last shown) [] (inner ++ own)

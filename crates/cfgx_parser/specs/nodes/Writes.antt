@@ -1,4 +1,5 @@
 -- What is written for trees of a text.
+use Rattle.cfgx_grammar.specs.Question.{Question}
 use Rattle.std.specs.Prelude.{◌≡◌, ℕ, ◌+◌, ◌-◌, List, ◌++◌, map}
 use Rattle.std.specs.List.{AllByRecursion}
 use Rattle.cfgx_syntax.specs.Token.{Token}
@@ -33,7 +34,7 @@ abbrev pub ArePlaced : List ℕ → List Item → Type 0
 ArePlaced text items = AllByRecursion (λ item. IsPlaced text item item.token) items
 
 -- these nodes were written, these places of leaves wait, and those are asked
-pub record Writes (text : List ℕ) (old new : Written) (shown : List Node)
+pub record Writes (text : List ℕ) (old new : Written) (shown : List (Node Question))
     (own inner : List ℕ) : Type 0 where
   pub added : List ExprNode
   pub nodes_are : new.nodes ≡ old.nodes ++ added

@@ -1,0 +1,96 @@
+-- Trees of one shape have the same functions as nodes, and their leaves at the same places.
+use Rattle.std.proofs.Common.{◌≡◌, ℕ, suc, ◌+◌, length, map, refl, ap}
+use Rattle.std.proofs.Common.{length-append}
+use Rattle.std.proofs.lemmas.List.{map-append}
+use Rattle.cfgx_grammar.specs.Tree.{Tree, Trees, count}
+use Rattle.cfgx_grammar.proofs.Alike.{Alike, AlikeEach, SameShape, SameShapes}
+use Rattle.cfgx_grammar.proofs.Alike.{same_functions, same_leaves}
+use Rattle.cfgx_parser.specs.nodes.Prefix.{prefix, prefix_each}
+use Rattle.cfgx_parser.specs.nodes.Prefix.{own_places, places, inner_places}
+use Rattle.cfgx_parser.specs.nodes.Shape.{shape_of}
+
+module _ {X Y : Type 0} where
+  record SameNodes (x : Tree X) (y : Tree Y) : Type 0 where
+    length_is : length (prefix x) ≡ length (prefix y)
+    shapes_are : map shape_of (prefix x) ≡ map shape_of (prefix y)
+    places_are : (place : ℕ) → places place x ≡ places place y
+
+  record SameMembers (xs : Trees X) (ys : Trees Y) : Type 0 where
+    count_is : count xs ≡ count ys
+    length_is : length (prefix_each xs) ≡ length (prefix_each ys)
+    shapes_are : map shape_of (prefix_each xs) ≡ map shape_of (prefix_each ys)
+    inner_are : (place : ℕ) → inner_places place xs ≡ inner_places place ys
+    own_are : (place : ℕ) → own_places place xs ≡ own_places place ys
+
+  abbrev Any : X → Y → Type 0
+  Any x y = Unit {0}
+
+  mutual
+    same_nodes : (x : Tree X) (y : Tree Y) → SameShape x y → SameNodes x y
+    same_nodes _ _ (Alike.leaf x y related) =
+        record { length_is = refl; shapes_are = refl; places_are = λ place. refl }
+    same_nodes _ _ (Alike.all xs ys each) =
+        let same = same_members xs ys each in
+        record {
+          length_is = ap suc same.length_is;
+          shapes_are = rw (same.count_is, same.shapes_are) refl;
+          places_are = λ place. rw (same.inner_are (place + 1), same.own_are (place + 1)) refl;
+        }
+    same_nodes _ _ (Alike.any xs ys each) =
+        let same = same_members xs ys each in
+        record {
+          length_is = ap suc same.length_is;
+          shapes_are = rw (same.count_is, same.shapes_are) refl;
+          places_are = λ place. rw (same.inner_are (place + 1), same.own_are (place + 1)) refl;
+        }
+    same_nodes _ _ (Alike.not x y alike) =
+        let same = same_nodes x y alike in
+        record {
+          length_is = ap suc same.length_is;
+          shapes_are = rw same.shapes_are refl;
+          places_are = λ place. same.places_are (place + 1);
+        }
+
+    same_members : (xs : Trees X) (ys : Trees Y) → SameShapes xs ys → SameMembers xs ys
+    same_members _ _ AlikeEach.none = record {
+      count_is = refl;
+      length_is = refl;
+      shapes_are = refl;
+      inner_are = λ place. refl;
+      own_are = λ place. refl;
+    }
+    same_members _ _ (AlikeEach.more x y xs ys first rest) =
+        let one = same_nodes x y first in
+        let others = same_members xs ys rest in
+        let function = same_functions Any x y first in
+        let leaf = same_leaves Any x y first in
+        record {
+          count_is = ap suc others.count_is;
+          length_is = rw (
+            length-append (prefix x) (prefix_each xs),
+            length-append (prefix y) (prefix_each ys),
+            one.length_is,
+            others.length_is,
+          ) refl;
+          shapes_are = rw (
+            map-append shape_of (prefix x) (prefix_each xs),
+            map-append shape_of (prefix y) (prefix_each ys),
+            one.shapes_are,
+            others.shapes_are,
+          ) refl;
+          inner_are = λ place. rw (
+            function,
+            one.places_are place,
+            one.length_is,
+            others.inner_are (place + length (prefix y)),
+          ) refl;
+          own_are = λ place. rw (leaf, one.length_is, others.own_are (place + length (prefix y)))
+              refl;
+        }
+
+  pub shapes-shape : (x : Tree X) (y : Tree Y) → SameShape x y
+      → map shape_of (prefix x) ≡ map shape_of (prefix y)
+  shapes-shape x y same = (same_nodes x y same).shapes_are
+
+  pub places-shape : (x : Tree X) (y : Tree Y) → SameShape x y → places 0 x ≡ places 0 y
+  places-shape x y same = (same_nodes x y same).places_are 0

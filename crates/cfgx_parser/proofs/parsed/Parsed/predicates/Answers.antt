@@ -1,0 +1,28 @@
+-- The nodes are those of the text's one tree, and their leaves ask what it asks.
+use Rattle.std.proofs.Common.{◌∙◌, subst, sym}
+use Rattle.std.specs.List.{AllByRecursion}
+use Rattle.cfgx_grammar.specs.Regular.{IsRegular}
+use Rattle.cfgx_grammar.proofs.alone.Regular.{regular_tree}
+use Rattle.cfgx_parser.proofs.Asked.{NameLeaves-kept, questions_at-kept}
+use Rattle.cfgx_parser.proofs.Kept.{Keeps-seen}
+use Rattle.cfgx_parser.proofs.parsed.Parsed.predicates.Goals as goal
+
+pub new-requires : goal.new-requires
+new-requires g c =
+    rw (c.as_str.ensures.value, c.as_slice.ensures, c.as_slice-2.ensures)
+    (NameLeaves-kept c.self.invariant.keeps)
+
+pub returns-clause-asked : goal.returns-clause-asked
+returns-clause-asked g c =
+    let keeps = Keeps-seen c.self.view_is c.self.invariant in
+    let text = c.as_str.ensures.value ∙ c.self.view_is in (
+      keeps.one,
+      c.new.ensures
+          ∙ rw (text, c.as_slice.ensures, c.as_slice-2.ensures) (questions_at-kept keeps.keeps),
+    )
+
+-- what a text asks can stand in a text
+pub returns-clause-regular : goal.returns-clause-regular
+returns-clause-regular g c =
+    let asks = returns-clause-asked g c in
+    subst (AllByRecursion IsRegular) (sym asks.1) (regular_tree _ asks.0.tree asks.0.has_tree)

@@ -1,0 +1,12 @@
+-- The copies are equal to what is copied.
+use Rattle.std.proofs.Common.{◌≡◌, ◌∙◌, rules}
+use Rattle.std.proofs.lemmas.List.Elements.{same_from_all_zip}
+use Rattle.cfgx_parser.proofs.parsed.Parsed.try_clone.Goals as goal
+
+pub invariant_of-result : goal.invariant_of-result
+invariant_of-result g c =
+    let text = c.in_ok-from_str.ensures.ok ∙ c.as_str.ensures.value in
+    let nodes : c.in_ok-from_clones.field-0.items ≡ c.self.inside.nodes.items =
+    search (rules, same_from_all_zip) in
+    let asked = c.in_ok-from_slice.ensures.ok ∙ c.as_slice-2.ensures in
+    rw (text, nodes, asked) c.self.invariant

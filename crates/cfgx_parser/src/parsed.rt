@@ -1,0 +1,110 @@
+//! The one way from a text to the nodes of its tree.
+ghost use Rattle.std.specs.Prelude.{◌≡◌, ◌≤◌, length, map, IfOk};
+ghost use Rattle.std.specs.List.{AllByRecursion};
+ghost use Rattle.cfgx_syntax.specs.Stripping.{strip};
+ghost use Rattle.cfgx_grammar.specs.Answer.{Answers, HasOneTree};
+ghost use Rattle.cfgx_grammar.specs.Regular.{IsRegular};
+ghost use Rattle.cfgx_grammar.specs.Tree.{asked};
+ghost use Rattle.cfgx_parser.specs.nodes.Prefix.{node_at, prefix, places};
+
+use crate::memory::SmallAllocator;
+use crate::nodes::ExprNode;
+use crate::parser::Parser;
+use crate::predicates::Predicates;
+use cfgx_syntax::error::Failure;
+use cfgx_syntax::lexer::Lexer;
+use smallvec::SmallVec;
+use std::alloc::{AllocError, Allocator, Global};
+use std::marker::Model;
+
+/// A text that is a condition, with the nodes of its one tree. It is seen as its stripped text.
+#[derive(Drop)]
+pub struct Parsed<A: Allocator = Global> {
+    original: String<A>,
+    /// In source order
+    nodes: SmallVec<ExprNode, 5, A>,
+    /// The places of the predicates among the nodes, in the order in which they are asked
+    asked: SmallVec<usize, 5, A>,
+}
+
+impl<A: Allocator> Model for Parsed<A> {
+    ghost use Rattle.std.specs.Prelude.{List, [], ◌∷◌, ℕ, string_bytes};
+    ghost use Rattle.cfgx_parser.specs.nodes.Keeps.{Keeps};
+
+    ghost Value = { List ℕ };
+
+    ghost view = { λ p. string_bytes p.original };
+
+    ghost invariant = { λ p. Keeps (string_bytes p.original) p.nodes.items p.asked.items };
+}
+
+impl<A: Allocator> Parsed<A> {
+    /// The text that was read, without the outer `cfg( )`.
+    pub fn original(&self) -> &str
+        ensures { result.now ≡ self.now }
+    {
+        self.original.as_str()
+    }
+}
+
+impl<A: SmallAllocator> Parsed<A> {
+    /// The nodes of the tree, in source order: no more than the text has bytes.
+    pub fn nodes(&self) -> &[ExprNode]
+        ensures nodes { (one : HasOneTree self.now)
+            × (map (node_at self.now) result.now ≡ prefix one.tree) }
+        ensures few { length result.now ≤ length self.now }
+    {
+        self.nodes.as_slice()
+    }
+
+    /// The places of the predicates among the nodes, in the order in which they are asked.
+    pub fn places(&self) -> &[usize]
+        ensures { (one : HasOneTree self.now) × (result.now ≡ places 0 one.tree) }
+    {
+        self.asked.as_slice()
+    }
+
+    /// The predicates in the order in which they are asked. It takes no memory.
+    pub fn predicates(&self) -> Predicates<'_>
+        ensures asked { (one : HasOneTree self.now) × (result ≡ asked one.tree) }
+        ensures regular { AllByRecursion IsRegular result }
+    {
+        Predicates::new(
+            self.original.as_str(),
+            self.nodes.as_slice(),
+            self.asked.as_slice(),
+        )
+    }
+
+    /// The same text, with its nodes.
+    ///
+    /// The error is that `alloc` refused the copy.
+    pub fn try_clone(&self, alloc: A) -> Result<Self, AllocError>
+        ensures { IfOk result (λ copy. copy ≡ self.now) }
+    {
+        Ok(Parsed {
+            original: String::from_str(alloc, self.original.as_str())?,
+            nodes: SmallVec::from_clones(alloc, self.nodes.as_slice())?,
+            asked: SmallVec::from_slice(alloc, self.asked.as_slice())?,
+        })
+    }
+}
+
+/// Reads a text, which may stand in `cfg( )`.
+///
+/// The error is the first fault of the text, or that `alloc` refused memory.
+pub fn parse<A: SmallAllocator>(alloc: A, original: &str) -> Result<Parsed<A>, Failure<A>>
+    ensures { Answers (strip original.now) result }
+{
+    let lexer = Lexer::new(alloc, original);
+    let text = lexer.original();
+    let mut parser = Parser::new(alloc, text);
+    parser.read_all(lexer)?;
+    let original = String::from_str(alloc, text)?;
+    let (nodes, asked) = parser.into_parts();
+    Ok(Parsed {
+        original,
+        nodes,
+        asked,
+    })
+}
