@@ -1,7 +1,5 @@
--- The walk over the nodes gives the value of the tree, and its vectors have room.
-pub mod Counting
-pub mod Folding
-pub mod Going
-pub mod Rooms
+pub mod Asked
+pub mod Joined
+pub mod Placed
+pub mod Read
 pub mod Valued
-pub mod Walking

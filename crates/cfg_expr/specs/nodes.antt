@@ -1,6 +1,5 @@
--- How the nodes that an `Expression` keeps are evaluated and filled. Internal: no public contract
--- names it.
-pub mod Machine
-pub mod Measure
+-- How the nodes that a `Parsed` gives are evaluated and filled. Internal: no public contract names
+-- it.
+pub mod Answers
 pub mod Parity
-pub mod Steps
+pub mod Reading

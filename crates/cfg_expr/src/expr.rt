@@ -2,6 +2,7 @@
 ghost use Rattle.std.specs.Prelude.{◌≡◌, ◌≤◌, Bool, List, Option, length, IfOk, IsOk, OnErr};
 ghost use Rattle.cfgx_syntax.specs.Stripping.{strip};
 ghost use Rattle.std.specs.List.{AllByRecursion};
+ghost use Rattle.cfgx_grammar.specs.Given.{AreAnswersTo};
 ghost use Rattle.cfgx_grammar.specs.Answer.{Answers, HasOneTree};
 ghost use Rattle.cfg_expr.specs.Evaluation.{Evaluates, MayEvaluate};
 ghost use Rattle.cfgx_grammar.specs.Filling.{IsExact, PolarFillings};
@@ -18,14 +19,10 @@ use crate::error::Failure;
 use crate::memory::SmallAllocator;
 pub use cfgx_parser::function::Func;
 pub use cfgx_parser::matcher::TargetMatcher;
-use cfgx_parser::nodes::ExprNode;
-use cfgx_parser::parser::Parser;
+use cfgx_parser::parsed::{Parsed, parse};
 pub use cfgx_parser::predicates::{Predicate, Predicates, TargetPredicate};
 pub use cfgx_syntax::logic::Logic;
 pub use cfgx_syntax::{lexer, logic};
-use evaluating::Room;
-use lexer::Lexer;
-use smallvec::SmallVec;
 pub use spelling::spell;
 use std::alloc::{AllocError, Allocator, Global};
 use std::fmt;
@@ -34,27 +31,15 @@ use std::marker::Model;
 /// A parsed condition, which is seen as its stripped text.
 #[derive(Drop)]
 pub struct Expression<A: Allocator = Global> {
-    original: String<A>,
-    /// The nodes of its tree, in source order
-    expr: SmallVec<ExprNode, 5, A>,
-    /// The places of its predicates among the nodes, in the order in which they are asked
-    asked: SmallVec<usize, 5, A>,
-    /// What its evaluation needs
-    room: Room,
+    parsed: Parsed<A>,
 }
 
 impl<A: Allocator> Model for Expression<A> {
-    ghost use Rattle.std.specs.Prelude.{List, [], ◌∷◌, ℕ, map, string_bytes};
-    ghost use Rattle.cfgx_parser.specs.nodes.Keeps.{Keeps};
-    ghost use Rattle.cfg_expr.specs.nodes.Measure.{Measures};
-    ghost use Rattle.cfg_expr.specs.nodes.Steps.{shape, text_list, walk};
+    ghost use Rattle.std.specs.Prelude.{List, ℕ};
 
     ghost Value = { List ℕ };
 
-    ghost view = { λ e. string_bytes e.original };
-
-    ghost invariant = { λ e. Keeps (string_bytes e.original) e.expr.items e.asked.items
-        × Measures (walk (map shape e.expr.items) (text_list ∷ [])) e.room };
+    ghost view = { λ e. e.parsed };
 }
 
 impl<A: Allocator> Expression<A> {
@@ -62,7 +47,7 @@ impl<A: Allocator> Expression<A> {
     pub fn original(&self) -> &str
         ensures { result.now ≡ self.now }
     {
-        self.original.as_str()
+        self.parsed.original()
     }
 }
 
@@ -106,19 +91,8 @@ impl<A: SmallAllocator> Expression<A> {
     pub fn parse(alloc: A, original: &str) -> Result<Self, Failure<A>>
         ensures { Answers (strip original.now) result }
     {
-        let lexer = Lexer::new(alloc, original);
-        let text = lexer.original();
-        let mut parser = Parser::new(alloc, text);
-        parser.read_all(lexer)?;
-        let original = String::from_str(alloc, text)?;
-        let (expr, asked) = parser.into_parts();
-        let _fits = expr.len();
-        let room = evaluating::measure(alloc, expr.as_slice())?;
         Ok(Expression {
-            original,
-            expr,
-            asked,
-            room,
+            parsed: parse(alloc, original)?,
         })
     }
 
@@ -136,10 +110,7 @@ impl<A: SmallAllocator> Expression<A> {
         ensures { IfOk result (λ copy. copy ≡ self.now) }
     {
         Ok(Expression {
-            original: String::from_str(alloc, self.original.as_str())?,
-            expr: SmallVec::from_clones(alloc, self.expr.as_slice())?,
-            asked: SmallVec::from_slice(alloc, self.asked.as_slice())?,
-            room: self.room,
+            parsed: self.parsed.try_clone(alloc)?,
         })
     }
 
@@ -150,11 +121,7 @@ impl<A: SmallAllocator> Expression<A> {
         ensures asked { (one : HasOneTree self.now) × (result ≡ asked one.tree) }
         ensures regular { AllByRecursion IsRegular result }
     {
-        Predicates::new(
-            self.original.as_str(),
-            self.expr.as_slice(),
-            self.asked.as_slice(),
-        )
+        self.parsed.predicates()
     }
 
     /// The value of the condition, where `ep` answers each predicate.
@@ -175,7 +142,7 @@ impl<A: SmallAllocator> Expression<A> {
         ensures refused { OnErr result (ep.new ≡ ep.old) }
         ensures short { length self.now ≤ 32 → IsOk result }
     {
-        evaluating::value_of(alloc, self, ep)
+        evaluating::value_of(alloc, &self.parsed, ep)
     }
 
     /// The fillings that show why the value over the answers is unknown, or `None` where it is
@@ -192,14 +159,13 @@ impl<A: SmallAllocator> Expression<A> {
         alloc: A,
         answers: &[Option<bool>],
     ) -> Result<Option<(Vec<bool, A>, Vec<bool, A>)>, AllocError>
-        requires { (tree : Tree Question) × HasTree self.now tree
-            × (length answers.now ≡ length (asked tree)) }
+        requires { AreAnswersTo answers.now self.now }
         // This holds of all answers to the text's one tree, also where memory runs out.
         ensures exact { (one : HasOneTree self.now) × ((given : List (Option Bool))
             → length given ≡ length (asked one.tree) → IsExact one.tree given) }
         ensures fillings { IfOk result (λ found. (one : HasOneTree self.now)
             × PolarFillings one.tree answers.now found) }
     {
-        filling::polar_fillings(alloc, self, answers)
+        filling::polar_fillings(alloc, &self.parsed, answers)
     }
 }

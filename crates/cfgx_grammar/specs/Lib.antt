@@ -3,6 +3,7 @@ pub mod Classification
 pub mod Filling
 pub mod FirstFault
 pub mod Fold
+pub mod Given
 pub mod Grammar
 pub mod Matching
 pub mod Neighbours

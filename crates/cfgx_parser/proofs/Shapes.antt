@@ -88,6 +88,10 @@ module _ {X Y : Type 0} where
               refl;
         }
 
+  pub length-shape : (x : Tree X) (y : Tree Y) → SameShape x y
+      → length (prefix x) ≡ length (prefix y)
+  length-shape x y same = (same_nodes x y same).length_is
+
   pub shapes-shape : (x : Tree X) (y : Tree Y) → SameShape x y
       → map shape_of (prefix x) ≡ map shape_of (prefix y)
   shapes-shape x y same = (same_nodes x y same).shapes_are

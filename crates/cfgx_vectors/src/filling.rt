@@ -1,6 +1,7 @@
 //! A planner over answers that may be unknown, proved by the contracts of `Expression` alone, and
 //! fillings that are known from outside.
 ghost use Rattle.std.specs.Prelude.{◌≡◌, length, IfOk};
+ghost use Rattle.cfgx_grammar.specs.Given.{AreAnswersTo};
 ghost use Rattle.cfgx_grammar.specs.Answer.{HasOneTree};
 ghost use Rattle.cfgx_grammar.specs.Fold.{fold};
 ghost use Rattle.cfgx_grammar.specs.Grammar.{HasTree};
@@ -32,8 +33,7 @@ fn value_over(
     expression: &Expression,
     answers: &[Option<bool>],
 ) -> Result<Option<bool>, AllocError>
-    requires { (tree : Tree Question) × HasTree expression.now tree
-        × (length answers.now ≡ length (asked tree)) }
+    requires { AreAnswersTo answers.now expression.now }
     ensures { IfOk result (λ value. (one : HasOneTree expression.now)
         × (value ≡ fold ⟦<Option<bool> as Logic>⟧ one.tree answers.now)) }
 {
@@ -51,8 +51,7 @@ pub fn plan(
     expression: &Expression,
     answers: &[Option<bool>],
 ) -> Result<Decision, AllocError>
-    requires { (tree : Tree Question) × HasTree expression.now tree
-        × (length answers.now ≡ length (asked tree)) }
+    requires { AreAnswersTo answers.now expression.now }
     ensures { IfOk result (λ decision. (one : HasOneTree expression.now)
         × IsSound one.tree answers.now decision) }
 {

@@ -1,8 +1,7 @@
 //! The nodes that the parser leaves, which no caller of an expression sees.
 use cfg_expr::error::Failure;
-use cfg_expr::expr::lexer::Lexer;
 use cfgx_parser::nodes::ExprNode;
-use cfgx_parser::parser::Parser;
+use cfgx_parser::parsed::parse;
 use std::alloc::Global;
 use std::test::Fail;
 
@@ -30,12 +29,9 @@ const ROWS: [Row; 3] = [
 // Whether the parser leaves nodes of these lengths for the text, and asks at these places.
 fn leaves(alloc: Global, row: Row) -> Result<bool, Failure> {
     let (text, lengths, places) = row;
-    let lexer = Lexer::new(alloc, text);
-    let mut parser = Parser::new(alloc, lexer.original());
-    parser.read_all(lexer)?;
-    let (nodes, asked) = parser.into_parts();
-    let found = nodes.as_slice().iter().map(length_of);
-    Ok(found.eq(lengths.iter().copied()) && asked.as_slice() == places)
+    let parsed = parse(alloc, text)?;
+    let found = parsed.nodes().iter().map(length_of);
+    Ok(found.eq(lengths.iter().copied()) && parsed.places() == places)
 }
 
 #[test]

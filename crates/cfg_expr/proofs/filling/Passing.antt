@@ -12,17 +12,21 @@ use Rattle.cfgx_parser.specs.nodes.Prefix.{Node, node_at, prefix, prefix_each}
 use Rattle.cfgx_parser.specs.declared.function.Func.TheVariants.{Not, All, Any}
 use Rattle.cfgx_parser.specs.declared.nodes.ExprNode.{ExprNode}
 use Rattle.cfgx_parser.specs.declared.nodes.ExprNode.TheVariants as node
-use Rattle.cfgx_parser.proofs.Labels.{labels, labels_each}
 
 -- whether each node stands below an odd number of `not`
-abbrev pub odds : Bool → Tree Question → List Bool
-odds = labels (λ odd question. odd) (λ odd func len. odd)
+abbrev mutual
+  pub odds : {X : Type 0} → Bool → Tree X → List Bool
+  odds odd (Tree.leaf x) = odd ∷ []
+  odds odd (Tree.all trees) = odd ∷ odds_each odd trees
+  odds odd (Tree.any trees) = odd ∷ odds_each odd trees
+  odds odd (Tree.not tree) = odd ∷ odds (not odd) tree
 
-abbrev odds_each : Bool → Trees Question → List Bool
-odds_each = labels_each (λ odd question. odd) (λ odd func len. odd)
+  pub odds_each : {X : Type 0} → Bool → Trees X → List Bool
+  odds_each odd Trees.none = []
+  odds_each odd (Trees.more tree trees) = odds odd tree ++ odds_each odd trees
 
 -- how far a `not` reaches, of a node as it is shown
-abbrev pub reach_of : Node → Option ℕ
+abbrev pub reach_of : Node Question → Option ℕ
 reach_of (Node.function Not len) = Some len
 reach_of (Node.function (All members) len) = None
 reach_of (Node.function (Any members) len) = None

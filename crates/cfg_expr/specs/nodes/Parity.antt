@@ -43,7 +43,7 @@ pass (Some len ∷ nodes) odd (flip ∷ flips) = turned odd flip
     ∷ pass nodes (not (turned odd flip)) (drop 1 (turned_at (flip ∷ flips) len))
 
 -- the answers, and for unknown ones the truth value, turned over where its number of `not` is odd
-abbrev pub filled : List Bool → List (Option Bool) → Bool → List Bool
-filled [] answers fill = []
-filled (odd ∷ odds) answers fill = unwrap_or (first_or (Some true) answers) (turned fill odd)
-    ∷ filled odds (drop 1 answers) fill
+abbrev pub filled_by : List Bool → List (Option Bool) → Bool → List Bool
+filled_by [] answers fill = []
+filled_by (odd ∷ odds) answers fill = unwrap_or (first_or (Some true) answers) (turned fill odd)
+    ∷ filled_by odds (drop 1 answers) fill

@@ -2,6 +2,7 @@
 //! one and false with the other.
 ghost use Rattle.std.specs.Prelude.{◌≡◌, ◌<◌, true, false, length, map};
 ghost use Rattle.std.specs.Prelude.{get_or, replicate, set, IfOk};
+ghost use Rattle.cfgx_grammar.specs.Given.{AreAnswersTo};
 ghost use Rattle.cfgx_grammar.specs.Answer.{HasOneTree};
 ghost use Rattle.cfgx_grammar.specs.Filling.{three_valued, PolarFillings};
 ghost use Rattle.cfgx_grammar.specs.Fold.{fold};
@@ -9,30 +10,13 @@ ghost use Rattle.cfgx_grammar.specs.Grammar.{HasTree};
 ghost use Rattle.cfgx_grammar.specs.Question.{Question};
 ghost use Rattle.cfgx_grammar.specs.Tree.{Tree, asked};
 ghost use Rattle.cfg_expr.specs.nodes.Parity.{reach, turned, turned_at, odd_behind, end_noted};
-ghost use Rattle.cfg_expr.specs.nodes.Parity.{pass, filled};
+ghost use Rattle.cfg_expr.specs.nodes.Parity.{pass, filled_by};
 
-use super::{Expression, Func, evaluating};
+use super::{Func, evaluating};
 use crate::memory::SmallAllocator;
 use cfgx_parser::nodes::ExprNode;
-use cfgx_parser::predicates::Predicate;
+use cfgx_parser::parsed::Parsed;
 use std::alloc::AllocError;
-
-/// The value over the answers, which come in the order of the questions.
-fn value_over<A: SmallAllocator>(
-    alloc: A,
-    expression: &Expression<A>,
-    answers: &[Option<bool>],
-) -> Result<Option<bool>, AllocError>
-    requires { (tree : Tree Question) × HasTree expression.now tree
-        × (length answers.now ≡ length (asked tree)) }
-    ensures { IfOk result (λ value. (one : HasOneTree expression.now)
-        × (value ≡ fold three_valued one.tree answers.now)) }
-{
-    let mut left = answers.iter();
-    let mut answer = |_predicate: &Predicate<'_>| left.next().copied().flatten();
-    let value = evaluating::value_of(alloc, expression, &mut answer)?;
-    Ok(value)
-}
 
 /// Turns the truth value at the place over, if there is one.
 fn turn_over(flips: &mut [bool], place: usize)
@@ -88,9 +72,9 @@ fn fillings<A: SmallAllocator>(
 ) -> Result<(Vec<bool, A>, Vec<bool, A>), AllocError>
     requires { length places.now ≡ length answers.now }
     ensures with_true { IfOk result (λ found. found.0.items
-        ≡ filled (map (λ place. get_or odds.now place false) places.now) answers.now true) }
+        ≡ filled_by (map (λ place. get_or odds.now place false) places.now) answers.now true) }
     ensures with_false { IfOk result (λ found. found.1.items
-        ≡ filled (map (λ place. get_or odds.now place false) places.now) answers.now false) }
+        ≡ filled_by (map (λ place. get_or odds.now place false) places.now) answers.now false) }
 {
     let mut with_true = Vec::with_capacity(alloc, places.len())?;
     let mut with_false = Vec::with_capacity(alloc, places.len())?;
@@ -107,21 +91,19 @@ fn fillings<A: SmallAllocator>(
 /// The error is that `alloc` refused room.
 pub(crate) fn polar_fillings<A: SmallAllocator>(
     alloc: A,
-    expression: &Expression<A>,
+    parsed: &Parsed<A>,
     answers: &[Option<bool>],
 ) -> Result<Option<(Vec<bool, A>, Vec<bool, A>)>, AllocError>
-    requires { (tree : Tree Question) × HasTree expression.now tree
-        × (length answers.now ≡ length (asked tree)) }
-    ensures one { HasOneTree expression.now }
-    ensures fillings { IfOk result (λ found. (one : HasOneTree expression.now)
+    requires { AreAnswersTo answers.now parsed.now }
+    ensures one { HasOneTree parsed.now }
+    ensures fillings { IfOk result (λ found. (one : HasOneTree parsed.now)
         × PolarFillings one.tree answers.now found) }
 {
-    let (nodes, places) = (expression.expr.as_slice(), expression.asked.as_slice());
-    match value_over(alloc, expression, answers)? {
+    match evaluating::value_over(alloc, parsed, answers)? {
         Some(_) => Ok(None),
         None => {
-            let odds = parities(alloc, nodes)?;
-            Ok(Some(fillings(alloc, &odds, places, answers)?))
+            let odds = parities(alloc, parsed.nodes())?;
+            Ok(Some(fillings(alloc, &odds, parsed.places(), answers)?))
         }
     }
 }

@@ -1,28 +1,10 @@
--- The nodes are those of the text's one tree, and their leaves ask what it asks.
-use Rattle.std.proofs.Common.{◌∙◌, subst, sym}
-use Rattle.std.specs.List.{AllByRecursion}
-use Rattle.cfgx_grammar.specs.Regular.{IsRegular}
-use Rattle.cfgx_grammar.proofs.alone.Regular.{regular_tree}
-use Rattle.cfgx_parser.proofs.Asked.{NameLeaves-kept, questions_at-kept}
-use Rattle.cfg_expr.proofs.evaluated.Valued.{Keeps-seen}
+-- What is kept of the text is seen as the expression is.
+use Rattle.std.proofs.Common.{◌≡◌, subst}
+use Rattle.cfgx_grammar.specs.Answer.{HasOneTree}
+use Rattle.cfgx_grammar.specs.Tree.{asked}
 use Rattle.cfg_expr.proofs.expr.Expression.predicates.Goals as goal
-
-pub new-requires : goal.new-requires
-new-requires g c =
-    rw (c.as_str.ensures.value, c.as_slice.ensures, c.as_slice-2.ensures)
-    (NameLeaves-kept c.self.invariant.0.keeps)
 
 pub returns-clause-asked : goal.returns-clause-asked
 returns-clause-asked g c =
-    let keeps = Keeps-seen c.self.view_is c.self.invariant.0 in
-    let text = c.as_str.ensures.value ∙ c.self.view_is in (
-      keeps.one,
-      c.new.ensures
-          ∙ rw (text, c.as_slice.ensures, c.as_slice-2.ensures) (questions_at-kept keeps.keeps),
-    )
-
--- what a text asks can stand in a text
-pub returns-clause-regular : goal.returns-clause-regular
-returns-clause-regular g c =
-    let asks = returns-clause-asked g c in
-    subst (AllByRecursion IsRegular) (sym asks.1) (regular_tree _ asks.0.tree asks.0.has_tree)
+    subst (λ text. (one : HasOneTree text) × (c.predicates.result ≡ asked one.tree))
+    c.self.view_is c.predicates.ensures.asked

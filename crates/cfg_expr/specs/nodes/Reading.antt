@@ -1,0 +1,90 @@
+-- Nodes that are read from the last to the first, over a stack of the trees that no function has
+-- joined yet, the first one on top. Source: Polish notation, whose functions stand in front of
+-- their members.
+use Rattle.std.specs.Prelude.{◌++◌, Bool, true, false, List, [], ◌∷◌, take, drop}
+use Rattle.std.specs.Prelude.{Option, Some, None, option_map}
+use Rattle.std.specs.List.{filter_map}
+use Rattle.cfgx_grammar.specs.Fold.{Operations, from_last}
+use Rattle.cfgx_parser.specs.declared.function.Func.{Func}
+use Rattle.cfgx_parser.specs.declared.function.Func.TheVariants.{Not, All, Any}
+use Rattle.cfg_expr.specs.declared.expr.evaluating.Connective.{Connective}
+use Rattle.cfg_expr.specs.declared.expr.evaluating.Connective.TheVariants.{And, Or}
+pub use Rattle.cfg_expr.specs.declared.expr.evaluating.Member.{Member}
+use Rattle.cfg_expr.specs.declared.expr.evaluating.Member.TheVariants as member
+
+-- what a connective begins with, and how it joins two values
+abbrev pub begin_of : {T : Type 0} → Operations T → Connective → T
+begin_of logic And = logic.top
+begin_of logic Or = logic.bottom
+
+abbrev pub join_of : {T : Type 0} → Operations T → Connective → T → T → T
+join_of logic And = logic.and
+join_of logic Or = logic.or
+
+-- joined to a value, if there is one
+abbrev pub join_value : {T : Type 0} → (T → T → T) → T → Option T → T
+join_value join so_far None = so_far
+join_value join so_far (Some value) = join so_far value
+
+-- the value of a member
+abbrev pub any_value : {T : Type 0} → Member T → Option T
+any_value (member.Leaf value) = Some value
+any_value (member.Function value) = Some value
+any_value member.Joined = None
+
+-- the value of a member of the kind: of a function, or of a leaf
+abbrev pub value_in : {T : Type 0} → Bool → Member T → Option T
+value_in false (member.Leaf value) = Some value
+value_in false (member.Function value) = None
+value_in true (member.Leaf value) = None
+value_in true (member.Function value) = Some value
+value_in functions member.Joined = None
+
+abbrev pub values_in : {T : Type 0} → Bool → List (Member T) → List T
+values_in functions members = filter_map (value_in functions) members
+
+-- a member whose value was joined, if it is of the kind
+abbrev pub taken : {T : Type 0} → Bool → Member T → Member T
+taken false (member.Leaf value) = member.Joined
+taken false (member.Function value) = member.Function value
+taken true (member.Leaf value) = member.Leaf value
+taken true (member.Function value) = member.Joined
+taken functions member.Joined = member.Joined
+
+-- what a connective makes of the members: the functions in front, then the leaves, joined from the
+-- last back
+abbrev pub joined : {T : Type 0} → Operations T → Connective → List (Member T) → T
+joined logic connective members = from_last (join_of logic connective) (begin_of logic connective)
+    (values_in true members ++ values_in false members)
+
+-- the value on top
+abbrev pub top_value : {T : Type 0} → List (Member T) → Option T
+top_value [] = None
+top_value (top ∷ rest) = any_value top
+
+abbrev pub leaf_of : {T : Type 0} → Option T → Member T
+leaf_of None = member.Joined
+leaf_of (Some value) = member.Leaf value
+
+abbrev pub function_of : {T : Type 0} → Option T → Member T
+function_of None = member.Joined
+function_of (Some value) = member.Function value
+
+-- the stack with a node in the place of its members
+abbrev pub put : {T : Type 0} → Operations T → Option Func → Option T → List (Member T)
+    → List (Member T)
+put logic None answer stack = leaf_of answer ∷ stack
+put logic (Some Not) answer stack = function_of (option_map logic.not (top_value stack))
+    ∷ drop 1 stack
+put logic (Some (All count)) answer stack = member.Function (joined logic And (take count stack))
+    ∷ drop count stack
+put logic (Some (Any count)) answer stack = member.Function (joined logic Or (take count stack))
+    ∷ drop count stack
+
+-- the stack with the nodes read, each with what stands at its place
+abbrev pub read : {T : Type 0} → Operations T → List (Option Func) → List (Option T)
+    → List (Member T) → List (Member T)
+read logic [] slots stack = stack
+read logic (shape ∷ shapes) [] stack = stack
+read logic (shape ∷ shapes) (slot ∷ slots) stack = put logic shape slot
+    (read logic shapes slots stack)
