@@ -19,8 +19,7 @@ impl<'a, A: Allocator> SortedList<'a, Family<'a, A>, A> {
     pub fn unix(alloc: A) -> Result<Self, AllocError>
         ensures { IfOk result (λ list. list ≡ codes "unix" ∷ []) }
     {
-        let families = one(alloc, Family::unix())?;
-        Ok(SortedList::from_sorted(families))
+        SortedList::of_one(alloc, Family::unix())
     }
 
     /// The list of `unix` and `wasm`, in memory of `alloc`.
@@ -40,8 +39,7 @@ impl<'a, A: Allocator> SortedList<'a, Family<'a, A>, A> {
     pub fn wasm(alloc: A) -> Result<Self, AllocError>
         ensures { IfOk result (λ list. list ≡ codes "wasm" ∷ []) }
     {
-        let families = one(alloc, Family::wasm())?;
-        Ok(SortedList::from_sorted(families))
+        SortedList::of_one(alloc, Family::wasm())
     }
 
     /// The list of `windows`, in memory of `alloc`.
@@ -50,7 +48,14 @@ impl<'a, A: Allocator> SortedList<'a, Family<'a, A>, A> {
     pub fn windows(alloc: A) -> Result<Self, AllocError>
         ensures { IfOk result (λ list. list ≡ codes "windows" ∷ []) }
     {
-        let families = one(alloc, Family::windows())?;
+        SortedList::of_one(alloc, Family::windows())
+    }
+
+    // The list of this family.
+    fn of_one(alloc: A, family: Family<'a, A>) -> Result<Self, AllocError>
+        ensures { IfOk result (λ list. list ≡ family.entry ∷ []) }
+    {
+        let families = one(alloc, family)?;
         Ok(SortedList::from_sorted(families))
     }
 }
@@ -152,12 +157,24 @@ fn rows<'a, A: Allocator + Copy>(alloc: A) -> Result<Vec<TargetInfo<'a, A>, A>, 
     ensures { IfOk result (λ rows. rows.items ≡ builtin_rows) }
 {
     let mut rows: Vec<TargetInfo<'a, A>, A> = Vec::with_capacity(alloc, 5)?;
-    push_apple(&mut rows, alloc, DARWIN, "macos", None)?;
-    push_apple(&mut rows, alloc, IOS, "ios", None)?;
-    push_apple(&mut rows, alloc, MACABI, "ios", Some("macabi"))?;
-    push_apple(&mut rows, alloc, SIM, "ios", Some("sim"))?;
-    push_apple(&mut rows, alloc, TVOS, "tvos", None)?;
+    push_rows(&mut rows, alloc)?;
     Ok(rows)
+}
+
+// Adds the rows to none. The vector is borrowed, so that no way out of this function drops it: on
+// each such way the checker goes over all that is owned there.
+fn push_rows<'a, A: Allocator + Copy>(
+    rows: &mut Vec<TargetInfo<'a, A>, A>,
+    alloc: A,
+) -> Result<(), AllocError>
+    requires { rows.old.items ≡ [] }
+    ensures { OnOk result (rows.new.items ≡ builtin_rows) }
+{
+    push_apple(rows, alloc, DARWIN, "macos", None)?;
+    push_apple(rows, alloc, IOS, "ios", None)?;
+    push_apple(rows, alloc, MACABI, "ios", Some("macabi"))?;
+    push_apple(rows, alloc, SIM, "ios", Some("sim"))?;
+    push_apple(rows, alloc, TVOS, "tvos", None)
 }
 
 // Adds a target of Apple's with this triple and operating system. The variant, where there is one,
@@ -172,9 +189,24 @@ fn push_apple<'a, A: Allocator + Copy>(
     ensures { OnOk result (rows.new.items ≡ rows.old.items ++ apple_row
         triple.now os.now (option_copied variant.entry) (option_copied variant.entry) ∷ []) }
 {
+    let row = apple(alloc, triple, os, variant)?;
+    rows.push(row)?;
+    Ok(())
+}
+
+// The target of Apple's with this triple, operating system and variant, in memory of `alloc`.
+fn apple<'a, A: Allocator + Copy>(
+    alloc: A,
+    triple: &'a str,
+    os: &'a str,
+    variant: Option<&'a str>,
+) -> Result<TargetInfo<'a, A>, AllocError>
+    ensures { IfOk result (λ row. row ≡ apple_row
+        triple.now os.now (option_copied variant.entry) (option_copied variant.entry)) }
+{
     let families = SortedList::unix(alloc)?;
     let has_atomics = SortedList::atomic_8_16_32_64_128_ptr(alloc)?;
-    rows.push(TargetInfo {
+    Ok(TargetInfo {
         triple: Triple::new_const(triple),
         os: Some(Os::new_const(os)),
         abi: variant.map(|name| Abi::new_const(name)),
@@ -186,6 +218,5 @@ fn push_apple<'a, A: Allocator + Copy>(
         endian: Endian::little,
         has_atomics,
         panic: Panic::unwind(),
-    })?;
-    Ok(())
+    })
 }
