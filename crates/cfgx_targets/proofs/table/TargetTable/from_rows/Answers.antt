@@ -8,7 +8,7 @@ returns-in-Some g c = record {
   increasing = tt;
   returned = refl;
   first = subst (λ rows. IsFirstNotAbove rows c.in-Some.index) c.as_slice.ensures.value
-    c.in-Some.ensures;
+      c.in-Some.ensures;
 }
 
 pub returns-in-None : goal.returns-in-None
