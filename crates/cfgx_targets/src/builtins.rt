@@ -157,24 +157,12 @@ fn rows<'a, A: Allocator + Copy>(alloc: A) -> Result<Vec<TargetInfo<'a, A>, A>, 
     ensures { IfOk result (λ rows. rows.items ≡ builtin_rows) }
 {
     let mut rows: Vec<TargetInfo<'a, A>, A> = Vec::with_capacity(alloc, 5)?;
-    push_rows(&mut rows, alloc)?;
+    push_apple(&mut rows, alloc, DARWIN, "macos", None)?;
+    push_apple(&mut rows, alloc, IOS, "ios", None)?;
+    push_apple(&mut rows, alloc, MACABI, "ios", Some("macabi"))?;
+    push_apple(&mut rows, alloc, SIM, "ios", Some("sim"))?;
+    push_apple(&mut rows, alloc, TVOS, "tvos", None)?;
     Ok(rows)
-}
-
-// Adds the rows to none. The vector is borrowed, so that no way out of this function drops it: on
-// each such way the checker goes over all that is owned there.
-fn push_rows<'a, A: Allocator + Copy>(
-    rows: &mut Vec<TargetInfo<'a, A>, A>,
-    alloc: A,
-) -> Result<(), AllocError>
-    requires { rows.old.items ≡ [] }
-    ensures { OnOk result (rows.new.items ≡ builtin_rows) }
-{
-    push_apple(rows, alloc, DARWIN, "macos", None)?;
-    push_apple(rows, alloc, IOS, "ios", None)?;
-    push_apple(rows, alloc, MACABI, "ios", Some("macabi"))?;
-    push_apple(rows, alloc, SIM, "ios", Some("sim"))?;
-    push_apple(rows, alloc, TVOS, "tvos", None)
 }
 
 // Adds a target of Apple's with this triple and operating system. The variant, where there is one,
@@ -189,24 +177,9 @@ fn push_apple<'a, A: Allocator + Copy>(
     ensures { OnOk result (rows.new.items ≡ rows.old.items ++ apple_row
         triple.now os.now (option_copied variant.entry) (option_copied variant.entry) ∷ []) }
 {
-    let row = apple(alloc, triple, os, variant)?;
-    rows.push(row)?;
-    Ok(())
-}
-
-// The target of Apple's with this triple, operating system and variant, in memory of `alloc`.
-fn apple<'a, A: Allocator + Copy>(
-    alloc: A,
-    triple: &'a str,
-    os: &'a str,
-    variant: Option<&'a str>,
-) -> Result<TargetInfo<'a, A>, AllocError>
-    ensures { IfOk result (λ row. row ≡ apple_row
-        triple.now os.now (option_copied variant.entry) (option_copied variant.entry)) }
-{
     let families = SortedList::unix(alloc)?;
     let has_atomics = SortedList::atomic_8_16_32_64_128_ptr(alloc)?;
-    Ok(TargetInfo {
+    rows.push(TargetInfo {
         triple: Triple::new_const(triple),
         os: Some(Os::new_const(os)),
         abi: variant.map(|name| Abi::new_const(name)),
@@ -218,5 +191,6 @@ fn apple<'a, A: Allocator + Copy>(
         endian: Endian::little,
         has_atomics,
         panic: Panic::unwind(),
-    })
+    })?;
+    Ok(())
 }
