@@ -7,7 +7,7 @@ ghost use Rattle.cfgx_engine.specs.Streams.{TakesFront};
 
 mod answer;
 mod flags;
-mod laws;
+pub mod laws;
 mod listing;
 pub mod streams;
 mod target;

@@ -39,30 +39,32 @@ fn bare(predicate: InnerPredicate, value: Option<Word<'_>>) -> Result<InnerPredi
 fn target(which: &str, key: Word<'_>, value: Word<'_>) -> Result<InnerPredicate, Refused>
     ensures { answer_of result ≡ target_answer which.now (word_of key.entry) (word_of value.entry) }
 {
+    use InnerPredicate::{Target, TargetFeature};
+    use InnerTarget::*;
     let Word { text, span } = value;
-    Ok(InnerPredicate::Target(match which {
-        "abi" => InnerTarget::Abi(span),
-        "arch" => InnerTarget::Arch(span),
-        "os" => InnerTarget::Os(span),
-        "family" => InnerTarget::Family(span),
-        "env" => InnerTarget::Env(span),
-        "vendor" => InnerTarget::Vendor(span),
-        "feature" if text.is_empty() => return Err((Reason::Unexpected(&["<feature>"]), span)),
-        "feature" => return Ok(InnerPredicate::TargetFeature(span)),
+    match which {
+        "abi" => Ok(Target(Abi(span))),
+        "arch" => Ok(Target(Arch(span))),
+        "os" => Ok(Target(Os(span))),
+        "family" => Ok(Target(Family(span))),
+        "env" => Ok(Target(Env(span))),
+        "vendor" => Ok(Target(Vendor(span))),
+        "feature" if text.is_empty() => Err((Reason::Unexpected(&["<feature>"]), span)),
+        "feature" => Ok(TargetFeature(span)),
         "endian" => match read_endian(text) {
-            Some(endian) => InnerTarget::Endian(endian),
-            None => return Err((Reason::InvalidInteger, span)),
+            Some(endian) => Ok(Target(Endian(endian))),
+            None => Err((Reason::InvalidInteger, span)),
         },
         "has_atomic" => match read_has_atomic(text) {
-            Some(atomic) => InnerTarget::HasAtomic(atomic),
-            None => return Err((Reason::InvalidHasAtomic, span)),
+            Some(atomic) => Ok(Target(HasAtomic(atomic))),
+            None => Err((Reason::InvalidHasAtomic, span)),
         },
         "pointer_width" => match read_u8(text) {
-            Some(width) => InnerTarget::PointerWidth(width),
-            None => return Err((Reason::InvalidInteger, span)),
+            Some(width) => Ok(Target(PointerWidth(width))),
+            None => Err((Reason::InvalidInteger, span)),
         },
-        _ => return Err((Reason::Unexpected(TARGET_KEYS), key.span)),
-    }))
+        _ => Err((Reason::Unexpected(TARGET_KEYS), key.span)),
+    }
 }
 
 /// The predicate of a key that is in none of the tables, or that begins with `target_`.

@@ -8,18 +8,22 @@ ghost use Rattle.cfgx_grammar.specs.Tree.{Tree, Trees, asked, asked_each, arrang
 
 use crate::function::Func;
 use crate::predicates::{Predicate, TargetPredicate};
+use std::alloc::Allocator;
 use std::cmp::Ordering;
 
 /// Two target predicates are equal where they are of one kind and have equal texts, wherever these
 /// lie.
-pub fn are_same_targets(one: &TargetPredicate<'_>, other: &TargetPredicate<'_>) -> bool
+pub fn are_same_targets<A: Allocator>(
+    one: &TargetPredicate<'_, A>,
+    other: &TargetPredicate<'_, A>,
+) -> bool
     ensures { IsTrue result ↔ (target_of one.now ≡ target_of other.now) }
 {
     *one == *other
 }
 
 /// Two predicates are equal where they are of one kind and have equal texts, wherever these lie.
-pub fn are_same_predicates(one: &Predicate<'_>, other: &Predicate<'_>) -> bool
+pub fn are_same_predicates<A: Allocator>(one: &Predicate<'_, A>, other: &Predicate<'_, A>) -> bool
     ensures { IsTrue result ↔ (question_of one.now ≡ question_of other.now) }
 {
     *one == *other

@@ -19,8 +19,7 @@ impl<'a, A: Allocator> SortedList<'a, Family<'a, A>, A> {
     pub fn unix(alloc: A) -> Result<Self, AllocError>
         ensures { IfOk result (λ list. list ≡ codes "unix" ∷ []) }
     {
-        let families = one(alloc, Family::unix())?;
-        Ok(SortedList::from_sorted(families))
+        SortedList::of_one(alloc, Family::unix())
     }
 
     /// The list of `unix` and `wasm`, in memory of `alloc`.
@@ -40,8 +39,7 @@ impl<'a, A: Allocator> SortedList<'a, Family<'a, A>, A> {
     pub fn wasm(alloc: A) -> Result<Self, AllocError>
         ensures { IfOk result (λ list. list ≡ codes "wasm" ∷ []) }
     {
-        let families = one(alloc, Family::wasm())?;
-        Ok(SortedList::from_sorted(families))
+        SortedList::of_one(alloc, Family::wasm())
     }
 
     /// The list of `windows`, in memory of `alloc`.
@@ -50,7 +48,14 @@ impl<'a, A: Allocator> SortedList<'a, Family<'a, A>, A> {
     pub fn windows(alloc: A) -> Result<Self, AllocError>
         ensures { IfOk result (λ list. list ≡ codes "windows" ∷ []) }
     {
-        let families = one(alloc, Family::windows())?;
+        SortedList::of_one(alloc, Family::windows())
+    }
+
+    // The list of this family.
+    fn of_one(alloc: A, family: Family<'a, A>) -> Result<Self, AllocError>
+        ensures { IfOk result (λ list. list ≡ family.entry ∷ []) }
+    {
+        let families = one(alloc, family)?;
         Ok(SortedList::from_sorted(families))
     }
 }

@@ -1,6 +1,7 @@
 //! The families of a target.
 
-ghost use Rattle.std.specs.Prelude.{◌≡◌, ◌↔◌, Contains, IfOk, IsTrue};
+ghost use Rattle.std.specs.Prelude.{◌≡◌, ◌↔◌, ◌∷◌, ◌++◌, [], Contains, IfOk, IsTrue};
+ghost use Rattle.std.specs.Prelude.{OnOk};
 
 use crate::list::{Member, SortedList};
 use cfgx_places::Family;
@@ -61,7 +62,20 @@ fn copied<'a, A: Allocator + Copy>(
 {
     let mut copies = Vec::with_capacity(alloc, families.len())?;
     for family in families {
-        copies.push(family.try_clone(alloc)?)?;
+        push_copy(&mut copies, alloc, family)?;
     }
     Ok(copies)
+}
+
+// Adds a copy of the family, in memory of `alloc`.
+fn push_copy<'a, A: Allocator + Copy>(
+    copies: &mut Vec<Family<'a, A>, A>,
+    alloc: A,
+    family: &Family<'a, A>,
+) -> Result<(), AllocError>
+    ensures { OnOk result (copies.new.items ≡ copies.old.items ++ family.now ∷ []) }
+{
+    let copy = family.try_clone(alloc)?;
+    copies.push(copy)?;
+    Ok(())
 }

@@ -5,8 +5,8 @@ ghost use Rattle.std.specs.Prelude.{◌≡◌, IfOk};
 use crate::atomics::HasAtomics;
 use crate::endian::Endian;
 use crate::families::Families;
-use cfgx_fields::{Abi, Arch, Triple, Vendor};
-use cfgx_places::{Env, Os, Panic};
+use cfgx_fields::{Abi, Arch, Field, Triple, Vendor};
+use cfgx_places::{Env, Field as Place, Os, Panic};
 use std::alloc::{AllocError, Allocator, Global};
 
 mod laws;
@@ -42,14 +42,29 @@ pub struct TargetInfo<'a, A: Allocator = Global> {
     pub panic: Panic<'a, A>,
 }
 
-// A copy of what the option holds, where it holds something. The fields are of two types.
-macro_rules! copied {
-    ($field:expr, $alloc:expr) => {
-        match &$field {
-            Some(field) => Some(field.try_clone($alloc)?),
-            None => None,
-        }
-    };
+// A copy of what the option holds, in memory of `alloc`. The fields are of two types.
+fn copied_field<'a, K, A: Allocator>(
+    field: &Option<Field<'a, K, A>>,
+    alloc: A,
+) -> Result<Option<Field<'a, K, A>>, AllocError>
+    ensures { IfOk result (λ copy. copy ≡ field.now) }
+{
+    match field {
+        Some(field) => Ok(Some(field.try_clone(alloc)?)),
+        None => Ok(None),
+    }
+}
+
+fn copied_place<'a, K, A: Allocator>(
+    place: &Option<Place<'a, K, A>>,
+    alloc: A,
+) -> Result<Option<Place<'a, K, A>>, AllocError>
+    ensures { IfOk result (λ copy. copy ≡ place.now) }
+{
+    match place {
+        Some(place) => Ok(Some(place.try_clone(alloc)?)),
+        None => Ok(None),
+    }
 }
 
 // The triple, the architecture and the vendor.
@@ -96,15 +111,15 @@ impl<'a, A: Allocator + Copy> TargetInfo<'a, A> {
     {
         let triple = self.triple.try_clone(alloc)?;
         let arch = self.arch.try_clone(alloc)?;
-        Ok((triple, arch, copied!(self.vendor, alloc)))
+        Ok((triple, arch, copied_field(&self.vendor, alloc)?))
     }
 
     fn copied_places(&self, alloc: A) -> Result<Places<'a, A>, AllocError>
         ensures { IfOk result (λ copy. copy ≡ (self.now.os, self.now.abi, self.now.env)) }
     {
-        let os = copied!(self.os, alloc);
-        let abi = copied!(self.abi, alloc);
-        Ok((os, abi, copied!(self.env, alloc)))
+        let os = copied_place(&self.os, alloc)?;
+        let abi = copied_field(&self.abi, alloc)?;
+        Ok((os, abi, copied_place(&self.env, alloc)?))
     }
 
     fn copied_lists(&self, alloc: A) -> Result<Lists<'a, A>, AllocError>

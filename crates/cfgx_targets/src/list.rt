@@ -10,6 +10,7 @@ ghost use Rattle.std.specs.Hash.{items_Alike};
 ghost use Rattle.std.specs.Iterator.{IsFinite};
 ghost use Rattle.std.specs.Iterator.Runs.{WholeRun};
 ghost use Rattle.cfgx_targets.specs.SortedList.{IsSortedFrom, list_text, others_text};
+ghost use Rattle.cfgx_targets.specs.SortedList.{separated_text};
 
 use std::alloc::{AllocError, Allocator, Global};
 use std::borrow::CowSlice;
@@ -167,11 +168,22 @@ impl<T: Member, A: Allocator> fmt::Display for SortedList<'_, T, A> {
 
     fn fmt<W: fmt::Write>(&self, f: &mut fmt::Formatter<W>) -> fmt::Result {
         f.write_str("{")?;
-        if let Some((first, others)) = self.as_slice().split_first() {
-            write!(f, "{first}")?;
-            write_others(f, others)?;
-        }
+        write_members(f, self.as_slice())?;
         f.write_str("}")
+    }
+}
+
+// The members, with a comma and a space between two.
+fn write_members<T: Member, W: fmt::Write>(f: &mut fmt::Formatter<W>, members: &[T]) -> fmt::Result
+    ensures { DisplaysOnOk W.write_str_gives f.old result
+        (Some (separated_text (map T.text members.now))) f.new }
+{
+    match members.split_first() {
+        Some((first, others)) => {
+            write!(f, "{first}")?;
+            write_others(f, others)
+        }
+        None => Ok(()),
     }
 }
 

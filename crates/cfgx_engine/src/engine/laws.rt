@@ -1,5 +1,5 @@
-//! What the output of a request is: the function's clause is the law, and its body is only there to
-//! be proved.
+//! What the output of a request is: the function's clause is the law. Its body does nothing, and a
+//! caller that calls it knows the law.
 ghost use Rattle.std.specs.Prelude.{◌≡◌};
 ghost use Rattle.cfgx_engine.specs.Output.{Output, Prints, Request};
 
