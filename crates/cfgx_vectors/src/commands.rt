@@ -1,13 +1,11 @@
 //! What the commands `eval` and `target` write, and the statuses that they end with.
 use crate::deep::repeated;
-use crate::streams::is_answer;
+use crate::streams::{USAGE, is_answer};
 use std::alloc::Global;
 use std::test::Fail;
 
-const USAGE: &str =
-    "usage: cfgx parse TEXT | eval TEXT FLAG.. | target TRIPLE TEXT | pick TRIPLE\n";
-
-const NO_TOKEN: &str = "?a\n^ expected one of `<key>`, `all`, `any`, `not` here\n";
+// What is printed of a text that starts with a question mark.
+const QUESTION_MARK: &str = "?a\n^ expected one of `<key>`, `all`, `any`, `not` here\n";
 
 // The words behind `eval`, and the value that is written.
 const VALUES: &[(&[&str], &str)] = &[
@@ -52,6 +50,7 @@ const VALUES: &[(&[&str], &str)] = &[
     // A flag names all that it asks, whatever its functions are.
     (&["all(a, b)", "any(a, not(b))"], "true\n"),
     (&["all(a, b)", "?all(a, any(b))"], "unknown\n"),
+    (&["all(a, b)", "?any(a, b)", "a"], "unknown\n"),
     (&["a", "all()"], "false\n"),
     (&["a", "cfg(a)"], "true\n"),
     (&["cfg(a)", "?cfg(a)"], "unknown\n"),
@@ -71,14 +70,14 @@ const VALUES: &[(&[&str], &str)] = &[
 const FAULTS: &[(&[&str], &str)] = &[
     (&["key)"], "key)\n   ^ unopened parens\n"),
     (&[""], "\n empty expression\n"),
-    (&["?a"], NO_TOKEN),
+    (&["?a"], QUESTION_MARK),
     (&["a", "b)"], "b)\n ^ unopened parens\n"),
     (&["a", "?b)"], "b)\n ^ unopened parens\n"),
     (&["a", "cfg(b))"], "b)\n ^ unopened parens\n"),
     (&["a", "?cfg(b))"], "b)\n ^ unopened parens\n"),
     (&["a", ""], "\n empty expression\n"),
     (&["a", "?"], "\n empty expression\n"),
-    (&["a", "??a"], NO_TOKEN),
+    (&["a", "??a"], QUESTION_MARK),
     (&["a", "not(key"], "not(key\n   - unclosed parens\n"),
     (&["key)", "b)"], "key)\n   ^ unopened parens\n"),
     (&["key)", "?b)"], "key)\n   ^ unopened parens\n"),
@@ -155,6 +154,8 @@ const ON_TARGETS: &[(&str, &str, &str)] = &[
     (IOS, "all(windows, test)", "false\n"),
     (IOS, "any(windows, test)", "unknown\n"),
     (IOS, "all()", "true\n"),
+    (TVOS, "any(feature = \"x\", target_os = \"tvos\")", "true\n"),
+    (TVOS, "all(feature = \"x\", unix)", "unknown\n"),
 ];
 
 // Other words behind `target`, the output and the status.
@@ -173,8 +174,9 @@ const OTHERS: &[(&[&str], &str, u8)] = &[
         2,
     ),
     (&["target", IOS, "key)"], "key)\n   ^ unopened parens\n", 1),
+    (&["target", DARWIN, "a)"], "a)\n ^ unopened parens\n", 1),
     (&["target", IOS, ""], "\n empty expression\n", 1),
-    (&["target", IOS, "?a"], NO_TOKEN, 1),
+    (&["target", IOS, "?a"], QUESTION_MARK, 1),
     (&["target", IOS], USAGE, 2),
     (&["target"], USAGE, 2),
     (&["target", IOS, "unix", "a"], USAGE, 2),

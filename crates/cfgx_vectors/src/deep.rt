@@ -1,5 +1,5 @@
 //! Deep, wide and long texts end in an answer.
-use crate::faults::{fault, has_fault};
+use crate::faults::{NO_TOKEN, fault, has_fault};
 use cfg_expr::Expression;
 use cfg_expr::error::{Failure, Reason};
 use cfg_expr::expr::Predicates;
@@ -32,8 +32,6 @@ pub(crate) fn nested(
     let front = repeated(alloc, "", name, times, inner)?;
     repeated(alloc, front.as_str(), ")", times, "")
 }
-
-const NO_TOKEN: Reason = Reason::Unexpected(&["<key>", "all", "any", "not"]);
 
 /// The parts of a text, where its fault starts and ends, and the reason.
 type Row = (

@@ -14,7 +14,8 @@ pub(crate) fn fault(alloc: Global, text: &str) -> Result<ParseError, &'static st
     }
 }
 
-const NO_TOKEN: Reason = Reason::Unexpected(&["<key>", "all", "any", "not"]);
+/// The fault of a place where no token can start, or where none may stand first.
+pub(crate) const NO_TOKEN: Reason = Reason::Unexpected(&["<key>", "all", "any", "not"]);
 
 const IN_PARENS: Reason = Reason::Unexpected(&["<key>", ")", "all", "any", "not"]);
 
