@@ -258,6 +258,21 @@ mod tests {
         Ok(())
     }
 
+    // No predicate is asked, and `any()` is false whatever stands beside it.
+    #[test]
+    fn functions_alone_ask_nothing(rt: HostRuntime) -> Result<(), Fail> {
+        let many = repeated(rt.alloc(), "all(any(),", "all(),", 299, ")")?;
+        let expression = Expression::parse(rt.alloc(), many.as_str())?;
+        let mut calls = 0u8;
+        let mut answer = |_predicate: &Predicate<'_>| {
+            calls = calls.saturating_add(1);
+            true
+        };
+        let value: bool = expression.eval(rt.alloc(), &mut answer)?;
+        assert_eq!(rt; (value, calls), (false, 0));
+        Ok(())
+    }
+
     #[test]
     fn many_members_and_deep_ones(rt: HostRuntime) -> Result<(), Fail> {
         let many = repeated(rt.alloc(), "all(any(),", "all(),", 299, ")")?;

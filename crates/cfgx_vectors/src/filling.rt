@@ -164,6 +164,17 @@ mod tests {
             Some((&[false, true], &[true, false])),
         ),
         (
+            "all(not(a), b)",
+            &[None, None],
+            Some((&[false, true], &[true, false])),
+        ),
+        (
+            "all(a, b)",
+            &[YES, None],
+            Some((&[true, true], &[true, false])),
+        ),
+        ("all(a, b)", &[NO, None], None),
+        (
             "any(not(not(a)), not(b), c)",
             &[None, None, None],
             Some((&[true, false, true], &[false, true, false])),
