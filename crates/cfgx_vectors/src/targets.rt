@@ -267,6 +267,33 @@ fn windows(alloc: Global, vendor: Vendor<'static>) -> Result<TargetInfo<'static>
     })
 }
 
+// The value of the expression on the row.
+fn value_of_readme(alloc: Global, row: &TargetInfo<'_>) -> Result<bool, Failure> {
+    let expression = Expression::parse(alloc, README)?;
+    Ok(expression.eval(
+        alloc,
+        &mut |predicate: &Predicate<'_>| is_true_of(predicate, row),
+    )?)
+}
+
+// A row of macOS.
+fn darwin(alloc: Global) -> Result<TargetInfo<'static>, AllocError> {
+    Ok(TargetInfo {
+        triple: Triple::new_const("aarch64-apple-darwin"),
+        os: Some(Os::macos()),
+        ..ios(alloc)?
+    })
+}
+
+#[test]
+fn the_expression_of_the_readme_has_its_values(rt: HostRuntime) -> Result<(), Fail> {
+    let alloc = rt.alloc();
+    assert!(rt; value_of_readme(alloc, &windows(alloc, Vendor::pc())?)?);
+    assert!(rt; !value_of_readme(alloc, &windows(alloc, Vendor::uwp())?)?);
+    assert!(rt; !value_of_readme(alloc, &darwin(alloc)?)?);
+    Ok(())
+}
+
 // Whether the row meets them so.
 fn is_readme(alloc: Global, row: TargetInfo<'static>, wanted: (bool, bool)) -> bool {
     meets_readme(alloc, &row).ok() == Some(wanted)
