@@ -12,6 +12,8 @@ mod deep;
 mod errors;
 pub mod evaluating;
 #[cfg(test)]
+mod expressions;
+#[cfg(test)]
 mod faults;
 #[cfg(test)]
 mod fields;
@@ -37,3 +39,5 @@ mod streams;
 mod targets;
 #[cfg(test)]
 mod tokens;
+#[cfg(test)]
+mod turns;
