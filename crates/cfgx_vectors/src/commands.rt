@@ -216,6 +216,10 @@ fn values_on_targets(rt: HostRuntime) {
         let words = ["target", *triple, *text];
         assert!(rt; is_answer(rt.alloc(), &words, 0, value), "{triple} {text}");
     }
+}
+
+#[test]
+fn values_on_all_targets(rt: HostRuntime) {
     for triple in [DARWIN, IOS, MACABI, SIM, TVOS] {
         assert!(rt;
             is_answer(rt.alloc(), &["target", triple, COMMON], 0, "true\n"),
@@ -241,6 +245,11 @@ fn many_members(rt: HostRuntime) -> Result<(), Fail> {
     let text = repeated(rt.alloc(), "all(any(),", "all(),", 299, ")")?;
     assert!(rt; is_evaluated(rt.alloc(), &[text.as_str()], "false\n", 0)?);
     assert!(rt; is_answer(rt.alloc(), &["target", IOS, text.as_str()], 0, "false\n"));
+    Ok(())
+}
+
+#[test]
+fn many_predicates(rt: HostRuntime) -> Result<(), Fail> {
     let wide = repeated(rt.alloc(), "all(", "a,", 1_000, ")")?;
     assert!(rt; is_evaluated(rt.alloc(), &[wide.as_str(), wide.as_str()], "true\n", 0)?);
     Ok(())

@@ -94,9 +94,9 @@ fn are_refused_by_from_str(rt: HostRuntime) {
 }
 
 // Whether the copy is equal to the expression and asks the same, and the expression stays.
-fn is_copied(
-    heap: Heap<'_>,
-    expression: &Expression<Heap<'_>>,
+fn is_copied<'h>(
+    heap: Heap<'h>,
+    expression: &Expression<Heap<'h>>,
     text: &str,
 ) -> Result<bool, AllocError> {
     let copy = expression.try_clone(heap);

@@ -265,17 +265,23 @@ fn is_answered_as_such_by_the_commands(rt: HostRuntime) -> Result<(), Fail> {
     for (words, status) in COMMANDS {
         run_in_turns(&rt, rt.alloc(), words, *status)?;
     }
+    Ok(())
+}
+
+#[test]
+fn is_answered_as_such_by_commands_on_wide_texts(rt: HostRuntime) -> Result<(), Fail> {
     let wide = repeated(rt.alloc(), "any(", "a,", 100, ")")?;
     let flag = repeated(rt.alloc(), "?any(", "b,", 100, ")")?;
     run_in_turns(&rt, rt.alloc(), &["eval", wide.as_str(), flag.as_str()], 0)?;
+    Ok(())
+}
+
+#[test]
+fn is_answered_as_such_by_commands_on_deep_texts(rt: HostRuntime) -> Result<(), Fail> {
     let deep = nested(rt.alloc(), "not(", 40, "a")?;
-    run_in_turns(&rt, rt.alloc(), &["eval", deep.as_str(), deep.as_str()], 0)?;
-    run_in_turns(
-        &rt,
-        rt.alloc(),
-        &["target", "aarch64-apple-tvos", deep.as_str()],
-        0,
-    )?;
+    let deep = deep.as_str();
+    run_in_turns(&rt, rt.alloc(), &["eval", deep, deep], 0)?;
+    run_in_turns(&rt, rt.alloc(), &["target", "aarch64-apple-tvos", deep], 0)?;
     Ok(())
 }
 

@@ -1,7 +1,7 @@
 //! The spellings of predicates, as `spell` writes them.
 use cfg_expr::Expression;
 use cfg_expr::error::Failure;
-use cfg_expr::expr::spell;
+use cfg_expr::expr::{Predicates, spell};
 use std::alloc::Global;
 use std::io::{self, ErrorKind, Write};
 use std::process::Abort;
@@ -95,12 +95,16 @@ const ROWS: &[(&str, &str)] = &[
 // Spells the predicates of the text, and answers the kind of the error that ended this, if any.
 fn spell_each(alloc: Global, text: &str, writer: &mut Slow) -> Result<Option<ErrorKind>, Failure> {
     let expression = Expression::parse(alloc, text)?;
-    for predicate in expression.predicates() {
+    Ok(spell_all(expression.predicates(), writer))
+}
+
+fn spell_all(predicates: Predicates<'_>, writer: &mut Slow) -> Option<ErrorKind> {
+    for predicate in predicates {
         if let Err(error) = spell(&predicate, writer) {
-            return Ok(Some(error.kind()));
+            return Some(error.kind());
         }
     }
-    Ok(None)
+    None
 }
 
 // Whether the text is spelled so by calls that take at most `each` bytes.

@@ -212,9 +212,15 @@ fn ios(alloc: Global) -> Result<TargetInfo<'static>, AllocError> {
     })
 }
 
+// Whether each text's predicate has this answer on the row of iOS.
+fn are_answers_on_ios(alloc: Global, rows: &[(&str, bool)]) -> Result<bool, Fail> {
+    let row = ios(alloc)?;
+    are_answers(alloc, &row, rows)
+}
+
 #[test]
 fn a_row_meets_its_predicates(rt: HostRuntime) -> Result<(), Fail> {
-    assert!(rt; are_answers(rt.alloc(), &ios(rt.alloc())?, OF_IOS)?);
+    assert!(rt; are_answers_on_ios(rt.alloc(), OF_IOS)?);
     Ok(())
 }
 
@@ -350,8 +356,13 @@ fn tables_have_increasing_triples(rt: HostRuntime) -> Result<(), Fail> {
     Ok(())
 }
 
-// Whether the table that is built in has a row with this triple, and that row has it.
+// Whether a row is found by this triple.
 fn is_found(table: &TargetTable<'_>, triple: &str) -> bool {
+    get_builtin_target_by_triple(table, triple).is_some()
+}
+
+// Whether the row that is found by this triple has it.
+fn has_triple(table: &TargetTable<'_>, triple: &str) -> bool {
     match get_builtin_target_by_triple(table, triple) {
         Some(row) => row.triple.as_str() == triple,
         None => false,
@@ -371,13 +382,16 @@ fn targets_are_found_by_their_triples(rt: HostRuntime) -> Result<(), Fail> {
     let table = TargetTable::builtins(rt.alloc())?;
     assert!(rt; have_triples(table.rows(), BUILT_IN));
     for triple in BUILT_IN {
-        assert!(rt; is_found(&table, triple), "{triple}");
+        assert!(rt; has_triple(&table, triple), "{triple}");
     }
+    Ok(())
+}
+
+#[test]
+fn other_triples_are_not_found(rt: HostRuntime) -> Result<(), Fail> {
+    let table = TargetTable::builtins(rt.alloc())?;
     for triple in ["", "aarch64-apple-tvos-sim", "aarch64-apple", "b"] {
-        assert!(rt;
-            get_builtin_target_by_triple(&table, triple).is_none(),
-            "{triple}"
-        );
+        assert!(rt; !is_found(&table, triple), "{triple}");
     }
     Ok(())
 }

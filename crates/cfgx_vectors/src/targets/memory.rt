@@ -183,7 +183,7 @@ fn is_not_met_by_what_is_borrowed(rt: HostRuntime) {
 type Asked<'h> = TargetPredicate<'static, Heap<'h>>;
 
 // Whether the predicate, whose text is borrowed if it has one, is copied with no memory.
-fn is_free(heap: Heap<'_>, predicate: &Asked<'_>) -> bool {
+fn is_free<'h>(heap: Heap<'h>, predicate: &Asked<'h>) -> bool {
     heap.refuse(EVERY);
     match predicate.try_clone(heap) {
         Ok(copy) => copy == *predicate,
@@ -193,7 +193,11 @@ fn is_free(heap: Heap<'_>, predicate: &Asked<'_>) -> bool {
 
 // Whether the predicate, whose text is owned, wants one growth for its copy, stays as it was where
 // that is refused, and is copied where it is not.
-fn is_copied(heap: Heap<'_>, owned: &Asked<'_>, borrowed: &Asked<'_>) -> Result<bool, AllocError> {
+fn is_copied<'h>(
+    heap: Heap<'h>,
+    owned: &Asked<'h>,
+    borrowed: &Asked<'h>,
+) -> Result<bool, AllocError> {
     heap.refuse(1);
     let is_refused = owned.try_clone(heap).is_err() && heap.has_refused();
     let stays = owned == borrowed;
