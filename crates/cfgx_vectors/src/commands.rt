@@ -1,7 +1,8 @@
 //! What the commands `eval` and `target` write, and the statuses that they end with.
 use crate::deep::repeated;
+use crate::holding::holds;
 use crate::streams::{USAGE, is_answer};
-use std::alloc::Global;
+use std::alloc::{AllocError, Global};
 use std::test::Fail;
 
 // What is printed of a text that starts with a question mark.
@@ -187,7 +188,12 @@ const OTHERS: &[(&[&str], &str, u8)] = &[
 ];
 
 // Whether `eval` and these words write this and end with the status.
-fn is_evaluated(alloc: Global, words: &[&str], written: &str, status: u8) -> Result<bool, Fail> {
+fn is_evaluated(
+    alloc: Global,
+    words: &[&str],
+    written: &str,
+    status: u8,
+) -> Result<bool, AllocError> {
     let mut all = Vec::new(alloc);
     all.push("eval")?;
     all.extend_from_slice(words)?;
@@ -195,19 +201,23 @@ fn is_evaluated(alloc: Global, words: &[&str], written: &str, status: u8) -> Res
 }
 
 #[test]
-fn values_by_flags(rt: HostRuntime) -> Result<(), Fail> {
+fn values_by_flags(rt: HostRuntime) {
     for (words, value) in VALUES {
-        assert!(rt; is_evaluated(rt.alloc(), words, value, 0)?, "{words:?}");
+        assert!(rt;
+            holds(is_evaluated(rt.alloc(), words, value, 0)),
+            "{words:?}"
+        );
     }
-    Ok(())
 }
 
 #[test]
-fn the_first_faulty_word_counts(rt: HostRuntime) -> Result<(), Fail> {
+fn the_first_faulty_word_counts(rt: HostRuntime) {
     for (words, fault) in FAULTS {
-        assert!(rt; is_evaluated(rt.alloc(), words, fault, 1)?, "{words:?}");
+        assert!(rt;
+            holds(is_evaluated(rt.alloc(), words, fault, 1)),
+            "{words:?}"
+        );
     }
-    Ok(())
 }
 
 #[test]

@@ -1,5 +1,6 @@
 //! Printed texts, written out by hand from the rules of the format.
 
+use crate::holding::holds;
 use cfg_expr::error::{Failure, ParseError, Reason};
 use std::alloc::{AllocError, Global};
 use std::ops::Range;
@@ -91,12 +92,11 @@ fn shows(alloc: Global, reason: Reason, text: &str) -> Result<bool, AllocError> 
 }
 
 #[test]
-fn each_reason_has_its_texts(rt: HostRuntime) -> Result<(), Fail> {
+fn each_reason_has_its_texts(rt: HostRuntime) {
     for (reason, text, description) in REASONS {
-        assert!(rt; shows(rt.alloc(), *reason, text)?, "{text}");
+        assert!(rt; holds(shows(rt.alloc(), *reason, text)), "{text}");
         assert!(rt; described(rt.alloc(), *reason) == *description, "{text}");
     }
-    Ok(())
 }
 
 /// A text, where its fault starts and ends, the reason, and what is printed.
@@ -171,11 +171,10 @@ fn prints_so(alloc: Global, row: &Row) -> Result<bool, AllocError> {
 
 // The four ways of marking a span: from its start, at one place, byte for byte, and not at all.
 #[test]
-fn a_fault_prints_its_text_its_marks_and_its_reason(rt: HostRuntime) -> Result<(), Fail> {
+fn a_fault_prints_its_text_its_marks_and_its_reason(rt: HostRuntime) {
     for row in PRINTED {
-        assert!(rt; prints_so(rt.alloc(), row)?, "{:?}", row.0);
+        assert!(rt; holds(prints_so(rt.alloc(), row)), "{:?}", row.0);
     }
-    Ok(())
 }
 
 // U+00E9 takes two bytes, so the mark below the `x` behind it stands two places to the right.

@@ -19,6 +19,8 @@ mod faults;
 mod fields;
 pub mod filling;
 #[cfg(test)]
+mod holding;
+#[cfg(test)]
 mod lexer;
 #[cfg(test)]
 mod memory;

@@ -1,11 +1,11 @@
 //! The spellings of predicates, as `spell` writes them.
+use crate::holding::holds;
 use cfg_expr::Expression;
 use cfg_expr::error::Failure;
 use cfg_expr::expr::{Predicates, spell};
 use std::alloc::Global;
 use std::io::{self, ErrorKind, Write};
 use std::process::Abort;
-use std::test::Fail;
 
 // A writer in memory that takes at most `each` bytes a call, and `room` bytes in all. It counts its
 // calls, and that of the number `failing`, counted from 1, fails with an error of this kind.
@@ -115,13 +115,15 @@ fn is_spelled(alloc: Global, text: &str, spelled: &str, each: usize) -> Result<b
 }
 
 #[test]
-fn spells_each_kind_of_predicate(rt: HostRuntime) -> Result<(), Fail> {
+fn spells_each_kind_of_predicate(rt: HostRuntime) {
     for (text, spelled) in ROWS {
         for each in [1, 3, usize::MAX] {
-            assert!(rt; is_spelled(rt.alloc(), text, spelled, each)?, "{text}");
+            assert!(rt;
+                holds(is_spelled(rt.alloc(), text, spelled, each)),
+                "{text}"
+            );
         }
     }
-    Ok(())
 }
 
 // Whether a beginning of the spelling was written, this many bytes, where no more have room.
@@ -136,16 +138,15 @@ fn stops_behind(alloc: Global, text: &str, spelled: &str, room: usize) -> Result
 }
 
 #[test]
-fn stops_where_the_writer_takes_nothing(rt: HostRuntime) -> Result<(), Fail> {
+fn stops_where_the_writer_takes_nothing(rt: HostRuntime) {
     for (text, spelled) in ROWS {
         for room in 0..spelled.len() {
             assert!(rt;
-                stops_behind(rt.alloc(), text, spelled, room)?,
+                holds(stops_behind(rt.alloc(), text, spelled, room)),
                 "{text} at {room}"
             );
         }
     }
-    Ok(())
 }
 
 // Whether a spelling whose call of this number fails, of calls that take one byte, ends with the
@@ -176,18 +177,17 @@ const KINDS: [ErrorKind; 3] = [
 ];
 
 #[test]
-fn a_failed_call_is_the_last(rt: HostRuntime) -> Result<(), Fail> {
+fn a_failed_call_is_the_last(rt: HostRuntime) {
     for kind in KINDS {
         for (text, spelled) in ROWS {
             for failing in 1..=spelled.len() {
                 assert!(rt;
-                    fails_at(rt.alloc(), text, spelled, failing, kind)?,
+                    holds(fails_at(rt.alloc(), text, spelled, failing, kind)),
                     "call {failing} of {text}"
                 );
             }
         }
     }
-    Ok(())
 }
 
 // Whether calls that take one byte are as many as the bytes, so none is of an empty slice.
@@ -198,11 +198,13 @@ fn has_no_empty_call(alloc: Global, text: &str, spelled: &str) -> Result<bool, F
 }
 
 #[test]
-fn no_call_is_of_an_empty_slice(rt: HostRuntime) -> Result<(), Fail> {
+fn no_call_is_of_an_empty_slice(rt: HostRuntime) {
     for (text, spelled) in ROWS {
-        assert!(rt; has_no_empty_call(rt.alloc(), text, spelled)?, "{text}");
+        assert!(rt;
+            holds(has_no_empty_call(rt.alloc(), text, spelled)),
+            "{text}"
+        );
     }
-    Ok(())
 }
 
 // Whether the spelling, parsed, asks the predicate that the text asks.
@@ -213,12 +215,11 @@ fn is_read_again(alloc: Global, text: &str, spelled: &str) -> Result<bool, Failu
 }
 
 #[test]
-fn a_spelling_is_read_as_its_predicate(rt: HostRuntime) -> Result<(), Fail> {
+fn a_spelling_is_read_as_its_predicate(rt: HostRuntime) {
     for (text, spelled) in ROWS {
         if text.starts_with("all(") || text.starts_with("any(") {
             continue;
         }
-        assert!(rt; is_read_again(rt.alloc(), text, spelled)?, "{text}");
+        assert!(rt; holds(is_read_again(rt.alloc(), text, spelled)), "{text}");
     }
-    Ok(())
 }

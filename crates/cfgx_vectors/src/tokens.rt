@@ -6,9 +6,9 @@ ghost use Rattle.cfgx_syntax.specs.Items.{AreItems, Ending, EndsAs, Stands, lexi
 ghost use Rattle.cfgx_syntax.specs.Stripping.{strip};
 ghost use Rattle.cfgx_syntax.specs.Token as spelled;
 
+use crate::holding::holds;
 use cfg_expr::expr::lexer::Token;
 use std::alloc::{AllocError, Global};
-use std::test::Fail;
 
 // `cfg( )` is stripped once, and only where the text ends with it.
 fn stripped()
@@ -81,11 +81,10 @@ fn prints(alloc: Global, token: Token<'_>, text: &str) -> Result<bool, AllocErro
 }
 
 #[test]
-fn a_token_prints_what_debug_prints(rt: HostRuntime) -> Result<(), Fail> {
+fn a_token_prints_what_debug_prints(rt: HostRuntime) {
     let tokens = [Token::Key("a"), Token::Value(""), Token::All, Token::Comma];
     let texts = ["Key(\"a\")", "Value(\"\")", "All", "Comma"];
     for (token, text) in tokens.iter().zip(texts.iter()) {
-        assert!(rt; prints(rt.alloc(), *token, text)?, "{text}");
+        assert!(rt; holds(prints(rt.alloc(), *token, text)), "{text}");
     }
-    Ok(())
 }

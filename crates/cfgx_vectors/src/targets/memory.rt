@@ -1,4 +1,5 @@
 //! Targets and want of memory: each growth of a call refused in turn.
+use crate::holding::holds;
 use crate::refusing::{EVERY, Refusing};
 use crate::turns::{Heap, is_refused_in_turns};
 use cfg_expr::TargetPredicate;
@@ -8,7 +9,6 @@ use cfg_expr::targets::{
     TargetTable, Vendor,
 };
 use std::alloc::AllocError;
-use std::test::Fail;
 
 fn are_families(list: &Families<'_, Heap<'_>>, names: &[&str]) -> bool {
     let families = list.as_slice();
@@ -265,16 +265,15 @@ fn copies_a_panic(heap: Heap<'_>) -> Result<bool, AllocError> {
 }
 
 #[test]
-fn is_met_by_predicates_with_an_owned_text(rt: HostRuntime) -> Result<(), Fail> {
+fn is_met_by_predicates_with_an_owned_text(rt: HostRuntime) {
     let heap = Refusing::new(rt.alloc());
-    assert!(rt; copies_an_abi(&heap)?);
-    assert!(rt; copies_an_architecture(&heap)?);
-    assert!(rt; copies_a_vendor(&heap)?);
-    assert!(rt; copies_a_system(&heap)?);
-    assert!(rt; copies_a_family(&heap)?);
-    assert!(rt; copies_an_environment(&heap)?);
-    assert!(rt; copies_a_panic(&heap)?);
-    Ok(())
+    assert!(rt; holds(copies_an_abi(&heap)));
+    assert!(rt; holds(copies_an_architecture(&heap)));
+    assert!(rt; holds(copies_a_vendor(&heap)));
+    assert!(rt; holds(copies_a_system(&heap)));
+    assert!(rt; holds(copies_a_family(&heap)));
+    assert!(rt; holds(copies_an_environment(&heap)));
+    assert!(rt; holds(copies_a_panic(&heap)));
 }
 
 #[test]
