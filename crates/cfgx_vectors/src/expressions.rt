@@ -27,7 +27,7 @@ const ACCEPTED: &[(&str, &str, usize)] = &[
 
 // Whether it has this stripped text and so many predicates.
 fn is_read_as<A: SmallAllocator>(expression: &Expression<A>, original: &str, count: usize) -> bool {
-    expression.original() == original && expression.predicates().count() == count
+    expression.original() == original && expression.predicates().left() == count
 }
 
 fn reads(heap: Heap<'_>, text: &str, original: &str, count: usize) -> Result<bool, AllocError> {
