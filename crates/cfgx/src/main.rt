@@ -11,7 +11,11 @@ const REFUSED: u8 = 3;
 
 /// Hands the words behind the program's name to the engine, and answers its status.
 fn status(rt: &HostRuntime) -> io::Result<u8> {
-    let owned: Vec<String> = env::args(rt)?.skip(1).collect(rt.alloc())?;
+    // `collect` would ask for less room where its first request is refused.
+    let mut owned = Vec::new(rt.alloc());
+    for word in env::args(rt)?.skip(1) {
+        owned.push(word)?;
+    }
     let mut words = Vec::new(rt.alloc());
     for word in &owned {
         words.push(word.as_str())?;

@@ -1,5 +1,5 @@
 //! Deep, wide and long texts end in an answer.
-use crate::faults::{fault, has_fault};
+use crate::faults::{NO_TOKEN, fault, has_fault};
 use cfg_expr::Expression;
 use cfg_expr::error::{Failure, Reason};
 use cfg_expr::expr::Predicates;
@@ -32,8 +32,6 @@ pub(crate) fn nested(
     let front = repeated(alloc, "", name, times, inner)?;
     repeated(alloc, front.as_str(), ")", times, "")
 }
-
-const NO_TOKEN: Reason = Reason::Unexpected(&["<key>", "all", "any", "not"]);
 
 /// The parts of a text, where its fault starts and ends, and the reason.
 type Row = (
@@ -143,12 +141,17 @@ fn predicates_of_deep_and_wide_texts(rt: HostRuntime) -> Result<(), Fail> {
 // Whether the fault far behind the start prints as many spaces.
 fn prints_its_spaces(alloc: Global) -> Result<bool, Fail> {
     let text = repeated(alloc, "all(b", ",", 3_000, "c d)")?;
-    let error = fault(alloc, text.as_str())?;
-    let printed = format!(in alloc; "{error}")?;
     let back = "^ expected one of `=`, `,`, `)` here";
     let spaces = repeated(alloc, "\n", " ", 3_007, back)?;
     let wanted = repeated(alloc, text.as_str(), spaces.as_str(), 1, "")?;
-    Ok(error.span.start == 3_007 && printed.as_str() == wanted.as_str())
+    prints(alloc, text.as_str(), 3_007, wanted.as_str())
+}
+
+// Whether the text's fault starts there and prints this.
+fn prints(alloc: Global, text: &str, start: usize, wanted: &str) -> Result<bool, Fail> {
+    let error = fault(alloc, text)?;
+    let printed = format!(in alloc; "{error}")?;
+    Ok(error.span.start == start && printed.as_str() == wanted)
 }
 
 #[test]

@@ -122,7 +122,7 @@ mod tests {
     use cfg_expr::error::Failure;
     use cfg_expr::expr::Logic;
     use cfg_expr::{Expression, Predicate};
-    use std::alloc::Global;
+    use std::alloc::{AllocError, Global};
     use std::process::Abort;
     use std::test::Fail;
 
@@ -152,18 +152,22 @@ mod tests {
         Ok(())
     }
 
+    // The value where the feature has this answer, and the target feature's is unknown.
+    fn value_with_feature(alloc: Global, feature: Option<bool>) -> Result<Option<bool>, Failure> {
+        let text = "all(feature = \"make_fast\", target_feature = \"sse4.2\")";
+        let expression = Expression::parse(alloc, text)?;
+        let mut answer = |predicate: &Predicate<'_>| match predicate {
+            Predicate::Feature(_) => feature,
+            _ => None,
+        };
+        Ok(expression.eval(alloc, &mut answer)?)
+    }
+
     #[test]
     fn values_that_may_be_unknown(rt: HostRuntime) -> Result<(), Fail> {
         assert_eq!(rt; value(rt.alloc(), "any(a, not(a))", None)?, None);
-        let text = "all(feature = \"make_fast\", target_feature = \"sse4.2\")";
-        let expression = Expression::parse(rt.alloc(), text)?;
-        for (feature, wanted) in [(Some(false), Some(false)), (Some(true), None)] {
-            let mut answer = |predicate: &Predicate<'_>| match predicate {
-                Predicate::Feature(_) => feature,
-                _ => None,
-            };
-            assert_eq!(rt; expression.eval(rt.alloc(), &mut answer)?, wanted);
-        }
+        assert_eq!(rt; value_with_feature(rt.alloc(), Some(false))?, Some(false));
+        assert_eq!(rt; value_with_feature(rt.alloc(), Some(true))?, None);
         Ok(())
     }
 
@@ -180,12 +184,17 @@ mod tests {
         Ok(())
     }
 
+    // How many questions the text's value takes.
+    fn questions(alloc: Global, text: &str) -> Result<usize, Failure> {
+        let expression = Expression::parse(alloc, text)?;
+        Ok(questions_of(alloc, &expression)?)
+    }
+
     #[test]
     fn each_occurrence_is_asked_once(rt: HostRuntime) -> Result<(), Fail> {
-        for (text, count) in [("any(a, a, a)", 3), ("all(a, any(b), c)", 3), ("all()", 0)] {
-            let expression = Expression::parse(rt.alloc(), text)?;
-            assert_eq!(rt; questions_of(rt.alloc(), &expression)?, count, "{text}");
-        }
+        assert_eq!(rt; questions(rt.alloc(), "any(a, a, a)")?, 3);
+        assert_eq!(rt; questions(rt.alloc(), "all(a, any(b), c)")?, 3);
+        assert_eq!(rt; questions(rt.alloc(), "all()")?, 0);
         Ok(())
     }
 
@@ -212,25 +221,33 @@ mod tests {
         Ok(())
     }
 
+    // Texts, and the terms that join their predicates.
+    const TERMS: &[(&str, &str)] = &[
+        ("all(a, any(b), c)", "(((T&c)&a)&(F|b))"),
+        ("not(any(x))", "!(F|x)"),
+        ("any(a, all(b, not(c)), d)", "(((F|d)|a)|((T&b)&!c))"),
+        ("all(test)", "(T&?)"),
+        ("a", "a"),
+    ];
+
+    // Whether the text has these terms.
+    fn has_terms(alloc: Global, text: &str, wanted: &[u8]) -> Result<bool, Failure> {
+        let expression = Expression::parse(alloc, text)?;
+        Ok(terms_of(alloc, &expression)?.as_bytes() == wanted)
+    }
+
     // The last member that is asked is joined first. What is behind 64 bytes is cut off.
     #[test]
     fn terms_are_written_down(rt: HostRuntime) -> Result<(), Fail> {
-        let rows = [
-            ("all(a, any(b), c)", "(((T&c)&a)&(F|b))"),
-            ("not(any(x))", "!(F|x)"),
-            ("any(a, all(b, not(c)), d)", "(((F|d)|a)|((T&b)&!c))"),
-            ("all(test)", "(T&?)"),
-            ("a", "a"),
-        ];
-        for (text, wanted) in rows {
-            let expression = Expression::parse(rt.alloc(), text)?;
-            let terms = terms_of(rt.alloc(), &expression)?;
-            assert_eq!(rt; terms.as_bytes(), wanted.as_bytes(), "{text}");
+        for row in TERMS {
+            assert!(rt;
+                has_terms(rt.alloc(), row.0, row.1.as_bytes())?,
+                "{}",
+                row.0
+            );
         }
         let deep = nested(rt.alloc(), "not(", 100, "a")?;
-        let expression = Expression::parse(rt.alloc(), deep.as_str())?;
-        let terms = terms_of(rt.alloc(), &expression)?;
-        assert_eq!(rt; terms.as_bytes(), [b'!'; 64].as_slice());
+        assert!(rt; has_terms(rt.alloc(), deep.as_str(), &[b'!'; 64])?);
         Ok(())
     }
 
@@ -258,45 +275,84 @@ mod tests {
         Ok(())
     }
 
+    // No predicate is asked, and `any()` is false whatever stands beside it.
     #[test]
-    fn many_members_and_deep_ones(rt: HostRuntime) -> Result<(), Fail> {
+    fn functions_alone_ask_nothing(rt: HostRuntime) -> Result<(), Fail> {
+        let many = repeated(rt.alloc(), "all(any(),", "all(),", 299, ")")?;
+        let heap = Refusing::new(rt.alloc());
+        let (value, calls, _) = evaluated_at(&heap, many.as_str(), 0)?;
+        assert!(rt; value == Some(false) && calls == 0);
+        Ok(())
+    }
+
+    #[test]
+    fn many_members(rt: HostRuntime) -> Result<(), Fail> {
         let many = repeated(rt.alloc(), "all(any(),", "all(),", 299, ")")?;
         assert!(rt; !value(rt.alloc(), many.as_str(), true)?);
         let wide = repeated(rt.alloc(), "any(", "a,", 100_000, ")")?;
         assert!(rt; !value(rt.alloc(), wide.as_str(), false)?);
         assert!(rt; value(rt.alloc(), wide.as_str(), true)?);
-        let deep = nested(rt.alloc(), "not(", 100_000, "a")?;
-        assert!(rt; value(rt.alloc(), deep.as_str(), true)?);
-        let odd = nested(rt.alloc(), "not(", 100_001, "a")?;
-        assert!(rt; !value(rt.alloc(), odd.as_str(), true)?);
+        Ok(())
+    }
+
+    // The value of so many `not` round one predicate that is true.
+    fn value_of_not(alloc: Global, times: usize) -> Result<bool, Fail> {
+        let text = nested(alloc, "not(", times, "a")?;
+        value(alloc, text.as_str(), true)
+    }
+
+    #[test]
+    fn deep_members(rt: HostRuntime) -> Result<(), Fail> {
+        assert!(rt; value_of_not(rt.alloc(), 100_000)?);
+        assert!(rt; !value_of_not(rt.alloc(), 100_001)?);
         Ok(())
     }
 
     // No text here needs so many growths.
     const MOST_GROWTHS: u64 = 100;
 
+    // Evaluates with every predicate true, and answers how many were asked beside the value.
+    fn all_true<'h>(
+        heap: &'h Refusing<Global>,
+        expression: &Expression<&'h Refusing<Global>>,
+    ) -> (Result<bool, AllocError>, usize) {
+        let mut count = 0usize;
+        let value = expression.eval(
+            heap,
+            &mut |_predicate: &Predicate<'_>| {
+                count = count.saturating_add(1);
+                true
+            },
+        );
+        (value, count)
+    }
+
+    // Evaluates the text with the growth of this number refused, where `EVERY` is all of them.
+    // The value, how many predicates were asked, and how many there are.
+    fn evaluated_at(
+        heap: &Refusing<Global>,
+        text: &str,
+        turn: u64,
+    ) -> Result<(Option<bool>, usize, usize), Fail> {
+        let Ok(expression) = Expression::parse(heap, text) else {
+            return Err(Fail::from("no expression"));
+        };
+        heap.refuse(turn);
+        let (value, count) = all_true(heap, &expression);
+        Ok((value.ok(), count, expression.predicates().left()))
+    }
+
     // Evaluates with the first growth refused, then with the second, until none is refused.
     fn eval_in_turns(rt: &impl Abort, alloc: Global, text: &str) -> Result<(), Fail> {
         for turn in 1..MOST_GROWTHS {
             let refusing = Refusing::new(alloc);
-            let expression = Expression::parse(&refusing, text)?;
-            refusing.refuse(turn);
-            let mut count = 0usize;
-            let value = expression.eval(
-                &refusing,
-                &mut |_predicate: &Predicate<'_>| {
-                    count = count.saturating_add(1);
-                    true
-                },
-            );
+            let (value, count, predicates) = evaluated_at(&refusing, text, turn)?;
             if !refusing.has_refused() {
-                assert_eq!(rt; value.ok(), Some(true), "{text}");
-                assert_eq!(rt; count, expression.predicates().left(), "{text}");
+                assert!(rt; value == Some(true) && count == predicates, "{text}");
                 assert!(rt; turn > 1, "{text}");
                 return Ok(());
             }
-            assert!(rt; value.is_err(), "growth {turn} of {text}");
-            assert_eq!(rt; count, 0, "growth {turn} of {text}");
+            assert!(rt; value.is_none() && count == 0, "growth {turn} of {text}");
         }
         Err(Fail::from("too many growths"))
     }
@@ -320,10 +376,8 @@ mod tests {
     fn a_short_text_takes_no_memory(rt: HostRuntime) -> Result<(), Fail> {
         for text in SHORT {
             let refusing = Refusing::new(rt.alloc());
-            let expression = Expression::parse(&refusing, text)?;
-            refusing.refuse(EVERY);
-            let value = expression.eval(&refusing, &mut |_predicate: &Predicate<'_>| true);
-            assert_eq!(rt; value.ok(), Some(true), "{text}");
+            let (value, _, _) = evaluated_at(&refusing, text, EVERY)?;
+            assert!(rt; value == Some(true), "{text}");
         }
         Ok(())
     }

@@ -1,4 +1,5 @@
 //! Faulty texts: the reason, the bytes at fault, and the stripped text.
+use crate::holding::holds;
 use cfg_expr::error::{Failure, Reason};
 use cfg_expr::{Expression, ParseError};
 use std::alloc::Global;
@@ -14,7 +15,8 @@ pub(crate) fn fault(alloc: Global, text: &str) -> Result<ParseError, &'static st
     }
 }
 
-const NO_TOKEN: Reason = Reason::Unexpected(&["<key>", "all", "any", "not"]);
+/// The fault of a place where no token can start, or where none may stand first.
+pub(crate) const NO_TOKEN: Reason = Reason::Unexpected(&["<key>", "all", "any", "not"]);
 
 const IN_PARENS: Reason = Reason::Unexpected(&["<key>", ")", "all", "any", "not"]);
 
@@ -272,20 +274,19 @@ fn is_refused(alloc: Global, key: &str, value: &str, reason: Reason) -> Result<b
 }
 
 #[test]
-fn no_number_is_no_width(rt: HostRuntime) -> Result<(), Fail> {
+fn no_number_is_no_width(rt: HostRuntime) {
     let width = Reason::InvalidInteger;
     let atomic = Reason::InvalidHasAtomic;
     for value in NO_NUMBERS {
         assert!(rt;
-            is_refused(rt.alloc(), "target_pointer_width", value, width)?,
+            holds(is_refused(rt.alloc(), "target_pointer_width", value, width)),
             "{value:?}"
         );
         assert!(rt;
-            is_refused(rt.alloc(), "target_has_atomic", value, atomic)?,
+            holds(is_refused(rt.alloc(), "target_has_atomic", value, atomic)),
             "{value:?}"
         );
     }
-    Ok(())
 }
 
 // Places count the bytes of what stands in `cfg( )`.
@@ -299,15 +300,14 @@ const STRIPPED: &[(&str, &str, usize, usize, Reason)] = &[
 ];
 
 #[test]
-fn count_from_the_stripped_text(rt: HostRuntime) -> Result<(), Fail> {
+fn count_from_the_stripped_text(rt: HostRuntime) {
     for (text, original, start, end, reason) in STRIPPED {
         let span = (*start, *end);
         assert!(rt;
-            has_fault(rt.alloc(), text, original, span, *reason)?,
+            holds(has_fault(rt.alloc(), text, original, span, *reason)),
             "{text:?}"
         );
     }
-    Ok(())
 }
 
 // A fault that a caller builds, whose span ends before it starts.

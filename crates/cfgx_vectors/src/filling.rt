@@ -164,6 +164,17 @@ mod tests {
             Some((&[false, true], &[true, false])),
         ),
         (
+            "all(not(a), b)",
+            &[None, None],
+            Some((&[false, true], &[true, false])),
+        ),
+        (
+            "all(a, b)",
+            &[YES, None],
+            Some((&[true, true], &[true, false])),
+        ),
+        ("all(a, b)", &[NO, None], None),
+        (
             "any(not(not(a)), not(b), c)",
             &[None, None, None],
             Some((&[true, false, true], &[false, true, false])),
@@ -201,51 +212,101 @@ mod tests {
         }
     }
 
+    // Whether the text has these fillings over the answers.
+    fn has_fillings(
+        alloc: Global,
+        text: &str,
+        answers: &[Option<bool>],
+        wanted: Option<(&[bool], &[bool])>,
+    ) -> Result<bool, Fail> {
+        let expression = Expression::parse(alloc, text)?;
+        Ok(are(&fillings_over(alloc, &expression, answers)?, wanted))
+    }
+
     #[test]
     fn fillings_worked_out_by_hand(rt: HostRuntime) -> Result<(), Fail> {
-        for (text, answers, wanted) in ROWS {
-            let expression = Expression::parse(rt.alloc(), text)?;
-            let found = fillings_over(rt.alloc(), &expression, answers)?;
-            assert!(rt; are(&found, *wanted), "{text}");
+        for row in ROWS {
+            assert!(rt; has_fillings(rt.alloc(), row.0, row.1, row.2)?, "{}", row.0);
         }
         Ok(())
+    }
+
+    // The value on which the plan acts.
+    fn acted_on(
+        alloc: Global,
+        expression: &Expression,
+        answers: &[Option<bool>],
+    ) -> Result<Option<bool>, Fail> {
+        if expression.predicates().left() != answers.len() {
+            return Err(Fail::from(OTHER_NUMBER));
+        }
+        match plan(alloc, expression, answers)? {
+            Decision::Act(known) => Ok(Some(known)),
+            Decision::Postpone { .. } => Ok(None),
+        }
+    }
+
+    // Whether the plan acts just where there are no fillings, and on the value over the answers.
+    fn is_planned(alloc: Global, row: &Row) -> Result<bool, Fail> {
+        let expression = Expression::parse(alloc, row.0)?;
+        let acts = acted_on(alloc, &expression, row.1)?;
+        let value = value_with(alloc, &expression, row.1, None)?;
+        Ok(acts == value && acts.is_some() == row.2.is_none())
     }
 
     #[test]
     fn plans_act_or_postpone(rt: HostRuntime) -> Result<(), Fail> {
-        for (text, answers, wanted) in ROWS {
-            let expression = Expression::parse(rt.alloc(), text)?;
-            if expression.predicates().left() != answers.len() {
-                return Err(Fail::from(OTHER_NUMBER));
-            }
-            let value = value_with(rt.alloc(), &expression, answers, None)?;
-            let acts = match plan(rt.alloc(), &expression, answers)? {
-                Decision::Act(known) => Some(known),
-                Decision::Postpone { .. } => None,
-            };
-            assert!(rt;
-                acts == value && acts.is_some() == wanted.is_none(),
-                "{text}"
-            );
+        for row in ROWS {
+            assert!(rt; is_planned(rt.alloc(), row)?, "{}", row.0);
         }
         Ok(())
     }
 
+    // Whether so many `not` round one predicate have these fillings.
+    fn fill_not(
+        alloc: Global,
+        times: usize,
+        with_true: bool,
+        with_false: bool,
+    ) -> Result<bool, Fail> {
+        let text = nested(alloc, "not(", times, "a")?;
+        has_fillings(
+            alloc,
+            text.as_str(),
+            &[None],
+            Some((&[with_true], &[with_false])),
+        )
+    }
+
     #[test]
     fn a_hundred_thousand_not(rt: HostRuntime) -> Result<(), Fail> {
-        let even = nested(rt.alloc(), "not(", 100_000, "a")?;
-        let expression = Expression::parse(rt.alloc(), even.as_str())?;
-        let found = fillings_over(rt.alloc(), &expression, &[None])?;
-        assert!(rt; are(&found, Some((&[true], &[false]))));
-        let odd = nested(rt.alloc(), "not(", 100_001, "a")?;
-        let expression = Expression::parse(rt.alloc(), odd.as_str())?;
-        let found = fillings_over(rt.alloc(), &expression, &[None])?;
-        assert!(rt; are(&found, Some((&[false], &[true]))));
+        assert!(rt; fill_not(rt.alloc(), 100_000, true, false)?);
+        assert!(rt; fill_not(rt.alloc(), 100_001, false, true)?);
         Ok(())
     }
 
     // No text here needs so many growths.
     const MOST_GROWTHS: u64 = 100;
+
+    // With the growth of this number refused: the want of memory that is answered, or nothing where
+    // the fillings are those that are wanted.
+    fn seen_at(
+        heap: &Refusing<Global>,
+        text: &str,
+        answers: &[Option<bool>],
+        wanted: Option<(&[bool], &[bool])>,
+        turn: u64,
+    ) -> Result<Option<AllocError>, Fail> {
+        let Ok(expression) = Expression::parse(heap, text) else {
+            return Err(Fail::from("no expression"));
+        };
+        heap.refuse(turn);
+        match asked_over(heap, &expression, answers) {
+            Some(Ok(found)) if are(&found, wanted) => Ok(None),
+            Some(Err(error)) => Ok(Some(error)),
+            _ => Err(Fail::from("other fillings, or another number of answers")),
+        }
+    }
 
     // The fillings with the first growth refused, then with the second, until none is refused.
     fn fill_in_turns(
@@ -257,17 +318,15 @@ mod tests {
     ) -> Result<(), Fail> {
         for turn in 1..MOST_GROWTHS {
             let refusing = Refusing::new(alloc);
-            let expression = Expression::parse(&refusing, text)?;
-            refusing.refuse(turn);
-            let Some(found) = asked_over(&refusing, &expression, answers) else {
-                return Err(Fail::from(OTHER_NUMBER));
-            };
-            if !refusing.has_refused() {
-                assert!(rt; are(&found?, wanted), "{text}");
+            let seen = seen_at(&refusing, text, answers, wanted, turn)?;
+            assert!(rt;
+                seen.is_some() == refusing.has_refused(),
+                "growth {turn} of {text}"
+            );
+            if seen.is_none() {
                 assert!(rt; turn > 1, "{text}");
                 return Ok(());
             }
-            assert!(rt; found.is_err(), "growth {turn} of {text}");
         }
         Err(Fail::from("too many growths"))
     }
@@ -298,6 +357,21 @@ mod tests {
         Ok(text)
     }
 
+    // Pushes the function of both, unless it has too many predicates.
+    fn push_both(
+        texts: &mut Vec<String>,
+        alloc: Global,
+        name: &str,
+        one: &str,
+        other: &str,
+    ) -> Result<(), AllocError> {
+        let both = written(alloc, &[name, one, ",", other, ")"])?;
+        if count_of(both.as_str()) <= MOST_PREDICATES {
+            texts.push(both)?;
+        }
+        Ok(())
+    }
+
     // The texts, and those that a function of one or two of them makes.
     fn grown(alloc: Global, texts: &[String]) -> Result<Vec<String>, AllocError> {
         let mut more = Vec::new(alloc);
@@ -305,12 +379,8 @@ mod tests {
             more.push(written(alloc, &[text.as_str()])?)?;
             more.push(written(alloc, &["not(", text.as_str(), ")"])?)?;
             for other in texts {
-                for name in ["all(", "any("] {
-                    let both = written(alloc, &[name, text.as_str(), ",", other.as_str(), ")"])?;
-                    if count_of(both.as_str()) <= MOST_PREDICATES {
-                        more.push(both)?;
-                    }
-                }
+                push_both(&mut more, alloc, "all(", text.as_str(), other.as_str())?;
+                push_both(&mut more, alloc, "any(", text.as_str(), other.as_str())?;
             }
         }
         Ok(more)
@@ -406,24 +476,43 @@ mod tests {
         Ok(value.is_none() && are_fillings && above && !below)
     }
 
+    fn agree_at(alloc: Global, expression: &Expression, number: usize) -> Result<bool, Fail> {
+        let answers = answers_of(alloc, number, expression.predicates().left())?;
+        agree(alloc, expression, answers.as_slice())
+    }
+
+    // Asserts this of all answers to the text, and answers how many they are.
+    fn agreeing(rt: &impl Abort, alloc: Global, text: &str) -> Result<usize, Fail> {
+        let expression = Expression::parse(alloc, text)?;
+        let cases = power(3, expression.predicates().left());
+        for number in 0..cases {
+            assert!(rt;
+                agree_at(alloc, &expression, number)?,
+                "answers {number} of {text}"
+            );
+        }
+        Ok(cases)
+    }
+
+    fn first_texts(alloc: Global) -> Result<Vec<String>, AllocError> {
+        let mut texts = Vec::new(alloc);
+        for text in ["x", "all()", "any()"] {
+            texts.push(String::from_str(alloc, text)?)?;
+        }
+        Ok(texts)
+    }
+
+    fn all_texts(alloc: Global) -> Result<Vec<String>, AllocError> {
+        let texts = first_texts(alloc)?;
+        let texts = grown(alloc, texts.as_slice())?;
+        grown(alloc, texts.as_slice())
+    }
+
     #[test]
     fn fillings_one_by_one(rt: HostRuntime) -> Result<(), Fail> {
-        let mut texts = Vec::new(rt.alloc());
-        for text in ["x", "all()", "any()"] {
-            texts.push(String::from_str(rt.alloc(), text)?)?;
-        }
-        let texts = grown(rt.alloc(), texts.as_slice())?;
-        let texts = grown(rt.alloc(), texts.as_slice())?;
         let mut cases = 0usize;
-        for text in &texts {
-            let expression = Expression::parse(rt.alloc(), text.as_str())?;
-            let count = expression.predicates().left();
-            for number in 0..power(3, count) {
-                let answers = answers_of(rt.alloc(), number, count)?;
-                let holds = agree(rt.alloc(), &expression, answers.as_slice())?;
-                assert!(rt; holds, "answers {number} of {text}");
-                cases = cases.saturating_add(1);
-            }
+        for text in &all_texts(rt.alloc())? {
+            cases = cases.saturating_add(agreeing(&rt, rt.alloc(), text.as_str())?);
         }
         assert!(rt; cases > 5_000, "{cases} cases");
         Ok(())

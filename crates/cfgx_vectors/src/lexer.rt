@@ -1,5 +1,6 @@
 //! The items of a text, one by one.
-use cfg_expr::error::{Failure, Reason};
+use crate::faults::NO_TOKEN;
+use cfg_expr::error::Failure;
 use cfg_expr::expr::lexer::{Lexer, Token};
 use std::alloc::Global;
 use std::process::Abort;
@@ -97,7 +98,7 @@ fn gives_fault(lexer: &mut Lexer<'_>, place: usize, text: &str) -> bool {
             error.original.as_str() == text
                 && error.span.start == place
                 && error.span.end == place.saturating_add(1)
-                && error.reason == Reason::Unexpected(&["<key>", "all", "any", "not"])
+                && error.reason == NO_TOKEN
         }
         _ => false,
     }

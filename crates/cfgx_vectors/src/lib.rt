@@ -12,10 +12,14 @@ mod deep;
 mod errors;
 pub mod evaluating;
 #[cfg(test)]
+mod expressions;
+#[cfg(test)]
 mod faults;
 #[cfg(test)]
 mod fields;
 pub mod filling;
+#[cfg(test)]
+mod holding;
 #[cfg(test)]
 mod lexer;
 #[cfg(test)]
@@ -37,3 +41,5 @@ mod streams;
 mod targets;
 #[cfg(test)]
 mod tokens;
+#[cfg(test)]
+mod turns;

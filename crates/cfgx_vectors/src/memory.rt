@@ -1,7 +1,8 @@
 //! Want of memory: each growth of a call refused in turn.
 use crate::deep::{nested, repeated};
+use crate::faults::NO_TOKEN;
 use crate::refusing::{EVERY, Refusing};
-use crate::streams::{Ended, Recorder};
+use crate::streams::{Ended, Recorder, USAGE};
 use cfg_expr::Expression;
 use cfg_expr::error::{Failure, Reason};
 use cfg_expr::expr::lexer::{Lexer, Token};
@@ -109,8 +110,6 @@ fn run_in_turns(
     }
     Err("too many growths")
 }
-
-const NO_TOKEN: Reason = Reason::Unexpected(&["<key>", "all", "any", "not"]);
 
 const SHORT: &[(&str, u8, Outcome)] = &[
     ("key)", 1, Outcome::Refused(3, 4, Reason::UnopenedParens)),
@@ -266,17 +265,23 @@ fn is_answered_as_such_by_the_commands(rt: HostRuntime) -> Result<(), Fail> {
     for (words, status) in COMMANDS {
         run_in_turns(&rt, rt.alloc(), words, *status)?;
     }
+    Ok(())
+}
+
+#[test]
+fn is_answered_as_such_by_commands_on_wide_texts(rt: HostRuntime) -> Result<(), Fail> {
     let wide = repeated(rt.alloc(), "any(", "a,", 100, ")")?;
     let flag = repeated(rt.alloc(), "?any(", "b,", 100, ")")?;
     run_in_turns(&rt, rt.alloc(), &["eval", wide.as_str(), flag.as_str()], 0)?;
+    Ok(())
+}
+
+#[test]
+fn is_answered_as_such_by_commands_on_deep_texts(rt: HostRuntime) -> Result<(), Fail> {
     let deep = nested(rt.alloc(), "not(", 40, "a")?;
-    run_in_turns(&rt, rt.alloc(), &["eval", deep.as_str(), deep.as_str()], 0)?;
-    run_in_turns(
-        &rt,
-        rt.alloc(),
-        &["target", "aarch64-apple-tvos", deep.as_str()],
-        0,
-    )?;
+    let deep = deep.as_str();
+    run_in_turns(&rt, rt.alloc(), &["eval", deep, deep], 0)?;
+    run_in_turns(&rt, rt.alloc(), &["target", "aarch64-apple-tvos", deep], 0)?;
     Ok(())
 }
 
@@ -329,10 +334,9 @@ fn is_run_without_memory(alloc: Global, words: &[&str], status: u8, written: &st
 
 #[test]
 fn is_not_met_on_wrong_use(rt: HostRuntime) {
-    let usage = "usage: cfgx parse TEXT | eval TEXT FLAG.. | target TRIPLE TEXT | pick TRIPLE\n";
-    assert!(rt; is_run_without_memory(rt.alloc(), &["parse"], 2, usage));
-    assert!(rt; is_run_without_memory(rt.alloc(), &["eval"], 2, usage));
-    assert!(rt; is_run_without_memory(rt.alloc(), &["target", "nowhere"], 2, usage));
+    assert!(rt; is_run_without_memory(rt.alloc(), &["parse"], 2, USAGE));
+    assert!(rt; is_run_without_memory(rt.alloc(), &["eval"], 2, USAGE));
+    assert!(rt; is_run_without_memory(rt.alloc(), &["target", "nowhere"], 2, USAGE));
     assert!(rt; is_run_without_memory(rt.alloc(), &["parse", "a"], 3, ""));
     assert!(rt; is_run_without_memory(rt.alloc(), &["eval", "a"], 3, ""));
     assert!(rt; is_run_without_memory(rt.alloc(), &["target", "nowhere", ")"], 3, ""));

@@ -1,8 +1,5 @@
 //! What a run of the program writes, and its status.
-use crate::streams::is_answer;
-
-const USAGE: &str =
-    "usage: cfgx parse TEXT | eval TEXT FLAG.. | target TRIPLE TEXT | pick TRIPLE\n";
+use crate::streams::{USAGE, is_answer};
 
 const ROWS: &[(&[&str], &str, u8)] = &[
     (&["parse", "all(a, any(b), c)"], "b\na\nc\n", 0),

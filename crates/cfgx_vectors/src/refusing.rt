@@ -75,8 +75,8 @@ unsafe impl<B: Allocator> Allocator for Refusing<B> {
 #[cfg(test)]
 mod tests {
     use super::*;
+    use crate::holding::holds;
     use std::alloc::Global;
-    use std::test::Fail;
 
     const BYTES: u8 = 100;
 
@@ -90,7 +90,7 @@ mod tests {
     }
 
     #[test]
-    fn each_growth_is_refused_in_turn(rt: HostRuntime) -> Result<(), Fail> {
+    fn each_growth_is_refused_in_turn(rt: HostRuntime) {
         let heap = Refusing::new(rt.alloc());
         let mut refused = 0u64;
         for n in 1..=u64::from(BYTES) {
@@ -103,20 +103,18 @@ mod tests {
         }
         assert!(rt; !heap.has_refused());
         assert!(rt; refused >= 3, "{refused} growths");
-        Ok(())
     }
 
     #[test]
-    fn only_one_growth_is_refused(rt: HostRuntime) -> Result<(), Fail> {
+    fn only_one_growth_is_refused(rt: HostRuntime) {
         let heap = Refusing::new(rt.alloc());
         assert!(rt; heap.has_refused());
         assert!(rt; is_filled(&heap));
         heap.refuse(2);
-        assert!(rt; is_refused_the_second(&heap)?);
+        assert!(rt; holds(is_refused_the_second(&heap)));
         heap.refuse(1);
         heap.refuse(0);
         assert!(rt; is_filled(&heap));
-        Ok(())
     }
 
     fn is_filled(heap: &Refusing<Global>) -> bool {

@@ -1,22 +1,44 @@
 //! The spellings of predicates, as `spell` writes them.
+use crate::holding::holds;
 use cfg_expr::Expression;
 use cfg_expr::error::Failure;
-use cfg_expr::expr::spell;
+use cfg_expr::expr::{Predicates, spell};
 use std::alloc::Global;
 use std::io::{self, ErrorKind, Write};
 use std::process::Abort;
-use std::test::Fail;
 
-// A writer in memory that takes at most `each` bytes a call, and `room` bytes in all.
+// A writer in memory that takes at most `each` bytes a call, and `room` bytes in all. It counts its
+// calls, and that of the number `failing`, counted from 1, fails with an error of this kind.
 #[derive(Drop)]
 struct Slow {
     bytes: Vec<u8>,
     each: usize,
     room: usize,
+    calls: usize,
+    failing: usize,
+    kind: ErrorKind,
+}
+
+impl Slow {
+    // A writer that never fails.
+    fn new(alloc: Global, each: usize) -> Slow {
+        Slow {
+            bytes: Vec::new(alloc),
+            each,
+            room: usize::MAX,
+            calls: 0,
+            failing: 0,
+            kind: ErrorKind::Other,
+        }
+    }
 }
 
 impl Write for Slow {
     fn write(&mut self, bytes: &[u8]) -> io::Result<usize> {
+        self.calls = self.calls.saturating_add(1);
+        if self.calls == self.failing {
+            return Err(io::Error::from(self.kind));
+        }
         let left = self.room.saturating_sub(self.bytes.len());
         let taken = bytes.len().min(self.each).min(left);
         match self.bytes.extend_from_slice(&bytes[..taken]) {
@@ -70,60 +92,119 @@ const ROWS: &[(&str, &str)] = &[
     ("key=\"a\nb\"", "key = \"a\nb\""),
 ];
 
-// Spells the predicates of the text, and answers whether all went out.
-fn spell_each(alloc: Global, text: &str, writer: &mut Slow) -> Result<bool, Failure> {
+// Spells the predicates of the text, and answers the kind of the error that ended this, if any.
+fn spell_each(alloc: Global, text: &str, writer: &mut Slow) -> Result<Option<ErrorKind>, Failure> {
     let expression = Expression::parse(alloc, text)?;
-    for predicate in expression.predicates() {
-        if spell(&predicate, writer).is_err() {
-            return Ok(false);
+    Ok(spell_all(expression.predicates(), writer))
+}
+
+fn spell_all(predicates: Predicates<'_>, writer: &mut Slow) -> Option<ErrorKind> {
+    for predicate in predicates {
+        if let Err(error) = spell(&predicate, writer) {
+            return Some(error.kind());
         }
     }
-    Ok(true)
+    None
 }
 
 // Whether the text is spelled so by calls that take at most `each` bytes.
 fn is_spelled(alloc: Global, text: &str, spelled: &str, each: usize) -> Result<bool, Failure> {
-    let mut writer = Slow {
-        bytes: Vec::new(alloc),
-        each,
-        room: usize::MAX,
-    };
-    let done = spell_each(alloc, text, &mut writer)?;
-    Ok(done && writer.bytes.as_slice() == spelled.as_bytes())
+    let mut writer = Slow::new(alloc, each);
+    let error = spell_each(alloc, text, &mut writer)?;
+    Ok(error.is_none() && writer.bytes.as_slice() == spelled.as_bytes())
 }
 
 #[test]
-fn spells_each_kind_of_predicate(rt: HostRuntime) -> Result<(), Fail> {
+fn spells_each_kind_of_predicate(rt: HostRuntime) {
     for (text, spelled) in ROWS {
         for each in [1, 3, usize::MAX] {
-            assert!(rt; is_spelled(rt.alloc(), text, spelled, each)?, "{text}");
+            assert!(rt;
+                holds(is_spelled(rt.alloc(), text, spelled, each)),
+                "{text}"
+            );
         }
     }
-    Ok(())
 }
 
 // Whether a beginning of the spelling was written, this many bytes, where no more have room.
 fn stops_behind(alloc: Global, text: &str, spelled: &str, room: usize) -> Result<bool, Failure> {
-    let mut writer = Slow {
-        bytes: Vec::new(alloc),
-        each: 4,
-        room,
-    };
-    let done = spell_each(alloc, text, &mut writer)?;
-    Ok(!done && writer.bytes.as_slice() == &spelled.as_bytes()[..room.min(spelled.len())])
+    let mut writer = Slow::new(alloc, 4);
+    writer.room = room;
+    let error = spell_each(alloc, text, &mut writer)?;
+    Ok(
+        error == Some(ErrorKind::WriteZero)
+            && writer.bytes.as_slice() == &spelled.as_bytes()[..room.min(spelled.len())],
+    )
 }
 
 #[test]
-fn stops_where_the_writer_takes_nothing(rt: HostRuntime) -> Result<(), Fail> {
+fn stops_where_the_writer_takes_nothing(rt: HostRuntime) {
     for (text, spelled) in ROWS {
         for room in 0..spelled.len() {
             assert!(rt;
-                stops_behind(rt.alloc(), text, spelled, room)?,
+                holds(stops_behind(rt.alloc(), text, spelled, room)),
                 "{text} at {room}"
             );
         }
     }
-    Ok(())
+}
+
+// Whether a spelling whose call of this number fails, of calls that take one byte, ends with the
+// writer's own error at that call, behind the bytes of the calls before it.
+fn fails_at(
+    alloc: Global,
+    text: &str,
+    spelled: &str,
+    failing: usize,
+    kind: ErrorKind,
+) -> Result<bool, Failure> {
+    let mut writer = Slow::new(alloc, 1);
+    writer.failing = failing;
+    writer.kind = kind;
+    let error = spell_each(alloc, text, &mut writer)?;
+    Ok(
+        error == Some(kind)
+            && writer.calls == failing
+            && writer.bytes.len() == failing.saturating_sub(1)
+            && spelled.as_bytes().starts_with(writer.bytes.as_slice()),
+    )
+}
+
+const KINDS: [ErrorKind; 3] = [
+    ErrorKind::Interrupted,
+    ErrorKind::BrokenPipe,
+    ErrorKind::WouldBlock,
+];
+
+#[test]
+fn a_failed_call_is_the_last(rt: HostRuntime) {
+    for kind in KINDS {
+        for (text, spelled) in ROWS {
+            for failing in 1..=spelled.len() {
+                assert!(rt;
+                    holds(fails_at(rt.alloc(), text, spelled, failing, kind)),
+                    "call {failing} of {text}"
+                );
+            }
+        }
+    }
+}
+
+// Whether calls that take one byte are as many as the bytes, so none is of an empty slice.
+fn has_no_empty_call(alloc: Global, text: &str, spelled: &str) -> Result<bool, Failure> {
+    let mut writer = Slow::new(alloc, 1);
+    let error = spell_each(alloc, text, &mut writer)?;
+    Ok(error.is_none() && writer.calls == spelled.len())
+}
+
+#[test]
+fn no_call_is_of_an_empty_slice(rt: HostRuntime) {
+    for (text, spelled) in ROWS {
+        assert!(rt;
+            holds(has_no_empty_call(rt.alloc(), text, spelled)),
+            "{text}"
+        );
+    }
 }
 
 // Whether the spelling, parsed, asks the predicate that the text asks.
@@ -134,12 +215,11 @@ fn is_read_again(alloc: Global, text: &str, spelled: &str) -> Result<bool, Failu
 }
 
 #[test]
-fn a_spelling_is_read_as_its_predicate(rt: HostRuntime) -> Result<(), Fail> {
+fn a_spelling_is_read_as_its_predicate(rt: HostRuntime) {
     for (text, spelled) in ROWS {
         if text.starts_with("all(") || text.starts_with("any(") {
             continue;
         }
-        assert!(rt; is_read_again(rt.alloc(), text, spelled)?, "{text}");
+        assert!(rt; holds(is_read_again(rt.alloc(), text, spelled)), "{text}");
     }
-    Ok(())
 }

@@ -7,6 +7,10 @@ use std::alloc::Global;
 use std::io;
 use std::io::ErrorKind;
 
+/// What a run with words of no use writes.
+pub(crate) const USAGE: &str =
+    "usage: cfgx parse TEXT | eval TEXT FLAG.. | target TRIPLE TEXT | pick TRIPLE\n";
+
 /// A source at its end, whose reads never fail.
 #[derive(Drop)]
 pub(crate) struct Ended;

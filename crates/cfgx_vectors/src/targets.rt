@@ -1,5 +1,6 @@
 //! Targets: what no clause says of them. The readers, lists, rows and tables of worked examples,
 //! and the bytes that they print. What memory does to their calls is in `targets/memory.rt`.
+use crate::holding::holds;
 use cfg_expr::error::{Failure, Reason};
 use cfg_expr::expr::Predicates;
 use cfg_expr::targets::{
@@ -26,11 +27,10 @@ fn lists(alloc: Global, names: &[&'static str], text: &str) -> Result<bool, Allo
 }
 
 #[test]
-fn families_are_sorted_and_printed(rt: HostRuntime) -> Result<(), Fail> {
-    assert!(rt; lists(rt.alloc(), &["wasm", "unix"], "{unix, wasm}")?);
-    assert!(rt; lists(rt.alloc(), &["unix", "unix"], "{unix, unix}")?);
-    assert!(rt; lists(rt.alloc(), &[], "{}")?);
-    Ok(())
+fn families_are_sorted_and_printed(rt: HostRuntime) {
+    assert!(rt; holds(lists(rt.alloc(), &["wasm", "unix"], "{unix, wasm}")));
+    assert!(rt; holds(lists(rt.alloc(), &["unix", "unix"], "{unix, unix}")));
+    assert!(rt; holds(lists(rt.alloc(), &[], "{}")));
 }
 
 const POINTER_FIRST: &[HasAtomic] = &[
@@ -75,11 +75,10 @@ const WIDTHS: &[(&str, &str)] = &[
 ];
 
 #[test]
-fn widths_are_read(rt: HostRuntime) -> Result<(), Fail> {
+fn widths_are_read(rt: HostRuntime) {
     for (text, printed) in WIDTHS {
-        assert!(rt; reads(rt.alloc(), text, printed)?, "{text}");
+        assert!(rt; holds(reads(rt.alloc(), text, printed)), "{text}");
     }
-    Ok(())
 }
 
 // Whether the text is refused by a fault that prints it.
@@ -96,11 +95,10 @@ const NO_WIDTHS: &[&str] = &[
 ];
 
 #[test]
-fn other_texts_are_no_widths(rt: HostRuntime) -> Result<(), Fail> {
+fn other_texts_are_no_widths(rt: HostRuntime) {
     for text in NO_WIDTHS {
-        assert!(rt; is_no_width(rt.alloc(), text)?, "{text:?}");
+        assert!(rt; holds(is_no_width(rt.alloc(), text)), "{text:?}");
     }
-    Ok(())
 }
 
 #[test]
@@ -112,11 +110,10 @@ fn byte_orders_are_read(rt: HostRuntime) {
 }
 
 #[test]
-fn names_are_printed(rt: HostRuntime) -> Result<(), Fail> {
-    assert!(rt; prints(rt.alloc(), &Abi::<Global>::vec_extabi(), "vec-extabi")?);
-    assert!(rt; prints(rt.alloc(), &Os::<Global>::solid_asp3(), "solid_asp3")?);
+fn names_are_printed(rt: HostRuntime) {
+    assert!(rt; holds(prints(rt.alloc(), &Abi::<Global>::vec_extabi(), "vec-extabi")));
+    assert!(rt; holds(prints(rt.alloc(), &Os::<Global>::solid_asp3(), "solid_asp3")));
     assert_eq!(rt; rustc_version(), "1.99.0");
-    Ok(())
 }
 
 // A row that lacks all that a row may lack.
@@ -137,7 +134,7 @@ fn bare(triple: &'static str) -> TargetInfo<'static> {
 }
 
 // Whether the text's one predicate is true of the row.
-fn is_met(alloc: Global, row: &TargetInfo<'_>, text: &str) -> Result<Option<bool>, Fail> {
+fn is_met(alloc: Global, row: &TargetInfo<'_>, text: &str) -> Result<Option<bool>, Failure> {
     let expression = Expression::parse(alloc, text)?;
     Ok(match expression.predicates().next() {
         Some(Predicate::Target(predicate)) => Some(predicate.matches(row)),
@@ -162,7 +159,11 @@ const OF_A_BARE_ROW: &[(&str, bool)] = &[
 ];
 
 // Whether each text's predicate has this answer on the row.
-fn are_answers(alloc: Global, row: &TargetInfo<'_>, rows: &[(&str, bool)]) -> Result<bool, Fail> {
+fn are_answers(
+    alloc: Global,
+    row: &TargetInfo<'_>,
+    rows: &[(&str, bool)],
+) -> Result<bool, Failure> {
     for (text, wanted) in rows {
         if is_met(alloc, row, text)? != Some(*wanted) {
             return Ok(false);
@@ -172,9 +173,8 @@ fn are_answers(alloc: Global, row: &TargetInfo<'_>, rows: &[(&str, bool)]) -> Re
 }
 
 #[test]
-fn missing_fields_have_what_stands_for_them(rt: HostRuntime) -> Result<(), Fail> {
-    assert!(rt; are_answers(rt.alloc(), &bare("bare"), OF_A_BARE_ROW)?);
-    Ok(())
+fn missing_fields_have_what_stands_for_them(rt: HostRuntime) {
+    assert!(rt; holds(are_answers(rt.alloc(), &bare("bare"), OF_A_BARE_ROW)));
 }
 
 // Predicates on `aarch64-apple-ios`.
@@ -212,10 +212,15 @@ fn ios(alloc: Global) -> Result<TargetInfo<'static>, AllocError> {
     })
 }
 
+// Whether each text's predicate has this answer on the row of iOS.
+fn are_answers_on_ios(alloc: Global, rows: &[(&str, bool)]) -> Result<bool, Failure> {
+    let row = ios(alloc)?;
+    are_answers(alloc, &row, rows)
+}
+
 #[test]
-fn a_row_meets_its_predicates(rt: HostRuntime) -> Result<(), Fail> {
-    assert!(rt; are_answers(rt.alloc(), &ios(rt.alloc())?, OF_IOS)?);
-    Ok(())
+fn a_row_meets_its_predicates(rt: HostRuntime) {
+    assert!(rt; holds(are_answers_on_ios(rt.alloc(), OF_IOS)));
 }
 
 // The expression of the README of cfg-expr, which asks the vendor first.
@@ -265,6 +270,33 @@ fn windows(alloc: Global, vendor: Vendor<'static>) -> Result<TargetInfo<'static>
         pointer_width: 32,
         ..bare("by-hand")
     })
+}
+
+// The value of the expression on the row.
+fn value_of_readme(alloc: Global, row: &TargetInfo<'_>) -> Result<bool, Failure> {
+    let expression = Expression::parse(alloc, README)?;
+    Ok(expression.eval(
+        alloc,
+        &mut |predicate: &Predicate<'_>| is_true_of(predicate, row),
+    )?)
+}
+
+// A row of macOS.
+fn darwin(alloc: Global) -> Result<TargetInfo<'static>, AllocError> {
+    Ok(TargetInfo {
+        triple: Triple::new_const("aarch64-apple-darwin"),
+        os: Some(Os::macos()),
+        ..ios(alloc)?
+    })
+}
+
+#[test]
+fn the_expression_of_the_readme_has_its_values(rt: HostRuntime) -> Result<(), Fail> {
+    let alloc = rt.alloc();
+    assert!(rt; value_of_readme(alloc, &windows(alloc, Vendor::pc())?)?);
+    assert!(rt; !value_of_readme(alloc, &windows(alloc, Vendor::uwp())?)?);
+    assert!(rt; !value_of_readme(alloc, &darwin(alloc)?)?);
+    Ok(())
 }
 
 // Whether the row meets them so.
@@ -323,8 +355,13 @@ fn tables_have_increasing_triples(rt: HostRuntime) -> Result<(), Fail> {
     Ok(())
 }
 
-// Whether the table that is built in has a row with this triple, and that row has it.
+// Whether a row is found by this triple.
 fn is_found(table: &TargetTable<'_>, triple: &str) -> bool {
+    get_builtin_target_by_triple(table, triple).is_some()
+}
+
+// Whether the row that is found by this triple has it.
+fn has_triple(table: &TargetTable<'_>, triple: &str) -> bool {
     match get_builtin_target_by_triple(table, triple) {
         Some(row) => row.triple.as_str() == triple,
         None => false,
@@ -344,13 +381,16 @@ fn targets_are_found_by_their_triples(rt: HostRuntime) -> Result<(), Fail> {
     let table = TargetTable::builtins(rt.alloc())?;
     assert!(rt; have_triples(table.rows(), BUILT_IN));
     for triple in BUILT_IN {
-        assert!(rt; is_found(&table, triple), "{triple}");
+        assert!(rt; has_triple(&table, triple), "{triple}");
     }
+    Ok(())
+}
+
+#[test]
+fn other_triples_are_not_found(rt: HostRuntime) -> Result<(), Fail> {
+    let table = TargetTable::builtins(rt.alloc())?;
     for triple in ["", "aarch64-apple-tvos-sim", "aarch64-apple", "b"] {
-        assert!(rt;
-            get_builtin_target_by_triple(&table, triple).is_none(),
-            "{triple}"
-        );
+        assert!(rt; !is_found(&table, triple), "{triple}");
     }
     Ok(())
 }

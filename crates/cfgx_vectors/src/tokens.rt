@@ -6,8 +6,9 @@ ghost use Rattle.cfgx_syntax.specs.Items.{AreItems, Ending, EndsAs, Stands, lexi
 ghost use Rattle.cfgx_syntax.specs.Stripping.{strip};
 ghost use Rattle.cfgx_syntax.specs.Token as spelled;
 
+use crate::holding::holds;
 use cfg_expr::expr::lexer::Token;
-use std::test::Fail;
+use std::alloc::{AllocError, Global};
 
 // `cfg( )` is stripped once, and only where the text ends with it.
 fn stripped()
@@ -73,12 +74,17 @@ fn definitions_compute() {
     excluded();
 }
 
+// Whether the token prints this.
+fn prints(alloc: Global, token: Token<'_>, text: &str) -> Result<bool, AllocError> {
+    let printed = format!(in alloc; "{token}")?;
+    Ok(printed.as_str() == text)
+}
+
 #[test]
-fn a_token_prints_what_debug_prints(rt: HostRuntime) -> Result<(), Fail> {
+fn a_token_prints_what_debug_prints(rt: HostRuntime) {
     let tokens = [Token::Key("a"), Token::Value(""), Token::All, Token::Comma];
     let texts = ["Key(\"a\")", "Value(\"\")", "All", "Comma"];
     for (token, text) in tokens.iter().zip(texts.iter()) {
-        assert_eq!(rt; format!(in rt.alloc(); "{token}")?.as_str(), *text);
+        assert!(rt; holds(prints(rt.alloc(), *token, text)), "{text}");
     }
-    Ok(())
 }

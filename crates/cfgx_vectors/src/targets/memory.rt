@@ -1,38 +1,14 @@
 //! Targets and want of memory: each growth of a call refused in turn.
+use crate::holding::holds;
 use crate::refusing::{EVERY, Refusing};
+use crate::turns::{Heap, is_refused_in_turns};
 use cfg_expr::TargetPredicate;
 use cfg_expr::error::HasAtomicParseError;
 use cfg_expr::targets::{
-    Abi, Families, Family, HasAtomic, HasAtomicFailure, HasAtomics, TargetTable,
+    Abi, Arch, Endian, Env, Families, Family, HasAtomic, HasAtomicFailure, HasAtomics, Os, Panic,
+    TargetTable, Vendor,
 };
-use std::alloc::{AllocError, Global};
-
-/// The allocator of these calls.
-type Heap<'h> = &'h Refusing<Global>;
-
-// No call here needs so many growths.
-const MOST_GROWTHS: u64 = 100;
-
-// Whether the call answers want of memory with its first growth refused, with its second, and so
-// on, and true once none is refused; and whether any was.
-fn is_refused_in_turns<C>(alloc: Global, call: C) -> bool
-where
-    C: Fn(&Refusing<Global>) -> Result<bool, AllocError>,
-    requires { C.IsAlwaysCallable call }
-{
-    for turn in 1..MOST_GROWTHS {
-        let heap = Refusing::new(alloc);
-        heap.refuse(turn);
-        let answer = call(&heap);
-        if !heap.has_refused() {
-            return turn > 1 && answer.is_ok_and(|is_right| is_right);
-        }
-        if answer.is_ok() {
-            return false;
-        }
-    }
-    false
-}
+use std::alloc::AllocError;
 
 fn are_families(list: &Families<'_, Heap<'_>>, names: &[&str]) -> bool {
     let families = list.as_slice();
@@ -196,20 +172,120 @@ fn are_copied(heap: Heap<'_>) -> bool {
     }
 }
 
-// Whether a predicate with a borrowed text is copied so.
-fn is_copied(heap: Heap<'_>) -> bool {
-    heap.refuse(EVERY);
-    let predicate: TargetPredicate<'_, Heap<'_>> = TargetPredicate::Abi(Abi::sim());
-    match predicate.try_clone(heap) {
-        Ok(copy) => copy == predicate,
-        Err(_) => false,
-    }
-}
-
 #[test]
 fn is_not_met_by_what_is_borrowed(rt: HostRuntime) {
     let heap = Refusing::new(rt.alloc());
     assert!(rt; is_read(&heap));
     assert!(rt; are_copied(&heap));
-    assert!(rt; is_copied(&heap));
+}
+
+/// A predicate of these calls.
+type Asked<'h> = TargetPredicate<'static, Heap<'h>>;
+
+// Whether the predicate, whose text is borrowed if it has one, is copied with no memory.
+fn is_free<'h>(heap: Heap<'h>, predicate: &Asked<'h>) -> bool {
+    heap.refuse(EVERY);
+    match predicate.try_clone(heap) {
+        Ok(copy) => copy == *predicate,
+        Err(_) => false,
+    }
+}
+
+// Whether the predicate, whose text is owned, wants one growth for its copy, stays as it was where
+// that is refused, and is copied where it is not.
+fn is_copied<'h>(
+    heap: Heap<'h>,
+    owned: &Asked<'h>,
+    borrowed: &Asked<'h>,
+) -> Result<bool, AllocError> {
+    heap.refuse(1);
+    let is_refused = owned.try_clone(heap).is_err() && heap.has_refused();
+    let stays = owned == borrowed;
+    Ok(is_refused && stays && owned.try_clone(heap)? == *borrowed)
+}
+
+// Both, of predicates with one text.
+fn may_be_refused<'h>(
+    heap: Heap<'h>,
+    borrowed: Asked<'h>,
+    owned: Asked<'h>,
+) -> Result<bool, AllocError> {
+    Ok(is_free(heap, &borrowed) && is_copied(heap, &owned, &borrowed)?)
+}
+
+const TEXT: &str = "\u{e9}";
+
+// The text in a block of its own, and no refusal ahead.
+fn text(heap: Heap<'_>) -> Result<String<Heap<'_>>, AllocError> {
+    heap.refuse(0);
+    String::from_str(heap, TEXT)
+}
+
+fn copies_an_abi(heap: Heap<'_>) -> Result<bool, AllocError> {
+    let owned = TargetPredicate::Abi(Abi::new(text(heap)?));
+    may_be_refused(heap, TargetPredicate::Abi(Abi::new_const(TEXT)), owned)
+}
+
+fn copies_an_architecture(heap: Heap<'_>) -> Result<bool, AllocError> {
+    let owned = TargetPredicate::Arch(Arch::new(text(heap)?));
+    may_be_refused(heap, TargetPredicate::Arch(Arch::new_const(TEXT)), owned)
+}
+
+fn copies_a_vendor(heap: Heap<'_>) -> Result<bool, AllocError> {
+    let owned = TargetPredicate::Vendor(Vendor::new(text(heap)?));
+    may_be_refused(
+        heap,
+        TargetPredicate::Vendor(Vendor::new_const(TEXT)),
+        owned,
+    )
+}
+
+fn copies_a_system(heap: Heap<'_>) -> Result<bool, AllocError> {
+    let owned = TargetPredicate::Os(Os::new(text(heap)?));
+    may_be_refused(heap, TargetPredicate::Os(Os::new_const(TEXT)), owned)
+}
+
+fn copies_a_family(heap: Heap<'_>) -> Result<bool, AllocError> {
+    let owned = TargetPredicate::Family(Family::new(text(heap)?));
+    may_be_refused(
+        heap,
+        TargetPredicate::Family(Family::new_const(TEXT)),
+        owned,
+    )
+}
+
+fn copies_an_environment(heap: Heap<'_>) -> Result<bool, AllocError> {
+    let owned = TargetPredicate::Env(Env::new(text(heap)?));
+    may_be_refused(heap, TargetPredicate::Env(Env::new_const(TEXT)), owned)
+}
+
+fn copies_a_panic(heap: Heap<'_>) -> Result<bool, AllocError> {
+    let owned = TargetPredicate::Panic(Panic::new(text(heap)?));
+    may_be_refused(heap, TargetPredicate::Panic(Panic::new_const(TEXT)), owned)
+}
+
+#[test]
+fn is_met_by_predicates_with_an_owned_text(rt: HostRuntime) {
+    let heap = Refusing::new(rt.alloc());
+    assert!(rt; holds(copies_an_abi(&heap)));
+    assert!(rt; holds(copies_an_architecture(&heap)));
+    assert!(rt; holds(copies_a_vendor(&heap)));
+    assert!(rt; holds(copies_a_system(&heap)));
+    assert!(rt; holds(copies_a_family(&heap)));
+    assert!(rt; holds(copies_an_environment(&heap)));
+    assert!(rt; holds(copies_a_panic(&heap)));
+}
+
+#[test]
+fn is_not_met_by_predicates_with_no_text(rt: HostRuntime) {
+    let heap = Refusing::new(rt.alloc());
+    assert!(rt; is_free(&heap, &TargetPredicate::Endian(Endian::big)));
+    assert!(rt; is_free(&heap, &TargetPredicate::HasAtomic(HasAtomic::Pointer)));
+    assert!(rt;
+        is_free(
+            &heap,
+            &TargetPredicate::HasAtomic(HasAtomic::IntegerSize(8))
+        )
+    );
+    assert!(rt; is_free(&heap, &TargetPredicate::PointerWidth(64)));
 }

@@ -1,0 +1,30 @@
+//! Each growth of a call refused in turn.
+use crate::refusing::Refusing;
+use std::alloc::{AllocError, Global};
+
+/// The allocator of such calls.
+pub(crate) type Heap<'h> = &'h Refusing<Global>;
+
+// No call here needs so many growths.
+const MOST_GROWTHS: u64 = 1000;
+
+/// Whether the call answers want of memory with its first growth refused, with its second, and so
+/// on, and true once none is refused; and whether any was.
+pub(crate) fn is_refused_in_turns<C>(alloc: Global, call: C) -> bool
+where
+    C: Fn(&Refusing<Global>) -> Result<bool, AllocError>,
+    requires { C.IsAlwaysCallable call }
+{
+    for turn in 1..MOST_GROWTHS {
+        let heap = Refusing::new(alloc);
+        heap.refuse(turn);
+        let answer = call(&heap);
+        if !heap.has_refused() {
+            return turn > 1 && answer.is_ok_and(|is_right| is_right);
+        }
+        if answer.is_ok() {
+            return false;
+        }
+    }
+    false
+}
