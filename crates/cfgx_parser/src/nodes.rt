@@ -159,9 +159,11 @@ impl<A: SmallAllocator> Writer<A> {
         requires { leaves ≤ length (written_of self.old).leaves }
         ensures { OnOk result (written_of self.new ≡ with_list_ended leaves (written_of self.old)) }
     {
-        self.asked
-            .extend_from_slice(&self.leaves.as_slice()[leaves..])?;
-        self.leaves.truncate(leaves);
+        if leaves < self.leaves.len() {
+            self.asked
+                .extend_from_slice(&self.leaves.as_slice()[leaves..])?;
+            self.leaves.truncate(leaves);
+        }
         Ok(())
     }
 
