@@ -114,7 +114,8 @@ agreement = record {
 }
 
 -- what is known holds under every filling
-pub known_filled : {X : Type 0} (tree : Tree X) (answers : List (Option Bool)) (filling : List Bool) (value : Bool)
+pub known_filled : {X : Type 0} (tree : Tree X) (answers : List (Option Bool))
+    (filling : List Bool) (value : Bool)
     → fold three_valued tree answers ≡ Some value → IsFilling answers filling
     → fold two_valued tree filling ≡ value
 known_filled tree answers filling value is fills =

@@ -49,7 +49,8 @@ module _ {F T : Type 0} {asker : Asker F T} {start : Standing F T} {closure : F}
       Leads-step rest new asks (λ answers. rw (next, put) refl)
 
   -- or there is none
-  pub Leads-left : {answer : T} {after : F} {rest : List ℕ} → Asks asker closure question answer after
+  pub Leads-left : {answer : T} {after : F} {rest : List ℕ}
+      → Asks asker closure question answer after
       → places ≡ [] → rest ≡ [] → Leads asker start (standing after questions rest slots)
   Leads-left {rest = rest} asks none still =
       Leads-step rest slots asks (λ answers. rw (none, still) refl)
@@ -79,5 +80,5 @@ pub Ends-start : {F T : Type 0} {asker : Asker F T} {before after : F} (tree : T
     → questions ≡ asked tree → asks ≡ places 0 tree
     → Ends asker (standing before questions asks slots) after found
     → Ends asker (at_start before tree slots) after found
-Ends-start {asker} {before} {after} tree {slots = slots} {found = found} questions_are asks_are ends =
+Ends-start tree questions_are asks_are ends =
     rw (sym questions_are, sym asks_are) ends

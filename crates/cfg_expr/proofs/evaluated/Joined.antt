@@ -1,7 +1,10 @@
 -- Members that are joined from below, the last one first.
-use Rattle.std.proofs.Common.{◌≡◌, ◌+◌, ◌-◌, ◌<◌, ◌≤◌, ◌++◌, ℕ, Bool, true, false, List, [], ◌∷◌, length}
-use Rattle.std.proofs.Common.{map, take, drop, set, get_or, reverse, Option, Some, None, refl, sym, ap}
-use Rattle.std.proofs.Common.{◌∙◌, arith, append_assoc, take_at, drop_at, length-drop, drop_of_length-le}
+use Rattle.std.proofs.Common.{◌≡◌, ◌+◌, ◌-◌, ◌<◌, ◌≤◌, ◌++◌, ℕ, Bool, true, false, List, [], ◌∷◌}
+use Rattle.std.proofs.Common.{length}
+use Rattle.std.proofs.Common.{map, take, drop, set, get_or, reverse, Option, Some, None, refl, sym}
+use Rattle.std.proofs.Common.{ap}
+use Rattle.std.proofs.Common.{◌∙◌, arith, append_assoc, take_at, drop_at, length-drop}
+use Rattle.std.proofs.Common.{drop_of_length-le}
 use Rattle.std.specs.Prelude.{fold}
 use Rattle.std.proofs.lemmas.List.{append-nil, drop_more, length-reverse, reverse-append}
 use Rattle.std.proofs.lemmas.List.{take-append-drop, take_more_set, take_all, drop-set-lt}
@@ -78,7 +81,7 @@ joined-below logic connective members =
     ) refl
 
 -- One pass, member by member: what is left of it leads to this value and to these members.
-pub record Leads {T : Type 0} (join : T → T → T) (functions : Bool) (value : T) (place : ℕ)
+pub record JoinsTo {T : Type 0} (join : T → T → T) (functions : Bool) (value : T) (place : ℕ)
     (members : List (Member T)) (whole : T) (all : List (Member T)) : Type 0 where
   pub value_is : fold join value (values_in functions (drop place members)) ≡ whole
   pub members_are : take place members ++ map (taken functions) (drop place members) ≡ all
@@ -88,14 +91,14 @@ fold-cons : {T : Type 0} (join : T → T → T) (start : T) (value : Option T) (
 fold-cons join start None values = refl
 fold-cons join start (Some value) values = refl
 
-pub Leads-next : {T : Type 0} {join : T → T → T} {functions : Bool} {value next : T} {place : ℕ}
+pub JoinsTo-next : {T : Type 0} {join : T → T → T} {functions : Bool} {value next : T} {place : ℕ}
     {members : List (Member T)} {whole : T} {all : List (Member T)} {new_one : Member T}
     (otherwise : Member T) → place < length members
-    → Leads join functions value place members whole all
+    → JoinsTo join functions value place members whole all
     → next ≡ join_value join value (value_in functions (get_or members place otherwise))
     → new_one ≡ taken functions (get_or members place otherwise)
-    → Leads join functions next (place + 1) (set members place new_one) whole all
-Leads-next {T} {join} {functions} {value} {next} {place} {members} otherwise inside leads is same =
+    → JoinsTo join functions next (place + 1) (set members place new_one) whole all
+JoinsTo-next {T} {join} {functions} {value} {next} {place} {members} otherwise inside leads is same =
     let member = get_or members place otherwise in
     let new = set members place (taken functions member) in
     rw same (
@@ -114,10 +117,10 @@ Leads-next {T} {join} {functions} {value} {next} {place} {members} otherwise ins
           ∙ leads.members_are);
     })
 
-pub Leads-end : {T : Type 0} {join : T → T → T} {functions : Bool} {value : T} {place : ℕ}
+pub JoinsTo-end : {T : Type 0} {join : T → T → T} {functions : Bool} {value : T} {place : ℕ}
     {members : List (Member T)} {whole : T} {all : List (Member T)} → length members ≤ place
-    → Leads join functions value place members whole all → (value ≡ whole) × (members ≡ all)
-Leads-end {functions} {place} {members} past leads =
+    → JoinsTo join functions value place members whole all → (value ≡ whole) × (members ≡ all)
+JoinsTo-end {functions} {place} {members} past leads =
     let none = drop_of_length-le members past in
     let whole = take_all place members past in
     (rw none at leads.value_is, sym whole ∙ sym (append-nil _) ∙ rw none at leads.members_are)

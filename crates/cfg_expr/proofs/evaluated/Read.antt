@@ -1,5 +1,6 @@
 -- The nodes of a tree whose leaves are answers, read from the last to the first, leave its value.
-use Rattle.std.proofs.Common.{◌≡◌, ◌++◌, true, false, List, [], ◌∷◌, length, map, take, drop, Option}
+use Rattle.std.proofs.Common.{◌≡◌, ◌++◌, true, false, List, [], ◌∷◌, length, map, take, drop}
+use Rattle.std.proofs.Common.{Option}
 use Rattle.std.proofs.Common.{Some, None, suc, sym, refl, ap, ◌∙◌, append_assoc, take_at}
 use Rattle.std.proofs.Common.{drop_at}
 use Rattle.std.proofs.lemmas.List.{append-nil, length-map, map-append}
@@ -124,7 +125,8 @@ pub record Reading {T : Type 0} (logic : Operations T) (nodes : List ExprNode)
   pub reads : read logic (map shape nodes) slots (reverse stack.items) ≡ whole
 
 -- the last answer, which is there
-last_slot : {T : Type 0} (slots rest : List (Option T)) (last : Option (Option T)) (answer : Option T)
+last_slot : {T : Type 0} (slots rest : List (Option T)) (last : Option (Option T))
+    (answer : Option T)
     → slots ≡ rest ++ option_to_list last → 0 < length slots
     → (0 < length slots → IsSome last) → answer ≡ option_flatten last → slots ≡ rest ++ answer ∷ []
 last_slot slots rest None answer is some found flat =

@@ -89,7 +89,8 @@ commas_more : (n : ℕ) → commas n ++ Token.comma ∷ [] ≡ commas (suc n)
 commas_more zero = refl
 commas_more (suc n) = ap (λ l. Token.comma ∷ l) (commas_more n)
 
-pub Ready-comma : (tokens : List Token) (trees : List (Tree Question)) → Ready tokens trees → 0 < length trees
+pub Ready-comma : (tokens : List Token) (trees : List (Tree Question)) → Ready tokens trees
+    → 0 < length trees
     → Ready (tokens ++ Token.comma ∷ []) trees
 Ready-comma tokens [] ready some = absurd (omega arith)
 Ready-comma tokens (tree ∷ []) (item, n, rest, is, spelled, ready) some =
@@ -116,7 +117,8 @@ Ready-comma tokens (tree ∷ other ∷ others) (item, n, rest, is, spelled, read
 )
 
 -- what the end of a list, and of the text, needs
-Ready-single : (tokens : List Token) (trees : List (Tree Question)) → Ready tokens trees → (tree : Tree Question)
+Ready-single : (tokens : List Token) (trees : List (Tree Question)) → Ready tokens trees
+    → (tree : Tree Question)
     → trees ≡ tree ∷ [] → IsTree tokens tree
 Ready-single tokens trees ready tree e =
     let one : Ready tokens (tree ∷ []) = subst (Ready tokens) e ready in (
@@ -127,7 +129,8 @@ Ready-single tokens trees ready tree e =
       one.4,
     )
 
-pub Full-ready : (tokens : List Token) (trees : List (Tree Question)) → Ready tokens trees → Full tokens trees
+pub Full-ready : (tokens : List Token) (trees : List (Tree Question)) → Ready tokens trees
+    → Full tokens trees
 Full-ready tokens trees ready = record {
   list = Ready-list tokens trees ready;
   single =

@@ -45,7 +45,8 @@ record IsClosed (function : Function) (list : List Token) : Type 0 where
   pub tree : Tree Question
   pub spelled : IsItem (name_of function ∷ Token.open_paren ∷ (list ++ Token.close_paren ∷ [])) tree
 
-one_tree : (tokens : List Token) (trees : List (Tree Question)) → Full tokens trees → length trees ≡ 1
+one_tree : (tokens : List Token) (trees : List (Tree Question)) → Full tokens trees
+    → length trees ≡ 1
     → (tree : Tree Question) × IsTree tokens tree
 one_tree tokens [] full one = absurd (omega arith)
 one_tree tokens (tree ∷ []) full one = (tree, full.single tree refl)

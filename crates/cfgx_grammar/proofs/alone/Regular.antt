@@ -82,7 +82,8 @@ spelled_inner name tokens inner is spelled =
     all_of_first IsSpelled inner (Token.close_paren ∷ []) all.1.1
 
 mutual
-  regular_item : (tokens : List Token) (tree : Tree Question) → AreSpelled tokens → IsItem tokens tree
+  regular_item : (tokens : List Token) (tree : Tree Question) → AreSpelled tokens
+      → IsItem tokens tree
       → AreRegular (asked tree)
   regular_item tokens (Tree.leaf question) spelled item =
       (regular_leaf tokens question spelled item, tt)
@@ -100,7 +101,8 @@ mutual
       let each = spelled_inner Token.not tokens (item ++ commas n) is spelled in
       regular_item item tree (all_of_first IsSpelled item (commas n) each) one
 
-  regular_list : (test : Tree Question → Bool) (tokens : List Token) (trees : Trees Question) → AreSpelled tokens
+  regular_list : (test : Tree Question → Bool) (tokens : List Token) (trees : Trees Question)
+      → AreSpelled tokens
       → IsList tokens trees → AreRegular (asked_by test trees)
   regular_list test tokens Trees.none spelled list = tt
   regular_list test tokens (Trees.more tree trees) spelled (item, n, rest, is, apart, one, more) =
@@ -115,7 +117,8 @@ mutual
       chosen true here others = all_of_both IsRegular (asked tree) (asked_by test trees) here others
       chosen false here others = others
 
-pub regular_tree : (text : List ℕ) (tree : Tree Question) → HasTree text tree → AreRegular (asked tree)
+pub regular_tree : (text : List ℕ) (tree : Tree Question) → HasTree text tree
+    → AreRegular (asked tree)
 regular_tree text tree has =
     let all = spelled_items text 0 has.items Ending.blank has.are_items in
     let (item, n, is, one) = has.spelled in

@@ -32,7 +32,8 @@ value_at x key z value = record {
 
 -- where a call of the function ends, with these members
 abbrev pub Calls : {W M L : Type 0} → Builder W M L → (List Item → W → W → Tree Question → Type 0)
-    → (List Item → W → W → Trees Question → Type 0) → Function → Tree Question → Trees Question → Type 0
+    → (List Item → W → W → Trees Question → Type 0) → Function → Tree Question → Trees Question
+    → Type 0
 Calls {W} builder ItemBuilds ListBuilds function tree trees = (head opening closing : Item)
     (members : List Item) (w v : W) → ListBuilds members (builder.function function w) v trees
     → ItemBuilds (head ∷ opening ∷ (members ++ closing ∷ [])) w
@@ -59,7 +60,8 @@ pub record Laws {W M L : Type 0} (builder : Builder W M L) : Type 1 where
       → Calls builder ItemBuilds ListBuilds Function.all (Tree.all trees) trees
   pub any : (trees : Trees Question)
       → Calls builder ItemBuilds ListBuilds Function.any (Tree.any trees) trees
-  pub not : (tree : Tree Question) → Calls builder ItemBuilds ListBuilds Function.not (Tree.not tree)
+  pub not : (tree : Tree Question)
+      → Calls builder ItemBuilds ListBuilds Function.not (Tree.not tree)
       (Trees.more tree Trees.none)
 
 -- the items of some tokens, and those of others behind them
@@ -334,7 +336,8 @@ module _ {W M L : Type 0} {builder : Builder W M L} where
     pub needs : Needs trees before start
 
   -- the members of a call, in front of which an item or `)` may come
-  Starts-inside : (s : State builder) (function : Function) (head opening : Item) (trees : Trees Question)
+  Starts-inside : (s : State builder) (function : Function) (head opening : Item)
+      (trees : Trees Question)
       → s.pending ≡ None
       → Starts (inside s function head opening) (inside s function head opening)
       (with_parens opening.start (new_open s function head)) s.stack trees
@@ -354,7 +357,8 @@ module _ {W M L : Type 0} {builder : Builder W M L} where
 
   -- behind a member and its commas
   Starts-between : (start after : State builder) (written : W) (top : Open M)
-      (rest : List (Open M)) (trees : Trees Question) (ys : List Item) (n : ℕ) → start.stack ≡ top ∷ rest
+      (rest : List (Open M)) (trees : Trees Question) (ys : List Item) (n : ℕ)
+      → start.stack ≡ top ∷ rest
       → Separates n trees → (c : CommasTaken start after written ys n)
       → Starts c.reached (between start c.reached.last written) (one_more top) rest trees
   Starts-between start after written top rest trees ys n stack separates c = record {
@@ -452,7 +456,8 @@ module _ {W M L : Type 0} {builder : Builder W M L} (laws : Laws builder) where
 
   -- a member, its commas, and what follows
   ListEnds-more : (before start : State builder) (top : Open M) (rest : List (Open M))
-      (xs ys zs : List Item) (tree : Tree Question) (trees : Trees Question) (n : ℕ) → before ≡ start
+      (xs ys zs : List Item) (tree : Tree Question) (trees : Trees Question) (n : ℕ)
+      → before ≡ start
       → start.stack ≡ top ∷ rest → (i : ItemEnds start xs tree)
       (c : CommasTaken start i.after i.written ys n)
       → ListEnds c.reached (between start c.reached.last i.written) (one_more top) rest zs trees
@@ -474,7 +479,8 @@ module _ {W M L : Type 0} {builder : Builder W M L} (laws : Laws builder) where
       }
 
   ListEnds-member : (before start : State builder) (top : Open M) (rest : List (Open M))
-      (items : List Item) (item others : List Token) (tree : Tree Question) (trees : Trees Question) (n : ℕ)
+      (items : List Item) (item others : List Token) (tree : Tree Question)
+      (trees : Trees Question) (n : ℕ)
       (m : MemberItems items item others n) → before ≡ start → start.stack ≡ top ∷ rest
       → Separates n trees → ItemEnds start m.xs tree
       → ((b t : State builder) → Starts b t (one_more top) rest trees
@@ -490,7 +496,8 @@ module _ {W M L : Type 0} {builder : Builder W M L} (laws : Laws builder) where
 
   -- a call, by its members
   ItemEnds-call : (s : State builder) (items : List Item) (function : Function)
-      (inner : List Token) (tree : Tree Question) (trees : Trees Question) → takes s.last Kind.item ≡ true
+      (inner : List Token) (tree : Tree Question) (trees : Trees Question)
+      → takes s.last Kind.item ≡ true
       → (c : CallItems items (name_of function) inner) → has_room function (count trees) ≡ true
       → Calls builder laws.ItemBuilds laws.ListBuilds function tree trees
       → ListEnds (inside s function c.head c.opening) (inside s function c.head c.opening)
@@ -525,7 +532,8 @@ module _ {W M L : Type 0} {builder : Builder W M L} (laws : Laws builder) where
 
   -- a call of `all` or of `any`, whose list may be any
   ItemEnds-listed : (s : State builder) (items : List Item) (function : Function)
-      (inner : List Token) (tree : Tree Question) (trees : Trees Question) → takes s.last Kind.item ≡ true
+      (inner : List Token) (tree : Tree Question) (trees : Trees Question)
+      → takes s.last Kind.item ≡ true
       → s.pending ≡ None → IsCall (name_of function) (tokens_of items) inner
       → has_room function (count trees) ≡ true
       → Calls builder laws.ItemBuilds laws.ListBuilds function tree trees → IsList inner trees

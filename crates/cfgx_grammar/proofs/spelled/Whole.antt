@@ -44,7 +44,8 @@ module _ {W M L : Type 0} {builder : Builder W M L} (laws : Laws builder) where
     pub concludes : conclude len read ≡ Ok whole
     pub whole_is : whole.written ≡ builder.root_ended written
 
-  pub Finds-tree : (len : ℕ) (items : List Item) (tree : Tree Question) → IsTree (tokens_of items) tree
+  pub Finds-tree : (len : ℕ) (items : List Item) (tree : Tree Question)
+      → IsTree (tokens_of items) tree
       → Finds len items tree
   Finds-tree len items tree (item, n, is, spelled) =
       let s = Splits-tokens item (commas n) items is in

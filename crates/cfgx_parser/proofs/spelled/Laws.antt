@@ -45,7 +45,8 @@ Called-any : (trees : Trees Question) → Called Function.any (Tree.any trees) t
 Called-any trees =
     record { prefix_is = refl; places_are = λ place. refl; is_no_leaf = refl; is_one = refl }
 
-Called-not : (tree : Tree Question) → Called Function.not (Tree.not tree) (Trees.more tree Trees.none)
+Called-not : (tree : Tree Question)
+    → Called Function.not (Tree.not tree) (Trees.more tree Trees.none)
 Called-not tree = record {
   prefix_is = ap (headed Not) (sym (append-nil (prefix tree)));
   places_are = λ place. places_one (place + 1) tree;
@@ -76,7 +77,8 @@ module _ (text : List ℕ) where
       (NamesClass-class text key_span span key value stands) in
       Writes-leaf text w _ question named.0 named.1
 
-  list_writes : (xs ys zs : List Item) (tree : Tree Question) (trees : Trees Question) (w v u : Written)
+  list_writes : (xs ys zs : List Item) (tree : Tree Question) (trees : Trees Question)
+      (w v u : Written)
       → ItemWrites xs w v tree → ListWrites zs v u trees
       → ListWrites (xs ++ (ys ++ zs)) w u (Trees.more tree trees)
   list_writes xs ys zs tree trees w v u writes more placed =
@@ -87,7 +89,8 @@ module _ (text : List ℕ) where
       (inner_places k trees)) (length-nodes text w v (prefix tree) _ _ first) others in
       Writes-then text w v u _ _ _ _ _ _ first at
 
-  call_writes : (function : Function) (tree : Tree Question) (trees : Trees Question) → Called function tree trees
+  call_writes : (function : Function) (tree : Tree Question) (trees : Trees Question)
+      → Called function tree trees
       → Calls node_builder ItemWrites ListWrites function tree trees
   call_writes function tree trees called head opening closing members w v writes placed =
       let P = λ (item : Item). IsPlaced text item item.token in

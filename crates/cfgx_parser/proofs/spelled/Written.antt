@@ -66,7 +66,8 @@ Writes-leaf text w predicate question names cut = record {
 }
 
 -- a function and its members
-pub Writes-function : (text : List ℕ) (w v : Written) (first last : Func) (shown : List (Node Question))
+pub Writes-function : (text : List ℕ) (w v : Written) (first last : Func) (shown : List
+    (Node Question))
     (own inner : List ℕ)
     → Writes text (with_function first w) v shown own inner
     → Writes text w (with_function_ended (mark_of w) last v) (headed last shown) [] (inner ++ own)

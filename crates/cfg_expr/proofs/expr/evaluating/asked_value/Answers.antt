@@ -24,7 +24,8 @@ returns g c =
     let kept = c.nodes.ensures.nodes in
     let nodes_are = kept.1 ∙ ap prefix (asks.0.only kept.0.tree kept.0.has_tree) in
     let blank = ready.blank
-    ∙ ap (λ tree. replicate (length (prefix tree)) None) (asks.0.only ready.one.tree ready.one.has_tree)
+    ∙ ap (λ tree. replicate (length (prefix tree)) None)
+    (asks.0.only ready.one.tree ready.one.has_tree)
     in
     IsSomeAnd-is _ (c.read_value.ensures
     ∙ top-asked c.args.parsed.now c.nodes.result.now asks.0.tree nodes_are g.T.Logic asks.1 blank

@@ -10,4 +10,5 @@ returns-clause-nodes g c =
     (keeps.one, ap (map (node_at c.args.self.now)) c.as_slice.ensures ∙ keeps.keeps.nodes_are)
 
 pub returns-clause-few : goal.returns-clause-few
-returns-clause-few g c = rw c.as_slice.ensures (few-nodes (Keeps-seen c.self.view_is c.self.invariant))
+returns-clause-few g c = rw c.as_slice.ensures (few-nodes
+    (Keeps-seen c.self.view_is c.self.invariant))
