@@ -153,7 +153,7 @@ impl<A: SmallAllocator> Expression<A> {
     /// the answer, where that is known. With the first filling the condition is true, and with the
     /// second one it is false.
     ///
-    /// The memory taken is in proportion to the text. The error is that `alloc` refused it.
+    /// The error is that `alloc` refused memory.
     pub fn polar_fillings(
         &self,
         alloc: A,

@@ -1,5 +1,6 @@
 -- Predicates as they can stand in a text, and the text of one alone.
 use Rattle.std.specs.Prelude.{◌≡◌, ℕ, List, Option, Some, None}
+use Rattle.cfgx_syntax.specs.Stripping.{strip}
 use Rattle.cfgx_syntax.specs.Token.{IsKey, HasNoQuote}
 use Rattle.cfgx_grammar.specs.Question.{Question}
 use Rattle.cfgx_grammar.specs.Classification.{Class, class}
@@ -19,7 +20,8 @@ pub record IsRegular (question : Question) : Type 0 where
   pub can_be_quoted : CanBeQuoted value
   pub says : class key value ≡ Class.is question
 
--- the text is this predicate and nothing else
+-- the text is this predicate and nothing else, and nothing is stripped from it
 pub record IsAlone (text : List ℕ) (question : Question) : Type 0 where
+  pub stripped : strip text ≡ text
   pub one : HasOneTree text
   pub is : one.tree ≡ Tree.leaf question

@@ -147,8 +147,11 @@ module _ {T : Type 0} where
       (asked tree) ≡ slots (prefix tree)
   placed tree =
       let whole = (fills-tree tree 0).fills [] [] refl in
-      rw (append-nil (blank (prefix tree)), append-nil (slots (prefix tree)),
-      blank-replicate (prefix tree)) at whole
+      rw (
+        append-nil (blank (prefix tree)),
+        append-nil (slots (prefix tree)),
+        blank-replicate (prefix tree),
+      ) at whole
 
 -- answers to what a tree asks, put at its places and read, leave its value over them
 pub read-placed : {X T : Type 0} (logic : Operations T) (tree : Tree X) (answers : List T)

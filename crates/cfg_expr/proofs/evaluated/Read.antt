@@ -147,8 +147,14 @@ Reading-next logic {nodes} {before} node {slots} {rest} last {answer} {stack} {n
     omega (arith, reading.many, ap length is, length-append before (node ∷ [])) in
     let slots_are = last_slot slots rest last answer taken some found flat in
     let many : length rest ≡ length before =
-    omega (arith, reading.many, ap length is, ap length slots_are,
-    length-append before (node ∷ []), length-append rest (answer ∷ [])) in
+    omega (
+      arith,
+      reading.many,
+      ap length is,
+      ap length slots_are,
+      length-append before (node ∷ []),
+      length-append rest (answer ∷ []),
+    ) in
     let shapes : map shape nodes ≡ map shape before ++ shape node ∷ [] =
     ap (map shape) is ∙ map-append shape before (node ∷ []) in
     record {

@@ -38,8 +38,15 @@ module _ (text : List ℕ) (nodes : List ExprNode) (tree : Tree Question)
       → left ≡ read logic (map shape nodes) slots stack
       → top_value left ≡ Some (fold logic tree answers)
   top-read logic answers many blank put none reads =
-      rw (reads, none, put, blank, shapes-shown text nodes, nodes_are,
-      read-placed logic tree answers many)
+      rw (
+        reads,
+        none,
+        put,
+        blank,
+        shapes-shown text nodes,
+        nodes_are,
+        read-placed logic tree answers many,
+      )
       (value-entry logic (answered logic.top tree answers))
 
   -- and so do those that a closure gave

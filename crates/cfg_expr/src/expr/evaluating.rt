@@ -50,11 +50,7 @@ fn put_answer<T: Logic, A: Allocator>(
 }
 
 /// Asks each predicate, in order, and puts its answer at its place among the nodes.
-fn ask_each<EP, T, A>(
-    parsed: &Parsed<A>,
-    answers: &mut SmallVec<Option<T>, 33, &A>,
-    ep: &mut EP,
-)
+fn ask_each<EP, T, A>(parsed: &Parsed<A>, answers: &mut SmallVec<Option<T>, 33, &A>, ep: &mut EP)
 where
     EP: FnMut(&Predicate<'_>) -> T,
     T: Logic,
@@ -209,10 +205,7 @@ fn pop_value<T: Logic, A: Allocator>(stack: &mut SmallVec<Member<T>, 33, &A>) ->
 }
 
 /// Puts a member on the stack.
-fn push_member<T: Logic, A: Allocator>(
-    member: Member<T>,
-    stack: &mut SmallVec<Member<T>, 33, &A>,
-)
+fn push_member<T: Logic, A: Allocator>(member: Member<T>, stack: &mut SmallVec<Member<T>, 33, &A>)
     requires { HasRoomFor stack.old 1 }
     ensures stack { reverse stack.new.items ≡ member ∷ reverse stack.old.items }
     ensures more { small_vec_len stack.new ≡ small_vec_len stack.old + 1 }
@@ -316,11 +309,7 @@ where
 /// What `Expression::eval` answers.
 ///
 /// The error is that `alloc` refused room for the answers, or for the stack.
-pub(crate) fn value_of<EP, T, A>(
-    alloc: A,
-    parsed: &Parsed<A>,
-    ep: &mut EP,
-) -> Result<T, AllocError>
+pub(crate) fn value_of<EP, T, A>(alloc: A, parsed: &Parsed<A>, ep: &mut EP) -> Result<T, AllocError>
 where
     EP: FnMut(&Predicate<'_>) -> T,
     T: Logic,
@@ -362,11 +351,7 @@ where
 /// The value over answers that are there already, in the order of the questions.
 ///
 /// The error is that `alloc` refused room for the answers, or for the stack.
-pub(crate) fn value_over<T, A>(
-    alloc: A,
-    parsed: &Parsed<A>,
-    given: &[T],
-) -> Result<T, AllocError>
+pub(crate) fn value_over<T, A>(alloc: A, parsed: &Parsed<A>, given: &[T]) -> Result<T, AllocError>
 where
     T: Logic + Copy,
     A: SmallAllocator,

@@ -11,7 +11,8 @@ use Rattle.cfgx_syntax.proofs.TokenList.{ItemsFrom-same}
 use Rattle.cfgx_grammar.specs.Question.{Question}
 use Rattle.cfgx_grammar.specs.Classification.{Class, class}
 use Rattle.cfgx_grammar.specs.Tree.{Tree}
-use Rattle.cfgx_grammar.specs.Grammar.{commas, predicate_tokens, IsTree}
+use Rattle.cfgx_grammar.specs.Grammar.{HasTree, commas, predicate_tokens, IsTree}
+use Rattle.cfgx_grammar.proofs.Stripped.{strip-tree}
 use Rattle.cfgx_grammar.specs.Regular.{CanBeQuoted, IsRegular, IsAlone}
 use Rattle.cfgx_grammar.specs.Spelling.{with_value, spelling}
 use Rattle.cfgx_grammar.proofs.alone.Spelt.{text_of, spelt_regular}
@@ -167,10 +168,8 @@ module _ (key : List ℕ) (value : Option (List ℕ)) (question : Question)
   module _ (text : List ℕ) (items : List Item) (are : AreItems text items Ending.blank)
       (tokens : map (λ item. item.token) items ≡ predicate_tokens key value) where
     is_alone : IsAlone text question
-    is_alone = record {
-      one = record {
-        tree = Tree.leaf question;
-        has_tree = record {
+    is_alone =
+        let has : HasTree text (Tree.leaf question) = record {
           items = items;
           are_items = are;
           spelled = (
@@ -179,15 +178,20 @@ module _ (key : List ℕ) (value : Option (List ℕ)) (question : Question)
             tokens ∙ sym (append-nil (predicate_tokens key value)),
             (key, value, refl, says),
           );
-        };
-        only = λ other has.
-            let same = ItemsFrom-same text 0 items has.items _ _ are has.are_items in
-            let spelled = subst (λ l. IsTree (map (λ item. item.token) l) other) same.0
-            has.spelled in
-            only_leaf other (subst (λ l. IsTree l other) tokens spelled);
-      };
-      is = refl;
-    }
+        } in
+        record {
+          stripped = strip-tree text (Tree.leaf question) has;
+          one = record {
+            tree = Tree.leaf question;
+            has_tree = has;
+            only = λ other its.
+                let same = ItemsFrom-same text 0 items its.items _ _ are its.are_items in
+                let spelled = subst (λ l. IsTree (map (λ item. item.token) l) other) same.0
+                its.spelled in
+                only_leaf other (subst (λ l. IsTree l other) tokens spelled);
+          };
+          is = refl;
+        }
 
 alone_text : (key : List ℕ) (value : Option (List ℕ)) (question : Question) → IsKey key
     → CanBeQuoted value → class key value ≡ Class.is question

@@ -33,6 +33,8 @@ returns g c =
     let all = c.into_iter-predicate-iterator.ensures.into_iter_gives ∙ asks.1 in
     let found = c.places.ensures in
     let at = c.iter-places.ensures.rest ∙ found.1
-    ∙ ap (places 0) (asks.0.only found.0.tree found.0.has_tree) in
-    (asks.0, Ends-start asks.0.tree all at
-    (Ends-asked c.in-None.ensures.steps.0 c.loop-predicate.invariant))
+    ∙ ap (places 0) (asks.0.only found.0.tree found.0.has_tree) in (
+      asks.0,
+      Ends-start asks.0.tree all at
+          (Ends-asked c.in-None.ensures.steps.0 c.loop-predicate.invariant),
+    )

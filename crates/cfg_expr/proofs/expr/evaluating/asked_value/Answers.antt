@@ -11,11 +11,16 @@ read_value-requires g c =
     let asks = c.ask_each.ensures in
     let many = many_nodes c.args.parsed.now c.nodes.result.now kept.0.tree kept.1
     ∙ ap (λ tree. length (prefix tree)) (ready.one.only kept.0.tree kept.0.has_tree) in
-    let none : length c.args.stack.now.items ≡ 0 = ap length ready.none in
-    (search rules, (search rules, (
-      length-ready _ asks.1.answers _ _ asks.1.slots_are ready.blank many,
-      omega (arith, ready.room, many, none),
-    )))
+    let none : length c.args.stack.now.items ≡ 0 = ap length ready.none in (
+      search rules,
+      (
+        search rules,
+        (
+          length-ready _ asks.1.answers _ _ asks.1.slots_are ready.blank many,
+          omega (arith, ready.room, many, none),
+        ),
+      ),
+    )
 
 pub returns : goal.returns
 returns g c =

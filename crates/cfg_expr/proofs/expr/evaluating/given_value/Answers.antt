@@ -10,10 +10,11 @@ use Rattle.cfg_expr.proofs.expr.evaluating.given_value.Goals as goal
 pub put_each-requires : goal.put_each-requires
 put_each-requires g c =
     let found = c.places.ensures in
-    let given = c.requires.given in
-    (search rules,
-    ap length found.1 ∙ length-places found.0.tree
-    ∙ ap (λ tree. length (asked tree)) (sym (found.0.only given.0 given.1)) ∙ sym given.2)
+    let given = c.requires.given in (
+      search rules,
+      ap length found.1 ∙ length-places found.0.tree
+          ∙ ap (λ tree. length (asked tree)) (sym (found.0.only given.0 given.1)) ∙ sym given.2,
+    )
 
 pub read_value-requires : goal.read_value-requires
 read_value-requires g c =
@@ -21,11 +22,16 @@ read_value-requires g c =
     let kept = c.nodes.ensures.nodes in
     let many = many_nodes c.args.parsed.now c.nodes.result.now kept.0.tree kept.1
     ∙ ap (λ tree. length (prefix tree)) (ready.one.only kept.0.tree kept.0.has_tree) in
-    let none : length c.args.stack.now.items ≡ 0 = ap length ready.none in
-    (search rules, (search rules, (
-      length-ready _ c.args.given.now _ _ c.put_each.ensures ready.blank many,
-      omega (arith, ready.room, many, none),
-    )))
+    let none : length c.args.stack.now.items ≡ 0 = ap length ready.none in (
+      search rules,
+      (
+        search rules,
+        (
+          length-ready _ c.args.given.now _ _ c.put_each.ensures ready.blank many,
+          omega (arith, ready.room, many, none),
+        ),
+      ),
+    )
 
 pub returns : goal.returns
 returns g c =

@@ -21,8 +21,12 @@ returns-clause-rest g c =
     let is : start ≡ length items - c.args.count =
     c.saturating_sub-start.ensures ∙ rw c.len.ensures.value refl in
     let few : start ≤ length items = omega (arith, is) in
-    rw (c.truncate.ensures.items, c.as_mut_slice.ensures.value,
-    front-kept (length items) start items _ few few, drop-top c.args.count start items is) refl
+    rw (
+      c.truncate.ensures.items,
+      c.as_mut_slice.ensures.value,
+      front-kept (length items) start items _ few few,
+      drop-top c.args.count start items is,
+    ) refl
 
 pub returns-clause-fewer : goal.returns-clause-fewer
 returns-clause-fewer g c =

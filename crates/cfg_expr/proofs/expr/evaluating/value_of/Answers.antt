@@ -18,11 +18,18 @@ asked_value-requires g c =
     let kept = c.nodes-count.ensures.nodes in
     let nodes = c.nodes-count.result.now in
     let many : length nodes ≡ length (prefix kept.0.tree) =
-    many_nodes c.args.parsed.now nodes kept.0.tree kept.1 in
-    (no_answers-requires g before.After-alloc-1,
-    (with_capacity-requires g before.After-alloc-2-1, (c.requires, record {
-      one = kept.0;
-      blank = c.in_ok-answers.ensures.items ∙ ap (λ n. replicate n None) many;
-      none = c.in_ok-stack.ensures.items;
-      room = omega (arith, many, c.in_ok-stack.ensures.capacity);
-    })))
+    many_nodes c.args.parsed.now nodes kept.0.tree kept.1 in (
+      no_answers-requires g before.After-alloc-1,
+      (
+        with_capacity-requires g before.After-alloc-2-1,
+        (
+          c.requires,
+          record {
+            one = kept.0;
+            blank = c.in_ok-answers.ensures.items ∙ ap (λ n. replicate n None) many;
+            none = c.in_ok-stack.ensures.items;
+            room = omega (arith, many, c.in_ok-stack.ensures.capacity);
+          },
+        ),
+      ),
+    )
