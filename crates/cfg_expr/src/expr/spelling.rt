@@ -13,6 +13,7 @@ ghost use Rattle.cfg_expr.specs.Value.{value_bytes};
 use cfgx_parser::predicates::{Predicate, TargetPredicate};
 use cfgx_targets::atomic::HasAtomic;
 use cfgx_targets::endian::Endian;
+use std::alloc::Allocator;
 use std::io::{self, ErrorKind, Write};
 
 /// One call of `write`. It answers what is left behind the bytes that went out.
@@ -112,7 +113,7 @@ fn atomic_value(atomic: HasAtomic) -> Value<'static>
 }
 
 /// The key and the value of a predicate on the target.
-fn target_parts<'a>(target: &'a TargetPredicate<'_>) -> (&'static str, Value<'a>)
+fn target_parts<'a, A: Allocator>(target: &'a TargetPredicate<'_, A>) -> (&'static str, Value<'a>)
     ensures { with_value result.0.now (value_bytes result.1)
         ≡ target_spelling (target_of target.now) }
 {
@@ -133,7 +134,10 @@ fn target_parts<'a>(target: &'a TargetPredicate<'_>) -> (&'static str, Value<'a>
 }
 
 /// Writes a predicate on the target.
-fn spell_target<W: Write>(target: &TargetPredicate<'_>, writer: &mut W) -> io::Result<()>
+fn spell_target<W: Write, A: Allocator>(
+    target: &TargetPredicate<'_, A>,
+    writer: &mut W,
+) -> io::Result<()>
     ensures { Writes (W.contents writer.old) (W.contents writer.new) result
         (target_spelling (target_of target.now)) }
 {
@@ -142,7 +146,10 @@ fn spell_target<W: Write>(target: &TargetPredicate<'_>, writer: &mut W) -> io::R
 }
 
 /// Writes a predicate.
-fn write_predicate<W: Write>(predicate: &Predicate<'_>, writer: &mut W) -> io::Result<()>
+fn write_predicate<W: Write, A: Allocator>(
+    predicate: &Predicate<'_, A>,
+    writer: &mut W,
+) -> io::Result<()>
     ensures { Writes (W.contents writer.old) (W.contents writer.new) result
         (spelling (question_of predicate.now)) }
 {
@@ -168,8 +175,8 @@ fn write_predicate<W: Write>(predicate: &Predicate<'_>, writer: &mut W) -> io::R
 /// took no byte; then a beginning of the spelling was written. The table is in `docs/RULES.md`.
 ///
 /// The spelling of a predicate that can stand in a text, as each one of an expression can, is a
-/// text of this predicate alone: parsed, it asks just this one.
-pub fn spell<W: Write>(predicate: &Predicate<'_>, writer: &mut W) -> io::Result<()>
+/// text of this predicate alone: parsed, it asks just this one, and nothing is stripped from it.
+pub fn spell<W: Write, A: Allocator>(predicate: &Predicate<'_, A>, writer: &mut W) -> io::Result<()>
     ensures written { Writes (W.contents writer.old) (W.contents writer.new) result
         (spelling (question_of predicate.now)) }
     ensures alone { IsRegular (question_of predicate.now)
