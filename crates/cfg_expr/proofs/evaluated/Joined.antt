@@ -74,9 +74,9 @@ Joins-next {T} {join} {functions} {begin} {old} {value} {next} {after} {place} {
     otherwise one_more inside many before is same =
     let joins = subst (λ at. Joins join functions begin old value at members) one_more before in
     let one = front-last place otherwise old members joins.front in
-    let last : drop place old ≡ get_or members place otherwise ∷ drop (place + 1) old =
-    drop_more old place otherwise (omega (arith, many)) ∙ ap (λ x. x ∷ drop (place + 1) old) (sym one)
-    in record {
+    let last = drop_more old place otherwise (omega (arith, many))
+    ∙ ap (λ x. x ∷ drop (place + 1) old) (sym one) in
+    record {
       value_is = is ∙ rw (joins.value_is, last) (from_last-cons join begin _ _);
       front = take-set-le place members place new_one (omega arith)
           ∙ front-less place old members joins.front;

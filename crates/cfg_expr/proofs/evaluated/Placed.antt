@@ -38,7 +38,8 @@ module _ {T : Type 0} where
   Fills-none : (at : ℕ) (part : List (Member T)) → Fills at part [] [] part
   Fills-none at part = record { many = refl; fills = λ front back is. refl }
 
-  Fills-one : (at : ℕ) (x : T) → Fills at (member.Joined ∷ []) (at ∷ []) (x ∷ []) (member.Leaf x ∷ [])
+  Fills-one : (at : ℕ) (x : T) → Fills at (member.Joined ∷ []) (at ∷ []) (x ∷ [])
+      (member.Leaf x ∷ [])
   Fills-one at x = record {
     many = refl;
     fills = λ front back is. set_at front member.Joined back (member.Leaf x) at is;
@@ -109,7 +110,8 @@ module _ {T : Type 0} where
 
   -- a function's own node has no answer
   Fills-headed : {at : ℕ} {before after : List (Member T)} {ps : List ℕ} {xs : List T}
-      → Fills (at + 1) before ps xs after → Fills at (member.Joined ∷ before) ps xs (member.Joined ∷ after)
+      → Fills (at + 1) before ps xs after
+      → Fills at (member.Joined ∷ before) ps xs (member.Joined ∷ after)
   Fills-headed {at} inner = Fills-both (Fills-none at (member.Joined ∷ [])) refl inner
 
   mutual

@@ -1,7 +1,7 @@
 -- The nodes of a tree whose leaves are answers, read from the last to the first, leave its value.
-use Rattle.std.proofs.Common.{◌≡◌, ◌+◌, ◌-◌, ◌≤◌, ◌<◌, ◌++◌, ℕ, true, false, List, [], ◌∷◌, length, map}
-use Rattle.std.proofs.Common.{take, drop, get_or, Option, Some, None, suc, sym, refl, ap, ◌∙◌, arith}
-use Rattle.std.proofs.Common.{append_assoc, take_at, drop_at, subst, set, min, ⊎_elim}
+use Rattle.std.proofs.Common.{◌≡◌, ◌+◌, ◌-◌, ◌≤◌, ◌<◌, ◌++◌, ℕ, true, false, List, [], ◌∷◌}
+use Rattle.std.proofs.Common.{length, map, take, drop, get_or, Option, Some, None, suc, sym, refl}
+use Rattle.std.proofs.Common.{ap, ◌∙◌, arith, append_assoc, take_at, drop_at, subst, set, min, ⊎_elim}
 use Rattle.std.proofs.Common.{length-append}
 use Rattle.std.proofs.lemmas.Bool.{cases_lt}
 use Rattle.std.proofs.lemmas.Grind.{drop-set_at}
@@ -118,8 +118,10 @@ Reading-start logic shapes old many = record {
   kept = refl;
   below = omega (arith, many);
   within = omega arith;
-  stack = rw (drop_all (length old) old (omega arith), drop_all (length shapes) shapes (omega arith))
-      refl;
+  stack = rw (
+    drop_all (length old) old (omega arith),
+    drop_all (length shapes) shapes (omega arith),
+  ) refl;
   front = refl;
 }
 

@@ -222,7 +222,8 @@ fn make<T: Logic>(func: &Func, members: &mut [Member<T>]) -> Member<T>
 /// Reads a leaf: puts what stands at its place on the stack. Answers where the top is now.
 fn read_leaf<T: Logic>(place: usize, top: usize, slots: &mut [Member<T>]) -> usize
     requires { (place < top) × (top ≤ length slots.old) }
-    ensures stack { drop result slots.new ≡ get_or slots.old place member.Joined ∷ drop top slots.old }
+    ensures stack { drop result slots.new
+        ≡ get_or slots.old place member.Joined ∷ drop top slots.old }
     ensures front { take place slots.new ≡ take place slots.old }
     ensures within { (place ≤ result) × (result ≤ length slots.new) }
 {

@@ -14,7 +14,13 @@ returns-clause-stack g c =
     let is = c.min.ensures in
     let part = part-top c.number_of.result (top + count - top) stack (omega (arith, is, many)) in
     let one = c.make-member.result in
-    rw (c.put_member.ensures, sym c.number_of.ensures, sym part.0, sym part.1, sym c.make-member.ensures)
+    rw (
+      c.put_member.ensures,
+      sym c.number_of.ensures,
+      sym part.0,
+      sym part.1,
+      sym c.make-member.ensures,
+    )
     (part-joined top (top + count) slots c.make-member.new.members _ one c.requires.1
     (omega (arith, c.make-member.auto.members, length-take (top + count - top) stack, is, many))
     (omega (arith, c.requires.0)))
