@@ -9,7 +9,8 @@ use Rattle.std.proofs.lemmas.List.{append-nil}
 use Rattle.std.proofs.lemmas.Bool.Decides.{Decides-eqb}
 use Rattle.cfgx_syntax.specs.Token.{Token}
 use Rattle.cfgx_syntax.specs.Items.{Item}
-use Rattle.cfgx_grammar.specs.FirstFault.{word_of, lacks_value}
+use Rattle.cfgx_grammar.specs.FirstFault.{lacks_value}
+use Rattle.cfgx_grammar.specs.LastPredicate.{word_of}
 use Rattle.cfgx_grammar.specs.Question.{Question}
 use Rattle.cfgx_grammar.specs.Tree.{Tree}
 use Rattle.cfgx_grammar.specs.Grammar.{IsItem, IsTree}

@@ -12,8 +12,9 @@ use Rattle.cfgx_syntax.specs.Items.{Item}
 use Rattle.cfgx_syntax.specs.Error.{Refusal, unexpected}
 use Rattle.cfgx_syntax.specs.Error.{invalid_not, empty, multiple_root_predicates}
 use Rattle.cfgx_grammar.specs.Neighbours.{Kind, kind_of, is_kind, next, expected, takes}
-use Rattle.cfgx_grammar.specs.FirstFault.{depth, depth_at, innermost, members, roots, members_at}
-use Rattle.cfgx_grammar.specs.FirstFault.{Word, word_of, with_value, names_function, closes}
+use Rattle.cfgx_grammar.specs.Depth.{depth, depth_at, innermost, members, roots, members_at}
+use Rattle.cfgx_grammar.specs.Depth.{names_function, closes}
+use Rattle.cfgx_grammar.specs.LastPredicate.{Word, word_of, with_value}
 use Rattle.cfgx_grammar.specs.FirstFault.{last_token}
 use Rattle.cfgx_grammar.specs.FirstFault.{predicate_fault, count_fault, not_fault, fault_by}
 use Rattle.cfgx_grammar.specs.FirstFault.{fault_behind, unclosed_fault, open_fault, root_fault}

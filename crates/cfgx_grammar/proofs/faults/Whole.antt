@@ -8,7 +8,8 @@ use Rattle.std.proofs.lemmas.Bool.{cases_lt}
 use Rattle.std.proofs.lemmas.List.{append-nil}
 use Rattle.cfgx_syntax.specs.Items.{Item, Ending, lexical}
 use Rattle.cfgx_syntax.specs.Error.{Refusal}
-use Rattle.cfgx_grammar.specs.FirstFault.{first_below, fault_behind, fault_at, end_fault}
+use Rattle.cfgx_grammar.specs.Depth.{first_below}
+use Rattle.cfgx_grammar.specs.FirstFault.{fault_behind, fault_at, end_fault}
 use Rattle.cfgx_grammar.specs.FirstFault.{first_fault}
 use Rattle.cfgx_grammar.proofs.faults.Counting.{slice_get_next, length_more, first_below-none}
 use Rattle.cfgx_grammar.proofs.faults.Counting.{first_below-found}

@@ -9,7 +9,8 @@ use Rattle.cfgx_syntax.specs.Items.{Item}
 use Rattle.cfgx_syntax.specs.Error.{Refusal}
 use Rattle.cfgx_grammar.specs.Question.{Question}
 use Rattle.cfgx_grammar.specs.Classification.{Class, class}
-use Rattle.cfgx_grammar.specs.FirstFault.{word_of, lacks_value}
+use Rattle.cfgx_grammar.specs.FirstFault.{lacks_value}
+use Rattle.cfgx_grammar.specs.LastPredicate.{word_of}
 use Rattle.cfgx_grammar.specs.Tree.{Tree, Trees, count}
 use Rattle.cfgx_grammar.specs.Grammar.{commas, Separates, predicate_tokens, IsCall, IsItem, IsList}
 use Rattle.cfgx_grammar.specs.Neighbours.{Kind, takes, next}

@@ -17,7 +17,7 @@ use Rattle.cfgx_grammar.specs.parsing.State.{Function}
 use Rattle.cfgx_parser.specs.parsing.State.{State}
 use Rattle.cfgx_grammar.specs.parsing.Step.{opened, function_ended, closed_by}
 use Rattle.cfgx_grammar.specs.parsing.Step.{answer_from}
-use Rattle.cfgx_grammar.specs.FirstFault.{with_value, word_of}
+use Rattle.cfgx_grammar.specs.LastPredicate.{with_value, word_of}
 use Rattle.cfgx_parser.specs.parsing.Fields.{opens_of, pending_of}
 use Rattle.cfgx_parser.specs.declared.parser.Parser.{Parser}
 

@@ -3,7 +3,7 @@ use Rattle.std.specs.Prelude.{ℕ, option_map, Result}
 use Rattle.std.specs.declared.ops.Range.{Range}
 use Rattle.cfgx_syntax.specs.Error.{Refusal}
 use Rattle.cfgx_grammar.specs.Classification.{Class}
-use Rattle.cfgx_grammar.specs.FirstFault.{class_of}
+use Rattle.cfgx_grammar.specs.LastPredicate.{class_of}
 use Rattle.cfgx_grammar.specs.parsing.State as parser
 use Rattle.cfgx_grammar.specs.parsing.State.{Function, Word, Pending, Builder}
 use Rattle.cfgx_grammar.specs.parsing.Step as steps
