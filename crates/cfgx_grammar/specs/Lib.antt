@@ -5,6 +5,7 @@ pub mod FirstFault
 pub mod Fold
 pub mod Given
 pub mod Grammar
+pub mod Mapping
 pub mod Matching
 pub mod Neighbours
 pub mod Question
