@@ -7,6 +7,7 @@ pub mod Fold
 pub mod Given
 pub mod Grammar
 pub mod LastPredicate
+pub mod Mapping
 pub mod Matching
 pub mod Neighbours
 pub mod Question

@@ -1,3 +1,4 @@
 mod Loan
+pub mod Audited
 pub mod Counted
 pub mod Written

@@ -1,3 +1,4 @@
+pub mod Audits
 pub mod Callers
 pub mod Decisions
 pub mod Terms

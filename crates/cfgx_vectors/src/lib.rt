@@ -4,6 +4,7 @@
 
 #[cfg(test)]
 mod accepted;
+pub mod auditing;
 #[cfg(test)]
 mod commands;
 #[cfg(test)]
