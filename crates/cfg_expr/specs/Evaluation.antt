@@ -1,5 +1,5 @@
 -- What `Expression::eval` asks and answers.
-use Rattle.std.specs.Prelude.{◌≡◌, ℕ, List}
+use Rattle.std.specs.Prelude.{◌≡◌, ℕ, List, map}
 use Rattle.cfgx_grammar.specs.Question.{Question}
 use Rattle.cfgx_grammar.specs.Tree.{Tree, asked}
 use Rattle.cfgx_grammar.specs.Grammar.{HasTree}
@@ -20,3 +20,8 @@ module _ {F T : Type 0} (logic : Operations T) (asker : Asker F T) where
 abbrev pub MayEvaluate : {F T : Type 0} → Asker F T → List ℕ → F → Type 0
 MayEvaluate asker text state =
     (tree : Tree Question) → HasTree text tree → MayAskEach asker state (asked tree)
+
+-- the value of the text's one tree over what the function says of its questions
+abbrev pub IsValueBy : {T : Type 0} → Operations T → List ℕ → (Question → T) → T → Type 0
+IsValueBy logic text answer_to value =
+    (one : HasOneTree text) × (value ≡ fold logic one.tree (map answer_to (asked one.tree)))
