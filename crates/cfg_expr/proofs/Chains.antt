@@ -36,7 +36,8 @@ module _ {F T : Type 0} (asker : Asker F T) where
   Calls-by answer_to _ _ _ _ by (Calls.none state) = refl
   Calls-by answer_to _ _ _ _ by
       (Calls.more before question given between questions answers after asks calls) =
-      let first = by question given between asks in
+      let first = by asks.shown given between asks.called in
+      let given_is = first.1 ∙ ap answer_to asks.shows in
       let still = subst (λ (state : F). AnswersBy asker state answer_to) (sym first.0) by in
       let others = Calls-by answer_to between questions answers after still calls in
       cc
@@ -122,7 +123,10 @@ pub Evaluates-by : {F T : Type 0} {logic : Operations T} {asker : Asker F T} {te
     → IsValueBy logic text answer_to value
 Evaluates-by {logic = logic} {asker} {before = before} {after} e answer_to by =
     let answers = Calls-by asker answer_to before (asked e.one.tree) e.answers after by e.calls in
-    (e.one, e.value_is ∙ ap (tree_value.fold logic e.one.tree) answers)
+    record {
+      one = e.one;
+      value_is = e.value_is ∙ ap (tree_value.fold logic e.one.tree) answers;
+    }
 
 -- where the closure counts its calls from 0 up to a bound, the count is that of the questions
 pub Evaluates-count : {F T : Type 0} {logic : Operations T} {asker : Asker F T} {text : List ℕ}

@@ -42,5 +42,6 @@ module _ {F T : Type 0} (asker : Asker F T) where
   -- each call in this state answers what the function says of the question, and leaves the closure
   -- in this state
   abbrev pub AnswersBy : F → (Question → T) → Type 0
-  AnswersBy state answer_to = (question : Question) (answer : T) (after : F)
-      → Asks state question answer after → (after ≡ state) × (answer ≡ answer_to question)
+  AnswersBy state answer_to = (shown : Bor (Predicate Global)) (answer : T) (after : F)
+      → Called asker state (shown, tt) answer after
+      → (after ≡ state) × (answer ≡ answer_to (question_of shown.now))

@@ -22,6 +22,7 @@ MayEvaluate asker text state =
     (tree : Tree Question) → HasTree text tree → MayAskEach asker state (asked tree)
 
 -- the value of the text's one tree over what the function says of its questions
-abbrev pub IsValueBy : {T : Type 0} → Operations T → List ℕ → (Question → T) → T → Type 0
-IsValueBy logic text answer_to value =
-    (one : HasOneTree text) × (value ≡ fold logic one.tree (map answer_to (asked one.tree)))
+pub record IsValueBy {T : Type 0} (logic : Operations T) (text : List ℕ)
+    (answer_to : Question → T) (value : T) : Type 0 where
+  pub one : HasOneTree text
+  pub value_is : value ≡ fold logic one.tree (map answer_to (asked one.tree))

@@ -1,3 +1,2 @@
 mod Loan
-pub mod Counted
 pub mod Written
