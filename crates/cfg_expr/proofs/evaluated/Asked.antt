@@ -1,5 +1,5 @@
 -- A closure that is asked one question after another.
-use Rattle.std.proofs.Common.{◌≡◌, ℕ, List, [], ◌∷◌, set, refl, sym, ◌∙◌, subst}
+use Rattle.std.proofs.Common.{◌≡◌, ℕ, List, [], ◌∷◌, set, refl, sym, ◌∙◌, ap, subst}
 use Rattle.cfgx_grammar.specs.Question.{Question}
 use Rattle.cfg_expr.specs.Asking.{Asker, Asks, Calls, MayAsk, MayAskEach}
 use Rattle.cfgx_grammar.specs.Tree.{Tree, asked}
@@ -11,12 +11,17 @@ use Rattle.cfg_expr.specs.nodes.Answers.{at_start, Standing, standing, Ends, Lea
 module _ {F T : Type 0} (asker : Asker F T) where
   MayAsk-first : {state : F} {question : Question} {questions : List Question}
       → MayAskEach asker state (question ∷ questions) → MayAsk asker state question
-  MayAsk-first (MayAskEach.more state question questions may rest) = may
+  MayAsk-first {state} {question} {questions} may =
+      may.at [] question questions [] state refl (Calls.none state)
 
   MayAskEach-rest : {state : F} {question : Question} {questions : List Question}
       → MayAskEach asker state (question ∷ questions) → (answer : T) (after : F)
       → Asks asker state question answer after → MayAskEach asker after questions
-  MayAskEach-rest (MayAskEach.more state question questions may rest) = rest
+  MayAskEach-rest {state} {question} {questions} may answer after asks = record {
+    at = λ before next others answers reached is calls.
+        may.at (question ∷ before) next others (answer ∷ answers) reached (ap (λ l. question ∷ l) is)
+        (Calls.more state question answer after before answers reached asks calls);
+  }
 
 module _ {F T : Type 0} {asker : Asker F T} {start : Standing F T} {closure : F}
     {question : Question} {questions others : List Question} {places : List ℕ}
