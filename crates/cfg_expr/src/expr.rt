@@ -182,11 +182,13 @@ impl<A: SmallAllocator> Expression<A> {
 
     /// The value of the condition in each of 64 lanes, over answers that are there already.
     ///
-    /// There is one answer for each occurrence of a predicate, in the order of `predicates`. They are
-    /// joined as `eval` joins them, so each lane of the value is the value over this lane of the
-    /// answers: of the targets that `TargetPredicate::lanes` is asked of, each one gets its own.
+    /// There is one answer for each occurrence of a predicate, in the order of `predicates`. They
+    /// are joined as `eval` joins them, so each lane of the value is the value over this lane of
+    /// the answers: of the targets that `TargetPredicate::lanes` is asked of, each one gets its
+    /// own.
     ///
-    /// No memory is taken where the text has at most 32 bytes. The error is that `alloc` refused it.
+    /// No memory is taken where the text has at most 32 bytes. The error is that `alloc` refused
+    /// it.
     pub fn eval_lanes(&self, alloc: A, answers: &[Kleene64]) -> Result<Kleene64, AllocError>
         requires { AreAnswersTo answers.now self.now }
         // This holds of all answers to the text's one tree, also where memory runs out.

@@ -1,6 +1,6 @@
 -- What reading an input whole answers.
--- Source of the rules for one call: the documentation of `std::io::Read::read`. Source of the limit:
--- docs/RULES.md.
+-- Source of the rules for one call: the documentation of `std::io::Read::read`. Source of the
+-- limit: docs/RULES.md.
 use Rattle.std.specs.Prelude.{◌≡◌, ◌≤◌, ℕ, ◌+◌, ◌^◌, List, length, take, drop}
 use Rattle.std.specs.Prelude.{Option, Result, Ok, Err}
 use Rattle.std.specs.Io.KnownBytes.{Consumes, IsAtEnd}

@@ -1,6 +1,7 @@
 -- What is counted on the tokens before a place of a text: how many functions are open, how many
 -- members the innermost one has, and how many members stand outside of every function.
--- Source: the Rust Reference's conditional compilation, whose functions have members in parentheses.
+-- Source: the Rust Reference's conditional compilation, whose functions have members in
+-- parentheses.
 use Rattle.std.specs.Prelude.{ℕ, zero, suc, ◌+◌, ◌-◌, ◌==◌, ◌&&◌, Bool, true, false, List, length}
 use Rattle.std.specs.Prelude.{take, count_by, nat_lt, nat_le, slice_get, Option, Some, None}
 use Rattle.std.specs.Prelude.{if◌then◌else◌}
@@ -37,14 +38,14 @@ abbrev pub names_not : Token → Bool
 names_not Token.not = true
 names_not _ = false
 
-abbrev pub closes : Token → Bool
-closes token = is_kind Kind.closing (kind_of token)
+abbrev pub is_closing : Token → Bool
+is_closing token = is_kind Kind.closing (kind_of token)
 
 -- how many functions are open after the tokens, each from its name on: the functions named among
 -- them, less the `)`
 abbrev pub depth : List Item → ℕ
 depth front = count_by (λ item. names_function item.token) front
-    - count_by (λ item. closes item.token) front
+    - count_by (λ item. is_closing item.token) front
 
 -- how many are open before a place among them
 abbrev pub depth_at : List Item → ℕ → ℕ

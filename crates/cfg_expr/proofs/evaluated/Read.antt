@@ -1,7 +1,8 @@
 -- The nodes of a tree whose leaves are answers, read from the last to the first, leave its value.
 use Rattle.std.proofs.Common.{◌≡◌, ◌+◌, ◌-◌, ◌≤◌, ◌<◌, ◌++◌, ℕ, true, false, List, [], ◌∷◌}
 use Rattle.std.proofs.Common.{length, map, take, drop, get_or, Option, Some, None, suc, sym, refl}
-use Rattle.std.proofs.Common.{ap, ◌∙◌, arith, append_assoc, take_at, drop_at, subst, set, min, ⊎_elim}
+use Rattle.std.proofs.Common.{ap, ◌∙◌, arith, append_assoc, take_at, drop_at, subst, set, min}
+use Rattle.std.proofs.Common.{⊎_elim}
 use Rattle.std.proofs.Common.{length-append}
 use Rattle.std.proofs.lemmas.Bool.{cases_lt}
 use Rattle.std.proofs.lemmas.Grind.{drop-set_at}
@@ -13,7 +14,7 @@ use Rattle.cfgx_parser.specs.nodes.Prefix.{Node, prefix, prefix_each}
 use Rattle.cfgx_parser.specs.nodes.Shape.{shape_of}
 use Rattle.cfgx_parser.specs.declared.function.Func.{Func}
 use Rattle.cfgx_parser.specs.declared.function.Func.TheVariants.{Not, All, Any}
-use Rattle.cfg_expr.specs.nodes.Reading.{Member, any_value, values_in, made, put, read, takes}
+use Rattle.cfg_expr.specs.nodes.Reading.{Member, any_value, values_in, made, put, read, arity}
 use Rattle.cfg_expr.specs.declared.expr.evaluating.Member.TheVariants as member
 use Rattle.cfg_expr.proofs.evaluated.Joined.{front-last, front-less}
 
@@ -58,10 +59,10 @@ module _ {T : Type 0} (logic : Operations T) where
       ≡ members ++ read logic shapes slots
 
   -- a function takes its members off
-  put-function : (func : Func) (members rest : List (Member T)) → length members ≡ takes func
+  put-function : (func : Func) (members rest : List (Member T)) → length members ≡ arity func
       → put logic (Some func) member.Joined (members ++ rest) ≡ made logic func members ∷ rest
   put-function func members rest many =
-      rw (take_at members rest (takes func) many, drop_at members rest (takes func) many) refl
+      rw (take_at members rest (arity func) many, drop_at members rest (arity func) many) refl
 
   mutual
     read-tree : (tree : Tree T) → Reads (prefix tree) (entry tree ∷ [])

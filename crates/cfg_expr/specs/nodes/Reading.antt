@@ -62,18 +62,18 @@ abbrev pub top_value : {T : Type 0} → List (Member T) → Option T
 top_value [] = None
 top_value (top ∷ rest) = any_value top
 
-abbrev pub function_of : {T : Type 0} → Option T → Member T
-function_of None = member.Joined
-function_of (Some value) = member.Function value
+abbrev pub function_member : {T : Type 0} → Option T → Member T
+function_member None = member.Joined
+function_member (Some value) = member.Function value
 
 -- how many members a function takes off the stack, and what it makes of them
-abbrev pub takes : Func → ℕ
-takes Not = 1
-takes (All count) = count
-takes (Any count) = count
+abbrev pub arity : Func → ℕ
+arity Not = 1
+arity (All count) = count
+arity (Any count) = count
 
 abbrev pub made : {T : Type 0} → Operations T → Func → List (Member T) → Member T
-made logic Not members = function_of (option_map logic.not (top_value members))
+made logic Not members = function_member (option_map logic.not (top_value members))
 made logic (All count) members = member.Function (joined logic And members)
 made logic (Any count) members = member.Function (joined logic Or members)
 
@@ -81,8 +81,8 @@ made logic (Any count) members = member.Function (joined logic Or members)
 abbrev pub put : {T : Type 0} → Operations T → Option Func → Member T → List (Member T)
     → List (Member T)
 put logic None leaf stack = leaf ∷ stack
-put logic (Some func) blank stack = made logic func (take (takes func) stack)
-    ∷ drop (takes func) stack
+put logic (Some func) blank stack = made logic func (take (arity func) stack)
+    ∷ drop (arity func) stack
 
 -- the stack that the nodes leave, each with what stands in its slot
 abbrev pub read : {T : Type 0} → Operations T → List (Option Func) → List (Member T)

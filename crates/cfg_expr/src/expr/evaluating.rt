@@ -20,7 +20,7 @@ ghost use Rattle.cfg_expr.specs.Evaluation.{Evaluates, MayEvaluate};
 ghost use Rattle.cfg_expr.specs.nodes.Answers.{Ends, Holds, at_start, with_answers};
 ghost use Rattle.cfg_expr.specs.nodes.Reading.{begin_of, join_of, join_value, values_in, taken};
 ghost use Rattle.cfg_expr.specs.nodes.Reading.{any_value, value_in, joined, made, put, read};
-ghost use Rattle.cfg_expr.specs.nodes.Reading.{top_value, takes};
+ghost use Rattle.cfg_expr.specs.nodes.Reading.{top_value, arity};
 ghost use Rattle.cfg_expr.specs.declared.expr.evaluating.Member.TheVariants as member;
 
 use super::Func;
@@ -197,7 +197,7 @@ fn take_top<T>(stack: &mut [Member<T>]) -> Option<T>
 
 /// How many members a function takes off the stack.
 fn number_of(func: &Func) -> usize
-    ensures { result ≡ takes func.now }
+    ensures { result ≡ arity func.now }
 {
     match func {
         Func::Not => 1,
@@ -240,8 +240,8 @@ fn read_leaf<T: Logic>(place: usize, top: usize, slots: &mut [Member<T>]) -> usi
 fn read_function<T: Logic>(func: &Func, top: usize, slots: &mut [Member<T>]) -> usize
     requires { (0 < top) × (top ≤ length slots.old) }
     ensures stack { drop result slots.new
-        ≡ made T.Logic func.now (take (takes func.now) (drop top slots.old))
-        ∷ drop (takes func.now) (drop top slots.old) }
+        ≡ made T.Logic func.now (take (arity func.now) (drop top slots.old))
+        ∷ drop (arity func.now) (drop top slots.old) }
     ensures front { (place : ℕ) → place < top → take place slots.new ≡ take place slots.old }
     ensures within { (top ≤ result + 1) × (result ≤ length slots.new) }
 {

@@ -12,7 +12,7 @@ use Rattle.cfgx_syntax.specs.Items.{Item}
 use Rattle.cfgx_syntax.specs.Error.{Refusal}
 use Rattle.cfgx_grammar.specs.Classification.{Class}
 use Rattle.cfgx_grammar.specs.Neighbours.{Kind, takes}
-use Rattle.cfgx_grammar.specs.Depth.{names_function, closes, depth}
+use Rattle.cfgx_grammar.specs.Depth.{names_function, is_closing, depth}
 use Rattle.cfgx_grammar.specs.LastPredicate.{key_token, key_last}
 use Rattle.cfgx_grammar.specs.LastPredicate.{equals_token, equals_last, predicate_token}
 use Rattle.cfgx_grammar.specs.FirstFault.{predicate_fault, class_fault, head_token}
@@ -53,7 +53,7 @@ abbrev pub names : List Item → ℕ
 names front = count_by (λ item. names_function item.token) front
 
 abbrev pub closings : List Item → ℕ
-closings front = count_by (λ item. closes item.token) front
+closings front = count_by (λ item. is_closing item.token) front
 
 -- one more token
 
@@ -72,8 +72,8 @@ module _ (front : List Item) (item : Item) where
   names_more = sum_by_push (λ (i : Item). cond (names_function i.token) 1 0) front item
 
   pub closings_more : closings (front ++ item ∷ [])
-      ≡ closings front + cond (closes item.token) 1 0
-  closings_more = sum_by_push (λ (i : Item). cond (closes i.token) 1 0) front item
+      ≡ closings front + cond (is_closing item.token) 1 0
+  closings_more = sum_by_push (λ (i : Item). cond (is_closing i.token) 1 0) front item
 
 -- What may stand behind the last token says which it is.
 

@@ -144,9 +144,9 @@ module _ {W M L : Type 0} {builder : Builder W M L} where
       else Err (refusal (unexpected (expected s.last)) item.start item.end)
 
   -- one token after another
-  abbrev pub run : State builder → List Item → Result (State builder) Refusal
-  run s [] = Ok s
-  run s (item ∷ items) = and_then (λ t. run t items) (step s item)
+  abbrev pub step_each : State builder → List Item → Result (State builder) Refusal
+  step_each s [] = Ok s
+  step_each s (item ∷ items) = and_then (λ t. step_each t items) (step s item)
 
   -- The end.
 
@@ -174,4 +174,5 @@ module _ {W M L : Type 0} {builder : Builder W M L} where
   -- what the whole of a text's tokens answers, from a state on
   abbrev pub answer_from : State builder → List ℕ → List Item → Ending
       → Result (State builder) Refusal
-  answer_from s text items ending = and_then (ended_as text (lexical text ending)) (run s items)
+  answer_from s text items ending =
+      and_then (ended_as text (lexical text ending)) (step_each s items)

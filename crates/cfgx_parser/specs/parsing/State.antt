@@ -35,11 +35,11 @@ node_builder = record {
   root_ended = with_list_ended 0;
 }
 
-abbrev pub Open : Type 0
-Open = parser.Open Mark
+abbrev pub OpenFunction : Type 0
+OpenFunction = parser.Open Mark
 
-abbrev pub State : Type 0
-State = parser.State node_builder
+abbrev pub ParserState : Type 0
+ParserState = parser.State node_builder
 
 -- a predicate by its places, or its fault
 abbrev pub located_class : Pending → Class → Result InnerPredicate Refusal
