@@ -66,7 +66,7 @@ fn starts_word(byte: u8) -> bool
 fn continues_word(byte: u8) -> bool
     ensures { result ≡ continues_word byte }
 {
-    byte.is_ascii_alphanumeric() || byte == b'_'
+    byte.is_ascii_digit() || byte.is_ascii_alphabetic() || byte == b'_'
 }
 
 /// How many bytes in front of the text may stand in a word.

@@ -128,7 +128,9 @@ impl<A: SmallAllocator> Flags<A> {
         ensures { IsAnswer self.now.known.items self.now.unknown.items
             (question_of predicate.now) result }
     {
-        if is_named(self.known.as_slice(), predicate) {
+        if self.known.is_empty() && self.unknown.is_empty() {
+            Some(false)
+        } else if is_named(self.known.as_slice(), predicate) {
             Some(true)
         } else if is_named(self.unknown.as_slice(), predicate) {
             None
