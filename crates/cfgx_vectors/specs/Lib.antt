@@ -1,3 +1,4 @@
+pub mod Board
 pub mod Callers
 pub mod Decisions
 pub mod Terms
