@@ -1,5 +1,6 @@
 -- What a chain of calls says to a caller of `eval`.
-use Rattle.std.proofs.Common.{◌≡◌, ◌≤◌, ◌+◌, ℕ, min, suc, List, [], ◌∷◌, length, map, take, drop, refl, ap}
+use Rattle.std.proofs.Common.{◌≡◌, ◌≤◌, ◌+◌, ℕ, min, suc, List, [], ◌∷◌, length, map, take, drop}
+use Rattle.std.proofs.Common.{refl, ap}
 use Rattle.std.proofs.Common.{◌∙◌, arith, subst, sym}
 use Rattle.std.specs.Borrow.{MutBor}
 use Rattle.std.specs.List.{AllZip}

@@ -1,12 +1,15 @@
 //! Conditions, and the predicates that they ask.
-ghost use Rattle.std.specs.Prelude.{◌≡◌, ◌≤◌, Bool, List, Option, length, IfOk, IsOk, OnErr};
+ghost use Rattle.std.specs.Prelude.{◌≡◌, ◌≤◌, Bool, List, Option, length, map, IfOk, IsOk, OnErr};
+ghost use Rattle.cfgx_syntax.specs.Kleene.{EachLane, IsApart, Planes, lane};
 ghost use Rattle.cfgx_syntax.specs.Stripping.{strip};
 ghost use Rattle.std.specs.List.{AllByRecursion};
 ghost use Rattle.cfgx_grammar.specs.Given.{AreAnswersTo};
 ghost use Rattle.cfgx_grammar.specs.Answer.{Answers, HasOneTree};
-ghost use Rattle.cfg_expr.specs.Evaluation.{Evaluates, IsValueBy, MayEvaluate};
 ghost use Rattle.cfg_expr.specs.Asking.{AnswersBy};
-ghost use Rattle.cfgx_grammar.specs.Filling.{IsExact, PolarFillings};
+ghost use Rattle.cfg_expr.specs.Evaluation.{Evaluates, IsValueBy, MayEvaluate};
+ghost use Rattle.cfgx_grammar.specs.Filling.{IsExact, PolarFillings, three_valued};
+ghost use Rattle.cfgx_grammar.specs.Fold.{fold};
+ghost use Rattle.cfgx_grammar.specs.Mapping.{IsByLane, lane_valued};
 ghost use Rattle.cfgx_grammar.specs.Question.{Question};
 ghost use Rattle.cfgx_grammar.specs.Tree.{Tree, asked};
 ghost use Rattle.cfgx_grammar.specs.Grammar.{HasTree};
@@ -14,6 +17,7 @@ ghost use Rattle.cfgx_grammar.specs.Regular.{IsRegular};
 
 mod evaluating;
 mod filling;
+pub mod laws;
 mod spelling;
 
 use crate::error::Failure;
@@ -23,6 +27,8 @@ pub use cfgx_parser::matcher::TargetMatcher;
 use cfgx_parser::parsed::{Parsed, parse};
 pub use cfgx_parser::predicates::{Predicate, Predicates, TargetPredicate};
 pub use cfgx_syntax::logic::Logic;
+use cfgx_syntax::logic::Kleene64;
+use cfgx_syntax::logic::laws::are_apart;
 pub use cfgx_syntax::{lexer, logic};
 pub use spelling::spell;
 use std::alloc::{AllocError, Allocator, Global};
@@ -172,5 +178,30 @@ impl<A: SmallAllocator> Expression<A> {
             × PolarFillings one.tree answers.now found) }
     {
         filling::polar_fillings(alloc, &self.parsed, answers)
+    }
+
+    /// The value of the condition in each of 64 lanes, over answers that are there already.
+    ///
+    /// There is one answer for each occurrence of a predicate, in the order of `predicates`. They
+    /// are joined as `eval` joins them, so each lane of the value is the value over this lane of
+    /// the answers: of the targets that `TargetPredicate::lanes` is asked of, each one gets its
+    /// own.
+    ///
+    /// No memory is taken where the text has at most 32 bytes. The error is that `alloc` refused
+    /// it.
+    pub fn eval_lanes(&self, alloc: A, answers: &[Kleene64]) -> Result<Kleene64, AllocError>
+        requires { AreAnswersTo answers.now self.now }
+        // This holds of all answers to the text's one tree, also where memory runs out.
+        ensures lanes { (one : HasOneTree self.now) × ((given : List Planes)
+            → AllByRecursion IsApart given → length given ≡ length (asked one.tree)
+            → IsByLane one.tree given) }
+        ensures value { IfOk result (λ value. (one : HasOneTree self.now)
+            × (value ≡ fold lane_valued one.tree answers.now)
+            × EachLane value (λ i. fold three_valued one.tree (map (lane i) answers.now))) }
+        ensures short { length self.now ≤ 32 → IsOk result }
+    {
+        // It does nothing but show that no lane of the answers is both true and false.
+        are_apart(answers);
+        evaluating::value_over(alloc, &self.parsed, answers)
     }
 }

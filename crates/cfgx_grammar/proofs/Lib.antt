@@ -4,6 +4,7 @@ pub mod Arranging
 pub mod Classes
 pub mod Dealing
 pub mod Exactness
+pub mod Mapping
 pub mod Matched
 pub mod Reading
 pub mod Stripped

@@ -1,6 +1,7 @@
 pub mod Asked
 pub mod Bounded
 pub mod Kept
+pub mod Lanes
 pub mod Places
 pub mod Reading
 pub mod Shapes

@@ -1,11 +1,15 @@
 //! Whether a target meets a predicate.
-ghost use Rattle.std.specs.Prelude.{◌≡◌, IfOk};
+ghost use Rattle.std.specs.Prelude.{◌≡◌, ◌+◌, ◌*◌, ◌<◌, ◌≤◌, ◌^◌, IfOk, length, map};
+ghost use Rattle.std.specs.Prelude.{if◌then◌else◌};
+ghost use Rattle.std.specs.List.{slice_get};
+ghost use Rattle.cfgx_syntax.specs.Kleene.{EachLane};
 ghost use Rattle.cfgx_grammar.specs.Matching.{has_text, meets};
 ghost use Rattle.cfgx_parser.specs.Predicate.{target_of};
 
 use crate::predicates::TargetPredicate;
 use cfgx_fields::Field;
 use cfgx_places::Field as Place;
+use cfgx_syntax::logic::Kleene64;
 use cfgx_targets::info::TargetInfo;
 use std::alloc::{AllocError, Allocator};
 
@@ -66,12 +70,38 @@ fn has_place<K, A: Allocator>(place: &Option<Place<'_, K, A>>, missing: &str, te
     }
 }
 
+// The plane, moved up by a lane, with this bit as the lowest.
+fn with_lowest(plane: u64, bit: bool) -> u64
+    requires { plane < 2 ^ 63 }
+    ensures { result ≡ (if bit then 1 else 0) + 2 * plane }
+{
+    2 * plane + u64::from(bit)
+}
+
 impl<'a, A: Allocator> TargetPredicate<'a, A> {
     /// Whether the predicate is true of the target, as the target answers.
     pub fn matches<T: TargetMatcher>(&self, target: &T) -> bool
         ensures { result ≡ T.answer target.now (target_of self.now) }
     {
         target.matches(&self.borrowed())
+    }
+
+    /// Whether the predicate is true of each of at most 64 targets, as these answer: lane `i` is
+    /// the answer of row `i`, and the lanes past the rows are unknown. It takes no memory.
+    pub fn lanes<T: TargetMatcher>(&self, rows: &[T]) -> Kleene64
+        requires { length rows.now ≤ 64 }
+        ensures { EachLane result
+            (slice_get (map (λ row. T.answer row (target_of self.now)) rows.now)) }
+    {
+        let (mut is_true, mut is_false) = (0, 0);
+        let mut left = rows;
+        while let Some((row, before)) = left.split_last() {
+            let answer = self.matches(row);
+            is_true = with_lowest(is_true, answer);
+            is_false = with_lowest(is_false, !answer);
+            left = before;
+        }
+        Kleene64::new(is_true, is_false)
     }
 
     // The predicate of the same kind and text, which is borrowed: the allocator that may own the

@@ -26,7 +26,7 @@ apart_at t f i apart =
 least_zero : (x y : ℕ) → x + y ≤ 1 → min x y ≡ 0
 least_zero x y few = omega arith
 
-AreApart-from : (t f : ℕ) → ((i : ℕ) → bit_at t i + bit_at f i ≤ 1) → AreApart t f
+pub AreApart-from : (t f : ℕ) → ((i : ℕ) → bit_at t i + bit_at f i ≤ 1) → AreApart t f
 AreApart-from t f each =
     same_from_bits (bit_and t f) 0 (λ i.
     bit_at_and t f i ∙ least_zero (bit_at t i) (bit_at f i) (each i) ∙ sym (bit_at-zero i))

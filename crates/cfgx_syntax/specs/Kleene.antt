@@ -13,6 +13,9 @@ pub record Planes : Type 0 where
 abbrev pub AreApart : ℕ → ℕ → Type 0
 AreApart is_true is_false = bit_and is_true is_false ≡ 0
 
+abbrev pub IsApart : Planes → Type 0
+IsApart planes = AreApart planes.is_true planes.is_false
+
 -- the answer that two bits stand for: true, false, or unknown where neither is set
 abbrev pub answer_of : ℕ → ℕ → Option Bool
 answer_of is_true is_false =

@@ -3,6 +3,7 @@ ghost use Rattle.std.specs.Prelude.{◌≡◌, ◌&&◌, ◌||◌, Some, None, t
 ghost use Rattle.cfgx_syntax.specs.Logic.{kleene_and, kleene_or, kleene_not};
 
 mod kleene;
+pub mod laws;
 
 pub use kleene::Kleene64;
 

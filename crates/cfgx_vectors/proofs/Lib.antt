@@ -1,2 +1,3 @@
 mod Loan
+pub mod Audited
 pub mod Written

@@ -1,3 +1,4 @@
+pub mod Audits
 pub mod Board
 pub mod Callers
 pub mod Decisions

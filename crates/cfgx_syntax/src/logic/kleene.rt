@@ -2,7 +2,7 @@
 #![tactic(auto, using(crate::proofs::Lanes::lanes))]
 
 ghost use Rattle.std.specs.Prelude.{◌≡◌, ℕ, ◌<◌, Some, true, false};
-ghost use Rattle.cfgx_syntax.specs.Kleene.{AreApart, EachLane, lane};
+ghost use Rattle.cfgx_syntax.specs.Kleene.{AreApart, EachLane, IsApart, lane};
 ghost use Rattle.cfgx_syntax.specs.Kleene.{planes_and, planes_bottom, planes_not, planes_or};
 ghost use Rattle.cfgx_syntax.specs.Kleene.{planes_top};
 ghost use Rattle.cfgx_syntax.specs.Logic.{kleene_and, kleene_not, kleene_or};
@@ -52,6 +52,13 @@ impl Kleene64 {
         ensures { result ≡ self.now.is_false }
     {
         self.is_false
+    }
+
+    // No lane is both: so much of a value is not seen from outside.
+    pub(super) fn is_apart(&self)
+        ensures { IsApart self.now }
+    {
+        let _ = &self.is_true;
     }
 
     /// The answer in lane `i`, which is below 64: `None` where it is unknown.

@@ -1,0 +1,76 @@
+-- What a map between two logics makes of a value is the value of what it makes of the answers.
+use Rattle.std.proofs.Common.{◌≡◌, ◌∙◌, ℕ, ◌<◌, List, [], ◌∷◌, map, refl}
+use Rattle.std.specs.Prelude.{bit_and}
+use Rattle.std.specs.List.{AllByRecursion, AllZip}
+use Rattle.std.proofs.lemmas.Bool.Decides.{Decides-eqb}
+use Rattle.cfgx_syntax.specs.Kleene.{Planes, IsApart, lane}
+use Rattle.cfgx_syntax.proofs.Lanes.{AreApart-and, AreApart-or, AreApart-not}
+use Rattle.cfgx_syntax.proofs.Lanes.{EachLane-and, EachLane-or, EachLane-not}
+use Rattle.cfgx_syntax.proofs.Lanes.{EachLane-top, EachLane-bottom}
+use Rattle.cfgx_grammar.specs.Tree.{Tree}
+use Rattle.cfgx_grammar.specs.Fold.{Operations, fold}
+use Rattle.cfgx_grammar.specs.Filling.{three_valued}
+use Rattle.cfgx_grammar.specs.Mapping.{IsMap, IsByLane, Passes, is_apart, lane_valued}
+use Rattle.cfgx_grammar.proofs.Exactness.{Preserve, fold_kept}
+
+module _ {T U : Type 0} (one : Operations T) (other : Operations U) (Holds : T → Type 0)
+    (to : T → U) (is : IsMap one other Holds to) where
+  -- a value, and what the map makes of it
+  abbrev Becomes : T → U → Type 0
+  Becomes x u = Holds x × (to x ≡ u)
+
+  becomes : Preserve one other Becomes
+  becomes = record {
+    top = is.top;
+    bottom = is.bottom;
+    and = λ x y u v p q. let both = is.and x y p.0 q.0 in
+        (both.0, both.1 ∙ (λ i. other.and (p.1 i) (q.1 i)));
+    or = λ x y u v p q. let both = is.or x y p.0 q.0 in
+        (both.0, both.1 ∙ (λ i. other.or (p.1 i) (q.1 i)));
+    not = λ x u p. let opposite = is.not x p.0 in
+        (opposite.0, opposite.1 ∙ (λ i. other.not (p.1 i)));
+  }
+
+  each-becomes : (answers : List T) → AllByRecursion Holds answers
+      → AllZip Becomes answers (map to answers)
+  each-becomes [] all = tt
+  each-becomes (x ∷ xs) all = ((all.0, refl), each-becomes xs all.1)
+
+  pub fold-mapped : {X : Type 0} (tree : Tree X) (answers : List T) → AllByRecursion Holds answers
+      → to (fold one tree answers) ≡ fold other tree (map to answers)
+  fold-mapped tree answers all = (fold_kept one other Becomes becomes tree answers (map to answers)
+      (each-becomes answers all)).1
+
+-- the answer of a lane
+pub IsMap-lane : (i : ℕ) → i < 64 → IsMap lane_valued three_valued IsApart (lane i)
+IsMap-lane i below = record {
+  top = (refl, EachLane-top i below);
+  bottom = (refl, EachLane-bottom i below);
+  and = λ x y p q. (AreApart-and _ _ _ _ p q, EachLane-and x y p q i below);
+  or = λ x y p q. (AreApart-or _ _ _ _ p q, EachLane-or x y p q i below);
+  not = λ x p. (AreApart-not _ _ p, EachLane-not x p i below);
+}
+
+-- the same of another way to say what is known of a value
+IsMap-same : {T U : Type 0} {one : Operations T} {other : Operations U} {Holds Same : T → Type 0}
+    {to : T → U} → ((x : T) → Holds x → Same x) → ((x : T) → Same x → Holds x)
+    → IsMap one other Holds to → IsMap one other Same to
+IsMap-same there back is = record {
+  top = (there _ is.top.0, is.top.1);
+  bottom = (there _ is.bottom.0, is.bottom.1);
+  and = λ x y p q. let both = is.and x y (back x p) (back y q) in (there _ both.0, both.1);
+  or = λ x y p q. let both = is.or x y (back x p) (back y q) in (there _ both.0, both.1);
+  not = λ x p. let opposite = is.not x (back x p) in (there _ opposite.0, opposite.1);
+}
+
+pub IsMap-lane_passes : (i : ℕ) → i < 64
+    → IsMap lane_valued three_valued (Passes is_apart) (lane i)
+IsMap-lane_passes i below = IsMap-same
+    (λ x. (Decides-eqb (bit_and x.is_true x.is_false) 0).1)
+    (λ x. (Decides-eqb (bit_and x.is_true x.is_false) 0).0)
+    (IsMap-lane i below)
+
+pub IsByLane-fold : {X : Type 0} (tree : Tree X) (answers : List Planes)
+    → AllByRecursion IsApart answers → IsByLane tree answers
+IsByLane-fold tree answers all i below =
+    fold-mapped lane_valued three_valued IsApart (lane i) (IsMap-lane i below) tree answers all

@@ -1,0 +1,123 @@
+-- Answers one after another as the bits of two planes, the first one lowest.
+use Rattle.std.proofs.Common.{◌≡◌, ◌∙◌, ◌+◌, ◌*◌, ◌<◌, ◌≤◌, ◌^◌, ℕ, zero, suc, Bool, true, false}
+use Rattle.std.proofs.Common.{not, List, [], ◌∷◌, ◌++◌, length, map, refl, ap, sym, arith}
+use Rattle.std.specs.Prelude.{if◌then◌else◌}
+use Rattle.std.specs.Int.{bit_at}
+use Rattle.std.specs.List.{slice_get}
+use Rattle.std.proofs.Common.{subst}
+use Rattle.std.proofs.lemmas.List.{append_assoc, length-append, length-map, nil_from_length}
+use Rattle.std.proofs.Math.Nat.{pow-succ'}
+use Rattle.std.proofs.Math.Pow.{pow_mono}
+use Rattle.std.proofs.lemmas.Nat.Bits.{bit_at-zero, bit_at-suc, bit_at_lowest}
+use Rattle.cfgx_syntax.specs.Kleene.{AreApart, EachLane, answer_of}
+use Rattle.cfgx_syntax.proofs.Lanes.{AreApart-from}
+
+abbrev pub digit : Bool → ℕ
+digit b = if b then 1 else 0
+
+abbrev pub bits : List Bool → ℕ
+bits [] = 0
+bits (b ∷ bs) = digit b + 2 * bits bs
+
+bit_at-first : (b : Bool) (n : ℕ) → bit_at (digit b + 2 * n) 0 ≡ digit b
+bit_at-first true n = bit_at_lowest (1 + 2 * n) ∙ omega arith
+bit_at-first false n = bit_at_lowest (0 + 2 * n) ∙ omega arith
+
+bit_at-next : (b : Bool) (n i : ℕ) → bit_at (digit b + 2 * n) (suc i) ≡ bit_at n i
+bit_at-next true n i = bit_at-suc (1 + 2 * n) i ∙ ap (λ m. bit_at m i) (omega arith)
+bit_at-next false n i = bit_at-suc (0 + 2 * n) i ∙ ap (λ m. bit_at m i) (omega arith)
+
+digit-opposite : (b : Bool) → digit b + digit (not b) ≡ 1
+digit-opposite true = refl
+digit-opposite false = refl
+
+answer-digit : (b : Bool) → answer_of (digit b) (digit (not b)) ≡ slice_get (b ∷ []) 0
+answer-digit true = refl
+answer-digit false = refl
+
+-- at most one of both planes has a bit
+bits-apart : (bs : List Bool) (i : ℕ) → bit_at (bits bs) i + bit_at (bits (map not bs)) i ≤ 1
+bits-apart [] i = omega (arith, bit_at-zero i)
+bits-apart (b ∷ bs) zero = omega (arith, bit_at-first b (bits bs),
+    bit_at-first (not b) (bits (map not bs)), digit-opposite b)
+bits-apart (b ∷ bs) (suc i) = omega (arith, bit_at-next b (bits bs) i,
+    bit_at-next (not b) (bits (map not bs)) i, bits-apart bs i)
+
+pub AreApart-bits : (bs : List Bool) → AreApart (bits bs) (bits (map not bs))
+AreApart-bits bs = AreApart-from _ _ (bits-apart bs)
+
+-- the lanes are the answers, and unknown past them
+lane-bits : (bs : List Bool) (i : ℕ)
+    → answer_of (bit_at (bits bs) i) (bit_at (bits (map not bs)) i) ≡ slice_get bs i
+lane-bits [] i = λ j. answer_of (bit_at-zero i j) (bit_at-zero i j)
+lane-bits (b ∷ bs) zero =
+    (λ j. answer_of (bit_at-first b (bits bs) j) (bit_at-first (not b) (bits (map not bs)) j))
+    ∙ answer-digit b
+lane-bits (b ∷ bs) (suc i) =
+    (λ j. answer_of (bit_at-next b (bits bs) i j) (bit_at-next (not b) (bits (map not bs)) i j))
+    ∙ lane-bits bs i
+
+pub EachLane-bits : (bs : List Bool)
+    → EachLane (record { is_true = bits bs; is_false = bits (map not bs) }) (slice_get bs)
+EachLane-bits bs i below = lane-bits bs i
+
+-- so many answers need so many bits
+bits-lt : (bs : List Bool) → bits bs < 2 ^ length bs
+bits-lt [] = omega arith
+bits-lt (true ∷ bs) = omega (arith, bits-lt bs, pow-succ' 2 (length bs))
+bits-lt (false ∷ bs) = omega (arith, bits-lt bs, pow-succ' 2 (length bs))
+
+pub bits-fit : (bs : List Bool) → length bs ≤ 63 → bits bs < 2 ^ 63
+bits-fit bs few = omega (arith, bits-lt bs, pow_mono few)
+
+-- What two planes hold, while answers are added from the last row to the first: those of the rows
+-- that come after the ones that are left.
+pub record Added {T : Type 0} (answer : T → Bool) (rows left : List T) (is_true is_false : ℕ)
+    : Type 0 where
+  pub done : List T
+  pub rows_are : rows ≡ left ++ done
+  pub true_is : is_true ≡ bits (map answer done)
+  pub false_is : is_false ≡ bits (map not (map answer done))
+
+module _ {T : Type 0} {answer : T → Bool} {rows left : List T} {is_true is_false : ℕ} where
+  pub Added-next : (before : List T) (row : T) (t f : ℕ) (given : Bool) → left ≡ before ++ row ∷ []
+      → given ≡ answer row → t ≡ digit given + 2 * is_true → f ≡ digit (not given) + 2 * is_false
+      → Added answer rows left is_true is_false → Added answer rows before t f
+  Added-next before row t f given left_is answers true_is false_is added = record {
+    done = row ∷ added.done;
+    rows_are = added.rows_are ∙ ap (λ l. l ++ added.done) left_is
+        ∙ append_assoc before (row ∷ []) added.done;
+    true_is = true_is ∙ (λ i. digit (answers i) + 2 * added.true_is i);
+    false_is = false_is ∙ (λ i. digit (not (answers i)) + 2 * added.false_is i);
+  }
+
+  -- a row that is left has a bit in both planes
+  pub Added-fit : (before : List T) (row : T) → left ≡ before ++ row ∷ [] → length rows ≤ 64
+      → Added answer rows left is_true is_false → (is_true < 2 ^ 63) × (is_false < 2 ^ 63)
+  Added-fit before row left_is few added =
+      let given = map answer added.done in
+      let below : length given ≤ 63 = omega (
+        arith,
+        few,
+        ap length added.rows_are,
+        length-append left added.done,
+        ap length left_is,
+        length-append before (row ∷ []),
+        length-map added.done answer,
+      ) in
+      let opposite : length (map not given) ≤ 63 = omega (arith, length-map given not, below) in (
+        subst (λ n. n < 2 ^ 63) (sym added.true_is) (bits-fit given below),
+        subst (λ n. n < 2 ^ 63) (sym added.false_is) (bits-fit (map not given) opposite),
+      )
+
+  -- in the end they hold the answers of all rows
+  pub Added-end : length left ≡ 0 → Added answer rows left is_true is_false
+      → AreApart is_true is_false
+      × EachLane (record { is_true = is_true; is_false = is_false }) (slice_get (map answer rows))
+  Added-end none added =
+      let all : rows ≡ added.done = added.rows_are
+      ∙ ap (λ l. l ++ added.done) (nil_from_length left none) in
+      rw (added.true_is, added.false_is, all) (
+        AreApart-bits (map answer added.done),
+        EachLane-bits (map answer added.done),
+      )

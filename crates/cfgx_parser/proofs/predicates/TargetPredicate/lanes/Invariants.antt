@@ -1,0 +1,13 @@
+-- The planes hold the answers of the rows that come after the ones that are left.
+use Rattle.std.proofs.Common.{length}
+use Rattle.cfgx_parser.specs.Predicate.{target_of}
+use Rattle.cfgx_parser.proofs.Lanes.{Added}
+use Rattle.cfgx_parser.proofs.predicates.TargetPredicate.lanes.Given as goal
+
+abbrev pub invariant-loop-row : goal.invariant-loop-row
+invariant-loop-row g l =
+    Added
+        (λ row. g.T.TargetMatcher.answer row (target_of l.self)) l.rows l.left l.is_true l.is_false
+
+abbrev pub decreases-loop-row : goal.decreases-loop-row
+decreases-loop-row g l = length l.left

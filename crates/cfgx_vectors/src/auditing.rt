@@ -1,0 +1,112 @@
+//! An audit of many targets, sixty-four at a time, proved by the contracts of `lanes` and
+//! `eval_lanes` alone.
+ghost use Rattle.std.specs.Prelude.{◌≡◌, ◌++◌, ◌≤◌, length, map, IfOk};
+ghost use Rattle.std.specs.List.{AllZip};
+ghost use Rattle.cfgx_syntax.specs.Stripping.{strip};
+ghost use Rattle.cfgx_grammar.specs.Answer.{HasOneTree};
+ghost use Rattle.cfgx_grammar.specs.Grammar.{HasTree};
+ghost use Rattle.cfgx_grammar.specs.Question.{Question};
+ghost use Rattle.cfgx_grammar.specs.Tree.{Tree, asked};
+ghost use Rattle.cfgx_parser.specs.Predicate.{question_of};
+ghost use Rattle.cfgx_vectors.specs.Audits.{InLanes, first_lanes, verdict};
+
+use cfg_expr::error::Failure;
+use cfg_expr::expr::TargetMatcher;
+use cfg_expr::expr::logic::Kleene64;
+use cfg_expr::{Expression, Predicate};
+use std::alloc::{AllocError, Global};
+
+/// What each row answers to a predicate: nothing is known of one that is not asked of targets.
+pub fn answer_of<T: TargetMatcher>(predicate: &Predicate<'_>, rows: &[T]) -> Kleene64
+    requires { length rows.now ≤ 64 }
+    ensures { InLanes T.answer rows.now (question_of predicate.now) result }
+{
+    match predicate {
+        Predicate::Target(target) => target.lanes(rows),
+        _ => Kleene64::new(0, 0),
+    }
+}
+
+/// What the rows answer to each predicate of the condition.
+pub fn answers_of<T: TargetMatcher>(
+    alloc: Global,
+    expression: &Expression,
+    rows: &[T],
+) -> Result<Vec<Kleene64>, AllocError>
+    requires { length rows.now ≤ 64 }
+    ensures { IfOk result (λ answers. (one : HasOneTree expression.now)
+        × AllZip (InLanes T.answer rows.now) (asked one.tree) answers.items) }
+{
+    let mut answers = Vec::new(alloc);
+    for predicate in expression.predicates() {
+        answers.push(answer_of(&predicate, rows))?;
+    }
+    Ok(answers)
+}
+
+/// Adds what stands in so many lanes.
+fn push_lanes(
+    value: Kleene64,
+    count: usize,
+    verdicts: &mut Vec<Option<bool>>,
+) -> Result<(), AllocError>
+    requires { count ≤ 64 }
+    ensures { IfOk result (λ _. verdicts.new.items
+        ≡ verdicts.old.items ++ first_lanes count value) }
+{
+    for i in 0..count {
+        verdicts.push(value.lane(i))?;
+    }
+    Ok(())
+}
+
+/// Adds the value of the condition for each of at most 64 rows.
+fn push_verdicts<T: TargetMatcher>(
+    alloc: Global,
+    expression: &Expression,
+    rows: &[T],
+    verdicts: &mut Vec<Option<bool>>,
+) -> Result<(), AllocError>
+    requires { length rows.now ≤ 64 }
+    ensures { IfOk result (λ _. (tree : Tree Question) → HasTree expression.now tree
+        → verdicts.new.items ≡ verdicts.old.items ++ map (verdict T.answer tree) rows.now) }
+{
+    let answers = answers_of(alloc, expression, rows)?;
+    let value = expression.eval_lanes(alloc, answers.as_slice())?;
+    push_lanes(value, rows.len(), verdicts)
+}
+
+/// The value of the condition for each row, in pieces of 64 rows.
+fn verdicts_of<T: TargetMatcher>(
+    alloc: Global,
+    expression: &Expression,
+    rows: &[T],
+) -> Result<Vec<Option<bool>>, AllocError>
+    ensures { IfOk result (λ verdicts. (tree : Tree Question) → HasTree expression.now tree
+        → verdicts.items ≡ map (verdict T.answer tree) rows.now) }
+{
+    let mut verdicts = Vec::new(alloc);
+    let mut left = rows;
+    while !left.is_empty() {
+        let (piece, others) = left.split_at(left.len().min(64));
+        push_verdicts(alloc, expression, piece, &mut verdicts)?;
+        left = others;
+    }
+    Ok(verdicts)
+}
+
+/// Which rows make the condition true, which false, and of which that is unknown, since it also
+/// asks for what no target answers.
+///
+/// The error is the fault of the text, or that `alloc` refused memory.
+pub fn audit<T: TargetMatcher>(
+    alloc: Global,
+    text: &str,
+    rows: &[T],
+) -> Result<Vec<Option<bool>>, Failure>
+    ensures { IfOk result (λ verdicts. (one : HasOneTree (strip text.now))
+        × (verdicts.items ≡ map (verdict T.answer one.tree) rows.now)) }
+{
+    let expression = Expression::parse(alloc, text)?;
+    Ok(verdicts_of(alloc, &expression, rows)?)
+}
