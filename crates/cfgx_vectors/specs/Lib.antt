@@ -1,4 +1,5 @@
 pub mod Audits
+pub mod Board
 pub mod Callers
 pub mod Decisions
 pub mod Terms

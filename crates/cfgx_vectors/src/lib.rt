@@ -5,6 +5,7 @@
 #[cfg(test)]
 mod accepted;
 pub mod auditing;
+pub mod calling;
 #[cfg(test)]
 mod commands;
 #[cfg(test)]

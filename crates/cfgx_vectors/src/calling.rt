@@ -1,0 +1,19 @@
+//! The examples of `README.md` and of `docs/CALLING.md`. Each block of Rust of the two pages stands
+//! in one of these files as it is printed, and `.ci/examples` compares them.
+
+pub mod adapters;
+pub mod closures;
+pub mod features;
+pub mod fillings;
+pub mod lexing;
+pub mod logic;
+pub mod matcher;
+pub mod names;
+pub mod program;
+pub mod refusals;
+pub mod running;
+pub mod streams;
+#[cfg(test)]
+mod surface;
+pub mod targets;
+pub mod unknown;

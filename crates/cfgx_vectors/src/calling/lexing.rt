@@ -1,0 +1,21 @@
+//! The tokens of a text.
+
+use cfg_expr::error::Failure;
+use cfg_expr::expr::lexer::{Lexer, LexerToken};
+use std::alloc::Global;
+
+/// Where the last token of a text ends: 0 if it has none.
+pub fn end_of_tokens(alloc: Global, text: &str) -> Result<usize, Failure> {
+    let mut end = 0;
+    let mut lexer = Lexer::new(alloc, text);
+    while let Some(item) = lexer.next() {
+        let LexerToken { span, .. } = item?;
+        end = span.end;
+    }
+    Ok(end)
+}
+
+#[test]
+fn tokens_have_ends(rt: HostRuntime) {
+    assert!(rt; end_of_tokens(rt.alloc(), "key = \"v\" ").ok() == Some(9));
+}

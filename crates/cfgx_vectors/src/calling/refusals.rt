@@ -1,0 +1,19 @@
+//! What a refusal says.
+
+use cfg_expr::Expression;
+use cfg_expr::error::Failure;
+use std::io;
+
+/// Prints what a text is.
+pub fn report(rt: &HostRuntime, text: &str) -> io::Result<()> {
+    match Expression::parse(rt.alloc(), text) {
+        Err(Failure::Parse(fault)) => println!(rt; "{fault}"),
+        Err(Failure::Memory(_)) => println!(rt; "out of memory"),
+        Ok(expression) => println!(rt; "{}", expression.original()),
+    }
+}
+
+#[test]
+fn refusals_are_printed(rt: HostRuntime) {
+    assert!(rt; report(&rt, "all(a, b").is_ok());
+}

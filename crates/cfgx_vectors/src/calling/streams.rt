@@ -1,0 +1,73 @@
+//! Streams of one's own.
+
+ghost use Rattle.std.specs.Prelude.{Some};
+
+use cfgx_engine::engine::{Sink, Source};
+use std::io;
+use std::io::ErrorKind;
+
+/// Bytes that are read, which never fails.
+#[derive(Drop)]
+pub struct Left<'a> {
+    /// Those that are still to come
+    pub left: &'a [u8],
+}
+
+impl Source for Left<'_> {
+    ghost failures = { λ _. 0 };
+
+    ghost unread = { λ source. Some source.left.now };
+
+    fn read(&mut self, buffer: &mut [u8]) -> io::Result<usize> {
+        let count = buffer.len().min(self.left.len());
+        let (front, rest) = self.left.split_at(count);
+        buffer[..count].copy_from_slice(front);
+        self.left = rest;
+        Ok(count)
+    }
+}
+
+/// What was written, kept in memory.
+#[derive(Drop)]
+pub struct Kept {
+    /// The bytes
+    pub bytes: Vec<u8>,
+    /// How many calls failed
+    pub failures: u64,
+}
+
+impl Sink for Kept {
+    ghost failures = { λ sink. sink.failures };
+
+    ghost written = { λ sink. Some sink.bytes.items };
+
+    fn write(&mut self, bytes: &[u8]) -> io::Result<usize> {
+        if self.bytes.extend_from_slice(bytes).is_err() {
+            self.failures += 1;
+            return Err(io::Error::from(ErrorKind::OutOfMemory));
+        }
+        Ok(bytes.len())
+    }
+
+    fn flush(&mut self) -> io::Result<()> {
+        Ok(())
+    }
+}
+
+#[cfg(test)]
+mod tests {
+    use super::{Kept, Left};
+    use cfgx_engine::engine::run;
+
+    #[test]
+    fn the_program_runs_over_them(rt: HostRuntime) {
+        let mut source = Left { left: &[] };
+        let mut sink = Kept {
+            bytes: Vec::new(rt.alloc()),
+            failures: 0,
+        };
+        let words = ["parse", "all(a, any(b), c)"];
+        assert!(rt; run(rt.alloc(), &words, &mut source, &mut sink) == 0);
+        assert!(rt; sink.bytes.as_slice() == b"b\na\nc\n".as_slice());
+    }
+}

@@ -1,0 +1,31 @@
+//! The value on a built-in target.
+
+use cfg_expr::error::Failure;
+use cfg_expr::targets::{TargetTable, get_builtin_target_by_triple};
+use cfg_expr::{Expression, Predicate};
+use std::alloc::Global;
+
+/// The value on a built-in target: `None` if it is unknown, and for any other triple.
+pub fn value_on(alloc: Global, text: &str, triple: &str) -> Result<Option<bool>, Failure> {
+    let table = TargetTable::builtins(alloc)?;
+    let condition = Expression::parse(alloc, text)?;
+    let Some(row) = get_builtin_target_by_triple(&table, triple) else {
+        return Ok(None);
+    };
+    let value = condition.eval(
+        alloc,
+        &mut |asked: &Predicate<'_>| match asked {
+            Predicate::Target(target) => Some(target.matches(row)),
+            _ => None,
+        },
+    )?;
+    Ok(value)
+}
+
+#[test]
+fn a_condition_has_a_value_on_a_target(rt: HostRuntime) {
+    let text = "all(unix, not(target_abi = \"sim\"))";
+    assert!(rt; value_on(rt.alloc(), text, "aarch64-apple-ios").ok() == Some(Some(true)));
+    assert!(rt; value_on(rt.alloc(), text, "aarch64-apple-ios-sim").ok() == Some(Some(false)));
+    assert!(rt; value_on(rt.alloc(), text, "nowhere").ok() == Some(None));
+}
