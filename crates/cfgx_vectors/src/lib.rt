@@ -22,6 +22,8 @@ pub mod filling;
 #[cfg(test)]
 mod holding;
 #[cfg(test)]
+mod lanes;
+#[cfg(test)]
 mod lexer;
 #[cfg(test)]
 mod memory;
