@@ -1,7 +1,8 @@
 -- What a chain of calls says to a caller of `eval`.
-use Rattle.std.proofs.Common.{◌≡◌, ◌≤◌, ℕ, suc, List, [], ◌∷◌, length, map, take, drop, refl, ap}
-use Rattle.std.proofs.Common.{◌∙◌, arith}
-use Rattle.std.specs.Prelude.{fold}
+use Rattle.std.proofs.Common.{◌≡◌, ◌≤◌, ◌+◌, ℕ, min, suc, List, [], ◌∷◌, length, map, take, drop}
+use Rattle.std.proofs.Common.{refl, ap}
+use Rattle.std.proofs.Common.{◌∙◌, arith, subst, sym}
+use Rattle.std.specs.Borrow.{MutBor}
 use Rattle.std.specs.List.{AllZip}
 use Rattle.std.proofs.lemmas.List.{take_all}
 use Rattle.cfgx_grammar.specs.Question.{Question}
@@ -10,8 +11,15 @@ use Rattle.cfgx_grammar.specs.Grammar.{HasTree}
 use Rattle.cfgx_grammar.specs.Tree.{Tree, asked}
 use Rattle.cfgx_grammar.specs.Fold.{Operations, first_or}
 use Rattle.cfgx_grammar.specs.Fold as tree_value
-use Rattle.cfg_expr.specs.Asking.{Asker, Asks, Calls, MayAsk, MayAskEach}
-use Rattle.cfg_expr.specs.Evaluation.{Evaluates}
+use Rattle.cfg_expr.specs.Asking.{AnswersBy, Asker, Asks, Calls}
+use Rattle.cfg_expr.specs.Evaluation.{Evaluates, IsValueBy}
+
+-- each call adds one to what the closure counts in, up to a bound, and counts on in the same place
+abbrev pub AddsOne : {F T : Type 0} → Asker F T → (F → MutBor ℕ) → ℕ → Type 0
+AddsOne {F} {T} asker seen most = (before : F) (question : Question) (given : T) (after : F)
+    → Asks asker before question given after
+    → ((seen after).now ≡ min ((seen before).now + 1) most)
+    × ((seen after).ghost_name ≡ (seen before).ghost_name)
 
 module _ {F T : Type 0} (asker : Asker F T) where
   -- there are as many answers as questions
@@ -21,18 +29,18 @@ module _ {F T : Type 0} (asker : Asker F T) where
   Calls-length _ _ _ _ (Calls.more _ _ _ between questions answers after _ calls) =
       ap suc (Calls-length between questions answers after calls)
 
-  -- where each call gives what a function says of the question, and leaves the state as it was, the
+  -- where no call changes the closure, and each answers what a function says of its question, the
   -- answers are those of the function
-  pub Calls-map : (answer : Question → T)
-      → ((before : F) (question : Question) (given : T) (after : F)
-      → Asks asker before question given after → given ≡ answer question)
-      → (before : F) (questions : List Question) (answers : List T) (after : F)
-      → Calls asker before questions answers after → answers ≡ map answer questions
-  Calls-map answer each _ _ _ _ (Calls.none state) = refl
-  Calls-map answer each _ _ _ _
+  Calls-by : (answer_to : Question → T) (before : F) (questions : List Question)
+      (answers : List T) (after : F) → AnswersBy asker before answer_to
+      → Calls asker before questions answers after → answers ≡ map answer_to questions
+  Calls-by answer_to _ _ _ _ by (Calls.none state) = refl
+  Calls-by answer_to _ _ _ _ by
       (Calls.more before question given between questions answers after asks calls) =
-      let first = each before question given between asks in
-      let others = Calls-map answer each between questions answers after calls in
+      let first = by asks.shown given between asks.called in
+      let given_is = first.1 ∙ ap answer_to asks.shows in
+      let still = subst (λ (state : F). AnswersBy asker state answer_to) (sym first.0) by in
+      let others = Calls-by answer_to between questions answers after still calls in
       cc
 
   -- where each call keeps what holds of the closure, and its answer stands in a relation to its
@@ -48,19 +56,20 @@ module _ {F T : Type 0} (asker : Asker F T) where
       let first = each before question given between holds asks in
       (first.0, Calls-AllZip Holds R each between questions answers after first.1 calls)
 
-  -- where each call takes what is seen of the closure to what a function makes of it and of the
-  -- question, the chain takes it to the fold of that function over the questions
-  pub Calls-folds : {X : Type 0} (seen : F → X) (next : X → Question → X)
-      → ((before : F) (question : Question) (given : T) (after : F)
-      → Asks asker before question given after → seen after ≡ next (seen before) question)
+  -- where each call adds one to what the closure counts in, up to a bound, the chain adds the
+  -- number of questions
+  Calls-count : (seen : F → MutBor ℕ) (most : ℕ) → AddsOne asker seen most
       → (before : F) (questions : List Question) (answers : List T) (after : F)
-      → Calls asker before questions answers after
-      → seen after ≡ fold next (seen before) questions
-  Calls-folds seen next each _ _ _ _ (Calls.none state) = refl
-  Calls-folds seen next each _ _ _ _
+      → (seen before).now ≤ most → Calls asker before questions answers after
+      → ((seen after).now ≡ min ((seen before).now + length questions) most)
+      × ((seen after).ghost_name ≡ (seen before).ghost_name)
+  Calls-count seen most each _ _ _ _ fits (Calls.none state) = (omega arith, refl)
+  Calls-count seen most each _ _ _ _ fits
       (Calls.more before question given between questions answers after asks calls) =
-      Calls-folds seen next each between questions answers after calls
-      ∙ ap (λ x. fold next x questions) (each before question given between asks)
+      let first = each before question given between asks in
+      let others = Calls-count seen most each between questions answers after
+      (omega (arith, first.0)) calls in
+      (omega (arith, first.0, others.0), others.1 ∙ first.1)
 
   -- where each call answers the first one of the answers that are seen of the closure, and takes it
   -- off, the answers are those that are seen in front
@@ -89,14 +98,6 @@ module _ {F T : Type 0} (asker : Asker F T) where
           let same = ap (take (length questions)) left in
           cc
 
-  -- a closure that may be called in every state may be asked any questions
-  pub MayAskEach-always : ((state : F) (question : Question) → MayAsk asker state question)
-      → (state : F) (questions : List Question) → MayAskEach asker state questions
-  MayAskEach-always may state [] = MayAskEach.none state
-  MayAskEach-always may state (question ∷ questions) =
-      MayAskEach.more state question questions (may state question)
-      (λ answer after asks. MayAskEach-always may after questions)
-
 -- there the value is that over all the answers that are seen at the start, if there are as many as
 -- a tree of the text asks
 pub Evaluates-taken : {F T : Type 0} {logic : Operations T} {asker : Asker F T} {text : List ℕ}
@@ -116,14 +117,27 @@ Evaluates-taken {logic} {asker} {before} {after} seen otherwise answers e each a
     let all = take_all (length (asked e.one.tree)) (seen before) (omega arith) in
     (e.one, e.value_is ∙ ap (tree_value.fold logic e.one.tree) (taken ∙ all ∙ are))
 
--- where each call gives what a function says of the question, the value is that of the tree over
--- this function
-pub Evaluates-map : {F T : Type 0} (logic : Operations T) (asker : Asker F T)
-    (answer : Question → T) (text : List ℕ) (before after : F) (value : T)
-    → ((before : F) (question : Question) (given : T) (after : F)
-    → Asks asker before question given after → given ≡ answer question)
-    → (e : Evaluates logic asker text before value after)
-    → value ≡ tree_value.fold logic e.one.tree (map answer (asked e.one.tree))
-Evaluates-map logic asker answer text before after value each e =
-    e.value_is ∙ ap (tree_value.fold logic e.one.tree)
-    (Calls-map asker answer each before (asked e.one.tree) e.answers after e.calls)
+-- where no call changes the closure, the value is that over the function by which it answers
+pub Evaluates-by : {F T : Type 0} {logic : Operations T} {asker : Asker F T} {text : List ℕ}
+    {before after : F} {value : T} → Evaluates logic asker text before value after
+    → (answer_to : Question → T) → AnswersBy asker before answer_to
+    → IsValueBy logic text answer_to value
+Evaluates-by {logic = logic} {asker} {before = before} {after} e answer_to by =
+    let answers = Calls-by asker answer_to before (asked e.one.tree) e.answers after by e.calls in
+    record {
+      one = e.one;
+      value_is = e.value_is ∙ ap (tree_value.fold logic e.one.tree) answers;
+    }
+
+-- where the closure counts its calls from 0 up to a bound, the count is that of the questions
+pub Evaluates-count : {F T : Type 0} {logic : Operations T} {asker : Asker F T} {text : List ℕ}
+    {before after : F} {value : T} {count : ℕ} (seen : F → MutBor ℕ) (most : ℕ)
+    → Evaluates logic asker text before value after
+    → AddsOne asker seen most → (seen before).now ≡ 0
+    → ((seen before).ghost_name ≡ (seen after).ghost_name → count ≡ (seen after).now)
+    → (one : HasOneTree text) × (count ≡ min (length (asked one.tree)) most)
+Evaluates-count {asker = asker} {before = before} {after} seen most e each starts ends =
+    let all = Calls-count asker seen most each before (asked e.one.tree) e.answers after
+    (omega (arith, starts)) e.calls in
+    let is = ends (sym all.1) in
+    (e.one, omega (arith, all.0, starts, is))

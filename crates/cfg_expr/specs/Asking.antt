@@ -1,5 +1,5 @@
 -- How a closure is asked predicates: one call each, in order.
-use Rattle.std.specs.Prelude.{◌≡◌, List, [], ◌∷◌}
+use Rattle.std.specs.Prelude.{◌≡◌, List, [], ◌∷◌, ◌++◌}
 use Rattle.std.specs.Fn.{Mut, Called}
 use Rattle.std.specs.declared.alloc.Global.{Global}
 use denote.Ref.{Bor}
@@ -34,8 +34,14 @@ module _ {F T : Type 0} (asker : Asker F T) where
       → asker.pre state (shown, tt)
 
   -- it may be asked the questions in order, each in every state that the calls before it reach
-  pub data MayAskEach : F → List Question → Type 0 where
-    none : (state : F) → MayAskEach state []
-    more : (state : F) (question : Question) (questions : List Question) → MayAsk state question
-        → ((answer : T) (after : F) → Asks state question answer after → MayAskEach after questions)
-        → MayAskEach state (question ∷ questions)
+  pub record MayAskEach (start : F) (questions : List Question) : Type 0 where
+    pub at : (before : List Question) (question : Question) (after : List Question)
+        (answers : List T) (reached : F) → questions ≡ before ++ question ∷ after
+        → Calls start before answers reached → MayAsk reached question
+
+  -- each call in this state answers what the function says of the question, and leaves the closure
+  -- in this state
+  abbrev pub AnswersBy : F → (Question → T) → Type 0
+  AnswersBy state answer_to = (shown : Bor (Predicate Global)) (answer : T) (after : F)
+      → Called asker state (shown, tt) answer after
+      → (after ≡ state) × (answer ≡ answer_to (question_of shown.now))

@@ -1,5 +1,5 @@
 -- What `Expression::eval` asks and answers.
-use Rattle.std.specs.Prelude.{◌≡◌, ℕ, List}
+use Rattle.std.specs.Prelude.{◌≡◌, ℕ, List, map}
 use Rattle.cfgx_grammar.specs.Question.{Question}
 use Rattle.cfgx_grammar.specs.Tree.{Tree, asked}
 use Rattle.cfgx_grammar.specs.Grammar.{HasTree}
@@ -20,3 +20,9 @@ module _ {F T : Type 0} (logic : Operations T) (asker : Asker F T) where
 abbrev pub MayEvaluate : {F T : Type 0} → Asker F T → List ℕ → F → Type 0
 MayEvaluate asker text state =
     (tree : Tree Question) → HasTree text tree → MayAskEach asker state (asked tree)
+
+-- the value of the text's one tree over what the function says of its questions
+pub record IsValueBy {T : Type 0} (logic : Operations T) (text : List ℕ)
+    (answer_to : Question → T) (value : T) : Type 0 where
+  pub one : HasOneTree text
+  pub value_is : value ≡ fold logic one.tree (map answer_to (asked one.tree))

@@ -5,7 +5,8 @@ ghost use Rattle.cfgx_syntax.specs.Stripping.{strip};
 ghost use Rattle.std.specs.List.{AllByRecursion};
 ghost use Rattle.cfgx_grammar.specs.Given.{AreAnswersTo};
 ghost use Rattle.cfgx_grammar.specs.Answer.{Answers, HasOneTree};
-ghost use Rattle.cfg_expr.specs.Evaluation.{Evaluates, MayEvaluate};
+ghost use Rattle.cfg_expr.specs.Asking.{AnswersBy};
+ghost use Rattle.cfg_expr.specs.Evaluation.{Evaluates, IsValueBy, MayEvaluate};
 ghost use Rattle.cfgx_grammar.specs.Filling.{IsExact, PolarFillings, three_valued};
 ghost use Rattle.cfgx_grammar.specs.Fold.{fold};
 ghost use Rattle.cfgx_grammar.specs.Mapping.{IsByLane, lane_valued};
@@ -145,6 +146,10 @@ impl<A: SmallAllocator> Expression<A> {
         requires { MayEvaluate EP.FnMut self.now ep.old }
         ensures value { IfOk result (λ value.
             Evaluates T.Logic EP.FnMut self.now ep.old value ep.new) }
+        // What follows of a closure that no call changes, as one without state.
+        ensures by { IfOk result (λ value. (answer_to : Question → T)
+            → AnswersBy EP.FnMut ep.old answer_to
+            → IsValueBy T.Logic self.now answer_to value) }
         ensures refused { OnErr result (ep.new ≡ ep.old) }
         ensures short { length self.now ≤ 32 → IsOk result }
     {
@@ -177,11 +182,13 @@ impl<A: SmallAllocator> Expression<A> {
 
     /// The value of the condition in each of 64 lanes, over answers that are there already.
     ///
-    /// There is one answer for each occurrence of a predicate, in the order of `predicates`. They are
-    /// joined as `eval` joins them, so each lane of the value is the value over this lane of the
-    /// answers: of the targets that `TargetPredicate::lanes` is asked of, each one gets its own.
+    /// There is one answer for each occurrence of a predicate, in the order of `predicates`. They
+    /// are joined as `eval` joins them, so each lane of the value is the value over this lane of
+    /// the answers: of the targets that `TargetPredicate::lanes` is asked of, each one gets its
+    /// own.
     ///
-    /// No memory is taken where the text has at most 32 bytes. The error is that `alloc` refused it.
+    /// No memory is taken where the text has at most 32 bytes. The error is that `alloc` refused
+    /// it.
     pub fn eval_lanes(&self, alloc: A, answers: &[Kleene64]) -> Result<Kleene64, AllocError>
         requires { AreAnswersTo answers.now self.now }
         // This holds of all answers to the text's one tree, also where memory runs out.

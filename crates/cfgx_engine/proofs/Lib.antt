@@ -1,4 +1,5 @@
 pub mod FlagLemmas
+pub mod InputLemmas
 pub mod Members
 pub mod OneOutput
 pub mod OutputLemmas

@@ -16,11 +16,11 @@ use Rattle.cfgx_engine.specs.declared.engine.answer.Command.TheVariants as comma
 use Rattle.cfgx_engine.specs.declared.engine.flags.Flags.{Flags}
 
 -- the request of a command, without where its texts lie in memory
-abbrev pub asked_by : Command → Request
-asked_by (command.Parse text) = Request.parse text.now
-asked_by (command.Eval text flags) = Request.eval text.now (texts flags.now)
-asked_by (command.Target triple text) = Request.target triple.now text.now
-asked_by command.WrongUse = Request.wrong_use
+abbrev pub command_request : Command → Request
+command_request (command.Parse text) = Request.parse text.now
+command_request (command.Eval text flags) = Request.eval text.now (texts flags.now)
+command_request (command.Target triple text) = Request.target triple.now text.now
+command_request command.WrongUse = Request.wrong_use
 
 abbrev pub output_of : {A : Type 0} → Answer A → Output
 output_of answer = record { bytes = cow_slice_items answer.bytes; status = answer.status }

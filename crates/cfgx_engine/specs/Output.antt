@@ -67,12 +67,12 @@ pub record Output : Type 0 where
   pub status : ℕ
 
 -- a text and a line feed
-abbrev pub line : List ℕ → List ℕ
-line text = text ++ codes "\n"
+abbrev pub text_line : List ℕ → List ℕ
+text_line text = text ++ codes "\n"
 
 -- one line for each predicate, in order
 abbrev pub lines : List Question → List ℕ
-lines questions = flat_map (λ question. line (spelling question)) questions
+lines questions = flat_map (λ question. text_line (spelling question)) questions
 
 abbrev pub value_text : Option Bool → List ℕ
 value_text (Some true) = codes "true"
@@ -87,13 +87,13 @@ abbrev pub usage : Output
 usage = record { bytes = usage_line; status = 2 }
 
 abbrev pub unknown_triple : Output
-unknown_triple = record { bytes = line (codes "unknown triple"); status = 2 }
+unknown_triple = record { bytes = text_line (codes "unknown triple"); status = 2 }
 
 abbrev pub value_output : Option Bool → Output
-value_output value = record { bytes = line (value_text value); status = 0 }
+value_output value = record { bytes = text_line (value_text value); status = 0 }
 
 abbrev pub fault_output : Fault → Output
-fault_output fault = record { bytes = line (error_text fault); status = 1 }
+fault_output fault = record { bytes = text_line (error_text fault); status = 1 }
 
 -- the first fault of the text is written, which has no tree
 abbrev pub Refuses : List ℕ → Output → Type 0

@@ -9,11 +9,13 @@ mod answer;
 mod flags;
 pub mod laws;
 mod listing;
+mod reading;
 pub mod streams;
 mod target;
 
 use answer::{Answer, answer_to};
 use cfg_expr::memory::SmallAllocator;
+pub use reading::{Input, Stop, read_input};
 use std::alloc::Allocator;
 use streams::write_whole;
 pub use streams::{Counted, Sink, Source};

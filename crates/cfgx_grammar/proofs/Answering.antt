@@ -10,7 +10,7 @@ use Rattle.cfgx_grammar.specs.FirstFault.{HasFault, first_fault}
 use Rattle.cfgx_grammar.specs.Answer.{HasOneTree, HasNoTree, HasOneFault, HasNoFault, IsAccepted}
 use Rattle.cfgx_grammar.specs.Answer.{IsRefused}
 use Rattle.cfgx_grammar.specs.parsing.State.{Builder, State, initial}
-use Rattle.cfgx_grammar.specs.parsing.Step.{and_then, run, conclude, ended_as, answer_from}
+use Rattle.cfgx_grammar.specs.parsing.Step.{and_then, step_each, conclude, ended_as, answer_from}
 use Rattle.cfgx_grammar.proofs.accepted.Steps.{tokens_of, ran, IsTree-accepted}
 use Rattle.cfgx_grammar.proofs.faults.Steps.{EndAgrees}
 use Rattle.cfgx_grammar.proofs.faults.Whole.{whole_agrees}
@@ -66,7 +66,7 @@ module _ {W M L : Type 0} {builder : Builder W M L} (text : List ℕ)
 
   pub tree_of : (u : State builder) → answer ≡ Ok u → (tree : Tree Question) × HasTree text tree
   tree_of u e =
-      let r = ran (run initial one.items) (ended_as text (lexical text one.ending)) u e in
+      let r = ran (step_each initial one.items) (ended_as text (lexical text one.ending)) u e in
       let ended = ended_blank one.ending r.0 u r.2 in
       let found = IsTree-accepted one.items r.0 u (length text) r.1 ended.1 in
       let are : AreItems text one.items Ending.blank =

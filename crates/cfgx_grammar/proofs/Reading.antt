@@ -4,7 +4,7 @@ use Rattle.cfgx_syntax.specs.Error.{Refusal}
 use Rattle.cfgx_syntax.specs.Items.{Item, Ending, Stands, EndsAs, ItemsFrom, lexical}
 use Rattle.cfgx_syntax.proofs.TokenList.{Follows-stands, no_more_items}
 use Rattle.cfgx_grammar.specs.parsing.State.{Builder, State}
-use Rattle.cfgx_grammar.specs.parsing.Step.{and_then, step, run, ended_as, answer_from}
+use Rattle.cfgx_grammar.specs.parsing.Step.{and_then, step, step_each, ended_as, answer_from}
 
 module _ {W M L : Type 0} {builder : Builder W M L} (text : List ℕ) where
   -- what is answered from one place and state on is answered from the other place and state on
@@ -20,7 +20,7 @@ module _ {W M L : Type 0} {builder : Builder W M L} (text : List ℕ) where
       → (items : List Item) (ending : Ending) → ItemsFrom text from items ending
       → (rest : List Item) × ItemsFrom text item.end rest ending
       × (answer_from s text items ending
-      ≡ and_then (ended_as text (lexical text ending)) (and_then (λ u. run u rest) r))
+      ≡ and_then (ended_as text (lexical text ending)) (and_then (λ u. step_each u rest) r))
   at_token from place s t item r c stands steps items ending come =
       let so_far = c.rest_of items ending come in
       let f = Follows-stands text place item so_far.0 ending stands so_far.1 in (
@@ -28,7 +28,7 @@ module _ {W M L : Type 0} {builder : Builder W M L} (text : List ℕ) where
         f.come,
         so_far.2 ∙ ap (λ l. answer_from t text l ending) f.items_are
             ∙ ap (λ q. and_then (ended_as text (lexical text ending))
-            (and_then (λ u. run u f.rest) q)) steps,
+            (and_then (λ u. step_each u f.rest) q)) steps,
       )
 
   pub Continues-step : (from place : ℕ) (s t u : State builder) (item : Item)

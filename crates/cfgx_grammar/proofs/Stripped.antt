@@ -15,7 +15,7 @@ use Rattle.cfgx_grammar.specs.Question.{Question}
 use Rattle.cfgx_grammar.specs.Tree.{Tree}
 use Rattle.cfgx_grammar.specs.Grammar.{HasTree}
 use Rattle.cfgx_grammar.specs.parsing.State.{initial}
-use Rattle.cfgx_grammar.specs.parsing.Step.{run}
+use Rattle.cfgx_grammar.specs.parsing.Step.{step_each}
 use Rattle.cfgx_syntax.proofs.TokenList.{Follows-stands}
 use Rattle.cfgx_grammar.proofs.spelled.Trees.{tree_laws}
 use Rattle.cfgx_grammar.proofs.spelled.Whole.{Finds-tree}
@@ -74,7 +74,8 @@ module _ (text rest : List ℕ) (is : text ≡ codes "cfg(" ++ rest) where
       let items : has.items ≡ word ∷ opening ∷ second.rest = first.items_are
       ∙ ap (λ l. word ∷ l) second.items_are in
       let found = Finds-tree tree_laws 0 has.items tree has.spelled in
-      let runs : run initial (word ∷ opening ∷ second.rest) ≡ Ok found.read = ap (run initial)
+      let runs : step_each initial (word ∷ opening ∷ second.rest) ≡ Ok found.read =
+      ap (step_each initial)
       (sym items) ∙ found.runs in
       absurd (cc)
 

@@ -3,7 +3,7 @@ use Rattle.std.proofs.Common.{◌≡◌, ℕ, List, ◌++◌, Option, None, Some
 use Rattle.std.proofs.Common.{sym, ◌∙◌, append_assoc}
 use Rattle.std.specs.Io.KnownBytes.{Appends}
 use Rattle.std.specs.Prelude.{codes}
-use Rattle.cfgx_grammar.specs.Spelling.{with_value}
+use Rattle.cfgx_grammar.specs.Spelling.{key_and_value}
 use Rattle.cfgx_grammar.specs.Writing.{Takes, TakesFront, Writes}
 
 -- known bytes that grow twice
@@ -53,6 +53,6 @@ writes_second old mid new (Err error) first second taken (left, more) = (
 )
 
 -- a key with a value in two parts
-pub value_parts : (key value : List ℕ) → with_value key value
+pub value_parts : (key value : List ℕ) → key_and_value key value
     ≡ (key ++ codes " = \"") ++ (value ++ codes "\"")
 value_parts key value = sym (append_assoc key (codes " = \"") (value ++ codes "\""))

@@ -1,10 +1,12 @@
 pub mod Answer
 pub mod Classification
+pub mod Depth
 pub mod Filling
 pub mod FirstFault
 pub mod Fold
 pub mod Given
 pub mod Grammar
+pub mod LastPredicate
 pub mod Mapping
 pub mod Matching
 pub mod Neighbours

@@ -6,30 +6,30 @@ use Rattle.cfgx_targets.specs.Endian.{endian_text}
 use Rattle.cfgx_targets.specs.HasAtomic.{atomic_text}
 use Rattle.cfgx_grammar.specs.Question.{Question, TargetQuestion}
 
-abbrev pub with_value : List ℕ → List ℕ → List ℕ
-with_value key value = key ++ (codes " = \"" ++ (value ++ codes "\""))
+abbrev pub key_and_value : List ℕ → List ℕ → List ℕ
+key_and_value key value = key ++ (codes " = \"" ++ (value ++ codes "\""))
 
 abbrev pub target_spelling : TargetQuestion → List ℕ
-target_spelling (TargetQuestion.abi text) = with_value (codes "target_abi") text
-target_spelling (TargetQuestion.arch text) = with_value (codes "target_arch") text
-target_spelling (TargetQuestion.endian endian) = with_value (codes "target_endian")
+target_spelling (TargetQuestion.abi text) = key_and_value (codes "target_abi") text
+target_spelling (TargetQuestion.arch text) = key_and_value (codes "target_arch") text
+target_spelling (TargetQuestion.endian endian) = key_and_value (codes "target_endian")
     (endian_text endian)
-target_spelling (TargetQuestion.env text) = with_value (codes "target_env") text
-target_spelling (TargetQuestion.family text) = with_value (codes "target_family") text
-target_spelling (TargetQuestion.has_atomic atomic) = with_value (codes "target_has_atomic")
+target_spelling (TargetQuestion.env text) = key_and_value (codes "target_env") text
+target_spelling (TargetQuestion.family text) = key_and_value (codes "target_family") text
+target_spelling (TargetQuestion.has_atomic atomic) = key_and_value (codes "target_has_atomic")
     (atomic_text atomic)
-target_spelling (TargetQuestion.os text) = with_value (codes "target_os") text
-target_spelling (TargetQuestion.panic text) = with_value (codes "panic") text
-target_spelling (TargetQuestion.pointer_width width) = with_value (codes "target_pointer_width")
+target_spelling (TargetQuestion.os text) = key_and_value (codes "target_os") text
+target_spelling (TargetQuestion.panic text) = key_and_value (codes "panic") text
+target_spelling (TargetQuestion.pointer_width width) = key_and_value (codes "target_pointer_width")
     (decimal width)
-target_spelling (TargetQuestion.vendor text) = with_value (codes "target_vendor") text
+target_spelling (TargetQuestion.vendor text) = key_and_value (codes "target_vendor") text
 
 abbrev pub spelling : Question → List ℕ
 spelling (Question.target question) = target_spelling question
 spelling Question.test = codes "test"
 spelling Question.debug_assertions = codes "debug_assertions"
 spelling Question.proc_macro = codes "proc_macro"
-spelling (Question.feature text) = with_value (codes "feature") text
-spelling (Question.target_feature text) = with_value (codes "target_feature") text
+spelling (Question.feature text) = key_and_value (codes "feature") text
+spelling (Question.target_feature text) = key_and_value (codes "target_feature") text
 spelling (Question.flag key) = key
-spelling (Question.key_value key value) = with_value key value
+spelling (Question.key_value key value) = key_and_value key value

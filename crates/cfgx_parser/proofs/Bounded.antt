@@ -5,7 +5,7 @@ use Rattle.std.proofs.lemmas.List.{length_push, length-set}
 use Rattle.cfgx_syntax.specs.Token.{Token}
 use Rattle.cfgx_syntax.specs.Items.{Item}
 use Rattle.cfgx_grammar.specs.parsing.State.{Function, Pending}
-use Rattle.cfgx_parser.specs.parsing.State.{Open, State, counted}
+use Rattle.cfgx_parser.specs.parsing.State.{OpenFunction, ParserState, counted}
 use Rattle.cfgx_grammar.specs.parsing.Step.{over_top, one_more, root_more, leaf_ended}
 use Rattle.cfgx_grammar.specs.parsing.Step.{predicate_ended, opened, function_ended, with_parens}
 use Rattle.cfgx_grammar.specs.parsing.Step.{apply, step}
@@ -16,12 +16,12 @@ use Rattle.cfgx_grammar.proofs.accepted.Reads.{ok_same, LeafEnds-ended, same_end
 use Rattle.cfgx_grammar.proofs.accepted.Steps.{Closes-stack, Steps-step}
 
 -- one more item, wherever it is counted
-counted-with_item : (stack : List Open) (roots : ℕ)
+counted-with_item : (stack : List OpenFunction) (roots : ℕ)
     → root_more stack roots + counted_in (over_top one_more stack) ≡ suc (roots + counted_in stack)
 counted-with_item [] roots = omega arith
 counted-with_item (top ∷ rest) roots = omega arith
 
-AreMarked-more : (stack : List Open) (n m k l : ℕ) → n ≤ m → k ≤ l → AreMarked stack n k
+AreMarked-more : (stack : List OpenFunction) (n m k l : ℕ) → n ≤ m → k ≤ l → AreMarked stack n k
     → AreMarked stack m l
 AreMarked-more [] n m k l p q marks = tt
 AreMarked-more (top ∷ rest) n m k l p q marks = (
@@ -30,13 +30,14 @@ AreMarked-more (top ∷ rest) n m k l p q marks = (
   marks.2,
 )
 
-AreMarked-top : (stack : List Open) (n k : ℕ) (f : Open → Open)
-    → ((top : Open) → (f top).mark ≡ top.mark) → AreMarked stack n k
+AreMarked-top : (stack : List OpenFunction) (n k : ℕ) (f : OpenFunction → OpenFunction)
+    → ((top : OpenFunction) → (f top).mark ≡ top.mark) → AreMarked stack n k
     → AreMarked (over_top f stack) n k
 AreMarked-top [] n k f same marks = tt
 AreMarked-top (top ∷ rest) n k f same marks = rw same marks
 
-IsHeld-leaf : (s : State) (predicate : InnerPredicate) → IsHeld s → IsHeld (leaf_ended s predicate)
+IsHeld-leaf : (s : ParserState) (predicate : InnerPredicate) → IsHeld s
+    → IsHeld (leaf_ended s predicate)
 IsHeld-leaf s predicate h =
     let nodes = length_push s.written.nodes (node.Predicate predicate) in
     let leaves = length_push s.written.leaves (length s.written.nodes) in
@@ -48,14 +49,14 @@ IsHeld-leaf s predicate h =
           (AreMarked-top s.stack _ _ one_more (λ top. refl) h.marks);
     }
 
-pub IsHeld-ended : (s t : State) (pending : Option Pending) → s.pending ≡ pending
+pub IsHeld-ended : (s t : ParserState) (pending : Option Pending) → s.pending ≡ pending
     → predicate_ended s ≡ Ok t → IsHeld s → IsHeld t
 IsHeld-ended s t None none ends h = subst IsHeld (same_ended s t none ends) h
 IsHeld-ended s t (Some p) pending ends h =
     let leaf = LeafEnds-ended s t p pending ends in
     subst IsHeld (sym leaf.ended) (IsHeld-leaf s leaf.predicate h)
 
-IsHeld-opened : (s : State) (function : Function) (item : Item) → IsHeld s
+IsHeld-opened : (s : ParserState) (function : Function) (item : Item) → IsHeld s
     → IsHeld (opened s function item)
 IsHeld-opened s function item h =
     let nodes = length_push s.written.nodes (node.Fn (counted function 0) 0) in
@@ -65,7 +66,7 @@ IsHeld-opened s function item h =
           (omega (arith, nodes), omega arith, h.marks);
     }
 
-IsHeld-closed : (t : State) (stack : List Open) → t.stack ≡ stack → IsHeld t
+IsHeld-closed : (t : ParserState) (stack : List OpenFunction) → t.stack ≡ stack → IsHeld t
     → IsHeld (function_ended stack t)
 IsHeld-closed t [] is h = h
 IsHeld-closed t (top ∷ rest) is h =
@@ -83,19 +84,20 @@ IsHeld-closed t (top ∷ rest) is h =
           (AreMarked-top rest _ _ one_more (λ f. refl) marks.2);
     }
 
-counted-parens : (place : ℕ) (stack : List Open)
+counted-parens : (place : ℕ) (stack : List OpenFunction)
     → counted_in (over_top (with_parens place) stack) ≡ counted_in stack
 counted-parens place [] = refl
 counted-parens place (top ∷ rest) = refl
 
-IsHeld-parens : (s : State) (place : ℕ) → IsHeld s
+IsHeld-parens : (s : ParserState) (place : ℕ) → IsHeld s
     → IsHeld (record s { stack = over_top (with_parens place) s.stack })
 IsHeld-parens s place h = record {
   counts = omega (arith, counted-parens place s.stack, h.counts);
   marks = AreMarked-top s.stack _ _ (with_parens place) (λ top. refl) h.marks;
 }
 
-IsHeld-applied : (s u : State) (item : Item) (token : Token) → apply s item token ≡ Ok u → IsHeld s
+IsHeld-applied : (s u : ParserState) (item : Item) (token : Token) → apply s item token ≡ Ok u
+    → IsHeld s
     → IsHeld u
 IsHeld-applied s u item (Token.key text) does h =
     subst IsHeld (ok_same _ u does) (record { counts = h.counts; marks = h.marks })
@@ -116,7 +118,7 @@ IsHeld-applied s u item Token.close_paren does h =
     (IsHeld-ended s c.settled s.pending refl c.ends h))
 IsHeld-applied s u item Token.comma does h = IsHeld-ended s u s.pending refl does h
 
-pub IsHeld-step : (s t : State) (item : Item) → step s item ≡ Ok t → IsHeld s → IsHeld t
+pub IsHeld-step : (s t : ParserState) (item : Item) → step s item ≡ Ok t → IsHeld s → IsHeld t
 IsHeld-step s t item steps h =
     let d = Steps-step s t item steps in
     let applied = IsHeld-applied s d.applied item item.token d.does h in

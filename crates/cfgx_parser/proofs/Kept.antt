@@ -13,11 +13,11 @@ use Rattle.cfgx_grammar.specs.Question.{Question}
 use Rattle.cfgx_grammar.specs.Tree.{Tree, is_function, is_leaf}
 use Rattle.cfgx_grammar.proofs.Answering.{answer, tree_of, FindsTree-tree, HasOneTree-tree}
 use Rattle.cfgx_grammar.proofs.alone.Regular.{all_of_first}
-use Rattle.cfgx_parser.specs.nodes.Keeps.{KeepsTree, Keeps}
+use Rattle.cfgx_parser.specs.nodes.Keeps.{KeepsTree, KeepsOneTree}
 use Rattle.cfgx_parser.specs.nodes.Node.{Written, nothing, with_list_ended}
 use Rattle.cfgx_parser.specs.nodes.Prefix.{node_at, prefix, places}
-use Rattle.cfgx_parser.specs.nodes.Writes.{NodeHasCut, IsPlaced, ArePlaced, Writes}
-use Rattle.cfgx_parser.specs.parsing.State.{State}
+use Rattle.cfgx_parser.specs.nodes.Writes.{NodeHasCut, IsPlaced, ArePlaced, WritesNodes}
+use Rattle.cfgx_parser.specs.parsing.State.{ParserState}
 use Rattle.cfgx_parser.specs.declared.nodes.ExprNode.{ExprNode}
 use Rattle.cfgx_parser.proofs.Sizes.{nodes-bytes}
 use Rattle.cfgx_parser.proofs.spelled.Laws.{node_laws, laws_written}
@@ -38,7 +38,7 @@ placed_at text _ start end spelled inside cut = tt
 
 -- the leaves at the root are the last that are asked
 KeepsTree-writes : (text : List ℕ) (w : Written) (tree : Tree Question)
-    → Writes text nothing w (prefix tree) (if is_leaf tree then 0 ∷ [] else [])
+    → WritesNodes text nothing w (prefix tree) (if is_leaf tree then 0 ∷ [] else [])
     (if is_function tree then places 0 tree else [])
     → KeepsTree text w.nodes (with_list_ended 0 w).asked tree
 KeepsTree-writes text w tree a = record {
@@ -65,9 +65,9 @@ module _ (text : List ℕ) (one : HasOneTokenList text) where
         places items item.end are.1 cuts.1,
       )
 
-  pub Keeps-accepted : (u : State) → answer text one ≡ Ok u
-      → Keeps text u.written.nodes u.written.asked
-  Keeps-accepted u e =
+  pub KeepsOneTree-accepted : (u : ParserState) → answer text one ≡ Ok u
+      → KeepsOneTree text u.written.nodes u.written.asked
+  KeepsOneTree-accepted u e =
       let t = tree_of text one u e in
       let f = FindsTree-tree text one (node_laws text) t.0 t.1 in
       let same : Ok f.found.whole ≡ Ok u = sym f.answers ∙ e in
@@ -86,11 +86,12 @@ module _ (text : List ℕ) (one : HasOneTokenList text) where
       }
 
 -- what is kept of a text is kept of it under another name
-pub Keeps-seen : {text seen : List ℕ} {nodes : List ExprNode} {asks : List ℕ} → text ≡ seen
-    → Keeps text nodes asks → Keeps seen nodes asks
-Keeps-seen {nodes} {asks} is = subst (λ (bytes : List ℕ). Keeps bytes nodes asks) is
+pub KeepsOneTree-seen : {text seen : List ℕ} {nodes : List ExprNode} {asks : List ℕ} → text ≡ seen
+    → KeepsOneTree text nodes asks → KeepsOneTree seen nodes asks
+KeepsOneTree-seen {nodes} {asks} is = subst (λ (bytes : List ℕ). KeepsOneTree bytes nodes asks) is
 
-pub few-nodes : {text : List ℕ} {nodes : List ExprNode} {asks : List ℕ} → Keeps text nodes asks
+pub few-nodes : {text : List ℕ} {nodes : List ExprNode} {asks : List ℕ}
+    → KeepsOneTree text nodes asks
     → length nodes ≤ length text
 few-nodes {text} {nodes} keeps = omega (
   arith,

@@ -11,7 +11,7 @@ use Rattle.cfgx_syntax.specs.declared.error.Failure.TheVariants as failure
 use Rattle.cfgx_syntax.specs.declared.lexer.LexerToken.{LexerToken}
 use Rattle.cfgx_grammar.proofs.Reading.{Continues, Continues-step}
 use Rattle.cfgx_grammar.proofs.Reading.{Continues-refused, Continues-ended}
-use Rattle.cfgx_parser.specs.parsing.State.{State}
+use Rattle.cfgx_parser.specs.parsing.State.{ParserState}
 use Rattle.cfgx_grammar.specs.parsing.Step.{step, conclude, ended_as, answer_from}
 use Rattle.cfgx_parser.specs.parsing.Bounded.{IsHeld, IsBounded}
 use Rattle.cfgx_parser.specs.parsing.Parser.{state_of, FailsAs, Reaches, Gives}
@@ -34,7 +34,7 @@ stands_there lexer now next item text gives =
     subst (λ t. Stands t now.place item) text gives.stands
 
 pub Leads-read : {A : Type 0} (lexer now next : LexerState) (old before after : Parser A)
-    (item : Item) (state : State) → Leads {A = A} lexer now old before
+    (item : Item) (state : ParserState) → Leads {A = A} lexer now old before
     → GivesItem now item next → step (state_of {A = A} before) item ≡ Ok state
     → Reaches {A = A} before after state → Leads {A = A} lexer next old after
 Leads-read {A} lexer now next old before after item state l gives steps reaches =
@@ -56,7 +56,7 @@ Leads-read {A} lexer now next old before after item state l gives steps reaches 
 
 -- a fault of the rest is the fault of the whole
 pub FailsAs-more : {A : Type 0} (text : List ℕ) (failure : Failure A)
-    (part whole : Result State Refusal)
+    (part whole : Result ParserState Refusal)
     → ((refusal : Refusal) → part ≡ Err refusal → whole ≡ Err refusal) → FailsAs text failure part
     → FailsAs text failure whole
 FailsAs-more text (failure.Parse error) part whole more fails =
@@ -100,7 +100,7 @@ ReadsAll-fault {A} lexer now next old before after failure text l gives items en
     (l.text ∙ sym text) (subst (FailsAs now.text failure) (sym answer) fails)
 
 Gives-text : {A : Type 0} (result : Result (Unit {0}) (Failure A)) (before old after : Parser A)
-    (answer : Result State Refusal)
+    (answer : Result ParserState Refusal)
     → before.original.now ≡ old.original.now → Gives {A = A} result before after answer
     → Gives {A = A} result old after answer
 Gives-text {A} (Ok done) before old after answer same gives = (

@@ -8,15 +8,15 @@ use Rattle.cfgx_syntax.specs.Stripping.{strip}
 use Rattle.cfgx_syntax.specs.declared.error.Failure.{Failure}
 use Rattle.cfgx_syntax.specs.declared.error.Failure.TheVariants as failure
 use Rattle.cfgx_grammar.specs.Answer.{Answers, IsAccepted}
-use Rattle.cfgx_parser.specs.nodes.Keeps.{Keeps}
-use Rattle.cfgx_parser.specs.parsing.State.{State}
+use Rattle.cfgx_parser.specs.nodes.Keeps.{KeepsOneTree}
+use Rattle.cfgx_parser.specs.parsing.State.{ParserState}
 use Rattle.cfgx_grammar.specs.parsing.State.{initial}
 use Rattle.cfgx_parser.specs.parsing.Parser.{state_of, FailsAs, Gives, ReadsAll}
 use Rattle.cfgx_grammar.specs.parsing.Step.{answer_from}
 use Rattle.cfgx_parser.specs.declared.parser.Parser.{Parser}
 use Rattle.cfgx_grammar.proofs.Answering.{answer, tree_of, IsAccepted-accepted, IsRefused-refused}
 use Rattle.cfgx_grammar.proofs.Answering.{accepted_or_refused}
-use Rattle.cfgx_parser.proofs.Kept.{Keeps-accepted}
+use Rattle.cfgx_parser.proofs.Kept.{KeepsOneTree-accepted}
 use Rattle.cfgx_grammar.proofs.Stripped.{strip-tree}
 
 -- the start of a text, and of the parser
@@ -62,13 +62,13 @@ Answers-memory text one error result is =
     rw (p.1, p.2) (accepted_or_refused text one)
 
 -- what is accepted
-pub Keeps-reads : {A : Type 0} {text : List ℕ} {lexer : LexerState} {old : Parser A}
+pub KeepsOneTree-reads : {A : Type 0} {text : List ℕ} {lexer : LexerState} {old : Parser A}
     (new : Parser A) → Begins {A = A} text lexer old → ReadsAll {A = A} lexer old new (Ok tt)
-    → Keeps text new.writer.nodes.items new.writer.asked.items
-Keeps-reads {text} new b reads =
+    → KeepsOneTree text new.writer.nodes.items new.writer.asked.items
+KeepsOneTree-reads {text} new b reads =
     let gives = given new (Ok tt) b reads in
-    subst (λ (s : State). Keeps text s.written.nodes s.written.asked) gives.2.is
-    (Keeps-accepted text b.one gives.0 gives.1)
+    subst (λ (s : ParserState). KeepsOneTree text s.written.nodes s.written.asked) gives.2.is
+    (KeepsOneTree-accepted text b.one gives.0 gives.1)
 
 pub IsAccepted-reads : {A : Type 0} {text : List ℕ} {lexer : LexerState} {old : Parser A}
     (new : Parser A) → Begins {A = A} text lexer old → ReadsAll {A = A} lexer old new (Ok tt)

@@ -10,7 +10,7 @@ use Rattle.cfgx_grammar.specs.parsing.Step.{answer_from}
 use Rattle.cfgx_grammar.proofs.worked.Rows.{shallow, nested, single_items}
 use Rattle.cfgx_parser.specs.nodes.Node.{nothing}
 use Rattle.cfgx_parser.specs.nodes.Prefix.{places}
-use Rattle.cfgx_parser.specs.parsing.State.{State}
+use Rattle.cfgx_parser.specs.parsing.State.{ParserState}
 use Rattle.cfgx_parser.specs.declared.function.Func.TheVariants as func
 use Rattle.cfgx_parser.specs.declared.nodes.ExprNode.TheVariants as node
 use Rattle.cfgx_parser.specs.declared.nodes.InnerPredicate.TheVariants as inner
@@ -25,7 +25,7 @@ abbrev span : ℕ → ℕ → Range ℕ
 span start end = record { start = start; end = end }
 
 -- what is left of `all(a)`: two nodes, of which the second is asked
-abbrev single_read : State
+abbrev single_read : ParserState
 single_read = record initial {
   roots = 1;
   last = Some Token.close_paren;

@@ -1,7 +1,7 @@
 //! What a predicate's key and value say, or what is wrong with them and where.
 ghost use Rattle.std.specs.Prelude.{◌≡◌, option_map};
 ghost use Rattle.cfgx_parser.specs.parsing.State.{classified};
-ghost use Rattle.cfgx_parser.specs.parsing.Fields.{word_of, pending_of, answer_of, bare_answer};
+ghost use Rattle.cfgx_parser.specs.parsing.Fields.{word_of, pending_of, class_result, bare_answer};
 ghost use Rattle.cfgx_parser.specs.parsing.Fields.{target_answer, other_answer};
 
 use crate::nodes::{InnerPredicate, InnerTarget, Span};
@@ -27,7 +27,7 @@ pub(crate) type Refused = (Reason, Span);
 
 /// The predicate of a key that stands without a value.
 fn bare(predicate: InnerPredicate, value: Option<Word<'_>>) -> Result<InnerPredicate, Refused>
-    ensures { answer_of result ≡ bare_answer predicate (option_map word_of value.entry) }
+    ensures { class_result result ≡ bare_answer predicate (option_map word_of value.entry) }
 {
     match value {
         None => Ok(predicate),
@@ -37,7 +37,8 @@ fn bare(predicate: InnerPredicate, value: Option<Word<'_>>) -> Result<InnerPredi
 
 /// The predicate of a key that begins with `target_`, by what follows and by its value.
 fn target(which: &str, key: Word<'_>, value: Word<'_>) -> Result<InnerPredicate, Refused>
-    ensures { answer_of result ≡ target_answer which.now (word_of key.entry) (word_of value.entry) }
+    ensures { class_result result ≡ target_answer which.now (word_of key.entry)
+        (word_of value.entry) }
 {
     use InnerPredicate::{Target, TargetFeature};
     use InnerTarget::*;
@@ -69,7 +70,8 @@ fn target(which: &str, key: Word<'_>, value: Word<'_>) -> Result<InnerPredicate,
 
 /// The predicate of a key that is in none of the tables, or that begins with `target_`.
 fn other(key: Word<'_>, value: Option<Word<'_>>) -> Result<InnerPredicate, Refused>
-    ensures { answer_of result ≡ other_answer (word_of key.entry) (option_map word_of value.entry) }
+    ensures { class_result result ≡ other_answer (word_of key.entry)
+        (option_map word_of value.entry) }
 {
     let Some(which) = key.text.strip_prefix("target_") else {
         return Ok(InnerPredicate::Other {
@@ -86,7 +88,7 @@ fn other(key: Word<'_>, value: Option<Word<'_>>) -> Result<InnerPredicate, Refus
 /// The predicate of a key and its value, or what is wrong with them.
 #[tactic(auto, unfolding(cfgx_grammar::specs::Classification::class))]
 pub(crate) fn classify(pending: Pending<'_>) -> Result<InnerPredicate, Refused>
-    ensures { answer_of result ≡ classified (pending_of pending.entry) }
+    ensures { class_result result ≡ classified (pending_of pending.entry) }
 {
     let Pending { key, value } = pending;
     match key.text {

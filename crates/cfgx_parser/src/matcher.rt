@@ -86,8 +86,8 @@ impl<'a, A: Allocator> TargetPredicate<'a, A> {
         target.matches(&self.borrowed())
     }
 
-    /// Whether the predicate is true of each of at most 64 targets, as these answer: lane `i` is the
-    /// answer of row `i`, and the lanes past the rows are unknown. It takes no memory.
+    /// Whether the predicate is true of each of at most 64 targets, as these answer: lane `i` is
+    /// the answer of row `i`, and the lanes past the rows are unknown. It takes no memory.
     pub fn lanes<T: TargetMatcher>(&self, rows: &[T]) -> Kleene64
         requires { length rows.now ≤ 64 }
         ensures { EachLane result

@@ -29,13 +29,13 @@ pub struct Parsed<A: Allocator = Global> {
 
 impl<A: Allocator> Model for Parsed<A> {
     ghost use Rattle.std.specs.Prelude.{List, [], ◌∷◌, ℕ, string_bytes};
-    ghost use Rattle.cfgx_parser.specs.nodes.Keeps.{Keeps};
+    ghost use Rattle.cfgx_parser.specs.nodes.Keeps.{KeepsOneTree};
 
     ghost Value = { List ℕ };
 
     ghost view = { λ p. string_bytes p.original };
 
-    ghost invariant = { λ p. Keeps (string_bytes p.original) p.nodes.items p.asked.items };
+    ghost invariant = { λ p. KeepsOneTree (string_bytes p.original) p.nodes.items p.asked.items };
 }
 
 impl<A: Allocator> Parsed<A> {

@@ -5,7 +5,7 @@ ghost use Rattle.cfgx_syntax.specs.Error.{cause_of, unexpected, FailsWith, fault
 ghost use Rattle.cfgx_syntax.specs.Lexer.{token_of, item_of};
 ghost use Rattle.cfgx_grammar.specs.Neighbours.{next, expected};
 ghost use Rattle.cfgx_parser.specs.nodes.Writer.{Fits, written_of};
-ghost use Rattle.cfgx_parser.specs.parsing.State.{State, counted};
+ghost use Rattle.cfgx_parser.specs.parsing.State.{ParserState, counted};
 ghost use Rattle.cfgx_grammar.specs.FirstFault.{refusal};
 ghost use Rattle.cfgx_grammar.specs.parsing.Step.{over_top, one_more, root_more, with_item};
 ghost use Rattle.cfgx_grammar.specs.parsing.Step.{with_parens, leaf_ended, predicate_ended, opened};

@@ -1,5 +1,7 @@
 //! The widths of the atomics that a target has.
 
+ghost use Rattle.std.specs.Prelude.{◌≡◌, ◌↔◌, IsTrue};
+
 use crate::error::HasAtomicParseError;
 use crate::reading::read_has_atomic;
 use std::alloc::{AllocError, Allocator, Global};
@@ -16,7 +18,7 @@ pub enum HasAtomic {
 
 /// The two ways in which the reading of a width may refuse.
 #[derive(Drop)]
-#[derive_where(Debug)]
+#[derive_where(Debug, PartialEq, Eq)]
 pub enum HasAtomicFailure<A: Allocator = Global> {
     /// The text names no width.
     Parse(HasAtomicParseError<A>),
@@ -78,4 +80,11 @@ impl fmt::Display for HasAtomic {
             HasAtomic::Pointer => f.write_str("ptr"),
         }
     }
+}
+
+// Two refusals are equal if they are of one kind and, for faults, of one text.
+fn are_same_failures<A: Allocator>(one: &HasAtomicFailure<A>, other: &HasAtomicFailure<A>) -> bool
+    ensures { IsTrue result ↔ (one.now ≡ other.now) }
+{
+    one == other
 }

@@ -25,7 +25,7 @@ impl<A: Allocator> Member for Family<'_, A> {
 
 impl<'a, A: Allocator> SortedList<'a, Family<'a, A>, A> {
     /// Whether a member has the text of this family.
-    pub fn contains<B: Allocator>(&self, family: &Family<'_, B>) -> bool
+    pub fn contains(&self, family: &Family<'_>) -> bool
         ensures { IsTrue result ↔ Contains self.now family.now }
     {
         let text = family.as_str();

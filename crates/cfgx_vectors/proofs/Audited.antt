@@ -21,13 +21,15 @@ use Rattle.cfgx_vectors.specs.Audits.{InLanes, answer_by, first_lanes, verdict}
 module _ (R : Question → Planes → Type 0) (all : List Question) where
   -- with answers to the questions that are left, all have one
   abbrev pub Answering : List Question → List Planes → Type 0
-  Answering left answers = (more : List Planes) → AllZip R left more → AllZip R all (answers ++ more)
+  Answering left answers = (more : List Planes) → AllZip R left more
+      → AllZip R all (answers ++ more)
 
   pub Answering-next : (left rest : List Question) (answers new : List Planes)
       (question : Question) (answer : Planes) → left ≡ question ∷ rest
       → new ≡ answers ++ answer ∷ [] → R question answer → Answering left answers
       → Answering rest new
-  Answering-next left rest answers new question answer left_is new_is answers_it so_far more zipped =
+  Answering-next left rest answers new question answer left_is new_is answers_it so_far more
+      zipped =
       subst (AllZip R all)
       (sym (append_assoc answers (answer ∷ []) more) ∙ ap (λ l. l ++ more) (sym new_is))
       (so_far (answer ∷ more) (subst (λ l. AllZip R l (answer ∷ more)) (sym left_is)
@@ -78,7 +80,8 @@ module _ {T : Type 0} (answer : T → TargetQuestion → Bool) (rows : List T) w
       → first_lanes (length rows) value ≡ map (verdict answer tree) rows
   first_lanes-verdicts tree answers value few zipped lanes =
       lanes-rows value (verdict answer tree)
-      (λ i row is. lanes i (omega (arith, few, slice_get_within rows i row is)) ∙ ap (fold three_valued tree)
+      (λ i row is. lanes i (omega (arith, few, slice_get_within rows i row is))
+          ∙ ap (fold three_valued tree)
       (lane-answers i row is (asked tree) answers zipped))
       (length rows) (omega arith)
       ∙ ap (map (verdict answer tree)) (take_all (length rows) rows (omega arith))

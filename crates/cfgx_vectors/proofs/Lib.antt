@@ -1,4 +1,3 @@
 mod Loan
 pub mod Audited
-pub mod Counted
 pub mod Written

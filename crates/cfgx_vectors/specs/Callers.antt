@@ -1,5 +1,5 @@
 -- What the proved callers of `eval` answer.
-use Rattle.std.specs.Prelude.{ℕ, ◌+◌, ◌-◌, ◌^◌, Bool, false, List, codes, min}
+use Rattle.std.specs.Prelude.{ℕ, Bool, false, List, codes}
 use Rattle.std.specs.Borrow.{Bor}
 use Rattle.std.specs.List.{list_any}
 use Rattle.std.specs.Str.{bytes_eq}
@@ -27,7 +27,3 @@ term_of Question.proc_macro = codes "?"
 term_of (Question.feature text) = codes "?"
 term_of (Question.target_feature text) = codes "?"
 term_of (Question.key_value key value) = codes "?"
-
--- one question more, as far as a number counts
-abbrev pub one_more : ℕ → Question → ℕ
-one_more count question = min (count + 1) (2 ^ 64 - 1)

@@ -95,8 +95,8 @@ fn verdicts_of<T: TargetMatcher>(
     Ok(verdicts)
 }
 
-/// Which rows make the condition true, which false, and of which that is unknown, since it also asks
-/// for what no target answers.
+/// Which rows make the condition true, which false, and of which that is unknown, since it also
+/// asks for what no target answers.
 ///
 /// The error is the fault of the text, or that `alloc` refused memory.
 pub fn audit<T: TargetMatcher>(

@@ -1,11 +1,11 @@
 //! Callers of `Expression::eval`, each proved by its contract alone, and values that are known from
 //! outside.
-ghost use Rattle.std.specs.Prelude.{◌≡◌, ◌+◌, ◌^◌, ◌*◌, ◌%◌, ◌-◌, length, map, min, IfOk};
+ghost use Rattle.std.specs.Prelude.{◌≡◌, ◌+◌, ◌^◌, ◌*◌, ◌%◌, ◌-◌, length, min, IfOk};
 ghost use Rattle.cfgx_grammar.specs.Answer.{HasOneTree};
-ghost use Rattle.cfgx_grammar.specs.Fold.{fold};
 ghost use Rattle.cfgx_parser.specs.Predicate.{question_of};
 ghost use Rattle.cfgx_grammar.specs.Tree.{asked};
-ghost use Rattle.cfgx_vectors.specs.Callers.{is_among, one_more, term_of};
+ghost use Rattle.cfg_expr.specs.Evaluation.{IsValueBy};
+ghost use Rattle.cfgx_vectors.specs.Callers.{is_among, term_of};
 
 pub mod terms;
 
@@ -30,12 +30,13 @@ pub fn value_with_flags(
     expression: &Expression,
     flags: &[&str],
 ) -> Result<bool, AllocError>
-    ensures { IfOk result (λ value. (one : HasOneTree expression.now) × (value
-        ≡ fold ⟦<bool as Logic>⟧ one.tree (map (is_among flags.now) (asked one.tree)))) }
+    ensures { IfOk result
+        (IsValueBy ⟦<bool as Logic>⟧ expression.now (is_among flags.now)) }
 {
-    let mut answer = |predicate: &Predicate<'_>| is_among(flags, predicate);
-    let value: bool = expression.eval(alloc, &mut answer)?;
-    Ok(value)
+    expression.eval(
+        alloc,
+        &mut |predicate: &Predicate<'_>| is_among(flags, predicate),
+    )
 }
 
 /// The term of a predicate: its name, where it is a bare key of no other meaning, and else `?`.
@@ -50,12 +51,9 @@ fn term_of(predicate: &Predicate<'_>) -> Terms
 
 /// How a condition joins its predicates, written down.
 pub fn terms_of(alloc: Global, expression: &Expression) -> Result<Terms, AllocError>
-    ensures { IfOk result (λ terms. (one : HasOneTree expression.now) × (terms
-        ≡ fold ⟦<Terms as Logic>⟧ one.tree (map term_of (asked one.tree)))) }
+    ensures { IfOk result (IsValueBy ⟦<Terms as Logic>⟧ expression.now term_of) }
 {
-    let mut answer = |predicate: &Predicate<'_>| term_of(predicate);
-    let terms: Terms = expression.eval(alloc, &mut answer)?;
-    Ok(terms)
+    expression.eval(alloc, &mut |predicate: &Predicate<'_>| term_of(predicate))
 }
 
 /// How many questions the value of a condition takes.

@@ -1,30 +1,38 @@
 -- A closure that is asked one question after another.
-use Rattle.std.proofs.Common.{◌≡◌, ℕ, List, [], ◌∷◌, set, Option, Some, refl, sym, ◌∙◌, subst}
+use Rattle.std.proofs.Common.{◌≡◌, ℕ, List, [], ◌∷◌, set, refl, sym, ◌∙◌, ap, subst}
 use Rattle.cfgx_grammar.specs.Question.{Question}
 use Rattle.cfg_expr.specs.Asking.{Asker, Asks, Calls, MayAsk, MayAskEach}
 use Rattle.cfgx_grammar.specs.Tree.{Tree, asked}
 use Rattle.cfgx_parser.specs.nodes.Prefix.{places}
+use Rattle.cfg_expr.specs.declared.expr.evaluating.Member.{Member}
+use Rattle.cfg_expr.specs.declared.expr.evaluating.Member.TheVariants as member
 use Rattle.cfg_expr.specs.nodes.Answers.{at_start, Standing, standing, Ends, Leads, with_answers}
 
 module _ {F T : Type 0} (asker : Asker F T) where
   MayAsk-first : {state : F} {question : Question} {questions : List Question}
       → MayAskEach asker state (question ∷ questions) → MayAsk asker state question
-  MayAsk-first (MayAskEach.more state question questions may rest) = may
+  MayAsk-first {state} {question} {questions} may =
+      may.at [] question questions [] state refl (Calls.none state)
 
   MayAskEach-rest : {state : F} {question : Question} {questions : List Question}
       → MayAskEach asker state (question ∷ questions) → (answer : T) (after : F)
       → Asks asker state question answer after → MayAskEach asker after questions
-  MayAskEach-rest (MayAskEach.more state question questions may rest) = rest
+  MayAskEach-rest {state} {question} {questions} may answer after asks = record {
+    at = λ before next others answers reached is calls.
+        may.at (question ∷ before) next others (answer ∷ answers) reached
+            (ap (λ l. question ∷ l) is)
+        (Calls.more state question answer after before answers reached asks calls);
+  }
 
 module _ {F T : Type 0} {asker : Asker F T} {start : Standing F T} {closure : F}
     {question : Question} {questions others : List Question} {places : List ℕ}
-    {slots : List (Option T)} (is : others ≡ question ∷ questions)
+    {slots : List (Member T)} (is : others ≡ question ∷ questions)
     (leads : Leads asker start (standing closure others places slots)) where
   pub Leads-may : MayAskEach asker start.closure start.questions
       → MayAsk asker closure question
   Leads-may may = MayAsk-first asker (subst (MayAskEach asker closure) is (leads.may may))
 
-  Leads-step : {answer : T} {after : F} (rest : List ℕ) (new : List (Option T))
+  Leads-step : {answer : T} {after : F} (rest : List ℕ) (new : List (Member T))
       → Asks asker closure question answer after
       → ((answers : List T) → with_answers new rest answers
       ≡ with_answers slots places (answer ∷ answers))
@@ -41,9 +49,9 @@ module _ {F T : Type 0} {asker : Asker F T} {start : Standing F T} {closure : F}
   }
 
   -- the answer is put at the next place
-  pub Leads-put : {answer : T} {after : F} {place : ℕ} {rest : List ℕ} {new : List (Option T)}
+  pub Leads-put : {answer : T} {after : F} {place : ℕ} {rest : List ℕ} {new : List (Member T)}
       → Asks asker closure question answer after → places ≡ place ∷ rest
-      → new ≡ set slots place (Some answer)
+      → new ≡ set slots place (member.Leaf answer)
       → Leads asker start (standing after questions rest new)
   Leads-put {answer} {after} {place} {rest} {new} asks next put =
       Leads-step rest new asks (λ answers. rw (next, put) refl)
@@ -61,7 +69,7 @@ Leads-start start = record { leads = λ after slots ends. ends; may = λ may. ma
 
 -- with all asked, the whole is over
 pub Ends-asked : {F T : Type 0} {asker : Asker F T} {start : Standing F T} {closure : F}
-    {questions : List Question} {places : List ℕ} {slots : List (Option T)} → questions ≡ []
+    {questions : List Question} {places : List ℕ} {slots : List (Member T)} → questions ≡ []
     → Leads asker start (standing closure questions places slots) → Ends asker start closure slots
 Ends-asked {asker = asker} {closure = closure} {places = places} {slots = slots} none leads =
     leads.leads closure slots (record {
@@ -76,7 +84,7 @@ Ends-asked {asker = asker} {closure = closure} {places = places} {slots = slots}
 
 -- the start, as it is known
 pub Ends-start : {F T : Type 0} {asker : Asker F T} {before after : F} (tree : Tree Question)
-    {questions : List Question} {asks : List ℕ} {slots found : List (Option T)}
+    {questions : List Question} {asks : List ℕ} {slots found : List (Member T)}
     → questions ≡ asked tree → asks ≡ places 0 tree
     → Ends asker (standing before questions asks slots) after found
     → Ends asker (at_start before tree slots) after found

@@ -1,7 +1,7 @@
 -- Answers that are put at the places of a tree's leaves, in the order in which it asks, stand there
 -- as its nodes do.
 use Rattle.std.proofs.Common.{◌≡◌, ℕ, ◌+◌, List, [], ◌∷◌, ◌++◌, length, map, set}
-use Rattle.std.proofs.Common.{Option, Some, None, replicate, refl, sym, ap, ◌∙◌, arith}
+use Rattle.std.proofs.Common.{refl, sym, ap, ◌∙◌, arith}
 use Rattle.std.proofs.Common.{append_assoc, length-append}
 use Rattle.std.proofs.lemmas.List.{append-nil, length-map, map-append, set_at}
 use Rattle.cfgx_grammar.specs.Tree.{Tree, Trees, is_function, is_leaf, asked, asked_by}
@@ -12,39 +12,41 @@ use Rattle.cfgx_parser.specs.nodes.Prefix.{Node, prefix, prefix_each}
 use Rattle.cfgx_parser.specs.nodes.Prefix.{own_places, places, inner_places}
 use Rattle.cfgx_parser.specs.nodes.Shape.{shape_of}
 use Rattle.cfgx_parser.proofs.Shapes.{length-shape, places-shape, shapes-shape}
-use Rattle.cfg_expr.specs.nodes.Answers.{with_answers}
-use Rattle.cfg_expr.specs.nodes.Reading.{read}
+use Rattle.cfg_expr.specs.nodes.Answers.{no_answers, with_answers}
+use Rattle.cfg_expr.specs.nodes.Reading.{Member, read}
+use Rattle.cfg_expr.specs.declared.expr.evaluating.Member.TheVariants as member
 use Rattle.cfg_expr.proofs.evaluated.Read.{slot_of, entry, read-whole}
 
 module _ {T : Type 0} where
-  with_answers-append : (slots : List (Option T)) (ps qs : List ℕ) (xs ys : List T)
+  with_answers-append : (slots : List (Member T)) (ps qs : List ℕ) (xs ys : List T)
       → length ps ≡ length xs → with_answers slots (ps ++ qs) (xs ++ ys)
       ≡ with_answers (with_answers slots ps xs) qs ys
   with_answers-append slots [] qs [] ys many = refl
   with_answers-append slots [] qs (x ∷ xs) ys many = absurd (omega arith)
   with_answers-append slots (p ∷ ps) qs [] ys many = absurd (omega arith)
   with_answers-append slots (p ∷ ps) qs (x ∷ xs) ys many =
-      with_answers-append (set slots p (Some x)) ps qs xs ys (omega arith)
+      with_answers-append (set slots p (member.Leaf x)) ps qs xs ys (omega arith)
 
   -- the answers put at the places make one part of a list, which begins at `at`, into another
-  record Fills (at : ℕ) (before : List (Option T)) (ps : List ℕ) (xs : List T)
-      (after : List (Option T)) : Type 0 where
+  record Fills (at : ℕ) (before : List (Member T)) (ps : List ℕ) (xs : List T)
+      (after : List (Member T)) : Type 0 where
     many : length ps ≡ length xs
-    fills : (front back : List (Option T)) → length front ≡ at
+    fills : (front back : List (Member T)) → length front ≡ at
         → with_answers (front ++ (before ++ back)) ps xs ≡ front ++ (after ++ back)
 
   -- nothing is put
-  Fills-none : (at : ℕ) (part : List (Option T)) → Fills at part [] [] part
+  Fills-none : (at : ℕ) (part : List (Member T)) → Fills at part [] [] part
   Fills-none at part = record { many = refl; fills = λ front back is. refl }
 
-  Fills-one : (at : ℕ) (x : T) → Fills at (None ∷ []) (at ∷ []) (x ∷ []) (Some x ∷ [])
+  Fills-one : (at : ℕ) (x : T) → Fills at (member.Joined ∷ []) (at ∷ []) (x ∷ [])
+      (member.Leaf x ∷ [])
   Fills-one at x = record {
     many = refl;
-    fills = λ front back is. set_at front None back (Some x) at is;
+    fills = λ front back is. set_at front member.Joined back (member.Leaf x) at is;
   }
 
   -- one part behind the other
-  Fills-both : {at next : ℕ} {before others after rest : List (Option T)} {ps qs : List ℕ}
+  Fills-both : {at next : ℕ} {before others after rest : List (Member T)} {ps qs : List ℕ}
       {xs ys : List T} → Fills at before ps xs after → at + length after ≡ next
       → Fills next others qs ys rest
       → Fills at (before ++ others) (ps ++ qs) (xs ++ ys) (after ++ rest)
@@ -65,7 +67,7 @@ module _ {T : Type 0} where
       }
 
   -- one after the other
-  Fills-then : {at : ℕ} {before between after : List (Option T)} {ps qs : List ℕ} {xs ys : List T}
+  Fills-then : {at : ℕ} {before between after : List (Member T)} {ps qs : List ℕ} {xs ys : List T}
       → Fills at before ps xs between → Fills at between qs ys after
       → Fills at before (ps ++ qs) (xs ++ ys) after
   Fills-then {at} {before} {between} {after} {ps} {qs} {xs} {ys} first second = record {
@@ -78,19 +80,19 @@ module _ {T : Type 0} where
   }
 
   -- no answer at any node, and all the answers
-  abbrev no_slot : Node T → Option T
-  no_slot node = None
+  abbrev no_slot : Node T → Member T
+  no_slot node = member.Joined
 
-  abbrev blank : List (Node T) → List (Option T)
+  abbrev blank : List (Node T) → List (Member T)
   blank = map no_slot
 
-  abbrev slots : List (Node T) → List (Option T)
+  abbrev slots : List (Node T) → List (Member T)
   slots = map slot_of
 
   -- the answers of those members that are functions
-  abbrev halves : Trees T → List (Option T)
+  abbrev halves : Trees T → List (Member T)
   halves Trees.none = []
-  halves (Trees.more (Tree.leaf x) trees) = None ∷ halves trees
+  halves (Trees.more (Tree.leaf x) trees) = member.Joined ∷ halves trees
   halves (Trees.more tree trees) = slots (prefix tree) ++ halves trees
 
   abbrev FillsTree : ℕ → Tree T → Type 0
@@ -107,9 +109,10 @@ module _ {T : Type 0} where
       (slots (prefix_each trees))
 
   -- a function's own node has no answer
-  Fills-headed : {at : ℕ} {before after : List (Option T)} {ps : List ℕ} {xs : List T}
-      → Fills (at + 1) before ps xs after → Fills at (None ∷ before) ps xs (None ∷ after)
-  Fills-headed {at} inner = Fills-both (Fills-none at (None ∷ [])) refl inner
+  Fills-headed : {at : ℕ} {before after : List (Member T)} {ps : List ℕ} {xs : List T}
+      → Fills (at + 1) before ps xs after
+      → Fills at (member.Joined ∷ before) ps xs (member.Joined ∷ after)
+  Fills-headed {at} inner = Fills-both (Fills-none at (member.Joined ∷ [])) refl inner
 
   mutual
     fills-tree : (tree : Tree T) (at : ℕ) → FillsTree at tree
@@ -139,11 +142,11 @@ module _ {T : Type 0} where
         (Fills-both (Fills-none at (slots first)) (ap (λ n. at + n) (length-map first slot_of))
         (fills-own trees (at + length first)))
 
-  blank-replicate : (nodes : List (Node T)) → blank nodes ≡ replicate (length nodes) None
+  blank-replicate : (nodes : List (Node T)) → blank nodes ≡ no_answers (length nodes)
   blank-replicate [] = refl
-  blank-replicate (node ∷ nodes) = ap (λ l. None ∷ l) (blank-replicate nodes)
+  blank-replicate (node ∷ nodes) = ap (λ l. member.Joined ∷ l) (blank-replicate nodes)
 
-  placed : (tree : Tree T) → with_answers (replicate (length (prefix tree)) None) (places 0 tree)
+  placed : (tree : Tree T) → with_answers (no_answers (length (prefix tree))) (places 0 tree)
       (asked tree) ≡ slots (prefix tree)
   placed tree =
       let whole = (fills-tree tree 0).fills [] [] refl in
@@ -157,13 +160,13 @@ module _ {T : Type 0} where
 pub read-placed : {X T : Type 0} (logic : Operations T) (tree : Tree X) (answers : List T)
     → length answers ≡ length (asked tree)
     → read logic (map shape_of (prefix tree))
-    (with_answers (replicate (length (prefix tree)) None) (places 0 tree) answers) []
+    (with_answers (no_answers (length (prefix tree))) (places 0 tree) answers)
     ≡ entry logic (answered logic.top tree answers) ∷ []
 read-placed {T = T} logic tree answers many =
     let given = answered logic.top tree answers in
     let shape = answered-shape logic.top tree answers in
     let asks = asked-answered logic.top tree answers many in
-    let blanks : List (Option T) = replicate (length (prefix tree)) None in
+    let blanks : List (Member T) = no_answers (length (prefix tree)) in
     let put : with_answers blanks (places 0 tree) answers ≡ slots (prefix given) =
     ap (with_answers blanks (places 0 tree)) (sym asks)
     ∙ rw (length-shape tree given shape, places-shape tree given shape) (placed given) in

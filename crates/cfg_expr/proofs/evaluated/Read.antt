@@ -1,26 +1,27 @@
 -- The nodes of a tree whose leaves are answers, read from the last to the first, leave its value.
-use Rattle.std.proofs.Common.{◌≡◌, ◌++◌, true, false, List, [], ◌∷◌, length, map, take, drop}
-use Rattle.std.proofs.Common.{Option}
-use Rattle.std.proofs.Common.{Some, None, suc, sym, refl, ap, ◌∙◌, append_assoc, take_at}
-use Rattle.std.proofs.Common.{drop_at}
-use Rattle.std.proofs.lemmas.List.{append-nil, length-map, map-append}
+use Rattle.std.proofs.Common.{◌≡◌, ◌+◌, ◌-◌, ◌≤◌, ◌<◌, ◌++◌, ℕ, true, false, List, [], ◌∷◌}
+use Rattle.std.proofs.Common.{length, map, take, drop, get_or, Option, Some, None, suc, sym, refl}
+use Rattle.std.proofs.Common.{ap, ◌∙◌, arith, append_assoc, take_at, drop_at, subst, set, min}
+use Rattle.std.proofs.Common.{⊎_elim}
+use Rattle.std.proofs.Common.{length-append}
+use Rattle.std.proofs.lemmas.Bool.{cases_lt}
+use Rattle.std.proofs.lemmas.Grind.{drop-set_at}
+use Rattle.std.proofs.lemmas.List.{length-take, take_all}
+use Rattle.std.proofs.lemmas.List.{append-nil, map-append, drop_more, drop_all}
 use Rattle.cfgx_grammar.specs.Tree.{Tree, Trees, is_function, is_leaf, count}
 use Rattle.cfgx_grammar.specs.Fold.{Operations, value_of, values_by}
 use Rattle.cfgx_parser.specs.nodes.Prefix.{Node, prefix, prefix_each}
-use Rattle.cfgx_parser.specs.nodes.Shape.{shape, shape_of}
-use Rattle.cfgx_parser.specs.declared.nodes.ExprNode.{ExprNode}
-use Rattle.smallvec.specs.SmallVec.{SmallVec}
-use Rattle.std.specs.Option.{IsSome, option_flatten, option_to_list}
-use Rattle.std.proofs.Common.{◌+◌, ◌<◌, ◌≤◌, reverse, arith, length-append}
+use Rattle.cfgx_parser.specs.nodes.Shape.{shape_of}
 use Rattle.cfgx_parser.specs.declared.function.Func.{Func}
-use Rattle.cfgx_parser.specs.declared.function.Func.TheVariants.{Not}
-use Rattle.cfg_expr.specs.nodes.Reading.{Member, any_value, values_in, put, read}
+use Rattle.cfgx_parser.specs.declared.function.Func.TheVariants.{Not, All, Any}
+use Rattle.cfg_expr.specs.nodes.Reading.{Member, any_value, values_in, made, put, read, arity}
 use Rattle.cfg_expr.specs.declared.expr.evaluating.Member.TheVariants as member
+use Rattle.cfg_expr.proofs.evaluated.Joined.{front-last, front-less}
 
--- what stands at the place of a node: the answer of a leaf
-abbrev pub slot_of : {T : Type 0} → Node T → Option T
-slot_of (Node.leaf answer) = Some answer
-slot_of (Node.function func len) = None
+-- what stands in the slot of a node: the answer of a leaf
+abbrev pub slot_of : {T : Type 0} → Node T → Member T
+slot_of (Node.leaf answer) = member.Leaf answer
+slot_of (Node.function func len) = member.Joined
 
 module _ {T : Type 0} (logic : Operations T) where
   -- a tree on the stack
@@ -46,43 +47,43 @@ module _ {T : Type 0} (logic : Operations T) where
       let others = values-entries trees in
       (ap (λ l. value_of logic tree ∷ l) others.0, others.1)
 
+  -- it is the value of the tree
+  pub value-entry : (tree : Tree T) → any_value (entry tree) ≡ Some (value_of logic tree)
+  value-entry (Tree.leaf answer) = refl
+  value-entry tree = refl
+
   -- the nodes in front of these read onto what these leave
   abbrev Reads : List (Node T) → List (Member T) → Type 0
-  Reads nodes members = (shapes : List (Option Func)) (slots : List (Option T))
-      (stack : List (Member T)) → read logic (map shape_of nodes ++ shapes)
-      (map slot_of nodes ++ slots) stack ≡ members ++ read logic shapes slots stack
+  Reads nodes members = (shapes : List (Option Func)) (slots : List (Member T))
+      → read logic (map shape_of nodes ++ shapes) (map slot_of nodes ++ slots)
+      ≡ members ++ read logic shapes slots
 
   -- a function takes its members off
-  joined-entries : (trees : Trees T) (rest : List (Member T)) → let all = entries trees ++ rest in
-      (values_in true (take (count trees) all) ++ values_in false (take (count trees) all)
-      ≡ values_by logic is_function trees ++ values_by logic is_leaf trees)
-      × (drop (count trees) all ≡ rest)
-  joined-entries trees rest =
-      let values = values-entries trees in (
-        rw (
-          take_at (entries trees) rest (count trees) (length-entries trees),
-          values.0,
-          values.1,
-        ) refl,
-        drop_at (entries trees) rest (count trees) (length-entries trees),
-      )
+  put-function : (func : Func) (members rest : List (Member T)) → length members ≡ arity func
+      → put logic (Some func) member.Joined (members ++ rest) ≡ made logic func members ∷ rest
+  put-function func members rest many =
+      rw (take_at members rest (arity func) many, drop_at members rest (arity func) many) refl
 
   mutual
     read-tree : (tree : Tree T) → Reads (prefix tree) (entry tree ∷ [])
-    read-tree (Tree.leaf answer) shapes slots stack = refl
-    read-tree (Tree.all trees) shapes slots stack =
-        let members = joined-entries trees (read logic shapes slots stack) in
-        rw (read-each trees shapes slots stack, members.0, members.1) refl
-    read-tree (Tree.any trees) shapes slots stack =
-        let members = joined-entries trees (read logic shapes slots stack) in
-        rw (read-each trees shapes slots stack, members.0, members.1) refl
-    read-tree (Tree.not (Tree.leaf answer)) shapes slots stack = refl
-    read-tree (Tree.not tree) shapes slots stack =
-        ap (put logic (Some Not) None) (read-tree tree shapes slots stack)
+    read-tree (Tree.leaf answer) shapes slots = refl
+    read-tree (Tree.all trees) shapes slots =
+        let values = values-entries trees in
+        rw (read-each trees shapes slots)
+        (put-function (All (count trees)) (entries trees) _ (length-entries trees)
+        ∙ rw (values.0, values.1) refl)
+    read-tree (Tree.any trees) shapes slots =
+        let values = values-entries trees in
+        rw (read-each trees shapes slots)
+        (put-function (Any (count trees)) (entries trees) _ (length-entries trees)
+        ∙ rw (values.0, values.1) refl)
+    read-tree (Tree.not tree) shapes slots =
+        rw (read-tree tree shapes slots)
+        (put-function Not (entry tree ∷ []) _ refl ∙ rw (value-entry tree) refl)
 
     read-each : (trees : Trees T) → Reads (prefix_each trees) (entries trees)
-    read-each Trees.none shapes slots stack = refl
-    read-each (Trees.more tree trees) shapes slots stack =
+    read-each Trees.none shapes slots = refl
+    read-each (Trees.more tree trees) shapes slots =
         let first = prefix tree in
         let rest = prefix_each trees in
         rw (
@@ -90,78 +91,86 @@ module _ {T : Type 0} (logic : Operations T) where
           map-append slot_of first rest,
           append_assoc (map shape_of first) (map shape_of rest) shapes,
           append_assoc (map slot_of first) (map slot_of rest) slots,
-        ) (read-tree tree (map shape_of rest ++ shapes) (map slot_of rest ++ slots) stack
-        ∙ ap (λ l. entry tree ∷ l) (read-each trees shapes slots stack))
+        ) (read-tree tree (map shape_of rest ++ shapes) (map slot_of rest ++ slots)
+        ∙ ap (λ l. entry tree ∷ l) (read-each trees shapes slots))
 
   pub read-whole : (tree : Tree T) → read logic (map shape_of (prefix tree))
-      (map slot_of (prefix tree)) [] ≡ entry tree ∷ []
+      (map slot_of (prefix tree)) ≡ entry tree ∷ []
   read-whole tree =
-      ap (λ l. read logic l (map slot_of (prefix tree)) []) (sym (append-nil _))
-      ∙ ap (λ l. read logic (map shape_of (prefix tree) ++ []) l []) (sym (append-nil _))
-      ∙ read-tree tree [] [] []
+      ap (λ l. read logic l (map slot_of (prefix tree))) (sym (append-nil _))
+      ∙ ap (λ l. read logic (map shape_of (prefix tree) ++ []) l) (sym (append-nil _))
+      ∙ read-tree tree [] []
 
-  -- it is the value of the tree
-  pub value-entry : (tree : Tree T) → any_value (entry tree) ≡ Some (value_of logic tree)
-  value-entry (Tree.leaf answer) = refl
-  value-entry tree = refl
+-- The nodes from the place on are read: the stack, with its top, and the slots in front.
+pub record Reading {T : Type 0} (logic : Operations T) (shapes : List (Option Func))
+    (old : List (Member T)) (place top : ℕ) (slots : List (Member T)) : Type 0 where
+  pub many : length old ≡ length shapes
+  pub kept : length slots ≡ length old
+  pub below : place ≤ top
+  pub within : top ≤ length slots
+  pub stack : drop top slots ≡ read logic (drop place shapes) (drop place old)
+  pub front : take place slots ≡ take place old
 
--- The last of some nodes is the first to be read.
+pub Reading-start : {T : Type 0} (logic : Operations T) (shapes : List (Option Func))
+    (old : List (Member T)) → length old ≡ length shapes
+    → Reading logic shapes old (length shapes) (length old) old
+Reading-start logic shapes old many = record {
+  many = many;
+  kept = refl;
+  below = omega (arith, many);
+  within = omega arith;
+  stack = rw (
+    drop_all (length old) old (omega arith),
+    drop_all (length shapes) shapes (omega arith),
+  ) refl;
+  front = refl;
+}
 
-read-last : {T : Type 0} (logic : Operations T) (shapes : List (Option Func))
-    (slots : List (Option T)) (shape : Option Func) (slot : Option T) (stack : List (Member T))
-    → length shapes ≡ length slots → read logic (shapes ++ shape ∷ []) (slots ++ slot ∷ []) stack
-    ≡ read logic shapes slots (put logic shape slot stack)
-read-last logic [] [] shape slot stack many = refl
-read-last logic [] (first ∷ slots) shape slot stack many = absurd (omega arith)
-read-last logic (first ∷ shapes) [] shape slot stack many = absurd (omega arith)
-read-last logic (one ∷ shapes) (first ∷ slots) shape slot stack many =
-    ap (put logic one first) (read-last logic shapes slots shape slot stack (omega arith))
-
--- what is to be read, and what it leaves; there is room for it
-pub record Reading {T : Type 0} (logic : Operations T) (nodes : List ExprNode)
-    (slots : List (Option T)) (stack : SmallVec (Member T)) (whole : List (Member T)) : Type 0 where
-  pub many : length slots ≡ length nodes
-  pub room : length stack.items + length nodes ≤ stack.capacity
-  pub reads : read logic (map shape nodes) slots (reverse stack.items) ≡ whole
-
--- the last answer, which is there
-last_slot : {T : Type 0} (slots rest : List (Option T)) (last : Option (Option T))
-    (answer : Option T)
-    → slots ≡ rest ++ option_to_list last → 0 < length slots
-    → (0 < length slots → IsSome last) → answer ≡ option_flatten last → slots ≡ rest ++ answer ∷ []
-last_slot slots rest None answer is some found flat =
-    let none = found some in absurd (cc none)
-last_slot slots rest (Some last) answer is some found flat = rw flat is
-
-pub Reading-next : {T : Type 0} (logic : Operations T) {nodes before : List ExprNode}
-    (node : ExprNode) {slots rest : List (Option T)} (last : Option (Option T)) {answer : Option T}
-    {stack new : SmallVec (Member T)} {whole : List (Member T)} → nodes ≡ before ++ node ∷ []
-    → slots ≡ rest ++ option_to_list last → (0 < length slots → IsSome last)
-    → answer ≡ option_flatten last
-    → reverse new.items ≡ put logic (shape node) answer (reverse stack.items)
-    → length new.items ≤ length stack.items + 1 → new.capacity ≡ stack.capacity
-    → Reading logic nodes slots stack whole → Reading logic before rest new whole
-Reading-next logic {nodes} {before} node {slots} {rest} last {answer} {stack} {new} is taken
-    found flat put_is more same reading =
-    let some : 0 < length slots =
-    omega (arith, reading.many, ap length is, length-append before (node ∷ [])) in
-    let slots_are = last_slot slots rest last answer taken some found flat in
-    let many : length rest ≡ length before =
-    omega (
-      arith,
-      reading.many,
-      ap length is,
-      ap length slots_are,
-      length-append before (node ∷ []),
-      length-append rest (answer ∷ []),
-    ) in
-    let shapes : map shape nodes ≡ map shape before ++ shape node ∷ [] =
-    ap (map shape) is ∙ map-append shape before (node ∷ []) in
+pub Reading-next : {T : Type 0} {logic : Operations T} {shapes : List (Option Func)}
+    {old slots new : List (Member T)} {after place top next : ℕ} {shape : Option Func}
+    (otherwise : Member T) → after ≡ place + 1 → place < length shapes
+    → shape ≡ get_or shapes place None → Reading logic shapes old after top slots
+    → drop next new ≡ put logic shape (get_or slots place otherwise) (drop top slots)
+    → take place new ≡ take place slots → (place ≤ next) × (next ≤ length new)
+    → length new ≡ length slots → Reading logic shapes old place next new
+Reading-next {logic = logic} {shapes = shapes} {old = old} {slots = slots} {new = new}
+    {place = place} {top = top} otherwise one_more inside is before stack front within same =
+    let reading = subst (λ at. Reading logic shapes old at top slots) one_more before in
+    let one = front-last place otherwise old slots reading.front in
+    let here = drop_more shapes place None inside in
+    let there = drop_more old place otherwise (omega (arith, reading.many)) in
     record {
-      many = many;
-      room = omega (arith, reading.room, ap length is, length-append before (node ∷ []));
-      reads = ap (read logic (map shape before) rest) put_is
-          ∙ sym (read-last logic (map shape before) rest (shape node) answer (reverse stack.items)
-          (length-map before shape ∙ sym many))
-          ∙ rw (sym shapes, sym slots_are) reading.reads;
+      many = reading.many;
+      kept = same ∙ reading.kept;
+      below = within.0;
+      within = within.1;
+      stack = stack ∙ rw (reading.stack, one, is, here, there) refl;
+      front = front ∙ front-less place old slots reading.front;
     }
+
+-- as many members as a function takes, or as many as there are
+pub part-top : {X : Type 0} (n k : ℕ) (stack : List X) → k ≡ min n (length stack)
+    → (take k stack ≡ take n stack) × (drop k stack ≡ drop n stack)
+part-top n k stack is =
+    ⊎_elim
+    (λ few. let all : k ≡ length stack = omega (arith, is) in (
+      take_all k stack (omega (arith, all)) ∙ sym (take_all n stack (omega (arith, few))),
+      drop_all k stack (omega (arith, all)) ∙ sym (drop_all n stack (omega (arith, few))),
+    ))
+    (λ enough. let same : k ≡ n = omega (arith, is) in
+    (ap (λ m. take m stack) same, ap (λ m. drop m stack) same))
+    (cases_lt (length stack) n)
+
+-- one member in the last place of a part that ends at `end`, in front of the rest
+pub part-joined : {X : Type 0} (top end : ℕ) (items part rest : List X) (member : X)
+    → top ≤ length items → top + length part ≡ end → 0 < end
+    → drop (end - 1) (set (take top items ++ (part ++ rest)) (end - 1) member) ≡ member ∷ rest
+part-joined top end items part rest member within many some =
+    let fronts = length-take top items in
+    let front : length (take top items ++ part) ≡ end =
+    omega (arith, length-append (take top items) part, fronts, many) in
+    rw (sym (append_assoc (take top items) part rest))
+    (drop-set_at _ (end - 1) (end - 1) member refl
+    (omega (arith, length-append (take top items ++ part) rest, front))
+    ∙ ap (λ n. member ∷ drop n ((take top items ++ part) ++ rest)) (omega arith)
+    ∙ ap (λ l. member ∷ l) (drop_at _ rest end front))

@@ -1,7 +1,7 @@
 -- Nodes that are read from the last to the first, over a stack of the trees that no function has
 -- joined yet, the first one on top. Source: Polish notation, whose functions stand in front of
 -- their members.
-use Rattle.std.specs.Prelude.{◌++◌, Bool, true, false, List, [], ◌∷◌, take, drop}
+use Rattle.std.specs.Prelude.{◌++◌, ℕ, Bool, true, false, List, [], ◌∷◌, take, drop}
 use Rattle.std.specs.Prelude.{Option, Some, None, option_map}
 use Rattle.std.specs.List.{filter_map}
 use Rattle.cfgx_grammar.specs.Fold.{Operations, from_last}
@@ -62,29 +62,31 @@ abbrev pub top_value : {T : Type 0} → List (Member T) → Option T
 top_value [] = None
 top_value (top ∷ rest) = any_value top
 
-abbrev pub leaf_of : {T : Type 0} → Option T → Member T
-leaf_of None = member.Joined
-leaf_of (Some value) = member.Leaf value
+abbrev pub function_member : {T : Type 0} → Option T → Member T
+function_member None = member.Joined
+function_member (Some value) = member.Function value
 
-abbrev pub function_of : {T : Type 0} → Option T → Member T
-function_of None = member.Joined
-function_of (Some value) = member.Function value
+-- how many members a function takes off the stack, and what it makes of them
+abbrev pub arity : Func → ℕ
+arity Not = 1
+arity (All count) = count
+arity (Any count) = count
 
--- the stack with a node in the place of its members
-abbrev pub put : {T : Type 0} → Operations T → Option Func → Option T → List (Member T)
+abbrev pub made : {T : Type 0} → Operations T → Func → List (Member T) → Member T
+made logic Not members = function_member (option_map logic.not (top_value members))
+made logic (All count) members = member.Function (joined logic And members)
+made logic (Any count) members = member.Function (joined logic Or members)
+
+-- the stack with a leaf, or with a function in the place of its members
+abbrev pub put : {T : Type 0} → Operations T → Option Func → Member T → List (Member T)
     → List (Member T)
-put logic None answer stack = leaf_of answer ∷ stack
-put logic (Some Not) answer stack = function_of (option_map logic.not (top_value stack))
-    ∷ drop 1 stack
-put logic (Some (All count)) answer stack = member.Function (joined logic And (take count stack))
-    ∷ drop count stack
-put logic (Some (Any count)) answer stack = member.Function (joined logic Or (take count stack))
-    ∷ drop count stack
+put logic None leaf stack = leaf ∷ stack
+put logic (Some func) blank stack = made logic func (take (arity func) stack)
+    ∷ drop (arity func) stack
 
--- the stack with the nodes read, each with what stands at its place
-abbrev pub read : {T : Type 0} → Operations T → List (Option Func) → List (Option T)
-    → List (Member T) → List (Member T)
-read logic [] slots stack = stack
-read logic (shape ∷ shapes) [] stack = stack
-read logic (shape ∷ shapes) (slot ∷ slots) stack = put logic shape slot
-    (read logic shapes slots stack)
+-- the stack that the nodes leave, each with what stands in its slot
+abbrev pub read : {T : Type 0} → Operations T → List (Option Func) → List (Member T)
+    → List (Member T)
+read logic [] slots = []
+read logic (shape ∷ shapes) [] = []
+read logic (shape ∷ shapes) (slot ∷ slots) = put logic shape slot (read logic shapes slots)

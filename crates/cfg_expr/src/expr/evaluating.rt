@@ -2,9 +2,14 @@
 //! place of its node. Then the nodes are read from the last to the first with one stack: a leaf
 //! puts its answer on it, and a function puts there, in the place of its members, which are on top,
 //! what they make. What is left on the stack is the value.
-ghost use Rattle.std.specs.Prelude.{◌≡◌, ◌+◌, ◌≤◌, ◌∷◌, length, map, reverse, replicate, set};
-ghost use Rattle.std.specs.Prelude.{drop, take, fold, Some, None, IfOk, IsSomeAnd, OnErr, IsOk};
-ghost use Rattle.smallvec.specs.SmallVec.{HasRoomFor, small_vec_len};
+//!
+//! Answers and stack share one slot for each node. The answers that are still to be read stand in
+//! front, and the stack at the back, with its top in front: it has at most one member for each node
+//! that was read.
+ghost use Rattle.std.specs.Prelude.{◌≡◌, ◌<◌, ◌≤◌, length, map, replicate, set, get_or, take, drop};
+ghost use Rattle.std.specs.Prelude.{◌+◌, ◌∷◌, ℕ};
+ghost use Rattle.cfgx_grammar.specs.Fold.{from_last};
+ghost use Rattle.std.specs.Prelude.{Some, IfOk, OnErr, IsOk};
 ghost use Rattle.cfgx_grammar.specs.Answer.{HasOneTree};
 ghost use Rattle.cfgx_grammar.specs.Fold as tree_value;
 ghost use Rattle.cfgx_grammar.specs.Given.{AreAnswersTo};
@@ -12,9 +17,11 @@ ghost use Rattle.cfgx_parser.specs.nodes.Shape.{shape};
 ghost use Rattle.cfgx_parser.specs.Predicate.{question_of};
 ghost use Rattle.cfg_expr.specs.Asking.{Asks, MayAsk};
 ghost use Rattle.cfg_expr.specs.Evaluation.{Evaluates, MayEvaluate};
-ghost use Rattle.cfg_expr.specs.nodes.Answers.{Ends, IsReady, at_start, with_answers};
+ghost use Rattle.cfg_expr.specs.nodes.Answers.{Ends, Holds, at_start, with_answers};
 ghost use Rattle.cfg_expr.specs.nodes.Reading.{begin_of, join_of, join_value, values_in, taken};
-ghost use Rattle.cfg_expr.specs.nodes.Reading.{any_value, value_in, joined, put, read, top_value};
+ghost use Rattle.cfg_expr.specs.nodes.Reading.{any_value, value_in, joined, made, put, read};
+ghost use Rattle.cfg_expr.specs.nodes.Reading.{top_value, arity};
+ghost use Rattle.cfg_expr.specs.declared.expr.evaluating.Member.TheVariants as member;
 
 use super::Func;
 use crate::memory::SmallAllocator;
@@ -26,62 +33,6 @@ use smallvec::SmallVec;
 use std::alloc::{AllocError, Allocator};
 use std::mem;
 
-/// What the closure answers.
-fn ask<EP, T>(predicate: Predicate<'_>, ep: &mut EP) -> T
-where
-    EP: FnMut(&Predicate<'_>) -> T,
-    requires { MayAsk EP.FnMut ep.old (question_of predicate) }
-    ensures { Asks EP.FnMut ep.old (question_of predicate.entry) result ep.new }
-{
-    ep(&predicate)
-}
-
-/// Puts an answer at a place.
-fn put_answer<T: Logic, A: Allocator>(
-    answers: &mut SmallVec<Option<T>, 33, &A>,
-    place: usize,
-    answer: T,
-)
-    ensures { answers.new.items ≡ set answers.old.items place (Some answer) }
-{
-    if place < answers.len() {
-        answers[place] = Some(answer);
-    }
-}
-
-/// Asks each predicate, in order, and puts its answer at its place among the nodes.
-fn ask_each<EP, T, A>(parsed: &Parsed<A>, answers: &mut SmallVec<Option<T>, 33, &A>, ep: &mut EP)
-where
-    EP: FnMut(&Predicate<'_>) -> T,
-    T: Logic,
-    A: SmallAllocator,
-    requires { MayEvaluate EP.FnMut parsed.now ep.old }
-    ensures { (one : HasOneTree parsed.now)
-        × Ends EP.FnMut (at_start ep.old one.tree answers.old.items) ep.new answers.new.items }
-{
-    let mut places = parsed.places().iter();
-    for predicate in parsed.predicates() {
-        let answer = ask(predicate, ep);
-        if let Some(place) = places.next() {
-            put_answer(answers, *place, answer);
-        }
-    }
-}
-
-/// Puts answers that are there already at their places among the nodes.
-fn put_each<T: Logic + Copy, A: Allocator>(
-    places: &[usize],
-    given: &[T],
-    answers: &mut SmallVec<Option<T>, 33, &A>,
-)
-    requires { length places.now ≡ length given.now }
-    ensures { answers.new.items ≡ with_answers answers.old.items places.now given.now }
-{
-    for (place, answer) in places.iter().zip(given) {
-        put_answer(answers, *place, *answer);
-    }
-}
-
 /// A tree that was read, by its value.
 #[derive(Drop)]
 pub(crate) enum Member<T> {
@@ -89,12 +40,16 @@ pub(crate) enum Member<T> {
     Leaf(T),
     /// A function, likewise
     Function(T),
-    /// It was joined
+    /// It was joined, or there is no answer yet
     Joined,
 }
 
 impl<T> Default for Member<T> {
-    fn default() -> Self {
+    ghost use Rattle.cfg_expr.specs.declared.expr.evaluating.Member.TheVariants as member;
+
+    fn default() -> Self
+        ensures { result ≡ member.Joined }
+    {
         Member::Joined
     }
 }
@@ -108,6 +63,66 @@ impl<T> Member<T> {
             Member::Leaf(value) | Member::Function(value) => Some(value),
             Member::Joined => None,
         }
+    }
+
+    /// Takes the value, if the member is of the kind: a function, or a leaf.
+    fn take_kind(&mut self, functions: bool) -> Option<T>
+        ensures value { result ≡ value_in functions self.old }
+        ensures left { self.new ≡ taken functions self.old }
+    {
+        match self {
+            Member::Leaf(_) if !functions => mem::replace(self, Member::Joined).value(),
+            Member::Function(_) if functions => mem::replace(self, Member::Joined).value(),
+            _ => None,
+        }
+    }
+}
+
+/// What the closure answers.
+fn ask<EP, T>(predicate: Predicate<'_>, ep: &mut EP) -> T
+where
+    EP: FnMut(&Predicate<'_>) -> T,
+    requires { MayAsk EP.FnMut ep.old (question_of predicate) }
+    ensures { Asks EP.FnMut ep.old (question_of predicate.entry) result ep.new }
+{
+    ep(&predicate)
+}
+
+/// Puts a member at a place, if there is that place.
+fn put_member<T: Logic>(member: Member<T>, place: usize, slots: &mut [Member<T>])
+    ensures { slots.new ≡ set slots.old place member }
+{
+    if place < slots.len() {
+        slots[place] = member;
+    }
+}
+
+/// Asks each predicate, in order, and puts its answer at its place among the nodes.
+fn ask_each<EP, T, A>(parsed: &Parsed<A>, slots: &mut [Member<T>], ep: &mut EP)
+where
+    EP: FnMut(&Predicate<'_>) -> T,
+    T: Logic,
+    A: SmallAllocator,
+    requires { MayEvaluate EP.FnMut parsed.now ep.old }
+    ensures { (one : HasOneTree parsed.now)
+        × Ends EP.FnMut (at_start ep.old one.tree slots.old) ep.new slots.new }
+{
+    let mut places = parsed.places().iter();
+    for predicate in parsed.predicates() {
+        let answer = ask(predicate, ep);
+        if let Some(place) = places.next() {
+            put_member(Member::Leaf(answer), *place, slots);
+        }
+    }
+}
+
+/// Puts answers that are there already at their places among the nodes.
+fn put_each<T: Logic + Copy>(places: &[usize], given: &[T], slots: &mut [Member<T>])
+    requires { length places.now ≡ length given.now }
+    ensures { slots.new ≡ with_answers slots.old places.now given.now }
+{
+    for (place, answer) in places.iter().zip(given) {
+        put_member(Member::Leaf(*answer), *place, slots);
     }
 }
 
@@ -144,171 +159,159 @@ impl Connective {
             ≡ join_value (join_of T.Logic self) value (value_in functions member.old) }
         ensures member { member.new ≡ taken functions member.old }
     {
-        match mem::replace(member, Member::Joined) {
-            Member::Leaf(last) if !functions => self.join(value, last),
-            Member::Function(last) if functions => self.join(value, last),
-            other => {
-                *member = other;
-                value
-            }
+        match member.take_kind(functions) {
+            Some(last) => self.join(value, last),
+            None => value,
         }
     }
 
-    /// Joins to the value the members that are functions, or those that are leaves.
+    /// Joins to the value the members that are functions, or those that are leaves, from the last
+    /// back.
     fn join_kind<T: Logic>(self, value: T, members: &mut [Member<T>], functions: bool) -> T
         ensures value { result
-            ≡ fold (join_of T.Logic self) value (values_in functions members.old) }
+            ≡ from_last (join_of T.Logic self) value (values_in functions members.old) }
         ensures members { members.new ≡ map (taken functions) members.old }
     {
         let mut value = value;
-        for place in 0..members.len() {
+        for place in (0..members.len()).rev() {
             value = self.join_one(value, &mut members[place], functions);
         }
         value
     }
 
-    /// Joins the members, of which the last stands first: the leaves, and then the functions.
+    /// Joins the members: from the last back, the leaves, and then the functions.
     fn join_all<T: Logic>(self, members: &mut [Member<T>]) -> T
-        ensures { result ≡ joined T.Logic self (reverse members.old) }
+        ensures { result ≡ joined T.Logic self members.old }
     {
         let leaves = self.join_kind(self.begin(), members, false);
         self.join_kind(leaves, members, true)
     }
 }
 
-/// Takes off the members of a function, this many, and joins them.
-fn join_top<T: Logic, A: Allocator>(
-    connective: Connective,
-    count: usize,
-    stack: &mut SmallVec<Member<T>, 33, &A>,
-) -> T
-    ensures value { result
-        ≡ joined T.Logic connective (take count (reverse stack.old.items)) }
-    ensures rest { reverse stack.new.items ≡ drop count (reverse stack.old.items) }
-    ensures fewer { small_vec_len stack.new ≤ small_vec_len stack.old }
-    ensures capacity { stack.new.capacity ≡ stack.old.capacity }
-{
-    let start = stack.len().saturating_sub(count);
-    let value = connective.join_all(&mut stack.as_mut_slice()[start..]);
-    stack.truncate(start);
-    value
-}
-
 /// Takes the value off that is on top.
-fn pop_value<T: Logic, A: Allocator>(stack: &mut SmallVec<Member<T>, 33, &A>) -> Option<T>
-    ensures value { result ≡ top_value (reverse stack.old.items) }
-    ensures rest { reverse stack.new.items ≡ drop 1 (reverse stack.old.items) }
-    ensures fewer { small_vec_len stack.new ≤ small_vec_len stack.old }
-    ensures capacity { stack.new.capacity ≡ stack.old.capacity }
+fn take_top<T>(stack: &mut [Member<T>]) -> Option<T>
+    ensures { result ≡ top_value stack.old }
 {
-    stack.pop()?.value()
+    mem::replace(stack.first_mut()?, Member::Joined).value()
 }
 
-/// Puts a member on the stack.
-fn push_member<T: Logic, A: Allocator>(member: Member<T>, stack: &mut SmallVec<Member<T>, 33, &A>)
-    requires { HasRoomFor stack.old 1 }
-    ensures stack { reverse stack.new.items ≡ member ∷ reverse stack.old.items }
-    ensures more { small_vec_len stack.new ≡ small_vec_len stack.old + 1 }
-    ensures capacity { stack.new.capacity ≡ stack.old.capacity }
+/// How many members a function takes off the stack.
+fn number_of(func: &Func) -> usize
+    ensures { result ≡ arity func.now }
 {
-    stack.push_reserved(member);
-}
-
-/// Reads a node: puts it on the stack, in the place of its members.
-fn read_node<T: Logic, A: Allocator>(
-    node: &ExprNode,
-    answer: Option<T>,
-    stack: &mut SmallVec<Member<T>, 33, &A>,
-)
-    requires { HasRoomFor stack.old 1 }
-    ensures stack { reverse stack.new.items
-        ≡ put T.Logic (shape node.now) answer (reverse stack.old.items) }
-    ensures more { small_vec_len stack.new ≤ small_vec_len stack.old + 1 }
-    ensures capacity { stack.new.capacity ≡ stack.old.capacity }
-{
-    let ExprNode::Fn { func, .. } = node else {
-        return push_member(answer.map_or(Member::Joined, Member::Leaf), stack);
-    };
-    let value = match func {
-        Func::Not => pop_value(stack).map(|value| value.not()),
-        Func::All(count) => Some(join_top(Connective::And, *count, stack)),
-        Func::Any(count) => Some(join_top(Connective::Or, *count, stack)),
-    };
-    push_member(value.map_or(Member::Joined, Member::Function), stack);
-}
-
-/// Reads the nodes from the last to the first, each with the answer at its place.
-fn read_all<T: Logic, A: Allocator>(
-    nodes: &[ExprNode],
-    answers: &mut SmallVec<Option<T>, 33, &A>,
-    stack: &mut SmallVec<Member<T>, 33, &A>,
-)
-    requires answers { small_vec_len answers.old ≡ length nodes.now }
-    requires room { small_vec_len stack.old + length nodes.now ≤ stack.old.capacity }
-    ensures { reverse stack.new.items ≡ read T.Logic (map shape nodes.now) answers.old.items
-        (reverse stack.old.items) }
-{
-    let mut left = nodes;
-    while let Some((node, before)) = left.split_last() {
-        let answer = answers.pop().flatten();
-        read_node(node, answer, stack);
-        left = before;
+    match func {
+        Func::Not => 1,
+        Func::All(count) | Func::Any(count) => *count,
     }
 }
 
-/// What the nodes with their answers leave on the stack: one value.
-fn read_value<T: Logic, A: Allocator>(
-    nodes: &[ExprNode],
-    answers: &mut SmallVec<Option<T>, 33, &A>,
-    stack: &mut SmallVec<Member<T>, 33, &A>,
-) -> Option<T>
-    requires answers { small_vec_len answers.old ≡ length nodes.now }
-    requires room { small_vec_len stack.old + length nodes.now ≤ stack.old.capacity }
-    ensures { result ≡ top_value (read T.Logic (map shape nodes.now) answers.old.items
-        (reverse stack.old.items)) }
+/// What a function makes of its members.
+fn make<T: Logic>(func: &Func, members: &mut [Member<T>]) -> Member<T>
+    ensures { result ≡ made T.Logic func.now members.old }
 {
-    read_all(nodes, answers, stack);
-    pop_value(stack)
+    match func {
+        Func::Not => match take_top(members) {
+            Some(value) => Member::Function(value.not()),
+            None => Member::Joined,
+        },
+        Func::All(_) => Member::Function(Connective::And.join_all(members)),
+        Func::Any(_) => Member::Function(Connective::Or.join_all(members)),
+    }
+}
+
+/// Reads a leaf: puts what stands at its place on the stack. Answers where the top is now.
+fn read_leaf<T: Logic>(place: usize, top: usize, slots: &mut [Member<T>]) -> usize
+    requires { (place < top) × (top ≤ length slots.old) }
+    ensures stack { drop result slots.new
+        ≡ get_or slots.old place member.Joined ∷ drop top slots.old }
+    ensures front { take place slots.new ≡ take place slots.old }
+    ensures within { (place ≤ result) × (result ≤ length slots.new) }
+{
+    let next = top - 1;
+    if place != next {
+        let leaf = mem::replace(&mut slots[place], Member::Joined);
+        put_member(leaf, next, slots);
+    }
+    next
+}
+
+/// Reads a function: puts what it makes on the stack, in the place of its members. Answers where
+/// the top is now.
+fn read_function<T: Logic>(func: &Func, top: usize, slots: &mut [Member<T>]) -> usize
+    requires { (0 < top) × (top ≤ length slots.old) }
+    ensures stack { drop result slots.new
+        ≡ made T.Logic func.now (take (arity func.now) (drop top slots.old))
+        ∷ drop (arity func.now) (drop top slots.old) }
+    ensures front { (place : ℕ) → place < top → take place slots.new ≡ take place slots.old }
+    ensures within { (top ≤ result + 1) × (result ≤ length slots.new) }
+{
+    let end = top + number_of(func).min(slots.len() - top);
+    let member = make(func, &mut slots[top..end]);
+    put_member(member, end - 1, slots);
+    end - 1
+}
+
+/// Reads the node at the place: puts it on the stack, in the place of its members. Answers where
+/// the top is now.
+fn read_node<T: Logic>(node: &ExprNode, place: usize, top: usize, slots: &mut [Member<T>]) -> usize
+    requires { (place < top) × (top ≤ length slots.old) }
+    ensures stack { drop result slots.new
+        ≡ put T.Logic (shape node.now) (get_or slots.old place member.Joined)
+        (drop top slots.old) }
+    ensures front { take place slots.new ≡ take place slots.old }
+    ensures within { (place ≤ result) × (result ≤ length slots.new) }
+{
+    match node {
+        ExprNode::Fn { func, .. } => read_function(func, top, slots),
+        ExprNode::Predicate(_) => read_leaf(place, top, slots),
+    }
+}
+
+/// Reads the nodes from the last to the first, each with what stands at its place. Answers where
+/// the top is then.
+fn read_all<T: Logic>(nodes: &[ExprNode], slots: &mut [Member<T>]) -> usize
+    requires { length slots.old ≡ length nodes.now }
+    ensures stack { drop result slots.new ≡ read T.Logic (map shape nodes.now) slots.old }
+    ensures within { result ≤ length slots.new }
+{
+    let mut top = slots.len();
+    for place in (0..nodes.len()).rev() {
+        top = read_node(&nodes[place], place, top, slots);
+    }
+    top
+}
+
+/// The value over the answers at the places of the nodes.
+fn read_value<T: Logic, A: SmallAllocator>(parsed: &Parsed<A>, slots: &mut [Member<T>]) -> T
+    requires { Holds parsed.now slots.old }
+    ensures { (held : Holds parsed.now slots.old)
+        → result ≡ tree_value.fold T.Logic held.one.tree held.answers }
+{
+    let top = read_all(parsed.nodes(), slots);
+    match take_top(&mut slots[top..]) {
+        Some(value) => value,
+        None => unreachable!(),
+    }
 }
 
 /// No answer yet at any of this many places.
 fn no_answers<T: Logic, A: Allocator>(
     alloc: &A,
     count: usize,
-) -> Result<SmallVec<Option<T>, 33, &A>, AllocError>
-    ensures items { IfOk result (λ answers. answers.items ≡ replicate count None) }
+) -> Result<SmallVec<Member<T>, 33, &A>, AllocError>
+    ensures slots { IfOk result (λ slots. slots.items ≡ replicate count member.Joined) }
     ensures succeeds { count ≤ 33 → IsOk result }
 {
-    let mut answers = SmallVec::with_capacity(alloc, count)?;
+    let mut slots = SmallVec::with_capacity(alloc, count)?;
     for _place in 0..count {
-        answers.push_reserved(None);
+        slots.push_reserved(Member::Joined);
     }
-    Ok(answers)
-}
-
-/// What is left on the stack, once the closure was asked.
-fn asked_value<EP, T, A>(
-    parsed: &Parsed<A>,
-    answers: &mut SmallVec<Option<T>, 33, &A>,
-    stack: &mut SmallVec<Member<T>, 33, &A>,
-    ep: &mut EP,
-) -> Option<T>
-where
-    EP: FnMut(&Predicate<'_>) -> T,
-    T: Logic,
-    A: SmallAllocator,
-    requires may { MayEvaluate EP.FnMut parsed.now ep.old }
-    requires ready { IsReady parsed.now answers.old stack.old }
-    ensures { IsSomeAnd result (λ value.
-        Evaluates T.Logic EP.FnMut parsed.now ep.old value ep.new) }
-{
-    ask_each(parsed, answers, ep);
-    read_value(parsed.nodes(), answers, stack)
+    Ok(slots)
 }
 
 /// What `Expression::eval` answers.
 ///
-/// The error is that `alloc` refused room for the answers, or for the stack.
+/// The error is that `alloc` refused room for the answers.
 pub(crate) fn value_of<EP, T, A>(alloc: A, parsed: &Parsed<A>, ep: &mut EP) -> Result<T, AllocError>
 where
     EP: FnMut(&Predicate<'_>) -> T,
@@ -320,37 +323,15 @@ where
     ensures refused { OnErr result (ep.new ≡ ep.old) }
     ensures short { length parsed.now ≤ 32 → IsOk result }
 {
-    let count = parsed.nodes().len();
-    let mut answers = no_answers(&alloc, count)?;
-    let mut stack = SmallVec::with_capacity(&alloc, count)?;
-    match asked_value(parsed, &mut answers, &mut stack, ep) {
-        Some(value) => Ok(value),
-        None => unreachable!(),
-    }
-}
-
-/// What is left on the stack over answers that are there already.
-fn given_value<T, A>(
-    parsed: &Parsed<A>,
-    given: &[T],
-    answers: &mut SmallVec<Option<T>, 33, &A>,
-    stack: &mut SmallVec<Member<T>, 33, &A>,
-) -> Option<T>
-where
-    T: Logic + Copy,
-    A: SmallAllocator,
-    requires given { AreAnswersTo given.now parsed.now }
-    requires ready { IsReady parsed.now answers.old stack.old }
-    ensures { IsSomeAnd result (λ value. (one : HasOneTree parsed.now)
-        × (value ≡ tree_value.fold T.Logic one.tree given.now)) }
-{
-    put_each(parsed.places(), given, answers);
-    read_value(parsed.nodes(), answers, stack)
+    let mut answers = no_answers(&alloc, parsed.nodes().len())?;
+    let slots = answers.as_mut_slice();
+    ask_each(parsed, slots, ep);
+    Ok(read_value(parsed, slots))
 }
 
 /// The value over answers that are there already, in the order of the questions.
 ///
-/// The error is that `alloc` refused room for the answers, or for the stack.
+/// The error is that `alloc` refused room for the answers.
 pub(crate) fn value_over<T, A>(alloc: A, parsed: &Parsed<A>, given: &[T]) -> Result<T, AllocError>
 where
     T: Logic + Copy,
@@ -361,11 +342,8 @@ where
         × (value ≡ tree_value.fold T.Logic one.tree given.now)) }
     ensures short { length parsed.now ≤ 32 → IsOk result }
 {
-    let count = parsed.nodes().len();
-    let mut answers = no_answers(&alloc, count)?;
-    let mut stack = SmallVec::with_capacity(&alloc, count)?;
-    match given_value(parsed, given, &mut answers, &mut stack) {
-        Some(value) => Ok(value),
-        None => unreachable!(),
-    }
+    let mut answers = no_answers(&alloc, parsed.nodes().len())?;
+    let slots = answers.as_mut_slice();
+    put_each(parsed.places(), given, slots);
+    Ok(read_value(parsed, slots))
 }

@@ -12,16 +12,16 @@ ghost use Rattle.cfgx_grammar.specs.Tree.{Tree};
 use super::Logic;
 
 /// A map that takes each constant and each operation of one logic to that of another takes the
-/// value of a condition to its value over what the map makes of each answer. It has to do so for the
-/// values that pass a test, which are the answers and what the operations make of such values.
+/// value of a condition to its value over what the map makes of each answer. It has to do so for
+/// the values that pass a test, which are the answers and what the operations make of such values.
 pub fn maps_keep_values<T: Logic, U: Logic>()
     ensures { (test : T → Bool) (to : T → U) → IsMap T.Logic U.Logic (Passes test) to
         → (tree : Tree Question) (answers : List T) → AllByRecursion (Passes test) answers
         → to (fold T.Logic tree answers) ≡ fold U.Logic tree (map to answers) }
 {}
 
-/// The answer of a lane is such a map, from sixty-four answers to one that may be unknown, where no lane
-/// is both true and false.
+/// The answer of a lane is such a map, from sixty-four answers to one that may be unknown, where no
+/// lane is both true and false.
 pub fn lanes_are_maps()
     ensures { (i : ℕ) → i < 64 → IsMap lane_valued three_valued (Passes is_apart) (lane i) }
 {}

@@ -6,7 +6,7 @@ ghost use Rattle.cfgx_targets.specs.Endian.{endian_text};
 ghost use Rattle.cfgx_targets.specs.HasAtomic.{atomic_text};
 ghost use Rattle.cfgx_parser.specs.Predicate.{question_of, target_of};
 ghost use Rattle.cfgx_grammar.specs.Regular.{IsAlone, IsRegular};
-ghost use Rattle.cfgx_grammar.specs.Spelling.{spelling, target_spelling, with_value};
+ghost use Rattle.cfgx_grammar.specs.Spelling.{spelling, target_spelling, key_and_value};
 ghost use Rattle.cfgx_grammar.specs.Writing.{Takes, Writes};
 ghost use Rattle.cfg_expr.specs.Value.{value_bytes};
 
@@ -85,7 +85,7 @@ impl Value<'_> {
 /// Writes a key and its value, in quotes.
 fn write_value<W: Write>(writer: &mut W, key: &str, value: Value<'_>) -> io::Result<()>
     ensures { Writes (W.contents writer.old) (W.contents writer.new) result
-        (with_value key.now (value_bytes value.entry)) }
+        (key_and_value key.now (value_bytes value.entry)) }
 {
     write_key(writer, key)?;
     value.write(writer)?;
@@ -114,7 +114,7 @@ fn atomic_value(atomic: HasAtomic) -> Value<'static>
 
 /// The key and the value of a predicate on the target.
 fn target_parts<'a, A: Allocator>(target: &'a TargetPredicate<'_, A>) -> (&'static str, Value<'a>)
-    ensures { with_value result.0.now (value_bytes result.1)
+    ensures { key_and_value result.0.now (value_bytes result.1)
         ≡ target_spelling (target_of target.now) }
 {
     match target {

@@ -3,8 +3,8 @@
 ghost use Rattle.std.specs.Prelude.{◌≡◌, IfOk, IsOk};
 ghost use Rattle.cfgx_engine.specs.Output.{request_of, texts, Prints, Request};
 ghost use Rattle.cfgx_engine.specs.Output.{eval_request, parse_request, target_request};
-ghost use Rattle.cfgx_engine.specs.Output.{line, value_text};
-ghost use Rattle.cfgx_engine.specs.Answer.{asked_by, output_of, ShowsFailure, ShowsResult};
+ghost use Rattle.cfgx_engine.specs.Output.{text_line, value_text};
+ghost use Rattle.cfgx_engine.specs.Answer.{command_request, output_of, ShowsFailure, ShowsResult};
 
 use super::flags::value_of;
 use super::listing::lines;
@@ -58,7 +58,7 @@ enum Command<'a> {
 
 /// The command of the words.
 fn command_of<'a>(words: &'a [&'a str]) -> Command<'a>
-    ensures { asked_by result ≡ request_of (texts words.now) }
+    ensures { command_request result ≡ request_of (texts words.now) }
 {
     let Some((name, words)) = words.split_first() else {
         return Command::WrongUse;
@@ -73,7 +73,7 @@ fn command_of<'a>(words: &'a [&'a str]) -> Command<'a>
 
 /// The command of the words behind `parse`.
 fn parse_command<'a>(words: &'a [&'a str]) -> Command<'a>
-    ensures { asked_by result ≡ parse_request (texts words.now) }
+    ensures { command_request result ≡ parse_request (texts words.now) }
 {
     match words {
         [text] => Command::Parse(text),
@@ -83,7 +83,7 @@ fn parse_command<'a>(words: &'a [&'a str]) -> Command<'a>
 
 /// The command of the words behind `eval`.
 fn eval_command<'a>(words: &'a [&'a str]) -> Command<'a>
-    ensures { asked_by result ≡ eval_request (texts words.now) }
+    ensures { command_request result ≡ eval_request (texts words.now) }
 {
     match words.split_first() {
         Some((text, flags)) => Command::Eval(text, flags),
@@ -93,7 +93,7 @@ fn eval_command<'a>(words: &'a [&'a str]) -> Command<'a>
 
 /// The command of the words behind `target`.
 fn target_command<'a>(words: &'a [&'a str]) -> Command<'a>
-    ensures { asked_by result ≡ target_request (texts words.now) }
+    ensures { command_request result ≡ target_request (texts words.now) }
 {
     match words {
         [triple, text] => Command::Target(triple, text),
@@ -161,7 +161,7 @@ fn value_answer<A: Allocator>(
 
 /// The line that a value is written as.
 fn value_line(value: Option<bool>) -> &'static str
-    ensures { result.now ≡ line (value_text value) }
+    ensures { result.now ≡ text_line (value_text value) }
 {
     match value {
         Some(true) => "true\n",

@@ -1,7 +1,7 @@
 // The predicates of a condition, one a line.
 
 ghost use Rattle.std.specs.Prelude.{◌≡◌, ◌++◌, IfOk, OnOk};
-ghost use Rattle.cfgx_engine.specs.Output.{line, lines};
+ghost use Rattle.cfgx_engine.specs.Output.{text_line, lines};
 ghost use Rattle.cfgx_parser.specs.Predicate.{question_of};
 ghost use Rattle.cfgx_grammar.specs.Spelling.{spelling};
 
@@ -30,7 +30,7 @@ fn push_line<A: Allocator>(
     predicate: &Predicate<'_>,
 ) -> Result<(), AllocError>
     ensures { OnOk result (written.new.items
-        ≡ written.old.items ++ line (spelling (question_of predicate.now))) }
+        ≡ written.old.items ++ text_line (spelling (question_of predicate.now))) }
 {
     spell(predicate, written).map_err(|_| AllocError)?;
     written.push(b'\n')?;

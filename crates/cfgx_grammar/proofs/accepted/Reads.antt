@@ -5,7 +5,7 @@ use Rattle.std.proofs.Common.{length-append}
 use Rattle.cfgx_syntax.specs.Token.{Token}
 use Rattle.cfgx_grammar.specs.Question.{Question}
 use Rattle.cfgx_grammar.specs.Classification.{Class}
-use Rattle.cfgx_grammar.specs.FirstFault.{class_of}
+use Rattle.cfgx_grammar.specs.LastPredicate.{class_of}
 use Rattle.cfgx_grammar.specs.Tree.{Tree}
 use Rattle.cfgx_grammar.specs.Grammar.{predicate_tokens, IsItem}
 use Rattle.cfgx_grammar.specs.parsing.State.{Word, Pending, Builder, Open, State, name_of}

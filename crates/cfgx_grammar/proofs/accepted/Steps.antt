@@ -9,7 +9,8 @@ use Rattle.std.proofs.lemmas.List.{append-nil}
 use Rattle.std.proofs.lemmas.Bool.Decides.{Decides-eqb}
 use Rattle.cfgx_syntax.specs.Token.{Token}
 use Rattle.cfgx_syntax.specs.Items.{Item}
-use Rattle.cfgx_grammar.specs.FirstFault.{word_of, lacks_value}
+use Rattle.cfgx_grammar.specs.FirstFault.{lacks_value}
+use Rattle.cfgx_grammar.specs.LastPredicate.{word_of}
 use Rattle.cfgx_grammar.specs.Question.{Question}
 use Rattle.cfgx_grammar.specs.Tree.{Tree}
 use Rattle.cfgx_grammar.specs.Grammar.{IsItem, IsTree}
@@ -19,7 +20,8 @@ use Rattle.cfgx_grammar.specs.parsing.State.{initial}
 use Rattle.cfgx_grammar.specs.parsing.Step.{and_then, result_map, over_top, one_more}
 use Rattle.cfgx_grammar.specs.parsing.Step.{predicate_ended, opened, member_count, has_room}
 use Rattle.cfgx_grammar.specs.parsing.Step.{function_ended, closed_by, with_parens, with_last}
-use Rattle.cfgx_grammar.specs.parsing.Step.{apply, step, run, one_root, concluded_by, conclude}
+use Rattle.cfgx_grammar.specs.parsing.Step.{apply, step, step_each, one_root, concluded_by}
+use Rattle.cfgx_grammar.specs.parsing.Step.{conclude}
 use Rattle.cfgx_grammar.proofs.accepted.Lists.{Ready, Behind, Full, trees_of, Ready-behind}
 use Rattle.cfgx_grammar.proofs.accepted.Lists.{Ready-comma, Full-ready, Full-behind}
 use Rattle.cfgx_grammar.proofs.accepted.Reads.{ok_same, Counted, Counted-item, current, Around}
@@ -425,12 +427,13 @@ module _ {W M L : Type 0} {builder : Builder W M L} where
         Reads-close s u tokens (at Token.close_paren) may reads does
     Reads-applied Token.comma may reads does = Reads-comma s.last s u tokens may reads does
 
-  Reads-run : (items : List Item) (s t : State builder) (tokens : List Token) → run s items ≡ Ok t
+  Reads-run : (items : List Item) (s t : State builder) (tokens : List Token)
+      → step_each s items ≡ Ok t
       → Reads s.last s tokens → Reads t.last t (tokens ++ tokens_of items)
   Reads-run [] s t tokens runs reads = rw (append-nil tokens)
       (subst (λ u. Reads u.last u tokens) (ok_same s t runs) reads)
   Reads-run (item ∷ items) s t tokens runs reads =
-      let r = ran (step s item) (λ u. run u items) t runs in
+      let r = ran (step s item) (λ u. step_each u items) t runs in
       let d = Steps-step s r.0 item r.1 in
       let read = subst (λ u. Reads u.last u (tokens ++ item.token ∷ [])) d.after
       (Reads-applied s d.applied tokens item.start item.end item.token d.may reads d.does) in
@@ -489,7 +492,7 @@ module _ {W M L : Type 0} {builder : Builder W M L} where
 
   -- What the steps accept has a tree.
   pub IsTree-accepted : (items : List Item) (s u : State builder) (len : ℕ)
-      → run initial items ≡ Ok s → conclude len s ≡ Ok u
+      → step_each initial items ≡ Ok s → conclude len s ≡ Ok u
       → (tree : Tree Question) × IsTree (tokens_of items) tree
   IsTree-accepted items s u len runs ends =
       let c = Concludes-conclude len s u ends in

@@ -30,12 +30,12 @@ use Rattle.cfgx_grammar.specs.Classification.{target_feature}
 use Rattle.cfgx_grammar.specs.Classification.{Line, by_name, key_lines, target_lines, target_class}
 use Rattle.cfgx_grammar.specs.Classification.{plain, other_class, family, target_names}
 use Rattle.cfgx_grammar.specs.Regular.{CanBeQuoted, IsRegular}
-use Rattle.cfgx_grammar.specs.Spelling.{with_value, spelling}
+use Rattle.cfgx_grammar.specs.Spelling.{key_and_value, spelling}
 
 -- a key alone, or with its value
 abbrev pub text_of : List ℕ → Option (List ℕ) → List ℕ
 text_of key None = key
-text_of key (Some value) = with_value key value
+text_of key (Some value) = key_and_value key value
 
 -- a key and perhaps a value say the predicate, and its spelling is theirs
 pub record IsSpelt (question : Question) : Type 0 where
@@ -128,7 +128,7 @@ spelt_bare key question word long says spelled =
 
 spelt_value : (key value : List ℕ) (question : Question) → IsWord key → 3 < length key
     → HasNoQuote value → class key (Some value) ≡ Class.is question
-    → spelling question ≡ with_value key value → IsSpelt question
+    → spelling question ≡ key_and_value key value → IsSpelt question
 spelt_value key value question word long quoted says spelled =
     spelt key (Some value) question (long_key key word long) quoted says spelled
 
@@ -217,7 +217,7 @@ module _ (key : List ℕ) (value : Option (List ℕ)) (is_key : IsKey key)
   good_target name v q =
       let line = λ (word : List ℕ) (question : Question) (is : IsWord word) (long : 3 < length word)
       (says : class word (Some v) ≡ Class.is question)
-      (spelled : spelling question ≡ with_value word v).
+      (spelled : spelling question ≡ key_and_value word v).
       good_is question (spelt_value word v question is long q says spelled) in
       let abi = line (codes "target_abi") _ (refl, refl) (omega arith) refl refl in
       let arch = line (codes "target_arch") _ (refl, refl) (omega arith) refl refl in

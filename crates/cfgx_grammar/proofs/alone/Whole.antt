@@ -14,7 +14,7 @@ use Rattle.cfgx_grammar.specs.Tree.{Tree}
 use Rattle.cfgx_grammar.specs.Grammar.{HasTree, commas, predicate_tokens, IsTree}
 use Rattle.cfgx_grammar.proofs.Stripped.{strip-tree}
 use Rattle.cfgx_grammar.specs.Regular.{CanBeQuoted, IsRegular, IsAlone}
-use Rattle.cfgx_grammar.specs.Spelling.{with_value, spelling}
+use Rattle.cfgx_grammar.specs.Spelling.{key_and_value, spelling}
 use Rattle.cfgx_grammar.proofs.alone.Spelt.{text_of, spelt_regular}
 
 -- A token between two parts of a text.
@@ -106,10 +106,10 @@ key_alone key is_key = (
 )
 
 value_alone : (key value : List ℕ) → IsKey key → HasNoQuote value
-    → AreItems (with_value key value) (items_of key (Some value)) Ending.blank
+    → AreItems (key_and_value key value) (items_of key (Some value)) Ending.blank
 value_alone key value is_key quoted =
     let n = length key in
-    let text = with_value key value in
+    let text = key_and_value key value in
     let quotes = in_quotes value in
     let tail = length-append key (codes " = " ++ quotes) in (
       stands_between text [] [] key (codes " = " ++ quotes) (Token.key key) 0 0 n refl refl refl
@@ -199,7 +199,7 @@ alone_text : (key : List ℕ) (value : Option (List ℕ)) (question : Question) 
 alone_text key None question is_key quoted says =
     is_alone key None question says key (items_of key None) (key_alone key is_key) refl
 alone_text key (Some value) question is_key quoted says =
-    is_alone key (Some value) question says (with_value key value) (items_of key (Some value))
+    is_alone key (Some value) question says (key_and_value key value) (items_of key (Some value))
     (value_alone key value is_key quoted) refl
 
 -- the spelling of a predicate that can stand in a text is a text of it alone

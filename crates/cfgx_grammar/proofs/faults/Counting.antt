@@ -9,9 +9,9 @@ use Rattle.std.proofs.lemmas.Bool.{le-leb, lt-leb, eq-eqb, ne_eqb, and_left, and
 use Rattle.std.proofs.lemmas.List.{take-append-le}
 use Rattle.cfgx_syntax.specs.Items.{Item}
 use Rattle.cfgx_grammar.specs.Neighbours.{Kind, kind_of, is_kind}
-use Rattle.cfgx_grammar.specs.FirstFault.{count_below, last_below, first_below, begins_member}
-use Rattle.cfgx_grammar.specs.FirstFault.{depth}
-use Rattle.cfgx_grammar.specs.FirstFault.{depth_at, members_at}
+use Rattle.cfgx_grammar.specs.Depth.{count_below, last_below, first_below, begins_member}
+use Rattle.cfgx_grammar.specs.Depth.{depth}
+use Rattle.cfgx_grammar.specs.Depth.{depth_at, members_at}
 
 module _ {X : Type 0} where
   pub slice_get_front : (xs ys : List X) (k : ℕ) → k < length xs

@@ -7,7 +7,7 @@ use Rattle.std.specs.Prelude.{slice_get}
 use Rattle.std.proofs.lemmas.Bool.{cases_lt}
 use Rattle.cfgx_syntax.specs.Items.{Item}
 use Rattle.cfgx_grammar.specs.Neighbours.{Kind, kind_of, is_kind}
-use Rattle.cfgx_grammar.specs.FirstFault.{depth, depth_at, members_at}
+use Rattle.cfgx_grammar.specs.Depth.{depth, depth_at, members_at}
 use Rattle.cfgx_grammar.proofs.faults.Counting.{slice_get_front, slice_get_next, slice_get-inside}
 use Rattle.cfgx_grammar.proofs.faults.Counting.{length_more, depth_at_front, members_at_item}
 use Rattle.cfgx_grammar.proofs.faults.Counting.{members_at_other, members_at_deeper}

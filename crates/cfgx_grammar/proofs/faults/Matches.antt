@@ -12,11 +12,15 @@ use Rattle.cfgx_syntax.specs.Items.{Item}
 use Rattle.cfgx_syntax.specs.Error.{Refusal}
 use Rattle.cfgx_grammar.specs.Classification.{Class}
 use Rattle.cfgx_grammar.specs.Neighbours.{Kind, takes}
-use Rattle.cfgx_grammar.specs.FirstFault.{names_function, closes, depth, key_token, key_last}
-use Rattle.cfgx_grammar.specs.FirstFault.{equals_token, equals_last, predicate_token}
-use Rattle.cfgx_grammar.specs.FirstFault.{predicate_last, predicate_fault, class_fault, head_token}
-use Rattle.cfgx_grammar.specs.FirstFault.{last_token, lacks_value, class_of}
-use Rattle.cfgx_grammar.specs.FirstFault.{class_of, lacks_value}
+use Rattle.cfgx_grammar.specs.Depth.{names_function, is_closing, depth}
+use Rattle.cfgx_grammar.specs.LastPredicate.{key_token, key_last}
+use Rattle.cfgx_grammar.specs.LastPredicate.{equals_token, equals_last, predicate_token}
+use Rattle.cfgx_grammar.specs.FirstFault.{predicate_fault, class_fault, head_token}
+use Rattle.cfgx_grammar.specs.LastPredicate.{predicate_last}
+use Rattle.cfgx_grammar.specs.FirstFault.{last_token, lacks_value}
+use Rattle.cfgx_grammar.specs.LastPredicate.{class_of}
+use Rattle.cfgx_grammar.specs.FirstFault.{lacks_value}
+use Rattle.cfgx_grammar.specs.LastPredicate.{class_of}
 use Rattle.cfgx_grammar.specs.parsing.State.{Pending, Builder, Open, State, initial}
 use Rattle.cfgx_grammar.specs.parsing.Step.{result_map, located_class, leaf_ended, ended_by}
 use Rattle.cfgx_grammar.specs.parsing.Step.{predicate_ended, over_top, one_more}
@@ -49,7 +53,7 @@ abbrev pub names : List Item → ℕ
 names front = count_by (λ item. names_function item.token) front
 
 abbrev pub closings : List Item → ℕ
-closings front = count_by (λ item. closes item.token) front
+closings front = count_by (λ item. is_closing item.token) front
 
 -- one more token
 
@@ -68,8 +72,8 @@ module _ (front : List Item) (item : Item) where
   names_more = sum_by_push (λ (i : Item). cond (names_function i.token) 1 0) front item
 
   pub closings_more : closings (front ++ item ∷ [])
-      ≡ closings front + cond (closes item.token) 1 0
-  closings_more = sum_by_push (λ (i : Item). cond (closes i.token) 1 0) front item
+      ≡ closings front + cond (is_closing item.token) 1 0
+  closings_more = sum_by_push (λ (i : Item). cond (is_closing i.token) 1 0) front item
 
 -- What may stand behind the last token says which it is.
 

@@ -12,8 +12,9 @@ use Rattle.cfgx_syntax.specs.Items.{Item}
 use Rattle.cfgx_syntax.specs.Error.{Refusal, unexpected}
 use Rattle.cfgx_syntax.specs.Error.{invalid_not, empty, multiple_root_predicates}
 use Rattle.cfgx_grammar.specs.Neighbours.{Kind, kind_of, is_kind, next, expected, takes}
-use Rattle.cfgx_grammar.specs.FirstFault.{depth, depth_at, innermost, members, roots, members_at}
-use Rattle.cfgx_grammar.specs.FirstFault.{Word, word_of, with_value, names_function, closes}
+use Rattle.cfgx_grammar.specs.Depth.{depth, depth_at, innermost, members, roots, members_at}
+use Rattle.cfgx_grammar.specs.Depth.{names_function, is_closing}
+use Rattle.cfgx_grammar.specs.LastPredicate.{Word, word_of, with_value}
 use Rattle.cfgx_grammar.specs.FirstFault.{last_token}
 use Rattle.cfgx_grammar.specs.FirstFault.{predicate_fault, count_fault, not_fault, fault_by}
 use Rattle.cfgx_grammar.specs.FirstFault.{fault_behind, unclosed_fault, open_fault, root_fault}
@@ -157,7 +158,7 @@ module _ {W M L : Type 0} {builder : Builder W M L} (front : List Item) (s : Sta
           (subst (Levels (more token) t.roots b t.stack) (sym goes) levels);
     }
 
-    kept : (token : Token) → names_function token ≡ false → closes token ≡ false
+    kept : (token : Token) → names_function token ≡ false → is_closing token ≡ false
         → balanced token (length s.stack)
     kept token no_name no_close =
         let n = names_more front (at token) ∙ ap (λ b. names front + cond b 1 0) no_name in
@@ -166,7 +167,7 @@ module _ {W M L : Type 0} {builder : Builder W M L} (front : List Item) (s : Sta
 
     -- a token that neither opens nor closes a function and begins no item
     stays : (token : Token) (t : State builder) (w : ℕ) → t.last ≡ Some token
-        → names_function token ≡ false → closes token ≡ false
+        → names_function token ≡ false → is_closing token ≡ false
         → is_kind Kind.item (kind_of token) ≡ false → length t.stack ≡ length s.stack
         → t.pending ≡ begun_token (at token) (reverse front) token → going t.pending ≡ w
         → Levels front t.roots false t.stack w → Matches (more token) t
@@ -209,7 +210,7 @@ module _ {W M L : Type 0} {builder : Builder W M L} (front : List Item) (s : Sta
 
     -- the name of a function
     name_step : (function : Function) → takes (last_token front) Kind.item ≡ true
-        → names_function (name_of function) ≡ true → closes (name_of function) ≡ false
+        → names_function (name_of function) ≡ true → is_closing (name_of function) ≡ false
         → is_kind Kind.item (kind_of (name_of function)) ≡ true
         → begun_token (at (name_of function)) (reverse front) (name_of function) ≡ None
         → Agrees (more (name_of function)) (Ok (with_last (name_of function)

@@ -8,12 +8,13 @@ use Rattle.std.proofs.lemmas.Bool.{cases_lt}
 use Rattle.std.proofs.lemmas.List.{append-nil}
 use Rattle.cfgx_syntax.specs.Items.{Item, Ending, lexical}
 use Rattle.cfgx_syntax.specs.Error.{Refusal}
-use Rattle.cfgx_grammar.specs.FirstFault.{first_below, fault_behind, fault_at, end_fault}
+use Rattle.cfgx_grammar.specs.Depth.{first_below}
+use Rattle.cfgx_grammar.specs.FirstFault.{fault_behind, fault_at, end_fault}
 use Rattle.cfgx_grammar.specs.FirstFault.{first_fault}
 use Rattle.cfgx_grammar.proofs.faults.Counting.{slice_get_next, length_more, first_below-none}
 use Rattle.cfgx_grammar.proofs.faults.Counting.{first_below-found}
 use Rattle.cfgx_grammar.specs.parsing.State.{Builder, State, initial}
-use Rattle.cfgx_grammar.specs.parsing.Step.{and_then, step, run, ended_as, answer_from}
+use Rattle.cfgx_grammar.specs.parsing.Step.{and_then, step, step_each, ended_as, answer_from}
 use Rattle.cfgx_grammar.proofs.faults.Matches.{Matches, Matches-initial}
 use Rattle.cfgx_grammar.proofs.faults.Steps.{Agrees, EndAgrees, step_agrees, end_agrees}
 
@@ -52,14 +53,14 @@ module _ (all front : List Item) (item : Item) (items : List Item)
   scan_next : {W M L : Type 0} {builder : Builder W M L} (r : Result (State builder) Refusal)
       → HasNone all (length front) → Agrees (front ++ item ∷ []) r (fault_behind front item)
       → ((t : State builder) → Matches (front ++ item ∷ []) t → fault_behind front item ≡ None
-      → Scanned all (run t items)) → Scanned all (and_then (λ t. run t items) r)
+      → Scanned all (step_each t items)) → Scanned all (and_then (λ t. step_each t items) r)
   scan_next (Err refusal) none agrees go = first_below-found (fault_at all) (length front)
       (length all) refusal next_inside none (fault_next ∙ agrees)
   scan_next (Ok t) none agrees go = go t agrees.1 agrees.0
 
 scan : {W M L : Type 0} {builder : Builder W M L} (items all front : List Item)
     (s : State builder) → all ≡ front ++ items → Matches front s → HasNone all (length front)
-    → Scanned all (run s items)
+    → Scanned all (step_each s items)
 scan [] all front s is m none =
     let same : all ≡ front = is ∙ append-nil front in (
       first_below-none (fault_at all) (length all)
@@ -88,5 +89,5 @@ module _ {W M L : Type 0} (builder : Builder W M L) (text : List ℕ) (items : L
 
   pub whole_agrees : EndAgrees (answer_from (initial {builder = builder}) text items ending)
       (first_fault text items ending)
-  whole_agrees = whole_by (run initial items)
+  whole_agrees = whole_by (step_each initial items)
       (scan items items [] initial refl Matches-initial (λ k lt. absurd (omega (arith, lt))))

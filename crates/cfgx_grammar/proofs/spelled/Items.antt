@@ -9,7 +9,8 @@ use Rattle.cfgx_syntax.specs.Items.{Item}
 use Rattle.cfgx_syntax.specs.Error.{Refusal}
 use Rattle.cfgx_grammar.specs.Question.{Question}
 use Rattle.cfgx_grammar.specs.Classification.{Class, class}
-use Rattle.cfgx_grammar.specs.FirstFault.{word_of, lacks_value}
+use Rattle.cfgx_grammar.specs.FirstFault.{lacks_value}
+use Rattle.cfgx_grammar.specs.LastPredicate.{word_of}
 use Rattle.cfgx_grammar.specs.Tree.{Tree, Trees, count}
 use Rattle.cfgx_grammar.specs.Grammar.{commas, Separates, predicate_tokens, IsCall, IsItem, IsList}
 use Rattle.cfgx_grammar.specs.Neighbours.{Kind, takes, next}
@@ -17,7 +18,7 @@ use Rattle.cfgx_grammar.specs.parsing.State.{Function, Pending, Builder, Open, S
 use Rattle.cfgx_grammar.specs.parsing.Step.{and_then, over_top, one_more, root_more, ended_by}
 use Rattle.cfgx_grammar.specs.parsing.Step.{predicate_ended, new_open, opened, member_count}
 use Rattle.cfgx_grammar.specs.parsing.Step.{has_room, function_ended, closed_by, with_parens}
-use Rattle.cfgx_grammar.specs.parsing.Step.{with_last, apply, step, run}
+use Rattle.cfgx_grammar.specs.parsing.Step.{with_last, apply, step, step_each}
 use Rattle.cfgx_grammar.proofs.accepted.Steps.{tokens_of, TopEnded-ended, stack_ended}
 
 -- a key, and a key with its value, as they stand at their tokens
@@ -194,20 +195,21 @@ module _ {W M L : Type 0} {builder : Builder W M L} where
   step_taken s u item token is may does = rw (is, may, does) refl
 
   run_on : (xs ys : List Item) (t : State builder) (r : Result (State builder) Refusal)
-      → and_then (λ u. run u xs) r ≡ Ok t
-      → ((u : State builder) → run u xs ≡ Ok t → run u (xs ++ ys) ≡ run t ys)
-      → and_then (λ u. run u (xs ++ ys)) r ≡ run t ys
+      → and_then (λ u. step_each u xs) r ≡ Ok t
+      → ((u : State builder) → step_each u xs ≡ Ok t → step_each u (xs ++ ys) ≡ step_each t ys)
+      → and_then (λ u. step_each u (xs ++ ys)) r ≡ step_each t ys
   run_on xs ys t (Ok u) e more = more u e
   run_on xs ys t (Err e) is more = absurd (cc)
 
-  run-append : (xs ys : List Item) (s t : State builder) → run s xs ≡ Ok t
-      → run s (xs ++ ys) ≡ run t ys
-  run-append [] ys s t runs = let same : s ≡ t = cc in ap (λ u. run u ys) same
+  run-append : (xs ys : List Item) (s t : State builder) → step_each s xs ≡ Ok t
+      → step_each s (xs ++ ys) ≡ step_each t ys
+  run-append [] ys s t runs = let same : s ≡ t = cc in ap (λ u. step_each u ys) same
   run-append (x ∷ xs) ys s t runs =
       run_on xs ys t (step s x) runs (λ u e. run-append xs ys u t e)
 
-  pub run_both : (xs ys : List Item) (s t u : State builder) → run s xs ≡ Ok t → run t ys ≡ Ok u
-      → run s (xs ++ ys) ≡ Ok u
+  pub run_both : (xs ys : List Item) (s t u : State builder) → step_each s xs ≡ Ok t
+      → step_each t ys ≡ Ok u
+      → step_each s (xs ++ ys) ≡ Ok u
   run_both xs ys s t u first second = run-append xs ys s t first ∙ second
 
   -- the state behind one more item of the innermost list
@@ -224,7 +226,7 @@ module _ {W M L : Type 0} {builder : Builder W M L} where
   pub record CommasTaken (s after : State builder) (written : W) (items : List Item)
       (n : ℕ) : Type 0 where
     pub reached : State builder
-    pub runs : run after items ≡ Ok reached
+    pub runs : step_each after items ≡ Ok reached
     pub ends : predicate_ended reached ≡ Ok (between s reached.last written)
     pub is_end : IsEnd reached.last
     pub items_come : 0 < n → (takes reached.last Kind.item ≡ true)
@@ -232,7 +234,7 @@ module _ {W M L : Type 0} {builder : Builder W M L} where
 
   -- more commas behind a comma
   comma_run : (n : ℕ) (items : List Item) (s : State builder) (written : W)
-      → tokens_of items ≡ commas n → run (between s (Some Token.comma) written) items
+      → tokens_of items ≡ commas n → step_each (between s (Some Token.comma) written) items
       ≡ Ok (between s (Some Token.comma) written)
   comma_run zero [] s written is = refl
   comma_run zero (x ∷ items) s written is = absurd (cc)
@@ -300,12 +302,12 @@ module _ {W M L : Type 0} {builder : Builder W M L} where
   opens : (s : State builder) (function : Function) (head opening : Item)
       → takes s.last Kind.item ≡ true → head.token ≡ name_of function
       → opening.token ≡ Token.open_paren
-      → run s (head ∷ opening ∷ []) ≡ Ok (inside s function head opening)
+      → step_each s (head ∷ opening ∷ []) ≡ Ok (inside s function head opening)
   opens s function head opening may head_is opening_is =
       let named = with_last (name_of function) (opened s function head) in
-      ap (and_then (λ u. run u (opening ∷ []))) (step_taken s (opened s function head) head
+      ap (and_then (λ u. step_each u (opening ∷ []))) (step_taken s (opened s function head) head
       (name_of function) head_is (next_name s.last function may) (apply_name s head function))
-      ∙ ap (and_then (λ u. run u [])) (step_taken named _ opening Token.open_paren opening_is
+      ∙ ap (and_then (λ u. step_each u [])) (step_taken named _ opening Token.open_paren opening_is
       (takes_open function) refl)
 
   -- behind so many members of a function
@@ -384,7 +386,7 @@ module _ {W M L : Type 0} {builder : Builder W M L} (laws : Laws builder) where
   pub record ItemEnds (s : State builder) (items : List Item) (tree : Tree Question) : Type 0 where
     pub after : State builder
     pub written : W
-    pub runs : run s items ≡ Ok after
+    pub runs : step_each s items ≡ Ok after
     pub is_end : IsEnd after.last
     pub ends : predicate_ended after ≡ Ok (between s after.last written)
     pub builds : laws.ItemBuilds items s.written written tree
@@ -394,7 +396,7 @@ module _ {W M L : Type 0} {builder : Builder W M L} (laws : Laws builder) where
       (items : List Item) (trees : Trees Question) : Type 0 where
     pub after : State builder
     pub written : W
-    pub runs : run before items ≡ Ok after
+    pub runs : step_each before items ≡ Ok after
     pub closes : takes after.last Kind.closing ≡ true
     pub ends : predicate_ended after
         ≡ Ok (filled start top rest (count trees) after.last written)
@@ -470,7 +472,7 @@ module _ {W M L : Type 0} {builder : Builder W M L} (laws : Laws builder) where
       record {
         after = l.after;
         written = l.written;
-        runs = ap (λ s. run s (xs ++ (ys ++ zs))) same
+        runs = ap (λ s. step_each s (xs ++ (ys ++ zs))) same
             ∙ run_both xs (ys ++ zs) start i.after l.after i.runs
             (run_both ys zs i.after c.reached l.after c.runs l.runs);
         closes = l.closes;
@@ -521,7 +523,7 @@ module _ {W M L : Type 0} {builder : Builder W M L} (laws : Laws builder) where
         runs = run_both (c.head ∷ c.opening ∷ []) (c.members ++ c.closing ∷ []) s start ended
             (opens s function c.head c.opening may c.head_is c.opening_is)
             (run_both c.members (c.closing ∷ []) start l.after ended l.runs
-            (ap (and_then (λ u. run u [])) closed));
+            (ap (and_then (λ u. step_each u [])) closed));
         is_end = record { closes = refl; goes_on = refl; whole = refl };
         ends = refl;
         builds = subst (λ n. laws.ItemBuilds (c.head ∷ c.opening ∷ (c.members ++ c.closing ∷ []))

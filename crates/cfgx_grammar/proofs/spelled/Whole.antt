@@ -6,7 +6,8 @@ use Rattle.cfgx_grammar.specs.Grammar.{commas, IsItem, IsTree}
 use Rattle.cfgx_grammar.specs.Question.{Question}
 use Rattle.cfgx_grammar.specs.Tree.{Tree}
 use Rattle.cfgx_grammar.specs.parsing.State.{Builder, Open, State, initial}
-use Rattle.cfgx_grammar.specs.parsing.Step.{and_then, predicate_ended, run, one_root, concluded_by}
+use Rattle.cfgx_grammar.specs.parsing.Step.{and_then, predicate_ended, step_each, one_root}
+use Rattle.cfgx_grammar.specs.parsing.Step.{concluded_by}
 use Rattle.cfgx_grammar.specs.parsing.Step.{conclude}
 use Rattle.cfgx_grammar.proofs.accepted.Steps.{tokens_of, TopEnded-ended}
 use Rattle.cfgx_grammar.proofs.spelled.Items.{Laws, Splits-tokens, between, CommasTaken-run}
@@ -34,7 +35,7 @@ module _ {W M L : Type 0} {builder : Builder W M L} (laws : Laws builder) where
   -- the tokens are taken, and the tree is built of the first of them: commas may follow
   pub record Finds (len : ℕ) (items : List Item) (tree : Tree Question) : Type 0 where
     pub read : State builder
-    pub runs : run initial items ≡ Ok read
+    pub runs : step_each initial items ≡ Ok read
     pub first : List Item
     pub rest : List Item
     pub items_are : items ≡ first ++ rest
@@ -56,7 +57,7 @@ module _ {W M L : Type 0} {builder : Builder W M L} (laws : Laws builder) where
       let none = none_open c.reached settled c.reached.stack refl c.ends refl in
       record {
         read = c.reached;
-        runs = ap (run initial) s.items_are
+        runs = ap (step_each initial) s.items_are
             ∙ run_both s.first s.rest initial i.after c.reached i.runs c.runs;
         first = s.first;
         rest = s.rest;

@@ -15,7 +15,7 @@ use Rattle.cfgx_grammar.specs.Grammar.{HasTree, IsItem, IsList, IsTree}
 use Rattle.cfgx_grammar.specs.Neighbours.{expected}
 use Rattle.cfgx_grammar.specs.Tree.{Trees}
 use Rattle.cfgx_grammar.specs.parsing.State.{State, initial}
-use Rattle.cfgx_grammar.specs.parsing.Step.{run, answer_from}
+use Rattle.cfgx_grammar.specs.parsing.Step.{step_each, answer_from}
 use Rattle.cfgx_grammar.proofs.spelled.Trees.{tree_builder, tree_laws}
 use Rattle.cfgx_grammar.proofs.spelled.Whole.{Finds-tree}
 use Rattle.cfgx_grammar.proofs.worked.Rows.{flag, one, key_a, key_b, listed, listed_tokens}
@@ -25,11 +25,12 @@ use Rattle.cfgx_grammar.proofs.worked.Rows.{not_items, two_items, root_items, un
 -- a text whose items the parser refuses has no tree
 none_read : (text : List ℕ) (items : List Item) (refusal : Refusal)
     → AreItems text items Ending.blank
-    → run (initial {builder = tree_builder}) items ≡ Err refusal → HasNoTree text
+    → step_each (initial {builder = tree_builder}) items ≡ Err refusal → HasNoTree text
 none_read text items refusal are refuses tree has =
     let same = ItemsFrom-same text 0 items has.items _ _ are has.are_items in
     let found = Finds-tree tree_laws 0 has.items tree has.spelled in
-    let runs : run initial items ≡ Ok found.read = ap (run initial) (sym same.0) ∙ found.runs in
+    let runs : step_each initial items ≡ Ok found.read = ap (step_each initial) (sym same.0)
+    ∙ found.runs in
     absurd (cc)
 
 is_a : IsKey (codes "a")

@@ -7,7 +7,8 @@ use Rattle.cfgx_syntax.specs.Items.{Item, Ending, lexical}
 use Rattle.cfgx_syntax.specs.Error.{Refusal, unexpected, unopened_parens, unclosed_parens}
 use Rattle.cfgx_syntax.specs.Error.{invalid_not, empty, multiple_root_predicates}
 use Rattle.cfgx_grammar.specs.Classification.{Class}
-use Rattle.cfgx_grammar.specs.FirstFault.{refusal, word_of, with_value, part_of, class_of}
+use Rattle.cfgx_grammar.specs.FirstFault.{refusal}
+use Rattle.cfgx_grammar.specs.LastPredicate.{word_of, with_value, part_of, class_of}
 use Rattle.cfgx_grammar.specs.FirstFault.{lacks_value}
 use Rattle.cfgx_grammar.specs.Neighbours.{next, expected}
 use Rattle.cfgx_grammar.specs.parsing.State.{Function, Pending, Builder, Open, State}
@@ -143,9 +144,9 @@ module _ {W M L : Type 0} {builder : Builder W M L} where
       else Err (refusal (unexpected (expected s.last)) item.start item.end)
 
   -- one token after another
-  abbrev pub run : State builder → List Item → Result (State builder) Refusal
-  run s [] = Ok s
-  run s (item ∷ items) = and_then (λ t. run t items) (step s item)
+  abbrev pub step_each : State builder → List Item → Result (State builder) Refusal
+  step_each s [] = Ok s
+  step_each s (item ∷ items) = and_then (λ t. step_each t items) (step s item)
 
   -- The end.
 
@@ -173,4 +174,5 @@ module _ {W M L : Type 0} {builder : Builder W M L} where
   -- what the whole of a text's tokens answers, from a state on
   abbrev pub answer_from : State builder → List ℕ → List Item → Ending
       → Result (State builder) Refusal
-  answer_from s text items ending = and_then (ended_as text (lexical text ending)) (run s items)
+  answer_from s text items ending =
+      and_then (ended_as text (lexical text ending)) (step_each s items)

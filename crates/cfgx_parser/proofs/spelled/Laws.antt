@@ -13,15 +13,15 @@ use Rattle.cfgx_parser.specs.nodes.Located.{located}
 use Rattle.cfgx_parser.specs.nodes.Node.{Written, with_leaf}
 use Rattle.cfgx_parser.specs.nodes.Prefix.{headed, prefix, prefix_each, own_places, places}
 use Rattle.cfgx_parser.specs.nodes.Prefix.{inner_places}
-use Rattle.cfgx_parser.specs.nodes.Writes.{IsPlaced, ArePlaced, Writes}
+use Rattle.cfgx_parser.specs.nodes.Writes.{IsPlaced, ArePlaced, WritesNodes}
 use Rattle.cfgx_parser.specs.parsing.State.{counted, node_builder}
 use Rattle.cfgx_parser.specs.declared.function.Func.TheVariants.{Not}
 use Rattle.cfgx_parser.specs.declared.nodes.ExprNode.TheVariants as node
 use Rattle.cfgx_grammar.proofs.alone.Regular.{all_of_first, all_of_second}
 use Rattle.cfgx_grammar.proofs.spelled.Items.{Calls, Laws}
 use Rattle.cfgx_parser.proofs.spelled.Located.{Stands, NamesClass, NamesClass-class}
-use Rattle.cfgx_parser.proofs.spelled.Written.{Writes-none, Writes-then, Writes-leaf}
-use Rattle.cfgx_parser.proofs.spelled.Written.{Writes-function, length-nodes}
+use Rattle.cfgx_parser.proofs.spelled.Written.{WritesNodes-none, WritesNodes-then, WritesNodes-leaf}
+use Rattle.cfgx_parser.proofs.spelled.Written.{WritesNodes-function, length-nodes}
 
 -- a function's tree, by its kind and its members
 record Called (function : Function) (tree : Tree Question) (trees : Trees Question) : Type 0 where
@@ -58,24 +58,25 @@ module _ (text : List ℕ) where
   -- for a tree whose items stand at their places, and for a list
   abbrev pub ItemWrites : List Item → Written → Written → Tree Question → Type 0
   ItemWrites items w v tree = ArePlaced text items
-      → Writes text w v (prefix tree) (if is_leaf tree then length w.nodes ∷ [] else [])
+      → WritesNodes text w v (prefix tree) (if is_leaf tree then length w.nodes ∷ [] else [])
       (if is_function tree then places (length w.nodes) tree else [])
 
   abbrev ListWrites : List Item → Written → Written → Trees Question → Type 0
   ListWrites items w v trees = ArePlaced text items
-      → Writes text w v (prefix_each trees) (own_places (length w.nodes) trees)
+      → WritesNodes text w v (prefix_each trees) (own_places (length w.nodes) trees)
       (inner_places (length w.nodes) trees)
 
   leaf_writes : (w : Written) (key_span : Range ℕ) (span : Option (Range ℕ)) (key : List ℕ)
       (value : Option (List ℕ)) (question : Question) → Stands text key_span span key value
       → class key value ≡ Class.is question
-      → Writes text w (with_leaf (located key_span span question) w) (prefix (Tree.leaf question))
+      → WritesNodes text w (with_leaf (located key_span span question) w)
+          (prefix (Tree.leaf question))
       (length w.nodes ∷ []) []
   leaf_writes w key_span span key value question stands classed =
       let named : NamesClass text key_span span (Class.is question) =
       subst (NamesClass text key_span span) classed
       (NamesClass-class text key_span span key value stands) in
-      Writes-leaf text w _ question named.0 named.1
+      WritesNodes-leaf text w _ question named.0 named.1
 
   list_writes : (xs ys zs : List Item) (tree : Tree Question) (trees : Trees Question)
       (w v u : Written)
@@ -85,9 +86,9 @@ module _ (text : List ℕ) where
       let P = λ (item : Item). IsPlaced text item item.token in
       let first = writes (all_of_first P xs (ys ++ zs) placed) in
       let others = more (all_of_second P ys zs (all_of_second P xs (ys ++ zs) placed)) in
-      let at = subst (λ k. Writes text v u (prefix_each trees) (own_places k trees)
+      let at = subst (λ k. WritesNodes text v u (prefix_each trees) (own_places k trees)
       (inner_places k trees)) (length-nodes text w v (prefix tree) _ _ first) others in
-      Writes-then text w v u _ _ _ _ _ _ first at
+      WritesNodes-then text w v u _ _ _ _ _ _ first at
 
   call_writes : (function : Function) (tree : Tree Question) (trees : Trees Question)
       → Called function tree trees
@@ -96,7 +97,8 @@ module _ (text : List ℕ) where
       let P = λ (item : Item). IsPlaced text item item.token in
       let written = writes (all_of_first P members (closing ∷ []) placed.1.1) in
       let place = length_push w.nodes (node.Fn (counted function 0) 0) in
-      let whole = Writes-function text w v (counted function 0) (counted function (count trees))
+      let whole =
+          WritesNodes-function text w v (counted function 0) (counted function (count trees))
       _ _ _ written in
       rw (called.prefix_is, called.is_no_leaf, called.is_one, called.places_are, ← place) whole
 
@@ -113,7 +115,7 @@ module _ (text : List ℕ) where
           key_holds = subst (IsPlaced text x) x_is placed.0;
           value_holds = subst (IsPlaced text z) z_is placed.1.1.0;
         }) classed;
-    none = λ w placed. Writes-none text w;
+    none = λ w placed. WritesNodes-none text w;
     more = list_writes;
     all = λ trees. call_writes Function.all (Tree.all trees) trees (Called-all trees);
     any = λ trees. call_writes Function.any (Tree.any trees) trees (Called-any trees);

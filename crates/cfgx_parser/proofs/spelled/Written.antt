@@ -9,13 +9,13 @@ use Rattle.cfgx_parser.specs.nodes.Located.{question_at, HasCut}
 use Rattle.cfgx_parser.specs.nodes.Node.{Written, mark_of, with_leaf, with_function}
 use Rattle.cfgx_parser.specs.nodes.Node.{with_function_ended}
 use Rattle.cfgx_parser.specs.nodes.Prefix.{Node, node_at, headed}
-use Rattle.cfgx_parser.specs.nodes.Writes.{NodeHasCut, Writes}
+use Rattle.cfgx_parser.specs.nodes.Writes.{NodeHasCut, WritesNodes}
 use Rattle.cfgx_parser.specs.declared.function.Func.{Func}
 use Rattle.cfgx_parser.specs.declared.nodes.InnerPredicate.{InnerPredicate}
 use Rattle.cfgx_parser.specs.declared.nodes.ExprNode.TheVariants as node
 
-pub Writes-none : (text : List ℕ) (w : Written) → Writes text w w [] [] []
-Writes-none text w = record {
+pub WritesNodes-none : (text : List ℕ) (w : Written) → WritesNodes text w w [] [] []
+WritesNodes-none text w = record {
   added = [];
   nodes_are = sym (append-nil w.nodes);
   shown_are = refl;
@@ -29,11 +29,11 @@ behind : {X : Type 0} (old mid new xs ys : List X) → mid ≡ old ++ xs → new
 behind old mid new xs ys p q = q ∙ ap (λ l. l ++ ys) p ∙ append_assoc old xs ys
 
 -- one thing after another
-pub Writes-then : (text : List ℕ) (old mid new : Written) (shown more : List (Node Question))
+pub WritesNodes-then : (text : List ℕ) (old mid new : Written) (shown more : List (Node Question))
     (own own_more inner inner_more : List ℕ)
-    → Writes text old mid shown own inner → Writes text mid new more own_more inner_more
-    → Writes text old new (shown ++ more) (own ++ own_more) (inner ++ inner_more)
-Writes-then text old mid new shown more own own_more inner inner_more a b = record {
+    → WritesNodes text old mid shown own inner → WritesNodes text mid new more own_more inner_more
+    → WritesNodes text old new (shown ++ more) (own ++ own_more) (inner ++ inner_more)
+WritesNodes-then text old mid new shown more own own_more inner inner_more a b = record {
   added = a.added ++ b.added;
   nodes_are = behind old.nodes mid.nodes new.nodes a.added b.added a.nodes_are b.nodes_are;
   shown_are = map-append (node_at text) a.added b.added
@@ -45,18 +45,18 @@ Writes-then text old mid new shown more own own_more inner inner_more a b = reco
 
 -- as many nodes were added as are shown
 pub length-nodes : (text : List ℕ) (old new : Written) (shown : List (Node Question))
-    (own inner : List ℕ) → Writes text old new shown own inner
+    (own inner : List ℕ) → WritesNodes text old new shown own inner
     → length new.nodes ≡ length old.nodes + length shown
 length-nodes text old new shown own inner w =
     ap length w.nodes_are ∙ length-append old.nodes w.added
     ∙ ap (λ n. length old.nodes + n) (sym (length-map w.added (node_at text))
     ∙ ap length w.shown_are)
 
-pub Writes-leaf : (text : List ℕ) (w : Written) (predicate : InnerPredicate)
+pub WritesNodes-leaf : (text : List ℕ) (w : Written) (predicate : InnerPredicate)
     (question : Question) → question_at text predicate ≡ question
-    → HasCut text predicate → Writes text w (with_leaf predicate w) (Node.leaf question ∷ [])
+    → HasCut text predicate → WritesNodes text w (with_leaf predicate w) (Node.leaf question ∷ [])
     (length w.nodes ∷ []) []
-Writes-leaf text w predicate question names cut = record {
+WritesNodes-leaf text w predicate question names cut = record {
   added = node.Predicate predicate ∷ [];
   nodes_are = refl;
   shown_are = ap (λ q. Node.leaf q ∷ []) names;
@@ -66,12 +66,13 @@ Writes-leaf text w predicate question names cut = record {
 }
 
 -- a function and its members
-pub Writes-function : (text : List ℕ) (w v : Written) (first last : Func) (shown : List
+pub WritesNodes-function : (text : List ℕ) (w v : Written) (first last : Func) (shown : List
     (Node Question))
     (own inner : List ℕ)
-    → Writes text (with_function first w) v shown own inner
-    → Writes text w (with_function_ended (mark_of w) last v) (headed last shown) [] (inner ++ own)
-Writes-function text w v first last shown own inner a =
+    → WritesNodes text (with_function first w) v shown own inner
+    → WritesNodes text w (with_function_ended (mark_of w) last v) (headed last shown) []
+        (inner ++ own)
+WritesNodes-function text w v first last shown own inner a =
     let long : length v.nodes - length w.nodes ≡ length shown + 1 =
     omega (
       arith,

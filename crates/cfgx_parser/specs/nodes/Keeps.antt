@@ -20,7 +20,7 @@ pub record KeepsTree (text : List ℕ) (nodes : List ExprNode) (asked : List ℕ
   pub asked_are : asked ≡ places 0 tree
 
 -- they are those of the text's one tree
-pub record Keeps (text : List ℕ) (nodes : List ExprNode) (asked : List ℕ) : Type 0 where
+pub record KeepsOneTree (text : List ℕ) (nodes : List ExprNode) (asked : List ℕ) : Type 0 where
   pub one : HasOneTree text
   pub keeps : KeepsTree text nodes asked one.tree
 

@@ -34,7 +34,7 @@ abbrev pub ArePlaced : List ℕ → List Item → Type 0
 ArePlaced text items = AllByRecursion (λ item. IsPlaced text item item.token) items
 
 -- these nodes were written, these places of leaves wait, and those are asked
-pub record Writes (text : List ℕ) (old new : Written) (shown : List (Node Question))
+pub record WritesNodes (text : List ℕ) (old new : Written) (shown : List (Node Question))
     (own inner : List ℕ) : Type 0 where
   pub added : List ExprNode
   pub nodes_are : new.nodes ≡ old.nodes ++ added

@@ -6,7 +6,7 @@ use Rattle.cfgx_syntax.specs.Error.{Refusal, unexpected, cause_of}
 use Rattle.cfgx_syntax.specs.declared.error.Reason.{Reason}
 use Rattle.cfgx_grammar.specs.Classification.{target_class, other_class}
 use Rattle.cfgx_grammar.specs.parsing.State.{Function, Word, Pending}
-use Rattle.cfgx_parser.specs.parsing.State.{Open, located_class}
+use Rattle.cfgx_parser.specs.parsing.State.{OpenFunction, located_class}
 use Rattle.cfgx_grammar.specs.FirstFault.{refusal}
 use Rattle.cfgx_parser.specs.declared.function.Func.{Func}
 use Rattle.cfgx_parser.specs.declared.function.Func.TheVariants as func
@@ -25,9 +25,9 @@ pending_of p = record { key = word_of p.key; value = option_map word_of p.value 
 abbrev pub refused : Reason × Range ℕ → Refusal
 refused r = refusal (cause_of r.0) r.1.start r.1.end
 
-abbrev pub answer_of : Result InnerPredicate (Reason × Range ℕ) → Result InnerPredicate Refusal
-answer_of (Ok predicate) = Ok predicate
-answer_of (Err r) = Err (refused r)
+abbrev pub class_result : Result InnerPredicate (Reason × Range ℕ) → Result InnerPredicate Refusal
+class_result (Ok predicate) = Ok predicate
+class_result (Err r) = Err (refused r)
 
 -- of a key that stands without a value
 abbrev pub bare_answer : InnerPredicate → Option Word → Result InnerPredicate Refusal
@@ -51,7 +51,7 @@ function_of (func.All members) = Function.all
 function_of (func.Any members) = Function.any
 
 -- an open function, as the parser keeps it
-abbrev pub open_of : FuncAndSpan → Open
+abbrev pub open_of : FuncAndSpan → OpenFunction
 open_of f = record {
   function = function_of f.func;
   start = f.span.start;
@@ -62,9 +62,9 @@ open_of f = record {
 }
 
 -- the open functions, the innermost first
-abbrev pub opens_of : List FuncAndSpan → List Open
+abbrev pub opens_of : List FuncAndSpan → List OpenFunction
 opens_of functions = map open_of (reverse functions)
 
-abbrev pub is_some_open : List Open → Bool
+abbrev pub is_some_open : List OpenFunction → Bool
 is_some_open [] = false
 is_some_open (top ∷ rest) = true

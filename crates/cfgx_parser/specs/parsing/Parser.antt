@@ -14,14 +14,14 @@ use Rattle.cfgx_syntax.specs.declared.lexer.Token.{Token}
 use Rattle.cfgx_syntax.specs.declared.lexer.Token.TheVariants as given
 use Rattle.cfgx_parser.specs.nodes.Writer.{Fits, written_of}
 use Rattle.cfgx_grammar.specs.parsing.State.{Function}
-use Rattle.cfgx_parser.specs.parsing.State.{State}
+use Rattle.cfgx_parser.specs.parsing.State.{ParserState}
 use Rattle.cfgx_grammar.specs.parsing.Step.{opened, function_ended, closed_by}
 use Rattle.cfgx_grammar.specs.parsing.Step.{answer_from}
-use Rattle.cfgx_grammar.specs.FirstFault.{with_value, word_of}
+use Rattle.cfgx_grammar.specs.LastPredicate.{with_value, word_of}
 use Rattle.cfgx_parser.specs.parsing.Fields.{opens_of, pending_of}
 use Rattle.cfgx_parser.specs.declared.parser.Parser.{Parser}
 
-abbrev pub state_of : {A : Type 0} → Parser A → State
+abbrev pub state_of : {A : Type 0} → Parser A → ParserState
 state_of p = record {
   stack = opens_of p.func_stack.items;
   pending = option_map pending_of p.pending;
@@ -31,21 +31,21 @@ state_of p = record {
 }
 
 -- a fault of the text is the one that the steps show
-abbrev pub FailsAs : {A : Type 0} → List ℕ → Failure A → Result State Refusal → Type 0
+abbrev pub FailsAs : {A : Type 0} → List ℕ → Failure A → Result ParserState Refusal → Type 0
 FailsAs text (failure.Parse error) answer = (refusal : Refusal) × (answer ≡ Err refusal)
     × (fault_of error ≡ fault_in text refusal)
 FailsAs text (failure.Memory error) answer = Unit {0}
 
 -- the parser went on to a state, in the same text
-pub record Reaches {A : Type 0} (old new : Parser A) (state : State) : Type 0 where
+pub record Reaches {A : Type 0} (old new : Parser A) (state : ParserState) : Type 0 where
   pub is : state ≡ state_of {A = A} new
   pub same_text : new.original.now ≡ old.original.now
   pub fits : Fits (written_of new.writer)
 
 -- the answer of a function that goes one step
 abbrev pub Gives : {A : Type 0} → Result (Unit {0})
-    (Failure A) → Parser A → Parser A → Result State Refusal → Type 0
-Gives {A} (Ok done) old new answer = (state : State) × (answer ≡ Ok state)
+    (Failure A) → Parser A → Parser A → Result ParserState Refusal → Type 0
+Gives {A} (Ok done) old new answer = (state : ParserState) × (answer ≡ Ok state)
     × Reaches {A = A} old new state
 Gives (Err failure) old new answer = FailsAs old.original.now failure answer
 
@@ -60,10 +60,10 @@ abbrev pub EndsFunction : {A : Type 0} → Parser A → Parser A → Type 0
 EndsFunction {A} old new = Reaches {A = A} old new (function_ended (opens_of old.func_stack.items)
     (state_of {A = A} old))
 
-abbrev pub closed_at : State → Range ℕ → Result State Refusal
+abbrev pub closed_at : ParserState → Range ℕ → Result ParserState Refusal
 closed_at s span = closed_by s (item_at span) s.stack
 
-abbrev pub value_added : State → List ℕ → Range ℕ → State
+abbrev pub value_added : ParserState → List ℕ → Range ℕ → ParserState
 value_added s text span = record s {
   pending = option_map
       (with_value (word_of text (span.start + 1) (span.end - 1))) s.pending;

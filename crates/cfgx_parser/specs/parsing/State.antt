@@ -3,7 +3,7 @@ use Rattle.std.specs.Prelude.{ℕ, option_map, Result}
 use Rattle.std.specs.declared.ops.Range.{Range}
 use Rattle.cfgx_syntax.specs.Error.{Refusal}
 use Rattle.cfgx_grammar.specs.Classification.{Class}
-use Rattle.cfgx_grammar.specs.FirstFault.{class_of}
+use Rattle.cfgx_grammar.specs.LastPredicate.{class_of}
 use Rattle.cfgx_grammar.specs.parsing.State as parser
 use Rattle.cfgx_grammar.specs.parsing.State.{Function, Word, Pending, Builder}
 use Rattle.cfgx_grammar.specs.parsing.Step as steps
@@ -35,11 +35,11 @@ node_builder = record {
   root_ended = with_list_ended 0;
 }
 
-abbrev pub Open : Type 0
-Open = parser.Open Mark
+abbrev pub OpenFunction : Type 0
+OpenFunction = parser.Open Mark
 
-abbrev pub State : Type 0
-State = parser.State node_builder
+abbrev pub ParserState : Type 0
+ParserState = parser.State node_builder
 
 -- a predicate by its places, or its fault
 abbrev pub located_class : Pending → Class → Result InnerPredicate Refusal

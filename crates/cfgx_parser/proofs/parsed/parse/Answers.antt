@@ -2,7 +2,7 @@
 use Rattle.std.proofs.Common.{ap, ◌∙◌}
 use Rattle.std.proofs.lemmas.Result.{err_from_is_err_and}
 use Rattle.cfgx_syntax.specs.Stripping.{strip}
-use Rattle.cfgx_parser.proofs.Whole.{Begins, Answers-fails, Answers-memory, Keeps-reads}
+use Rattle.cfgx_parser.proofs.Whole.{Begins, Answers-fails, Answers-memory, KeepsOneTree-reads}
 use Rattle.cfgx_parser.proofs.Whole.{IsAccepted-reads}
 use Rattle.cfgx_parser.proofs.parsed.parse.Given.{Over}
 use Rattle.cfgx_parser.proofs.parsed.parse.Goals.{After-read_all}
@@ -35,7 +35,7 @@ invariant_of-result g c =
     let same = c.in_ok-original.ensures.ok ∙ c.original-text.ensures
     ∙ ap (λ l. l.text) begun.lexer_is in
     rw (same, c.into_parts-nodes.ensures.nodes, c.into_parts-nodes.ensures.asked)
-    (Keeps-reads c.read_all.new.self begun c.in_ok-read_all.ensures)
+    (KeepsOneTree-reads c.read_all.new.self begun c.in_ok-read_all.ensures)
 
 pub returns : goal.returns
 returns g c =

@@ -12,7 +12,8 @@ eval_lanes-requires g c =
     let found = c.in_ok-answers.ensures in (
       found.0.tree,
       found.0.has_tree,
-      ap length c.as_slice.ensures.value ∙ AllZip-long (InLanes g.T.TargetMatcher.answer c.args.rows.now)
+      ap length c.as_slice.ensures.value
+          ∙ AllZip-long (InLanes g.T.TargetMatcher.answer c.args.rows.now)
           (asked found.0.tree) c.in_ok-answers.answers.items found.1,
     )
 

@@ -1,11 +1,7 @@
 -- The closure answers with the answers, one after another.
 use Rattle.std.proofs.Common.{None, rules}
-use Rattle.cfg_expr.proofs.Chains.{MayAskEach-always, Evaluates-taken}
+use Rattle.cfg_expr.proofs.Chains.{Evaluates-taken}
 use Rattle.cfgx_vectors.proofs.filling.value_over.Goals as goal
-
-pub eval-requires : goal.eval-requires
-eval-requires c =
-    λ tree has. MayAskEach-always _ (λ state question shown is. search rules) _ _
 
 pub returns : goal.returns
 returns c =

@@ -18,7 +18,7 @@ ask-answer-requires g c =
 pub loop-predicate-preserved-in-Some-next : goal.loop-predicate-preserved-in-Some-next
 loop-predicate-preserved-in-Some-next g c =
     Leads-put c.in-Some.ensures.steps c.loop-predicate.invariant c.ask-answer.ensures
-    c.in-Some-next.ensures.steps c.put_answer.ensures
+    c.in-Some-next.ensures.steps c.put_member.ensures
 
 pub loop-predicate-preserved : goal.loop-predicate-preserved
 loop-predicate-preserved g c =

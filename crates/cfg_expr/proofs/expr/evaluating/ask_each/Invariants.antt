@@ -6,5 +6,5 @@ abbrev pub invariant-loop-predicate : goal.invariant-loop-predicate
 invariant-loop-predicate g l =
     Leads g.EP.FnMut
     (standing l.initial.ep l.initial.predicate-iterator l.initial.places.rest.now
-    l.initial.answers.items)
-    (standing l.ep l.predicate-iterator l.places.rest.now l.answers.items)
+    l.initial.slots)
+    (standing l.ep l.predicate-iterator l.places.rest.now l.slots)

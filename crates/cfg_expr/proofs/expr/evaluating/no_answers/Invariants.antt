@@ -1,7 +1,8 @@
 -- There is room for the places that are left.
-use Rattle.std.proofs.Common.{◌≡◌, ◌≤◌, replicate, None}
+use Rattle.std.proofs.Common.{◌≡◌, ◌≤◌}
+use Rattle.cfg_expr.specs.nodes.Answers.{no_answers}
 use Rattle.cfg_expr.proofs.expr.evaluating.no_answers.Given as goal
 
 abbrev pub invariant-loop-place : goal.invariant-loop-place
 invariant-loop-place g l =
-    (l.answers.items ≡ replicate l._place None) × (l.count ≤ l.answers.capacity)
+    (l.slots.items ≡ no_answers l._place) × (l.count ≤ l.slots.capacity)

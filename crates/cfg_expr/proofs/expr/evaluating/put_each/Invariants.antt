@@ -6,5 +6,5 @@ use Rattle.cfg_expr.proofs.expr.evaluating.put_each.Given as goal
 abbrev pub invariant-loop-place : goal.invariant-loop-place
 invariant-loop-place g l =
     (length l.place-iterator.a.rest.now ≡ length l.place-iterator.b.rest.now)
-    × (with_answers l.answers.items l.place-iterator.a.rest.now l.place-iterator.b.rest.now
-    ≡ with_answers l.initial.answers.items l.places l.given)
+    × (with_answers l.slots l.place-iterator.a.rest.now l.place-iterator.b.rest.now
+    ≡ with_answers l.initial.slots l.places l.given)

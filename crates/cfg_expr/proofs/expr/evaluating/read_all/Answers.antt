@@ -1,9 +1,19 @@
 -- One node more is read.
+use Rattle.std.proofs.Common.{◌-◌, ◌<◌, arith, length, sym, None}
+use Rattle.std.proofs.lemmas.List.{get_or-map, length-map}
+use Rattle.cfgx_parser.specs.nodes.Shape.{shape}
+use Rattle.cfg_expr.specs.declared.expr.evaluating.Member.TheVariants as member
 use Rattle.cfg_expr.proofs.evaluated.Read.{Reading-next}
 use Rattle.cfg_expr.proofs.expr.evaluating.read_all.Goals as goal
 
-pub loop-node-preserved : goal.loop-node-preserved
-loop-node-preserved g c =
-    Reading-next g.T.Logic c.in-Some.node.now c.pop.result c.in-Some.ensures.cases.0
-    c.pop.ensures.items c.pop.ensures.variant.1 c.flatten-answer.ensures c.read_node.ensures.stack
-    c.read_node.ensures.more c.read_node.ensures.capacity c.loop-node.invariant
+pub loop-place-preserved : goal.loop-place-preserved
+loop-place-preserved g c =
+    let more = c.loop-place-test.true in
+    let nodes = c.args.nodes.now in
+    let inside : c.loop-place.place - 1 < length nodes =
+    omega (arith, c.loop-place.auto.place, more) in
+    Reading-next member.Joined (omega (arith, more))
+    (omega (arith, length-map nodes shape, inside))
+    (sym (get_or-map shape nodes _ _ None inside)) c.loop-place.invariant
+    c.read_node-top.ensures.stack c.read_node-top.ensures.front c.read_node-top.ensures.within
+    c.read_node-top.auto.slots

@@ -1,35 +1,25 @@
--- There is room for all of the text's nodes.
-use Rattle.std.proofs.Common.{◌≡◌, ◌∙◌, None, ap, arith, length, replicate, rules}
-use Rattle.cfgx_parser.specs.nodes.Prefix.{prefix}
-use Rattle.cfg_expr.proofs.evaluated.Valued.{many_nodes}
-use Rattle.cfg_expr.proofs.expr.evaluating.value_of.Goals.{After-alloc-1, After-alloc-2-1}
+-- The answers that the closure gave stand at the places of the text's one tree.
+use Rattle.std.proofs.Common.{◌∙◌, refl}
+use Rattle.cfg_expr.proofs.Chains.{Calls-length}
+use Rattle.cfg_expr.proofs.evaluated.Valued.{Holds-put}
 use Rattle.cfg_expr.proofs.expr.evaluating.value_of.Goals as goal
 
-pub no_answers-requires : goal.no_answers-requires
-no_answers-requires g c = search (rules, g.met.T.Logic.small)
+pub read_value-requires : goal.read_value-requires
+read_value-requires g c =
+    let ends = c.ask_each.ensures in
+    let blank = c.as_mut_slice-slots.ensures.value ∙ c.in_ok-answers.ensures.slots in
+    Holds-put c.args.parsed.now c.nodes.result.now ends.1.answers c.nodes.ensures.nodes ends.0
+    (Calls-length g.EP.FnMut _ _ _ _ ends.1.calls) blank ends.1.slots_are refl
 
-pub with_capacity-requires : goal.with_capacity-requires
-with_capacity-requires g c = search (rules, g.met.T.Logic.small)
-
--- the sizes are those of the calls before
-pub asked_value-requires : goal.asked_value-requires
-asked_value-requires g c =
-    let before = goal.at.asked_value-requires g c in
-    let kept = c.nodes-count.ensures.nodes in
-    let nodes = c.nodes-count.result.now in
-    let many : length nodes ≡ length (prefix kept.0.tree) =
-    many_nodes c.args.parsed.now nodes kept.0.tree kept.1 in (
-      no_answers-requires g before.After-alloc-1,
-      (
-        with_capacity-requires g before.After-alloc-2-1,
-        (
-          c.requires,
-          record {
-            one = kept.0;
-            blank = c.in_ok-answers.ensures.items ∙ ap (λ n. replicate n None) many;
-            none = c.in_ok-stack.ensures.items;
-            room = omega (arith, many, c.in_ok-stack.ensures.capacity);
-          },
-        ),
-      ),
-    )
+pub returns-clause-value : goal.returns-clause-value
+returns-clause-value g c =
+    let ends = c.ask_each.ensures in
+    let blank = c.as_mut_slice-slots.ensures.value ∙ c.in_ok-answers.ensures.slots in
+    let held = Holds-put c.args.parsed.now c.nodes.result.now ends.1.answers c.nodes.ensures.nodes
+    ends.0 (Calls-length g.EP.FnMut _ _ _ _ ends.1.calls) blank ends.1.slots_are refl in
+    record {
+      one = ends.0;
+      answers = ends.1.answers;
+      calls = ends.1.calls;
+      value_is = c.read_value.ensures held;
+    }

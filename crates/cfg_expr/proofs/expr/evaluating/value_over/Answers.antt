@@ -1,35 +1,32 @@
--- There is room for all of the text's nodes.
-use Rattle.std.proofs.Common.{◌≡◌, ◌∙◌, None, ap, arith, length, replicate, rules}
-use Rattle.cfgx_parser.specs.nodes.Prefix.{prefix}
-use Rattle.cfg_expr.proofs.evaluated.Valued.{many_nodes}
-use Rattle.cfg_expr.proofs.expr.evaluating.value_over.Goals.{After-alloc-1, After-alloc-2-1}
+-- The answers that are given stand at the places of the text's one tree.
+use Rattle.std.proofs.Common.{◌∙◌, ap, length, sym}
+use Rattle.cfgx_grammar.specs.Tree.{asked}
+use Rattle.cfgx_parser.proofs.Places.{length-places}
+use Rattle.cfg_expr.proofs.evaluated.Valued.{Holds-put}
 use Rattle.cfg_expr.proofs.expr.evaluating.value_over.Goals as goal
 
-pub no_answers-requires : goal.no_answers-requires
-no_answers-requires g c = search (rules, g.met.T.Logic.small)
+pub put_each-requires : goal.put_each-requires
+put_each-requires g c =
+    let found = c.places.ensures in
+    let given = c.requires in
+    ap length found.1 ∙ length-places found.0.tree
+    ∙ ap (λ tree. length (asked tree)) (sym (found.0.only given.0 given.1)) ∙ sym given.2
 
-pub with_capacity-requires : goal.with_capacity-requires
-with_capacity-requires g c = search (rules, g.met.T.Logic.small)
+pub read_value-requires : goal.read_value-requires
+read_value-requires g c =
+    let found = c.places.ensures in
+    let given = c.requires in
+    Holds-put c.args.parsed.now c.nodes.result.now c.args.given.now c.nodes.ensures.nodes found.0
+    (given.2 ∙ ap (λ tree. length (asked tree)) (found.0.only given.0 given.1))
+    (c.as_mut_slice-slots.ensures.value ∙ c.in_ok-answers.ensures.slots) c.put_each.ensures found.1
 
--- the sizes are those of the calls before
-pub given_value-requires : goal.given_value-requires
-given_value-requires g c =
-    let before = goal.at.given_value-requires g c in
-    let kept = c.nodes-count.ensures.nodes in
-    let nodes = c.nodes-count.result.now in
-    let many : length nodes ≡ length (prefix kept.0.tree) =
-    many_nodes c.args.parsed.now nodes kept.0.tree kept.1 in (
-      no_answers-requires g before.After-alloc-1,
-      (
-        with_capacity-requires g before.After-alloc-2-1,
-        (
-          c.requires,
-          record {
-            one = kept.0;
-            blank = c.in_ok-answers.ensures.items ∙ ap (λ n. replicate n None) many;
-            none = c.in_ok-stack.ensures.items;
-            room = omega (arith, many, c.in_ok-stack.ensures.capacity);
-          },
-        ),
-      ),
+pub returns-clause-value : goal.returns-clause-value
+returns-clause-value g c =
+    let found = c.places.ensures in
+    let given = c.requires in
+    let many = given.2 ∙ ap (λ tree. length (asked tree)) (found.0.only given.0 given.1) in
+    let blank = c.as_mut_slice-slots.ensures.value ∙ c.in_ok-answers.ensures.slots in (
+      found.0,
+      c.read_value.ensures (Holds-put c.args.parsed.now c.nodes.result.now c.args.given.now
+          c.nodes.ensures.nodes found.0 many blank c.put_each.ensures found.1),
     )

@@ -1,15 +1,12 @@
 -- Each call answers as the flags do, and leaves them.
 use Rattle.std.proofs.Common.{◌≡◌, refl, rules, subst}
-use Rattle.cfg_expr.proofs.Chains.{Calls-AllZip, MayAskEach-always}
+use Rattle.cfg_expr.proofs.Chains.{Calls-AllZip}
 use Rattle.cfgx_parser.specs.Predicate.{question_of}
 use Rattle.cfgx_engine.specs.Flags.{IsAnswer}
 use Rattle.cfgx_engine.specs.Output.{texts}
 use Rattle.cfgx_engine.specs.declared.engine.flags.Flags.{Flags}
 use Rattle.cfgx_engine.proofs.OutputLemmas.{HasValue-flags}
 use Rattle.cfgx_engine.proofs.engine.flags.value_of.Goals as goal
-
-pub eval-requires : goal.eval-requires
-eval-requires g c = λ tree has. MayAskEach-always _ (λ state question shown is. tt) _ _
 
 pub returns : goal.returns
 returns g c =

@@ -1,14 +1,11 @@
 -- Each call answers as the target does, and leaves it.
 use Rattle.std.proofs.Common.{◌≡◌, ◌∙◌, ap, refl, rules}
-use Rattle.cfg_expr.proofs.Chains.{Calls-AllZip, MayAskEach-always}
+use Rattle.cfg_expr.proofs.Chains.{Calls-AllZip}
 use Rattle.cfgx_parser.specs.Predicate.{question_of}
 use Rattle.cfgx_engine.specs.Output.{answer_on}
 use Rattle.cfgx_targets.specs.declared.info.TargetInfo.{TargetInfo}
 use Rattle.cfgx_engine.proofs.OutputLemmas.{HasValueOn-row}
 use Rattle.cfgx_engine.proofs.engine.target.value_on.Goals as goal
-
-pub eval-requires : goal.eval-requires
-eval-requires g c = λ tree has. MayAskEach-always _ (λ state question shown is. tt) _ _
 
 pub returns : goal.returns
 returns g c =

@@ -4,7 +4,7 @@ use Rattle.std.specs.List.{AllByRecursion}
 use Rattle.cfgx_grammar.specs.Regular.{IsRegular}
 use Rattle.cfgx_grammar.proofs.alone.Regular.{regular_tree}
 use Rattle.cfgx_parser.proofs.Asked.{NameLeaves-kept, questions_at-kept}
-use Rattle.cfgx_parser.proofs.Kept.{Keeps-seen}
+use Rattle.cfgx_parser.proofs.Kept.{KeepsOneTree-seen}
 use Rattle.cfgx_parser.proofs.parsed.Parsed.predicates.Goals as goal
 
 pub new-requires : goal.new-requires
@@ -14,7 +14,7 @@ new-requires g c =
 
 pub returns-clause-asked : goal.returns-clause-asked
 returns-clause-asked g c =
-    let keeps = Keeps-seen c.self.view_is c.self.invariant in
+    let keeps = KeepsOneTree-seen c.self.view_is c.self.invariant in
     let text = c.as_str.ensures.value ∙ c.self.view_is in (
       keeps.one,
       c.new.ensures

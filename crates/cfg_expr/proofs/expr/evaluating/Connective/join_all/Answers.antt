@@ -1,10 +1,10 @@
 -- The leaves are joined, and then the functions.
 use Rattle.std.proofs.Common.{◌∙◌}
-use Rattle.cfg_expr.proofs.evaluated.Joined.{joined-below}
+use Rattle.cfg_expr.proofs.evaluated.Joined.{joined-twice}
 use Rattle.cfg_expr.proofs.expr.evaluating.Connective.join_all.Goals as goal
 
 pub returns : goal.returns
 returns g c =
     c.join_kind.ensures.value
     ∙ rw (c.join_kind-leaves.ensures.members, c.join_kind-leaves.ensures.value, c.begin.ensures)
-    (joined-below g.T.Logic c.args.self c.args.members.now)
+    (joined-twice g.T.Logic c.args.self c.args.members.now)

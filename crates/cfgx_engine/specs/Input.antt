@@ -1,0 +1,44 @@
+-- What reading an input whole answers.
+-- Source of the rules for one call: the documentation of `std::io::Read::read`. Source of the
+-- limit: docs/RULES.md.
+use Rattle.std.specs.Prelude.{◌≡◌, ◌≤◌, ℕ, ◌+◌, ◌^◌, List, length, take, drop}
+use Rattle.std.specs.Prelude.{Option, Result, Ok, Err}
+use Rattle.std.specs.Io.KnownBytes.{Consumes, IsAtEnd}
+use Rattle.cfgx_engine.specs.declared.engine.reading.Input.{Input}
+use Rattle.cfgx_engine.specs.declared.engine.reading.Input.TheVariants as input
+use Rattle.cfgx_engine.specs.declared.engine.reading.Stop.{Stop}
+use Rattle.cfgx_engine.specs.declared.engine.reading.Stop.TheVariants as stop
+
+-- the most bytes that an input may have: 16 MiB
+abbrev pub input_limit : ℕ
+input_limit = 2 ^ 24
+
+-- how many calls of a source failed, of those that gave this answer
+abbrev pub stop_failures : {A : Type 0} → Result (Input A) Stop → ℕ
+stop_failures (Ok input) = 0
+stop_failures (Err stop.Memory) = 0
+stop_failures (Err stop.Device) = 1
+
+-- The bytes of an input are all that the source gave, to its end. An input is too long where one
+-- byte more than the limit was read. Otherwise a beginning of the input was read.
+abbrev pub ReadsInput : {A : Type 0} → Option (List ℕ) → Option (List ℕ) → Result (Input A) Stop
+    → Type 0
+ReadsInput old new (Ok (input.Bytes bytes)) = (length bytes.items ≤ input_limit)
+    × Consumes old new bytes.items × IsAtEnd new
+ReadsInput old new (Ok input.TooLong) = (front : List ℕ) × (length front ≡ input_limit + 1)
+    × Consumes old new front
+ReadsInput old new (Err stopped) = (front : List ℕ) × (length front ≤ input_limit)
+    × Consumes old new front
+
+-- How far the reading has come.
+
+-- so many of the bytes were read, and there is room for one byte more than the limit at most
+abbrev pub IsRoom : List ℕ → ℕ → Type 0
+IsRoom bytes filled = (filled ≤ length bytes) × (length bytes ≤ input_limit + 1)
+    × (filled ≤ input_limit)
+
+-- one call gave so many bytes more, which stand there after the others; none only at the end
+pub record ReadsMore (old new : Option (List ℕ)) (bytes : List ℕ) (filled count : ℕ) : Type 0 where
+  pub within : filled + count ≤ length bytes
+  pub consumes : Consumes old new (take count (drop filled bytes))
+  pub at_end : count ≡ 0 → IsAtEnd new

@@ -1,0 +1,91 @@
+//! An input that is read whole, or not at all.
+ghost use Rattle.std.specs.Prelude.{◌≡◌, ◌+◌, ◌<◌, ◌≤◌, length, take, is_some};
+ghost use Rattle.std.specs.Prelude.{IfSome, IfNone, IsTrue, if◌then◌else◌};
+ghost use Rattle.std.specs.Io.KnownBytes.{Keeps};
+ghost use Rattle.cfgx_engine.specs.Input.{IsRoom, ReadsInput, ReadsMore};
+ghost use Rattle.cfgx_engine.specs.Input.{input_limit, stop_failures};
+
+use super::streams::Source;
+use std::alloc::{Allocator, Global};
+
+/// The most bytes that an input may have: 16 MiB.
+const LIMIT: usize = 16_777_216;
+
+/// The room for the first bytes.
+const FIRST_ROOM: usize = 65_536;
+
+/// An input that was read to its end, or is too long.
+#[derive(Drop)]
+pub enum Input<A: Allocator = Global> {
+    /// All its bytes, at most 16,777,216
+    Bytes(Vec<u8, A>),
+    /// It has more bytes than that
+    TooLong,
+}
+
+/// Why an input was not read to its end.
+#[derive(Clone, Copy, PartialEq, Eq, Debug)]
+pub enum Stop {
+    /// Memory was refused
+    Memory,
+    /// A call of the source failed
+    Device,
+}
+
+/// Makes room after the bytes that were read, twice as much as there is, if none is left. It
+/// answers whether memory was found.
+fn make_room<A: Allocator>(bytes: &mut Vec<u8, A>, filled: usize) -> bool
+    requires { IsRoom bytes.old.items filled }
+    ensures { IsTrue result → (filled < length bytes.new.items)
+        × (length bytes.new.items ≤ input_limit + 1)
+        × (take filled bytes.new.items ≡ take filled bytes.old.items) }
+{
+    if filled < bytes.len() {
+        return true;
+    }
+    let len = (2 * bytes.len()).clamp(FIRST_ROOM, LIMIT + 1);
+    bytes.resize(len, 0).is_ok()
+}
+
+/// Reads once, into the room after the bytes that were read. It answers how many bytes came, or
+/// `None` if the call failed.
+fn read_once<R: Source>(reader: &mut R, bytes: &mut [u8], filled: usize) -> Option<usize>
+    requires failures { R.failures reader.old < u64.MAX }
+    requires room { filled < length bytes.old }
+    ensures count { R.failures reader.new
+        ≡ R.failures reader.old + (if is_some result then 0 else 1) }
+    ensures came { IfSome result (λ count. ReadsMore (R.unread reader.old) (R.unread reader.new)
+        bytes.new filled count) }
+    ensures front { take filled bytes.new ≡ take filled bytes.old }
+    ensures none { IfNone result (Keeps (R.unread reader.old) (R.unread reader.new)) }
+{
+    reader.read(&mut bytes[filled..]).ok()
+}
+
+/// Reads a source to its end.
+///
+/// It answers all the bytes, or that the input is too long once one byte more than the limit was
+/// read. The error is that memory was refused, or that a call of the source failed; no call is made
+/// after it. What was read stays read in each case.
+pub fn read_input<A: Allocator, R: Source>(alloc: A, reader: &mut R) -> Result<Input<A>, Stop>
+    requires { R.failures reader.old < u64.MAX }
+    ensures count { R.failures reader.new ≡ R.failures reader.old + stop_failures result }
+    ensures bytes { ReadsInput (R.unread reader.old) (R.unread reader.new) result }
+{
+    let mut bytes = Vec::new(alloc);
+    let mut filled = 0;
+    while filled <= LIMIT {
+        if !make_room(&mut bytes, filled) {
+            return Err(Stop::Memory);
+        }
+        let Some(count) = read_once(reader, bytes.as_mut_slice(), filled) else {
+            return Err(Stop::Device);
+        };
+        if count == 0 {
+            bytes.truncate(filled);
+            return Ok(Input::Bytes(bytes));
+        }
+        filled += count;
+    }
+    Ok(Input::TooLong)
+}

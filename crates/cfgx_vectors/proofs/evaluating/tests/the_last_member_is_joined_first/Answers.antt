@@ -1,6 +1,0 @@
--- Each call answers, in every state.
-use Rattle.cfg_expr.proofs.Chains.{MayAskEach-always}
-use Rattle.cfgx_vectors.proofs.evaluating.tests.the_last_member_is_joined_first.Goals as goal
-
-pub eval-requires : goal.eval-requires
-eval-requires g c = λ tree has. MayAskEach-always _ (λ state question shown is. tt) _ _
