@@ -1,8 +1,0 @@
--- Each call answers, in every state.
-use Rattle.std.proofs.Common.{rules}
-use Rattle.cfg_expr.proofs.Chains.{MayAskEach-always}
-use Rattle.cfgx_vectors.proofs.lanes.plain_value.Goals as goal
-
-pub eval-requires : goal.eval-requires
-eval-requires c =
-    λ tree has. MayAskEach-always _ (λ state question shown is. search rules) _ _
