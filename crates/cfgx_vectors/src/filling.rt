@@ -71,6 +71,7 @@ pub fn plan(
 mod tests {
     use crate::deep::{nested, repeated};
     use crate::filling::{Decision, plan};
+    use crate::lanes::{self, each_in_each, in_each};
     use crate::refusing::Refusing;
     use cfg_expr::expr::Logic;
     use cfg_expr::memory::SmallAllocator;
@@ -456,14 +457,28 @@ mod tests {
         power
     }
 
-    // Whether the value over the answers, the fillings one by one and the two found ones agree.
+    // Whether the value over these answers in each lane is this one in each lane.
+    fn has_in_lanes(
+        alloc: Global,
+        expression: &Expression,
+        answers: &[Option<bool>],
+        value: Option<bool>,
+    ) -> Result<bool, Fail> {
+        let lanes = each_in_each(alloc, answers)?;
+        Ok(lanes::value_over(alloc, expression, lanes.as_slice())? == in_each(value))
+    }
+
+    // Whether the value over the answers, that in lanes, the fillings one by one and the two found
+    // ones agree.
     fn agree(
         alloc: Global,
         expression: &Expression,
         answers: &[Option<bool>],
     ) -> Result<bool, Fail> {
         let value = value_with(alloc, expression, answers, None)?;
-        if common_value(alloc, expression, answers)? != value {
+        if common_value(alloc, expression, answers)? != value
+            || !has_in_lanes(alloc, expression, answers, value)?
+        {
             return Ok(false);
         }
         let Some((with_true, with_false)) = fillings_over(alloc, expression, answers)? else {

@@ -224,7 +224,7 @@ fn a_row_meets_its_predicates(rt: HostRuntime) {
 }
 
 // The expression of the README of cfg-expr, which asks the vendor first.
-const README: &str = "all(target_os = \"windows\", target_arch = \"x86\", windows, \
+pub(crate) const README: &str = "all(target_os = \"windows\", target_arch = \"x86\", windows, \
     target_env = \"msvc\", target_feature = \"fxsr\", target_feature = \"sse\", \
     target_feature = \"sse2\", target_pointer_width = \"32\", target_endian = \"little\", \
     not(target_vendor = \"uwp\"), feature = \"cool_thing\",)";
@@ -259,7 +259,10 @@ fn is_true_of(predicate: &Predicate<'_>, row: &TargetInfo<'_>) -> bool {
 }
 
 // A row of Windows for 32 bits, of this vendor.
-fn windows(alloc: Global, vendor: Vendor<'static>) -> Result<TargetInfo<'static>, AllocError> {
+pub(crate) fn windows(
+    alloc: Global,
+    vendor: Vendor<'static>,
+) -> Result<TargetInfo<'static>, AllocError> {
     let families = Families::windows(alloc)?;
     Ok(TargetInfo {
         os: Some(Os::windows()),
@@ -282,7 +285,7 @@ fn value_of_readme(alloc: Global, row: &TargetInfo<'_>) -> Result<bool, Failure>
 }
 
 // A row of macOS.
-fn darwin(alloc: Global) -> Result<TargetInfo<'static>, AllocError> {
+pub(crate) fn darwin(alloc: Global) -> Result<TargetInfo<'static>, AllocError> {
     Ok(TargetInfo {
         triple: Triple::new_const("aarch64-apple-darwin"),
         os: Some(Os::macos()),

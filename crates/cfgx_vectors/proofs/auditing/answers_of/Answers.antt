@@ -14,8 +14,10 @@ loop-predicate-preserved g c =
 pub returns : goal.returns
 returns g c =
     let asks = c.predicates-predicate-items.ensures.asked in
-    let R = InLanes g.T.TargetMatcher.answer c.args.rows.now in
-    (asks.0, subst (λ questions. AllZip R questions c.loop-predicate.answers.items)
-    (c.into_iter-predicate-iterator.ensures.into_iter_gives ∙ asks.1)
-    (Answering-end R c.into_iter-predicate-iterator.result c.loop-predicate.predicate-iterator
-    c.loop-predicate.answers.items c.in-None.ensures.steps.0 c.loop-predicate.invariant))
+    let R = InLanes g.T.TargetMatcher.answer c.args.rows.now in (
+      asks.0,
+      subst (λ questions. AllZip R questions c.loop-predicate.answers.items)
+          (c.into_iter-predicate-iterator.ensures.into_iter_gives ∙ asks.1)
+          (Answering-end R c.into_iter-predicate-iterator.result c.loop-predicate.predicate-iterator
+          c.loop-predicate.answers.items c.in-None.ensures.steps.0 c.loop-predicate.invariant),
+    )
