@@ -52,6 +52,14 @@ prefix_len_some (byte ∷ rest) some starts =
     let goes : continues_word byte ≡ true = starts_word-continues byte starts in
     rw goes (omega arith)
 
+-- its first byte, and those that continue it
+pub prefix_len-first : (text : List ℕ) → 0 < length text → starts_word (get_or text 0 0) ≡ true
+    → prefix_len continues_word (drop 1 text) + 1 ≡ prefix_len continues_word text
+prefix_len-first [] some starts = absurd (omega arith)
+prefix_len-first (byte ∷ rest) some starts =
+    let goes : continues_word byte ≡ true = starts_word-continues byte starts in
+    rw goes (omega arith)
+
 pub IsCharBoundary-behind_word : (text : List ℕ) → IsUtf8 text → 0 < length text
     → starts_word (get_or text 0 0) ≡ true → IsCharBoundary text (prefix_len continues_word text)
 IsCharBoundary-behind_word text utf8 some starts =

@@ -1,5 +1,5 @@
 //! Tokens of a `cfg()` text with the bytes that spell them.
-ghost use Rattle.std.specs.Prelude.{◌≡◌, ◌-◌, ◌<◌, length, slice_index, codes};
+ghost use Rattle.std.specs.Prelude.{◌≡◌, ◌-◌, ◌<◌, ◌≤◌, length, slice_index, codes, get_or, true};
 ghost use Rattle.std.specs.List.{prefix_len};
 ghost use Rattle.cfgx_syntax.specs.Items.{HasOneTokenList};
 ghost use Rattle.cfgx_syntax.specs.Lexer.{token_of, BeginsAs};
@@ -66,17 +66,27 @@ fn starts_word(byte: u8) -> bool
 fn continues_word(byte: u8) -> bool
     ensures { result ≡ continues_word byte }
 {
-    byte.is_ascii_digit() || byte.is_ascii_alphabetic() || byte == b'_'
+    byte.is_ascii_alphanumeric() || byte == b'_'
 }
 
-/// How many bytes in front of the text may stand in a word.
-fn word_len(text: &str) -> usize
-    ensures { result ≡ prefix_len continues_word text.now }
+/// How many of the first bytes may stand in a word.
+fn continued_len(bytes: &[u8]) -> usize
+    ensures len { result ≡ prefix_len continues_word bytes.now }
+    ensures few { result ≤ length bytes.now }
 {
-    text.as_bytes()
+    bytes
         .iter()
         .take_while(|byte| continues_word(**byte))
         .count()
+}
+
+/// How many bytes spell the word that the text begins with.
+fn word_len(text: &str) -> usize
+    requires some { 0 < length text.now }
+    requires starts { starts_word (get_or text.now 0 0) ≡ true }
+    ensures { result ≡ prefix_len continues_word text.now }
+{
+    continued_len(&text.as_bytes()[1..]) + 1
 }
 
 /// The token that a word spells.
