@@ -11,6 +11,7 @@ pub mod matcher;
 pub mod names;
 pub mod program;
 pub mod refusals;
+pub mod rows;
 pub mod running;
 pub mod streams;
 #[cfg(test)]
