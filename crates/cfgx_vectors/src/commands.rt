@@ -259,6 +259,13 @@ fn many_members(rt: HostRuntime) -> Result<(), Fail> {
 }
 
 #[test]
+fn many_flags(rt: HostRuntime) -> Result<(), Fail> {
+    let words = vec![in rt.alloc(); "a"; 1_000]?;
+    assert!(rt; is_evaluated(rt.alloc(), words.as_slice(), "true\n", 0)?);
+    Ok(())
+}
+
+#[test]
 fn many_predicates(rt: HostRuntime) -> Result<(), Fail> {
     let wide = repeated(rt.alloc(), "all(", "a,", 1_000, ")")?;
     assert!(rt; is_evaluated(rt.alloc(), &[wide.as_str(), wide.as_str()], "true\n", 0)?);

@@ -286,6 +286,28 @@ mod tests {
         Ok(())
     }
 
+    // Whether so many members of `any` are all true in the first filling, and all false in the
+    // second.
+    fn fill_any(alloc: Global, count: usize) -> Result<bool, Fail> {
+        let unknown: Option<bool> = None;
+        let text = repeated(alloc, "any(", "a,", count, ")")?;
+        let answers = vec![in alloc; unknown; count]?;
+        let all_true = vec![in alloc; true; count]?;
+        let all_false = vec![in alloc; false; count]?;
+        has_fillings(
+            alloc,
+            text.as_str(),
+            answers.as_slice(),
+            Some((all_true.as_slice(), all_false.as_slice())),
+        )
+    }
+
+    #[test]
+    fn a_hundred_thousand_members(rt: HostRuntime) -> Result<(), Fail> {
+        assert!(rt; fill_any(rt.alloc(), 100_000)?);
+        Ok(())
+    }
+
     // No text here needs so many growths.
     const MOST_GROWTHS: u64 = 100;
 

@@ -34,6 +34,8 @@ mod named;
 mod nodes;
 #[cfg(test)]
 mod program;
+#[cfg(test)]
+mod reading;
 pub mod refusing;
 #[cfg(test)]
 mod rust_crate;

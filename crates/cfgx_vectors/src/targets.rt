@@ -26,10 +26,13 @@ fn lists(alloc: Global, names: &[&'static str], text: &str) -> Result<bool, Allo
     prints(alloc, &list, text)
 }
 
+const MANY: &[&str] = &["j", "a", "i", "b", "h", "c", "g", "d", "f", "e"];
+
 #[test]
 fn families_are_sorted_and_printed(rt: HostRuntime) {
     assert!(rt; holds(lists(rt.alloc(), &["wasm", "unix"], "{unix, wasm}")));
     assert!(rt; holds(lists(rt.alloc(), &["unix", "unix"], "{unix, unix}")));
+    assert!(rt; holds(lists(rt.alloc(), MANY, "{a, b, c, d, e, f, g, h, i, j}")));
     assert!(rt; holds(lists(rt.alloc(), &[], "{}")));
 }
 
@@ -91,8 +94,10 @@ fn is_no_width(alloc: Global, text: &str) -> Result<bool, AllocError> {
 }
 
 const NO_WIDTHS: &[&str] = &[
-    "65536", "PTR", "", "+", "-0", "++1", " 64", "6 4", "0x40", "٣", "ptr ", "+ptr",
+    "65536", "PTR", "", "+", "-0", "++1", " 64", "6 4", "0x40", "٣", "ptr ", "+ptr", LONG,
 ];
+
+const LONG: &str = "more bytes than any width is written with, and more than a short text has";
 
 #[test]
 fn other_texts_are_no_widths(rt: HostRuntime) {
