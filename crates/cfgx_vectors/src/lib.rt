@@ -35,6 +35,7 @@ mod nodes;
 #[cfg(test)]
 mod program;
 pub mod refusing;
+pub mod respelling;
 #[cfg(test)]
 mod rust_crate;
 #[cfg(test)]

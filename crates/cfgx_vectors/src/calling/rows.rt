@@ -1,7 +1,7 @@
 //! A condition over many targets at once.
 
 use cfg_expr::error::Failure;
-use cfg_expr::logic::Kleene64;
+use cfg_expr::expr::logic::Kleene64;
 use cfg_expr::targets::TargetInfo;
 use cfg_expr::{Expression, Predicate};
 use std::alloc::Global;
