@@ -1,3 +1,4 @@
 mod Loan
 pub mod Audited
+pub mod Respelt
 pub mod Written

@@ -1,9 +1,12 @@
--- What the proved callers of `eval` answer.
-use Rattle.std.specs.Prelude.{ℕ, Bool, false, List, codes}
+-- What the proved callers answer.
+use Rattle.std.specs.Prelude.{ℕ, Bool, false, List, codes, Result, Ok, Err}
 use Rattle.std.specs.Borrow.{Bor}
 use Rattle.std.specs.List.{list_any}
 use Rattle.std.specs.Str.{bytes_eq}
+use Rattle.cfgx_syntax.specs.declared.error.Failure.{Failure}
+use Rattle.cfgx_syntax.specs.declared.error.Failure.TheVariants as failure
 use Rattle.cfgx_grammar.specs.Question.{Question}
+use Rattle.cfgx_grammar.specs.Regular.{IsAlone}
 use Rattle.cfgx_vectors.specs.Terms.{cut}
 
 -- whether a predicate is a bare key of no other meaning, and one of these
@@ -27,3 +30,9 @@ term_of Question.proc_macro = codes "?"
 term_of (Question.feature text) = codes "?"
 term_of (Question.target_feature text) = codes "?"
 term_of (Question.key_value key value) = codes "?"
+
+-- the expression of a text that asks this predicate alone was read, or memory ran out
+abbrev pub IsReadAlone : {A : Type 0} → Question → Result (List ℕ) (Failure A) → Type 0
+IsReadAlone question (Ok expression) = IsAlone expression question
+IsReadAlone question (Err (failure.Parse error)) = ⊥
+IsReadAlone question (Err (failure.Memory error)) = Unit {0}

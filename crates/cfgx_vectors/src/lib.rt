@@ -37,6 +37,7 @@ mod program;
 #[cfg(test)]
 mod reading;
 pub mod refusing;
+pub mod respelling;
 #[cfg(test)]
 mod rust_crate;
 #[cfg(test)]
