@@ -23,6 +23,10 @@ pub mod filling;
 #[cfg(test)]
 mod holding;
 #[cfg(test)]
+mod in_turn;
+#[cfg(test)]
+mod input;
+#[cfg(test)]
 mod lanes;
 #[cfg(test)]
 mod lexer;

@@ -12,7 +12,7 @@ use std::alloc::{AllocError, Global};
 use std::fmt::Display;
 use std::test::Fail;
 
-mod memory;
+pub(crate) mod memory;
 
 // Whether the value prints this text.
 fn prints<T: Display>(alloc: Global, value: &T, text: &str) -> Result<bool, AllocError> {

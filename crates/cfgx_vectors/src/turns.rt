@@ -1,4 +1,5 @@
 //! Each growth of a call refused in turn.
+use crate::holding::holds;
 use crate::refusing::Refusing;
 use std::alloc::{AllocError, Global};
 
@@ -9,7 +10,8 @@ pub(crate) type Heap<'h> = &'h Refusing<Global>;
 const MOST_GROWTHS: u64 = 1000;
 
 /// Whether the call answers want of memory with its first growth refused, with its second, and so
-/// on, and true once none is refused; and whether any was.
+/// on, each time true when it is made again with memory, and true once none is refused; and whether
+/// any was.
 pub(crate) fn is_refused_in_turns<C>(alloc: Global, call: C) -> bool
 where
     C: Fn(&Refusing<Global>) -> Result<bool, AllocError>,
@@ -20,9 +22,9 @@ where
         heap.refuse(turn);
         let answer = call(&heap);
         if !heap.has_refused() {
-            return turn > 1 && answer.is_ok_and(|is_right| is_right);
+            return turn > 1 && holds(answer);
         }
-        if answer.is_ok() {
+        if answer.is_ok() || !holds(call(&heap)) {
             return false;
         }
     }

@@ -19,7 +19,7 @@ fn are_families(list: &Families<'_, Heap<'_>>, names: &[&str]) -> bool {
             .all(|(family, name)| family.as_str() == *name)
 }
 
-fn makes_families(heap: Heap<'_>) -> Result<bool, AllocError> {
+pub(crate) fn makes_families(heap: Heap<'_>) -> Result<bool, AllocError> {
     let mut families = Vec::new(heap);
     families.push(Family::wasm())?;
     families.push(Family::unix())?;
@@ -27,7 +27,7 @@ fn makes_families(heap: Heap<'_>) -> Result<bool, AllocError> {
     Ok(are_families(&list, &["unix", "wasm"]))
 }
 
-fn names_families(heap: Heap<'_>) -> Result<bool, AllocError> {
+pub(crate) fn names_families(heap: Heap<'_>) -> Result<bool, AllocError> {
     Ok(
         are_families(&Families::unix(heap)?, &["unix"])
             && are_families(&Families::unix_wasm(heap)?, &["unix", "wasm"])
@@ -36,7 +36,7 @@ fn names_families(heap: Heap<'_>) -> Result<bool, AllocError> {
     )
 }
 
-fn copies_families(heap: Heap<'_>) -> Result<bool, AllocError> {
+pub(crate) fn copies_families(heap: Heap<'_>) -> Result<bool, AllocError> {
     let mut families = Vec::new(heap);
     families.push(Family::new(String::from_str(heap, "b")?))?;
     let list = Families::new(heap, families.into_iter())?;
@@ -73,12 +73,12 @@ fn are_widths(list: &HasAtomics<Heap<'_>>, bits: usize) -> bool {
     }
 }
 
-fn makes_widths(heap: Heap<'_>) -> Result<bool, AllocError> {
+pub(crate) fn makes_widths(heap: Heap<'_>) -> Result<bool, AllocError> {
     let items = [HasAtomic::Pointer, HasAtomic::IntegerSize(8)];
     Ok(are_widths(&HasAtomics::new(heap, items.iter().copied())?, 1))
 }
 
-fn names_widths(heap: Heap<'_>) -> Result<bool, AllocError> {
+pub(crate) fn names_widths(heap: Heap<'_>) -> Result<bool, AllocError> {
     Ok(
         are_widths(&HasAtomics::atomic_8_16_32_64_128_ptr(heap)?, 5)
             && are_widths(&HasAtomics::atomic_8_16_32_64_ptr(heap)?, 4)
@@ -86,7 +86,7 @@ fn names_widths(heap: Heap<'_>) -> Result<bool, AllocError> {
     )
 }
 
-fn copies_widths(heap: Heap<'_>) -> Result<bool, AllocError> {
+pub(crate) fn copies_widths(heap: Heap<'_>) -> Result<bool, AllocError> {
     let list = HasAtomics::atomic_8_16_32_ptr(heap)?;
     let copy = list.try_clone(heap);
     Ok(are_widths(&list, 3) && are_widths(&copy?, 3))
@@ -108,11 +108,11 @@ fn no_width(heap: Heap<'_>) -> Result<Option<HasAtomicParseError<Heap<'_>>>, All
     }
 }
 
-fn reads_no_width(heap: Heap<'_>) -> Result<bool, AllocError> {
+pub(crate) fn reads_no_width(heap: Heap<'_>) -> Result<bool, AllocError> {
     Ok(no_width(heap)?.is_some())
 }
 
-fn copies_a_fault(heap: Heap<'_>) -> Result<bool, AllocError> {
+pub(crate) fn copies_a_fault(heap: Heap<'_>) -> Result<bool, AllocError> {
     match no_width(heap)? {
         Some(error) => {
             let copy = error.try_clone(heap)?;
@@ -128,11 +128,11 @@ fn is_met_by_faults_of_widths(rt: HostRuntime) {
     assert!(rt; is_refused_in_turns(rt.alloc(), copies_a_fault));
 }
 
-fn builds_the_table(heap: Heap<'_>) -> Result<bool, AllocError> {
+pub(crate) fn builds_the_table(heap: Heap<'_>) -> Result<bool, AllocError> {
     Ok(TargetTable::builtins(heap)?.rows().len() == 5)
 }
 
-fn copies_a_row(heap: Heap<'_>) -> Result<bool, AllocError> {
+pub(crate) fn copies_a_row(heap: Heap<'_>) -> Result<bool, AllocError> {
     let table = TargetTable::builtins(heap)?;
     match table.rows().first() {
         Some(row) => Ok(row.try_clone(heap)? == *row),
@@ -140,7 +140,7 @@ fn copies_a_row(heap: Heap<'_>) -> Result<bool, AllocError> {
     }
 }
 
-fn copies_a_predicate(heap: Heap<'_>) -> Result<bool, AllocError> {
+pub(crate) fn copies_a_predicate(heap: Heap<'_>) -> Result<bool, AllocError> {
     let predicate = TargetPredicate::Abi(Abi::new(String::from_str(heap, "sim")?));
     let copy = predicate.try_clone(heap)?;
     Ok(copy == predicate)

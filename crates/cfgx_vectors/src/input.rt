@@ -1,0 +1,212 @@
+//! An input that is read whole: from a source in memory that gives little a call and fails where it
+//! is told to, up to the limit, and with each growth refused.
+ghost use Rattle.std.specs.Prelude.{◌≡◌, Some};
+
+use crate::holding::holds;
+use crate::refusing::Refusing;
+use cfgx_engine::engine::{Input, Source, Stop, read_input};
+use std::alloc::{AllocError, Allocator, Global};
+use std::io;
+use std::io::ErrorKind;
+
+/// A source of at most `each` bytes a call, whose read of the number `failing_read`, counted from
+/// 1, fails.
+#[derive(Drop)]
+struct Pieces<'a> {
+    left: &'a [u8],
+    each: usize,
+    failing_read: u64,
+    reads: u64,
+    failures: u64,
+}
+
+impl Pieces<'_> {
+    fn new(left: &[u8], each: usize, failing_read: u64) -> Pieces<'_>
+        ensures { result.failures ≡ 0 }
+    {
+        Pieces {
+            left,
+            each,
+            failing_read,
+            reads: 0,
+            failures: 0,
+        }
+    }
+}
+
+impl Source for Pieces<'_> {
+    ghost failures = { λ source. source.failures };
+
+    ghost unread = { λ source. Some source.left.now };
+
+    fn read(&mut self, buffer: &mut [u8]) -> io::Result<usize> {
+        self.reads = self.reads.saturating_add(1);
+        if self.reads == self.failing_read {
+            self.failures += 1;
+            return Err(io::Error::from(ErrorKind::Interrupted));
+        }
+        let count = buffer.len().min(self.each.max(1)).min(self.left.len());
+        let (front, behind) = self.left.split_at(count);
+        buffer[..count].copy_from_slice(front);
+        self.left = behind;
+        Ok(count)
+    }
+}
+
+// Whether the answer is these bytes.
+fn is_read<A: Allocator>(answer: &Result<Input<A>, Stop>, bytes: &[u8]) -> bool {
+    match answer {
+        Ok(Input::Bytes(read)) => read.as_slice() == bytes,
+        _ => false,
+    }
+}
+
+const TEN: &[u8] = b"0123456789";
+
+// The failing read of ten bytes in pieces of three, and the bytes that are then still to come. The
+// fifth read meets the end.
+const FAILING: &[(u64, &[u8])] = &[
+    (1, b"0123456789"),
+    (2, b"3456789"),
+    (3, b"6789"),
+    (4, b"9"),
+    (5, b""),
+];
+
+// Whether the failed read is answered, and is the last one.
+fn is_device(alloc: Global, failing_read: u64, left: &[u8]) -> bool {
+    let mut source = Pieces::new(TEN, 3, failing_read);
+    let answer = read_input(alloc, &mut source);
+    matches!(answer, Err(Stop::Device))
+        && source.reads == failing_read
+        && source.failures == 1
+        && source.left == left
+}
+
+#[test]
+fn a_failed_read_is_the_last_one(rt: HostRuntime) {
+    for (failing_read, left) in FAILING {
+        assert!(rt; is_device(rt.alloc(), *failing_read, left), "read {failing_read}");
+    }
+}
+
+// Whether all these bytes are read, to the end, in so many calls.
+fn is_read_whole(alloc: Global, bytes: &[u8], each: usize, reads: u64) -> bool {
+    let mut source = Pieces::new(bytes, each, 0);
+    let answer = read_input(alloc, &mut source);
+    is_read(&answer, bytes) && source.left.is_empty() && source.reads == reads
+}
+
+// How many bytes there are, and the calls that read them in pieces of three.
+const CUT: &[(usize, u64)] = &[
+    (0, 1),
+    (1, 2),
+    (2, 2),
+    (3, 2),
+    (4, 3),
+    (5, 3),
+    (6, 3),
+    (7, 4),
+    (8, 4),
+    (9, 4),
+    (10, 5),
+];
+
+#[test]
+fn a_source_is_read_to_its_end(rt: HostRuntime) {
+    for (length, reads) in CUT {
+        let bytes = &TEN[..(*length).min(TEN.len())];
+        assert!(rt; is_read_whole(rt.alloc(), bytes, 3, *reads), "{length} bytes");
+    }
+    assert!(rt; is_read_whole(rt.alloc(), TEN, usize::MAX, 2));
+}
+
+// As many bytes as an input may have.
+const MOST: usize = 16_777_216;
+
+// Pieces in which these are read in 256 calls.
+const PIECE: usize = 65_536;
+
+// So many bytes, of which the first and the last differ from the others.
+fn long(alloc: Global, length: usize) -> Result<Vec<u8>, AllocError> {
+    let mut bytes = Vec::from_elem(alloc, b'-', length.saturating_sub(2))?;
+    bytes.insert(0, b'a')?;
+    bytes.push(b'z')?;
+    Ok(bytes)
+}
+
+fn is_the_most(alloc: Global) -> Result<bool, AllocError> {
+    let bytes = long(alloc, MOST)?;
+    Ok(bytes.len() == MOST && is_read_whole(alloc, bytes.as_slice(), PIECE, 257))
+}
+
+// Whether it is too long after one byte more than the limit, and so many are still to come.
+fn is_too_long(alloc: Global, length: usize, left: usize) -> Result<bool, AllocError> {
+    let bytes = long(alloc, length)?;
+    let mut source = Pieces::new(bytes.as_slice(), PIECE, 0);
+    let answer = read_input(alloc, &mut source);
+    Ok(matches!(answer, Ok(Input::TooLong)) && source.left.len() == left && source.reads == 257)
+}
+
+#[test]
+fn an_input_has_at_most_sixteen_mebibytes(rt: HostRuntime) {
+    assert!(rt; holds(is_the_most(rt.alloc())));
+    assert!(rt; holds(is_too_long(rt.alloc(), MOST.saturating_add(1), 0)));
+    assert!(rt; holds(is_too_long(rt.alloc(), MOST.saturating_add(5), 4)));
+}
+
+/// What reading does with a refused growth.
+#[derive(Clone, Copy, PartialEq)]
+enum Seen {
+    /// It answers the bytes, and no growth was refused.
+    Plain,
+    /// It answers that memory was refused, with no failed call. What was read stays read: reading
+    /// again gives what follows it.
+    WantOfMemory,
+    Other,
+}
+
+// Reads the bytes with the growth of this number refused.
+fn seen_at(alloc: Global, bytes: &[u8], turn: u64) -> Seen {
+    let refusing = Refusing::new(alloc);
+    refusing.refuse(turn);
+    let mut source = Pieces::new(bytes, PIECE, 0);
+    let answer = read_input(&refusing, &mut source);
+    let left = source.left;
+    if !refusing.has_refused() && is_read(&answer, bytes) {
+        Seen::Plain
+    } else if refusing.has_refused()
+        && matches!(answer, Err(Stop::Memory))
+        && source.failures == 0
+        && bytes.ends_with(left)
+        && is_read(&read_input(alloc, &mut source), left)
+    {
+        Seen::WantOfMemory
+    } else {
+        Seen::Other
+    }
+}
+
+// Whether reading these bytes is refused with each growth in turn, which are so many.
+fn is_refused_in_turns(alloc: Global, bytes: &[u8], growths: u64) -> bool {
+    for turn in 1..=growths {
+        if seen_at(alloc, bytes, turn) != Seen::WantOfMemory {
+            return false;
+        }
+    }
+    seen_at(alloc, bytes, growths.saturating_add(1)) == Seen::Plain
+}
+
+fn long_is_refused(alloc: Global, length: usize, growths: u64) -> Result<bool, AllocError> {
+    let bytes = long(alloc, length)?;
+    Ok(is_refused_in_turns(alloc, bytes.as_slice(), growths))
+}
+
+// The room doubles, from 64 KiB on.
+#[test]
+fn each_growth_of_an_input_is_refused(rt: HostRuntime) {
+    assert!(rt; is_refused_in_turns(rt.alloc(), b"", 1));
+    assert!(rt; is_refused_in_turns(rt.alloc(), TEN, 1));
+    assert!(rt; holds(long_is_refused(rt.alloc(), 300_000, 4)));
+    assert!(rt; holds(long_is_refused(rt.alloc(), MOST, 10)));
+}
