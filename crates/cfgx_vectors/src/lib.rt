@@ -38,8 +38,6 @@ mod named;
 mod nodes;
 #[cfg(test)]
 mod program;
-#[cfg(test)]
-mod reading;
 pub mod refusing;
 pub mod respelling;
 #[cfg(test)]
