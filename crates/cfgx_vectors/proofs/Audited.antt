@@ -81,7 +81,7 @@ module _ {T : Type 0} (answer : T → TargetQuestion → Bool) (rows : List T) w
   first_lanes-verdicts tree answers value few zipped lanes =
       lanes-rows value (verdict answer tree)
       (λ i row is. lanes i (omega (arith, few, slice_get_within rows i row is))
-          ∙ ap (fold three_valued tree)
+      ∙ ap (fold three_valued tree)
       (lane-answers i row is (asked tree) answers zipped))
       (length rows) (omega arith)
       ∙ ap (map (verdict answer tree)) (take_all (length rows) rows (omega arith))

@@ -149,12 +149,7 @@ fn written(alloc: Global, text: Text) -> Result<String, AllocError> {
 }
 
 // What the call answers. `alloc` is for the sink of a run.
-fn answer_to(
-    alloc: Global,
-    heap: Heap<'_>,
-    call: Call,
-    text: &str,
-) -> Result<bool, AllocError> {
+fn answer_to(alloc: Global, heap: Heap<'_>, call: Call, text: &str) -> Result<bool, AllocError> {
     match call {
         Call::Lexer => conditions::lexes(heap, text),
         Call::Parse => conditions::parses(heap, text),
@@ -196,6 +191,9 @@ fn is_right_in_turns(alloc: Global, call: Call, text: Text) -> Result<bool, Allo
 #[test]
 fn each_growth_of_each_call_is_refused(rt: HostRuntime) {
     for (call, text) in TURNS {
-        assert!(rt; holds(is_right_in_turns(rt.alloc(), *call, *text)), "{call:?} of {text:?}");
+        assert!(rt;
+            holds(is_right_in_turns(rt.alloc(), *call, *text)),
+            "{call:?} of {text:?}"
+        );
     }
 }

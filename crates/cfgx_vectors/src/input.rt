@@ -86,7 +86,10 @@ fn is_device(alloc: Global, failing_read: u64, left: &[u8]) -> bool {
 #[test]
 fn a_failed_read_is_the_last_one(rt: HostRuntime) {
     for (failing_read, left) in FAILING {
-        assert!(rt; is_device(rt.alloc(), *failing_read, left), "read {failing_read}");
+        assert!(rt;
+            is_device(rt.alloc(), *failing_read, left),
+            "read {failing_read}"
+        );
     }
 }
 
@@ -116,7 +119,10 @@ const CUT: &[(usize, u64)] = &[
 fn a_source_is_read_to_its_end(rt: HostRuntime) {
     for (length, reads) in CUT {
         let bytes = &TEN[..(*length).min(TEN.len())];
-        assert!(rt; is_read_whole(rt.alloc(), bytes, 3, *reads), "{length} bytes");
+        assert!(rt;
+            is_read_whole(rt.alloc(), bytes, 3, *reads),
+            "{length} bytes"
+        );
     }
     assert!(rt; is_read_whole(rt.alloc(), TEN, usize::MAX, 2));
 }

@@ -130,7 +130,11 @@ fn refused(
     expression: &Expression<Heap<'_>>,
     text: &str,
 ) -> Result<bool, AllocError> {
-    if is_expression(expression, text) { Err(error) } else { Ok(false) }
+    if is_expression(expression, text) {
+        Err(error)
+    } else {
+        Ok(false)
+    }
 }
 
 /// A copy.

@@ -7,7 +7,11 @@ use std::alloc::{AllocError, Global};
 
 // The status of a run over a text, which says whether it is faulty.
 fn status_of(alloc: Global, text: &str) -> u8 {
-    if Expression::parse(alloc, text).is_ok() { 0 } else { 1 }
+    if Expression::parse(alloc, text).is_ok() {
+        0
+    } else {
+        1
+    }
 }
 
 // Whether a run with memory ends with the status and writes this.
@@ -17,12 +21,7 @@ fn is_plain(alloc: Global, words: &[&str], status: u8, written: &[u8]) -> bool {
 }
 
 // What the run answers. Out of memory it has not called its sink.
-fn answer(
-    alloc: Global,
-    heap: Heap<'_>,
-    words: &[&str],
-    text: &str,
-) -> Result<bool, AllocError> {
+fn answer(alloc: Global, heap: Heap<'_>, words: &[&str], text: &str) -> Result<bool, AllocError> {
     let mut sink = Recorder::new(alloc);
     let status = run(heap, words, &mut Ended, &mut sink);
     if status == 3 && sink.writes == 0 && sink.flushes == 0 && sink.bytes.is_empty() {
@@ -36,26 +35,14 @@ fn answer(
     )
 }
 
-pub(super) fn parses(
-    alloc: Global,
-    heap: Heap<'_>,
-    text: &str,
-) -> Result<bool, AllocError> {
+pub(super) fn parses(alloc: Global, heap: Heap<'_>, text: &str) -> Result<bool, AllocError> {
     answer(alloc, heap, &["parse", text], text)
 }
 
-pub(super) fn evaluates(
-    alloc: Global,
-    heap: Heap<'_>,
-    text: &str,
-) -> Result<bool, AllocError> {
+pub(super) fn evaluates(alloc: Global, heap: Heap<'_>, text: &str) -> Result<bool, AllocError> {
     answer(alloc, heap, &["eval", text, text], text)
 }
 
-pub(super) fn answers(
-    alloc: Global,
-    heap: Heap<'_>,
-    text: &str,
-) -> Result<bool, AllocError> {
+pub(super) fn answers(alloc: Global, heap: Heap<'_>, text: &str) -> Result<bool, AllocError> {
     answer(alloc, heap, &["target", "aarch64-apple-ios", text], text)
 }

@@ -9,8 +9,9 @@ const TEXT: &str = "\u{e9}";
 
 // Whether a field that owns its text is copied, and stays as it was.
 fn copies_field<K: Drop>(heap: Heap<'_>) -> Result<bool, AllocError> {
-    let field: cfgx_fields::Field<'static, K, Heap<'_>> =
-        cfgx_fields::Field::new(String::from_str(heap, TEXT)?);
+    let field: cfgx_fields::Field<'static, K, Heap<'_>> = cfgx_fields::Field::new(String::from_str(
+        heap, TEXT,
+    )?);
     let copy = field.try_clone(heap);
     if field.as_str() != TEXT {
         return Ok(false);
@@ -19,8 +20,9 @@ fn copies_field<K: Drop>(heap: Heap<'_>) -> Result<bool, AllocError> {
 }
 
 fn copies_place<K: Drop>(heap: Heap<'_>) -> Result<bool, AllocError> {
-    let place: cfgx_places::Field<'static, K, Heap<'_>> =
-        cfgx_places::Field::new(String::from_str(heap, TEXT)?);
+    let place: cfgx_places::Field<'static, K, Heap<'_>> = cfgx_places::Field::new(String::from_str(
+        heap, TEXT,
+    )?);
     let copy = place.try_clone(heap);
     if place.as_str() != TEXT {
         return Ok(false);
