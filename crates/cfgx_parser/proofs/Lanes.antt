@@ -38,10 +38,18 @@ answer-digit false = refl
 -- at most one of both planes has a bit
 bits-apart : (bs : List Bool) (i : ℕ) → bit_at (bits bs) i + bit_at (bits (map not bs)) i ≤ 1
 bits-apart [] i = omega (arith, bit_at-zero i)
-bits-apart (b ∷ bs) zero = omega (arith, bit_at-first b (bits bs),
-    bit_at-first (not b) (bits (map not bs)), digit-opposite b)
-bits-apart (b ∷ bs) (suc i) = omega (arith, bit_at-next b (bits bs) i,
-    bit_at-next (not b) (bits (map not bs)) i, bits-apart bs i)
+bits-apart (b ∷ bs) zero = omega (
+  arith,
+  bit_at-first b (bits bs),
+  bit_at-first (not b) (bits (map not bs)),
+  digit-opposite b,
+)
+bits-apart (b ∷ bs) (suc i) = omega (
+  arith,
+  bit_at-next b (bits bs) i,
+  bit_at-next (not b) (bits (map not bs)) i,
+  bits-apart bs i,
+)
 
 pub AreApart-bits : (bs : List Bool) → AreApart (bits bs) (bits (map not bs))
 AreApart-bits bs = AreApart-from _ _ (bits-apart bs)

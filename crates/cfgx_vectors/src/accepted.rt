@@ -52,6 +52,7 @@ const ROWS: &[(&str, &str)] = &[
     ("not(all(a, any(b, c)))", "b\nc\na\n"),
     ("all(\n\ta,\r\n\tb\n)\n", "a\nb\n"),
     ("\u{a0}key", "key\n"),
+    ("\u{3000}key", "key\n"),
     (
         "\u{3000}all\u{2003}(\u{a0}a\u{2028},\u{85}b\u{1680})\u{202f}",
         "a\nb\n",

@@ -1,8 +1,8 @@
 //! Every call that takes memory, with each of its growths refused in turn.
 //!
-//! A call answers `Ok(true)` if it gave its plain answer, `AllocError` if it answered want of
-//! memory and left all else as it was, and `Ok(false)` in every other case. After each refused
-//! growth it is made again with memory.
+//! A call answers `Ok(true)` if it gave its plain answer, `AllocError` if it was out of memory and
+//! left all else as it was, and `Ok(false)` in every other case. After each refused growth it is
+//! made again with memory.
 mod conditions;
 mod runs;
 mod values;

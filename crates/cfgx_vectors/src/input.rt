@@ -127,38 +127,67 @@ fn a_source_is_read_to_its_end(rt: HostRuntime) {
     assert!(rt; is_read_whole(rt.alloc(), TEN, usize::MAX, 2));
 }
 
-// As many bytes as an input may have.
-const MOST: usize = 16_777_216;
-
-// Pieces in which these are read in 256 calls.
+// Pieces in which a long input is read.
 const PIECE: usize = 65_536;
 
-// So many bytes, of which the first and the last differ from the others.
-fn long(alloc: Global, length: usize) -> Result<Vec<u8>, AllocError> {
-    let mut bytes = Vec::from_elem(alloc, b'-', length.saturating_sub(2))?;
-    bytes.insert(0, b'a')?;
-    bytes.push(b'z')?;
-    Ok(bytes)
+/// A source of so many bytes, which are what the buffer holds, at most `each` of them a call.
+#[derive(Drop)]
+struct Counting {
+    left: usize,
+    each: usize,
 }
 
-fn is_the_most(alloc: Global) -> Result<bool, AllocError> {
-    let bytes = long(alloc, MOST)?;
-    Ok(bytes.len() == MOST && is_read_whole(alloc, bytes.as_slice(), PIECE, 257))
+impl Source for Counting {
+    ghost use Rattle.std.specs.Prelude.{None};
+
+    ghost failures = { λ _. 0 };
+
+    // So it says no more than how many there are: the bytes that are read are proved.
+    ghost unread = { λ _. None };
+
+    fn read(&mut self, buffer: &mut [u8]) -> io::Result<usize> {
+        let count = buffer.len().min(self.each).min(self.left);
+        self.left -= count;
+        Ok(count)
+    }
 }
 
-// Whether it is too long after one byte more than the limit, and so many are still to come.
-fn is_too_long(alloc: Global, length: usize, left: usize) -> Result<bool, AllocError> {
-    let bytes = long(alloc, length)?;
-    let mut source = Pieces::new(bytes.as_slice(), PIECE, 0);
-    let answer = read_input(alloc, &mut source);
-    Ok(matches!(answer, Ok(Input::TooLong)) && source.left.len() == left && source.reads == 257)
+// How many bytes a source has, how many come in one call at most, how many an input has, if it is
+// not too long, and how many are left.
+const LENGTHS: &[(usize, usize, Option<usize>, usize)] = &[
+    (0, 1, Some(0), 0),
+    (5_000, 1, Some(5_000), 0),
+    (65_535, usize::MAX, Some(65_535), 0),
+    (65_536, usize::MAX, Some(65_536), 0),
+    (65_537, usize::MAX, Some(65_537), 0),
+    (1_000_000, 4_096, Some(1_000_000), 0),
+    (16_777_216, usize::MAX, Some(16_777_216), 0),
+    (16_777_217, usize::MAX, None, 0),
+    (16_777_221, 65_536, None, 4),
+];
+
+// Whether reading answers so many bytes, or that they are too many.
+fn has_length(alloc: Global, source: &mut Counting, wanted: Option<usize>) -> bool {
+    match read_input(alloc, source) {
+        Ok(Input::Bytes(bytes)) => wanted == Some(bytes.len()),
+        Ok(Input::TooLong) => wanted.is_none(),
+        Err(_) => false,
+    }
 }
 
 #[test]
 fn an_input_has_at_most_sixteen_mebibytes(rt: HostRuntime) {
-    assert!(rt; holds(is_the_most(rt.alloc())));
-    assert!(rt; holds(is_too_long(rt.alloc(), MOST.saturating_add(1), 0)));
-    assert!(rt; holds(is_too_long(rt.alloc(), MOST.saturating_add(5), 4)));
+    for (count, each, wanted, left) in LENGTHS {
+        let mut source = Counting {
+            left: *count,
+            each: *each,
+        };
+        assert!(rt;
+            has_length(rt.alloc(), &mut source, *wanted),
+            "{count} bytes"
+        );
+        assert!(rt; source.left == *left, "{count} bytes");
+    }
 }
 
 /// What reading does with a refused growth.
@@ -204,7 +233,7 @@ fn is_refused_in_turns(alloc: Global, bytes: &[u8], growths: u64) -> bool {
 }
 
 fn long_is_refused(alloc: Global, length: usize, growths: u64) -> Result<bool, AllocError> {
-    let bytes = long(alloc, length)?;
+    let bytes = vec![in alloc; b'-'; length]?;
     Ok(is_refused_in_turns(alloc, bytes.as_slice(), growths))
 }
 
@@ -214,5 +243,4 @@ fn each_growth_of_an_input_is_refused(rt: HostRuntime) {
     assert!(rt; is_refused_in_turns(rt.alloc(), b"", 1));
     assert!(rt; is_refused_in_turns(rt.alloc(), TEN, 1));
     assert!(rt; holds(long_is_refused(rt.alloc(), 300_000, 4)));
-    assert!(rt; holds(long_is_refused(rt.alloc(), MOST, 10)));
 }

@@ -126,6 +126,7 @@ const ROWS: &[Row] = &[
     (TEXT, (2, ALL, 2, false), 3, "b\n", (2, 0)),
     (TEXT, (ALL, 4, 0, false), 3, "b\na\n", (2, 0)),
     (TEXT, (ALL, ALL, 0, true), 3, "b\na\nc\n", (1, 1)),
+    (TEXT, (1, ALL, 0, true), 3, "b\na\nc\n", (6, 1)),
     ("all()", (ALL, ALL, 0, false), 0, "", (0, 1)),
     ("all()", (ALL, ALL, 0, true), 3, "", (0, 1)),
     ("key)", (ALL, ALL, 1, false), 3, "", (1, 0)),
@@ -160,20 +161,52 @@ fn ends_at_write(alloc: Global, words: &[&str], failing: usize, written: &[u8]) 
     sink.each = 1;
     sink.failing_write = (failing as u64).saturating_add(1);
     let status = run(alloc, words, &mut Ended, &mut sink);
-    status == 3 && sink.failures == 1 && sink.bytes.as_slice() == written
+    status == 3
+        && sink.failures == 1
+        && sink.bytes.as_slice() == written
+        && sink.writes == sink.failing_write
+        && sink.flushes == 0
 }
 
 // Words, and what a run with them writes.
 const OUTPUTS: &[(&[&str], &str)] = &[
     (&["parse", TEXT], "b\na\nc\n"),
+    (&["parse", "cfg(unix)"], "target_family = \"unix\"\n"),
+    (&["parse", "cfg(key)"], "key\n"),
+    (&["parse", "key)"], "key)\n   ^ unopened parens\n"),
+    (&["parse"], USAGE),
+    (&[], USAGE),
+    (&["parse", "a", "b"], USAGE),
+    (&["eval"], USAGE),
+    (&["target", "nowhere"], USAGE),
+    (&["Parse", "a"], USAGE),
+    (&["eval", "all(a, not(b))", "a"], "true\n"),
+    (&["eval", "any(a, not(a))", "?a"], "unknown\n"),
+    (&["eval", "windows"], "false\n"),
     (&["eval", "any(a, b)", "?a"], "unknown\n"),
     (&["eval", "a", "?b)"], "b)\n ^ unopened parens\n"),
+    (
+        &[
+            "target",
+            "aarch64-apple-ios",
+            "all(unix, target_env = \"\", not(target_os = \"none\"))",
+        ],
+        "true\n",
+    ),
+    (
+        &[
+            "target",
+            "aarch64-apple-darwin",
+            "all(target_feature = \"neon\", windows)",
+        ],
+        "false\n",
+    ),
     (&["target", "aarch64-apple-ios", "unix"], "true\n"),
-    (&["target", "nowhere", "unix"], "unknown triple\n"),
+    (&["target", "nowhere", ")"], "unknown triple\n"),
 ];
 
 // The nth write fails, for each n: what went out is the first n - 1 bytes, and nothing is written
-// behind them.
+// after them, nor flushed.
 #[test]
 fn each_write_fails_in_turn(rt: HostRuntime) {
     for (words, output) in OUTPUTS {

@@ -20,7 +20,7 @@ module _ {F T : Type 0} (asker : Asker F T) where
   MayAskEach-rest {state} {question} {questions} may answer after asks = record {
     at = λ before next others answers reached is calls.
         may.at (question ∷ before) next others (answer ∷ answers) reached
-            (ap (λ l. question ∷ l) is)
+        (ap (λ l. question ∷ l) is)
         (Calls.more state question answer after before answers reached asks calls);
   }
 

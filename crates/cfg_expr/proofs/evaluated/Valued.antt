@@ -63,7 +63,7 @@ module _ {T : Type 0} (text : List ℕ) (nodes : List ExprNode) (slots : List (M
 -- answers that were put at the places of the text's one tree, where there was none
 abbrev pub Holds-put : {T : Type 0} (text : List ℕ) (nodes : List ExprNode)
     {slots blanks : List (Member T)} {at : List ℕ} (answers : List T)
-        → (kept : (one : HasOneTree text)
+    → (kept : (one : HasOneTree text)
     × (map (node_at text) nodes ≡ prefix one.tree)) → (one : HasOneTree text)
     → length answers ≡ length (asked one.tree) → blanks ≡ no_answers (length nodes)
     → slots ≡ with_answers blanks at answers → at ≡ places 0 one.tree → Holds text slots

@@ -70,7 +70,7 @@ module _ (text : List ℕ) where
       (value : Option (List ℕ)) (question : Question) → Stands text key_span span key value
       → class key value ≡ Class.is question
       → WritesNodes text w (with_leaf (located key_span span question) w)
-          (prefix (Tree.leaf question))
+      (prefix (Tree.leaf question))
       (length w.nodes ∷ []) []
   leaf_writes w key_span span key value question stands classed =
       let named : NamesClass text key_span span (Class.is question) =
@@ -98,7 +98,7 @@ module _ (text : List ℕ) where
       let written = writes (all_of_first P members (closing ∷ []) placed.1.1) in
       let place = length_push w.nodes (node.Fn (counted function 0) 0) in
       let whole =
-          WritesNodes-function text w v (counted function 0) (counted function (count trees))
+      WritesNodes-function text w v (counted function 0) (counted function (count trees))
       _ _ _ written in
       rw (called.prefix_is, called.is_no_leaf, called.is_one, called.places_are, ← place) whole
 

@@ -71,7 +71,7 @@ pub WritesNodes-function : (text : List ℕ) (w v : Written) (first last : Func)
     (own inner : List ℕ)
     → WritesNodes text (with_function first w) v shown own inner
     → WritesNodes text w (with_function_ended (mark_of w) last v) (headed last shown) []
-        (inner ++ own)
+    (inner ++ own)
 WritesNodes-function text w v first last shown own inner a =
     let long : length v.nodes - length w.nodes ≡ length shown + 1 =
     omega (
