@@ -1,3 +1,3 @@
--- One pass over the nodes, and the places of the leaves, give the polar fillings.
+-- One pass over the nodes, and the places of the predicates, give the polar fillings.
 pub mod Passing
 pub mod Polar

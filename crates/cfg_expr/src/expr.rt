@@ -134,8 +134,8 @@ impl<A: SmallAllocator> Expression<A> {
     /// The value of the condition, where `ep` answers each predicate.
     ///
     /// Each occurrence of a predicate is asked once, in the order of `predicates`. The members of
-    /// `all` are joined by `and` to `top`, those of `any` by `or` to `bottom`, from the last one
-    /// that is asked back to the first.
+    /// `all` are joined by `and` to `top`, those of `any` by `or` to `bottom`: from the last back,
+    /// the predicates and literals of the list, and then its functions.
     ///
     /// All memory is taken before the first question, and none where the text has at most 32 bytes.
     /// The error is that `alloc` refused it; then `ep` is as it was.

@@ -1,4 +1,4 @@
--- Trees of one shape, whose leaves stand in a relation one by one.
+-- Trees of one shape and with the same literals, whose other leaves stand in a relation one by one.
 use Rattle.std.proofs.Common.{◌≡◌, ℕ, suc, zero, Bool, true, false, List, [], ◌∷◌, ◌++◌, length}
 use Rattle.std.proofs.Common.{drop, refl, sym}
 use Rattle.std.specs.Prelude.{if◌then◌else◌}
@@ -39,6 +39,7 @@ module _ {T U : Type 0} (R : T → U → Type 0) where
   mutual
     pub data Alike : Tree T → Tree U → Type 0 where
       leaf : (x : T) (y : U) → R x y → Alike (Tree.leaf x) (Tree.leaf y)
+      literal : (truth : Bool) → Alike (Tree.literal truth) (Tree.literal truth)
       all : (xs : Trees T) (ys : Trees U) → AlikeEach xs ys → Alike (Tree.all xs) (Tree.all ys)
       any : (xs : Trees T) (ys : Trees U) → AlikeEach xs ys → Alike (Tree.any xs) (Tree.any ys)
       not : (x : Tree T) (y : Tree U) → Alike x y → Alike (Tree.not x) (Tree.not y)
@@ -48,7 +49,7 @@ module _ {T U : Type 0} (R : T → U → Type 0) where
       more : (x : Tree T) (y : Tree U) (xs : Trees T) (ys : Trees U) → Alike x y
           → AlikeEach xs ys → AlikeEach (Trees.more x xs) (Trees.more y ys)
 
--- trees of one shape, whatever their leaves are
+-- trees of one shape, whatever their leaves are that are no literals
 abbrev pub SameShape : {T U : Type 0} → Tree T → Tree U → Type 0
 SameShape {T} {U} = Alike (λ (x : T) (y : U). Unit {0})
 
@@ -63,12 +64,14 @@ SameTests {T} {U} R f g = (x : Tree T) (y : Tree U) → Alike R x y → f x ≡ 
 module _ {T U : Type 0} (R : T → U → Type 0) where
   pub same_functions : SameTests R is_function is_function
   same_functions _ _ (Alike.leaf x y related) = refl
+  same_functions _ _ (Alike.literal truth) = refl
   same_functions _ _ (Alike.all xs ys each) = refl
   same_functions _ _ (Alike.any xs ys each) = refl
   same_functions _ _ (Alike.not x y alike) = refl
 
   pub same_leaves : SameTests R is_leaf is_leaf
   same_leaves _ _ (Alike.leaf x y related) = refl
+  same_leaves _ _ (Alike.literal truth) = refl
   same_leaves _ _ (Alike.all xs ys each) = refl
   same_leaves _ _ (Alike.any xs ys each) = refl
   same_leaves _ _ (Alike.not x y alike) = refl
@@ -77,6 +80,7 @@ module _ {T U : Type 0} (R : T → U → Type 0) where
     -- they ask alike
     pub asked-alike : (x : Tree T) (y : Tree U) → Alike R x y → AllZip R (asked x) (asked y)
     asked-alike _ _ (Alike.leaf x y related) = (related, tt)
+    asked-alike _ _ (Alike.literal truth) = tt
     asked-alike _ _ (Alike.all xs ys each) = AllZip-append R _ _ _ _
         (asked_by-alike is_function is_function same_functions xs ys each)
         (asked_by-alike is_leaf is_leaf same_leaves xs ys each)
@@ -123,6 +127,7 @@ module _ {T U : Type 0} (R : T → U → Type 0) (one : T) (other : U) (related 
     pub answered-alike : {X : Type 0} (tree : Tree X) (xs : List T) (ys : List U) → AllZip R xs ys
         → Alike R (answered one tree xs) (answered other tree ys)
     answered-alike (Tree.leaf x) xs ys zipped = Alike.leaf _ _ (first-alike xs ys zipped)
+    answered-alike (Tree.literal truth) xs ys zipped = Alike.literal truth
     answered-alike (Tree.all trees) xs ys zipped = Alike.all _ _ (answered_each-alike trees _ _ _ _
         zipped (AllZip-drop R (length (asked_by is_function trees)) xs ys zipped))
     answered-alike (Tree.any trees) xs ys zipped = Alike.any _ _ (answered_each-alike trees _ _ _ _
@@ -136,6 +141,9 @@ module _ {T U : Type 0} (R : T → U → Type 0) (one : T) (other : U) (related 
     answered_each-alike (Trees.more (Tree.leaf x) trees) xs others ys further inner own =
         AlikeEach.more _ _ _ _ (answered-alike (Tree.leaf x) others further own)
         (answered_each-alike trees xs _ ys _ inner (AllZip-drop R 1 others further own))
+    answered_each-alike (Trees.more (Tree.literal truth) trees) xs others ys further inner own =
+        AlikeEach.more _ _ _ _ (Alike.literal truth)
+        (answered_each-alike trees xs others ys further inner own)
     answered_each-alike (Trees.more tree trees) xs others ys further inner own =
         AlikeEach.more _ _ _ _ (answered-alike tree xs ys inner)
         (answered_each-alike trees _ others _ further
@@ -146,6 +154,7 @@ mutual
   pub answered-shape : {X T : Type 0} (otherwise : T) (tree : Tree X) (answers : List T)
       → SameShape tree (answered otherwise tree answers)
   answered-shape otherwise (Tree.leaf x) answers = Alike.leaf _ _ tt
+  answered-shape otherwise (Tree.literal truth) answers = Alike.literal truth
   answered-shape otherwise (Tree.all trees) answers =
       Alike.all _ _ (answered_each-shape otherwise trees _ _)
   answered-shape otherwise (Tree.any trees) answers =
@@ -159,6 +168,8 @@ mutual
   answered_each-shape otherwise (Trees.more (Tree.leaf x) trees) inner own =
       AlikeEach.more _ _ _ _ (answered-shape otherwise (Tree.leaf x) own)
       (answered_each-shape otherwise trees _ _)
+  answered_each-shape otherwise (Trees.more (Tree.literal truth) trees) inner own =
+      AlikeEach.more _ _ _ _ (Alike.literal truth) (answered_each-shape otherwise trees _ _)
   answered_each-shape otherwise (Trees.more tree trees) inner own =
       AlikeEach.more _ _ _ _ (answered-shape otherwise tree inner)
       (answered_each-shape otherwise trees _ _)

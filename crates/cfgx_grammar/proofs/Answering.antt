@@ -23,8 +23,8 @@ no_laws : {W M L : Type 0} (builder : Builder W M L) → Laws builder
 no_laws builder = record {
   ItemBuilds = λ items w v tree. Unit {0};
   ListBuilds = λ items w v trees. Unit {0};
-  key = λ x key question w is classed. tt;
-  value = λ x y z key value question w x_is z_is classed. tt;
+  key = λ x key leaf w is classed. tt;
+  value = λ x y z key value leaf w x_is z_is classed. tt;
   none = λ w. tt;
   more = λ xs ys zs tree trees w v u first others. tt;
   all = λ trees head opening closing members w v built. tt;

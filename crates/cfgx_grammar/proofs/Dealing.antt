@@ -51,6 +51,7 @@ module _ {X T : Type 0} (otherwise : T) where
     answered-front : (tree : Tree X) (answer : Tree T) → SameShape tree answer → (more : List T)
         → answered otherwise tree (asked answer ++ more) ≡ answer
     answered-front _ _ (Alike.leaf x y related) more = refl
+    answered-front _ _ (Alike.literal truth) more = refl
     answered-front _ _ (Alike.all xs ys each) more =
         ap Tree.all (list_front xs ys (length-asked_by Any xs ys each)
         (answered_each-front xs ys each) more)
@@ -64,6 +65,8 @@ module _ {X T : Type 0} (otherwise : T) where
     answered_each-front _ _ AlikeEach.none inner own = refl
     answered_each-front _ _ (AlikeEach.more _ _ xs ys (Alike.leaf x y related) rest) inner own =
         ap (Trees.more (Tree.leaf y)) (answered_each-front xs ys rest inner own)
+    answered_each-front _ _ (AlikeEach.more _ _ xs ys (Alike.literal truth) rest) inner own =
+        ap (Trees.more (Tree.literal truth)) (answered_each-front xs ys rest inner own)
     answered_each-front _ _ (AlikeEach.more x y xs ys (Alike.all us vs each) rest) inner own =
         function_first (Tree.all us) (Tree.all vs) xs ys _ inner
         (length-asked Any _ _ (Alike.all us vs each)) (answered-front _ _ (Alike.all us vs each)) _
@@ -147,6 +150,7 @@ module _ {X T : Type 0} (otherwise : T) where
         → asked (answered otherwise tree answers) ≡ take (length (asked tree)) answers
     asked-taken (Tree.leaf x) [] enough = absurd (omega arith)
     asked-taken (Tree.leaf x) (answer ∷ answers) enough = refl
+    asked-taken (Tree.literal truth) answers enough = refl
     asked-taken (Tree.all trees) answers enough =
         list_taken trees answers (asked_each-taken trees) enough
     asked-taken (Tree.any trees) answers enough =
@@ -159,6 +163,8 @@ module _ {X T : Type 0} (otherwise : T) where
     asked_each-taken (Trees.more (Tree.leaf x) trees) inner (answer ∷ own) enough some =
         let others = asked_each-taken trees inner own enough (omega arith) in
         (others.0, ap (λ l. answer ∷ l) others.1)
+    asked_each-taken (Trees.more (Tree.literal truth) trees) inner own enough some =
+        asked_each-taken trees inner own enough some
     asked_each-taken (Trees.more tree trees) inner own enough some =
         let rest = asked_by is_function trees in
         let others = asked_each-taken trees (behind (asked tree) inner) own

@@ -44,6 +44,8 @@ module _ {T U : Type 0} (one : Operations T) (other : Operations U) (R : T → U
     pub value_kept : (x : Tree T) (y : Tree U) → Alike R x y
         → R (value_of one x) (value_of other y)
     value_kept _ _ (Alike.leaf x y related) = related
+    value_kept _ _ (Alike.literal true) = preserve.top
+    value_kept _ _ (Alike.literal false) = preserve.bottom
     value_kept _ _ (Alike.all xs ys each) =
         from_last_kept one.and other.and one.top other.top preserve.top preserve.and _ _
         (AllZip-append R _ _ _ _
@@ -198,6 +200,8 @@ mutual
   value-filled : (fill : Bool) (tree : Tree (Option Bool))
       → value_of two_valued (filled fill tree) ≡ side fill (value_of three_valued tree)
   value-filled fill (Tree.leaf answer) = refl
+  value-filled fill (Tree.literal true) = refl
+  value-filled fill (Tree.literal false) = refl
   value-filled fill (Tree.all trees) = ap (from_last (λ x y. x && y) true)
       (sides-both fill trees (values-filled fill trees)) ∙ all_sides fill (arranged_values trees)
   value-filled fill (Tree.any trees) = ap (from_last (λ x y. x || y) false)
@@ -210,6 +214,9 @@ mutual
   values-filled fill (Trees.more (Tree.leaf answer) trees) =
       let others = values-filled fill trees in
       (others.0, ap (λ l. side fill answer ∷ l) others.1)
+  values-filled fill (Trees.more (Tree.literal truth) trees) =
+      let others = values-filled fill trees in
+      (others.0, rw (value-filled fill (Tree.literal truth), others.1) refl)
   values-filled fill (Trees.more tree trees) =
       let first = value-filled fill tree in
       let others = values-filled fill trees in
@@ -220,6 +227,7 @@ mutual
   filled-agrees : (fill : Bool) (tree : Tree (Option Bool)) → Alike Agrees tree (filled fill tree)
   filled-agrees fill (Tree.leaf (Some answer)) = Alike.leaf _ _ refl
   filled-agrees fill (Tree.leaf None) = Alike.leaf _ _ tt
+  filled-agrees fill (Tree.literal truth) = Alike.literal truth
   filled-agrees fill (Tree.all trees) = Alike.all _ _ (filled_each-agrees fill trees)
   filled-agrees fill (Tree.any trees) = Alike.any _ _ (filled_each-agrees fill trees)
   filled-agrees fill (Tree.not tree) = Alike.not _ _ (filled-agrees (not fill) tree)
@@ -235,6 +243,7 @@ module _ {X : Type 0} where
     filled-shape : (fill : Bool) (tree : Tree X) (answers : Tree (Option Bool))
         → SameShape tree answers → SameShape tree (filled fill answers)
     filled-shape fill _ _ (Alike.leaf x y related) = Alike.leaf _ _ tt
+    filled-shape fill _ _ (Alike.literal truth) = Alike.literal truth
     filled-shape fill _ _ (Alike.all xs ys each) = Alike.all _ _ (filled_each-shape fill xs ys each)
     filled-shape fill _ _ (Alike.any xs ys each) = Alike.any _ _ (filled_each-shape fill xs ys each)
     filled-shape fill _ _ (Alike.not x y alike) = Alike.not _ _ (filled-shape (not fill) x y alike)

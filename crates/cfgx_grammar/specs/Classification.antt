@@ -1,6 +1,7 @@
--- What a predicate's key and value say: the tables of the crate cfg-expr, which knows the keys that
--- the Rust Reference's conditional compilation lists.
-use Rattle.std.specs.Prelude.{ℕ, List, [], ◌∷◌, ◌^◌, codes, drop, nat_eq, Option, Some, None}
+-- What a key and its value say: the tables of the crate cfg-expr, which knows the keys that the
+-- Rust Reference's conditional compilation lists, and before them the Reference's literals.
+use Rattle.std.specs.Prelude.{ℕ, true, false, List, [], ◌∷◌, ◌^◌, codes, drop, nat_eq}
+use Rattle.std.specs.Prelude.{Option, Some, None}
 use Rattle.std.specs.Prelude.{if◌then◌else◌}
 use Rattle.std.specs.Str.{bytes_eq}
 use Rattle.std.specs.List.{starts_with}
@@ -8,22 +9,25 @@ use Rattle.cfgx_syntax.specs.Error.{Cause, unexpected, invalid_integer, invalid_
 use Rattle.cfgx_targets.specs.Endian.{endian_named}
 use Rattle.cfgx_targets.specs.HasAtomic.{atomic_named}
 use Rattle.cfgx_targets.specs.Number.{read_below}
-use Rattle.cfgx_grammar.specs.Question.{Question, TargetQuestion}
+use Rattle.cfgx_grammar.specs.Question.{Leaf, Question, TargetQuestion}
 
 -- which part of a predicate is at fault
 pub data Part : Type 0 where
   of_key : Part
   of_value : Part
 
--- a predicate, or why it is none
+-- a predicate or a literal, or why it is neither
 pub data Class : Type 0 where
-  is : Question → Class
+  is : Leaf → Class
   refused : Cause → Part → Class
 
+abbrev pub predicate : Question → Class
+predicate question = Class.is (Leaf.predicate question)
+
 -- a key that stands without a value, and nothing else
-abbrev pub bare : Question → Option (List ℕ) → Class
-bare question None = Class.is question
-bare question (Some value) = Class.refused (unexpected []) Part.of_value
+abbrev pub bare : Leaf → Option (List ℕ) → Class
+bare leaf None = Class.is leaf
+bare leaf (Some value) = Class.refused (unexpected []) Part.of_value
 
 -- a key that has a value, and lacks it otherwise
 abbrev pub valued : (List ℕ → Class) → List ℕ → Option (List ℕ) → Class
@@ -33,7 +37,7 @@ valued with missing (Some value) = with value
 -- a value that was read, or a fault of the value
 abbrev pub if_read : {X : Type 0} → (X → TargetQuestion) → Cause → Option X → Class
 if_read ask cause None = Class.refused cause Part.of_value
-if_read ask cause (Some x) = Class.is (Question.target (ask x))
+if_read ask cause (Some x) = predicate (Question.target (ask x))
 
 abbrev pub target_names : List (List ℕ)
 target_names = codes "target_arch" ∷ codes "target_feature" ∷ codes "target_os"
@@ -43,10 +47,10 @@ target_names = codes "target_arch" ∷ codes "target_feature" ∷ codes "target_
 
 abbrev pub target_feature : List ℕ → Class
 target_feature [] = Class.refused (unexpected (codes "<feature>" ∷ [])) Part.of_value
-target_feature (byte ∷ bytes) = Class.is (Question.target_feature (byte ∷ bytes))
+target_feature (byte ∷ bytes) = predicate (Question.target_feature (byte ∷ bytes))
 
 abbrev pub asks : TargetQuestion → Class
-asks question = Class.is (Question.target question)
+asks question = predicate (Question.target question)
 
 -- a line of a table: a name, and what it makes of a value
 pub record Line (Value : Type 0) : Type 0 where
@@ -83,17 +87,19 @@ abbrev pub target_class : List ℕ → List ℕ → Class
 target_class name value = by_name target_lines name value
     (Class.refused (unexpected target_names) Part.of_key)
 
-abbrev pub family : List ℕ → Question
-family name = Question.target (TargetQuestion.family name)
+abbrev pub family : List ℕ → Leaf
+family name = Leaf.predicate (Question.target (TargetQuestion.family name))
 
 -- by the key
 abbrev pub key_lines : List (Line (Option (List ℕ)))
-key_lines = line (codes "unix") (bare (family (codes "unix")))
+key_lines = line (codes "true") (bare (Leaf.literal true))
+    ∷ line (codes "false") (bare (Leaf.literal false))
+    ∷ line (codes "unix") (bare (family (codes "unix")))
     ∷ line (codes "windows") (bare (family (codes "windows")))
-    ∷ line (codes "test") (bare Question.test)
-    ∷ line (codes "debug_assertions") (bare Question.debug_assertions)
-    ∷ line (codes "proc_macro") (bare Question.proc_macro)
-    ∷ line (codes "feature") (valued (λ value. Class.is (Question.feature value))
+    ∷ line (codes "test") (bare (Leaf.predicate Question.test))
+    ∷ line (codes "debug_assertions") (bare (Leaf.predicate Question.debug_assertions))
+    ∷ line (codes "proc_macro") (bare (Leaf.predicate Question.proc_macro))
+    ∷ line (codes "feature") (valued (λ value. predicate (Question.feature value))
     (codes "= \"<feature_name>\""))
     ∷ line (codes "panic") (valued (λ value. asks (TargetQuestion.panic value))
     (codes "= \"<panic_strategy>\""))
@@ -101,8 +107,8 @@ key_lines = line (codes "unix") (bare (family (codes "unix")))
 
 -- any other key
 abbrev pub plain : List ℕ → Option (List ℕ) → Class
-plain key None = Class.is (Question.flag key)
-plain key (Some value) = Class.is (Question.key_value key value)
+plain key None = predicate (Question.flag key)
+plain key (Some value) = predicate (Question.key_value key value)
 
 -- a key that stands in no line: it may begin with `target_`
 abbrev pub other_class : List ℕ → Option (List ℕ) → Class

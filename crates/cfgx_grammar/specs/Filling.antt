@@ -25,10 +25,11 @@ Agrees (Some answer) filled = filled ≡ answer
 abbrev pub IsFilling : List (Option Bool) → List Bool → Type 0
 IsFilling answers filling = AllZip Agrees answers filling
 
--- unknown answers get `fill`, and below each `not` its opposite
+-- unknown answers get `fill`, and below each `not` its opposite; a literal stays
 abbrev mutual
   pub filled : Bool → Tree (Option Bool) → Tree Bool
   filled fill (Tree.leaf answer) = Tree.leaf (unwrap_or answer fill)
+  filled fill (Tree.literal truth) = Tree.literal truth
   filled fill (Tree.all trees) = Tree.all (filled_each fill trees)
   filled fill (Tree.any trees) = Tree.any (filled_each fill trees)
   filled fill (Tree.not tree) = Tree.not (filled (not fill) tree)

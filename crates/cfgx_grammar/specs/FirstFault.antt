@@ -20,7 +20,7 @@ refusal cause start end = record { cause = cause; start = start; end = end }
 
 -- the fault, at the part that `class` names
 abbrev pub class_fault : KeyAndValue → Class → Option Refusal
-class_fault p (Class.is question) = None
+class_fault p (Class.is leaf) = None
 class_fault p (Class.refused cause part) =
     Some (refusal cause (part_of p part).start (part_of p part).end)
 

@@ -2,7 +2,7 @@
 -- Source: the crate cfg-expr's `Expression::eval`, where `all` begins with `top` and `any` with
 -- `bottom`, and the members are joined from the last back to the first; the Rust Reference's
 -- conditional compilation, where `all()` is true and `any()` is false.
-use Rattle.std.specs.Prelude.{Bool, List, [], ◌∷◌, ◌++◌, length, drop, if◌then◌else◌}
+use Rattle.std.specs.Prelude.{Bool, true, false, List, [], ◌∷◌, ◌++◌, length, drop, if◌then◌else◌}
 pub use Rattle.cfgx_syntax.specs.declared.logic.Logic.{Ghosts as Operations}
 use Rattle.cfgx_grammar.specs.Tree.{Tree, Trees, is_function, is_leaf, asked, asked_by}
 
@@ -11,11 +11,17 @@ abbrev pub from_last : {T : Type 0} → (T → T → T) → T → List T → T
 from_last join begin [] = begin
 from_last join begin (value ∷ values) = join (from_last join begin values) value
 
--- the value of a tree whose leaves are answers: in each list the functions are joined in front of
--- the leaves
+-- the value of a literal
+abbrev pub constant : {T : Type 0} → Operations T → Bool → T
+constant logic true = logic.top
+constant logic false = logic.bottom
+
+-- the value of a tree whose leaves are answers and literals: in each list the functions are joined
+-- in front of the leaves
 abbrev mutual
   pub value_of : {T : Type 0} → Operations T → Tree T → T
   value_of logic (Tree.leaf answer) = answer
+  value_of logic (Tree.literal truth) = constant logic truth
   value_of logic (Tree.all trees) = from_last logic.and logic.top
       (values_by logic is_function trees ++ values_by logic is_leaf trees)
   value_of logic (Tree.any trees) = from_last logic.or logic.bottom
@@ -28,7 +34,7 @@ abbrev mutual
   values_by logic test (Trees.more tree trees) = if test tree
       then value_of logic tree ∷ values_by logic test trees else values_by logic test trees
 
--- the first answer; each leaf has one
+-- the first answer; each predicate has one
 abbrev pub first_or : {T : Type 0} → T → List T → T
 first_or otherwise [] = otherwise
 first_or otherwise (answer ∷ answers) = answer
@@ -37,10 +43,12 @@ first_or otherwise (answer ∷ answers) = answer
 abbrev pub behind : {X T : Type 0} → List X → List T → List T
 behind questions answers = drop (length questions) answers
 
--- the tree with answers at its leaves, which are dealt out in the order in which it asks
+-- the tree with answers in the place of its predicates, which are dealt out in the order in which
+-- it asks; a literal takes none
 abbrev mutual
   pub answered : {X T : Type 0} → T → Tree X → List T → Tree T
   answered otherwise (Tree.leaf x) answers = Tree.leaf (first_or otherwise answers)
+  answered otherwise (Tree.literal truth) answers = Tree.literal truth
   answered otherwise (Tree.all trees) answers = Tree.all
       (answered_each otherwise trees answers (behind (asked_by is_function trees) answers))
   answered otherwise (Tree.any trees) answers = Tree.any

@@ -1,9 +1,10 @@
 -- Which tokens spell which tree: the grammar of `ConfigurationPredicate` in the Rust Reference,
--- with any number of commas where it has one, as the crate cfg-expr takes them.
+-- with its literals `true` and `false`, and with any number of commas where it has one, as the
+-- crate cfg-expr takes them.
 use Rattle.std.specs.Prelude.{◌≡◌, ℕ, ◌<◌, List, [], ◌∷◌, ◌++◌, replicate, map, Option, Some, None}
 use Rattle.cfgx_syntax.specs.Token.{Token}
 use Rattle.cfgx_syntax.specs.Items.{Item, Ending, AreItems}
-use Rattle.cfgx_grammar.specs.Question.{Question}
+use Rattle.cfgx_grammar.specs.Question.{Leaf, Question}
 use Rattle.cfgx_grammar.specs.Classification.{Class, class}
 use Rattle.cfgx_grammar.specs.Tree.{Tree, Trees}
 
@@ -11,15 +12,15 @@ abbrev pub commas : ℕ → List Token
 commas n = replicate n Token.comma
 
 -- a key, and perhaps `=` and a value
-abbrev pub predicate_tokens : List ℕ → Option (List ℕ) → List Token
-predicate_tokens key None = Token.key key ∷ []
-predicate_tokens key (Some value) = Token.key key ∷ Token.equals ∷ Token.value value ∷ []
+abbrev pub leaf_tokens : List ℕ → Option (List ℕ) → List Token
+leaf_tokens key None = Token.key key ∷ []
+leaf_tokens key (Some value) = Token.key key ∷ Token.equals ∷ Token.value value ∷ []
 
--- the tokens spell the predicate
-abbrev pub IsPredicate : List Token → Question → Type 0
-IsPredicate tokens question =
-    (key : List ℕ) × (value : Option (List ℕ)) × (tokens ≡ predicate_tokens key value)
-    × (class key value ≡ Class.is question)
+-- the tokens spell the predicate, or the literal
+abbrev pub IsLeaf : List Token → Leaf → Type 0
+IsLeaf tokens leaf =
+    (key : List ℕ) × (value : Option (List ℕ)) × (tokens ≡ leaf_tokens key value)
+    × (class key value ≡ Class.is leaf)
 
 -- the tokens are a function's name, and its members' tokens in parentheses
 abbrev pub IsCall : Token → List Token → List Token → Type 0
@@ -34,7 +35,8 @@ Separates n (Trees.more tree trees) = 0 < n
 abbrev mutual
   -- the tokens spell the tree as one item
   pub IsItem : List Token → Tree Question → Type 0
-  IsItem tokens (Tree.leaf question) = IsPredicate tokens question
+  IsItem tokens (Tree.leaf question) = IsLeaf tokens (Leaf.predicate question)
+  IsItem tokens (Tree.literal truth) = IsLeaf tokens (Leaf.literal truth)
   IsItem tokens (Tree.all trees) = (inner : List Token) × IsCall Token.all tokens inner
       × IsList inner trees
   IsItem tokens (Tree.any trees) = (inner : List Token) × IsCall Token.any tokens inner

@@ -1,6 +1,6 @@
 -- A predicate as it is asked: what it says, and not where its text lies in memory. The variants are
 -- those of `Predicate` and `TargetPredicate` in the crate cfg-expr.
-use Rattle.std.specs.Prelude.{ℕ, List}
+use Rattle.std.specs.Prelude.{ℕ, Bool, List}
 use Rattle.cfgx_targets.specs.declared.endian.Endian.{Endian}
 use Rattle.cfgx_targets.specs.declared.atomic.HasAtomic.{HasAtomic}
 
@@ -26,3 +26,9 @@ pub data Question : Type 0 where
   target_feature : List ℕ → Question
   flag : List ℕ → Question
   key_value : List ℕ → List ℕ → Question
+
+-- What stands in a condition where no function does: a predicate, or one of the literals `true` and
+-- `false` of the Rust Reference's conditional compilation, which nobody is asked.
+pub data Leaf : Type 0 where
+  predicate : Question → Leaf
+  literal : Bool → Leaf

@@ -3,7 +3,7 @@ use Rattle.std.specs.Prelude.{◌≡◌, ℕ, List, Option, Some, None}
 use Rattle.cfgx_syntax.specs.Stripping.{strip}
 use Rattle.cfgx_syntax.specs.Token.{IsKey, HasNoQuote}
 use Rattle.cfgx_grammar.specs.Question.{Question}
-use Rattle.cfgx_grammar.specs.Classification.{Class, class}
+use Rattle.cfgx_grammar.specs.Classification.{class, predicate}
 use Rattle.cfgx_grammar.specs.Tree.{Tree}
 use Rattle.cfgx_grammar.specs.Answer.{HasOneTree}
 
@@ -18,7 +18,7 @@ pub record IsRegular (question : Question) : Type 0 where
   pub value : Option (List ℕ)
   pub is_key : IsKey key
   pub can_be_quoted : CanBeQuoted value
-  pub says : class key value ≡ Class.is question
+  pub says : class key value ≡ predicate question
 
 -- the text is this predicate and nothing else, and nothing is stripped from it
 pub record IsAlone (text : List ℕ) (question : Question) : Type 0 where

@@ -2,11 +2,12 @@
 use Rattle.std.specs.Prelude.{ℕ, suc, Bool, true, false, List, [], ◌∷◌, ◌++◌, if◌then◌else◌}
 
 -- A leaf, or a function with its members in source order: the `all`, `any` and `not` of the Rust
--- Reference's conditional compilation. The leaves of a condition are its predicates; with answers
--- in their place it can be evaluated.
+-- Reference's conditional compilation. The leaves of a condition are its predicates, and the
+-- literals `true` and `false`; with answers in the place of the predicates it can be evaluated.
 mutual
   pub data Tree (X : Type 0) : Type 0 where
     leaf : X → Tree X
+    literal : Bool → Tree X
     all : Trees X → Tree X
     any : Trees X → Tree X
     not : Tree X → Tree X
@@ -17,12 +18,14 @@ mutual
 
 abbrev pub is_function : {X : Type 0} → Tree X → Bool
 is_function (Tree.leaf x) = false
+is_function (Tree.literal truth) = false
 is_function (Tree.all trees) = true
 is_function (Tree.any trees) = true
 is_function (Tree.not tree) = true
 
 abbrev pub is_leaf : {X : Type 0} → Tree X → Bool
 is_leaf (Tree.leaf x) = true
+is_leaf (Tree.literal truth) = true
 is_leaf (Tree.all trees) = false
 is_leaf (Tree.any trees) = false
 is_leaf (Tree.not tree) = false
@@ -48,10 +51,11 @@ abbrev pub count : {X : Type 0} → Trees X → ℕ
 count Trees.none = 0
 count (Trees.more tree trees) = suc (count trees)
 
--- the leaves of a tree in the order in which they are asked
+-- the predicates of a tree in the order in which they are asked; a literal is not asked
 abbrev mutual
   pub asked : {X : Type 0} → Tree X → List X
   asked (Tree.leaf x) = x ∷ []
+  asked (Tree.literal truth) = []
   asked (Tree.all trees) = asked_by is_function trees ++ asked_by is_leaf trees
   asked (Tree.any trees) = asked_by is_function trees ++ asked_by is_leaf trees
   asked (Tree.not tree) = asked tree

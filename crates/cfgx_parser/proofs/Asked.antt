@@ -1,4 +1,4 @@
--- The leaves at a tree's places are what the tree asks, in this order.
+-- The predicates at a tree's places are what the tree asks, in this order.
 use Rattle.std.proofs.Common.{◌≡◌, ℕ, zero, suc, List, [], ◌∷◌}
 use Rattle.std.proofs.Common.{length, map, Option, Some, None, option_map, refl, ap, ◌∙◌}
 use Rattle.std.specs.Prelude.{option_and_then}
@@ -8,20 +8,21 @@ use Rattle.cfgx_grammar.specs.Tree.{Tree, asked}
 use Rattle.cfgx_parser.specs.nodes.Located.{question_at}
 use Rattle.cfgx_parser.specs.nodes.Prefix.{Node, node_at}
 use Rattle.cfgx_parser.specs.nodes.Writes.{NodeHasCut}
-use Rattle.cfgx_parser.specs.nodes.Keeps.{KeepsTree, leaf_of, leaf_at, questions_at, NamesLeaf}
-use Rattle.cfgx_parser.specs.nodes.Keeps.{NameLeaves}
+use Rattle.cfgx_parser.specs.nodes.Keeps.{KeepsTree, predicate_of, predicate_at, questions_at}
+use Rattle.cfgx_parser.specs.nodes.Keeps.{NamesPredicate, NamePredicates}
 use Rattle.cfgx_parser.specs.declared.nodes.ExprNode.{ExprNode}
 use Rattle.cfgx_parser.specs.declared.nodes.ExprNode.TheVariants as node
 use Rattle.cfgx_parser.proofs.Places.{length-places, read-places}
 
--- the question of a node that is a leaf
+-- the question of a node that is a predicate
 abbrev question_of_node : Node Question → Option Question
 question_of_node (Node.leaf question) = Some question
+question_of_node (Node.literal truth) = None
 question_of_node (Node.function func len) = None
 
 -- what is asked at a place
 abbrev question_in : List ℕ → List ExprNode → ℕ → Option Question
-question_in text nodes place = option_map (question_at text) (leaf_at nodes place)
+question_in text nodes place = option_map (question_at text) (predicate_at nodes place)
 
 shown_same : (text : List ℕ) (nodes : List ExprNode) (place : ℕ) (x : Node Question)
     → slice_get (map (node_at text) nodes) place ≡ Some x
@@ -31,6 +32,8 @@ shown_same text (node.Fn func len ∷ nodes) zero x is =
     let same : Node.function func len ≡ x = cc in ap question_of_node same
 shown_same text (node.Predicate predicate ∷ nodes) zero x is =
     let same : Node.leaf (question_at text predicate) ≡ x = cc in ap question_of_node same
+shown_same text (node.Literal truth ∷ nodes) zero x is =
+    let same : Node.literal truth ≡ x = cc in ap question_of_node same
 shown_same text (first ∷ nodes) (suc place) x is = shown_same text nodes place x is
 
 filtered : {X Y : Type 0} (h : X → Option Y) (xs : List X)
@@ -43,43 +46,44 @@ filtered h (x ∷ xs) (y ∷ ys) e =
     let rest : map h xs ≡ map (λ (y : _). Some y) ys = cc in
     rw first (ap (λ l. y ∷ l) (filtered h xs ys rest))
 
--- where a leaf is found
+-- where a predicate is found
 
-NamesLeaf-found : (text : List ℕ) (nodes : List ExprNode) (place : ℕ)
+NamesPredicate-found : (text : List ℕ) (nodes : List ExprNode) (place : ℕ)
     (question : Question) → AllByRecursion (NodeHasCut text) nodes
     → question_in text nodes place ≡ Some question
-    → NamesLeaf text nodes place
-NamesLeaf-found text [] place question cuts e = absurd (cc)
-NamesLeaf-found text (node.Fn func len ∷ nodes) zero question cuts e = absurd (cc)
-NamesLeaf-found text (node.Predicate predicate ∷ nodes) zero question cuts e =
+    → NamesPredicate text nodes place
+NamesPredicate-found text [] place question cuts e = absurd (cc)
+NamesPredicate-found text (node.Fn func len ∷ nodes) zero question cuts e = absurd (cc)
+NamesPredicate-found text (node.Predicate predicate ∷ nodes) zero question cuts e =
     record { predicate = predicate; stands = refl; cut = cuts.0 }
-NamesLeaf-found text (x ∷ nodes) (suc place) question cuts e =
-    let n = NamesLeaf-found text nodes place question cuts.1 e in
+NamesPredicate-found text (node.Literal truth ∷ nodes) zero question cuts e = absurd (cc)
+NamesPredicate-found text (x ∷ nodes) (suc place) question cuts e =
+    let n = NamesPredicate-found text nodes place question cuts.1 e in
     record { predicate = n.predicate; stands = n.stands; cut = n.cut }
 
-NameLeaves-asks : (text : List ℕ) (nodes : List ExprNode) (asks : List ℕ)
+NamePredicates-asks : (text : List ℕ) (nodes : List ExprNode) (asks : List ℕ)
     (questions : List Question) → AllByRecursion (NodeHasCut text) nodes
     → map (question_in text nodes) asks ≡ map (λ (q : Question). Some q) questions
-    → NameLeaves text nodes asks
-NameLeaves-asks text nodes [] questions cuts e = tt
-NameLeaves-asks text nodes (place ∷ asks) [] cuts e = absurd (cc)
-NameLeaves-asks text nodes (place ∷ asks) (question ∷ questions) cuts e = (
-  NamesLeaf-found text nodes place question cuts (cc),
-  NameLeaves-asks text nodes asks questions cuts (cc),
+    → NamePredicates text nodes asks
+NamePredicates-asks text nodes [] questions cuts e = tt
+NamePredicates-asks text nodes (place ∷ asks) [] cuts e = absurd (cc)
+NamePredicates-asks text nodes (place ∷ asks) (question ∷ questions) cuts e = (
+  NamesPredicate-found text nodes place question cuts (cc),
+  NamePredicates-asks text nodes asks questions cuts (cc),
 )
 
 -- one question for each place
 pub length-questions_at : (text : List ℕ) (nodes : List ExprNode) (asks : List ℕ)
-    → NameLeaves text nodes asks → length (questions_at text nodes asks) ≡ length asks
+    → NamePredicates text nodes asks → length (questions_at text nodes asks) ≡ length asks
 length-questions_at text nodes [] names = refl
 length-questions_at text nodes (place ∷ asks) names =
-    let found : leaf_at nodes place ≡ Some names.0.predicate =
-    ap (option_and_then leaf_of) names.0.stands in
+    let found : predicate_at nodes place ≡ Some names.0.predicate =
+    ap (option_and_then predicate_of) names.0.stands in
     rw found (ap suc (length-questions_at text nodes asks names.1))
 
 module _ {text : List ℕ} {nodes : List ExprNode} {asks : List ℕ} {tree : Tree Question}
     (k : KeepsTree text nodes asks tree) where
-  -- the leaves at a tree's places are what it asks
+  -- the predicates at a tree's places are what it asks
   asks_kept : map (question_in text nodes) asks ≡ map (λ (q : Question). Some q) (asked tree)
   asks_kept =
       ap (map (question_in text nodes)) k.asked_are
@@ -90,8 +94,8 @@ module _ {text : List ℕ} {nodes : List ExprNode} {asks : List ℕ} {tree : Tre
   pub questions_at-kept : questions_at text nodes asks ≡ asked tree
   questions_at-kept = filtered (question_in text nodes) asks (asked tree) asks_kept
 
-  pub NameLeaves-kept : NameLeaves text nodes asks
-  NameLeaves-kept = NameLeaves-asks text nodes asks (asked tree) k.cuts asks_kept
+  pub NamePredicates-kept : NamePredicates text nodes asks
+  NamePredicates-kept = NamePredicates-asks text nodes asks (asked tree) k.cuts asks_kept
 
   pub length-asked_kept : length asks ≡ length (asked tree)
   length-asked_kept =

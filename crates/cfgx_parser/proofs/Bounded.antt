@@ -1,6 +1,6 @@
 -- What was counted was written: each step keeps it.
 use Rattle.std.proofs.Common.{◌≡◌, ℕ, suc, ◌+◌, ◌-◌, ◌≤◌, List, [], ◌∷◌, length, Option, Some, None}
-use Rattle.std.proofs.Common.{Ok, sym, refl, subst, arith, length-take}
+use Rattle.std.proofs.Common.{Ok, sym, refl, subst, arith, length-take, length-append}
 use Rattle.std.proofs.lemmas.List.{length_push, length-set}
 use Rattle.cfgx_syntax.specs.Token.{Token}
 use Rattle.cfgx_syntax.specs.Items.{Item}
@@ -10,7 +10,8 @@ use Rattle.cfgx_grammar.specs.parsing.Step.{over_top, one_more, root_more, leaf_
 use Rattle.cfgx_grammar.specs.parsing.Step.{predicate_ended, opened, function_ended, with_parens}
 use Rattle.cfgx_grammar.specs.parsing.Step.{apply, step}
 use Rattle.cfgx_parser.specs.parsing.Bounded.{counted_in, AreMarked, IsHeld}
-use Rattle.cfgx_parser.specs.declared.nodes.InnerPredicate.{InnerPredicate}
+use Rattle.cfgx_parser.specs.nodes.Node.{asked_at}
+use Rattle.cfgx_parser.specs.declared.nodes.ExprNode.{ExprNode}
 use Rattle.cfgx_parser.specs.declared.nodes.ExprNode.TheVariants as node
 use Rattle.cfgx_grammar.proofs.accepted.Reads.{ok_same, LeafEnds-ended, same_ended}
 use Rattle.cfgx_grammar.proofs.accepted.Steps.{Closes-stack, Steps-step}
@@ -36,11 +37,10 @@ AreMarked-top : (stack : List OpenFunction) (n k : ℕ) (f : OpenFunction → Op
 AreMarked-top [] n k f same marks = tt
 AreMarked-top (top ∷ rest) n k f same marks = rw same marks
 
-IsHeld-leaf : (s : ParserState) (predicate : InnerPredicate) → IsHeld s
-    → IsHeld (leaf_ended s predicate)
-IsHeld-leaf s predicate h =
-    let nodes = length_push s.written.nodes (node.Predicate predicate) in
-    let leaves = length_push s.written.leaves (length s.written.nodes) in
+IsHeld-leaf : (s : ParserState) (leaf : ExprNode) → IsHeld s → IsHeld (leaf_ended s leaf)
+IsHeld-leaf s leaf h =
+    let nodes = length_push s.written.nodes leaf in
+    let leaves = length-append s.written.leaves (asked_at leaf (length s.written.nodes)) in
     record {
       counts = omega (arith, counted-with_item s.stack s.roots, nodes, h.counts);
       marks = AreMarked-more (over_top one_more s.stack)
@@ -54,7 +54,7 @@ pub IsHeld-ended : (s t : ParserState) (pending : Option Pending) → s.pending 
 IsHeld-ended s t None none ends h = subst IsHeld (same_ended s t none ends) h
 IsHeld-ended s t (Some p) pending ends h =
     let leaf = LeafEnds-ended s t p pending ends in
-    subst IsHeld (sym leaf.ended) (IsHeld-leaf s leaf.predicate h)
+    subst IsHeld (sym leaf.ended) (IsHeld-leaf s leaf.written h)
 
 IsHeld-opened : (s : ParserState) (function : Function) (item : Item) → IsHeld s
     → IsHeld (opened s function item)

@@ -36,9 +36,9 @@ placed_at text (Token.value word) start end spelled inside cut =
     (value_inside text word start end inside spelled.0, cut.value)
 placed_at text _ start end spelled inside cut = tt
 
--- the leaves at the root are the last that are asked
+-- the predicate at the root is the last that is asked
 KeepsTree-writes : (text : List ℕ) (w : Written) (tree : Tree Question)
-    → WritesNodes text nothing w (prefix tree) (if is_leaf tree then 0 ∷ [] else [])
+    → WritesNodes text nothing w (prefix tree) (if is_leaf tree then places 0 tree else [])
     (if is_function tree then places 0 tree else [])
     → KeepsTree text w.nodes (with_list_ended 0 w).asked tree
 KeepsTree-writes text w tree a = record {
@@ -48,8 +48,9 @@ KeepsTree-writes text w tree a = record {
 }
   where
     last : (tree : Tree Question) → (if is_function tree then places 0 tree else [])
-        ++ (if is_leaf tree then 0 ∷ [] else []) ≡ places 0 tree
+        ++ (if is_leaf tree then places 0 tree else []) ≡ places 0 tree
     last (Tree.leaf question) = refl
+    last (Tree.literal truth) = refl
     last tree = append-nil (places 0 tree)
 
 module _ (text : List ℕ) (one : HasOneTokenList text) where

@@ -1,11 +1,11 @@
--- What stands at the places of a tree's leaves.
+-- What stands at the places of a tree's predicates.
 use Rattle.std.proofs.Common.{◌≡◌, ℕ, ◌+◌, List, [], ◌∷◌, ◌++◌, length, map, Some}
 use Rattle.std.proofs.Common.{sym, refl, ap, ◌∙◌, arith, append_assoc, length-append}
 use Rattle.std.specs.List.{slice_get}
 use Rattle.std.proofs.lemmas.List.{append-nil, length-map, map-append}
 use Rattle.cfgx_grammar.specs.Tree.{Tree, Trees, is_function, is_leaf, asked, asked_by}
 use Rattle.cfgx_parser.specs.nodes.Prefix.{Node, prefix, prefix_each}
-use Rattle.cfgx_parser.specs.nodes.Prefix.{own_places, places, inner_places}
+use Rattle.cfgx_parser.specs.nodes.Prefix.{places, places_by}
 
 -- a part of a list, which begins at a place
 record Lies {X : Type 0} (all : List X) (place : ℕ) (part : List X) : Type 0 where
@@ -38,7 +38,7 @@ Lies-found all place x l = ap (slice_get all) (sym l.at)
     ∙ ap (λ a. slice_get a (length l.front)) l.is ∙ found-behind l.front l.back x
 
 module _ {X : Type 0} (all : List (Node X)) where
-  -- these leaves stand at the places
+  -- these predicates stand at the places
   abbrev StandAt : List ℕ → List X → Type 0
   StandAt ps xs = map (slice_get all) ps ≡ map (λ x. Some (Node.leaf x)) xs
 
@@ -53,13 +53,15 @@ module _ {X : Type 0} (all : List (Node X)) where
 
   -- the members that are functions, and those that are leaves
   abbrev MembersStand : ℕ → Trees X → Type 0
-  MembersStand place trees = StandAt (inner_places place trees) (asked_by is_function trees)
-      × StandAt (own_places place trees) (asked_by is_leaf trees)
+  MembersStand place trees =
+      StandAt (places_by is_function place trees) (asked_by is_function trees)
+      × StandAt (places_by is_leaf place trees) (asked_by is_leaf trees)
 
   mutual
     leaves-stand : (tree : Tree X) (place : ℕ) → Lies all place (prefix tree)
         → StandAt (places place tree) (asked tree)
     leaves-stand (Tree.leaf x) place l = ap (λ o. o ∷ []) (Lies-found all place (Node.leaf x) l)
+    leaves-stand (Tree.literal truth) place l = refl
     leaves-stand (Tree.all trees) place l =
         let both = members-stand trees _ (Lies-parts (_ ∷ []) _ 1 refl l).1 in
         StandAt-both _ _ _ _ both.0 both.1
@@ -79,6 +81,9 @@ module _ {X : Type 0} (all : List (Node X)) where
           StandAt-both (place ∷ []) _ (x ∷ []) _
               (leaves-stand (Tree.leaf x) place parts.0) others.1,
         )
+    members-stand (Trees.more (Tree.literal truth) trees) place l =
+        let parts = Lies-parts (Node.literal truth ∷ []) (prefix_each trees) 1 refl l in
+        members-stand trees _ parts.1
     members-stand (Trees.more tree trees) place l =
         let parts = Lies-parts (prefix tree) (prefix_each trees) _ refl l in
         let others = members-stand trees _ parts.1 in
@@ -113,7 +118,7 @@ module _ {X : Type 0} (tree : Tree X) where
   read-places read of each =
       read-StandAt (prefix tree) read of each (places 0 tree) (asked tree) all-stand
 
-  -- there is one for each leaf
+  -- there is one for each predicate
   pub length-places : length (places 0 tree) ≡ length (asked tree)
   length-places =
       sym (length-map (places 0 tree) (slice_get (prefix tree))) ∙ ap length all-stand

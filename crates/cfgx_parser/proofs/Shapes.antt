@@ -1,12 +1,13 @@
--- Trees of one shape have the same functions as nodes, and their leaves at the same places.
+-- Trees of one shape have the same functions and literals as nodes, and their predicates at the
+-- same places.
 use Rattle.std.proofs.Common.{◌≡◌, ℕ, suc, ◌+◌, length, map, refl, ap}
 use Rattle.std.proofs.Common.{length-append}
 use Rattle.std.proofs.lemmas.List.{map-append}
-use Rattle.cfgx_grammar.specs.Tree.{Tree, Trees, count}
+use Rattle.cfgx_grammar.specs.Tree.{Tree, Trees, is_function, is_leaf, count}
 use Rattle.cfgx_grammar.proofs.Alike.{Alike, AlikeEach, SameShape, SameShapes}
 use Rattle.cfgx_grammar.proofs.Alike.{same_functions, same_leaves}
 use Rattle.cfgx_parser.specs.nodes.Prefix.{prefix, prefix_each}
-use Rattle.cfgx_parser.specs.nodes.Prefix.{own_places, places, inner_places}
+use Rattle.cfgx_parser.specs.nodes.Prefix.{places, places_by}
 use Rattle.cfgx_parser.specs.nodes.Shape.{shape_of}
 
 module _ {X Y : Type 0} where
@@ -19,8 +20,8 @@ module _ {X Y : Type 0} where
     count_is : count xs ≡ count ys
     length_is : length (prefix_each xs) ≡ length (prefix_each ys)
     shapes_are : map shape_of (prefix_each xs) ≡ map shape_of (prefix_each ys)
-    inner_are : (place : ℕ) → inner_places place xs ≡ inner_places place ys
-    own_are : (place : ℕ) → own_places place xs ≡ own_places place ys
+    inner_are : (place : ℕ) → places_by is_function place xs ≡ places_by is_function place ys
+    own_are : (place : ℕ) → places_by is_leaf place xs ≡ places_by is_leaf place ys
 
   abbrev Any : X → Y → Type 0
   Any x y = Unit {0}
@@ -28,6 +29,8 @@ module _ {X Y : Type 0} where
   mutual
     same_nodes : (x : Tree X) (y : Tree Y) → SameShape x y → SameNodes x y
     same_nodes _ _ (Alike.leaf x y related) =
+        record { length_is = refl; shapes_are = refl; places_are = λ place. refl }
+    same_nodes _ _ (Alike.literal truth) =
         record { length_is = refl; shapes_are = refl; places_are = λ place. refl }
     same_nodes _ _ (Alike.all xs ys each) =
         let same = same_members xs ys each in
@@ -84,8 +87,12 @@ module _ {X Y : Type 0} where
             one.length_is,
             others.inner_are (place + length (prefix y)),
           ) refl;
-          own_are = λ place. rw (leaf, one.length_is, others.own_are (place + length (prefix y)))
-              refl;
+          own_are = λ place. rw (
+            leaf,
+            one.places_are place,
+            one.length_is,
+            others.own_are (place + length (prefix y)),
+          ) refl;
         }
 
   pub length-shape : (x : Tree X) (y : Tree Y) → SameShape x y

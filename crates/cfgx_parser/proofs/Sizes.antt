@@ -2,7 +2,7 @@
 use Rattle.std.proofs.Common.{◌≡◌, ℕ, ◌+◌, ◌≤◌, List, [], ◌∷◌, ◌++◌, length, Option}
 use Rattle.std.proofs.Common.{Some, None, ap, ◌∙◌, arith, length-append}
 use Rattle.cfgx_syntax.specs.Token.{Token}
-use Rattle.cfgx_grammar.specs.Grammar.{predicate_tokens, IsCall, IsItem, IsList, commas}
+use Rattle.cfgx_grammar.specs.Grammar.{leaf_tokens, IsCall, IsItem, IsList, commas}
 use Rattle.cfgx_grammar.specs.Grammar.{HasTree}
 use Rattle.cfgx_syntax.specs.Items.{Item, Ending}
 use Rattle.cfgx_syntax.proofs.Sizes.{items-bytes}
@@ -12,10 +12,10 @@ use Rattle.cfgx_grammar.specs.Tree.{Tree, Trees}
 use Rattle.cfgx_parser.specs.nodes.Prefix.{prefix, prefix_each}
 
 -- a node takes a token at least
-predicate-tokens : (key : List ℕ) (value : Option (List ℕ))
-    → 1 ≤ length (predicate_tokens key value)
-predicate-tokens key None = omega arith
-predicate-tokens key (Some value) = omega arith
+leaf-tokens : (key : List ℕ) (value : Option (List ℕ))
+    → 1 ≤ length (leaf_tokens key value)
+leaf-tokens key None = omega arith
+leaf-tokens key (Some value) = omega arith
 
 call-tokens : (name : Token) (tokens inner : List Token) → IsCall name tokens inner
     → length tokens ≡ length inner + 3
@@ -26,7 +26,10 @@ mutual
   pub tree-tokens : (tree : Tree Question) (tokens : List Token) → IsItem tokens tree
       → length (prefix tree) ≤ length tokens
   tree-tokens (Tree.leaf question) tokens is =
-      let some : 1 ≤ length tokens = omega (arith, predicate-tokens is.0 is.1, ap length is.2) in
+      let some : 1 ≤ length tokens = omega (arith, leaf-tokens is.0 is.1, ap length is.2) in
+      omega arith
+  tree-tokens (Tree.literal truth) tokens is =
+      let some : 1 ≤ length tokens = omega (arith, leaf-tokens is.0 is.1, ap length is.2) in
       omega arith
   tree-tokens (Tree.all trees) tokens is =
       let call = call-tokens Token.all tokens is.0 is.1 in

@@ -1,4 +1,4 @@
--- The nodes of worked trees, and the places of their leaves.
+-- The nodes of worked trees, and the places of their predicates.
 use Rattle.std.proofs.Common.{◌≡◌, refl, [], ◌∷◌, ℕ, None, Some, Ok}
 use Rattle.std.specs.Prelude.{codes}
 use Rattle.std.specs.declared.ops.Range.{Range}

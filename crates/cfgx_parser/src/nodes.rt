@@ -73,6 +73,8 @@ pub enum ExprNode {
     },
     /// A predicate
     Predicate(InnerPredicate),
+    /// `true` or `false`
+    Literal(bool),
 }
 
 impl Default for ExprNode {
@@ -89,7 +91,7 @@ impl Default for ExprNode {
 pub(crate) struct Mark {
     /// The place of its node
     pub(crate) node: usize,
-    /// How many leaves of the lists around it wait
+    /// How many predicates of the lists around it wait
     pub(crate) leaves: usize,
 }
 
@@ -98,9 +100,9 @@ pub(crate) struct Mark {
 pub(crate) struct Writer<A: SmallAllocator> {
     /// The nodes, in source order
     pub(crate) nodes: SmallVec<ExprNode, 5, A>,
-    /// The places of leaves whose list is open, those of inner lists last
+    /// The places of predicates whose list is open, those of inner lists last
     pub(crate) leaves: SmallVec<usize, 5, A>,
-    /// The places of the other leaves, in the order in which they are asked
+    /// The places of the other predicates, in the order in which they are asked
     pub(crate) asked: SmallVec<usize, 5, A>,
 }
 
@@ -130,15 +132,17 @@ impl<A: SmallAllocator> Writer<A> {
         }
     }
 
-    /// Writes a predicate of the innermost list.
-    pub(crate) fn leaf(&mut self, predicate: InnerPredicate) -> Result<(), AllocError>
+    /// Writes a predicate or a literal of the innermost list. A literal is not asked.
+    pub(crate) fn leaf(&mut self, leaf: ExprNode) -> Result<(), AllocError>
         ensures written { OnOk result
-            (written_of self.new ≡ with_leaf predicate (written_of self.old)) }
+            (written_of self.new ≡ with_leaf leaf (written_of self.old)) }
         ensures fits { OnOk result (Fits (written_of self.new)) }
     {
         let place = self.nodes.len();
-        self.nodes.push(ExprNode::Predicate(predicate))?;
-        self.leaves.push(place)?;
+        if matches!(leaf, ExprNode::Predicate(_)) {
+            self.leaves.push(place)?;
+        }
+        self.nodes.push(leaf)?;
         let _fits = self.nodes.len();
         Ok(())
     }
@@ -154,7 +158,7 @@ impl<A: SmallAllocator> Writer<A> {
         Ok(())
     }
 
-    /// Ends a list: its own leaves, which are behind the first `leaves`, are the next to be asked.
+    /// Ends a list: its own predicates, which are behind the first `leaves`, are asked next.
     pub(crate) fn end_list(&mut self, leaves: usize) -> Result<(), AllocError>
         requires { leaves ≤ length (written_of self.old).leaves }
         ensures { OnOk result (written_of self.new ≡ with_list_ended leaves (written_of self.old)) }

@@ -59,7 +59,7 @@ pub(crate) struct Parser<'a, A: SmallAllocator> {
     /// The nodes of what has ended
     writer: Writer<A>,
     last_token: Option<Token<'a>>,
-    /// The predicate that has not ended
+    /// The predicate or literal that has not ended
     pending: Option<Pending<'a>>,
     /// How many items at the root have ended
     root_count: usize,
@@ -182,7 +182,7 @@ impl<'a, A: SmallAllocator> Parser<'a, A> {
         }
     }
 
-    /// Ends the predicate that has begun, if one has.
+    /// Ends the predicate or literal that has begun, if one has.
     fn end_predicate(&mut self) -> Result<(), Failure<A>>
         requires { IsBounded (state_of self.old) }
         ensures { Gives result self.old self.new (predicate_ended (state_of self.old)) }
@@ -190,11 +190,11 @@ impl<'a, A: SmallAllocator> Parser<'a, A> {
         let Some(pending) = self.pending.take() else {
             return Ok(());
         };
-        let predicate = match classify(pending) {
-            Ok(predicate) => predicate,
+        let leaf = match classify(pending) {
+            Ok(leaf) => leaf,
             Err((reason, span)) => return Err(self.fault(span, reason)),
         };
-        self.writer.leaf(predicate)?;
+        self.writer.leaf(leaf)?;
         self.count_item();
         Ok(())
     }

@@ -142,22 +142,22 @@ pub struct Predicates<'a> {
 impl<'a> Model for Predicates<'a> {
     ghost use Rattle.std.specs.Prelude.{List};
     ghost use Rattle.cfgx_grammar.specs.Question.{Question};
-    ghost use Rattle.cfgx_parser.specs.nodes.Keeps.{questions_at, NameLeaves};
+    ghost use Rattle.cfgx_parser.specs.nodes.Keeps.{questions_at, NamePredicates};
 
     ghost Value = { List Question };
 
     ghost view = { λ p. questions_at p.text.now p.nodes.now p.asked.now };
 
-    ghost invariant = { λ p. NameLeaves p.text.now p.nodes.now p.asked.now };
+    ghost invariant = { λ p. NamePredicates p.text.now p.nodes.now p.asked.now };
 }
 
 impl<'a> Predicates<'a> {
-    ghost use Rattle.cfgx_parser.specs.nodes.Keeps.{questions_at, NameLeaves};
+    ghost use Rattle.cfgx_parser.specs.nodes.Keeps.{questions_at, NamePredicates};
 
     /// The predicates of the nodes at the places, one after another as these come. The nodes are
     /// those of the text.
     pub(crate) fn new(text: &'a str, nodes: &'a [ExprNode], asked: &'a [usize]) -> Self
-        requires { NameLeaves text.now nodes.now asked.now }
+        requires { NamePredicates text.now nodes.now asked.now }
         ensures { result ≡ questions_at text.now nodes.now asked.now }
     {
         Predicates { text, nodes, asked }

@@ -116,8 +116,8 @@ fn value_token(text: &str) -> Result<(Token<'_>, usize), (Reason, usize)>
 }
 
 /// The token that the text begins with, and how many bytes spell it. The error is why no token can
-/// start there, and how many bytes are at fault: one, also where a longer character stands there,
-/// or all of them behind a quote that is never closed.
+/// start there, and how many bytes are at fault: one, also if a longer character stands there,
+/// or all of them after a quote that is never closed.
 fn first_token(text: &str) -> Result<(Token<'_>, usize), (Reason, usize)>
     requires { 0 < length text.now }
     ensures { BeginsAs text.now result }
@@ -188,7 +188,7 @@ impl<'a, A: Allocator> Lexer<'a, A> {
         self.original
     }
 
-    /// The number of bytes behind the last token that was given: it falls with each item, and is 0
+    /// The number of bytes after the last token that was given: it falls with each item, and is 0
     /// once nothing is to come.
     pub fn items_left_bound(&self) -> usize
         ensures { result ≡ length self.now.text - self.now.place }

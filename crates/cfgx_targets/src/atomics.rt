@@ -1,9 +1,9 @@
 //! The widths of atomics that a target has, as a list.
 
-ghost use Rattle.std.specs.Prelude.{◌≡◌, ◌↔◌, Contains, IfOk, IsTrue};
+ghost use Rattle.std.specs.Prelude.{◌≡◌, ◌↔◌, Contains, IfOk, IsSorted, IsTrue};
 
 use crate::atomic::HasAtomic;
-use crate::list::{Member, SortedList};
+use crate::list::{Member, SortedList, are_sorted};
 use std::alloc::{AllocError, Allocator, Global};
 use std::borrow::CowSlice;
 
@@ -20,6 +20,16 @@ impl Member for HasAtomic {
     ghost printed = { λ width. Prim.search rules };
 
     ghost equal_is_same = { λ one other. Prim.search (comparing, rules) };
+}
+
+// It goes by the slice alone, so a call need not name the allocator of a list.
+impl SortedList<'static, HasAtomic> {
+    /// Whether no width is below the one before it.
+    pub fn is_sorted(widths: &[HasAtomic]) -> bool
+        ensures { IsTrue result ↔ IsSorted ⟦<HasAtomic as Ord>⟧.cmp widths.now }
+    {
+        are_sorted(widths)
+    }
 }
 
 impl<'a, A: Allocator> SortedList<'a, HasAtomic, A> {

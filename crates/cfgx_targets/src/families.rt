@@ -1,9 +1,9 @@
 //! The families of a target.
 
-ghost use Rattle.std.specs.Prelude.{◌≡◌, ◌↔◌, ◌∷◌, ◌++◌, [], Contains, IfOk, IsTrue};
+ghost use Rattle.std.specs.Prelude.{◌≡◌, ◌↔◌, ◌∷◌, ◌++◌, [], Contains, IfOk, IsSorted, IsTrue};
 ghost use Rattle.std.specs.Prelude.{OnOk};
 
-use crate::list::{Member, SortedList};
+use crate::list::{Member, SortedList, are_sorted};
 use cfgx_places::Family;
 use std::alloc::{AllocError, Allocator, Global};
 use std::borrow::CowSlice;
@@ -24,6 +24,13 @@ impl<A: Allocator> Member for Family<'_, A> {
 }
 
 impl<'a, A: Allocator> SortedList<'a, Family<'a, A>, A> {
+    /// Whether no family is below the one before it.
+    pub fn is_sorted(families: &[Family<'_, A>]) -> bool
+        ensures { IsTrue result ↔ IsSorted ⟦<Family<'a, A> as Ord>⟧.cmp families.now }
+    {
+        are_sorted(families)
+    }
+
     /// Whether a member has the text of this family.
     pub fn contains(&self, family: &Family<'_>) -> bool
         ensures { IsTrue result ↔ Contains self.now family.now }

@@ -91,13 +91,6 @@ impl<'a, T: Member, A: Allocator> SortedList<'a, T, A> {
         }
     }
 
-    /// Whether no item is below the one before it.
-    pub fn is_sorted(items: &[T]) -> bool
-        ensures { IsTrue result ↔ IsSorted T.cmp items.now }
-    {
-        items.is_sorted()
-    }
-
     /// The members, in order.
     pub fn as_slice(&self) -> &[T]
         ensures members { result.now ≡ self.now }
@@ -112,6 +105,13 @@ impl<'a, T: Member, A: Allocator> SortedList<'a, T, A> {
     {
         self.as_slice().binary_search(item).is_ok()
     }
+}
+
+/// Whether no item is below the one before it.
+pub(crate) fn are_sorted<T: Member>(items: &[T]) -> bool
+    ensures { IsTrue result ↔ IsSorted T.cmp items.now }
+{
+    items.is_sorted()
 }
 
 impl<T: Member, A: Allocator> PartialEq for SortedList<'_, T, A> {

@@ -1,7 +1,7 @@
 -- A target of which two things are known.
 use Rattle.std.specs.Prelude.{Bool, false, ◌==◌}
 use Rattle.std.specs.Str.{bytes_eq}
-use Rattle.cfgx_grammar.specs.Question.{TargetQuestion}
+use Rattle.cfg_expr.specs.Words.{TargetQuestion}
 use Rattle.cfgx_vectors.specs.declared.calling.matcher.Board.{Board}
 
 -- whether the board meets a predicate: of all but these two it knows nothing

@@ -6,6 +6,7 @@ pub mod closures;
 pub mod features;
 pub mod fillings;
 pub mod lexing;
+pub mod literals;
 pub mod logic;
 pub mod matcher;
 pub mod names;

@@ -20,6 +20,14 @@ const VALUES: &[(&[&str], &str)] = &[
     (&["all(not(blah))"], "true\n"),
     (&["any(not(blah))", "blah"], "false\n"),
     (&["any(a, a, a)", "a"], "true\n"),
+    (&["true"], "true\n"),
+    (&["false"], "false\n"),
+    (&["all(true, a)", "a"], "true\n"),
+    (&["any(false, a)", "?a"], "unknown\n"),
+    // A flag that is a literal names nothing.
+    (&["a", "true"], "false\n"),
+    (&["a", "?true"], "false\n"),
+    (&["any(a, b)", "all(true, b)"], "true\n"),
     // A flag of each kind, none, and both.
     (&["a"], "false\n"),
     (&["a", "a"], "true\n"),

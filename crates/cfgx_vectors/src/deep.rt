@@ -65,6 +65,16 @@ const FAULTS: &[Row] = &[
     ),
     ("not(", "all(),", 300, ")", 0, 1805, Reason::InvalidNot(300)),
     ("not(", "a,", 257, ")", 0, 519, Reason::InvalidNot(257)),
+    ("not(", "true,", 300, ")", 0, 1505, Reason::InvalidNot(300)),
+    (
+        "",
+        "false,",
+        100_000,
+        "",
+        0,
+        600_000,
+        Reason::MultipleRootPredicates,
+    ),
     (
         "not(",
         "a,",
@@ -135,6 +145,8 @@ fn predicates_of_deep_and_wide_texts(rt: HostRuntime) -> Result<(), Fail> {
     assert!(rt; deep == Some(1));
     let functions = count_of(alloc, repeated(alloc, "all(any(),", "all(),", 299, ")"))?;
     assert!(rt; functions == Some(0));
+    let literals = count_of(alloc, repeated(alloc, "any(a,", "true,", 100_000, "b)"))?;
+    assert!(rt; literals == Some(2));
     Ok(())
 }
 

@@ -117,10 +117,11 @@ mod tests {
     use crate::evaluating::terms::Terms;
     use crate::evaluating::{Lawless, questions_of, terms_of, value_with_flags};
     use crate::refusing::{EVERY, Refusing};
+    use crate::turns::all_true;
     use cfg_expr::error::Failure;
     use cfg_expr::expr::Logic;
     use cfg_expr::{Expression, Predicate};
-    use std::alloc::{AllocError, Global};
+    use std::alloc::Global;
     use std::process::Abort;
     use std::test::Fail;
 
@@ -131,7 +132,7 @@ mod tests {
     }
 
     // A text, the answer to every predicate, and the value.
-    const BOOLS: [(&str, bool, bool); 8] = [
+    const BOOLS: [(&str, bool, bool); 16] = [
         ("all()", false, true),
         ("any()", true, false),
         ("not(all())", false, false),
@@ -140,6 +141,14 @@ mod tests {
         ("any(not(blah))", true, false),
         ("any(a, a, a)", true, true),
         ("a", false, false),
+        ("true", false, true),
+        ("false", true, false),
+        ("not(true)", true, false),
+        ("all(a, true)", false, false),
+        ("all(true, true)", false, true),
+        ("all(a, false)", true, false),
+        ("any(a, true)", false, true),
+        ("any(false, a)", true, true),
     ];
 
     #[test]
@@ -193,6 +202,8 @@ mod tests {
         assert_eq!(rt; questions(rt.alloc(), "any(a, a, a)")?, 3);
         assert_eq!(rt; questions(rt.alloc(), "all(a, any(b), c)")?, 3);
         assert_eq!(rt; questions(rt.alloc(), "all()")?, 0);
+        assert_eq!(rt; questions(rt.alloc(), "true")?, 0);
+        assert_eq!(rt; questions(rt.alloc(), "all(a, true, any(b), false)")?, 2);
         Ok(())
     }
 
@@ -225,6 +236,10 @@ mod tests {
         ("not(any(x))", "!(F|x)"),
         ("any(a, all(b, not(c)), d)", "(((F|d)|a)|((T&b)&!c))"),
         ("all(test)", "(T&?)"),
+        ("true", "T"),
+        ("not(false)", "!F"),
+        ("all(a, true, any(b), false)", "((((T&F)&T)&a)&(F|b))"),
+        ("any(true, not(a), false)", "(((F|F)|T)|!a)"),
         ("a", "a"),
     ];
 
@@ -290,40 +305,34 @@ mod tests {
         let wide = repeated(rt.alloc(), "any(", "a,", 100_000, ")")?;
         assert!(rt; !value(rt.alloc(), wide.as_str(), false)?);
         assert!(rt; value(rt.alloc(), wide.as_str(), true)?);
+        let literals = repeated(rt.alloc(), "all(a,", "true,", 100_000, ")")?;
+        assert!(rt; !value(rt.alloc(), literals.as_str(), false)?);
+        assert!(rt; value(rt.alloc(), literals.as_str(), true)?);
         Ok(())
     }
 
-    // The value of so many `not` round one predicate that is true.
-    fn value_of_not(alloc: Global, times: usize) -> Result<bool, Fail> {
-        let text = nested(alloc, "not(", times, "a")?;
+    // The value of so many `not` round a leaf, where a predicate is true.
+    fn value_of_not(alloc: Global, times: usize, leaf: &str) -> Result<bool, Fail> {
+        let text = nested(alloc, "not(", times, leaf)?;
         value(alloc, text.as_str(), true)
     }
 
     #[test]
     fn deep_members(rt: HostRuntime) -> Result<(), Fail> {
-        assert!(rt; value_of_not(rt.alloc(), 100_000)?);
-        assert!(rt; !value_of_not(rt.alloc(), 100_001)?);
+        assert!(rt; value_of_not(rt.alloc(), 100_000, "a")?);
+        assert!(rt; !value_of_not(rt.alloc(), 100_001, "a")?);
+        Ok(())
+    }
+
+    #[test]
+    fn deep_literals(rt: HostRuntime) -> Result<(), Fail> {
+        assert!(rt; value_of_not(rt.alloc(), 100_000, "true")?);
+        assert!(rt; !value_of_not(rt.alloc(), 100_001, "true")?);
         Ok(())
     }
 
     // No text here needs so many growths.
     const MOST_GROWTHS: u64 = 100;
-
-    // Evaluates with every predicate true, and answers how many were asked beside the value.
-    fn all_true<'h>(
-        heap: &'h Refusing<Global>,
-        expression: &Expression<&'h Refusing<Global>>,
-    ) -> (Result<bool, AllocError>, usize) {
-        let mut count = 0usize;
-        let value = expression.eval(
-            heap,
-            &mut |_predicate: &Predicate<'_>| {
-                count = count.saturating_add(1);
-                true
-            },
-        );
-        (value, count)
-    }
 
     // Evaluates the text with the growth of this number refused, where `EVERY` is all of them.
     // The value, how many predicates were asked, and how many there are.
@@ -360,7 +369,9 @@ mod tests {
         let wide = repeated(rt.alloc(), "any(", "a,", 100, ")")?;
         eval_in_turns(&rt, rt.alloc(), wide.as_str())?;
         let deep = nested(rt.alloc(), "any(", 100, "a")?;
-        eval_in_turns(&rt, rt.alloc(), deep.as_str())
+        eval_in_turns(&rt, rt.alloc(), deep.as_str())?;
+        let literals = repeated(rt.alloc(), "all(a,", "true,", 100, ")")?;
+        eval_in_turns(&rt, rt.alloc(), literals.as_str())
     }
 
     // Each has 31 or 32 bytes.

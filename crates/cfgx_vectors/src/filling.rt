@@ -71,11 +71,11 @@ pub fn plan(
 mod tests {
     use crate::deep::{nested, repeated};
     use crate::filling::{Decision, plan};
+    use crate::generated::agreeing::{is_filling, value_with};
     use crate::lanes::{self, each_in_each, in_each};
     use crate::refusing::Refusing;
-    use cfg_expr::expr::Logic;
+    use cfg_expr::Expression;
     use cfg_expr::memory::SmallAllocator;
-    use cfg_expr::{Expression, Predicate};
     use std::alloc::{AllocError, Global};
     use std::process::Abort;
     use std::test::Fail;
@@ -108,18 +108,6 @@ mod tests {
         }
     }
 
-    // The value over the answers, one after another.
-    fn value_with<T: Logic + Copy>(
-        alloc: Global,
-        expression: &Expression,
-        answers: &[T],
-        otherwise: T,
-    ) -> Result<T, AllocError> {
-        let mut left = answers.iter();
-        let mut answer = |_predicate: &Predicate<'_>| left.next().copied().unwrap_or(otherwise);
-        expression.eval(alloc, &mut answer)
-    }
-
     const YES: Option<bool> = Some(true);
 
     const NO: Option<bool> = Some(false);
@@ -142,6 +130,20 @@ mod tests {
         ("not(not(a))", &[None], Some((&[true], &[false]))),
         ("any(all(), a)", &[None], None),
         ("any(any(), a)", &[None], Some((&[true], &[false]))),
+        ("true", &[], None),
+        ("any(true, a)", &[None], None),
+        ("any(false, a)", &[None], Some((&[true], &[false]))),
+        (
+            "all(true, a, not(b), not(false))",
+            &[None, None],
+            Some((&[false, true], &[true, false])),
+        ),
+        ("all(false, a, not(b))", &[None, None], None),
+        (
+            "any(not(a), false, b)",
+            &[None, None],
+            Some((&[false, true], &[true, false])),
+        ),
         (
             "any(a, not(a))",
             &[None, None],
@@ -362,7 +364,9 @@ mod tests {
         fill_in_turns(&rt, rt.alloc(), wide.as_str(), &[None], None)?;
         let deep = nested(rt.alloc(), "not(", 100, "a")?;
         let plain: Option<(&[bool], &[bool])> = Some((&[true], &[false]));
-        fill_in_turns(&rt, rt.alloc(), deep.as_str(), &[None], plain)
+        fill_in_turns(&rt, rt.alloc(), deep.as_str(), &[None], plain)?;
+        let literals = repeated(rt.alloc(), "any(a,", "false,", 100, ")")?;
+        fill_in_turns(&rt, rt.alloc(), literals.as_str(), &[None], plain)
     }
 
     // How many predicates a text of `x`, `all`, `any` and `not` has.
@@ -438,15 +442,6 @@ mod tests {
             rest /= 2;
         }
         Ok(filling)
-    }
-
-    // Whether each truth value is the answer, where that is known.
-    fn is_filling(filling: &[bool], answers: &[Option<bool>]) -> bool {
-        filling.len() == answers.len()
-            && filling
-                .iter()
-                .zip(answers)
-                .all(|(value, answer)| answer.unwrap_or(*value) == *value)
     }
 
     // The value to which all the fillings lead, or nothing where they differ.
@@ -533,7 +528,7 @@ mod tests {
 
     fn first_texts(alloc: Global) -> Result<Vec<String>, AllocError> {
         let mut texts = Vec::new(alloc);
-        for text in ["x", "all()", "any()"] {
+        for text in ["x", "any()", "true", "false"] {
             texts.push(String::from_str(alloc, text)?)?;
         }
         Ok(texts)

@@ -146,6 +146,11 @@ const OF_THREE: &[(&str, u64, u64)] = &[
     ("all(a, any(b), c)", 0b001, 0b010),
     ("any(a, all())", u64::MAX, 0),
     ("all(a, any())", 0, u64::MAX),
+    ("true", u64::MAX, 0),
+    ("not(true)", 0, u64::MAX),
+    ("all(true, a)", 0b001, 0b010),
+    ("any(a, false, not(true))", 0b001, 0b010),
+    ("all(a, true, any(b), false)", 0, u64::MAX),
 ];
 
 // The value by `eval` where each answer is the same.
@@ -227,6 +232,11 @@ const VALUES: &[Row] = &[
     ("all(a, not(test))", &[NO, YES], YES),
     ("all(a, not(test))", &[YES, NO], NO),
     ("any(a, b)", &[NO, YES], YES),
+    ("true", &[], YES),
+    ("false", &[], NO),
+    ("any(false, a)", &[None], None),
+    ("any(true, a)", &[None], YES),
+    ("all(a, true, any(b), false)", &[None, YES], NO),
 ];
 
 fn has_value(alloc: Global, row: &Row) -> Result<bool, Fail> {
@@ -351,7 +361,9 @@ fn refused_growths(rt: HostRuntime) -> Result<(), Fail> {
     let answers = vec![in rt.alloc(); three(); 100]?;
     eval_in_turns(&rt, rt.alloc(), wide.as_str(), answers.as_slice(), three())?;
     let deep = nested(rt.alloc(), "not(", 100, "a")?;
-    eval_in_turns(&rt, rt.alloc(), deep.as_str(), &[three()], three())
+    eval_in_turns(&rt, rt.alloc(), deep.as_str(), &[three()], three())?;
+    let literals = repeated(rt.alloc(), "all(a,", "true,", 100, ")")?;
+    eval_in_turns(&rt, rt.alloc(), literals.as_str(), &[three()], three())
 }
 
 // Each has 31 or 32 bytes, and asks so many predicates.

@@ -21,6 +21,8 @@ mod faults;
 mod fields;
 pub mod filling;
 #[cfg(test)]
+mod generated;
+#[cfg(test)]
 mod holding;
 #[cfg(test)]
 mod in_turn;
@@ -38,6 +40,8 @@ mod named;
 mod nodes;
 #[cfg(test)]
 mod program;
+#[cfg(test)]
+mod questions;
 pub mod refusing;
 pub mod respelling;
 #[cfg(test)]
@@ -52,3 +56,5 @@ mod targets;
 mod tokens;
 #[cfg(test)]
 mod turns;
+#[cfg(test)]
+mod without_memory;

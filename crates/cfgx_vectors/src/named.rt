@@ -1,4 +1,4 @@
 //! The texts of the named values, written out apart from the code.
 
-mod fields;
-mod places;
+pub(crate) mod fields;
+pub(crate) mod places;

@@ -9,14 +9,14 @@ use std::test::Fail;
 fn length_of(node: &ExprNode) -> usize {
     match node {
         ExprNode::Fn { len, .. } => *len,
-        ExprNode::Predicate(_) => 1,
+        ExprNode::Predicate(_) | ExprNode::Literal(_) => 1,
     }
 }
 
 // A text, the lengths of the trees of its nodes, and the places that are asked.
 type Row = (&'static str, &'static [usize], &'static [usize]);
 
-const ROWS: [Row; 3] = [
+const ROWS: [Row; 5] = [
     ("a", &[1], &[0]),
     ("all(a, any(b), c)", &[5, 1, 2, 1, 1], &[3, 1, 4]),
     (
@@ -24,6 +24,8 @@ const ROWS: [Row; 3] = [
         &[7, 1, 4, 1, 2, 1, 1],
         &[5, 3, 1, 6],
     ),
+    ("true", &[1], &[]),
+    ("all(a, true, any(b), false)", &[6, 1, 1, 2, 1, 1], &[4, 1]),
 ];
 
 // Whether the parser leaves nodes of these lengths for the text, and asks at these places.

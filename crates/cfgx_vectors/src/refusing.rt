@@ -12,7 +12,7 @@ pub const EVERY: u64 = u64::MAX;
 #[derive(Drop)]
 pub struct Refusing<B: Allocator> {
     inner: B,
-    // How many growths from here the refused one is, and 0 where none is ahead.
+    // How many growths from here the refused one is, and 0 if none is ahead.
     countdown: Cell<u64>,
 }
 
@@ -36,7 +36,7 @@ impl<B: Allocator> Refusing<B> {
         self.countdown.get() == 0
     }
 
-    // Takes one growth off the countdown. True where that ends it, or where every growth is
+    // Takes one growth off the countdown. True if that ends it, or if every growth is
     // refused, which no clause can say: a cell's number is no part of its value.
     fn ends_countdown(&self) -> bool {
         let ahead = self.countdown.get();

@@ -1,8 +1,8 @@
 //! The spellings of predicates, as `spell` writes them.
 use crate::holding::holds;
-use cfg_expr::Expression;
 use cfg_expr::error::Failure;
 use cfg_expr::expr::{Predicates, spell};
+use cfg_expr::{Expression, Predicate};
 use std::alloc::Global;
 use std::io::{self, ErrorKind, Write};
 use std::process::Abort;
@@ -124,6 +124,15 @@ fn spells_each_kind_of_predicate(rt: HostRuntime) {
             );
         }
     }
+}
+
+// No text asks such a flag, so only a caller can make it.
+#[test]
+fn a_flag_that_is_read_as_a_literal(rt: HostRuntime) {
+    let mut writer = Slow::new(rt.alloc(), 1);
+    let flag: Predicate<'_> = Predicate::Flag("true");
+    assert!(rt; spell(&flag, &mut writer).is_ok());
+    assert_eq!(rt; writer.bytes.as_slice(), b"true".as_slice());
 }
 
 // Whether a beginning of the spelling was written, this many bytes, where no more have room.

@@ -52,9 +52,9 @@ fn widths_are_sorted_and_printed(rt: HostRuntime) -> Result<(), Fail> {
 #[test]
 fn sorted_slices_are_told(rt: HostRuntime) {
     let eight = HasAtomic::IntegerSize(8);
-    assert!(rt; !HasAtomics::<Global>::is_sorted(&[HasAtomic::Pointer, eight]));
-    assert!(rt; HasAtomics::<Global>::is_sorted(&[eight, eight]));
-    assert!(rt; HasAtomics::<Global>::is_sorted(&[]));
+    assert!(rt; !HasAtomics::is_sorted(&[HasAtomic::Pointer, eight]));
+    assert!(rt; HasAtomics::is_sorted(&[eight, eight]));
+    assert!(rt; HasAtomics::is_sorted(&[]));
 }
 
 // Whether the text is read as the width that prints this.

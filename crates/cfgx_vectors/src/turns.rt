@@ -1,6 +1,7 @@
 //! Each growth of a call refused in turn.
 use crate::holding::holds;
 use crate::refusing::Refusing;
+use cfg_expr::{Expression, Predicate};
 use std::alloc::{AllocError, Global};
 
 /// The allocator of such calls.
@@ -29,4 +30,20 @@ where
         }
     }
     false
+}
+
+/// The value with every predicate true, and how many were asked.
+pub(crate) fn all_true<'h>(
+    heap: Heap<'h>,
+    expression: &Expression<Heap<'h>>,
+) -> (Result<bool, AllocError>, usize) {
+    let mut count = 0usize;
+    let value = expression.eval(
+        heap,
+        &mut |_predicate: &Predicate<'_>| {
+            count = count.saturating_add(1);
+            true
+        },
+    );
+    (value, count)
 }

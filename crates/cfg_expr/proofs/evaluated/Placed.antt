@@ -1,5 +1,5 @@
--- Answers that are put at the places of a tree's leaves, in the order in which it asks, stand there
--- as its nodes do.
+-- Answers that are put at the places of a tree's predicates, in the order in which it asks, stand
+-- there as its nodes do.
 use Rattle.std.proofs.Common.{◌≡◌, ℕ, ◌+◌, List, [], ◌∷◌, ◌++◌, length, map, set}
 use Rattle.std.proofs.Common.{refl, sym, ap, ◌∙◌, arith}
 use Rattle.std.proofs.Common.{append_assoc, length-append}
@@ -9,7 +9,7 @@ use Rattle.cfgx_grammar.specs.Fold.{Operations, answered}
 use Rattle.cfgx_grammar.proofs.Alike.{answered-shape}
 use Rattle.cfgx_grammar.proofs.Dealing.{asked-answered}
 use Rattle.cfgx_parser.specs.nodes.Prefix.{Node, prefix, prefix_each}
-use Rattle.cfgx_parser.specs.nodes.Prefix.{own_places, places, inner_places}
+use Rattle.cfgx_parser.specs.nodes.Prefix.{places, places_by}
 use Rattle.cfgx_parser.specs.nodes.Shape.{shape_of}
 use Rattle.cfgx_parser.proofs.Shapes.{length-shape, places-shape, shapes-shape}
 use Rattle.cfg_expr.specs.nodes.Answers.{no_answers, with_answers}
@@ -101,12 +101,12 @@ module _ {T : Type 0} where
 
   -- the members that are functions are asked first
   abbrev FillsInner : ℕ → Trees T → Type 0
-  FillsInner at trees = Fills at (blank (prefix_each trees)) (inner_places at trees)
+  FillsInner at trees = Fills at (blank (prefix_each trees)) (places_by is_function at trees)
       (asked_by is_function trees) (halves trees)
 
   abbrev FillsOwn : ℕ → Trees T → Type 0
-  FillsOwn at trees = Fills at (halves trees) (own_places at trees) (asked_by is_leaf trees)
-      (slots (prefix_each trees))
+  FillsOwn at trees = Fills at (halves trees) (places_by is_leaf at trees)
+      (asked_by is_leaf trees) (slots (prefix_each trees))
 
   -- a function's own node has no answer
   Fills-headed : {at : ℕ} {before after : List (Member T)} {ps : List ℕ} {xs : List T}
@@ -117,6 +117,7 @@ module _ {T : Type 0} where
   mutual
     fills-tree : (tree : Tree T) (at : ℕ) → FillsTree at tree
     fills-tree (Tree.leaf x) at = Fills-one at x
+    fills-tree (Tree.literal truth) at = Fills-none at (member.Joined ∷ [])
     fills-tree (Tree.all trees) at =
         Fills-headed (Fills-then (fills-inner trees (at + 1)) (fills-own trees (at + 1)))
     fills-tree (Tree.any trees) at =

@@ -1,6 +1,6 @@
 -- The nodes of a tree whose leaves are answers, read from the last to the first, leave its value.
 use Rattle.std.proofs.Common.{◌≡◌, ◌+◌, ◌-◌, ◌≤◌, ◌<◌, ◌++◌, ℕ, true, false, List, [], ◌∷◌}
-use Rattle.std.proofs.Common.{length, map, take, drop, get_or, Option, Some, None, suc, sym, refl}
+use Rattle.std.proofs.Common.{length, map, take, drop, get_or, Some, suc, sym, refl}
 use Rattle.std.proofs.Common.{ap, ◌∙◌, arith, append_assoc, take_at, drop_at, subst, set, min}
 use Rattle.std.proofs.Common.{⊎_elim}
 use Rattle.std.proofs.Common.{length-append}
@@ -9,24 +9,26 @@ use Rattle.std.proofs.lemmas.Grind.{drop-set_at}
 use Rattle.std.proofs.lemmas.List.{length-take, take_all}
 use Rattle.std.proofs.lemmas.List.{append-nil, map-append, drop_more, drop_all}
 use Rattle.cfgx_grammar.specs.Tree.{Tree, Trees, is_function, is_leaf, count}
-use Rattle.cfgx_grammar.specs.Fold.{Operations, value_of, values_by}
+use Rattle.cfgx_grammar.specs.Fold.{Operations, constant, value_of, values_by}
 use Rattle.cfgx_parser.specs.nodes.Prefix.{Node, prefix, prefix_each}
-use Rattle.cfgx_parser.specs.nodes.Shape.{shape_of}
+use Rattle.cfgx_parser.specs.nodes.Shape.{Shape, shape_of}
 use Rattle.cfgx_parser.specs.declared.function.Func.{Func}
 use Rattle.cfgx_parser.specs.declared.function.Func.TheVariants.{Not, All, Any}
 use Rattle.cfg_expr.specs.nodes.Reading.{Member, any_value, values_in, made, put, read, arity}
 use Rattle.cfg_expr.specs.declared.expr.evaluating.Member.TheVariants as member
 use Rattle.cfg_expr.proofs.evaluated.Joined.{front-last, front-less}
 
--- what stands in the slot of a node: the answer of a leaf
+-- what stands in the slot of a node: the answer of a predicate
 abbrev pub slot_of : {T : Type 0} → Node T → Member T
 slot_of (Node.leaf answer) = member.Leaf answer
+slot_of (Node.literal truth) = member.Joined
 slot_of (Node.function func len) = member.Joined
 
 module _ {T : Type 0} (logic : Operations T) where
   -- a tree on the stack
   abbrev pub entry : Tree T → Member T
   entry (Tree.leaf answer) = member.Leaf answer
+  entry (Tree.literal truth) = member.Leaf (constant logic truth)
   entry tree = member.Function (value_of logic tree)
 
   abbrev entries : Trees T → List (Member T)
@@ -43,6 +45,9 @@ module _ {T : Type 0} (logic : Operations T) where
   values-entries Trees.none = (refl, refl)
   values-entries (Trees.more (Tree.leaf answer) trees) =
       let others = values-entries trees in (others.0, ap (λ l. answer ∷ l) others.1)
+  values-entries (Trees.more (Tree.literal truth) trees) =
+      let others = values-entries trees in
+      (others.0, ap (λ l. constant logic truth ∷ l) others.1)
   values-entries (Trees.more tree trees) =
       let others = values-entries trees in
       (ap (λ l. value_of logic tree ∷ l) others.0, others.1)
@@ -50,23 +55,26 @@ module _ {T : Type 0} (logic : Operations T) where
   -- it is the value of the tree
   pub value-entry : (tree : Tree T) → any_value (entry tree) ≡ Some (value_of logic tree)
   value-entry (Tree.leaf answer) = refl
+  value-entry (Tree.literal truth) = refl
   value-entry tree = refl
 
   -- the nodes in front of these read onto what these leave
   abbrev Reads : List (Node T) → List (Member T) → Type 0
-  Reads nodes members = (shapes : List (Option Func)) (slots : List (Member T))
+  Reads nodes members = (shapes : List Shape) (slots : List (Member T))
       → read logic (map shape_of nodes ++ shapes) (map slot_of nodes ++ slots)
       ≡ members ++ read logic shapes slots
 
   -- a function takes its members off
   put-function : (func : Func) (members rest : List (Member T)) → length members ≡ arity func
-      → put logic (Some func) member.Joined (members ++ rest) ≡ made logic func members ∷ rest
+      → put logic (Shape.function func) member.Joined (members ++ rest)
+      ≡ made logic func members ∷ rest
   put-function func members rest many =
       rw (take_at members rest (arity func) many, drop_at members rest (arity func) many) refl
 
   mutual
     read-tree : (tree : Tree T) → Reads (prefix tree) (entry tree ∷ [])
     read-tree (Tree.leaf answer) shapes slots = refl
+    read-tree (Tree.literal truth) shapes slots = refl
     read-tree (Tree.all trees) shapes slots =
         let values = values-entries trees in
         rw (read-each trees shapes slots)
@@ -102,7 +110,7 @@ module _ {T : Type 0} (logic : Operations T) where
       ∙ read-tree tree [] []
 
 -- The nodes from the place on are read: the stack, with its top, and the slots in front.
-pub record Reading {T : Type 0} (logic : Operations T) (shapes : List (Option Func))
+pub record Reading {T : Type 0} (logic : Operations T) (shapes : List Shape)
     (old : List (Member T)) (place top : ℕ) (slots : List (Member T)) : Type 0 where
   pub many : length old ≡ length shapes
   pub kept : length slots ≡ length old
@@ -111,7 +119,7 @@ pub record Reading {T : Type 0} (logic : Operations T) (shapes : List (Option Fu
   pub stack : drop top slots ≡ read logic (drop place shapes) (drop place old)
   pub front : take place slots ≡ take place old
 
-pub Reading-start : {T : Type 0} (logic : Operations T) (shapes : List (Option Func))
+pub Reading-start : {T : Type 0} (logic : Operations T) (shapes : List Shape)
     (old : List (Member T)) → length old ≡ length shapes
     → Reading logic shapes old (length shapes) (length old) old
 Reading-start logic shapes old many = record {
@@ -126,10 +134,10 @@ Reading-start logic shapes old many = record {
   front = refl;
 }
 
-pub Reading-next : {T : Type 0} {logic : Operations T} {shapes : List (Option Func)}
-    {old slots new : List (Member T)} {after place top next : ℕ} {shape : Option Func}
+pub Reading-next : {T : Type 0} {logic : Operations T} {shapes : List Shape}
+    {old slots new : List (Member T)} {after place top next : ℕ} {shape : Shape}
     (otherwise : Member T) → after ≡ place + 1 → place < length shapes
-    → shape ≡ get_or shapes place None → Reading logic shapes old after top slots
+    → shape ≡ get_or shapes place Shape.predicate → Reading logic shapes old after top slots
     → drop next new ≡ put logic shape (get_or slots place otherwise) (drop top slots)
     → take place new ≡ take place slots → (place ≤ next) × (next ≤ length new)
     → length new ≡ length slots → Reading logic shapes old place next new
@@ -137,7 +145,7 @@ Reading-next {logic = logic} {shapes = shapes} {old = old} {slots = slots} {new 
     {place = place} {top = top} otherwise one_more inside is before stack front within same =
     let reading = subst (λ at. Reading logic shapes old at top slots) one_more before in
     let one = front-last place otherwise old slots reading.front in
-    let here = drop_more shapes place None inside in
+    let here = drop_more shapes place Shape.predicate inside in
     let there = drop_more old place otherwise (omega (arith, reading.many)) in
     record {
       many = reading.many;

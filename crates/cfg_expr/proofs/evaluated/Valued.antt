@@ -1,12 +1,12 @@
 -- What is left on the stack is the value of the text's tree.
-use Rattle.std.proofs.Common.{◌≡◌, ℕ, List, [], ◌∷◌, length, map, Some, None, sym, refl, ap}
+use Rattle.std.proofs.Common.{◌≡◌, ℕ, List, [], ◌∷◌, length, map, Some, sym, refl, ap}
 use Rattle.std.proofs.Common.{◌∙◌, set}
 use Rattle.std.proofs.lemmas.List.{length-map, length-replicate, length-set}
 use Rattle.cfgx_grammar.specs.Answer.{HasOneTree}
 use Rattle.cfgx_grammar.specs.Tree.{asked}
 use Rattle.cfgx_grammar.specs.Fold.{Operations, answered, fold}
 use Rattle.cfgx_parser.specs.nodes.Prefix.{node_at, prefix, places}
-use Rattle.cfgx_parser.specs.nodes.Shape.{shape, shape_of}
+use Rattle.cfgx_parser.specs.nodes.Shape.{Shape, shape, shape_of}
 use Rattle.cfgx_parser.specs.declared.nodes.ExprNode.{ExprNode}
 use Rattle.cfgx_parser.specs.declared.nodes.ExprNode.TheVariants as node
 use Rattle.cfg_expr.specs.nodes.Answers.{Holds, no_answers, with_answers}
@@ -18,9 +18,12 @@ use Rattle.cfg_expr.proofs.evaluated.Placed.{read-placed}
 shapes-shown : (text : List ℕ) (nodes : List ExprNode)
     → map shape nodes ≡ map shape_of (map (node_at text) nodes)
 shapes-shown text [] = refl
-shapes-shown text (node.Fn func len ∷ nodes) = ap (λ l. Some func ∷ l) (shapes-shown text nodes)
+shapes-shown text (node.Fn func len ∷ nodes) =
+    ap (λ l. Shape.function func ∷ l) (shapes-shown text nodes)
 shapes-shown text (node.Predicate predicate ∷ nodes) =
-    ap (λ l. None ∷ l) (shapes-shown text nodes)
+    ap (λ l. Shape.predicate ∷ l) (shapes-shown text nodes)
+shapes-shown text (node.Literal truth ∷ nodes) =
+    ap (λ l. Shape.literal truth ∷ l) (shapes-shown text nodes)
 
 -- answers that are put at places are as many as before
 length-with_answers : {T : Type 0} (slots : List (Member T)) (asks : List ℕ) (answers : List T)

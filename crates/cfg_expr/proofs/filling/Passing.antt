@@ -17,6 +17,7 @@ use Rattle.cfgx_parser.specs.declared.nodes.ExprNode.TheVariants as node
 abbrev mutual
   pub odds : {X : Type 0} → Bool → Tree X → List Bool
   odds odd (Tree.leaf x) = odd ∷ []
+  odds odd (Tree.literal truth) = odd ∷ []
   odds odd (Tree.all trees) = odd ∷ odds_each odd trees
   odds odd (Tree.any trees) = odd ∷ odds_each odd trees
   odds odd (Tree.not tree) = odd ∷ odds (not odd) tree
@@ -31,6 +32,7 @@ reach_of (Node.function Not len) = Some len
 reach_of (Node.function (All members) len) = None
 reach_of (Node.function (Any members) len) = None
 reach_of (Node.leaf question) = None
+reach_of (Node.literal truth) = None
 
 pub reaches-shown : (text : List ℕ) (nodes : List ExprNode)
     → map reach nodes ≡ map reach_of (map (node_at text) nodes)
@@ -150,6 +152,7 @@ mutual
       (replicate (length (prefix tree)) false ++ flips)
       ≡ odds odd tree ++ pass rest odd flips
   pass-tree (Tree.leaf question) rest odd flips = refl
+  pass-tree (Tree.literal truth) rest odd flips = refl
   pass-tree (Tree.all trees) rest odd flips = ap (λ l. odd ∷ l) (pass-each trees rest odd flips)
   pass-tree (Tree.any trees) rest odd flips = ap (λ l. odd ∷ l) (pass-each trees rest odd flips)
   pass-tree (Tree.not tree) rest odd flips =

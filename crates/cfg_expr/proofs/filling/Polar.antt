@@ -1,4 +1,4 @@
--- The polar fillings, by the parities of the leaves.
+-- The polar fillings, by the parities of the predicates.
 use Rattle.std.proofs.Common.{◌≡◌, ℕ, zero, suc, Bool, true, false, not, List, [], ◌∷◌, ◌++◌}
 use Rattle.std.proofs.Common.{length}
 use Rattle.std.proofs.Common.{map, get_or, replicate, Option, Some, sym, refl, ap, ◌∙◌, arith}
@@ -18,10 +18,11 @@ use Rattle.cfgx_parser.proofs.Places.{read-places}
 use Rattle.cfgx_parser.proofs.Shapes.{places-shape}
 use Rattle.cfg_expr.proofs.filling.Passing.{odds, odds_each, reach_of, reaches-shown, pass-all}
 
--- the tree with the parities of its leaves: whether each stands below an odd number of `not`
+-- the tree with the parities of its predicates: whether each stands below an odd number of `not`
 abbrev mutual
   parities : {X : Type 0} → Bool → Tree X → Tree Bool
   parities odd (Tree.leaf x) = Tree.leaf odd
+  parities odd (Tree.literal truth) = Tree.literal truth
   parities odd (Tree.all trees) = Tree.all (parities_each odd trees)
   parities odd (Tree.any trees) = Tree.any (parities_each odd trees)
   parities odd (Tree.not tree) = Tree.not (parities (not odd) tree)
@@ -35,6 +36,7 @@ module _ {X : Type 0} where
   mutual
     parities-shape : (odd : Bool) (tree : Tree X) → SameShape tree (parities odd tree)
     parities-shape odd (Tree.leaf x) = Alike.leaf _ _ tt
+    parities-shape odd (Tree.literal truth) = Alike.literal truth
     parities-shape odd (Tree.all trees) = Alike.all _ _ (parities_each-shape odd trees)
     parities-shape odd (Tree.any trees) = Alike.any _ _ (parities_each-shape odd trees)
     parities-shape odd (Tree.not tree) = Alike.not _ _ (parities-shape (not odd) tree)
@@ -51,6 +53,7 @@ module _ {X Y : Type 0} where
     same_parities : (odd : Bool) (x : Tree X) (y : Tree Y) → SameShape x y
         → parities odd x ≡ parities odd y
     same_parities odd _ _ (Alike.leaf x y related) = refl
+    same_parities odd _ _ (Alike.literal truth) = refl
     same_parities odd _ _ (Alike.all xs ys each) = ap Tree.all (same_parities_each odd xs ys each)
     same_parities odd _ _ (Alike.any xs ys each) = ap Tree.any (same_parities_each odd xs ys each)
     same_parities odd _ _ (Alike.not x y alike) = ap Tree.not (same_parities (not odd) x y alike)
@@ -61,11 +64,12 @@ module _ {X Y : Type 0} where
     same_parities_each odd _ _ (AlikeEach.more x y xs ys first rest) =
         rw (same_parities odd x y first, same_parities_each odd xs ys rest) refl
 
--- What the pass finds at the places of the leaves.
+-- What the pass finds at the places of the predicates.
 
--- a leaf's parity stands at its place
+-- a predicate's parity stands at its place
 abbrev Shows : Node Bool → Bool → Type 0
 Shows (Node.leaf odd) flip = flip ≡ odd
+Shows (Node.literal truth) flip = Unit {0}
 Shows (Node.function func len) flip = Unit {0}
 
 shown-found : (nodes : List (Node Bool)) (flips : List Bool) (place : ℕ) (odd : Bool)
@@ -75,6 +79,7 @@ shown-found [] flips place odd shows is = absurd (cc)
 shown-found (node ∷ nodes) [] place odd shows is = absurd shows
 shown-found (Node.leaf parity ∷ nodes) (flip ∷ flips) zero odd shows is =
     let same : parity ≡ odd = cc in shows.0 ∙ same
+shown-found (Node.literal truth ∷ nodes) (flip ∷ flips) zero odd shows is = absurd (cc)
 shown-found (Node.function func len ∷ nodes) (flip ∷ flips) zero odd shows is = absurd (cc)
 shown-found (node ∷ nodes) (flip ∷ flips) (suc place) odd shows is =
     shown-found nodes flips place odd shows.1 is
@@ -83,6 +88,7 @@ mutual
   odds-shown : (odd : Bool) (tree : Tree Question)
       → AllZip Shows (prefix (parities odd tree)) (odds odd tree)
   odds-shown odd (Tree.leaf question) = (refl, tt)
+  odds-shown odd (Tree.literal truth) = (tt, tt)
   odds-shown odd (Tree.all trees) = (tt, odds_each-shown odd trees)
   odds-shown odd (Tree.any trees) = (tt, odds_each-shown odd trees)
   odds-shown odd (Tree.not tree) = (tt, odds-shown (not odd) tree)
@@ -151,6 +157,7 @@ mutual
       → asked (filled (turned fill odd) tree)
       ≡ filled_by (asked (parities odd tree)) (asked tree) fill
   asked-filled fill odd (Tree.leaf answer) = refl
+  asked-filled fill odd (Tree.literal truth) = refl
   asked-filled fill odd (Tree.all trees) =
       filled-both fill odd trees (asked_each-filled fill odd trees)
   asked-filled fill odd (Tree.any trees) =
@@ -163,6 +170,8 @@ mutual
   asked_each-filled fill odd (Trees.more (Tree.leaf answer) trees) =
       let others = asked_each-filled fill odd trees in
       (others.0, rw others.1 refl)
+  asked_each-filled fill odd (Trees.more (Tree.literal truth) trees) =
+      asked_each-filled fill odd trees
   asked_each-filled fill odd (Trees.more tree trees) =
       let others = asked_each-filled fill odd trees in
       let parity = parities odd tree in (

@@ -45,7 +45,7 @@ module _ {F T : Type 0} (asker : Asker F T) where
     pub may : MayAskEach asker start.closure start.questions
         → MayAskEach asker now.closure now.questions
 
--- the questions of a tree, and the places of its leaves
+-- the questions of a tree, and the places of its predicates
 abbrev pub at_start : {F T : Type 0} → F → Tree Question → List (Member T) → Standing F T
 at_start closure tree slots = standing closure (asked tree) (places 0 tree) slots
 

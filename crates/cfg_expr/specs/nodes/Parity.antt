@@ -1,5 +1,5 @@
 -- How one pass over the nodes finds which of them stand below an odd number of `not`, and with what
--- the unknown answers of the leaves among them are filled.
+-- the unknown answers of the predicates among them are filled.
 use Rattle.std.specs.Prelude.{ℕ, ◌+◌, Bool, true, false, not, List, [], ◌∷◌, get_or, set, drop}
 use Rattle.std.specs.Prelude.{Option, Some, None, unwrap_or}
 use Rattle.cfgx_grammar.specs.Fold.{first_or}
@@ -22,6 +22,7 @@ reach (node.Fn Not len) = Some len
 reach (node.Fn (All members) len) = None
 reach (node.Fn (Any members) len) = None
 reach (node.Predicate predicate) = None
+reach (node.Literal truth) = None
 
 -- Behind a node: whether the next one stands below an odd number of `not`, as far as no `not` ends
 -- in between; and with the end of the node noted, which stands so many places on.

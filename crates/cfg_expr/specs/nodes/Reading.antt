@@ -4,7 +4,8 @@
 use Rattle.std.specs.Prelude.{◌++◌, ℕ, Bool, true, false, List, [], ◌∷◌, take, drop}
 use Rattle.std.specs.Prelude.{Option, Some, None, option_map}
 use Rattle.std.specs.List.{filter_map}
-use Rattle.cfgx_grammar.specs.Fold.{Operations, from_last}
+use Rattle.cfgx_grammar.specs.Fold.{Operations, constant, from_last}
+use Rattle.cfgx_parser.specs.nodes.Shape.{Shape}
 use Rattle.cfgx_parser.specs.declared.function.Func.{Func}
 use Rattle.cfgx_parser.specs.declared.function.Func.TheVariants.{Not, All, Any}
 use Rattle.cfg_expr.specs.declared.expr.evaluating.Connective.{Connective}
@@ -77,15 +78,17 @@ made logic Not members = function_member (option_map logic.not (top_value member
 made logic (All count) members = member.Function (joined logic And members)
 made logic (Any count) members = member.Function (joined logic Or members)
 
--- the stack with a leaf, or with a function in the place of its members
-abbrev pub put : {T : Type 0} → Operations T → Option Func → Member T → List (Member T)
+-- the stack with a predicate's answer, with a literal, or with a function in the place of its
+-- members
+abbrev pub put : {T : Type 0} → Operations T → Shape → Member T → List (Member T)
     → List (Member T)
-put logic None leaf stack = leaf ∷ stack
-put logic (Some func) blank stack = made logic func (take (arity func) stack)
+put logic Shape.predicate slot stack = slot ∷ stack
+put logic (Shape.literal truth) slot stack = member.Leaf (constant logic truth) ∷ stack
+put logic (Shape.function func) slot stack = made logic func (take (arity func) stack)
     ∷ drop (arity func) stack
 
 -- the stack that the nodes leave, each with what stands in its slot
-abbrev pub read : {T : Type 0} → Operations T → List (Option Func) → List (Member T)
+abbrev pub read : {T : Type 0} → Operations T → List Shape → List (Member T)
     → List (Member T)
 read logic [] slots = []
 read logic (shape ∷ shapes) [] = []

@@ -1,20 +1,19 @@
 //! The value of an expression. Each predicate is asked, in order, and its answer is put at the
-//! place of its node. Then the nodes are read from the last to the first with one stack: a leaf
-//! puts its answer on it, and a function puts there, in the place of its members, which are on top,
-//! what they make. What is left on the stack is the value.
+//! place of its node. Then the nodes are read from the last to the first with one stack: a
+//! predicate puts its answer on it, a literal its value, and a function puts there, in the place of
+//! its members, which are on top, what they make. What is left on the stack is the value.
 //!
 //! Answers and stack share one slot for each node. The answers that are still to be read stand in
 //! front, and the stack at the back, with its top in front: it has at most one member for each node
 //! that was read.
-ghost use Rattle.std.specs.Prelude.{◌≡◌, ◌<◌, ◌≤◌, length, map, replicate, set, get_or, take, drop};
-ghost use Rattle.std.specs.Prelude.{◌+◌, ◌∷◌, ℕ};
-ghost use Rattle.cfgx_grammar.specs.Fold.{from_last};
-ghost use Rattle.std.specs.Prelude.{Some, IfOk, OnErr, IsOk};
+ghost use Rattle.std.specs.Prelude.{◌≡◌, ◌<◌, ◌≤◌, ◌+◌, ◌∷◌, ℕ, Some, IfOk, OnErr, IsOk};
+ghost use Rattle.std.specs.Prelude.{length, map, replicate, set, get_or, take, drop};
 ghost use Rattle.cfgx_grammar.specs.Answer.{HasOneTree};
 ghost use Rattle.cfgx_grammar.specs.Fold as tree_value;
+ghost use Rattle.cfgx_grammar.specs.Fold.{constant, from_last};
 ghost use Rattle.cfgx_grammar.specs.Given.{AreAnswersTo};
-ghost use Rattle.cfgx_parser.specs.nodes.Shape.{shape};
 ghost use Rattle.cfgx_parser.specs.Predicate.{question_of};
+ghost use Rattle.cfgx_parser.specs.nodes.Shape.{shape};
 ghost use Rattle.cfg_expr.specs.Asking.{Asks, MayAsk};
 ghost use Rattle.cfg_expr.specs.Evaluation.{Evaluates, MayEvaluate};
 ghost use Rattle.cfg_expr.specs.nodes.Answers.{Ends, Holds, at_start, with_answers};
@@ -219,8 +218,27 @@ fn make<T: Logic>(func: &Func, members: &mut [Member<T>]) -> Member<T>
     }
 }
 
-/// Reads a leaf: puts what stands at its place on the stack. Answers where the top is now.
-fn read_leaf<T: Logic>(place: usize, top: usize, slots: &mut [Member<T>]) -> usize
+/// The value of a literal.
+fn constant<T: Logic>(truth: bool) -> T
+    ensures { result ≡ constant T.Logic truth }
+{
+    if truth { T::top() } else { T::bottom() }
+}
+
+/// Reads a literal: puts its value on the stack. Answers where the top is now.
+fn read_literal<T: Logic>(truth: bool, top: usize, slots: &mut [Member<T>]) -> usize
+    requires { (0 < top) × (top ≤ length slots.old) }
+    ensures stack { drop result slots.new
+        ≡ member.Leaf (constant T.Logic truth) ∷ drop top slots.old }
+    ensures front { (place : ℕ) → place < top → take place slots.new ≡ take place slots.old }
+    ensures within { (top ≤ result + 1) × (result ≤ length slots.new) }
+{
+    put_member(Member::Leaf(constant(truth)), top - 1, slots);
+    top - 1
+}
+
+/// Reads a predicate: puts the answer at its place on the stack. Answers where the top is now.
+fn read_predicate<T: Logic>(place: usize, top: usize, slots: &mut [Member<T>]) -> usize
     requires { (place < top) × (top ≤ length slots.old) }
     ensures stack { drop result slots.new
         ≡ get_or slots.old place member.Joined ∷ drop top slots.old }
@@ -263,7 +281,8 @@ fn read_node<T: Logic>(node: &ExprNode, place: usize, top: usize, slots: &mut [M
 {
     match node {
         ExprNode::Fn { func, .. } => read_function(func, top, slots),
-        ExprNode::Predicate(_) => read_leaf(place, top, slots),
+        ExprNode::Predicate(_) => read_predicate(place, top, slots),
+        ExprNode::Literal(truth) => read_literal(*truth, top, slots),
     }
 }
 

@@ -63,7 +63,7 @@ fn parities<A: SmallAllocator>(alloc: A, nodes: &[ExprNode]) -> Result<Vec<bool,
     Ok(flips)
 }
 
-/// The fillings with true and with false of the answers to the leaves at the places.
+/// The fillings with true and with false of the answers to the predicates at the places.
 fn fillings<A: SmallAllocator>(
     alloc: A,
     odds: &[bool],

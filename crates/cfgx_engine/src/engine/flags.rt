@@ -19,7 +19,7 @@ struct Flag<A: SmallAllocator> {
 }
 
 // In place of a derive, which drops its fields for any allocator: an expression may be dropped only
-// where its allocator is known to be small.
+// if its allocator is known to be small.
 impl<A: SmallAllocator> Drop for Flag<A> {
     fn drop(self) {
         let Flag {
@@ -77,7 +77,9 @@ fn is_asked(named: Predicate<'_>, asked: &Predicate<'_>) -> bool
     is_same(&named, asked)
 }
 
-/// Whether one of the flags names the predicate.
+/// Whether one of the flags names the predicate. It is asked twice for each predicate, mostly of no
+/// flags or of one, and so stands in its caller.
+#[inline(always)]
 fn is_named<A: SmallAllocator>(flags: &[Flag<A>], predicate: &Predicate<'_>) -> bool
     ensures { IsTrue result ↔ IsNamed flags.now (question_of predicate.now) }
 {
@@ -111,7 +113,7 @@ impl<A: SmallAllocator> Flags<A> {
         Ok(flags)
     }
 
-    /// Adds the flag of a word. Behind a `?` stands a text whose predicates are unknown.
+    /// Adds the flag of a word. After a `?` stands a text whose predicates are unknown.
     fn add(&mut self, alloc: A, word: &str) -> Result<(), Failure<A>>
         ensures ok { OnOk result (AddsFlag word.now self.old self.new) }
         ensures err { IfErr result (BlamesFirst (flag_text word.now ∷ [])) }
@@ -123,14 +125,12 @@ impl<A: SmallAllocator> Flags<A> {
         Ok(())
     }
 
-    /// The answer to a predicate, which is true where a flag of each kind names it.
+    /// The answer to a predicate, which is true if a flag of each kind names it.
     fn answer(&self, predicate: &Predicate<'_>) -> Option<bool>
         ensures { IsAnswer self.now.known.items self.now.unknown.items
             (question_of predicate.now) result }
     {
-        if self.known.is_empty() && self.unknown.is_empty() {
-            Some(false)
-        } else if is_named(self.known.as_slice(), predicate) {
+        if is_named(self.known.as_slice(), predicate) {
             Some(true)
         } else if is_named(self.unknown.as_slice(), predicate) {
             None

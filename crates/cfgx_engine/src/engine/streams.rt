@@ -15,17 +15,17 @@ mod tests;
 
 /// Where bytes are read from.
 ///
-/// Contracts see how many of its calls failed and, where it tells them, the bytes that are still to
+/// Contracts see how many of its calls failed and, if it tells them, the bytes that are still to
 /// come.
 pub trait Source {
     // How many calls failed so far.
     ghost failures: { Self → ℕ };
 
-    // The bytes that are still to come, in order, or `None` where the source does not tell them.
+    // The bytes that are still to come, in order, or `None` if the source does not tell them.
     ghost unread: { Self → Option (List ℕ) };
 
     /// Reads into the front of the buffer and answers how many bytes it read: as many as it has
-    /// room for, or fewer. It answers 0 only at the end, or where the buffer is empty.
+    /// room for, or fewer. It answers 0 only at the end, or if the buffer is empty.
     ///
     /// An error counts as a failed call, and takes no bytes from the source; what the buffer then
     /// holds is not said.
@@ -38,18 +38,18 @@ pub trait Source {
 
 /// Where bytes are written to.
 ///
-/// Contracts see how many of its calls failed and, where it tells them, the bytes that were
+/// Contracts see how many of its calls failed and, if it tells them, the bytes that were
 /// written.
 pub trait Sink {
     // How many calls failed so far.
     ghost failures: { Self → ℕ };
 
-    // The bytes that were written, in order, or `None` where the sink does not tell them.
+    // The bytes that were written, in order, or `None` if the sink does not tell them.
     ghost written: { Self → Option (List ℕ) };
 
     /// Writes a beginning of the bytes and answers its length.
     ///
-    /// An error counts as a failed call, and so does an answer of 0 where there is a byte to write.
+    /// An error counts as a failed call, and so does an answer of 0 if there is a byte to write.
     /// Neither writes any.
     fn write(&mut self, bytes: &[u8]) -> io::Result<usize>
         requires { failures self.old < u64.MAX }
@@ -185,7 +185,7 @@ fn write_in_turns<W: Sink>(sink: &mut W, bytes: &[u8]) -> bool
     true
 }
 
-// One call of `write`. It answers what is left behind the bytes that went out, or `None` where the
+// One call of `write`. It answers what is left after the bytes that went out, or `None` where the
 // call failed.
 fn write_once<'a, W: Sink>(sink: &mut W, bytes: &'a [u8]) -> Option<&'a [u8]>
     requires room { W.failures sink.old < u64.MAX }

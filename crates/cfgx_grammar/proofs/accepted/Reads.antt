@@ -3,14 +3,15 @@ use Rattle.std.proofs.Common.{◌≡◌, ℕ, ◌+◌, ◌<◌, List, [], ◌∷
 use Rattle.std.proofs.Common.{option_map, Result, Ok, sym, refl, ap, ◌∙◌, subst, arith}
 use Rattle.std.proofs.Common.{length-append}
 use Rattle.cfgx_syntax.specs.Token.{Token}
-use Rattle.cfgx_grammar.specs.Question.{Question}
+use Rattle.cfgx_grammar.specs.Question.{Leaf, Question}
 use Rattle.cfgx_grammar.specs.Classification.{Class}
 use Rattle.cfgx_grammar.specs.LastPredicate.{class_of}
 use Rattle.cfgx_grammar.specs.Tree.{Tree}
-use Rattle.cfgx_grammar.specs.Grammar.{predicate_tokens, IsItem}
+use Rattle.cfgx_grammar.specs.Grammar.{leaf_tokens, IsItem}
 use Rattle.cfgx_grammar.specs.parsing.State.{Word, Pending, Builder, Open, State, name_of}
 use Rattle.cfgx_grammar.specs.parsing.Step.{result_map, located_class, over_top, one_more}
 use Rattle.cfgx_grammar.specs.parsing.Step.{root_more, leaf_ended, ended_by, predicate_ended}
+use Rattle.cfgx_grammar.proofs.Leaves.{leaf_tree, IsItem-leaf}
 use Rattle.cfgx_grammar.proofs.accepted.Lists.{Ready, Behind}
 
 pub ok_same : {A E : Type 0} (s t : A) → ◌≡◌ {A = Result A E} (Ok s) (Ok t) → s ≡ t
@@ -143,16 +144,16 @@ module _ {W M L : Type 0} {builder : Builder W M L} where
 
   -- what comes of a predicate that ends well
   pub record LeafEnds (s t : State builder) (p : Pending) : Type 0 where
-    pub question : Question
-    pub predicate : L
-    pub class_is : class_of p ≡ Class.is question
-    pub ended : t ≡ leaf_ended s predicate
+    pub leaf : Leaf
+    pub written : L
+    pub class_is : class_of p ≡ Class.is leaf
+    pub ended : t ≡ leaf_ended s written
 
   leaf_ends_as : (s t : State builder) (p : Pending) (c : Class) → class_of p ≡ c
       → result_map (leaf_ended s) (located_class builder p c) ≡ Ok t → LeafEnds s t p
-  leaf_ends_as s t p (Class.is question) is ends = record {
-    question = question;
-    predicate = builder.located p question;
+  leaf_ends_as s t p (Class.is leaf) is ends = record {
+    leaf = leaf;
+    written = builder.located p leaf;
     class_is = is;
     ended = (cc);
   }
@@ -165,18 +166,19 @@ module _ {W M L : Type 0} {builder : Builder W M L} where
 
   -- a predicate that ends is an item behind its list
   pub Settled-leaf : (s t : State builder) (tokens item : List Token) (p : Pending)
-      → item ≡ predicate_tokens p.key.text (option_map (λ v. v.text) p.value)
+      → item ≡ leaf_tokens p.key.text (option_map (λ v. v.text) p.value)
       → Pends s tokens item p → predicate_ended s ≡ Ok t → Settled Behind t tokens
   Settled-leaf s t tokens item p whole begun ends =
-      let leaf = LeafEnds-ended s t p begun.pending ends in
-      let spelled : IsItem item (Tree.leaf leaf.question) =
-      (p.key.text, option_map (λ v. v.text) p.value, whole, leaf.class_is) in
-      subst (λ u. Settled Behind u tokens) (sym leaf.ended) (record {
+      let ends_as = LeafEnds-ended s t p begun.pending ends in
+      let tree = leaf_tree ends_as.leaf in
+      let spelled : IsItem item tree = IsItem-leaf item ends_as.leaf
+      (p.key.text, option_map (λ v. v.text) p.value, whole, ends_as.class_is) in
+      subst (λ u. Settled Behind u tokens) (sym ends_as.ended) (record {
         before = begun.before;
         list = begun.list ++ item;
         tokens_are = begun.tokens_are;
         around = Around-with_item s.stack s.roots begun.before begun.around;
-        items = Counted-item begun.list item (Tree.leaf leaf.question) _ _ begun.ready spelled
+        items = Counted-item begun.list item tree _ _ begun.ready spelled
             (current-with_item s.stack s.roots);
         settled = refl;
       })

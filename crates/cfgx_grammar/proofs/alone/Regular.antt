@@ -87,6 +87,7 @@ mutual
       → AreRegular (asked tree)
   regular_item tokens (Tree.leaf question) spelled item =
       (regular_leaf tokens question spelled item, tt)
+  regular_item tokens (Tree.literal truth) spelled item = tt
   regular_item tokens (Tree.all trees) spelled (inner, is, list) =
       let each = spelled_inner Token.all tokens inner is spelled in
       all_of_both IsRegular (asked_by is_function trees) (asked_by is_leaf trees)

@@ -23,12 +23,12 @@ use Rattle.cfgx_targets.specs.declared.atomic.HasAtomic.{HasAtomic}
 use Rattle.cfgx_targets.specs.declared.atomic.HasAtomic.TheVariants.{IntegerSize, Pointer}
 use Rattle.cfgx_targets.proofs.AtomicLemmas.{endian_named-text, atomic_named-text}
 use Rattle.cfgx_targets.proofs.NumberLemmas.{read_below-decimal}
-use Rattle.cfgx_grammar.specs.Question.{Question, TargetQuestion}
-use Rattle.cfgx_grammar.specs.Classification.{asks}
+use Rattle.cfgx_grammar.specs.Question.{Leaf, Question, TargetQuestion}
+use Rattle.cfgx_grammar.specs.Classification.{asks, predicate}
 use Rattle.cfgx_grammar.specs.Classification.{Class, Part, class, bare, valued, if_read}
 use Rattle.cfgx_grammar.specs.Classification.{target_feature}
 use Rattle.cfgx_grammar.specs.Classification.{Line, by_name, key_lines, target_lines, target_class}
-use Rattle.cfgx_grammar.specs.Classification.{plain, other_class, family, target_names}
+use Rattle.cfgx_grammar.specs.Classification.{plain, other_class, target_names}
 use Rattle.cfgx_grammar.specs.Regular.{CanBeQuoted, IsRegular}
 use Rattle.cfgx_grammar.specs.Spelling.{key_and_value, spelling}
 
@@ -43,7 +43,7 @@ pub record IsSpelt (question : Question) : Type 0 where
   pub spelled : spelling question ≡ text_of regular.key regular.value
 
 spelt : (key : List ℕ) (value : Option (List ℕ)) (question : Question) → IsKey key
-    → CanBeQuoted value → class key value ≡ Class.is question
+    → CanBeQuoted value → class key value ≡ predicate question
     → spelling question ≡ text_of key value → IsSpelt question
 spelt k v question is quoted says spelled = record {
   regular = record { key = k; value = v; is_key = is; can_be_quoted = quoted; says = says };
@@ -122,17 +122,18 @@ no_quote_endian little = refl
 -- Each line of the tables.
 
 spelt_bare : (key : List ℕ) (question : Question) → IsWord key → 3 < length key
-    → class key None ≡ Class.is question → spelling question ≡ key → IsSpelt question
+    → class key None ≡ predicate question → spelling question ≡ key → IsSpelt question
 spelt_bare key question word long says spelled =
     spelt key None question (long_key key word long) tt says spelled
 
 spelt_value : (key value : List ℕ) (question : Question) → IsWord key → 3 < length key
-    → HasNoQuote value → class key (Some value) ≡ Class.is question
+    → HasNoQuote value → class key (Some value) ≡ predicate question
     → spelling question ≡ key_and_value key value → IsSpelt question
 spelt_value key value question word long quoted says spelled =
     spelt key (Some value) question (long_key key word long) quoted says spelled
 
-spelt_family : (name : List ℕ) → HasNoQuote name → IsSpelt (family name)
+spelt_family : (name : List ℕ) → HasNoQuote name
+    → IsSpelt (Question.target (TargetQuestion.family name))
 unfolding class
 spelt_family name quoted =
     spelt_value (codes "target_family") name _ (refl, refl) (omega arith) quoted refl refl
@@ -141,10 +142,10 @@ module _ (key : List ℕ) (value : Option (List ℕ)) (is_key : IsKey key)
     (quoted : CanBeQuoted value) where
   -- what the line makes of the value is spelt
   abbrev Good : Class → Type 0
-  Good c = (question : Question) → c ≡ Class.is question
-      → class key value ≡ Class.is question → IsSpelt question
+  Good c = (question : Question) → c ≡ predicate question
+      → class key value ≡ predicate question → IsSpelt question
 
-  good_is : (asked : Question) → IsSpelt asked → Good (Class.is asked)
+  good_is : (asked : Question) → IsSpelt asked → Good (predicate asked)
   good_is asked spelt question is says =
       let same : asked ≡ question = cc in subst IsSpelt same spelt
 
@@ -163,9 +164,17 @@ module _ (key : List ℕ) (value : Option (List ℕ)) (is_key : IsKey key)
       chosen true here others = here
       chosen false here others = others
 
-  good_bare : (asked : Question) → IsSpelt asked → (v : Option (List ℕ)) → Good (bare asked v)
-  good_bare asked spelt None = good_is asked spelt
-  good_bare asked spelt (Some v) = good_refused (unexpected []) Part.of_value
+  good_bare : (leaf : Leaf) → Good (Class.is leaf) → (v : Option (List ℕ)) → Good (bare leaf v)
+  good_bare leaf good None = good
+  good_bare leaf good (Some v) = good_refused (unexpected []) Part.of_value
+
+  good_predicate : (asked : Question) → IsSpelt asked → (v : Option (List ℕ))
+      → Good (bare (Leaf.predicate asked) v)
+  good_predicate asked spelt v = good_bare (Leaf.predicate asked) (good_is asked spelt) v
+
+  -- a literal is no predicate
+  good_literal : (truth : Bool) (v : Option (List ℕ)) → Good (bare (Leaf.literal truth) v)
+  good_literal truth v = good_bare (Leaf.literal truth) (λ question is says. absurd (cc)) v
 
   good_valued : (with : List ℕ → Class) (missing : List ℕ)
       → ((v : List ℕ) → HasNoQuote v → Good (with v)) → (v : Option (List ℕ)) → CanBeQuoted v
@@ -216,7 +225,7 @@ module _ (key : List ℕ) (value : Option (List ℕ)) (is_key : IsKey key)
   unfolding class
   good_target name v q =
       let line = λ (word : List ℕ) (question : Question) (is : IsWord word) (long : 3 < length word)
-      (says : class word (Some v) ≡ Class.is question)
+      (says : class word (Some v) ≡ predicate question)
       (spelled : spelling question ≡ key_and_value word v).
       good_is question (spelt_value word v question is long q says spelled) in
       let abi = line (codes "target_abi") _ (refl, refl) (omega arith) refl refl in
@@ -237,11 +246,11 @@ module _ (key : List ℕ) (value : Option (List ℕ)) (is_key : IsKey key)
   good_plain None is quotes question same says =
       let asked : Question.flag key ≡ question = cc in
       subst IsSpelt asked (spelt key None _ is_key tt
-      (ap (class key) (sym is) ∙ says ∙ ap Class.is (sym asked)) refl)
+      (ap (class key) (sym is) ∙ says ∙ ap predicate (sym asked)) refl)
   good_plain (Some v) is quotes question same says =
       let asked : Question.key_value key v ≡ question = cc in
       subst IsSpelt asked (spelt key (Some v) _ is_key quotes
-      (ap (class key) (sym is) ∙ says ∙ ap Class.is (sym asked)) refl)
+      (ap (class key) (sym is) ∙ says ∙ ap predicate (sym asked)) refl)
 
   good_other : Good (other_class key value)
   good_other = chosen (starts_with nat_eq key (codes "target_"))
@@ -260,22 +269,24 @@ module _ (key : List ℕ) (value : Option (List ℕ)) (is_key : IsKey key)
   good_class : Good (class key value)
   unfolding class
   good_class =
-      let unix = good_bare _ (spelt_family (codes "unix") refl) value in
-      let windows = good_bare _ (spelt_family (codes "windows") refl) value in
+      let unix = good_predicate _ (spelt_family (codes "unix") refl) value in
+      let windows = good_predicate _ (spelt_family (codes "windows") refl) value in
       let line = λ (word : List ℕ) (question : Question) (is : IsWord word) (long : 3 < length word)
-      (says : class word None ≡ Class.is question) (spelled : spelling question ≡ word).
-      good_bare question (spelt_bare word question is long says spelled) value in
+      (says : class word None ≡ predicate question) (spelled : spelling question ≡ word).
+      good_predicate question (spelt_bare word question is long says spelled) value in
       let test = line (codes "test") _ (refl, refl) (omega arith) refl refl in
       let debug = line (codes "debug_assertions") _ (refl, refl) (omega arith) refl refl in
       let macros = line (codes "proc_macro") _ (refl, refl) (omega arith) refl refl in
-      let feature = good_valued (λ v. Class.is (Question.feature v)) (codes "= \"<feature_name>\"")
+      let feature = good_valued (λ v. predicate (Question.feature v)) (codes "= \"<feature_name>\"")
       (λ v q. good_is _ (spelt_value (codes "feature") v _ (refl, refl) (omega arith) q refl
       refl)) value quoted in
       let panic = good_valued (λ v. asks (TargetQuestion.panic v)) (codes "= \"<panic_strategy>\"")
       (λ v q. good_is _ (spelt_value (codes "panic") v _ (refl, refl) (omega arith) q refl
       refl)) value quoted in
+      let yes = good_literal true value in
+      let no = good_literal false value in
       good_by_name key_lines key value _
-      (unix, (windows, (test, (debug, (macros, (feature, (panic, tt))))))) good_other
+      (yes, (no, (unix, (windows, (test, (debug, (macros, (feature, (panic, tt))))))))) good_other
 
 pub spelt_regular : (question : Question) → IsRegular question → IsSpelt question
 spelt_regular question r =

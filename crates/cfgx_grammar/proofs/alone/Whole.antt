@@ -8,10 +8,10 @@ use Rattle.std.proofs.lemmas.Str.{NoCharPasses-nil}
 use Rattle.cfgx_syntax.specs.Token.{Token, IsKey, HasNoQuote, in_quotes, Spells, IsWhole}
 use Rattle.cfgx_syntax.specs.Items.{Item, Ending, IsBlank, Stands, AreItems}
 use Rattle.cfgx_syntax.proofs.TokenList.{ItemsFrom-same}
-use Rattle.cfgx_grammar.specs.Question.{Question}
-use Rattle.cfgx_grammar.specs.Classification.{Class, class}
+use Rattle.cfgx_grammar.specs.Question.{Leaf, Question}
+use Rattle.cfgx_grammar.specs.Classification.{Class, class, predicate}
 use Rattle.cfgx_grammar.specs.Tree.{Tree}
-use Rattle.cfgx_grammar.specs.Grammar.{HasTree, commas, predicate_tokens, IsTree}
+use Rattle.cfgx_grammar.specs.Grammar.{HasTree, commas, leaf_tokens, IsTree}
 use Rattle.cfgx_grammar.proofs.Stripped.{strip-tree}
 use Rattle.cfgx_grammar.specs.Regular.{CanBeQuoted, IsRegular, IsAlone}
 use Rattle.cfgx_grammar.specs.Spelling.{key_and_value, spelling}
@@ -132,32 +132,37 @@ value_alone key value is_key quoted =
 
 -- Its one tree.
 
-same_predicate : (key other : List ℕ) (value given : Option (List ℕ)) (n : ℕ)
-    → predicate_tokens key value ≡ predicate_tokens other given ++ commas n
+same_leaf : (key other : List ℕ) (value given : Option (List ℕ)) (n : ℕ)
+    → leaf_tokens key value ≡ leaf_tokens other given ++ commas n
     → (key ≡ other) × (value ≡ given)
-same_predicate key other None None zero is = (cc, refl)
-same_predicate key other None None (suc n) is = absurd (cc)
-same_predicate key other None (Some w) n is = absurd (cc)
-same_predicate key other (Some v) None zero is = absurd (cc)
-same_predicate key other (Some v) None (suc n) is = absurd (cc)
-same_predicate key other (Some v) (Some w) zero is = (cc, cc)
-same_predicate key other (Some v) (Some w) (suc n) is = absurd (cc)
+same_leaf key other None None zero is = (cc, refl)
+same_leaf key other None None (suc n) is = absurd (cc)
+same_leaf key other None (Some w) n is = absurd (cc)
+same_leaf key other (Some v) None zero is = absurd (cc)
+same_leaf key other (Some v) None (suc n) is = absurd (cc)
+same_leaf key other (Some v) (Some w) zero is = (cc, cc)
+same_leaf key other (Some v) (Some w) (suc n) is = absurd (cc)
 
 no_call : (key : List ℕ) (value : Option (List ℕ)) (name : Token) (more : List Token)
-    → predicate_tokens key value ≡ name ∷ more → (name ≡ Token.key key)
+    → leaf_tokens key value ≡ name ∷ more → (name ≡ Token.key key)
 no_call key None name more is = cc
 no_call key (Some v) name more is = cc
 
 module _ (key : List ℕ) (value : Option (List ℕ)) (question : Question)
-    (says : class key value ≡ Class.is question) where
-  only_leaf : (tree : Tree Question) → IsTree (predicate_tokens key value) tree
+    (says : class key value ≡ predicate question) where
+  only_leaf : (tree : Tree Question) → IsTree (leaf_tokens key value) tree
       → tree ≡ Tree.leaf question
   only_leaf (Tree.leaf asked) (item, n, is, (other, given, tokens, said)) =
-      let same = same_predicate key other value given n (is ∙ ap (λ l. l ++ commas n) tokens) in
-      let answers : Class.is asked ≡ Class.is question =
+      let same = same_leaf key other value given n (is ∙ ap (λ l. l ++ commas n) tokens) in
+      let answers : predicate asked ≡ predicate question =
       sym said ∙ ap (λ k. class k given) (sym same.0) ∙ ap (class key) (sym same.1) ∙ says in
       let one : asked ≡ question = cc in
       ap Tree.leaf one
+  only_leaf (Tree.literal truth) (item, n, is, (other, given, tokens, said)) =
+      let same = same_leaf key other value given n (is ∙ ap (λ l. l ++ commas n) tokens) in
+      let never : Class.is (Leaf.literal truth) ≡ predicate question =
+      sym said ∙ ap (λ k. class k given) (sym same.0) ∙ ap (class key) (sym same.1) ∙ says in
+      absurd (cc)
   only_leaf (Tree.all trees) (item, n, is, (inner, call, list)) =
       let never = no_call key value Token.all _ (is ∙ ap (λ l. l ++ commas n) call) in absurd (cc)
   only_leaf (Tree.any trees) (item, n, is, (inner, call, list)) =
@@ -166,16 +171,16 @@ module _ (key : List ℕ) (value : Option (List ℕ)) (question : Question)
       let never = no_call key value Token.not _ (is ∙ ap (λ l. l ++ commas n) call) in absurd (cc)
 
   module _ (text : List ℕ) (items : List Item) (are : AreItems text items Ending.blank)
-      (tokens : map (λ item. item.token) items ≡ predicate_tokens key value) where
+      (tokens : map (λ item. item.token) items ≡ leaf_tokens key value) where
     is_alone : IsAlone text question
     is_alone =
         let has : HasTree text (Tree.leaf question) = record {
           items = items;
           are_items = are;
           spelled = (
-            predicate_tokens key value,
+            leaf_tokens key value,
             0,
-            tokens ∙ sym (append-nil (predicate_tokens key value)),
+            tokens ∙ sym (append-nil (leaf_tokens key value)),
             (key, value, refl, says),
           );
         } in
@@ -194,7 +199,7 @@ module _ (key : List ℕ) (value : Option (List ℕ)) (question : Question)
         }
 
 alone_text : (key : List ℕ) (value : Option (List ℕ)) (question : Question) → IsKey key
-    → CanBeQuoted value → class key value ≡ Class.is question
+    → CanBeQuoted value → class key value ≡ predicate question
     → IsAlone (text_of key value) question
 alone_text key None question is_key quoted says =
     is_alone key None question says key (items_of key None) (key_alone key is_key) refl

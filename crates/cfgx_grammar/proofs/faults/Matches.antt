@@ -171,7 +171,7 @@ module _ {W M L : Type 0} {builder : Builder W M L} where
       (class : Class) → Levels front s.roots is_named s.stack 1
       → EndsAs front is_named s (result_map (leaf_ended s) (located_class builder p class))
       (class_fault p class)
-  class_ends front is_named s p (Class.is question) levels = (
+  class_ends front is_named s p (Class.is leaf) levels = (
     refl,
     record {
       settled = refl;

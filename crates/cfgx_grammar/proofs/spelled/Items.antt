@@ -7,18 +7,19 @@ use Rattle.std.proofs.lemmas.List.{append-nil}
 use Rattle.cfgx_syntax.specs.Token.{Token}
 use Rattle.cfgx_syntax.specs.Items.{Item}
 use Rattle.cfgx_syntax.specs.Error.{Refusal}
-use Rattle.cfgx_grammar.specs.Question.{Question}
+use Rattle.cfgx_grammar.specs.Question.{Leaf, Question}
 use Rattle.cfgx_grammar.specs.Classification.{Class, class}
 use Rattle.cfgx_grammar.specs.FirstFault.{lacks_value}
 use Rattle.cfgx_grammar.specs.LastPredicate.{word_of}
 use Rattle.cfgx_grammar.specs.Tree.{Tree, Trees, count}
-use Rattle.cfgx_grammar.specs.Grammar.{commas, Separates, predicate_tokens, IsCall, IsItem, IsList}
+use Rattle.cfgx_grammar.specs.Grammar.{commas, Separates, leaf_tokens, IsCall, IsItem, IsList}
 use Rattle.cfgx_grammar.specs.Neighbours.{Kind, takes, next}
 use Rattle.cfgx_grammar.specs.parsing.State.{Function, Pending, Builder, Open, State, name_of}
 use Rattle.cfgx_grammar.specs.parsing.Step.{and_then, over_top, one_more, root_more, ended_by}
 use Rattle.cfgx_grammar.specs.parsing.Step.{predicate_ended, new_open, opened, member_count}
 use Rattle.cfgx_grammar.specs.parsing.Step.{has_room, function_ended, closed_by, with_parens}
 use Rattle.cfgx_grammar.specs.parsing.Step.{with_last, apply, step, step_each}
+use Rattle.cfgx_grammar.proofs.Leaves.{leaf_tree}
 use Rattle.cfgx_grammar.proofs.accepted.Steps.{tokens_of, TopEnded-ended, stack_ended}
 
 -- a key, and a key with its value, as they stand at their tokens
@@ -44,15 +45,15 @@ Calls {W} builder ItemBuilds ListBuilds function tree trees = (head opening clos
 pub record Laws {W M L : Type 0} (builder : Builder W M L) : Type 1 where
   pub ItemBuilds : List Item → W → W → Tree Question → Type 0
   pub ListBuilds : List Item → W → W → Trees Question → Type 0
-  pub key : (x : Item) (key : List ℕ) (question : Question) (w : W) → x.token ≡ Token.key key
-      → class key None ≡ Class.is question
-      → ItemBuilds (x ∷ []) w (builder.leaf (builder.located (key_at x key) question) w)
-      (Tree.leaf question)
-  pub value : (x y z : Item) (key value : List ℕ) (question : Question) (w : W)
+  pub key : (x : Item) (key : List ℕ) (leaf : Leaf) (w : W) → x.token ≡ Token.key key
+      → class key None ≡ Class.is leaf
+      → ItemBuilds (x ∷ []) w (builder.leaf (builder.located (key_at x key) leaf) w)
+      (leaf_tree leaf)
+  pub value : (x y z : Item) (key value : List ℕ) (leaf : Leaf) (w : W)
       → x.token ≡ Token.key key → z.token ≡ Token.value value
-      → class key (Some value) ≡ Class.is question
+      → class key (Some value) ≡ Class.is leaf
       → ItemBuilds (x ∷ y ∷ z ∷ []) w
-      (builder.leaf (builder.located (value_at x key z value) question) w) (Tree.leaf question)
+      (builder.leaf (builder.located (value_at x key z value) leaf) w) (leaf_tree leaf)
   pub none : (w : W) → ListBuilds [] w w Trees.none
   pub more : (xs ys zs : List Item) (tree : Tree Question) (trees : Trees Question) (w v u : W)
       → ItemBuilds xs w v tree → ListBuilds zs v u trees
@@ -97,7 +98,7 @@ one_item (x ∷ []) token is = (x, refl, (cc))
 one_item (x ∷ y ∷ items) token is = absurd (cc)
 
 value_items : (items : List Item) (key value : List ℕ)
-    → tokens_of items ≡ predicate_tokens key (Some value)
+    → tokens_of items ≡ leaf_tokens key (Some value)
     → (x : Item) × (y : Item) × (z : Item) × (items ≡ x ∷ y ∷ z ∷ []) × (x.token ≡ Token.key key)
     × (y.token ≡ Token.equals) × (z.token ≡ Token.value value)
 value_items [] key value is = absurd (cc)
@@ -402,45 +403,45 @@ module _ {W M L : Type 0} {builder : Builder W M L} (laws : Laws builder) where
         ≡ Ok (filled start top rest (count trees) after.last written)
     pub builds : laws.ListBuilds items start.written written trees
 
-  -- a predicate
+  -- a predicate or a literal
 
-  ItemEnds-key : (s : State builder) (x : Item) (key : List ℕ) (question : Question)
+  ItemEnds-key : (s : State builder) (x : Item) (key : List ℕ) (leaf : Leaf)
       → takes s.last Kind.item ≡ true → x.token ≡ Token.key key
-      → class key None ≡ Class.is question → ItemEnds s (x ∷ []) (Tree.leaf question)
-  ItemEnds-key s x key question may is classed = record {
+      → class key None ≡ Class.is leaf → ItemEnds s (x ∷ []) (leaf_tree leaf)
+  ItemEnds-key s x key leaf may is classed = record {
     after = record s { pending = Some (key_at x key); last = Some (Token.key key) };
-    written = builder.leaf (builder.located (key_at x key) question) s.written;
+    written = builder.leaf (builder.located (key_at x key) leaf) s.written;
     runs = rw (is, may) refl;
     is_end = record { closes = refl; goes_on = refl; whole = refl };
     ends = rw classed refl;
-    builds = laws.key x key question s.written is classed;
+    builds = laws.key x key leaf s.written is classed;
   }
 
-  ItemEnds-value : (s : State builder) (x y z : Item) (key value : List ℕ) (question : Question)
+  ItemEnds-value : (s : State builder) (x y z : Item) (key value : List ℕ) (leaf : Leaf)
       → takes s.last Kind.item ≡ true → x.token ≡ Token.key key → y.token ≡ Token.equals
-      → z.token ≡ Token.value value → class key (Some value) ≡ Class.is question
-      → ItemEnds s (x ∷ y ∷ z ∷ []) (Tree.leaf question)
-  ItemEnds-value s x y z key value question may x_is y_is z_is classed = record {
+      → z.token ≡ Token.value value → class key (Some value) ≡ Class.is leaf
+      → ItemEnds s (x ∷ y ∷ z ∷ []) (leaf_tree leaf)
+  ItemEnds-value s x y z key value leaf may x_is y_is z_is classed = record {
     after = record s { pending = Some (value_at x key z value); last = Some (Token.value value) };
-    written = builder.leaf (builder.located (value_at x key z value) question) s.written;
+    written = builder.leaf (builder.located (value_at x key z value) leaf) s.written;
     runs = rw (x_is, may, y_is, z_is) refl;
     is_end = record { closes = refl; goes_on = refl; whole = refl };
     ends = rw classed refl;
-    builds = laws.value x y z key value question s.written x_is z_is classed;
+    builds = laws.value x y z key value leaf s.written x_is z_is classed;
   }
 
-  ItemEnds-leaf : (s : State builder) (items : List Item) (question : Question) (key : List ℕ)
+  ItemEnds-leaf : (s : State builder) (items : List Item) (leaf : Leaf) (key : List ℕ)
       (value : Option (List ℕ)) → takes s.last Kind.item ≡ true
-      → tokens_of items ≡ predicate_tokens key value → class key value ≡ Class.is question
-      → ItemEnds s items (Tree.leaf question)
-  ItemEnds-leaf s items question key None may is classed =
+      → tokens_of items ≡ leaf_tokens key value → class key value ≡ Class.is leaf
+      → ItemEnds s items (leaf_tree leaf)
+  ItemEnds-leaf s items leaf key None may is classed =
       let (x, items_are, x_is) = one_item items (Token.key key) is in
-      subst (λ l. ItemEnds s l (Tree.leaf question)) (sym items_are)
-      (ItemEnds-key s x key question may x_is classed)
-  ItemEnds-leaf s items question key (Some value) may is classed =
+      subst (λ l. ItemEnds s l (leaf_tree leaf)) (sym items_are)
+      (ItemEnds-key s x key leaf may x_is classed)
+  ItemEnds-leaf s items leaf key (Some value) may is classed =
       let (x, y, z, items_are, x_is, y_is, z_is) = value_items items key value is in
-      subst (λ l. ItemEnds s l (Tree.leaf question)) (sym items_are)
-      (ItemEnds-value s x y z key value question may x_is y_is z_is classed)
+      subst (λ l. ItemEnds s l (leaf_tree leaf)) (sym items_are)
+      (ItemEnds-value s x y z key value leaf may x_is y_is z_is classed)
 
   -- no member is left
   ListEnds-end : (before start : State builder) (top : Open M) (rest : List (Open M))
@@ -554,7 +555,9 @@ module _ {W M L : Type 0} {builder : Builder W M L} (laws : Laws builder) where
         → takes s.last Kind.item ≡ true → s.pending ≡ None → IsItem (tokens_of items) tree
         → ItemEnds s items tree
     ItemEnds-item (Tree.leaf question) s items may none (key, value, is, classed) =
-        ItemEnds-leaf s items question key value may is classed
+        ItemEnds-leaf s items (Leaf.predicate question) key value may is classed
+    ItemEnds-item (Tree.literal truth) s items may none (key, value, is, classed) =
+        ItemEnds-leaf s items (Leaf.literal truth) key value may is classed
     ItemEnds-item (Tree.all trees) s items may none (inner, call, list) =
         ItemEnds-listed s items Function.all inner (Tree.all trees) trees may none call refl
         (laws.all trees) list (λ b t top is. ListEnds-list trees b t top s.stack is)

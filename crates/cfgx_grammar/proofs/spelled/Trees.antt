@@ -3,9 +3,10 @@ use Rattle.std.proofs.Common.{◌≡◌, ℕ, List, [], ◌∷◌, ◌++◌, len
 use Rattle.std.proofs.Common.{append_assoc, take_at, drop_at}
 use Rattle.std.proofs.lemmas.List.{append-nil}
 use Rattle.cfgx_syntax.specs.Items.{Item}
-use Rattle.cfgx_grammar.specs.Question.{Question}
+use Rattle.cfgx_grammar.specs.Question.{Leaf, Question}
 use Rattle.cfgx_grammar.specs.Tree.{Tree, Trees}
 use Rattle.cfgx_grammar.specs.parsing.State.{Function, Builder}
+use Rattle.cfgx_grammar.proofs.Leaves.{leaf_tree}
 use Rattle.cfgx_grammar.proofs.accepted.Lists.{trees_of}
 use Rattle.cfgx_grammar.proofs.spelled.Items.{Calls, Laws}
 
@@ -18,12 +19,12 @@ called Function.not (tree ∷ trees) = Tree.not tree
 
 -- it keeps the trees of the open lists that have ended, those of inner lists behind those of outer
 -- ones
-abbrev pub tree_builder : Builder (List (Tree Question)) ℕ Question
+abbrev pub tree_builder : Builder (List (Tree Question)) ℕ Leaf
 tree_builder = record {
   nothing = [];
   mark_of = length;
-  located = λ p question. question;
-  leaf = λ question trees. trees ++ Tree.leaf question ∷ [];
+  located = λ p leaf. leaf;
+  leaf = λ leaf trees. trees ++ leaf_tree leaf ∷ [];
   function = λ function trees. trees;
   function_ended = λ mark function members trees.
       take mark trees ++ called function (drop mark trees) ∷ [];
@@ -53,8 +54,8 @@ pub tree_laws : Laws tree_builder
 tree_laws = record {
   ItemBuilds = λ items w v tree. v ≡ w ++ tree ∷ [];
   ListBuilds = λ items w v trees. v ≡ w ++ list_of trees;
-  key = λ x key question w is classed. refl;
-  value = λ x y z key value question w x_is z_is classed. refl;
+  key = λ x key leaf w is classed. refl;
+  value = λ x y z key value leaf w x_is z_is classed. refl;
   none = λ w. sym (append-nil w);
   more = λ xs ys zs tree trees w v u first others.
       others ∙ ap (λ l. l ++ list_of trees) first ∙ append_assoc w (tree ∷ []) (list_of trees);

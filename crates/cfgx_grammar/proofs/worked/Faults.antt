@@ -157,6 +157,23 @@ pub two_functions : shown (codes "all(), any()") ((0, Token.all) ∷ (0, Token.o
 unfolding class read_below
 two_functions = refl
 
+-- Literals are members and roots, and have no value.
+pub not_of_literals : shown (codes "not(true, false)") ((0, Token.not) ∷ (0, Token.open_paren) ∷
+    (0, key (codes "true")) ∷ (0, Token.comma) ∷ (1, key (codes "false")) ∷
+    (0, Token.close_paren) ∷ []) ≡ Some (refusal (invalid_not 2) 0 16)
+unfolding class read_below
+not_of_literals = refl
+
+pub literal_value : shown (codes "true = \"x\"") ((0, key (codes "true")) ∷ (1, Token.equals) ∷
+    (1, Token.value (codes "x")) ∷ []) ≡ Some (refusal (unexpected []) 8 9)
+unfolding class read_below
+literal_value = refl
+
+pub literal_root : shown (codes "true, a") ((0, key (codes "true")) ∷ (0, Token.comma) ∷
+    (1, key (codes "a")) ∷ []) ≡ Some (refusal multiple_root_predicates 0 7)
+unfolding class read_below
+literal_root = refl
+
 pub nothing : shown (codes "   ") [] ≡ Some (refusal empty 0 3)
 unfolding class read_below
 nothing = refl

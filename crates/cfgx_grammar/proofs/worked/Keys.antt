@@ -1,5 +1,5 @@
 -- What keys and values are, and how predicates are written, computed.
-use Rattle.std.proofs.Common.{◌≡◌, refl, [], ◌∷◌}
+use Rattle.std.proofs.Common.{◌≡◌, refl, [], ◌∷◌, true, false}
 use Rattle.std.specs.Prelude.{codes}
 use Rattle.std.specs.Fmt.{digits}
 use Rattle.cfgx_syntax.specs.Error.{unexpected, invalid_integer, invalid_has_atomic}
@@ -8,10 +8,24 @@ use Rattle.cfgx_targets.specs.HasAtomic.{atomic_named}
 use Rattle.cfgx_targets.specs.Number.{read_below}
 use Rattle.cfgx_targets.specs.declared.endian.Endian.TheVariants.{big, little}
 use Rattle.cfgx_targets.specs.declared.atomic.HasAtomic.TheVariants.{IntegerSize, Pointer}
-use Rattle.cfgx_grammar.specs.Classification.{Class, asks, family, class}
-use Rattle.cfgx_grammar.specs.Question.{Question, TargetQuestion}
+use Rattle.cfgx_grammar.specs.Classification.{Class, predicate, asks, family, class}
+use Rattle.cfgx_grammar.specs.Question.{Leaf, Question, TargetQuestion}
 use Rattle.cfgx_grammar.specs.Spelling.{spelling}
 use Rattle.cfgx_grammar.proofs.worked.Rows.{lone, given, bad_key, bad_value}
+
+-- The literals.
+pub literals : (lone (codes "true") ≡ Class.is (Leaf.literal true))
+    × (lone (codes "false") ≡ Class.is (Leaf.literal false))
+unfolding class
+literals = (refl, refl)
+
+pub literal_value : given (codes "true") (codes "x") ≡ bad_value (unexpected [])
+unfolding class
+literal_value = refl
+
+pub other_case_literal : lone (codes "True") ≡ predicate (Question.flag (codes "True"))
+unfolding class
+other_case_literal = refl
 
 -- Keys that do not begin with `target_`.
 pub unix : lone (codes "unix") ≡ Class.is (family (codes "unix"))
@@ -22,7 +36,7 @@ pub unix_value : given (codes "unix") (codes "x") ≡ bad_value (unexpected [])
 unfolding class
 unix_value = refl
 
-pub test : lone (codes "test") ≡ Class.is Question.test
+pub test : lone (codes "test") ≡ predicate Question.test
 unfolding class
 test = refl
 
@@ -30,7 +44,7 @@ pub no_feature : lone (codes "feature") ≡ bad_key (unexpected (codes "= \"<fea
 unfolding class
 no_feature = refl
 
-pub feature_empty : given (codes "feature") [] ≡ Class.is (Question.feature [])
+pub feature_empty : given (codes "feature") [] ≡ predicate (Question.feature [])
 unfolding class
 feature_empty = refl
 
@@ -42,11 +56,11 @@ pub panic : given (codes "panic") (codes "abort") ≡ asks (TargetQuestion.panic
 unfolding class
 panic = refl
 
-pub other_case : lone (codes "Unix") ≡ Class.is (Question.flag (codes "Unix"))
+pub other_case : lone (codes "Unix") ≡ predicate (Question.flag (codes "Unix"))
 unfolding class
 other_case = refl
 
-pub key_value : given (codes "a") [] ≡ Class.is (Question.key_value (codes "a") [])
+pub key_value : given (codes "a") [] ≡ predicate (Question.key_value (codes "a") [])
 unfolding class
 key_value = refl
 

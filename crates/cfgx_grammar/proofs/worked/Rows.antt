@@ -1,5 +1,6 @@
 -- Worked examples: trees, texts with their tokens, and a logic that writes its terms down.
-use Rattle.std.specs.Prelude.{ℕ, ◌+◌, List, [], ◌∷◌, ◌++◌, length, codes, map, Option, Some, None}
+use Rattle.std.specs.Prelude.{ℕ, ◌+◌, Bool, true, false, List, [], ◌∷◌, ◌++◌, length, codes}
+use Rattle.std.specs.Prelude.{map, Option, Some, None}
 use Rattle.cfgx_syntax.specs.Error.{Cause, Refusal, unexpected}
 use Rattle.cfgx_syntax.specs.Items.{Item, Ending}
 use Rattle.cfgx_syntax.specs.Token.{Token, in_quotes}
@@ -32,6 +33,15 @@ inside = Tree.all (Trees.more (flag (codes "b")) (one (Tree.not (flag (codes "c"
 -- `any(a, all(b, not(c)), d)`
 abbrev pub nested : Tree Question
 nested = Tree.any (Trees.more (flag (codes "a")) (Trees.more inside (one (flag (codes "d")))))
+
+-- `all(a, true, any(b), false)`
+abbrev pub mixed : Tree Question
+mixed = Tree.all (Trees.more (flag (codes "a")) (Trees.more (Tree.literal true)
+    (Trees.more (Tree.any (one (flag (codes "b")))) (one (Tree.literal false)))))
+
+-- `any(false, a)` and `any(true, a)`
+abbrev pub either : Bool → Tree Question
+either truth = Tree.any (Trees.more (Tree.literal truth) (one (flag (codes "a"))))
 
 -- `all(a,,b)`
 abbrev pub listed : Tree Question

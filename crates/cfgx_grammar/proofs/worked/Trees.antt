@@ -4,11 +4,13 @@ use Rattle.std.specs.Prelude.{codes}
 use Rattle.cfgx_syntax.specs.Token.{Token}
 use Rattle.cfgx_syntax.specs.contracts.logic.BoolLogic.TheImpl as bool_logic
 use Rattle.cfgx_syntax.specs.contracts.logic.OptionBoolLogic.TheImpl as kleene_logic
+use Rattle.cfgx_grammar.specs.Filling.{polar}
 use Rattle.cfgx_grammar.specs.Fold.{fold}
 use Rattle.cfgx_grammar.specs.Neighbours.{next, expected}
 use Rattle.cfgx_grammar.specs.Question.{Question}
 use Rattle.cfgx_grammar.specs.Tree.{Tree, Trees, asked}
 use Rattle.cfgx_grammar.proofs.worked.Rows.{flag, flags, one, shallow, nested, listed, terms}
+use Rattle.cfgx_grammar.proofs.worked.Rows.{mixed, either}
 
 -- `all(a, any(b), c)` asks b, a, c, and `any(a, all(b, not(c)), d)` asks c, b, a, d.
 pub shallow_asks : asked shallow ≡ flags (codes "b" ∷ codes "a" ∷ codes "c" ∷ [])
@@ -19,6 +21,10 @@ nested_asks = refl
 
 pub listed_asks : asked listed ≡ flags (codes "a" ∷ codes "b" ∷ [])
 listed_asks = refl
+
+-- Literals are passed over: `all(a, true, any(b), false)` asks b, a.
+pub mixed_asks : asked mixed ≡ flags (codes "b" ∷ codes "a" ∷ [])
+mixed_asks = refl
 
 -- Which token may stand behind which, and what is expected there.
 pub first : next None Token.not ≡ true
@@ -65,6 +71,14 @@ negated = refl
 pub none : fold {X = Question} terms (Tree.all Trees.none) [] ≡ codes "T"
 none = refl
 
+-- A literal is joined among the leaves of its list.
+pub mixed_value : fold terms mixed (codes "b" ∷ codes "a" ∷ []) ≡ codes "((((T&F)&T)&a)&(F|b))"
+mixed_value = refl
+
+pub literals : (fold {X = Question} terms (Tree.literal true) [] ≡ codes "T")
+    × (fold {X = Question} terms (Tree.not (Tree.literal false)) [] ≡ codes "!F")
+literals = (refl, refl)
+
 pub alone : fold terms (flag (codes "a")) (codes "a" ∷ []) ≡ codes "a"
 alone = refl
 
@@ -74,6 +88,15 @@ both = refl
 
 pub known : fold kleene_logic.ghosts listed (Some false ∷ None ∷ []) ≡ Some false
 known = refl
+
+-- A literal has no place in a filling.
+pub left_open : (fold kleene_logic.ghosts (either false) (None ∷ []) ≡ None)
+    × (polar (either false) (None ∷ []) true ≡ true ∷ [])
+    × (polar (either false) (None ∷ []) false ≡ false ∷ [])
+left_open = (refl, refl, refl)
+
+pub decided : fold kleene_logic.ghosts (either true) (None ∷ []) ≡ Some true
+decided = refl
 
 pub unknown : fold kleene_logic.ghosts listed (Some true ∷ None ∷ []) ≡ None
 unknown = refl

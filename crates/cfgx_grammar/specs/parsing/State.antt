@@ -1,7 +1,7 @@
 -- What the parser keeps between two tokens, and what it builds as it goes.
 use Rattle.std.specs.Prelude.{ℕ, List, [], Option, None}
 use Rattle.cfgx_syntax.specs.Token.{Token}
-use Rattle.cfgx_grammar.specs.Question.{Question}
+use Rattle.cfgx_grammar.specs.Question.{Leaf}
 pub use Rattle.cfgx_grammar.specs.LastPredicate.{Word, KeyAndValue as Pending}
 
 -- the three functions
@@ -21,8 +21,8 @@ pub record Builder (W M L : Type 0) : Type 0 where
   pub nothing : W
   -- what an open function keeps of what was there when its name came
   pub mark_of : W → M
-  -- a predicate by the places of its texts
-  pub located : Pending → Question → L
+  -- a predicate or a literal, by the places of its texts
+  pub located : Pending → Leaf → L
   pub leaf : L → W → W
   -- the name of a function was read
   pub function : Function → W → W

@@ -59,9 +59,9 @@ module _ {M : Type 0} where
 
 -- Predicates.
 
--- a predicate by its places, or its fault
+-- a predicate or a literal by its places, or its fault
 abbrev pub located_class : {W M L : Type 0} → Builder W M L → Pending → Class → Result L Refusal
-located_class builder p (Class.is question) = Ok (builder.located p question)
+located_class builder p (Class.is leaf) = Ok (builder.located p leaf)
 located_class builder p (Class.refused cause part) = Err (refusal cause (part_of p part).start
     (part_of p part).end)
 
@@ -72,8 +72,8 @@ module _ {W M L : Type 0} {builder : Builder W M L} where
 
   -- the predicate has ended
   abbrev pub leaf_ended : State builder → L → State builder
-  leaf_ended s predicate =
-      with_item (record s { pending = None; written = builder.leaf predicate s.written })
+  leaf_ended s leaf =
+      with_item (record s { pending = None; written = builder.leaf leaf s.written })
 
   abbrev pub ended_by : State builder → Option Pending → Result (State builder) Refusal
   ended_by s None = Ok s

@@ -5,36 +5,38 @@ use Rattle.std.specs.Prelude.{if◌then◌else◌}
 use Rattle.std.proofs.lemmas.List.{append-nil, length_push}
 use Rattle.std.specs.declared.ops.Range.{Range}
 use Rattle.cfgx_syntax.specs.Items.{Item}
-use Rattle.cfgx_grammar.specs.Question.{Question}
+use Rattle.cfgx_grammar.specs.Question.{Leaf, Question}
 use Rattle.cfgx_grammar.specs.Classification.{Class, class}
 use Rattle.cfgx_grammar.specs.Tree.{Tree, Trees, is_function, is_leaf, count}
 use Rattle.cfgx_grammar.specs.parsing.State.{Function}
 use Rattle.cfgx_parser.specs.nodes.Located.{located}
 use Rattle.cfgx_parser.specs.nodes.Node.{Written, with_leaf}
-use Rattle.cfgx_parser.specs.nodes.Prefix.{headed, prefix, prefix_each, own_places, places}
-use Rattle.cfgx_parser.specs.nodes.Prefix.{inner_places}
+use Rattle.cfgx_parser.specs.nodes.Prefix.{headed, prefix, prefix_each, places, places_by}
 use Rattle.cfgx_parser.specs.nodes.Writes.{IsPlaced, ArePlaced, WritesNodes}
 use Rattle.cfgx_parser.specs.parsing.State.{counted, node_builder}
 use Rattle.cfgx_parser.specs.declared.function.Func.TheVariants.{Not}
 use Rattle.cfgx_parser.specs.declared.nodes.ExprNode.TheVariants as node
 use Rattle.cfgx_grammar.proofs.alone.Regular.{all_of_first, all_of_second}
+use Rattle.cfgx_grammar.proofs.Leaves.{leaf_tree}
 use Rattle.cfgx_grammar.proofs.spelled.Items.{Calls, Laws}
 use Rattle.cfgx_parser.proofs.spelled.Located.{Stands, NamesClass, NamesClass-class}
-use Rattle.cfgx_parser.proofs.spelled.Written.{WritesNodes-none, WritesNodes-then, WritesNodes-leaf}
+use Rattle.cfgx_parser.proofs.spelled.Written.{WritesNodes-none, WritesNodes-then}
+use Rattle.cfgx_parser.proofs.spelled.Written.{WritesNodes-predicate, WritesNodes-literal}
 use Rattle.cfgx_parser.proofs.spelled.Written.{WritesNodes-function, length-nodes}
 
 -- a function's tree, by its kind and its members
 record Called (function : Function) (tree : Tree Question) (trees : Trees Question) : Type 0 where
   pub prefix_is : prefix tree ≡ headed (counted function (count trees)) (prefix_each trees)
-  pub places_are : (place : ℕ) → places place tree ≡ inner_places (place + 1) trees
-      ++ own_places (place + 1) trees
+  pub places_are : (place : ℕ) → places place tree ≡ places_by is_function (place + 1) trees
+      ++ places_by is_leaf (place + 1) trees
   pub is_no_leaf : is_leaf tree ≡ false
   pub is_one : is_function tree ≡ true
 
 -- the two ways of writing the one member of a `not`
-places_one : (place : ℕ) (tree : Tree Question) → places place tree ≡ inner_places place
-    (Trees.more tree Trees.none) ++ own_places place (Trees.more tree Trees.none)
+places_one : (place : ℕ) (tree : Tree Question) → let one = Trees.more tree Trees.none in
+    places place tree ≡ places_by is_function place one ++ places_by is_leaf place one
 places_one place (Tree.leaf question) = refl
+places_one place (Tree.literal truth) = refl
 places_one place tree = sym (append-nil (places place tree ++ []) ∙ append-nil (places place tree))
 
 Called-all : (trees : Trees Question) → Called Function.all (Tree.all trees) trees
@@ -58,25 +60,28 @@ module _ (text : List ℕ) where
   -- for a tree whose items stand at their places, and for a list
   abbrev pub ItemWrites : List Item → Written → Written → Tree Question → Type 0
   ItemWrites items w v tree = ArePlaced text items
-      → WritesNodes text w v (prefix tree) (if is_leaf tree then length w.nodes ∷ [] else [])
+      → WritesNodes text w v (prefix tree)
+      (if is_leaf tree then places (length w.nodes) tree else [])
       (if is_function tree then places (length w.nodes) tree else [])
 
   abbrev ListWrites : List Item → Written → Written → Trees Question → Type 0
   ListWrites items w v trees = ArePlaced text items
-      → WritesNodes text w v (prefix_each trees) (own_places (length w.nodes) trees)
-      (inner_places (length w.nodes) trees)
+      → WritesNodes text w v (prefix_each trees) (places_by is_leaf (length w.nodes) trees)
+      (places_by is_function (length w.nodes) trees)
 
   leaf_writes : (w : Written) (key_span : Range ℕ) (span : Option (Range ℕ)) (key : List ℕ)
-      (value : Option (List ℕ)) (question : Question) → Stands text key_span span key value
-      → class key value ≡ Class.is question
-      → WritesNodes text w (with_leaf (located key_span span question) w)
-      (prefix (Tree.leaf question))
-      (length w.nodes ∷ []) []
-  leaf_writes w key_span span key value question stands classed =
-      let named : NamesClass text key_span span (Class.is question) =
+      (value : Option (List ℕ)) (leaf : Leaf) → Stands text key_span span key value
+      → class key value ≡ Class.is leaf → let tree = leaf_tree leaf in
+      WritesNodes text w (with_leaf (located key_span span leaf) w) (prefix tree)
+      (if is_leaf tree then places (length w.nodes) tree else [])
+      (if is_function tree then places (length w.nodes) tree else [])
+  leaf_writes w key_span span key value (Leaf.predicate question) stands classed =
+      let named : NamesClass text key_span span (Class.is (Leaf.predicate question)) =
       subst (NamesClass text key_span span) classed
       (NamesClass-class text key_span span key value stands) in
-      WritesNodes-leaf text w _ question named.0 named.1
+      WritesNodes-predicate text w _ question named.0 named.1
+  leaf_writes w key_span span key value (Leaf.literal truth) stands classed =
+      WritesNodes-literal text w truth
 
   list_writes : (xs ys zs : List Item) (tree : Tree Question) (trees : Trees Question)
       (w v u : Written)
@@ -86,8 +91,8 @@ module _ (text : List ℕ) where
       let P = λ (item : Item). IsPlaced text item item.token in
       let first = writes (all_of_first P xs (ys ++ zs) placed) in
       let others = more (all_of_second P ys zs (all_of_second P xs (ys ++ zs) placed)) in
-      let at = subst (λ k. WritesNodes text v u (prefix_each trees) (own_places k trees)
-      (inner_places k trees)) (length-nodes text w v (prefix tree) _ _ first) others in
+      let at = subst (λ k. WritesNodes text v u (prefix_each trees) (places_by is_leaf k trees)
+      (places_by is_function k trees)) (length-nodes text w v (prefix tree) _ _ first) others in
       WritesNodes-then text w v u _ _ _ _ _ _ first at
 
   call_writes : (function : Function) (tree : Tree Question) (trees : Trees Question)
@@ -106,12 +111,12 @@ module _ (text : List ℕ) where
   node_laws = record {
     ItemBuilds = ItemWrites;
     ListBuilds = ListWrites;
-    key = λ x key question w is classed placed. leaf_writes w _ None key None question (record {
+    key = λ x key leaf w is classed placed. leaf_writes w _ None key None leaf (record {
       key_holds = subst (IsPlaced text x) is placed.0;
       value_holds = tt;
     }) classed;
-    value = λ x y z key value question w x_is z_is classed placed.
-        leaf_writes w _ (Some _) key (Some value) question (record {
+    value = λ x y z key value leaf w x_is z_is classed placed.
+        leaf_writes w _ (Some _) key (Some value) leaf (record {
           key_holds = subst (IsPlaced text x) x_is placed.0;
           value_holds = subst (IsPlaced text z) z_is placed.1.1.0;
         }) classed;

@@ -9,11 +9,11 @@ use Rattle.std.specs.Str.{bytes_eq}
 use Rattle.cfgx_targets.specs.Endian.{endian_named}
 use Rattle.cfgx_targets.specs.HasAtomic.{atomic_named}
 use Rattle.cfgx_targets.specs.Number.{read_below}
-use Rattle.cfgx_grammar.specs.Question.{Question, TargetQuestion}
+use Rattle.cfgx_grammar.specs.Question.{Leaf, Question, TargetQuestion}
 use Rattle.cfgx_grammar.specs.Classification.{Class, Line, class, by_name, target_lines, key_lines}
 use Rattle.cfgx_grammar.specs.Classification.{family, bare, valued, if_read, target_feature}
 use Rattle.cfgx_grammar.specs.Classification.{target_class, plain}
-use Rattle.cfgx_parser.specs.nodes.Located.{located, question_at, HasCut}
+use Rattle.cfgx_parser.specs.nodes.Located.{predicate_located, question_at, HasCut}
 use Rattle.cfgx_parser.specs.nodes.Writes.{Holds}
 use Rattle.std.specs.declared.ops.Range.{Range}
 
@@ -34,20 +34,25 @@ module _ (text : List ℕ) (key_span : Range ℕ) where
   -- the predicate of these places is the question, and can be cut out of the text
   abbrev pub Names : Option (Range ℕ) → Question → Type 0
   Names value_span question =
-      (question_at text (located key_span value_span question) ≡ question)
-      × HasCut text (located key_span value_span question)
+      (question_at text (predicate_located key_span value_span question) ≡ question)
+      × HasCut text (predicate_located key_span value_span question)
+
+  -- a literal has no parts
+  abbrev pub NamesLeaf : Option (Range ℕ) → Leaf → Type 0
+  NamesLeaf value_span (Leaf.predicate question) = Names value_span question
+  NamesLeaf value_span (Leaf.literal truth) = Unit {0}
 
   -- what is read is named
   abbrev pub NamesClass : Option (Range ℕ) → Class → Type 0
-  NamesClass value_span (Class.is question) = Names value_span question
+  NamesClass value_span (Class.is leaf) = NamesLeaf value_span leaf
   NamesClass value_span (Class.refused cause part) = Unit {0}
 
   names_bare : (span : Option (Range ℕ)) (value : Option (List ℕ))
-      (question : Question) → Names None question → ValueHolds text span value
-      → NamesClass span (bare question value)
-  names_bare None None question names holds = names
-  names_bare (Some span) None question names holds = absurd holds
-  names_bare span (Some value) question names holds = tt
+      (leaf : Leaf) → NamesLeaf None leaf → ValueHolds text span value
+      → NamesClass span (bare leaf value)
+  names_bare None None leaf names holds = names
+  names_bare (Some span) None leaf names holds = absurd holds
+  names_bare span (Some value) leaf names holds = tt
 
   names_valued : (span : Option (Range ℕ)) (value : Option (List ℕ)) (with : List ℕ → Class)
       (missing : List ℕ)
@@ -137,8 +142,9 @@ module _ (text : List ℕ) (key_span : Range ℕ) where
 
   -- `unix` and `windows` are families of their own names
   names_family : (key word : List ℕ) → Holds text key_span key → key ≡ word
-      → Names None (family word)
-  names_family key word holds is = (ap family (holds.0 ∙ is), holds.1)
+      → NamesLeaf None (family word)
+  names_family key word holds is =
+      (ap (λ name. Question.target (TargetQuestion.family name)) (holds.0 ∙ is), holds.1)
 
   names_last : (span : Option (Range ℕ)) (key : List ℕ)
       (value : Option (List ℕ)) → Stands text key_span span key value → (b : Bool)
@@ -154,23 +160,31 @@ module _ (text : List ℕ) (key_span : Range ℕ) where
   unfolding class
   NamesClass-class span key value s =
       let holds = s.value_holds in
+      let literal = λ (truth : Bool). names_bare span value (Leaf.literal truth) tt holds in
       named_by span key value _ key_lines (
-        λ is. names_bare span value _ (names_family key _ s.key_holds is) holds,
+        λ _. literal true,
         (
-          λ is. names_bare span value _ (names_family key _ s.key_holds is) holds,
+          λ _. literal false,
           (
-            λ _. names_bare span value _ (refl, tt) holds,
+            λ is. names_bare span value _ (names_family key _ s.key_holds is) holds,
             (
-              λ _. names_bare span value _ (refl, tt) holds,
+              λ is. names_bare span value _ (names_family key _ s.key_holds is) holds,
               (
                 λ _. names_bare span value _ (refl, tt) holds,
                 (
-                  λ _. names_valued span value _ _ (λ t v h. (ap Question.feature h.0, h.1)) holds,
+                  λ _. names_bare span value _ (refl, tt) holds,
                   (
-                    λ _. names_valued span value _ _
-                        (λ t v h. (ap (λ v. Question.target (TargetQuestion.panic v)) h.0, h.1))
-                        holds,
-                    tt,
+                    λ _. names_bare span value _ (refl, tt) holds,
+                    (
+                      λ _. names_valued span value _ _
+                          (λ t v h. (ap Question.feature h.0, h.1)) holds,
+                      (
+                        λ _. names_valued span value _ _
+                            (λ t v h. (ap (λ v. Question.target (TargetQuestion.panic v)) h.0, h.1))
+                            holds,
+                        tt,
+                      ),
+                    ),
                   ),
                 ),
               ),

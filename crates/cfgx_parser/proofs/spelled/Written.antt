@@ -1,5 +1,6 @@
 -- What is written for a tree, part by part.
-use Rattle.std.proofs.Common.{◌≡◌, ℕ, ◌+◌, ◌-◌, List, [], ◌∷◌, ◌++◌, length, map, take, drop, set}
+use Rattle.std.proofs.Common.{◌≡◌, ℕ, ◌+◌, ◌-◌, Bool, List, [], ◌∷◌, ◌++◌, length, map, take}
+use Rattle.std.proofs.Common.{drop, set}
 use Rattle.std.proofs.Common.{sym, refl, ap, ◌∙◌, arith, append_assoc, length-append}
 use Rattle.std.proofs.lemmas.List.{append-nil, map-append, length-map, length_push, set_at, take_at}
 use Rattle.std.proofs.lemmas.List.{drop_at}
@@ -52,15 +53,27 @@ length-nodes text old new shown own inner w =
     ∙ ap (λ n. length old.nodes + n) (sym (length-map w.added (node_at text))
     ∙ ap length w.shown_are)
 
-pub WritesNodes-leaf : (text : List ℕ) (w : Written) (predicate : InnerPredicate)
+pub WritesNodes-predicate : (text : List ℕ) (w : Written) (predicate : InnerPredicate)
     (question : Question) → question_at text predicate ≡ question
-    → HasCut text predicate → WritesNodes text w (with_leaf predicate w) (Node.leaf question ∷ [])
+    → HasCut text predicate
+    → WritesNodes text w (with_leaf (node.Predicate predicate) w) (Node.leaf question ∷ [])
     (length w.nodes ∷ []) []
-WritesNodes-leaf text w predicate question names cut = record {
+WritesNodes-predicate text w predicate question names cut = record {
   added = node.Predicate predicate ∷ [];
   nodes_are = refl;
   shown_are = ap (λ q. Node.leaf q ∷ []) names;
   cuts = (cut, tt);
+  leaves_are = refl;
+  asked_are = sym (append-nil w.asked);
+}
+
+pub WritesNodes-literal : (text : List ℕ) (w : Written) (truth : Bool)
+    → WritesNodes text w (with_leaf (node.Literal truth) w) (Node.literal truth ∷ []) [] []
+WritesNodes-literal text w truth = record {
+  added = node.Literal truth ∷ [];
+  nodes_are = refl;
+  shown_are = refl;
+  cuts = (tt, tt);
   leaves_are = refl;
   asked_are = sym (append-nil w.asked);
 }

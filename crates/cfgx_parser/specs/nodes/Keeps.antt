@@ -1,5 +1,5 @@
--- What an `Expression` keeps of its text: the nodes of its tree, and the places of the leaves as
--- they are asked.
+-- What an `Expression` keeps of its text: the nodes of its tree, and the places of the predicates
+-- as they are asked.
 use Rattle.std.specs.Prelude.{◌≡◌, ℕ, List, map, Option, Some, None, option_map, option_and_then}
 use Rattle.std.specs.List.{AllByRecursion, slice_get, filter_map}
 use Rattle.cfgx_grammar.specs.Question.{Question}
@@ -24,24 +24,25 @@ pub record KeepsOneTree (text : List ℕ) (nodes : List ExprNode) (asked : List 
   pub one : HasOneTree text
   pub keeps : KeepsTree text nodes asked one.tree
 
-abbrev pub leaf_of : ExprNode → Option InnerPredicate
-leaf_of (node.Fn func len) = None
-leaf_of (node.Predicate predicate) = Some predicate
+abbrev pub predicate_of : ExprNode → Option InnerPredicate
+predicate_of (node.Fn func len) = None
+predicate_of (node.Predicate predicate) = Some predicate
+predicate_of (node.Literal truth) = None
 
--- the leaf at a place
-abbrev pub leaf_at : List ExprNode → ℕ → Option InnerPredicate
-leaf_at nodes place = option_and_then leaf_of (slice_get nodes place)
+-- the predicate at a place
+abbrev pub predicate_at : List ExprNode → ℕ → Option InnerPredicate
+predicate_at nodes place = option_and_then predicate_of (slice_get nodes place)
 
--- the questions of the leaves at the places
+-- the questions of the predicates at the places
 abbrev pub questions_at : List ℕ → List ExprNode → List ℕ → List Question
 questions_at text nodes asked = filter_map (λ place. option_map (question_at text)
-    (leaf_at nodes place)) asked
+    (predicate_at nodes place)) asked
 
--- a leaf stands at the place, and its parts can be cut out of the text
-pub record NamesLeaf (text : List ℕ) (nodes : List ExprNode) (place : ℕ) : Type 0 where
+-- a predicate stands at the place, and its parts can be cut out of the text
+pub record NamesPredicate (text : List ℕ) (nodes : List ExprNode) (place : ℕ) : Type 0 where
   pub predicate : InnerPredicate
   pub stands : slice_get nodes place ≡ Some (node.Predicate predicate)
   pub cut : HasCut text predicate
 
-abbrev pub NameLeaves : List ℕ → List ExprNode → List ℕ → Type 0
-NameLeaves text nodes asked = AllByRecursion (NamesLeaf text nodes) asked
+abbrev pub NamePredicates : List ℕ → List ExprNode → List ℕ → Type 0
+NamePredicates text nodes asked = AllByRecursion (NamesPredicate text nodes) asked

@@ -1,12 +1,14 @@
--- A predicate by where its parts stand in the text.
+-- A leaf by where its parts stand in the text.
 use Rattle.std.specs.Prelude.{ℕ, List, slice_range, Option, Some, None, unwrap_or}
 use Rattle.std.specs.declared.ops.Range.{Range}
 use Rattle.cfgx_syntax.specs.Cut.{IsCut}
-use Rattle.cfgx_grammar.specs.Question.{Question, TargetQuestion}
+use Rattle.cfgx_grammar.specs.Question.{Leaf, Question, TargetQuestion}
 use Rattle.cfgx_parser.specs.declared.nodes.InnerTarget.{InnerTarget}
 use Rattle.cfgx_parser.specs.declared.nodes.InnerTarget.TheVariants as target
 use Rattle.cfgx_parser.specs.declared.nodes.InnerPredicate.{InnerPredicate}
 use Rattle.cfgx_parser.specs.declared.nodes.InnerPredicate.TheVariants as inner
+use Rattle.cfgx_parser.specs.declared.nodes.ExprNode.{ExprNode}
+use Rattle.cfgx_parser.specs.declared.nodes.ExprNode.TheVariants as node
 
 -- the target predicate whose text, where it has one, stands at the span
 abbrev pub target_at : Range ℕ → TargetQuestion → InnerTarget
@@ -22,16 +24,23 @@ target_at span (TargetQuestion.pointer_width width) = target.PointerWidth width
 target_at span (TargetQuestion.vendor text) = target.Vendor span
 
 -- the predicate whose key and value stand there
-abbrev pub located : Range ℕ → Option (Range ℕ) → Question → InnerPredicate
-located key value (Question.target question) = inner.Target
+abbrev pub predicate_located : Range ℕ → Option (Range ℕ) → Question → InnerPredicate
+predicate_located key value (Question.target question) = inner.Target
     (target_at (unwrap_or value key) question)
-located key value Question.test = inner.Test
-located key value Question.debug_assertions = inner.DebugAssertions
-located key value Question.proc_macro = inner.ProcMacro
-located key value (Question.feature text) = inner.Feature (unwrap_or value key)
-located key value (Question.target_feature text) = inner.TargetFeature (unwrap_or value key)
-located key value (Question.flag text) = inner.Other key None
-located key value (Question.key_value text other) = inner.Other key value
+predicate_located key value Question.test = inner.Test
+predicate_located key value Question.debug_assertions = inner.DebugAssertions
+predicate_located key value Question.proc_macro = inner.ProcMacro
+predicate_located key value (Question.feature text) = inner.Feature (unwrap_or value key)
+predicate_located key value (Question.target_feature text) =
+    inner.TargetFeature (unwrap_or value key)
+predicate_located key value (Question.flag text) = inner.Other key None
+predicate_located key value (Question.key_value text other) = inner.Other key value
+
+-- the node of the leaf whose key and value stand there
+abbrev pub located : Range ℕ → Option (Range ℕ) → Leaf → ExprNode
+located key value (Leaf.predicate question) =
+    node.Predicate (predicate_located key value question)
+located key value (Leaf.literal truth) = node.Literal truth
 
 -- the bytes of the text at the span
 abbrev pub at : List ℕ → Range ℕ → List ℕ

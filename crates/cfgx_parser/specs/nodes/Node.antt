@@ -1,14 +1,13 @@
--- The nodes of trees in source order, and the places of the leaves in the order in which they are
--- asked.
+-- The nodes of trees in source order, and the places of the predicates in the order in which they
+-- are asked.
 use Rattle.std.specs.Prelude.{ℕ, ◌-◌, List, [], ◌∷◌, ◌++◌, length, take, drop, set}
 use Rattle.cfgx_parser.specs.declared.function.Func.{Func}
 pub use Rattle.cfgx_parser.specs.declared.nodes.Mark.{Mark}
-use Rattle.cfgx_parser.specs.declared.nodes.InnerPredicate.{InnerPredicate}
 use Rattle.cfgx_parser.specs.declared.nodes.ExprNode.{ExprNode}
 use Rattle.cfgx_parser.specs.declared.nodes.ExprNode.TheVariants as node
 
--- The nodes; the places of leaves whose list has not ended, those of inner lists behind those of
--- outer ones; the places of the other leaves, as they are asked.
+-- The nodes; the places of predicates whose list has not ended, those of inner lists behind those
+-- of outer ones; the places of the other predicates, as they are asked.
 pub record Written : Type 0 where
   pub nodes : List ExprNode
   pub leaves : List ℕ
@@ -20,19 +19,24 @@ nothing = record { nodes = []; leaves = []; asked = [] }
 abbrev pub mark_of : Written → Mark
 mark_of w = record { node = length w.nodes; leaves = length w.leaves }
 
+-- the place of a node that is asked
+abbrev pub asked_at : ExprNode → ℕ → List ℕ
+asked_at (node.Fn func len) place = []
+asked_at (node.Predicate predicate) place = place ∷ []
+asked_at (node.Literal truth) place = []
+
 -- with one more leaf
-abbrev pub with_leaf : InnerPredicate → Written → Written
-with_leaf predicate w = record w {
-  nodes = w.nodes ++ node.Predicate predicate ∷ [];
-  leaves =
-      w.leaves ++ length w.nodes ∷ [];
+abbrev pub with_leaf : ExprNode → Written → Written
+with_leaf leaf w = record w {
+  nodes = w.nodes ++ leaf ∷ [];
+  leaves = w.leaves ++ asked_at leaf (length w.nodes);
 }
 
 -- with a function's node, whose number of members and of nodes is not known yet
 abbrev pub with_function : Func → Written → Written
 with_function func w = record w { nodes = w.nodes ++ node.Fn func 0 ∷ [] }
 
--- with the list ended that began with so many leaves of outer lists: its own leaves are asked
+-- with the list ended that began with so many predicates of outer lists: its own ones are asked
 abbrev pub with_list_ended : ℕ → Written → Written
 with_list_ended leaves w = record w {
   leaves = take leaves w.leaves;

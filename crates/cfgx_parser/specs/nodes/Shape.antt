@@ -1,15 +1,22 @@
--- Which function a node is, if it is one.
-use Rattle.std.specs.Prelude.{Option, Some, None}
+-- What a node is, whatever its predicate says.
+use Rattle.std.specs.Prelude.{Bool}
 use Rattle.cfgx_parser.specs.nodes.Prefix.{Node}
 use Rattle.cfgx_parser.specs.declared.function.Func.{Func}
 use Rattle.cfgx_parser.specs.declared.nodes.ExprNode.{ExprNode}
 use Rattle.cfgx_parser.specs.declared.nodes.ExprNode.TheVariants as node
 
-abbrev pub shape : ExprNode → Option Func
-shape (node.Fn func len) = Some func
-shape (node.Predicate predicate) = None
+pub data Shape : Type 0 where
+  predicate : Shape
+  literal : Bool → Shape
+  function : Func → Shape
+
+abbrev pub shape : ExprNode → Shape
+shape (node.Fn func len) = Shape.function func
+shape (node.Predicate inner) = Shape.predicate
+shape (node.Literal truth) = Shape.literal truth
 
 -- of a node of a tree
-abbrev pub shape_of : {X : Type 0} → Node X → Option Func
-shape_of (Node.function func len) = Some func
-shape_of (Node.leaf x) = None
+abbrev pub shape_of : {X : Type 0} → Node X → Shape
+shape_of (Node.function func len) = Shape.function func
+shape_of (Node.leaf x) = Shape.predicate
+shape_of (Node.literal truth) = Shape.literal truth

@@ -14,6 +14,7 @@ use Rattle.cfgx_parser.specs.declared.nodes.ExprNode.TheVariants as node
 abbrev pub NodeHasCut : List ℕ → ExprNode → Type 0
 NodeHasCut text (node.Fn func len) = Unit {0}
 NodeHasCut text (node.Predicate predicate) = HasCut text predicate
+NodeHasCut text (node.Literal truth) = Unit {0}
 
 -- a word stands at its span, and can be cut out of the text there
 abbrev pub Holds : List ℕ → Range ℕ → List ℕ → Type 0
@@ -33,7 +34,7 @@ IsPlaced text item _ = Unit {0}
 abbrev pub ArePlaced : List ℕ → List Item → Type 0
 ArePlaced text items = AllByRecursion (λ item. IsPlaced text item item.token) items
 
--- these nodes were written, these places of leaves wait, and those are asked
+-- these nodes were written, these places of predicates wait, and those are asked
 pub record WritesNodes (text : List ℕ) (old new : Written) (shown : List (Node Question))
     (own inner : List ℕ) : Type 0 where
   pub added : List ExprNode

@@ -12,7 +12,7 @@ use Rattle.cfgx_parser.specs.declared.function.Func.{Func}
 use Rattle.cfgx_parser.specs.declared.function.Func.TheVariants as func
 use Rattle.cfgx_parser.specs.declared.classification.Word as code_word
 use Rattle.cfgx_parser.specs.declared.classification.Pending as code_pending
-use Rattle.cfgx_parser.specs.declared.nodes.InnerPredicate.{InnerPredicate}
+use Rattle.cfgx_parser.specs.declared.nodes.ExprNode.{ExprNode}
 use Rattle.cfgx_parser.specs.declared.parser.FuncAndSpan.{FuncAndSpan}
 
 abbrev pub word_of : code_word.Word → Word
@@ -25,22 +25,22 @@ pending_of p = record { key = word_of p.key; value = option_map word_of p.value 
 abbrev pub refused : Reason × Range ℕ → Refusal
 refused r = refusal (cause_of r.0) r.1.start r.1.end
 
-abbrev pub class_result : Result InnerPredicate (Reason × Range ℕ) → Result InnerPredicate Refusal
-class_result (Ok predicate) = Ok predicate
+abbrev pub class_result : Result ExprNode (Reason × Range ℕ) → Result ExprNode Refusal
+class_result (Ok leaf) = Ok leaf
 class_result (Err r) = Err (refused r)
 
 -- of a key that stands without a value
-abbrev pub bare_answer : InnerPredicate → Option Word → Result InnerPredicate Refusal
-bare_answer predicate None = Ok predicate
-bare_answer predicate (Some value) = Err (refusal (unexpected []) value.start value.end)
+abbrev pub bare_answer : ExprNode → Option Word → Result ExprNode Refusal
+bare_answer leaf None = Ok leaf
+bare_answer leaf (Some value) = Err (refusal (unexpected []) value.start value.end)
 
 -- of a key that begins with `target_`, by what follows, and the value
-abbrev pub target_answer : List ℕ → Word → Word → Result InnerPredicate Refusal
+abbrev pub target_answer : List ℕ → Word → Word → Result ExprNode Refusal
 target_answer name key value =
     located_class (record { key = key; value = Some value }) (target_class name value.text)
 
 -- of a key that stands in no line
-abbrev pub other_answer : Word → Option Word → Result InnerPredicate Refusal
+abbrev pub other_answer : Word → Option Word → Result ExprNode Refusal
 other_answer key value =
     located_class (record { key = key; value = value })
     (other_class key.text (option_map (λ v. v.text) value))

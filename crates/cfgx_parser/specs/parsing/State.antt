@@ -12,7 +12,7 @@ use Rattle.cfgx_parser.specs.nodes.Node.{with_list_ended, with_function_ended}
 use Rattle.cfgx_parser.specs.nodes.Located.{located}
 use Rattle.cfgx_parser.specs.declared.function.Func.{Func}
 use Rattle.cfgx_parser.specs.declared.function.Func.TheVariants as func
-use Rattle.cfgx_parser.specs.declared.nodes.InnerPredicate.{InnerPredicate}
+use Rattle.cfgx_parser.specs.declared.nodes.ExprNode.{ExprNode}
 
 -- a function with so many members
 abbrev pub counted : Function → ℕ → Func
@@ -24,11 +24,11 @@ abbrev pub span_of : Word → Range ℕ
 span_of word = record { start = word.start; end = word.end }
 
 -- what the parser's steps do to the nodes
-abbrev pub node_builder : Builder Written Mark InnerPredicate
+abbrev pub node_builder : Builder Written Mark ExprNode
 node_builder = record {
   nothing = nothing;
   mark_of = mark_of;
-  located = λ p question. located (span_of p.key) (option_map span_of p.value) question;
+  located = λ p leaf. located (span_of p.key) (option_map span_of p.value) leaf;
   leaf = with_leaf;
   function = λ function. with_function (counted function 0);
   function_ended = λ mark function members. with_function_ended mark (counted function members);
@@ -41,9 +41,9 @@ OpenFunction = parser.Open Mark
 abbrev pub ParserState : Type 0
 ParserState = parser.State node_builder
 
--- a predicate by its places, or its fault
-abbrev pub located_class : Pending → Class → Result InnerPredicate Refusal
+-- a predicate or a literal by its places, or its fault
+abbrev pub located_class : Pending → Class → Result ExprNode Refusal
 located_class = steps.located_class node_builder
 
-abbrev pub classified : Pending → Result InnerPredicate Refusal
+abbrev pub classified : Pending → Result ExprNode Refusal
 classified p = located_class p (class_of p)

@@ -1,10 +1,10 @@
 //! Conditions that are read, copied and evaluated.
 use crate::faults::NO_TOKEN;
-use crate::turns::Heap;
+use crate::turns::{Heap, all_true};
+use cfg_expr::Expression;
 use cfg_expr::error::{Failure, ParseError, Reason};
 use cfg_expr::expr::lexer::Lexer;
 use cfg_expr::expr::logic::Kleene64;
-use cfg_expr::{Expression, Predicate};
 use std::alloc::{AllocError, Allocator};
 
 // Whether the lexer is at its end, and stays there.
@@ -48,6 +48,7 @@ const ROWS: &[Row] = &[
     (405, Some(80), NONE),
     (201, Some(1), NONE),
     (200, None, (3, 200, Reason::UnclosedParens)),
+    (247, Some(1), NONE),
 ];
 
 fn row_of(text: &str) -> Option<Row> {
@@ -143,22 +144,6 @@ pub(super) fn copies(heap: Heap<'_>, text: &str) -> Result<bool, AllocError> {
         Some(expression) => is_copied(heap, &expression, text),
         None => Ok(false),
     }
-}
-
-// The value with every predicate true, and how many were asked.
-fn all_true<'h>(
-    heap: Heap<'h>,
-    expression: &Expression<Heap<'h>>,
-) -> (Result<bool, AllocError>, usize) {
-    let mut count = 0usize;
-    let value = expression.eval(
-        heap,
-        &mut |_predicate: &Predicate<'_>| {
-            count = count.saturating_add(1);
-            true
-        },
-    );
-    (value, count)
 }
 
 // Whether the value is true, after each predicate was asked. Out of memory, none was asked.

@@ -1,5 +1,7 @@
 //! Where a program runs.
 
+use crate::refusing::Refusing;
+use crate::turns::Heap;
 use cfgx_places::{Env, Family, Os, Panic};
 
 const OPERATING_SYSTEMS: [&str; 49] = [
@@ -79,9 +81,9 @@ const ENVIRONMENTS: [&str; 18] = [
 
 const PANIC_STRATEGIES: [&str; 2] = ["abort", "unwind"];
 
-#[test]
-fn operating_systems_have_their_texts(rt: HostRuntime) {
-    let named: [Os; 49] = [
+/// Whether the named values have their texts.
+pub(crate) fn are_systems<'h>(_heap: Heap<'h>) -> bool {
+    let named: [Os<'static, Heap<'h>>; 49] = [
         Os::aix(),
         Os::amdhsa(),
         Os::android(),
@@ -132,22 +134,34 @@ fn operating_systems_have_their_texts(rt: HostRuntime) {
         Os::xous(),
         Os::zkvm(),
     ];
-    for (value, text) in named.iter().zip(OPERATING_SYSTEMS.iter()) {
-        assert_eq!(rt; value.as_str(), *text);
-    }
+    named
+        .iter()
+        .zip(OPERATING_SYSTEMS.iter())
+        .all(|(value, text)| value.as_str() == *text)
+}
+
+#[test]
+fn operating_systems_have_their_texts(rt: HostRuntime) {
+    assert!(rt; are_systems(&Refusing::new(rt.alloc())));
+}
+
+/// Whether the named values have their texts.
+pub(crate) fn are_families<'h>(_heap: Heap<'h>) -> bool {
+    let named: [Family<'static, Heap<'h>>; 3] = [Family::unix(), Family::wasm(), Family::windows()];
+    named
+        .iter()
+        .zip(FAMILIES.iter())
+        .all(|(value, text)| value.as_str() == *text)
 }
 
 #[test]
 fn families_have_their_texts(rt: HostRuntime) {
-    let named: [Family; 3] = [Family::unix(), Family::wasm(), Family::windows()];
-    for (value, text) in named.iter().zip(FAMILIES.iter()) {
-        assert_eq!(rt; value.as_str(), *text);
-    }
+    assert!(rt; are_families(&Refusing::new(rt.alloc())));
 }
 
-#[test]
-fn environments_have_their_texts(rt: HostRuntime) {
-    let named: [Env; 18] = [
+/// Whether the named values have their texts.
+pub(crate) fn are_environments<'h>(_heap: Heap<'h>) -> bool {
+    let named: [Env<'static, Heap<'h>>; 18] = [
         Env::gnu(),
         Env::macabi(),
         Env::mlibc(),
@@ -167,15 +181,27 @@ fn environments_have_their_texts(rt: HostRuntime) {
         Env::uclibc(),
         Env::v5(),
     ];
-    for (value, text) in named.iter().zip(ENVIRONMENTS.iter()) {
-        assert_eq!(rt; value.as_str(), *text);
-    }
+    named
+        .iter()
+        .zip(ENVIRONMENTS.iter())
+        .all(|(value, text)| value.as_str() == *text)
+}
+
+#[test]
+fn environments_have_their_texts(rt: HostRuntime) {
+    assert!(rt; are_environments(&Refusing::new(rt.alloc())));
+}
+
+/// Whether the named values have their texts.
+pub(crate) fn are_panics<'h>(_heap: Heap<'h>) -> bool {
+    let named: [Panic<'static, Heap<'h>>; 2] = [Panic::abort(), Panic::unwind()];
+    named
+        .iter()
+        .zip(PANIC_STRATEGIES.iter())
+        .all(|(value, text)| value.as_str() == *text)
 }
 
 #[test]
 fn panic_strategies_have_their_texts(rt: HostRuntime) {
-    let named: [Panic; 2] = [Panic::abort(), Panic::unwind()];
-    for (value, text) in named.iter().zip(PANIC_STRATEGIES.iter()) {
-        assert_eq!(rt; value.as_str(), *text);
-    }
+    assert!(rt; are_panics(&Refusing::new(rt.alloc())));
 }

@@ -36,12 +36,14 @@ pub(crate) fn names_families(heap: Heap<'_>) -> Result<bool, AllocError> {
     )
 }
 
+// One of the families owns a text that is empty.
 pub(crate) fn copies_families(heap: Heap<'_>) -> Result<bool, AllocError> {
     let mut families = Vec::new(heap);
     families.push(Family::new(String::from_str(heap, "b")?))?;
+    families.push(Family::new(String::new(heap)))?;
     let list = Families::new(heap, families.into_iter())?;
     let copy = list.try_clone(heap);
-    Ok(are_families(&list, &["b"]) && are_families(&copy?, &["b"]))
+    Ok(are_families(&list, &["", "b"]) && are_families(&copy?, &["", "b"]))
 }
 
 #[test]

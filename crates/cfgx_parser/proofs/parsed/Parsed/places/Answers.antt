@@ -1,4 +1,4 @@
--- The places are those of the leaves of the text's one tree.
+-- The places are those of the predicates of the text's one tree.
 use Rattle.std.proofs.Common.{◌∙◌}
 use Rattle.cfgx_parser.proofs.Kept.{KeepsOneTree-seen}
 use Rattle.cfgx_parser.proofs.parsed.Parsed.places.Goals as goal

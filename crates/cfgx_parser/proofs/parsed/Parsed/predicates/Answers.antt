@@ -1,16 +1,16 @@
--- The nodes are those of the text's one tree, and their leaves ask what it asks.
+-- The nodes are those of the text's one tree, and the predicates among them ask what it asks.
 use Rattle.std.proofs.Common.{◌∙◌, subst, sym}
 use Rattle.std.specs.List.{AllByRecursion}
 use Rattle.cfgx_grammar.specs.Regular.{IsRegular}
 use Rattle.cfgx_grammar.proofs.alone.Regular.{regular_tree}
-use Rattle.cfgx_parser.proofs.Asked.{NameLeaves-kept, questions_at-kept}
+use Rattle.cfgx_parser.proofs.Asked.{NamePredicates-kept, questions_at-kept}
 use Rattle.cfgx_parser.proofs.Kept.{KeepsOneTree-seen}
 use Rattle.cfgx_parser.proofs.parsed.Parsed.predicates.Goals as goal
 
 pub new-requires : goal.new-requires
 new-requires g c =
     rw (c.as_str.ensures.value, c.as_slice.ensures, c.as_slice-2.ensures)
-    (NameLeaves-kept c.self.invariant.keeps)
+    (NamePredicates-kept c.self.invariant.keeps)
 
 pub returns-clause-asked : goal.returns-clause-asked
 returns-clause-asked g c =

@@ -1,4 +1,4 @@
--- Each place names a leaf, and so a question.
+-- Each place names a predicate, and so a question.
 use Rattle.std.proofs.Common.{sym, ap, ◌∙◌, length}
 use Rattle.cfgx_parser.proofs.Asked.{length-questions_at}
 use Rattle.cfgx_parser.proofs.predicates.Predicates.left.Goals as goal

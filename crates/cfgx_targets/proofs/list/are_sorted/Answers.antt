@@ -1,5 +1,5 @@
 use Rattle.cfgx_targets.proofs.OrderLemmas.{is_sorted-answers}
-use Rattle.cfgx_targets.proofs.list.SortedList.is_sorted.Goals as goal
+use Rattle.cfgx_targets.proofs.list.are_sorted.Goals as goal
 
 pub returns : goal.returns
 returns g c =

@@ -1,0 +1,8 @@
+-- The words of other crates that the contracts of a caller name, who then lists this crate alone.
+pub use Rattle.cfgx_syntax.specs.Stripping.{strip}
+pub use Rattle.cfgx_grammar.specs.Answer.{Answers, HasOneTree}
+pub use Rattle.cfgx_grammar.specs.Fold.{fold}
+pub use Rattle.cfgx_grammar.specs.Grammar.{HasTree}
+pub use Rattle.cfgx_grammar.specs.Question.{Question, TargetQuestion}
+pub use Rattle.cfgx_grammar.specs.Tree.{Tree, asked}
+pub use Rattle.cfgx_parser.specs.Predicate.{question_of}

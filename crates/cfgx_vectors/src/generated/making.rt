@@ -1,0 +1,195 @@
+//! Texts that numbers make.
+use super::numbers::Numbers;
+use std::alloc::{AllocError, Global};
+
+// What may stand in a text in any order.
+const TOKENS: &[&str] = &[
+    "a",
+    "_b1",
+    "unix",
+    "test",
+    "key",
+    "all",
+    "any",
+    "not",
+    "feature",
+    "target_os",
+    "=",
+    "(",
+    ")",
+    ",",
+    "\"v\"",
+    "\"\"",
+    "\"",
+    " ",
+    "\u{3000}",
+    "all(",
+    "any(",
+    "not(",
+    ")",
+    ")",
+    ",",
+    "cfg(",
+    "8",
+    "\u{e9}",
+];
+
+// Conditions that are one predicate, or ask none.
+const LEAVES: &[&str] = &[
+    "true",
+    "false",
+    "a",
+    "b",
+    "key",
+    "unix",
+    "windows",
+    "test",
+    "debug_assertions",
+    "proc_macro",
+    "feature = \"\"",
+    "feature=\"x-y\"",
+    "key = \"\u{e9}\n\"",
+    "panic = \"abort\"",
+    "target_abi = \"sim\"",
+    "target_arch = \"x86\"",
+    "target_endian = \"big\"",
+    "target_env = \"gnu\"",
+    "target_family = \"wasm\"",
+    "target_feature = \"sse4.2\"",
+    "target_has_atomic = \"+08\"",
+    "target_has_atomic = \"ptr\"",
+    "target_os = \"\"",
+    "target_pointer_width = \"064\"",
+    "target_vendor = \"apple\"",
+    "all()",
+    "any()",
+    "not(all())",
+];
+
+// What may stand before the first member of a function, and what behind its last one.
+const FRONTS: &[&str] = &["", " ", "\n\t", "\u{a0}"];
+
+const BACKS: &[&str] = &["", "", ",", " , ,"];
+
+const FUNCTIONS: &[&str] = &["all(", "any(", "all (", "any\u{3000}("];
+
+fn push_tokens(numbers: &mut Numbers, text: &mut String) -> Result<(), AllocError> {
+    for _token in 0..numbers.below(12) {
+        text.push_str(numbers.one_of(TOKENS))?;
+    }
+    Ok(())
+}
+
+// Writes so many members, each with a comma before or behind it.
+fn push_leaves(
+    numbers: &mut Numbers,
+    text: &mut String,
+    before: &str,
+    behind: &str,
+) -> Result<(), AllocError> {
+    for _leaf in 0..numbers.below(3) {
+        text.push_str(before)?;
+        text.push_str(numbers.one_of(LEAVES))?;
+        text.push_str(behind)?;
+    }
+    Ok(())
+}
+
+// A function round a condition, with other members beside it.
+fn with_members(alloc: Global, numbers: &mut Numbers, inner: &str) -> Result<String, AllocError> {
+    let mut text = String::from_str(alloc, numbers.one_of(FUNCTIONS))?;
+    push_leaves(numbers, &mut text, "", ",")?;
+    text.push_str(numbers.one_of(FRONTS))?;
+    text.push_str(inner)?;
+    push_leaves(numbers, &mut text, ", ", "")?;
+    text.push_str(numbers.one_of(BACKS))?;
+    text.push_str(")")?;
+    Ok(text)
+}
+
+// A `not` round a condition.
+fn negated(alloc: Global, numbers: &mut Numbers, inner: &str) -> Result<String, AllocError> {
+    let mut text = String::from_str(alloc, "not(")?;
+    text.push_str(numbers.one_of(FRONTS))?;
+    text.push_str(inner)?;
+    text.push_str(numbers.one_of(BACKS))?;
+    text.push_str(")")?;
+    Ok(text)
+}
+
+// A condition with up to five functions, one in another.
+fn condition(alloc: Global, numbers: &mut Numbers) -> Result<String, AllocError> {
+    let mut text = String::from_str(alloc, numbers.one_of(LEAVES))?;
+    for _function in 0..numbers.below(6) {
+        text = if numbers.below(3) == 0 {
+            negated(alloc, numbers, text.as_str())?
+        } else {
+            with_members(alloc, numbers, text.as_str())?
+        };
+    }
+    Ok(text)
+}
+
+// A condition between `cfg(` and `)`.
+fn wrapped(alloc: Global, numbers: &mut Numbers) -> Result<String, AllocError> {
+    let mut text = String::from_str(alloc, "cfg(")?;
+    text.push_str(condition(alloc, numbers)?.as_str())?;
+    text.push_str(")")?;
+    Ok(text)
+}
+
+// A condition in which one token stands in the place of some characters.
+fn damaged(alloc: Global, numbers: &mut Numbers) -> Result<String, AllocError> {
+    let whole = condition(alloc, numbers)?;
+    let start = numbers.below(whole.len());
+    let end = start.saturating_add(numbers.below(4));
+    let token = numbers.one_of(TOKENS);
+    let mut text = String::new(alloc);
+    let mut is_written = false;
+    for (place, character) in whole.as_str().char_indices() {
+        if place >= start && !is_written {
+            text.push_str(token)?;
+            is_written = true;
+        }
+        if place < start || place >= end {
+            text.push(character)?;
+        }
+    }
+    Ok(text)
+}
+
+// A character of one to four bytes, most often of one byte. A surrogate is none.
+fn character(numbers: &mut Numbers) -> Option<char> {
+    let bound = match numbers.below(8) {
+        0 => 0x800,
+        1 => 0x1_0000,
+        2 => 0x11_0000,
+        _ => 0x80,
+    };
+    match u32::try_from(numbers.below(bound)) {
+        Ok(code) => char::from_u32(code),
+        Err(_) => None,
+    }
+}
+
+fn push_characters(numbers: &mut Numbers, text: &mut String) -> Result<(), AllocError> {
+    for _character in 0..numbers.below(10) {
+        if let Some(character) = character(numbers) {
+            text.push(character)?;
+        }
+    }
+    Ok(())
+}
+
+/// The next text.
+pub(super) fn made(alloc: Global, numbers: &mut Numbers) -> Result<String, AllocError> {
+    let mut text = String::new(alloc);
+    match numbers.below(6) {
+        0 => push_tokens(numbers, &mut text)?,
+        1 => push_characters(numbers, &mut text)?,
+        2 => return condition(alloc, numbers),
+        3 => return wrapped(alloc, numbers),
+        _ => return damaged(alloc, numbers),
+    }
+    Ok(text)
+}
