@@ -4,3 +4,4 @@ pub mod Members
 pub mod OneOutput
 pub mod OutputLemmas
 pub mod RowLemmas
+pub mod VerdictLemmas

@@ -3,3 +3,4 @@ pub mod Flags
 pub mod Input
 pub mod Output
 pub mod Streams
+pub mod Verdicts
