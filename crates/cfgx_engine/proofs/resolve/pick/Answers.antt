@@ -1,4 +1,4 @@
-use Rattle.std.proofs.Common.{◌∷◌, [], ◌++◌, subst, sym, take}
+use Rattle.std.proofs.Common.{subst, sym, take}
 use Rattle.std.specs.List.{AllZip}
 use Rattle.std.proofs.lemmas.List.{take_all, take_more}
 use Rattle.cfgx_grammar.proofs.Alike.{AllZip-append}
@@ -19,8 +19,11 @@ loop-section-preserved g c =
     (sym (take_more sections i _ c.loop-section-test.true))
     (subst (AllZip holds _) (sym c.in_ok-push.ensures.items)
     (AllZip-append holds (take i sections) _ c.loop-section.verdicts.items _
-    c.loop-section.invariant (subst (λ (section : Section g.row.A.Denot). holds section given)
-    c.section-item.is c.in_ok-verdict_on.ensures, tt)))
+    c.loop-section.invariant (
+      subst (λ (section : Section g.row.A.Denot). holds section given)
+          c.section-item.is c.in_ok-verdict_on.ensures,
+      tt,
+    )))
 
 -- all were passed
 pub returns : goal.returns
