@@ -17,7 +17,8 @@ use Rattle.cfgx_syntax.specs.declared.error.Failure.TheVariants as failure
 use Rattle.cfgx_grammar.specs.Answer.{Answers, HasOneTree}
 use Rattle.cfgx_engine.specs.Answer.{AddsFlag, AreFlags, BlamesFirst}
 use Rattle.cfgx_engine.specs.Flags.{flag_text, known_text, known_texts, unknown_text, unknown_texts}
-use Rattle.cfgx_engine.specs.Output.{fault_output, texts, Output, RefusesFirst}
+use Rattle.cfgx_engine.specs.Output.{fault_output, Output, RefusesFirst}
+use Rattle.cfgx_engine.specs.Request.{texts}
 use Rattle.cfgx_engine.specs.declared.engine.flags.Flags.{Flags}
 
 -- a word that begins with `?` names unknown predicates

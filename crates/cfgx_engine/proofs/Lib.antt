@@ -4,4 +4,5 @@ pub mod Members
 pub mod OneOutput
 pub mod OutputLemmas
 pub mod RowLemmas
+pub mod SectionLemmas
 pub mod VerdictLemmas

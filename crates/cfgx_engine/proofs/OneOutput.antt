@@ -1,7 +1,9 @@
 -- That a request has one output.
 use Rattle.std.proofs.Common.{◌≡◌, ℕ, Bool, true, false, List, [], ◌∷◌, refl, ap, sym, subst, ◌∙◌}
 use Rattle.std.proofs.Common.{⊎_elim, Option, Some, None, map}
-use Rattle.std.specs.Prelude.{◌⊎◌, MatchOption}
+use Rattle.std.specs.Prelude.{◌⊎◌, MatchOption, length, nat_lt}
+use Rattle.std.specs.Bool.{MatchBool}
+use Rattle.std.specs.Str.{is_utf8}
 use Rattle.std.specs.List.{AllByRecursion, AllZip}
 use Rattle.std.specs.declared.alloc.Global.{Global}
 use Rattle.cfgx_syntax.specs.Stripping.{strip}
@@ -15,14 +17,16 @@ use Rattle.cfgx_grammar.specs.Answer.{HasOneTree}
 use Rattle.cfgx_grammar.specs.Filling.{three_valued}
 use Rattle.cfgx_grammar.specs.Fold.{fold}
 use Rattle.cfgx_engine.specs.Flags.{IsAnswer, flag_text, known_texts, unknown_texts}
-use Rattle.cfgx_engine.specs.Output.{Output, Request, HasValue, HasValueOn, Prints, Refuses}
+use Rattle.cfgx_engine.specs.Output.{Output, HasValue, HasValueOn, Refuses}
+use Rattle.cfgx_engine.specs.Request.{Request}
+use Rattle.cfgx_engine.specs.Input.{input_limit}
+use Rattle.cfgx_engine.specs.Prints.{Picks, Prints}
+use Rattle.cfgx_engine.specs.Sections.{line_of, lines_of}
+use Rattle.cfgx_engine.proofs.SectionLemmas.{same_lines, same_tree}
 use Rattle.cfgx_engine.specs.Output.{Lists, RefusesFirst, Shows, answer_on, fault_output, lines}
 use Rattle.cfgx_engine.specs.Output.{unknown_triple, value_output}
 
--- a text has one tree, and then it is not refused
-same_tree : (text : List ℕ) (one other : HasOneTree text) → other.tree ≡ one.tree
-same_tree text one other = one.only other.tree other.has_tree
-
+-- a text that has a tree is not refused
 refused_alone : (text : List ℕ) (shown : Output) → HasOneTree (strip text) → Refuses text shown → ⊥
 refused_alone text shown one refused = refused.1.0 one.tree one.has_tree
 
@@ -99,19 +103,37 @@ same_shown : (IsValue : Option Bool → Type 0) (one other : Output)
 same_shown IsValue one other same this that =
     this.2 ∙ ap value_output (same this.0 that.0 this.1 that.1) ∙ sym that.2
 
-same_on : (text : List ℕ) (one other : Output) (row : Option (TargetInfo Global))
-    → MatchOption row (one ≡ unknown_triple)
-    (λ row. Shows (HasValueOn row text) one ⊎ Refuses text one)
-    → MatchOption row (other ≡ unknown_triple)
-    (λ row. Shows (HasValueOn row text) other ⊎ Refuses text other)
-    → one ≡ other
-same_on text one other None this that = this ∙ sym that
-same_on text one other (Some row) this that =
+same_value_or_fault : (text : List ℕ) (one other : Output) (row : TargetInfo Global)
+    → Shows (HasValueOn row text) one ⊎ Refuses text one
+    → Shows (HasValueOn row text) other ⊎ Refuses text other → one ≡ other
+same_value_or_fault text one other row this that =
     ⊎_elim (λ s. ⊎_elim
     (λ t. same_shown (HasValueOn row text) one other (same_value_on row text) s t)
     (λ r. absurd (refused_alone text other s.1.0 r)) that)
     (λ r. ⊎_elim (λ t. absurd (refused_alone text one t.1.0 r))
     (λ q. same_refusal text one other r q) that) this
+
+same_cases : (one other : Output) (test : Bool) (P Q P' Q' : Type 0) → (P → P' → one ≡ other)
+    → (Q → Q' → one ≡ other) → MatchBool test P Q → MatchBool test P' Q' → one ≡ other
+same_cases one other true P Q P' Q' on off this that = on this that
+same_cases one other false P Q P' Q' on off this that = off this that
+
+same_picks : {A : Type 0} (row : TargetInfo A) (input : List ℕ) (one other : Output)
+    → Picks row input one → Picks row input other → one ≡ other
+same_picks row input one other this that = same_cases one other (nat_lt input_limit (length input)) _ _ _ _
+    (λ t u. t ∙ sym u)
+    (λ t u. same_cases one other (is_utf8 input) _ _ _ _
+    (λ l m. same_lines row (map line_of (lines_of input)) one other l m) (λ n o. n ∙ sym o) t u)
+    this that
+
+-- what is written on a target, or where there is none
+same_on : (one other : Output) (On : TargetInfo Global → Output → Type 0)
+    → ((row : TargetInfo Global) → On row one → On row other → one ≡ other)
+    → (row : Option (TargetInfo Global))
+    → MatchOption row (one ≡ unknown_triple) (λ r. On r one)
+    → MatchOption row (other ≡ unknown_triple) (λ r. On r other) → one ≡ other
+same_on one other On same None this that = this ∙ sym that
+same_on one other On same (Some row) this that = same row this that
 
 same_list : (text : List ℕ) (one other : Output) → Lists text one → Lists text other
     → one ≡ other
@@ -119,15 +141,15 @@ same_list text one other this that =
     this.1 ∙ ap (λ (tree : Tree Question). record { bytes = lines (asked tree); status = 0 })
     (sym (same_tree (strip text) this.0 that.0)) ∙ sym that.1
 
--- a request has one output
-pub Prints-one : (request : Request) (one other : Output) → Prints request one
-    → Prints request other → one ≡ other
-Prints-one (Request.parse text) one other this that =
+-- a request has one output on an input
+pub Prints-one : (request : Request) (input : List ℕ) (one other : Output)
+    → Prints request input one → Prints request input other → one ≡ other
+Prints-one (Request.parse text) input one other this that =
     ⊎_elim (λ l. ⊎_elim (λ m. same_list text one other l m)
     (λ r. absurd (refused_alone text other l.0 r)) that)
     (λ r. ⊎_elim (λ m. absurd (refused_alone text one m.0 r))
     (λ q. same_refusal text one other r q) that) this
-Prints-one (Request.eval text flags) one other this that =
+Prints-one (Request.eval text flags) input one other this that =
     let alone = λ (shown : Output) (value : Option Bool) (has : HasValue text flags value)
     (refused : RefusesFirst (text ∷ map flag_text flags) shown).
     ⊎_elim (λ r. refused_alone text shown has.one r)
@@ -137,6 +159,11 @@ Prints-one (Request.eval text flags) one other this that =
     (λ r. absurd (alone other s.0 s.1 r)) that)
     (λ r. ⊎_elim (λ t. absurd (alone one t.0 t.1 r))
     (λ q. same_first (text ∷ map flag_text flags) one other r q) that) this
-Prints-one (Request.target triple text) one other this that =
-    same_on text one other (row_with {A = Global} triple builtin_rows) this that
-Prints-one Request.wrong_use one other this that = this ∙ sym that
+Prints-one (Request.target triple text) input one other this that =
+    same_on one other (λ row shown. Shows (HasValueOn row text) shown ⊎ Refuses text shown)
+    (same_value_or_fault text one other) (row_with {A = Global} triple builtin_rows) this that
+Prints-one (Request.pick triple) input one other this that =
+    same_on one other (λ row shown. Picks row input shown)
+    (λ row t u. same_picks row input one other t u) (row_with {A = Global} triple builtin_rows)
+    this that
+Prints-one Request.wrong_use input one other this that = this ∙ sym that

@@ -1,7 +1,9 @@
 -- Outputs by their parts.
-use Rattle.std.proofs.Common.{◌≡◌, ℕ, ◌<◌, Bool, List, [], ◌∷◌}
+use Rattle.std.proofs.Common.{◌≡◌, ℕ, ◌<◌, Bool, true, false, List, [], ◌∷◌}
 use Rattle.std.proofs.Common.{refl, ap, sym, subst, ◌∙◌, inl, inr, ⊎_elim, arith, Option, map}
-use Rattle.std.specs.Prelude.{Result, Ok, Err, Some, None, MatchOption, ◌⊎◌}
+use Rattle.std.specs.Prelude.{Result, Ok, Err, Some, None, MatchOption, ◌⊎◌, length, nat_lt}
+use Rattle.std.specs.Bool.{MatchBool}
+use Rattle.std.specs.Str.{is_utf8}
 use Rattle.std.specs.declared.alloc.Global.{Global}
 use Rattle.std.specs.List.{AllZip}
 use Rattle.cfgx_syntax.specs.declared.error.Failure.{Failure}
@@ -16,11 +18,19 @@ use Rattle.cfgx_grammar.specs.Grammar.{HasTree}
 use Rattle.cfgx_grammar.specs.Answer.{HasOneTree}
 use Rattle.cfgx_grammar.specs.Filling.{three_valued}
 use Rattle.cfgx_grammar.specs.Fold.{fold}
+use Rattle.cfgx_grammar.specs.Matching.{meets}
 use Rattle.cfgx_engine.specs.Answer.{AreFlags, GivesValue, ShowsResult}
 use Rattle.cfgx_engine.specs.Flags.{IsAnswer, flag_text, unknown_texts}
-use Rattle.cfgx_engine.specs.Output.{Output, Request, HasValue, HasValueOn, Shows, answer_on}
-use Rattle.cfgx_engine.specs.Output.{lines, unknown_triple, Lists, Prints, Refuses, RefusesFirst}
+use Rattle.cfgx_engine.specs.Output.{Output, HasValue, HasValueOn, Shows, answer_on}
+use Rattle.cfgx_engine.specs.Request.{Request}
+use Rattle.cfgx_engine.specs.Output.{lines, unknown_triple, Lists, Refuses, RefusesFirst}
+use Rattle.cfgx_engine.specs.Input.{input_limit}
+use Rattle.cfgx_engine.specs.Prints.{Picks, Prints}
+use Rattle.cfgx_engine.specs.Sections.{line_of, lines_of}
+use Rattle.cfgx_engine.proofs.SectionLemmas.{PrintsLines-status}
 use Rattle.cfgx_engine.specs.declared.engine.flags.Flags.{Flags}
+use Rattle.cfgx_engine.specs.declared.resolve.Verdict.{Verdict}
+use Rattle.cfgx_engine.specs.Verdicts.{IsVerdict, verdict_of}
 
 -- the one tree of a text is that of an equal one
 abbrev pub one_tree : (shown text : List ℕ) → shown ≡ text → HasOneTree shown → HasOneTree text
@@ -46,26 +56,25 @@ HasValue-flags text shown words flags one answers value is are answered value_is
   value_is = value_is;
 }
 
--- what a list of answers is, where each one is a function of its question
-pub map-AllZip : {X Y : Type 0} (f : X → Y) (xs : List X) (ys : List Y)
-    → AllZip (λ x y. y ≡ f x) xs ys → ys ≡ map f xs
-map-AllZip f [] [] each = refl
-map-AllZip f [] (y ∷ ys) each = absurd each
-map-AllZip f (x ∷ xs) [] each = absurd each
-map-AllZip f (x ∷ xs) (y ∷ ys) each =
-    let others = map-AllZip f xs ys each.1 in let first = each.0 in cc
+-- a verdict has one value
+verdict_of-injective : (one other : Option Bool) → verdict_of one ≡ verdict_of other → one ≡ other
+verdict_of-injective (Some true) (Some true) is = refl
+verdict_of-injective (Some true) (Some false) is = absurd cc
+verdict_of-injective (Some true) None is = absurd cc
+verdict_of-injective (Some false) (Some true) is = absurd cc
+verdict_of-injective (Some false) (Some false) is = refl
+verdict_of-injective (Some false) None is = absurd cc
+verdict_of-injective None (Some true) is = absurd cc
+verdict_of-injective None (Some false) is = absurd cc
+verdict_of-injective None None is = refl
 
--- the value over the answers of a target
-pub HasValueOn-row : {A : Type 0} (text shown : List ℕ) (row : TargetInfo A)
-    (one : HasOneTree shown) (answers : List (Option Bool)) (value : Option Bool)
-    → shown ≡ strip text → AllZip (λ question given. given ≡ answer_on row question)
-    (asked one.tree) answers
-    → value ≡ fold three_valued one.tree answers → HasValueOn row text value
-HasValueOn-row text shown row one answers value is answered value_is = (
-  one_tree shown (strip text) is one,
-  value_is
-      ∙ ap (fold three_valued one.tree)
-      (map-AllZip (answer_on row) (asked one.tree) answers answered),
+-- the value of a verdict is that over the answers of the target
+pub HasValueOn-verdict : {A : Type 0} (text shown : List ℕ) (row : TargetInfo A) (given : Verdict)
+    (value : Option Bool) → shown ≡ strip text → IsVerdict (meets row) shown given
+    → verdict_of value ≡ given → HasValueOn row text value
+HasValueOn-verdict text shown row given value is decided stands = (
+  one_tree shown (strip text) is decided.one,
+  verdict_of-injective value _ (stands ∙ decided.value_is),
 )
 
 -- an answer shows its value, or the fault that is in its place
@@ -116,15 +125,32 @@ target-status text shown (Some row) prints =
     ⊎_elim (λ s. Shows-status (HasValueOn row text) shown s) (λ r. Refuses-status text shown r)
     prints
 
--- no output has the status of a refused run
-pub Prints-status : (request : Request) (shown : Output) → Prints request shown
+cases-status : (shown : Output) (test : Bool) (P Q : Type 0) → (P → shown.status < 3)
+    → (Q → shown.status < 3) → MatchBool test P Q → shown.status < 3
+cases-status shown true P Q on off is = on is
+cases-status shown false P Q on off is = off is
+
+pick-status : (input : List ℕ) (shown : Output) (row : Option (TargetInfo Global))
+    → MatchOption row (shown ≡ unknown_triple) (λ row. Picks row input shown)
     → shown.status < 3
-Prints-status (Request.parse text) shown prints =
+pick-status input shown None is = omega (arith, ap (λ (o : Output). o.status) is)
+pick-status input shown (Some row) prints = cases-status shown (nat_lt input_limit (length input)) _ _
+    (λ is. omega (arith, ap (λ (o : Output). o.status) is))
+    (λ fits. cases-status shown (is_utf8 input) _ _
+    (λ lines. PrintsLines-status row (map line_of (lines_of input)) shown lines)
+    (λ is. omega (arith, ap (λ (o : Output). o.status) is)) fits) prints
+
+-- no output has the status of a refused run
+pub Prints-status : (request : Request) (input : List ℕ) (shown : Output)
+    → Prints request input shown → shown.status < 3
+Prints-status (Request.parse text) input shown prints =
     ⊎_elim (λ l. omega (arith, ap (λ (o : Output). o.status) l.1))
     (λ r. Refuses-status text shown r) prints
-Prints-status (Request.eval text flags) shown prints =
+Prints-status (Request.eval text flags) input shown prints =
     ⊎_elim (λ s. Shows-status (HasValue text flags) shown s)
     (λ r. RefusesFirst-status (text ∷ map flag_text flags) shown r) prints
-Prints-status (Request.target triple text) shown prints =
+Prints-status (Request.target triple text) input shown prints =
     target-status text shown (row_with {A = Global} triple builtin_rows) prints
-Prints-status Request.wrong_use shown is = omega (arith, ap (λ (o : Output). o.status) is)
+Prints-status (Request.pick triple) input shown prints =
+    pick-status input shown (row_with {A = Global} triple builtin_rows) prints
+Prints-status Request.wrong_use input shown is = omega (arith, ap (λ (o : Output). o.status) is)

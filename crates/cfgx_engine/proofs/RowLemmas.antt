@@ -1,7 +1,8 @@
 -- Rows of targets, whatever allocator their texts would be owned in.
-use Rattle.std.proofs.Common.{◌≡◌, ℕ, Bool, true, false, List, [], ◌∷◌, map, refl, ap, sym, subst}
+use Rattle.std.proofs.Common.{◌≡◌, ℕ, Bool, true, false, List, [], ◌∷◌, ◌++◌, map, refl, ap, sym, subst}
 use Rattle.std.proofs.Common.{◌∙◌, Option, Some, None, ⊎_elim, inl, inr}
 use Rattle.std.specs.Prelude.{option_map, if◌then◌else◌, ◌⊎◌, MatchOption}
+use Rattle.std.specs.List.{AllZip}
 use Rattle.std.specs.Str.{bytes_eq}
 use Rattle.std.specs.declared.alloc.Global.{Global}
 use Rattle.cfgx_targets.specs.Builtins.{builtin_rows}
@@ -12,7 +13,8 @@ use Rattle.cfgx_grammar.specs.Tree.{asked}
 use Rattle.cfgx_grammar.specs.Filling.{three_valued}
 use Rattle.cfgx_grammar.specs.Fold.{fold}
 use Rattle.cfgx_grammar.specs.Matching.{meets}
-use Rattle.cfgx_engine.specs.Output.{Output, Request, HasValueOn, Prints, Refuses, Shows}
+use Rattle.cfgx_engine.specs.Output.{Output, HasValueOn, Refuses, Shows}
+use Rattle.cfgx_engine.specs.Sections.{Line, PrintsLine, PrintsLines, verdict_lines}
 use Rattle.cfgx_engine.specs.Output.{answer_on, unknown_triple}
 
 -- the same target as one whose texts would be owned in `Global`
@@ -84,20 +86,52 @@ builtin-same : (A : Type 0) (triple : List ℕ)
     ≡ option_map (same_row {A = A}) (row_with {A = A} triple builtin_rows)
 builtin-same A triple = row_with-same {A = A} triple (builtin_rows {A = A})
 
-pub Prints-unknown : (A : Type 0) (triple text : List ℕ) (shown : Output)
-    → None ≡ row_with {A = A} triple builtin_rows → shown ≡ unknown_triple
-    → Prints (Request.target triple text) shown
-Prints-unknown A triple text shown missing is =
-    subst (λ (found : Option (TargetInfo Global)). MatchOption found (shown ≡ unknown_triple)
-    (λ row. Shows (HasValueOn row text) shown ⊎ Refuses text shown))
-    (ap (option_map (same_row {A = A})) missing ∙ sym (builtin-same A triple)) is
+-- what is written on a built-in row, whose texts no allocator owns, or where there is none
+module _ {A : Type 0} (triple : List ℕ) (shown : Output) where
+  pub on-none : (On : TargetInfo Global → Type 0)
+      → None ≡ row_with {A = A} triple builtin_rows → shown ≡ unknown_triple
+      → MatchOption (row_with {A = Global} triple builtin_rows) (shown ≡ unknown_triple) On
+  on-none On missing is = subst (λ (found : Option (TargetInfo Global)).
+      MatchOption found (shown ≡ unknown_triple) On)
+      (ap (option_map (same_row {A = A})) missing ∙ sym (builtin-same A triple)) is
 
-pub Prints-on : {A : Type 0} (triple text : List ℕ) (row : TargetInfo A) (shown : Output)
-    → Some row ≡ row_with {A = A} triple builtin_rows
+  pub on-some : (On : TargetInfo Global → Type 0) (row : TargetInfo A)
+      → Some row ≡ row_with {A = A} triple builtin_rows → On (same_row {A = A} row)
+      → MatchOption (row_with {A = Global} triple builtin_rows) (shown ≡ unknown_triple) On
+  on-some On row found holds = subst (λ (found : Option (TargetInfo Global)).
+      MatchOption found (shown ≡ unknown_triple) On)
+      (ap (option_map (same_row {A = A})) found ∙ sym (builtin-same A triple)) holds
+
+-- a value on a target is shown, or a fault
+pub Shows-same : {A : Type 0} (text : List ℕ) (row : TargetInfo A) (shown : Output)
     → Shows (HasValueOn row text) shown ⊎ Refuses text shown
-    → Prints (Request.target triple text) shown
-Prints-on {A = A} triple text row shown found prints =
-    subst (λ (found : Option (TargetInfo Global)). MatchOption found (shown ≡ unknown_triple)
-    (λ row. Shows (HasValueOn row text) shown ⊎ Refuses text shown))
-    (ap (option_map (same_row {A = A})) found ∙ sym (builtin-same A triple))
-    (⊎_elim (λ s. inl (s.0, HasValueOn-same row text s.0 s.1, s.2)) (λ r. inr r) prints)
+    → Shows (HasValueOn (same_row {A = A} row) text) shown ⊎ Refuses text shown
+Shows-same text row shown prints =
+    ⊎_elim (λ s. inl (s.0, HasValueOn-same row text s.0 s.1, s.2)) (λ r. inr r) prints
+
+-- what a line prints is the same
+PrintsLine-same : {A : Type 0} (row : TargetInfo A) (line : Line) (written : List ℕ)
+    → PrintsLine row line written → PrintsLine (same_row {A = A} row) line written
+PrintsLine-same row Line.empty written prints = prints
+PrintsLine-same row Line.undivided written prints = prints
+PrintsLine-same row (Line.section name condition) written prints = (
+  prints.0,
+  prints.1
+      ∙ ap (λ answers. name ++ verdict_lines prints.0.tree answers)
+      (answers-same row (asked prints.0.tree)),
+)
+
+each_line-same : {A : Type 0} (row : TargetInfo A) (lines : List Line)
+    (written : List (List ℕ)) → AllZip (PrintsLine row) lines written
+    → AllZip (PrintsLine (same_row {A = A} row)) lines written
+each_line-same row [] [] each = each
+each_line-same row [] (_ ∷ _) each = absurd each
+each_line-same row (_ ∷ _) [] each = absurd each
+each_line-same row (line ∷ lines) (text ∷ written) each =
+    (PrintsLine-same row line text each.0, each_line-same row lines written each.1)
+
+pub PrintsLines-same : {A : Type 0} (row : TargetInfo A) (lines : List Line) (shown : Output)
+    → PrintsLines row lines shown → PrintsLines (same_row {A = A} row) lines shown
+PrintsLines-same row lines shown prints =
+    ⊎_elim (λ all. inl (all.0, each_line-same row lines all.0 all.1, all.2)) (λ told. inr told)
+    prints

@@ -1,5 +1,7 @@
 -- What the engine's own types stand for.
-use Rattle.std.specs.Prelude.{◌≡◌, ℕ, List, [], ◌∷◌, ◌++◌, Bool, Option, Result, Ok, Err, map}
+use Rattle.std.specs.Prelude.{◌≡◌, ℕ, List, [], ◌∷◌, ◌++◌, Bool, Option, Result, Ok, Err, map, Some, None}
+use Rattle.std.specs.Bool.{MatchBool}
+use Rattle.std.specs.Str.{is_utf8}
 use Rattle.std.specs.Cow.{cow_slice_items}
 use Rattle.std.specs.List.{AllByRecursion}
 use Rattle.cfgx_syntax.specs.Stripping.{strip}
@@ -7,19 +9,29 @@ use Rattle.cfgx_syntax.specs.Error.{fault_of}
 use Rattle.cfgx_syntax.specs.declared.error.Failure.{Failure}
 use Rattle.cfgx_syntax.specs.declared.error.Failure.TheVariants as failure
 use Rattle.cfgx_grammar.specs.Answer.{HasOneTree}
+use Rattle.cfgx_grammar.specs.Tree.{asked}
 use Rattle.cfgx_engine.specs.Flags.{flag_text, known_texts, unknown_texts}
-use Rattle.cfgx_engine.specs.Output.{Output, Request, RefusesFirst, fault_output, texts}
-use Rattle.cfgx_engine.specs.Output.{value_output}
+use Rattle.cfgx_engine.specs.Output.{Output, RefusesFirst, answer_on, fault_output, value_output}
+use Rattle.cfgx_engine.specs.Prints.{not_utf8, too_long}
+use Rattle.cfgx_engine.specs.Request.{Request, texts}
+use Rattle.cfgx_engine.specs.Sections.{Line, PrintsLine, PrintsLines, TellsFault, line_of}
+use Rattle.cfgx_engine.specs.Sections.{lines_of, verdict_lines}
 use Rattle.cfgx_engine.specs.declared.engine.answer.Answer.{Answer}
-use Rattle.cfgx_engine.specs.declared.engine.answer.Command.{Command}
-use Rattle.cfgx_engine.specs.declared.engine.answer.Command.TheVariants as command
+use Rattle.cfgx_engine.specs.declared.engine.command.Command.{Command}
+use Rattle.cfgx_engine.specs.declared.engine.command.Command.TheVariants as command
 use Rattle.cfgx_engine.specs.declared.engine.flags.Flags.{Flags}
+use Rattle.cfgx_engine.specs.declared.engine.sections.Line.{Line as CodeLine}
+use Rattle.cfgx_engine.specs.declared.engine.sections.Line.TheVariants as line
+use Rattle.cfgx_engine.specs.declared.engine.reading.Input.{Input}
+use Rattle.cfgx_engine.specs.declared.engine.reading.Input.TheVariants as input
+use Rattle.cfgx_targets.specs.declared.info.TargetInfo.{TargetInfo}
 
 -- the request of a command, without where its texts lie in memory
 abbrev pub command_request : Command → Request
 command_request (command.Parse text) = Request.parse text.now
 command_request (command.Eval text flags) = Request.eval text.now (texts flags.now)
 command_request (command.Target triple text) = Request.target triple.now text.now
+command_request (command.Pick triple) = Request.pick triple.now
 command_request command.WrongUse = Request.wrong_use
 
 abbrev pub output_of : {A : Type 0} → Answer A → Output
@@ -62,3 +74,28 @@ pub record AreFlags {A : Type 0} (words : List (List ℕ)) (flags : Flags A) : T
 abbrev pub ReadsFlags : {A : Type 0} → List (List ℕ) → Result (Flags A) (Failure A) → Type 0
 ReadsFlags words (Ok flags) = AreFlags words flags
 ReadsFlags words (Err failed) = BlamesFirst (map flag_text words) failed
+
+-- what `pick` writes of an input that was read, where a target answers
+abbrev pub PicksFrom : {A B : Type 0} → TargetInfo A → Input B → Output → Type 0
+PicksFrom row (input.Bytes bytes) output =
+    MatchBool (is_utf8 bytes.items) (PrintsLines row (map line_of (lines_of bytes.items)) output)
+    (output ≡ not_utf8)
+PicksFrom row input.TooLong output = output ≡ too_long
+
+-- what a line says, without where its texts lie in memory
+abbrev pub line_view : CodeLine → Line
+line_view line.Empty = Line.empty
+line_view line.Undivided = Line.undivided
+line_view (line.Section name condition) = Line.section name.now condition.now
+
+-- the verdict on a condition is added, of which the target answers the predicates
+abbrev pub AddsVerdict : {A : Type 0} → TargetInfo A → List ℕ → List ℕ → List ℕ → Type 0
+AddsVerdict row condition old new = (one : HasOneTree condition)
+    × (new ≡ old ++ verdict_lines one.tree (map (answer_on row) (asked one.tree)))
+
+-- What the line with this number prints is added, or what tells of its fault is answered.
+abbrev pub AddsLine : {A B : Type 0} → TargetInfo A → ℕ → Line → List ℕ → List ℕ
+    → Option (Answer B) → Type 0
+AddsLine row number line old new None =
+    (written : List ℕ) × PrintsLine row line written × (new ≡ old ++ written)
+AddsLine row number line old new (Some told) = TellsFault number line (output_of told)

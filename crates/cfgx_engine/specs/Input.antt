@@ -14,8 +14,8 @@ abbrev pub input_limit : ℕ
 input_limit = 2 ^ 24
 
 -- how many calls of a source failed, of those that gave this answer
-abbrev pub stop_failures : {A : Type 0} → Result (Input A) Stop → ℕ
-stop_failures (Ok input) = 0
+abbrev pub stop_failures : {T : Type 0} → Result T Stop → ℕ
+stop_failures (Ok answer) = 0
 stop_failures (Err stop.Memory) = 0
 stop_failures (Err stop.Device) = 1
 
@@ -29,6 +29,11 @@ ReadsInput old new (Ok input.TooLong) = (front : List ℕ) × (length front ≡ 
     × Consumes old new front
 ReadsInput old new (Err stopped) = (front : List ℕ) × (length front ≤ input_limit)
     × Consumes old new front
+
+-- a beginning of the input was read, and stays read: one byte more than the limit at most
+abbrev pub ReadsFront : Option (List ℕ) → Option (List ℕ) → Type 0
+ReadsFront old new =
+    (front : List ℕ) × (length front ≤ input_limit + 1) × Consumes old new front
 
 -- How far the reading has come.
 

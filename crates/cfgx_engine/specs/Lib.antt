@@ -2,5 +2,8 @@ pub mod Answer
 pub mod Flags
 pub mod Input
 pub mod Output
+pub mod Prints
+pub mod Request
+pub mod Sections
 pub mod Streams
 pub mod Verdicts

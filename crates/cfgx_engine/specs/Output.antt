@@ -1,17 +1,11 @@
--- What the program cfgx writes, and the status that it ends with, by cases on what it is asked.
+-- What the commands on texts write, and the status that the program then ends with.
 -- Source of the rules: docs/RULES.md. Those of the crate cfg-expr stand behind what a predicate, a
 -- value and a fault are.
 use Rattle.std.specs.Prelude.{◌≡◌, ℕ, Bool, true, false, List, [], ◌∷◌, ◌++◌, codes, map, ◌⊎◌}
-use Rattle.std.specs.Prelude.{Option, Some, None, MatchOption, if◌then◌else◌}
-use Rattle.std.specs.Borrow.{Bor}
+use Rattle.std.specs.Prelude.{Option, Some, None}
 use Rattle.std.specs.List.{AllByRecursion, AllZip, flat_map}
-use Rattle.std.specs.Str.{bytes_eq}
-use Rattle.std.specs.Io.KnownBytes.{Appends}
-use Rattle.std.specs.declared.alloc.Global.{Global}
 use Rattle.cfgx_syntax.specs.Stripping.{strip}
 use Rattle.cfgx_syntax.specs.Error.{Fault, Refusal, fault_in, error_text}
-use Rattle.cfgx_targets.specs.Builtins.{builtin_rows}
-use Rattle.cfgx_targets.specs.Table.{row_with}
 use Rattle.cfgx_targets.specs.declared.info.TargetInfo.{TargetInfo}
 use Rattle.cfgx_grammar.specs.Question.{Question}
 use Rattle.cfgx_grammar.specs.Tree.{asked}
@@ -21,45 +15,7 @@ use Rattle.cfgx_grammar.specs.Fold.{fold}
 use Rattle.cfgx_grammar.specs.Matching.{meets}
 use Rattle.cfgx_grammar.specs.Spelling.{spelling}
 use Rattle.cfgx_engine.specs.Flags.{IsAnswer, flag_text, known_texts, unknown_texts}
-use Rattle.cfgx_engine.specs.Streams.{TakesFront}
-
--- what the words behind the program's name ask for
-pub data Request : Type 0 where
-  -- the predicates of a text
-  parse : List ℕ → Request
-  -- the value of a text, where flags say which predicates are true and which are unknown
-  eval : List ℕ → List (List ℕ) → Request
-  -- the value of a text on the target with a triple
-  target : List ℕ → List ℕ → Request
-  -- no word, no command, or another number of words than the command has
-  wrong_use : Request
-
--- the words as texts
-abbrev pub texts : List (Bor (List ℕ)) → List (List ℕ)
-texts words = map (λ word. word.now) words
-
--- `parse` and these words
-abbrev pub parse_request : List (List ℕ) → Request
-parse_request (text ∷ []) = Request.parse text
-parse_request words = Request.wrong_use
-
--- `eval` and these words
-abbrev pub eval_request : List (List ℕ) → Request
-eval_request [] = Request.wrong_use
-eval_request (text ∷ flags) = Request.eval text flags
-
--- `target` and these words
-abbrev pub target_request : List (List ℕ) → Request
-target_request (triple ∷ text ∷ []) = Request.target triple text
-target_request words = Request.wrong_use
-
-abbrev pub request_of : List (List ℕ) → Request
-request_of [] = Request.wrong_use
-request_of (name ∷ words) =
-    if bytes_eq name (codes "parse") then parse_request words
-    else if bytes_eq name (codes "eval") then eval_request words
-    else if bytes_eq name (codes "target") then target_request words
-    else Request.wrong_use
+use Rattle.cfgx_engine.specs.Verdicts.{answer_by}
 
 -- what a run writes where memory is found and no call fails, and the status that it then ends with
 pub record Output : Type 0 where
@@ -122,8 +78,7 @@ pub record HasValue (text : List ℕ) (flags : List (List ℕ)) (value : Option 
 
 -- what a target answers: whether it meets a predicate on the target, and nothing of the others
 abbrev pub answer_on : {A : Type 0} → TargetInfo A → Question → Option Bool
-answer_on row (Question.target question) = Some (meets row question)
-answer_on row question = None
+answer_on row = answer_by (meets row)
 
 -- the value of the one tree of the text, where the target answers its predicates
 abbrev pub HasValueOn : {A : Type 0} → TargetInfo A → List ℕ → Option Bool → Type 0
@@ -133,24 +88,3 @@ HasValueOn row text value = (one : HasOneTree (strip text))
 -- a value of which this holds is written
 abbrev pub Shows : (Option Bool → Type 0) → Output → Type 0
 Shows IsValue output = (value : Option Bool) × IsValue value × (output ≡ value_output value)
-
--- this is an output of the request
-abbrev pub Prints : Request → Output → Type 0
-Prints (Request.parse text) output = Lists text output ⊎ Refuses text output
-Prints (Request.eval text flags) output =
-    Shows (HasValue text flags) output ⊎ RefusesFirst (text ∷ map flag_text flags) output
-Prints (Request.target triple text) output =
-    MatchOption (row_with {A = Global} triple builtin_rows) (output ≡ unknown_triple)
-    (λ row. Shows (HasValueOn row text) output ⊎ Refuses text output)
-Prints Request.wrong_use output = output ≡ usage
-
--- a sink has taken an output of the request with this status, whole; it says nothing of the bytes
--- of a sink that does not tell them
-abbrev pub WritesWhole : Request → ℕ → Option (List ℕ) → Option (List ℕ) → Type 0
-WritesWhole request status old new = (output : Output) × Prints request output
-    × (output.status ≡ status) × Appends old new output.bytes
-
--- a sink has taken a beginning of an output of the request, perhaps all or nothing of it
-abbrev pub WritesFront : Request → Option (List ℕ) → Option (List ℕ) → Type 0
-WritesFront request old new = (output : Output) × Prints request output
-    × TakesFront old new output.bytes

@@ -2,14 +2,18 @@
 ghost use Rattle.std.specs.Prelude.{◌≡◌, ◌≢◌, ◌+◌, ◌<◌, ◌≤◌, ◌⊎◌};
 ghost use Rattle.std.specs.Io.KnownBytes.{Appends};
 ghost use Rattle.std.specs.Cow.{cow_slice_items};
-ghost use Rattle.cfgx_engine.specs.Output.{request_of, texts, Request, WritesFront, WritesWhole};
+ghost use Rattle.cfgx_engine.specs.Input.{ReadsFront};
+ghost use Rattle.cfgx_engine.specs.Prints.{Reads, WritesFront, WritesWhole};
+ghost use Rattle.cfgx_engine.specs.Request.{request_of, texts, Request};
 ghost use Rattle.cfgx_engine.specs.Streams.{TakesFront};
 
 mod answer;
+mod command;
 mod flags;
 pub mod laws;
 mod listing;
 mod reading;
+mod sections;
 pub mod streams;
 mod target;
 
@@ -40,23 +44,30 @@ pub fn run<A: SmallAllocator, R: Source, W: Sink>(
     requires writer { W.failures writer.old < u64.MAX }
 
     // Any other status than 3: the whole output was written, and no call failed.
-    ensures done { result ≢ 3 → WritesWhole (request_of (texts words.now)) result
-        (W.written writer.old) (W.written writer.new) }
-    ensures done_count { result ≢ 3 → W.failures writer.new ≡ W.failures writer.old }
+    ensures done { result ≢ 3 → WritesWhole (request_of (texts words.now)) (R.unread reader.old)
+        result (W.written writer.old) (W.written writer.new) }
+    ensures done_count { result ≢ 3 → (W.failures writer.new ≡ W.failures writer.old)
+        × (R.failures reader.new ≡ R.failures reader.old) }
 
-    // Status 3: either nothing was written, or one call failed and a beginning of the output was.
-    ensures refused { result ≡ 3 → (writer.new ≡ writer.old)
+    // Status 3: either nothing was written, or one call of the writer failed and a beginning of the
+    // output was.
+    ensures refused { result ≡ 3 → ((writer.new ≡ writer.old)
+        × (R.failures reader.new ≤ R.failures reader.old + 1))
         ⊎ ((W.failures writer.new ≡ W.failures writer.old + 1)
-        × WritesFront (request_of (texts words.now))
+        × (R.failures reader.new ≡ R.failures reader.old)
+        × WritesFront (request_of (texts words.now)) (R.unread reader.old)
         (W.written writer.old) (W.written writer.new)) }
 
     // Wrong use meets no want of memory.
     ensures wrong_use { request_of (texts words.now) ≡ Request.wrong_use → result ≡ 3
         → W.failures writer.new ≡ W.failures writer.old + 1 }
-    ensures reader { reader.new ≡ reader.old }
+
+    // Only a request that reads its input reads, and what it read stays read.
+    ensures reader { ¬ Reads (request_of (texts words.now)) → reader.new ≡ reader.old }
+    ensures front { ReadsFront (R.unread reader.old) (R.unread reader.new) }
     ensures status { result ≤ 3 }
 {
-    match answer_to(alloc, words) {
+    match answer_to(alloc, words, reader) {
         Ok(answer) => write_answer(writer, &answer),
         Err(_) => REFUSED,
     }

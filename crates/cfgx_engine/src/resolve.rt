@@ -12,13 +12,23 @@ use cfg_expr::{Expression, Predicate};
 use std::alloc::{AllocError, Allocator, Global};
 
 /// A section, which is taken where its condition is true.
-#[derive(Drop)]
 #[derive_where(Debug)]
-pub struct Section<A: Allocator = Global> {
+pub struct Section<A: SmallAllocator = Global> {
     /// Its name
     pub name: String<A>,
     /// What it is taken under
     pub condition: Expression<A>,
+}
+
+// In place of a derive, as for the flags of `eval`: an expression may be dropped only if its
+// allocator is known to be small.
+impl<A: SmallAllocator> Drop for Section<A> {
+    fn drop(self) {
+        let Section {
+            name: _name,
+            condition: _condition,
+        } = self;
+    }
 }
 
 /// Whether a section is taken.
@@ -34,7 +44,7 @@ pub enum Verdict {
 
 /// What a matcher answers to a predicate. Of predicates that are not on the target it knows
 /// nothing.
-fn answer_by<M: TargetMatcher, A: Allocator>(
+pub(crate) fn answer_by<M: TargetMatcher, A: Allocator>(
     matcher: &M,
     predicate: &Predicate<'_, A>,
 ) -> Option<bool>
@@ -72,8 +82,8 @@ fn value_by<A: SmallAllocator, M: TargetMatcher>(
     )
 }
 
-/// The verdict on a condition.
-fn verdict_on<A: SmallAllocator, M: TargetMatcher>(
+/// The verdict on a condition: that of `pick` on a section with it.
+pub(crate) fn verdict_on<A: SmallAllocator, M: TargetMatcher>(
     alloc: A,
     condition: &Expression<A>,
     matcher: &M,

@@ -1,18 +1,23 @@
 // What a run of the program writes, made in memory whole.
 
-ghost use Rattle.std.specs.Prelude.{◌≡◌, IfOk, IsOk};
-ghost use Rattle.cfgx_engine.specs.Output.{request_of, texts, Prints, Request};
-ghost use Rattle.cfgx_engine.specs.Output.{eval_request, parse_request, target_request};
+ghost use Rattle.std.specs.Prelude.{◌≡◌, ◌+◌, ◌<◌, [], IfOk, IsOk, string_bytes};
+ghost use Rattle.cfgx_engine.specs.Answer.{output_of, PicksFrom, ShowsFailure, ShowsResult};
+ghost use Rattle.cfgx_engine.specs.Input.{stop_failures, ReadsFront};
 ghost use Rattle.cfgx_engine.specs.Output.{text_line, value_text};
-ghost use Rattle.cfgx_engine.specs.Answer.{command_request, output_of, ShowsFailure, ShowsResult};
+ghost use Rattle.cfgx_engine.specs.Prints.{Prints, PrintsInput, Reads};
+ghost use Rattle.cfgx_engine.specs.Request.{request_of, texts, Request};
 
+use super::command::{Command, command_of};
 use super::flags::value_of;
 use super::listing::lines;
+use super::reading::{Input, Stop, read_input};
+use super::sections::sections_answer;
+use super::streams::Source;
 use super::target::value_on;
 use cfg_expr::Expression;
 use cfg_expr::error::Failure;
 use cfg_expr::memory::SmallAllocator;
-use cfg_expr::targets::{TargetTable, get_builtin_target_by_triple};
+use cfg_expr::targets::{TargetInfo, TargetTable, get_builtin_target_by_triple};
 use std::alloc::{AllocError, Allocator};
 use std::borrow::CowSlice;
 
@@ -20,6 +25,10 @@ const USAGE: &str =
     "usage: cfgx parse TEXT | eval TEXT FLAG.. | target TRIPLE TEXT | pick TRIPLE\n";
 
 const UNKNOWN_TRIPLE: &str = "unknown triple\n";
+
+const TOO_LONG: &str = "input too long\n";
+
+const NOT_UTF8: &str = "input is not UTF-8\n";
 
 const DONE: u8 = 0;
 
@@ -45,87 +54,58 @@ impl<A: Allocator> Answer<A> {
             status,
         }
     }
-}
 
-/// What the words ask for.
-#[derive(Clone, Copy)]
-enum Command<'a> {
-    Parse(&'a str),
-    Eval(&'a str, &'a [&'a str]),
-    Target(&'a str, &'a str),
-    WrongUse,
-}
+    /// What a command prints that finds no fault.
+    pub(super) fn done(bytes: Vec<u8, A>) -> Self
+        ensures { output_of result ≡ record { bytes = bytes.items; status = 0 } }
+    {
+        Answer {
+            bytes: CowSlice::Owned(bytes),
+            status: DONE,
+        }
+    }
 
-/// The command of the words.
-fn command_of<'a>(words: &'a [&'a str]) -> Command<'a>
-    ensures { command_request result ≡ request_of (texts words.now) }
-{
-    let Some((name, words)) = words.split_first() else {
-        return Command::WrongUse;
-    };
-    match *name {
-        "parse" => parse_command(words),
-        "eval" => eval_command(words),
-        "target" => target_command(words),
-        _ => Command::WrongUse,
+    /// What tells of a fault.
+    pub(super) fn faulty(text: String<A>) -> Self
+        ensures { output_of result ≡ record { bytes = string_bytes text; status = 1 } }
+    {
+        Answer {
+            bytes: CowSlice::Owned(text.into_bytes()),
+            status: FAULTY,
+        }
     }
 }
 
-/// The command of the words behind `parse`.
-fn parse_command<'a>(words: &'a [&'a str]) -> Command<'a>
-    ensures { command_request result ≡ parse_request (texts words.now) }
-{
-    match words {
-        [text] => Command::Parse(text),
-        _ => Command::WrongUse,
-    }
-}
-
-/// The command of the words behind `eval`.
-fn eval_command<'a>(words: &'a [&'a str]) -> Command<'a>
-    ensures { command_request result ≡ eval_request (texts words.now) }
-{
-    match words.split_first() {
-        Some((text, flags)) => Command::Eval(text, flags),
-        None => Command::WrongUse,
-    }
-}
-
-/// The command of the words behind `target`.
-fn target_command<'a>(words: &'a [&'a str]) -> Command<'a>
-    ensures { command_request result ≡ target_request (texts words.now) }
-{
-    match words {
-        [triple, text] => Command::Target(triple, text),
-        _ => Command::WrongUse,
-    }
-}
-
-/// The answer to the words. Wrong use takes no memory.
-pub(super) fn answer_to<A: SmallAllocator>(
+/// The answer to the words. `pick` alone reads, and that if the table has its triple. Wrong use
+/// takes no memory.
+pub(super) fn answer_to<A: SmallAllocator, R: Source>(
     alloc: A,
     words: &[&str],
-) -> Result<Answer<A>, AllocError>
-    ensures right { IfOk result (λ a. Prints (request_of (texts words.now)) (output_of a)) }
+    reader: &mut R,
+) -> Result<Answer<A>, Stop>
+    requires { R.failures reader.old < u64.MAX }
+    ensures right { IfOk result (λ a.
+        PrintsInput (request_of (texts words.now)) (R.unread reader.old) (output_of a)) }
     ensures wrong_use { request_of (texts words.now) ≡ Request.wrong_use → IsOk result }
+    ensures count { R.failures reader.new ≡ R.failures reader.old + stop_failures result }
+    ensures front { ReadsFront (R.unread reader.old) (R.unread reader.new) }
+    ensures others { ¬ Reads (request_of (texts words.now)) → reader.new ≡ reader.old }
 {
     match command_of(words) {
-        Command::Parse(text) => parse_answer(alloc, text),
-        Command::Eval(text, flags) => value_answer(alloc, value_of(alloc, text, flags)),
-        Command::Target(triple, text) => target_answer(alloc, triple, text),
+        Command::Parse(text) => Ok(parse_answer(alloc, text)?),
+        Command::Eval(text, flags) => Ok(value_answer(alloc, value_of(alloc, text, flags))?),
+        Command::Target(triple, text) => Ok(target_answer(alloc, triple, text)?),
+        Command::Pick(triple) => pick_answer(alloc, triple, reader),
         Command::WrongUse => Ok(Answer::constant(USAGE, NOT_KNOWN)),
     }
 }
 
 /// The predicates of the text, or its fault.
 fn parse_answer<A: SmallAllocator>(alloc: A, text: &str) -> Result<Answer<A>, AllocError>
-    ensures { IfOk result (λ a. Prints (Request.parse text.now) (output_of a)) }
+    ensures { IfOk result (λ a. Prints (Request.parse text.now) [] (output_of a)) }
 {
     match Expression::parse(alloc, text) {
-        Ok(expression) => Ok(Answer {
-            bytes: CowSlice::Owned(lines(alloc, expression.predicates())?),
-            status: DONE,
-        }),
+        Ok(expression) => Ok(Answer::done(lines(alloc, expression.predicates())?)),
         Err(failure) => fault_answer(alloc, failure),
     }
 }
@@ -137,12 +117,50 @@ fn target_answer<A: SmallAllocator>(
     triple: &str,
     text: &str,
 ) -> Result<Answer<A>, AllocError>
-    ensures { IfOk result (λ a. Prints (Request.target triple.now text.now) (output_of a)) }
+    ensures { IfOk result (λ a. Prints (Request.target triple.now text.now) [] (output_of a)) }
 {
     let table = TargetTable::builtins(alloc)?;
     match get_builtin_target_by_triple(&table, triple) {
         Some(row) => value_answer(alloc, value_on(alloc, row, text)),
         None => Ok(Answer::constant(UNKNOWN_TRIPLE, NOT_KNOWN)),
+    }
+}
+
+/// The verdicts of the target with the triple on the sections of the input, which is read only if
+/// the table has such a target.
+fn pick_answer<A: SmallAllocator, R: Source>(
+    alloc: A,
+    triple: &str,
+    reader: &mut R,
+) -> Result<Answer<A>, Stop>
+    requires { R.failures reader.old < u64.MAX }
+    ensures right { IfOk result (λ a.
+        PrintsInput (Request.pick triple.now) (R.unread reader.old) (output_of a)) }
+    ensures count { R.failures reader.new ≡ R.failures reader.old + stop_failures result }
+    ensures front { ReadsFront (R.unread reader.old) (R.unread reader.new) }
+    ensures others { ¬ Reads (Request.pick triple.now) → reader.new ≡ reader.old }
+{
+    let table = TargetTable::builtins(alloc)?;
+    match get_builtin_target_by_triple(&table, triple) {
+        Some(row) => Ok(input_answer(alloc, row, read_input(alloc, reader)?)?),
+        None => Ok(Answer::constant(UNKNOWN_TRIPLE, NOT_KNOWN)),
+    }
+}
+
+/// The verdicts of the target on the sections of an input that was read.
+fn input_answer<A: SmallAllocator>(
+    alloc: A,
+    row: &TargetInfo<'_, A>,
+    input: Input<A>,
+) -> Result<Answer<A>, AllocError>
+    ensures { IfOk result (λ a. PicksFrom row.now input (output_of a)) }
+{
+    match input {
+        Input::Bytes(bytes) => match str::from_utf8(bytes.as_slice()) {
+            Ok(text) => sections_answer(alloc, row, text),
+            Err(_) => Ok(Answer::constant(NOT_UTF8, FAULTY)),
+        },
+        Input::TooLong => Ok(Answer::constant(TOO_LONG, FAULTY)),
     }
 }
 
@@ -175,10 +193,7 @@ fn fault_answer<A: Allocator>(alloc: A, failure: Failure<A>) -> Result<Answer<A>
     ensures { IfOk result (λ a. ShowsFailure failure (output_of a)) }
 {
     match failure {
-        Failure::Parse(error) => Ok(Answer {
-            bytes: CowSlice::Owned(format!(in alloc; "{error}\n")?.into_bytes()),
-            status: FAULTY,
-        }),
+        Failure::Parse(error) => Ok(Answer::faulty(format!(in alloc; "{error}\n")?)),
         Failure::Memory(error) => Err(error),
     }
 }

@@ -6,7 +6,8 @@ ghost use Rattle.cfgx_parser.specs.Predicate.{question_of};
 ghost use Rattle.cfgx_syntax.specs.Stripping.{strip};
 ghost use Rattle.cfgx_engine.specs.Answer.{AddsFlag, BlamesFirst, GivesValue, ReadsFlags};
 ghost use Rattle.cfgx_engine.specs.Flags.{flag_text, IsAnswer, IsNamed, Names};
-ghost use Rattle.cfgx_engine.specs.Output.{texts, HasValue};
+ghost use Rattle.cfgx_engine.specs.Request.{texts};
+ghost use Rattle.cfgx_engine.specs.Output.{HasValue};
 
 use cfg_expr::error::Failure;
 use cfg_expr::memory::SmallAllocator;

@@ -1,10 +1,13 @@
 //! What the output of a request is: the function's clause is the law. Its body does nothing, and a
 //! caller that calls it knows the law.
-ghost use Rattle.std.specs.Prelude.{◌≡◌};
-ghost use Rattle.cfgx_engine.specs.Output.{Output, Prints, Request};
+ghost use Rattle.std.specs.Prelude.{◌≡◌, List, ℕ};
+ghost use Rattle.cfgx_engine.specs.Output.{Output};
+ghost use Rattle.cfgx_engine.specs.Prints.{Prints};
+ghost use Rattle.cfgx_engine.specs.Request.{Request};
 
-/// A request has one output at most: the words alone decide what is written.
+/// A request has one output at most on an input: the words and the input alone decide what is
+/// written.
 pub fn has_one_output()
-    ensures { (request : Request) (one other : Output) → Prints request one
-        → Prints request other → one ≡ other }
+    ensures { (request : Request) (input : List ℕ) (one other : Output)
+        → Prints request input one → Prints request input other → one ≡ other }
 {}

@@ -6,7 +6,7 @@ ghost use Rattle.cfgx_engine.specs.Input.{IsRoom, ReadsInput, ReadsMore};
 ghost use Rattle.cfgx_engine.specs.Input.{input_limit, stop_failures};
 
 use super::streams::Source;
-use std::alloc::{Allocator, Global};
+use std::alloc::{AllocError, Allocator, Global};
 
 /// The most bytes that an input may have: 16 MiB.
 const LIMIT: usize = 16_777_216;
@@ -30,6 +30,16 @@ pub enum Stop {
     Memory,
     /// A call of the source failed
     Device,
+}
+
+impl From<AllocError> for Stop {
+    ghost use Rattle.cfgx_engine.specs.declared.engine.reading.Stop.TheVariants.{Memory};
+
+    ghost from_gives = { λ _ stop. stop ≡ Memory };
+
+    fn from(_error: AllocError) -> Stop {
+        Stop::Memory
+    }
 }
 
 /// Makes room after the bytes that were read, twice as much as there is, if none is left. It

@@ -1,23 +1,24 @@
-// The value of a text on a target.
+// The value of a text on a target, by the verdict on it.
 
 ghost use Rattle.std.specs.Prelude.{◌≡◌, ◌∷◌, []};
-ghost use Rattle.cfgx_parser.specs.Predicate.{question_of};
 ghost use Rattle.cfgx_engine.specs.Answer.{GivesValue};
-ghost use Rattle.cfgx_engine.specs.Output.{answer_on, HasValueOn};
+ghost use Rattle.cfgx_engine.specs.Output.{HasValueOn};
+ghost use Rattle.cfgx_engine.specs.Verdicts.{verdict_of};
 
+use crate::resolve::{Verdict, verdict_on};
+use cfg_expr::Expression;
 use cfg_expr::error::Failure;
 use cfg_expr::memory::SmallAllocator;
 use cfg_expr::targets::TargetInfo;
-use cfg_expr::{Expression, Predicate};
-use std::alloc::Allocator;
 
-/// What the target answers: whether it meets a predicate on the target. Of others it knows nothing.
-fn answer_on<A: Allocator>(row: &TargetInfo<'_, A>, predicate: &Predicate<'_>) -> Option<bool>
-    ensures { result ≡ answer_on row.now (question_of predicate.now) }
+/// The value that a verdict stands for.
+fn value_of(verdict: Verdict) -> Option<bool>
+    ensures { verdict_of result ≡ verdict }
 {
-    match predicate {
-        Predicate::Target(target) => Some(target.matches(row)),
-        _ => None,
+    match verdict {
+        Verdict::Yes => Some(true),
+        Verdict::No => Some(false),
+        Verdict::Unknown => None,
     }
 }
 
@@ -29,7 +30,6 @@ pub(super) fn value_on<A: SmallAllocator>(
 ) -> Result<Option<bool>, Failure<A>>
     ensures { GivesValue (HasValueOn row.now text.now) (text.now ∷ []) result }
 {
-    let expression = Expression::parse(alloc, text)?;
-    let mut answer = |predicate: &Predicate<'_>| answer_on(row, predicate);
-    Ok(expression.eval(alloc, &mut answer)?)
+    let condition = Expression::parse(alloc, text)?;
+    Ok(value_of(verdict_on(alloc, &condition, row)?))
 }

@@ -3,7 +3,7 @@ use Rattle.std.proofs.Common.{◌≡◌, refl, rules, subst}
 use Rattle.cfg_expr.proofs.Chains.{Calls-AllZip}
 use Rattle.cfgx_parser.specs.Predicate.{question_of}
 use Rattle.cfgx_engine.specs.Flags.{IsAnswer}
-use Rattle.cfgx_engine.specs.Output.{texts}
+use Rattle.cfgx_engine.specs.Request.{texts}
 use Rattle.cfgx_engine.specs.declared.engine.flags.Flags.{Flags}
 use Rattle.cfgx_engine.proofs.OutputLemmas.{HasValue-flags}
 use Rattle.cfgx_engine.proofs.engine.flags.value_of.Goals as goal

@@ -3,7 +3,7 @@ use Rattle.std.proofs.lemmas.List.{length-map, take_all}
 use Rattle.std.proofs.lemmas.Result.{err_from_is_err_and}
 use Rattle.cfgx_engine.specs.Answer.{AreFlags, BlamesFirst}
 use Rattle.cfgx_engine.specs.Flags.{flag_text}
-use Rattle.cfgx_engine.specs.Output.{texts}
+use Rattle.cfgx_engine.specs.Request.{texts}
 use Rattle.cfgx_engine.proofs.FlagLemmas.{AreFlags-more, BlamesFirst-later}
 use Rattle.cfgx_engine.proofs.FlagLemmas.{take-texts, texts-around}
 use Rattle.cfgx_engine.proofs.engine.flags.Flags.parse.Goals as goal

@@ -1,0 +1,51 @@
+-- What the words behind the program's name ask for.
+-- Source of the rules: docs/RULES.md.
+use Rattle.std.specs.Prelude.{ℕ, List, [], ◌∷◌, codes, map, if◌then◌else◌}
+use Rattle.std.specs.Borrow.{Bor}
+use Rattle.std.specs.Str.{bytes_eq}
+
+-- what the words behind the program's name ask for
+pub data Request : Type 0 where
+  -- the predicates of a text
+  parse : List ℕ → Request
+  -- the value of a text, where flags say which predicates are true and which are unknown
+  eval : List ℕ → List (List ℕ) → Request
+  -- the value of a text on the target with a triple
+  target : List ℕ → List ℕ → Request
+  -- the verdicts, by the target with a triple, on the sections of the input
+  pick : List ℕ → Request
+  -- no word, no command, or another number of words than the command has
+  wrong_use : Request
+
+-- the words as texts
+abbrev pub texts : List (Bor (List ℕ)) → List (List ℕ)
+texts words = map (λ word. word.now) words
+
+-- `parse` and these words
+abbrev pub parse_request : List (List ℕ) → Request
+parse_request (text ∷ []) = Request.parse text
+parse_request words = Request.wrong_use
+
+-- `eval` and these words
+abbrev pub eval_request : List (List ℕ) → Request
+eval_request [] = Request.wrong_use
+eval_request (text ∷ flags) = Request.eval text flags
+
+-- `target` and these words
+abbrev pub target_request : List (List ℕ) → Request
+target_request (triple ∷ text ∷ []) = Request.target triple text
+target_request words = Request.wrong_use
+
+-- `pick` and these words
+abbrev pub pick_request : List (List ℕ) → Request
+pick_request (triple ∷ []) = Request.pick triple
+pick_request words = Request.wrong_use
+
+abbrev pub request_of : List (List ℕ) → Request
+request_of [] = Request.wrong_use
+request_of (name ∷ words) =
+    if bytes_eq name (codes "parse") then parse_request words
+    else if bytes_eq name (codes "eval") then eval_request words
+    else if bytes_eq name (codes "target") then target_request words
+    else if bytes_eq name (codes "pick") then pick_request words
+    else Request.wrong_use

@@ -1,0 +1,187 @@
+// The sections of an input, a line each, and what the verdicts on them print.
+
+ghost use Rattle.std.specs.Prelude.{◌≡◌, ◌≤◌, ◌++◌, IfOk, OnOk, codes, length, map};
+ghost use Rattle.std.specs.Str.Lines.{strip_carriage_return};
+ghost use Rattle.cfgx_grammar.specs.Answer.{HasOneTree};
+ghost use Rattle.cfgx_grammar.specs.Matching.{meets};
+ghost use Rattle.cfgx_grammar.specs.Tree.{asked};
+ghost use Rattle.cfgx_engine.specs.Answer.{output_of, AddsLine, AddsVerdict, line_view};
+ghost use Rattle.cfgx_engine.specs.Input.{input_limit};
+ghost use Rattle.cfgx_engine.specs.Output.{answer_on};
+ghost use Rattle.cfgx_engine.specs.Sections.{digits, line_of, lines_of, PrintsLines};
+ghost use Rattle.cfgx_engine.specs.Verdicts.{IsVerdict};
+
+use super::answer::Answer;
+use crate::resolve::{Verdict, answer_by, verdict_on};
+use cfg_expr::Expression;
+use cfg_expr::error::Failure;
+use cfg_expr::expr::Predicates;
+use cfg_expr::memory::SmallAllocator;
+use cfg_expr::targets::TargetInfo;
+use std::alloc::{AllocError, Allocator};
+
+/// What a line says.
+#[derive(Clone, Copy)]
+enum Line<'a> {
+    Empty,
+    /// It has no tab
+    Undivided,
+    Section {
+        name: &'a str,
+        condition: &'a str,
+    },
+}
+
+/// What the text of a line says, which may end with a carriage return.
+fn read_line(text: &str) -> Line<'_>
+    ensures { line_view result ≡ line_of (strip_carriage_return text.now) }
+{
+    let text = text.strip_suffix('\r').unwrap_or(text);
+    if text.is_empty() {
+        return Line::Empty;
+    }
+    match text.split_once('\t') {
+        Some((name, condition)) => Line::Section { name, condition },
+        None => Line::Undivided,
+    }
+}
+
+/// What a target answers to each predicate.
+fn answers_on<A: SmallAllocator>(
+    alloc: A,
+    row: &TargetInfo<'_, A>,
+    predicates: Predicates<'_>,
+) -> Result<Vec<Option<bool>, A>, AllocError>
+    ensures { IfOk result (λ answers. answers.items ≡ map (answer_on row.now) predicates.entry) }
+{
+    let mut answers = Vec::with_capacity(alloc, predicates.left())?;
+    for predicate in predicates {
+        answers.push(answer_by(row, &predicate))?;
+    }
+    Ok(answers)
+}
+
+/// Adds a digit for each occurrence.
+fn push_digits<A: Allocator>(written: &mut Vec<u8, A>, filling: &[bool]) -> Result<(), AllocError>
+    ensures { OnOk result (written.new.items ≡ written.old.items ++ digits filling.now) }
+{
+    for filled in filling {
+        written.push(if *filled { b'1' } else { b'0' })?;
+    }
+    Ok(())
+}
+
+/// Adds a filling in a line of its own, behind a text.
+fn push_filling<A: Allocator>(
+    written: &mut Vec<u8, A>,
+    text: &str,
+    filling: &[bool],
+) -> Result<(), AllocError>
+    ensures { OnOk result (written.new.items
+        ≡ written.old.items ++ text.now ++ digits filling.now ++ codes "\n") }
+{
+    written.extend_from_slice(text.as_bytes())?;
+    push_digits(written, filling)?;
+    written.push(b'\n')?;
+    Ok(())
+}
+
+/// Adds the verdict on a section, of which the target answers the predicates. One that is unknown
+/// is followed by the fillings that show it.
+fn push_verdict<A: SmallAllocator>(
+    alloc: A,
+    row: &TargetInfo<'_, A>,
+    condition: &Expression<A>,
+    verdict: Verdict,
+    written: &mut Vec<u8, A>,
+) -> Result<(), AllocError>
+    requires { IsVerdict (meets row.now) condition.now verdict }
+    ensures { OnOk result
+        (AddsVerdict row.now condition.now written.old.items written.new.items) }
+{
+    match verdict {
+        Verdict::Yes => written.extend_from_slice(b"\tyes\n")?,
+        Verdict::No => written.extend_from_slice(b"\tno\n")?,
+        Verdict::Unknown => {
+            let answers = answers_on(alloc, row, condition.predicates())?;
+            let Some((with_true, with_false)) =
+                condition.polar_fillings(alloc, answers.as_slice())?
+            else {
+                unreachable!()
+            };
+            written.extend_from_slice(b"\tunknown\n")?;
+            push_filling(written, "\ttrue with ", with_true.as_slice())?;
+            push_filling(written, "\tfalse with ", with_false.as_slice())?;
+        }
+    }
+    Ok(())
+}
+
+/// Adds what a section prints.
+fn push_section<A: SmallAllocator>(
+    alloc: A,
+    row: &TargetInfo<'_, A>,
+    name: &str,
+    condition: &Expression<A>,
+    written: &mut Vec<u8, A>,
+) -> Result<(), AllocError>
+    ensures { OnOk result (AddsVerdict row.now condition.now (written.old.items ++ name.now)
+        written.new.items) }
+{
+    let verdict = verdict_on(alloc, condition, row)?;
+    written.extend_from_slice(name.as_bytes())?;
+    push_verdict(alloc, row, condition, verdict, written)
+}
+
+/// Adds what the line with this number prints, or answers what tells of its fault.
+fn push_line<A: SmallAllocator>(
+    alloc: A,
+    row: &TargetInfo<'_, A>,
+    number: usize,
+    line: Line<'_>,
+    written: &mut Vec<u8, A>,
+) -> Result<Option<Answer<A>>, AllocError>
+    ensures { IfOk result (λ told. AddsLine row.now number (line_view line.entry) written.old.items
+        written.new.items told) }
+{
+    match line {
+        Line::Empty => Ok(None),
+        Line::Undivided => {
+            let text = format!(in alloc; "line {number}: no tab\n")?;
+            Ok(Some(Answer::faulty(text)))
+        }
+        Line::Section { name, condition } => match Expression::parse(alloc, condition) {
+            Ok(condition) => {
+                push_section(alloc, row, name, &condition, written)?;
+                Ok(None)
+            }
+            Err(Failure::Parse(error)) => {
+                let text = format!(in alloc; "line {number}:\n{error}\n")?;
+                Ok(Some(Answer::faulty(text)))
+            }
+            Err(Failure::Memory(error)) => Err(error),
+        },
+    }
+}
+
+/// What the sections of the text print, or the fault of the first faulty line.
+pub(super) fn sections_answer<A: SmallAllocator>(
+    alloc: A,
+    row: &TargetInfo<'_, A>,
+    text: &str,
+) -> Result<Answer<A>, AllocError>
+    requires { length text.now ≤ input_limit }
+    ensures { IfOk result (λ a.
+        PrintsLines row.now (map line_of (lines_of text.now)) (output_of a)) }
+{
+    let mut written = Vec::new(alloc);
+    let mut number = 0;
+    for text in text.split('\n') {
+        number += 1;
+        let told = push_line(alloc, row, number, read_line(text), &mut written)?;
+        if let Some(answer) = told {
+            return Ok(answer);
+        }
+    }
+    Ok(Answer::done(written))
+}
