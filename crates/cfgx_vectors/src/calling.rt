@@ -14,6 +14,7 @@ pub mod program;
 pub mod refusals;
 pub mod rows;
 pub mod running;
+pub mod sections;
 pub mod streams;
 #[cfg(test)]
 mod surface;

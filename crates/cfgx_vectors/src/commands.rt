@@ -95,15 +95,15 @@ const FAULTS: &[(&[&str], &str)] = &[
     (&["a", "a", "?a", "b)", "c)"], "b)\n ^ unopened parens\n"),
 ];
 
-const DARWIN: &str = "aarch64-apple-darwin";
+pub(crate) const DARWIN: &str = "aarch64-apple-darwin";
 
-const IOS: &str = "aarch64-apple-ios";
+pub(crate) const IOS: &str = "aarch64-apple-ios";
 
-const MACABI: &str = "aarch64-apple-ios-macabi";
+pub(crate) const MACABI: &str = "aarch64-apple-ios-macabi";
 
-const SIM: &str = "aarch64-apple-ios-sim";
+pub(crate) const SIM: &str = "aarch64-apple-ios-sim";
 
-const TVOS: &str = "aarch64-apple-tvos";
+pub(crate) const TVOS: &str = "aarch64-apple-tvos";
 
 // What all the targets have.
 const COMMON: &str = "all(target_arch = \"aarch64\", target_vendor = \"apple\", unix, \

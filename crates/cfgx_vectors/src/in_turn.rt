@@ -5,10 +5,12 @@
 //! made again with memory.
 mod conditions;
 mod runs;
+mod sections;
 mod values;
 
 use crate::deep::{nested, repeated};
 use crate::holding::holds;
+use crate::picking::KINDS;
 use crate::targets::memory;
 use crate::turns::{Heap, is_refused_in_turns};
 use std::alloc::{AllocError, Global};
@@ -23,6 +25,7 @@ enum Call {
     Eval,
     PolarFillings,
     EvalLanes,
+    Pick,
     RunParse,
     RunEval,
     RunTarget,
@@ -104,6 +107,10 @@ const TURNS: &[(Call, Text)] = &[
     (Call::EvalLanes, Text::Wide),
     (Call::EvalLanes, Text::Deep),
     (Call::EvalLanes, Text::Literals),
+    (Call::Pick, THREE),
+    (Call::Pick, Text::Wide),
+    (Call::Pick, Text::Deep),
+    (Call::Pick, Text::Literals),
     (Call::RunParse, FAULTY),
     (Call::RunParse, UNOPENED),
     (Call::RunParse, THREE),
@@ -170,6 +177,7 @@ fn answer_to(alloc: Global, heap: Heap<'_>, call: Call, text: &str) -> Result<bo
         Call::Eval => conditions::evaluates(heap, text),
         Call::PolarFillings => conditions::fills(heap, text),
         Call::EvalLanes => conditions::evaluates_lanes(heap, text),
+        Call::Pick => sections::picks(heap, text),
         Call::RunParse => runs::parses(alloc, heap, text),
         Call::RunEval => runs::evaluates(alloc, heap, text),
         Call::RunTarget => runs::answers(alloc, heap, text),
@@ -207,5 +215,17 @@ fn each_growth_of_each_call_is_refused(rt: HostRuntime) {
             holds(is_right_in_turns(rt.alloc(), *call, *text)),
             "{call:?} of {text:?}"
         );
+    }
+}
+
+// The same of a run of `pick` over the input of a row.
+fn is_picked_in_turns(alloc: Global, row: &(&str, &str, u8)) -> bool {
+    is_refused_in_turns(alloc, |heap| runs::picks(alloc, heap, row))
+}
+
+#[test]
+fn each_growth_of_a_run_of_pick_is_refused(rt: HostRuntime) {
+    for row in KINDS {
+        assert!(rt; is_picked_in_turns(rt.alloc(), row), "{row:?}");
     }
 }

@@ -12,16 +12,17 @@ use std::io::ErrorKind;
 /// A source of at most `each` bytes a call, whose read of the number `failing_read`, counted from
 /// 1, fails.
 #[derive(Drop)]
-struct Pieces<'a> {
-    left: &'a [u8],
+pub(crate) struct Pieces<'a> {
+    pub(crate) left: &'a [u8],
     each: usize,
     failing_read: u64,
-    reads: u64,
-    failures: u64,
+    pub(crate) reads: u64,
+    pub(crate) failures: u64,
 }
 
 impl Pieces<'_> {
-    fn new(left: &[u8], each: usize, failing_read: u64) -> Pieces<'_>
+    /// A source of these bytes, no read of which fails if that number is 0.
+    pub(crate) fn new(left: &[u8], each: usize, failing_read: u64) -> Pieces<'_>
         ensures { result.failures ≡ 0 }
     {
         Pieces {

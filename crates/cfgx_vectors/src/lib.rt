@@ -39,6 +39,8 @@ mod named;
 #[cfg(test)]
 mod nodes;
 #[cfg(test)]
+mod picking;
+#[cfg(test)]
 mod program;
 #[cfg(test)]
 mod questions;
@@ -56,5 +58,7 @@ mod targets;
 mod tokens;
 #[cfg(test)]
 mod turns;
+#[cfg(test)]
+mod verdicts;
 #[cfg(test)]
 mod without_memory;

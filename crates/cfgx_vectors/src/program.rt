@@ -64,7 +64,10 @@ const ROWS: &[(&[&str], &str, u8)] = &[
     (&[], USAGE, 2),
     (&["parse", "a", "b"], USAGE, 2),
     (&["Parse", "a"], USAGE, 2),
-    (&["pick", "aarch64-apple-ios"], USAGE, 2),
+    (&["pick", "aarch64-apple-ios"], "", 0),
+    (&["pick", "nowhere"], "unknown triple\n", 2),
+    (&["pick", ""], "unknown triple\n", 2),
+    (&["Pick", "aarch64-apple-ios"], USAGE, 2),
 ];
 
 #[test]

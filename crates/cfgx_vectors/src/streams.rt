@@ -2,6 +2,7 @@
 //! told to, and what a run writes into it.
 ghost use Rattle.std.specs.Prelude.{◌≡◌, [], Some};
 
+use crate::input::Pieces;
 use cfgx_engine::engine::{Sink, Source, run};
 use std::alloc::Global;
 use std::io;
@@ -109,59 +110,74 @@ pub(crate) fn is_answer(alloc: Global, words: &[&str], status: u8, written: &str
         && sink.flushes == 1
 }
 
-const ALL: usize = usize::MAX;
+/// No limit.
+pub(crate) const ALL: usize = usize::MAX;
 
 /// The most bytes a call, the room, the failing write, and whether the flush fails.
 type Limits = (usize, usize, u64, bool);
 
-/// A text, a sink's limits, the status, what is written, and the calls of `write` and of `flush`.
-type Row = (&'static str, Limits, u8, &'static str, (u64, u64));
+/// A sink's limits, the status, what is written, and the calls of `write` and of `flush`.
+pub(crate) type Ending = (Limits, u8, &'static str, (u64, u64));
 
 const TEXT: &str = "all(a, any(b), c)";
 
-const ROWS: &[Row] = &[
-    (TEXT, (ALL, ALL, 0, false), 0, "b\na\nc\n", (1, 1)),
-    (TEXT, (1, ALL, 0, false), 0, "b\na\nc\n", (6, 1)),
-    (TEXT, (4, ALL, 0, false), 0, "b\na\nc\n", (2, 1)),
-    (TEXT, (2, ALL, 2, false), 3, "b\n", (2, 0)),
-    (TEXT, (ALL, 4, 0, false), 3, "b\na\n", (2, 0)),
-    (TEXT, (ALL, ALL, 0, true), 3, "b\na\nc\n", (1, 1)),
-    (TEXT, (1, ALL, 0, true), 3, "b\na\nc\n", (6, 1)),
-    ("all()", (ALL, ALL, 0, false), 0, "", (0, 1)),
-    ("all()", (ALL, ALL, 0, true), 3, "", (0, 1)),
-    ("key)", (ALL, ALL, 1, false), 3, "", (1, 0)),
+// Texts, and how a run of `parse` ends.
+const ROWS: &[(&str, Ending)] = &[
+    (TEXT, ((ALL, ALL, 0, false), 0, "b\na\nc\n", (1, 1))),
+    (TEXT, ((1, ALL, 0, false), 0, "b\na\nc\n", (6, 1))),
+    (TEXT, ((4, ALL, 0, false), 0, "b\na\nc\n", (2, 1))),
+    (TEXT, ((2, ALL, 2, false), 3, "b\n", (2, 0))),
+    (TEXT, ((ALL, 4, 0, false), 3, "b\na\n", (2, 0))),
+    (TEXT, ((ALL, ALL, 0, true), 3, "b\na\nc\n", (1, 1))),
+    (TEXT, ((1, ALL, 0, true), 3, "b\na\nc\n", (6, 1))),
+    ("all()", ((ALL, ALL, 0, false), 0, "", (0, 1))),
+    ("all()", ((ALL, ALL, 0, true), 3, "", (0, 1))),
+    ("key)", ((ALL, ALL, 1, false), 3, "", (1, 0))),
 ];
 
-// Whether a run with this sink ends and writes as the row says.
-fn is_as_said(alloc: Global, row: &Row) -> bool {
-    let (text, (each, room, failing_write, is_flush_failing), wanted, written, calls) = *row;
+/// Whether a run over this input ends so.
+pub(crate) fn ends_so(alloc: Global, words: &[&str], input: &str, ending: &Ending) -> bool {
+    let ((each, room, failing_write, is_flush_failing), wanted, written, calls) = *ending;
+    let mut source = Pieces::new(input.as_bytes(), ALL, 0);
     let mut sink = Recorder::new(alloc);
     sink.each = each;
     sink.room = room;
     sink.failing_write = failing_write;
     sink.is_flush_failing = is_flush_failing;
-    let status = run(alloc, &["parse", text], &mut Ended, &mut sink);
+    let status = run(alloc, words, &mut source, &mut sink);
     status == wanted
         && sink.bytes.as_slice() == written.as_bytes()
+        && source.failures == 0
         && sink.failures == if wanted == 3 { 1 } else { 0 }
         && (sink.writes, sink.flushes) == calls
 }
 
 #[test]
 fn a_failed_call_ends_the_run(rt: HostRuntime) {
-    for (place, row) in ROWS.iter().enumerate() {
-        assert!(rt; is_as_said(rt.alloc(), row), "row {place}");
+    for (place, (text, ending)) in ROWS.iter().enumerate() {
+        assert!(rt;
+            ends_so(rt.alloc(), &["parse", text], "", ending),
+            "row {place}"
+        );
     }
 }
 
-// Whether a run whose write of this number fails, counted from 0, ends with status 3 and has
-// written so many bytes of the output, one a call.
-fn ends_at_write(alloc: Global, words: &[&str], failing: usize, written: &[u8]) -> bool {
+/// Whether a run over this input whose write of this number fails, counted from 0, ends with status
+/// 3 and has written so many bytes of the output, one a call.
+pub(crate) fn ends_at_write(
+    alloc: Global,
+    words: &[&str],
+    input: &str,
+    failing: usize,
+    written: &[u8],
+) -> bool {
+    let mut source = Pieces::new(input.as_bytes(), ALL, 0);
     let mut sink = Recorder::new(alloc);
     sink.each = 1;
     sink.failing_write = (failing as u64).saturating_add(1);
-    let status = run(alloc, words, &mut Ended, &mut sink);
+    let status = run(alloc, words, &mut source, &mut sink);
     status == 3
+        && source.failures == 0
         && sink.failures == 1
         && sink.bytes.as_slice() == written
         && sink.writes == sink.failing_write
@@ -212,7 +228,13 @@ fn each_write_fails_in_turn(rt: HostRuntime) {
     for (words, output) in OUTPUTS {
         for failing in 0..output.len() {
             assert!(rt;
-                ends_at_write(rt.alloc(), words, failing, &output.as_bytes()[..failing]),
+                ends_at_write(
+                    rt.alloc(),
+                    words,
+                    "",
+                    failing,
+                    &output.as_bytes()[..failing]
+                ),
                 "write {failing} of {words:?}"
             );
         }

@@ -170,10 +170,18 @@ pub(super) fn evaluates_lanes(heap: Heap<'_>) -> Result<bool, AllocError> {
     Ok(expression.eval_lanes(heap, &answers)? == Kleene64::new(0b001, 0b010))
 }
 
-/// A run on wrong use.
+// Words of wrong use.
+const NO_COMMANDS: &[&[&str]] = &[&[], &["parse"], &["pick"], &["pick", "a", "b"]];
+
+/// Runs on wrong use.
 pub(super) fn runs(alloc: Global, heap: Heap<'_>) -> bool {
     heap.refuse(EVERY);
-    let mut sink = Recorder::new(alloc);
-    let status = run(heap, &["parse"], &mut Ended, &mut sink);
-    status == 2 && sink.bytes.as_slice() == USAGE.as_bytes()
+    for words in NO_COMMANDS {
+        let mut sink = Recorder::new(alloc);
+        let status = run(heap, words, &mut Ended, &mut sink);
+        if status != 2 || sink.bytes.as_slice() != USAGE.as_bytes() {
+            return false;
+        }
+    }
+    true
 }
