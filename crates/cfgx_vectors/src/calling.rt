@@ -1,5 +1,5 @@
-//! The examples of `README.md` and of `docs/CALLING.md`. Each block of Rust of the two pages stands
-//! in one of these files as it is printed, and `.ci/examples` compares them.
+//! The examples of `README.md`, `docs/CALLING.md` and `docs/MANIFESTS.md`. Each block of Rust of
+//! these pages stands in one of these files as it is printed, and `.ci/examples` compares them.
 
 pub mod adapters;
 pub mod closures;
@@ -8,6 +8,7 @@ pub mod fillings;
 pub mod lexing;
 pub mod literals;
 pub mod logic;
+pub mod manifests;
 pub mod matcher;
 pub mod names;
 pub mod program;
