@@ -55,7 +55,7 @@ abbrev pub Reads : Request → Type 0
 Reads (Request.pick triple) = IsSome (row_with {A = Global} triple builtin_rows)
 Reads request = ⊥
 
--- the same of the input that a source holds
+-- this is an output of the request, on the input that a source holds
 abbrev pub PrintsInput : Request → Option (List ℕ) → Output → Type 0
 PrintsInput request held output =
     (input : List ℕ) × Keeps held (Some input) × Prints request input output

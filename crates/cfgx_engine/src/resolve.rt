@@ -7,6 +7,9 @@ ghost use Rattle.cfgx_parser.specs.Predicate.{question_of};
 ghost use Rattle.cfgx_engine.specs.Verdicts.{answer_by, IsVerdict, verdict_of};
 
 use cfg_expr::expr::TargetMatcher;
+
+mod laws;
+
 use cfg_expr::memory::SmallAllocator;
 use cfg_expr::{Expression, Predicate};
 use std::alloc::{AllocError, Allocator, Global};

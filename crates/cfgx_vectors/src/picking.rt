@@ -294,8 +294,15 @@ pub(crate) fn is_picked(
     written: &str,
     status: u8,
 ) -> bool {
-    let mut source = Pieces::new(input, ALL, 0);
+    is_picked_in_pieces(alloc, triple, ALL, (input, written, status))
+}
+
+/// The same if the source gives and the sink takes at most so many bytes a call.
+fn is_picked_in_pieces(alloc: Global, triple: &str, each: usize, row: (&[u8], &str, u8)) -> bool {
+    let (input, written, status) = row;
+    let mut source = Pieces::new(input, each, 0);
     let mut sink = Recorder::new(alloc);
+    sink.each = each;
     run(alloc, &["pick", triple], &mut source, &mut sink) == status
         && sink.bytes.as_slice() == written.as_bytes()
         && source.left.is_empty()

@@ -16,6 +16,7 @@ const FIRST_ROOM: usize = 65_536;
 
 /// An input that was read to its end, or is too long.
 #[derive(Drop)]
+#[derive_where(Debug)]
 pub enum Input<A: Allocator = Global> {
     /// All its bytes, at most 16,777,216
     Bytes(Vec<u8, A>),

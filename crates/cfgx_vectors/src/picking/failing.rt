@@ -1,5 +1,5 @@
 // Streams that fail, or that give and take little a call.
-use super::{KINDS, SECTIONS, VERDICTS};
+use super::{KINDS, SECTIONS, VERDICTS, is_picked_in_pieces};
 use crate::commands::SIM;
 use crate::input::Pieces;
 use crate::streams::{ALL, Ending, Recorder, ends_at_write, ends_so};
@@ -83,28 +83,14 @@ fn each_read_fails_in_turn(rt: HostRuntime) {
     }
 }
 
-// Whether a run whose source gives and whose sink takes at most so many bytes a call reads the
-// input, ends with this status, and writes this.
-fn is_picked_in_pieces(alloc: Global, each: usize, row: &(&str, &str, u8)) -> bool {
-    let (input, written, status) = row;
-    let mut source = Pieces::new(input.as_bytes(), each, 0);
-    let mut sink = Recorder::new(alloc);
-    sink.each = each;
-    run(alloc, &WORDS, &mut source, &mut sink) == *status
-        && sink.bytes.as_slice() == written.as_bytes()
-        && source.left.is_empty()
-        && source.failures == 0
-        && sink.failures == 0
-        && sink.flushes == 1
-}
-
 #[test]
 fn an_input_comes_in_pieces(rt: HostRuntime) {
-    for row in KINDS {
+    for (input, written, status) in KINDS {
         for each in [1, 2, 3, 7] {
+            let row = (input.as_bytes(), *written, *status);
             assert!(rt;
-                is_picked_in_pieces(rt.alloc(), each, row),
-                "{each}: {row:?}"
+                is_picked_in_pieces(rt.alloc(), SIM, each, row),
+                "{each}: {input:?}"
             );
         }
     }
