@@ -19,8 +19,7 @@ pub(crate) const VERDICTS: &str = "a\tyes\n\
     b\tunknown\n\ttrue with 01\n\tfalse with 00\n\
     c\tno\n";
 
-/// What is written of lines of one kind each: an input, the output on the simulator, and the
-/// status.
+/// An input of each kind, what is written of it on the simulator, and the status.
 pub(crate) const KINDS: &[(&str, &str, u8)] = &[
     (SECTIONS, VERDICTS, 0),
     ("x", "line 1: no tab\n", 1),

@@ -68,7 +68,7 @@ fn ends_at_read(alloc: Global, input: &[u8], failing: u64, left: &[u8]) -> bool 
         && sink.bytes.is_empty()
 }
 
-// The fifth of ten bytes' reads meets the end.
+// The last read of an input meets its end.
 #[test]
 fn each_read_fails_in_turn(rt: HostRuntime) {
     for (input, _output, _status) in KINDS {

@@ -122,7 +122,7 @@ fn the_length_is_judged_first(rt: HostRuntime) -> Result<(), Fail> {
     Ok(())
 }
 
-// It takes some minutes where it is not built by LLVM.
+// By `rt try` it takes some minutes, so it needs `--seconds 400` there.
 #[test]
 fn as_many_line_feeds_as_an_input_may_have(rt: HostRuntime) -> Result<(), Fail> {
     let input = vec![in rt.alloc(); b'\n'; LIMIT]?;
