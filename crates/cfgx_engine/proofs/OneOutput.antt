@@ -120,7 +120,8 @@ same_cases one other false P Q P' Q' on off this that = off this that
 
 same_picks : {A : Type 0} (row : TargetInfo A) (input : List ℕ) (one other : Output)
     → Picks row input one → Picks row input other → one ≡ other
-same_picks row input one other this that = same_cases one other (nat_lt input_limit (length input)) _ _ _ _
+same_picks row input one other this that =
+    same_cases one other (nat_lt input_limit (length input)) _ _ _ _
     (λ t u. t ∙ sym u)
     (λ t u. same_cases one other (is_utf8 input) _ _ _ _
     (λ l m. same_lines row (map line_of (lines_of input)) one other l m) (λ n o. n ∙ sym o) t u)

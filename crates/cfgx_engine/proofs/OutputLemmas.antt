@@ -114,7 +114,8 @@ pick-status : (input : List ℕ) (shown : Output) (row : Option (TargetInfo Glob
     → MatchOption row (shown ≡ unknown_triple) (λ row. Picks row input shown)
     → shown.status < 3
 pick-status input shown None is = omega (arith, ap (λ (o : Output). o.status) is)
-pick-status input shown (Some row) prints = cases-status shown (nat_lt input_limit (length input)) _ _
+pick-status input shown (Some row) prints =
+    cases-status shown (nat_lt input_limit (length input)) _ _
     (λ is. omega (arith, ap (λ (o : Output). o.status) is))
     (λ fits. cases-status shown (is_utf8 input) _ _
     (λ lines. PrintsLines-status row (map line_of (lines_of input)) shown lines)

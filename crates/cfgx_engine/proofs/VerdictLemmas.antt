@@ -54,7 +54,8 @@ IsVerdict-by answer condition value by =
     }
 
 -- a verdict has one value
-pub verdict_of-injective : (one other : Option Bool) → verdict_of one ≡ verdict_of other → one ≡ other
+pub verdict_of-injective : (one other : Option Bool) → verdict_of one ≡ verdict_of other
+    → one ≡ other
 verdict_of-injective (Some true) (Some true) is = refl
 verdict_of-injective (Some true) (Some false) is = absurd cc
 verdict_of-injective (Some true) None is = absurd cc

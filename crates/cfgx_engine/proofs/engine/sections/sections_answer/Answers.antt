@@ -88,7 +88,8 @@ returns g c =
     let row = c.args.row.now in
     let none = yields-none left.pieces left.yields c.next.new.self c.in-None.ensures.steps in
     left.prints (output_of c.done.result)
-    (subst (λ pieces. PrintsRest row (c.loop-text.number + 1) (map line_of (map strip_carriage_return pieces))
-    c.loop-text.written.items (output_of c.done.result)) (sym none)
+    (subst (λ pieces. PrintsRest row (c.loop-text.number + 1)
+    (map line_of (map strip_carriage_return pieces)) c.loop-text.written.items
+    (output_of c.done.result)) (sym none)
     (PrintsRest-none row (c.loop-text.number + 1) c.loop-text.written.items
     (output_of c.done.result) c.done.ensures))
