@@ -99,33 +99,29 @@ fn fillings_of_deep_and_wide_conditions(rt: HostRuntime) -> Result<(), Fail> {
     Ok(())
 }
 
-// The most bytes that an input may have.
-const LIMIT: usize = 16_777_216;
+// How many line feeds an input has, what stands in place of the first one, what is written, and the
+// status. The length is judged before UTF-8.
+const LENGTHS: &[(usize, u8, &str, u8)] = &[
+    (16_777_217, b'\n', "input too long\n", 1),
+    (16_777_217, b'\xff', "input too long\n", 1),
+    (16_777_216, b'\xff', "input is not UTF-8\n", 1),
+    (16_777_216, b'\n', "", 0),
+];
 
-// Whether one byte too much is told before any other fault, which the limit lets through.
-fn is_too_long_first(alloc: Global) -> Result<bool, AllocError> {
-    let mut input = vec![in alloc; b'\n'; LIMIT + 1]?;
-    let is_long = is_picked(alloc, IOS, input.as_slice(), "input too long\n", 1);
-    if let Some(first) = input.first_mut() {
-        *first = b'\xff';
+fn is_judged(alloc: Global, row: &(usize, u8, &str, u8)) -> Result<bool, AllocError> {
+    let (count, first, written, status) = row;
+    let mut input = vec![in alloc; b'\n'; *count]?;
+    if let Some(byte) = input.first_mut() {
+        *byte = *first;
     }
-    Ok(
-        is_long
-            && is_picked(alloc, IOS, input.as_slice(), "input too long\n", 1)
-            && is_picked(alloc, IOS, &input[..LIMIT], "input is not UTF-8\n", 1),
-    )
+    Ok(is_picked(alloc, IOS, input.as_slice(), written, *status))
 }
 
+// It takes some minutes where it is not built by LLVM.
 #[test]
 fn the_length_is_judged_first(rt: HostRuntime) -> Result<(), Fail> {
-    assert!(rt; is_too_long_first(rt.alloc())?);
-    Ok(())
-}
-
-// By `rt try` it takes some minutes, so it needs `--seconds 400` there.
-#[test]
-fn as_many_line_feeds_as_an_input_may_have(rt: HostRuntime) -> Result<(), Fail> {
-    let input = vec![in rt.alloc(); b'\n'; LIMIT]?;
-    assert!(rt; is_picked(rt.alloc(), IOS, input.as_slice(), "", 0));
+    for row in LENGTHS {
+        assert!(rt; is_judged(rt.alloc(), row)?, "{row:?}");
+    }
     Ok(())
 }
