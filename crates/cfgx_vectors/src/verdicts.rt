@@ -173,9 +173,9 @@ fn many(alloc: Global, count: usize) -> Result<Vec<Section>, Failure> {
 
 #[test]
 fn verdicts_on_many_sections(rt: HostRuntime) -> Result<(), Fail> {
-    let sections = many(rt.alloc(), 100)?;
+    let sections = many(rt.alloc(), 20_000)?;
     let verdicts = pick(rt.alloc(), sections.as_slice(), &LINUX)?;
-    assert!(rt; verdicts.len() == 100);
+    assert!(rt; verdicts.len() == 20_000);
     for (number, verdict) in verdicts.iter().enumerate() {
         assert!(rt;
             Some(verdict) == [YES, UNKNOWN, NO].get(number % 3),

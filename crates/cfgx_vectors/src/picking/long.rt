@@ -16,8 +16,13 @@ const ROWS: &[(Parts, Parts, u8)] = &[
         0,
     ),
     (
-        ("", "n\ta\r\n", 2_000, ""),
-        ("", "n\tunknown\n\ttrue with 1\n\tfalse with 0\n", 2_000, ""),
+        ("", "n\ta\r\n", 40_000, ""),
+        (
+            "",
+            "n\tunknown\n\ttrue with 1\n\tfalse with 0\n",
+            40_000,
+            "",
+        ),
         0,
     ),
     (
