@@ -1,5 +1,6 @@
 -- Rows of targets, whatever allocator their texts would be owned in.
-use Rattle.std.proofs.Common.{◌≡◌, ℕ, Bool, true, false, List, [], ◌∷◌, ◌++◌, map, refl, ap, sym, subst}
+use Rattle.std.proofs.Common.{◌≡◌, ℕ, Bool, true, false, List, [], ◌∷◌, ◌++◌, map, refl, ap, sym}
+use Rattle.std.proofs.Common.{subst}
 use Rattle.std.proofs.Common.{◌∙◌, Option, Some, None, ⊎_elim, inl, inr}
 use Rattle.std.specs.Prelude.{option_map, if◌then◌else◌, ◌⊎◌, MatchOption, IsSome}
 use Rattle.std.specs.Prelude.{length, nat_lt}

@@ -20,7 +20,8 @@ use Rattle.cfgx_grammar.specs.Tree.{asked}
 use Rattle.cfgx_grammar.specs.Grammar.{HasTree}
 use Rattle.cfgx_grammar.specs.Answer.{Answers, HasOneTree}
 use Rattle.cfgx_engine.specs.Output.{Output, answer_on}
-use Rattle.cfgx_engine.specs.Sections.{IsWell, Line, PrintsLine, PrintsLines, TellsFault, TellsFirst}
+use Rattle.cfgx_engine.specs.Sections.{IsWell, Line, PrintsLine, PrintsLines, TellsFault}
+use Rattle.cfgx_engine.specs.Sections.{TellsFirst}
 use Rattle.cfgx_engine.specs.Answer.{AddsVerdict, TellsFailure}
 use Rattle.cfgx_engine.specs.Input.{input_limit}
 use Rattle.cfgx_engine.specs.Sections.{line_fault, line_of, verdict_lines}

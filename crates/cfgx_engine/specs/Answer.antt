@@ -1,6 +1,6 @@
 -- What the engine's own types stand for.
-use Rattle.std.specs.Prelude.{◌≡◌, ℕ, List, [], ◌∷◌, ◌++◌, Bool, true, false, Option, Result, Ok, Err, map}
-use Rattle.std.specs.Prelude.{Some, None, codes, length, ◌≤◌}
+use Rattle.std.specs.Prelude.{◌≡◌, ℕ, List, [], ◌∷◌, ◌++◌, Bool, true, false, Option, Result, Ok}
+use Rattle.std.specs.Prelude.{Err, map, Some, None, codes, length, ◌≤◌}
 use Rattle.std.specs.Bool.{MatchBool}
 use Rattle.std.specs.Str.{is_utf8}
 use Rattle.std.specs.Cow.{cow_slice_items}

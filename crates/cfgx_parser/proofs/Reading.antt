@@ -2,7 +2,7 @@
 -- them.
 use Rattle.std.proofs.Common.{◌≡◌, ℕ, List, length, drop, Some, Result, Ok, Err, sym}
 use Rattle.std.proofs.Common.{refl, ap, ◌∙◌, subst}
-use Rattle.cfgx_syntax.specs.Items.{Item, Ending, IsBlank, Stands, EndsAs, lexical}
+use Rattle.cfgx_syntax.specs.Items.{Item, Ending, ItemsFrom, IsBlank, Stands, EndsAs, lexical}
 use Rattle.cfgx_syntax.specs.Error.{Refusal, FailsWith, fault_in}
 use Rattle.cfgx_syntax.specs.LexerState.{LexerState}
 use Rattle.cfgx_syntax.specs.Lexer.{GivesItem, GivesFault, GivesNext, item_of}
@@ -14,8 +14,10 @@ use Rattle.cfgx_grammar.proofs.Reading.{Continues-refused, Continues-ended}
 use Rattle.cfgx_parser.specs.parsing.State.{ParserState}
 use Rattle.cfgx_grammar.specs.parsing.Step.{step, conclude, ended_as, answer_from}
 use Rattle.cfgx_parser.specs.parsing.Bounded.{IsHeld, IsBounded}
-use Rattle.cfgx_parser.specs.parsing.Parser.{state_of, FailsAs, Reaches, Gives}
+use Rattle.cfgx_parser.specs.parsing.Parser.{state_of, HaltsAs, FailsAs, Reaches, Gives}
 use Rattle.cfgx_parser.specs.parsing.Parser.{ReadsAll}
+use Rattle.cfgx_parser.specs.declared.parser.Halt.{Halt}
+use Rattle.cfgx_parser.specs.declared.parser.Halt.TheVariants as halt
 use Rattle.cfgx_parser.specs.declared.parser.Parser.{Parser}
 use Rattle.cfgx_parser.proofs.Bounded.{IsHeld-step}
 
@@ -24,7 +26,6 @@ pub record Leads {A : Type 0} (lexer : LexerState) (now : LexerState)
     (old parser : Parser A) : Type 0 where
   pub bounded : IsBounded (state_of {A = A} parser)
   pub text : now.text ≡ lexer.text
-  pub same_text : parser.original.now ≡ old.original.now
   pub continues : Continues lexer.text lexer.place (state_of {A = A} old) now.place
       (state_of {A = A} parser)
 
@@ -36,7 +37,7 @@ stands_there lexer now next item text gives =
 pub Leads-read : {A : Type 0} (lexer now next : LexerState) (old before after : Parser A)
     (item : Item) (state : ParserState) → Leads {A = A} lexer now old before
     → GivesItem now item next → step (state_of {A = A} before) item ≡ Ok state
-    → Reaches {A = A} before after state → Leads {A = A} lexer next old after
+    → Reaches {A = A} after state → Leads {A = A} lexer next old after
 Leads-read {A} lexer now next old before after item state l gives steps reaches =
     let start = state_of {A = A} old in
     let went = Continues-step lexer.text lexer.place now.place start (state_of {A = A} before) state
@@ -48,20 +49,17 @@ Leads-read {A} lexer now next old before after item state l gives steps reaches 
         fits = reaches.fits;
       };
       text = ap (λ (n : LexerState). n.text) gives.goes_on ∙ l.text;
-      same_text = reaches.same_text ∙ l.same_text;
       continues = subst (λ (n : LexerState). Continues lexer.text lexer.place start n.place
           (state_of {A = A} after)) (sym gives.goes_on)
           (subst (Continues lexer.text lexer.place start item.end) reaches.is went);
     }
 
 -- a fault of the rest is the fault of the whole
-pub FailsAs-more : {A : Type 0} (text : List ℕ) (failure : Failure A)
-    (part whole : Result ParserState Refusal)
-    → ((refusal : Refusal) → part ≡ Err refusal → whole ≡ Err refusal) → FailsAs text failure part
-    → FailsAs text failure whole
-FailsAs-more text (failure.Parse error) part whole more fails =
-    (fails.0, more fails.0 fails.1, fails.2)
-FailsAs-more text (failure.Memory error) part whole more fails = tt
+HaltsAs-more : (h : Halt) (part whole : Result ParserState Refusal)
+    → ((refusal : Refusal) → part ≡ Err refusal → whole ≡ Err refusal) → HaltsAs h part
+    → HaltsAs h whole
+HaltsAs-more (halt.Fault reason span) part whole more halts = more _ halts
+HaltsAs-more halt.Memory part whole more halts = tt
 
 pub FailsAs-with : {A : Type 0} (text : List ℕ) (failure : Failure A)
     (refusal : Refusal) → FailsWith (fault_in text refusal) failure
@@ -69,25 +67,29 @@ pub FailsAs-with : {A : Type 0} (text : List ℕ) (failure : Failure A)
 FailsAs-with text (failure.Parse error) refusal fails = (refusal, refl, fails)
 FailsAs-with text (failure.Memory error) refusal fails = tt
 
+-- what a failure says of a halt
+abbrev pub Says : {A : Type 0} → List ℕ → Halt → Failure A → Type 0
+Says {A} text h failure = (answer : Result ParserState Refusal) → HaltsAs h answer
+    → FailsAs text failure answer
+
 -- a token that is refused
 pub ReadsAll-read : {A : Type 0} (lexer now next : LexerState) (old before after : Parser A)
-    (item : Item) (failure : Failure A)
+    (item : Item) (h : Halt) (failure : Failure A)
     → Leads {A = A} lexer now old before → GivesItem now item next
-    → FailsAs before.original.now failure (step (state_of {A = A} before) item)
+    → HaltsAs h (step (state_of {A = A} before) item) → Says lexer.text h failure
     → ReadsAll {A = A} lexer old after (Err failure)
-ReadsAll-read {A} lexer now next old before after item failure l gives fails items ending come =
-    subst (λ t. FailsAs t failure (answer_from (state_of {A = A} old) lexer.text items ending))
-    l.same_text (FailsAs-more before.original.now failure (step (state_of {A = A} before) item) _
+ReadsAll-read {A} lexer now next old before after item h failure l gives halts says items ending
+    come =
+    says _ (HaltsAs-more h (step (state_of {A = A} before) item) _
     (λ refusal e. Continues-refused lexer.text lexer.place now.place (state_of {A = A} old)
     (state_of {A = A} before) item refusal l.continues
-    (stands_there lexer now next item l.text gives) e items ending come) fails)
+    (stands_there lexer now next item l.text gives) e items ending come) halts)
 
 -- the lexical fault
 pub ReadsAll-fault : {A : Type 0} (lexer now next : LexerState) (old before after : Parser A)
-    (failure : Failure A)
-    → old.original.now ≡ lexer.text → Leads {A = A} lexer now old before
+    (failure : Failure A) → Leads {A = A} lexer now old before
     → GivesFault {A = A} now failure next → ReadsAll {A = A} lexer old after (Err failure)
-ReadsAll-fault {A} lexer now next old before after failure text l gives items ending come =
+ReadsAll-fault {A} lexer now next old before after failure l gives items ending come =
     let refused : lexical lexer.text gives.ending ≡ Some gives.refusal =
     ap (λ t. lexical t gives.ending) (sym l.text) ∙ gives.refused in
     let answer = Continues-ended lexer.text lexer.place now.place (state_of {A = A} old)
@@ -97,39 +99,35 @@ ReadsAll-fault {A} lexer now next old before after failure text l gives items en
     let fails : FailsAs now.text failure (Err gives.refusal) =
     FailsAs-with now.text failure gives.refusal gives.fails in
     subst (λ t. FailsAs t failure (answer_from (state_of {A = A} old) lexer.text items ending))
-    (l.text ∙ sym text) (subst (FailsAs now.text failure) (sym answer) fails)
+    l.text (subst (FailsAs now.text failure) (sym answer) fails)
 
-Gives-text : {A : Type 0} (result : Result (Unit {0}) (Failure A)) (before old after : Parser A)
-    (answer : Result ParserState Refusal)
-    → before.original.now ≡ old.original.now → Gives {A = A} result before after answer
-    → Gives {A = A} result old after answer
-Gives-text {A} (Ok done) before old after answer same gives = (
-  gives.0,
-  gives.1,
-  record {
-    is = gives.2.is;
-    same_text = gives.2.same_text ∙ same;
-    fits =
-        gives.2.fits;
-  },
-)
-Gives-text {A} (Err failure) before old after answer same gives =
-    subst (λ t. FailsAs t failure answer) same gives
-
--- the end of the text
-pub ReadsAll-end : {A : Type 0} (lexer now : LexerState) (old before after : Parser A)
-    (result : Result (Unit {0}) (Failure A))
-    → old.original.now ≡ lexer.text → Leads {A = A} lexer now old before
-    → IsBlank (drop now.place now.text)
-    → Gives {A = A} result before after (conclude (length before.original.now)
-    (state_of {A = A} before)) → ReadsAll {A = A} lexer old after result
-ReadsAll-end {A} lexer now old before after result text l blank gives items ending come =
-    let answer = Continues-ended lexer.text lexer.place now.place (state_of {A = A} old)
+-- the end of the text, as it is told of the whole
+ended : {A : Type 0} (lexer now : LexerState) (old before : Parser A) (items : List Item)
+    (ending : Ending) → Leads {A = A} lexer now old before → IsBlank (drop now.place now.text)
+    → ItemsFrom lexer.text lexer.place items ending
+    → answer_from (state_of {A = A} old) lexer.text items ending
+    ≡ conclude (length lexer.text) (state_of {A = A} before)
+ended {A} lexer now old before items ending l blank come =
+    Continues-ended lexer.text lexer.place now.place (state_of {A = A} old)
     (state_of {A = A} before) Ending.blank l.continues
     (subst (λ t. IsBlank (drop now.place t)) l.text blank) items ending come
-    ∙ ap (λ t. conclude (length t) (state_of {A = A} before)) (sym (l.same_text ∙ text)) in
-    subst (Gives {A = A} result old after) (sym answer)
-    (Gives-text {A = A} result before old after _ l.same_text gives)
+
+pub ReadsAll-end : {A : Type 0} (lexer now : LexerState) (old before after : Parser A)
+    → Leads {A = A} lexer now old before → IsBlank (drop now.place now.text)
+    → Gives {A = A} (Ok tt) after (conclude (length lexer.text) (state_of {A = A} before))
+    → ReadsAll {A = A} lexer old after (Ok tt)
+ReadsAll-end {A} lexer now old before after l blank gives items ending come =
+    subst (Gives {A = A} (Ok tt) after)
+    (sym (ended {A = A} lexer now old before items ending l blank come)) gives
+
+pub ReadsAll-halt : {A : Type 0} (lexer now : LexerState) (old before after : Parser A)
+    (h : Halt) (failure : Failure A)
+    → Leads {A = A} lexer now old before → IsBlank (drop now.place now.text)
+    → HaltsAs h (conclude (length lexer.text) (state_of {A = A} before))
+    → Says lexer.text h failure → ReadsAll {A = A} lexer old after (Err failure)
+ReadsAll-halt {A} lexer now old before after h failure l blank halts says items ending come =
+    says _ (subst (HaltsAs h)
+    (sym (ended {A = A} lexer now old before items ending l blank come)) halts)
 
 -- what `next` gave, as the code takes it apart
 pub item_given : {A : Type 0} (old new : LexerState) (item : Result LexerToken (Failure A))

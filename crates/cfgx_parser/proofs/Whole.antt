@@ -11,7 +11,7 @@ use Rattle.cfgx_grammar.specs.Answer.{Answers, IsAccepted}
 use Rattle.cfgx_parser.specs.nodes.Keeps.{KeepsOneTree}
 use Rattle.cfgx_parser.specs.parsing.State.{ParserState}
 use Rattle.cfgx_grammar.specs.parsing.State.{initial}
-use Rattle.cfgx_parser.specs.parsing.Parser.{state_of, FailsAs, Gives, ReadsAll}
+use Rattle.cfgx_parser.specs.parsing.Parser.{state_of, FailsAs, Ends, ReadsAll}
 use Rattle.cfgx_grammar.specs.parsing.Step.{answer_from}
 use Rattle.cfgx_parser.specs.declared.parser.Parser.{Parser}
 use Rattle.cfgx_grammar.proofs.Answering.{answer, tree_of, IsAccepted-accepted, IsRefused-refused}
@@ -25,11 +25,10 @@ pub record Begins {A : Type 0} (text : List ℕ) (lexer : LexerState)
   pub one : HasOneTokenList text
   pub lexer_is : lexer ≡ starting text
   pub state_is : state_of {A = A} parser ≡ initial
-  pub text_is : parser.original.now ≡ text
 
 given : {A : Type 0} {text : List ℕ} {lexer : LexerState} {old : Parser A} (new : Parser A)
     (result : Result (Unit {0}) (Failure A)) (b : Begins {A = A} text lexer old)
-    → ReadsAll {A = A} lexer old new result → Gives {A = A} result old new (answer text b.one)
+    → ReadsAll {A = A} lexer old new result → Ends {A = A} result lexer.text new (answer text b.one)
 given {A} {text} {lexer} {old} new result b reads =
     let come : ItemsFrom lexer.text lexer.place b.one.items b.one.ending =
     subst (λ (l : LexerState). ItemsFrom l.text l.place b.one.items b.one.ending)
@@ -38,7 +37,7 @@ given {A} {text} {lexer} {old} new result b reads =
     b.one =
     ap (λ s. answer_from s lexer.text b.one.items b.one.ending) b.state_is
     ∙ ap (λ (l : LexerState). answer_from initial l.text b.one.items b.one.ending) b.lexer_is in
-    subst (Gives {A = A} result old new) same (reads b.one.items b.one.ending come)
+    subst (Ends {A = A} result lexer.text new) same (reads b.one.items b.one.ending come)
 
 fails_as : {A : Type 0} (text : List ℕ) (one : HasOneTokenList text)
     (f : Failure A) → FailsAs text f (answer text one) → Answers text (Err f)
@@ -51,7 +50,8 @@ pub Answers-fails : {A : Type 0} {text : List ℕ} {lexer : LexerState} {old : P
     → ReadsAll {A = A} lexer old new (Err f) → Answers text (Err f)
 Answers-fails {text} new f b reads =
     let fails = given new (Err f) b reads in
-    fails_as text b.one f (subst (λ t. FailsAs t f (answer text b.one)) b.text_is fails)
+    fails_as text b.one f
+    (subst (λ (l : LexerState). FailsAs l.text f (answer text b.one)) b.lexer_is fails)
 
 -- where memory runs out
 pub Answers-memory : {A : Type 0} (text : List ℕ) → HasOneTokenList text → (error : _)

@@ -98,8 +98,8 @@ pub fn parse<A: SmallAllocator>(alloc: A, original: &str) -> Result<Parsed<A>, F
 {
     let lexer = Lexer::new(alloc, original);
     let text = lexer.original();
-    let mut parser = Parser::new(alloc, text);
-    parser.read_all(lexer)?;
+    let mut parser = Parser::new(alloc);
+    parser.read_all(alloc, lexer)?;
     let original = String::from_str(alloc, text)?;
     let (nodes, asked) = parser.into_parts();
     Ok(Parsed {

@@ -1,7 +1,7 @@
 //! From a text to the nodes of its tree, in one pass.
 ghost use Rattle.std.specs.Prelude.{◌≡◌, ◌+◌, ◌≤◌, length, ◌<◌, ◌↔◌, ◌≢◌, [], true, option_map};
-ghost use Rattle.std.specs.Prelude.{map, reverse, IsTrue, OnOk, IfOk};
-ghost use Rattle.cfgx_syntax.specs.Error.{cause_of, unexpected, FailsWith, fault_in};
+ghost use Rattle.std.specs.Prelude.{map, reverse, IsTrue, OnOk, IfOk, Result, Err};
+ghost use Rattle.cfgx_syntax.specs.Error.{cause_of, unexpected, Refusal};
 ghost use Rattle.cfgx_syntax.specs.Lexer.{token_of, item_of};
 ghost use Rattle.cfgx_grammar.specs.Neighbours.{next, expected};
 ghost use Rattle.cfgx_parser.specs.nodes.Writer.{Fits, written_of};
@@ -13,6 +13,7 @@ ghost use Rattle.cfgx_grammar.specs.parsing.Step.{new_open, member_count, has_ro
 ghost use Rattle.cfgx_grammar.specs.parsing.Step.{closed_by, apply, step, unclosed, conclude};
 ghost use Rattle.cfgx_parser.specs.parsing.Fields.{function_of, open_of, opens_of, is_some_open};
 ghost use Rattle.cfgx_parser.specs.parsing.Bounded.{TopHasRoom};
+ghost use Rattle.cfgx_parser.specs.parsing.Parser.{HaltsAs, FailsAs};
 
 use crate::classification::{Pending, Word, classify};
 use crate::function::Func;
@@ -49,12 +50,40 @@ impl Default for FuncAndSpan {
     }
 }
 
+/// Why the parser goes no further.
+#[derive(Drop)]
+pub(crate) enum Halt {
+    /// What is wrong with the text, and the bytes that are at fault
+    Fault(Reason, Span),
+    /// Memory was refused
+    Memory,
+}
+
+impl From<AllocError> for Halt {
+    ghost use Rattle.cfgx_parser.specs.declared.parser.Halt.TheVariants.{Memory};
+
+    ghost from_gives = { λ _ halt. halt ≡ Memory };
+
+    fn from(_error: AllocError) -> Halt {
+        Halt::Memory
+    }
+}
+
+/// The failure of a text of which the parser reads no more. A fault has a copy of the text, for
+/// which memory may be refused.
+fn failure<A: SmallAllocator>(alloc: A, original: &str, halt: Halt) -> Failure<A>
+    ensures { (answer : Result ParserState Refusal)
+        → HaltsAs halt answer → FailsAs original.now result answer }
+{
+    match halt {
+        Halt::Fault(reason, span) => Failure::of(alloc, original, span, reason),
+        Halt::Memory => Failure::Memory(AllocError),
+    }
+}
+
 /// What was read so far.
 #[derive(Drop)]
 pub(crate) struct Parser<'a, A: SmallAllocator> {
-    alloc: A,
-    /// The stripped text
-    original: &'a str,
     func_stack: SmallVec<FuncAndSpan, 5, A>,
     /// The nodes of what has ended
     writer: Writer<A>,
@@ -141,20 +170,27 @@ fn open_parens<A: SmallAllocator>(stack: &mut SmallVec<FuncAndSpan, 5, A>, place
     }
 }
 
+/// The fault of a text of so many bytes that ends while this function is open.
+fn unclosed(top: &FuncAndSpan, len: usize) -> Halt
+    ensures { HaltsAs result (Err (unclosed len (open_of top.now) top.now.parens_index)) }
+{
+    match top.parens_index {
+        Some(place) => Halt::Fault(Reason::UnclosedParens, place..len),
+        None => Halt::Fault(Reason::Unexpected(&["("]), top.span.start..top.span.end),
+    }
+}
+
 impl<'a, A: SmallAllocator> Parser<'a, A> {
     ghost use Rattle.cfgx_grammar.specs.parsing.State.{initial};
     ghost use Rattle.cfgx_parser.specs.parsing.Parser.{state_of, Gives, Opens, EndsFunction};
-    ghost use Rattle.cfgx_parser.specs.parsing.Parser.{AddsValue, IsQuoted, closed_at, ReadsAll};
+    ghost use Rattle.cfgx_parser.specs.parsing.Parser.{value_added, IsQuoted, closed_at, ReadsAll};
     ghost use Rattle.cfgx_parser.specs.parsing.Bounded.{IsBounded, HasRoom};
 
-    /// A parser of a stripped text, of which nothing was read. It takes no memory.
-    pub(crate) fn new(alloc: A, original: &'a str) -> Self
-        ensures state { state_of result ≡ initial }
-        ensures text { result.original.now ≡ original.now }
+    /// A parser that has read nothing. It takes no memory.
+    pub(crate) fn new(alloc: A) -> Self
+        ensures { state_of result ≡ initial }
     {
         Parser {
-            alloc,
-            original,
             func_stack: SmallVec::new(alloc),
             writer: Writer::new(alloc),
             last_token: None,
@@ -163,19 +199,10 @@ impl<'a, A: SmallAllocator> Parser<'a, A> {
         }
     }
 
-    /// A fault of the text, or want of memory for its copy.
-    fn fault(&self, span: Span, reason: Reason) -> Failure<A>
-        ensures { FailsWith (fault_in self.now.original.now
-            (refusal (cause_of reason) span.start span.end)) result }
-    {
-        Failure::of(self.alloc, self.original, span, reason)
-    }
-
     /// Counts an item that has ended in the innermost list.
     fn count_item(&mut self)
         requires { HasRoom (state_of self.old) }
-        ensures state { state_of self.new ≡ with_item (state_of self.old) }
-        ensures text { self.new.original.now ≡ self.old.original.now }
+        ensures { state_of self.new ≡ with_item (state_of self.old) }
     {
         if !count_member(&mut self.func_stack) {
             self.root_count += 1;
@@ -183,16 +210,20 @@ impl<'a, A: SmallAllocator> Parser<'a, A> {
     }
 
     /// Ends the predicate or literal that has begun, if one has.
-    fn end_predicate(&mut self) -> Result<(), Failure<A>>
+    fn end_predicate(&mut self) -> Result<(), Halt>
         requires { IsBounded (state_of self.old) }
-        ensures { Gives result self.old self.new (predicate_ended (state_of self.old)) }
+        ensures { Gives result self.new (predicate_ended (state_of self.old)) }
     {
+        // To take it moves a whole `Pending`, also if there is none, as at a `)` behind another.
+        if self.pending.is_none() {
+            return Ok(());
+        }
         let Some(pending) = self.pending.take() else {
             return Ok(());
         };
         let leaf = match classify(pending) {
             Ok(leaf) => leaf,
-            Err((reason, span)) => return Err(self.fault(span, reason)),
+            Err((reason, span)) => return Err(Halt::Fault(reason, span)),
         };
         self.writer.leaf(leaf)?;
         self.count_item();
@@ -229,17 +260,17 @@ impl<'a, A: SmallAllocator> Parser<'a, A> {
     }
 
     /// Closes the innermost function at a `)`, which stands at the span.
-    fn close(&mut self, span: Span) -> Result<(), Failure<A>>
+    fn close(&mut self, span: Span) -> Result<(), Halt>
         requires { IsBounded (state_of self.old) }
-        ensures { Gives result self.old self.new (closed_at (state_of self.old) span) }
+        ensures { Gives result self.new (closed_at (state_of self.old) span) }
     {
         let Some(top) = self.func_stack.last() else {
-            return Err(self.fault(span, Reason::UnopenedParens));
+            return Err(Halt::Fault(Reason::UnopenedParens, span));
         };
         let (func, start, ended) = (top.func, top.span.start, top.members);
         let members = ended + usize::from(self.pending.is_some());
         if !has_room(func, members) {
-            return Err(self.fault(start..span.end, Reason::InvalidNot(members)));
+            return Err(Halt::Fault(Reason::InvalidNot(members), start..span.end));
         }
         self.end_predicate()?;
         self.end_function()?;
@@ -249,7 +280,7 @@ impl<'a, A: SmallAllocator> Parser<'a, A> {
     /// Notes the value of the predicate that has begun, which stands in quotes at the span.
     fn add_value(&mut self, text: &'a str, span: Span)
         requires { span.start + 1 ≤ span.end }
-        ensures { AddsValue self.old self.new text.now span }
+        ensures { state_of self.new ≡ value_added (state_of self.old) text.now span }
     {
         if let Some(pending) = &mut self.pending {
             pending.value = Some(Word {
@@ -260,10 +291,10 @@ impl<'a, A: SmallAllocator> Parser<'a, A> {
     }
 
     /// What a token does where it may stand.
-    fn apply(&mut self, lexed: LexerToken<'a>) -> Result<(), Failure<A>>
+    fn apply(&mut self, lexed: LexerToken<'a>) -> Result<(), Halt>
         requires bounded { IsBounded (state_of self.old) }
         requires quoted { IsQuoted lexed }
-        ensures { Gives result self.old self.new
+        ensures { Gives result self.new
             (apply (state_of self.old) (item_of lexed.entry) (token_of lexed.entry.token)) }
     {
         let LexerToken { token, span } = lexed;
@@ -291,65 +322,56 @@ impl<'a, A: SmallAllocator> Parser<'a, A> {
     }
 
     /// Reads one token.
-    fn read(&mut self, lexed: LexerToken<'a>) -> Result<(), Failure<A>>
+    fn read(&mut self, lexed: LexerToken<'a>) -> Result<(), Halt>
         requires bounded { IsBounded (state_of self.old) }
         requires quoted { IsQuoted lexed }
-        ensures { Gives result self.old self.new (step (state_of self.old) (item_of lexed.entry)) }
+        ensures { Gives result self.new (step (state_of self.old) (item_of lexed.entry)) }
     {
         let token = lexed.token;
         if !may_follow(self.last_token, token) {
-            return Err(self.fault(lexed.span, expected(self.last_token)));
+            return Err(Halt::Fault(expected(self.last_token), lexed.span));
         }
         self.apply(lexed)?;
         self.last_token = Some(token);
         Ok(())
     }
 
-    /// Ends the text: one item is left, whose nodes are written.
-    fn finish(&mut self) -> Result<(), Failure<A>>
+    /// Ends a text of so many bytes: one item is left, whose nodes are written.
+    fn finish(&mut self, len: usize) -> Result<(), Halt>
         requires { IsBounded (state_of self.old) }
-        ensures { Gives result self.old self.new
-            (conclude (length self.old.original.now) (state_of self.old)) }
+        ensures { Gives result self.new (conclude len (state_of self.old)) }
     {
-        let len = self.original.len();
         if matches!(self.last_token, Some(Token::Equals)) {
-            return Err(self.fault(len..len, Reason::Unexpected(&["\"<value>\""])));
+            return Err(Halt::Fault(Reason::Unexpected(&["\"<value>\""]), len..len));
         }
         if let Some(top) = self.func_stack.last() {
-            return Err(self.unclosed(top));
+            return Err(unclosed(top, len));
         }
         self.end_predicate()?;
         match self.root_count {
-            0 => Err(self.fault(0..len, Reason::Empty)),
+            0 => Err(Halt::Fault(Reason::Empty, 0..len)),
             1 => Ok(self.writer.end_list(0)?),
-            _ => Err(self.fault(0..len, Reason::MultipleRootPredicates)),
-        }
-    }
-
-    /// The fault of a text that ends while a function is open.
-    fn unclosed(&self, top: &FuncAndSpan) -> Failure<A>
-        ensures { FailsWith (fault_in self.now.original.now
-            (unclosed (length self.now.original.now) (open_of top.now)
-            top.now.parens_index)) result }
-    {
-        match top.parens_index {
-            Some(place) => self.fault(place..self.original.len(), Reason::UnclosedParens),
-            None => self.fault(top.span.start..top.span.end, Reason::Unexpected(&["("])),
+            _ => Err(Halt::Fault(Reason::MultipleRootPredicates, 0..len)),
         }
     }
 
     /// Reads what the lexer gives, to the end of the text.
     ///
     /// The error is the first fault of the text, or that memory was refused.
-    pub(crate) fn read_all(&mut self, lexer: Lexer<'a, A>) -> Result<(), Failure<A>>
-        requires bounded { IsBounded (state_of self.old) }
-        requires text { self.old.original.now ≡ lexer.text }
+    pub(crate) fn read_all(&mut self, alloc: A, lexer: Lexer<'a, A>) -> Result<(), Failure<A>>
+        requires { IsBounded (state_of self.old) }
         ensures { ReadsAll lexer.entry self.old self.new result }
     {
+        let text = lexer.original();
         for lexed in lexer {
-            self.read(lexed?)?;
+            if let Err(halt) = self.read(lexed?) {
+                return Err(failure(alloc, text, halt));
+            }
         }
-        self.finish()
+        match self.finish(text.len()) {
+            Ok(()) => Ok(()),
+            Err(halt) => Err(failure(alloc, text, halt)),
+        }
     }
 
     /// The nodes that were written, and the places of the predicates among them.

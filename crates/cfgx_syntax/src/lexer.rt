@@ -1,6 +1,7 @@
 //! Tokens of a `cfg()` text with the bytes that spell them.
 ghost use Rattle.std.specs.Prelude.{◌≡◌, ◌-◌, ◌<◌, ◌≤◌, length, slice_index, codes, get_or, true};
 ghost use Rattle.std.specs.List.{prefix_len};
+ghost use Rattle.std.specs.Str.{IsTrimStart};
 ghost use Rattle.cfgx_syntax.specs.Items.{HasOneTokenList};
 ghost use Rattle.cfgx_syntax.specs.Lexer.{token_of, BeginsAs};
 ghost use Rattle.cfgx_syntax.specs.LexerState.{starting};
@@ -53,6 +54,17 @@ pub struct LexerToken<'a> {
     pub token: Token<'a>,
     /// Where it stands, in bytes of the stripped text
     pub span: Range<usize>,
+}
+
+/// The text without the white space in front of it.
+fn trimmed(text: &str) -> &str
+    ensures { IsTrimStart text.now result.now }
+{
+    match text.as_bytes().first() {
+        // Most tokens have none, which their first byte tells without a character.
+        Some(first) if first.is_ascii_graphic() => text,
+        _ => text.trim_start(),
+    }
 }
 
 /// Whether the byte may stand first in a word: an ASCII letter or `_`.
@@ -209,7 +221,7 @@ impl<'a, A: Allocator> Iterator for Lexer<'a, A> {
     ghost remaining = { λ l. at_most (length l.text - l.place) };
 
     fn next(&mut self) -> Option<Self::Item> {
-        let rest = self.inner.trim_start();
+        let rest = trimmed(self.inner);
         self.inner = rest;
         if rest.is_empty() {
             return None;

@@ -31,6 +31,13 @@ impl<B: Allocator> Refusing<B> {
         self.countdown.set(n);
     }
 
+    /// The inner allocator.
+    pub fn into_inner(self) -> B
+        ensures { result ≡ self.inner }
+    {
+        self.inner
+    }
+
     /// Whether no refusal lies ahead.
     pub fn has_refused(&self) -> bool {
         self.countdown.get() == 0

@@ -2,6 +2,8 @@
 //! told to, and what a run writes into it.
 ghost use Rattle.std.specs.Prelude.{◌≡◌, [], Some};
 
+mod counted;
+
 use crate::input::Pieces;
 use cfgx_engine::engine::{Sink, Source, run};
 use std::alloc::Global;

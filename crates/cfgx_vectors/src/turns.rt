@@ -1,31 +1,45 @@
-//! Each growth of a call refused in turn.
+//! Each growth of a call refused in turn, and each block given back.
 use crate::holding::holds;
 use crate::refusing::Refusing;
+use bumpalo::Bump;
+use cfg_expr::memory::SmallAllocator;
 use cfg_expr::{Expression, Predicate};
 use std::alloc::{AllocError, Global};
+use std::mem::forget;
+use std::test::Fail;
 
-/// The allocator of such calls.
-pub(crate) type Heap<'h> = &'h Refusing<Global>;
+/// The allocator of such calls. Its arena counts the blocks that are out.
+pub(crate) type Heap<'h> = &'h Refusing<Bump>;
+
+/// One that refuses nothing yet.
+pub(crate) fn empty_heap(alloc: Global) -> Refusing<Bump> {
+    Refusing::new(Bump::new(alloc))
+}
+
+/// Whether every block is back, since an arena refuses to be reset while one is out.
+pub(crate) fn has_every_block(heap: Refusing<Bump>) -> bool {
+    heap.into_inner().reset().is_ok()
+}
 
 // No call here needs so many growths.
 const MOST_GROWTHS: u64 = 1000;
 
 /// Whether the call answers want of memory with its first growth refused, with its second, and so
 /// on, each time true when it is made again with memory, and true once none is refused; and whether
-/// any was.
+/// any was. No call leaves a block behind, whatever it answers.
 pub(crate) fn is_refused_in_turns<C>(alloc: Global, call: C) -> bool
 where
-    C: Fn(&Refusing<Global>) -> Result<bool, AllocError>,
+    C: Fn(&Refusing<Bump>) -> Result<bool, AllocError>,
     requires { C.IsAlwaysCallable call }
 {
     for turn in 1..MOST_GROWTHS {
-        let heap = Refusing::new(alloc);
+        let heap = empty_heap(alloc);
         heap.refuse(turn);
         let answer = call(&heap);
         if !heap.has_refused() {
-            return turn > 1 && holds(answer);
+            return turn > 1 && holds(answer) && has_every_block(heap);
         }
-        if answer.is_ok() || !holds(call(&heap)) {
+        if answer.is_ok() || !holds(call(&heap)) || !has_every_block(heap) {
             return false;
         }
     }
@@ -33,17 +47,37 @@ where
 }
 
 /// The value with every predicate true, and how many were asked.
-pub(crate) fn all_true<'h>(
-    heap: Heap<'h>,
-    expression: &Expression<Heap<'h>>,
+pub(crate) fn all_true<A: SmallAllocator>(
+    alloc: A,
+    expression: &Expression<A>,
 ) -> (Result<bool, AllocError>, usize) {
     let mut count = 0usize;
     let value = expression.eval(
-        heap,
+        alloc,
         &mut |_predicate: &Predicate<'_>| {
             count = count.saturating_add(1);
             true
         },
     );
     (value, count)
+}
+
+// Whether a block is known to be out where its list is forgotten, and to be back where it is
+// dropped.
+fn is_told(alloc: Global, is_forgotten: bool) -> Result<bool, AllocError> {
+    let heap = empty_heap(alloc);
+    let bytes = vec![in &heap; 0u8; 8]?;
+    if is_forgotten {
+        forget(bytes);
+    } else {
+        drop(bytes);
+    }
+    Ok(has_every_block(heap) != is_forgotten)
+}
+
+#[test]
+fn a_block_that_is_out_is_told(rt: HostRuntime) -> Result<(), Fail> {
+    assert!(rt; is_told(rt.alloc(), true)?);
+    assert!(rt; is_told(rt.alloc(), false)?);
+    Ok(())
 }

@@ -11,8 +11,7 @@ mod printing;
 mod targets;
 
 use crate::holding::holds;
-use crate::refusing::Refusing;
-use crate::turns::Heap;
+use crate::turns::{Heap, empty_heap, has_every_block};
 use fields::{FieldCall, Kind};
 use std::alloc::{AllocError, Global};
 
@@ -161,8 +160,8 @@ fn is_plain(alloc: Global, heap: Heap<'_>, call: Call) -> Result<bool, AllocErro
 }
 
 fn has_plain_answer(alloc: Global, call: Call) -> bool {
-    let heap = Refusing::new(alloc);
-    holds(is_plain(alloc, &heap, call))
+    let heap = empty_heap(alloc);
+    holds(is_plain(alloc, &heap, call)) && has_every_block(heap)
 }
 
 #[test]
@@ -194,8 +193,8 @@ const KINDS: &[Kind] = &[
 ];
 
 fn is_plain_of_field(alloc: Global, call: FieldCall, kind: Kind) -> bool {
-    let heap = Refusing::new(alloc);
-    holds(fields::is_plain(&heap, call, kind))
+    let heap = empty_heap(alloc);
+    holds(fields::is_plain(&heap, call, kind)) && has_every_block(heap)
 }
 
 #[test]

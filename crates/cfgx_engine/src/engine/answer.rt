@@ -1,7 +1,8 @@
 // What a run of the program writes, made in memory whole.
 
 ghost use Rattle.std.specs.Prelude.{◌≡◌, ◌+◌, ◌<◌, [], IfOk, IsOk, string_bytes};
-ghost use Rattle.cfgx_engine.specs.Answer.{output_of, IsShort, PicksFrom, ShowsFailure, ShowsResult};
+ghost use Rattle.cfgx_engine.specs.Answer.{output_of, IsShort, PicksFrom, ShowsFailure};
+ghost use Rattle.cfgx_engine.specs.Answer.{ShowsResult};
 ghost use Rattle.cfgx_engine.specs.Input.{stop_failures, ReadsFront};
 ghost use Rattle.cfgx_engine.specs.Output.{text_line, value_text};
 ghost use Rattle.cfgx_engine.specs.Prints.{PicksInput, Prints, PrintsInput, Reads};

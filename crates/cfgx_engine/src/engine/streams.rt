@@ -10,9 +10,6 @@ ghost use Rattle.cfgx_engine.specs.Streams.{failures_of, write_failures, Takes, 
 use std::io;
 use std::marker::Model;
 
-#[cfg(test)]
-mod tests;
-
 /// Where bytes are read from.
 ///
 /// Contracts see how many of its calls failed and, if it tells them, the bytes that are still to
@@ -92,6 +89,20 @@ impl<S> Counted<S> {
             stream,
             failures: 0,
         }
+    }
+
+    /// How many of its calls failed so far.
+    pub fn failures(&self) -> u64
+        ensures { result ≡ self.now.failures }
+    {
+        self.failures
+    }
+
+    /// The stream inside.
+    pub fn get_ref(&self) -> &S
+        ensures { result.now ≡ self.now.stream }
+    {
+        &self.stream
     }
 }
 

@@ -6,7 +6,10 @@ use Rattle.cfgx_syntax.specs.Token as spelled
 use Rattle.cfgx_syntax.specs.Items.{Item, Ending, ItemsFrom}
 use Rattle.cfgx_syntax.specs.LexerState.{LexerState}
 use Rattle.cfgx_syntax.specs.Lexer.{token_of}
-use Rattle.cfgx_syntax.specs.Error.{Refusal, fault_in, fault_of}
+use Rattle.cfgx_syntax.specs.Error.{Refusal, cause_of, fault_in, fault_of}
+use Rattle.cfgx_grammar.specs.FirstFault.{refusal}
+use Rattle.cfgx_parser.specs.declared.parser.Halt.{Halt}
+use Rattle.cfgx_parser.specs.declared.parser.Halt.TheVariants as halt
 use Rattle.cfgx_syntax.specs.declared.error.Failure.{Failure}
 use Rattle.cfgx_syntax.specs.declared.error.Failure.TheVariants as failure
 use Rattle.cfgx_syntax.specs.declared.lexer.LexerToken.{LexerToken}
@@ -30,34 +33,39 @@ state_of p = record {
   written = written_of p.writer;
 }
 
+-- a parser that halts at a fault shows that one
+abbrev pub HaltsAs : Halt → Result ParserState Refusal → Type 0
+HaltsAs (halt.Fault reason span) answer =
+    answer ≡ Err (refusal (cause_of reason) span.start span.end)
+HaltsAs halt.Memory answer = Unit {0}
+
 -- a fault of the text is the one that the steps show
 abbrev pub FailsAs : {A : Type 0} → List ℕ → Failure A → Result ParserState Refusal → Type 0
 FailsAs text (failure.Parse error) answer = (refusal : Refusal) × (answer ≡ Err refusal)
     × (fault_of error ≡ fault_in text refusal)
 FailsAs text (failure.Memory error) answer = Unit {0}
 
--- the parser went on to a state, in the same text
-pub record Reaches {A : Type 0} (old new : Parser A) (state : ParserState) : Type 0 where
+-- the parser went on to a state
+pub record Reaches {A : Type 0} (new : Parser A) (state : ParserState) : Type 0 where
   pub is : state ≡ state_of {A = A} new
-  pub same_text : new.original.now ≡ old.original.now
   pub fits : Fits (written_of new.writer)
 
 -- the answer of a function that goes one step
-abbrev pub Gives : {A : Type 0} → Result (Unit {0})
-    (Failure A) → Parser A → Parser A → Result ParserState Refusal → Type 0
-Gives {A} (Ok done) old new answer = (state : ParserState) × (answer ≡ Ok state)
-    × Reaches {A = A} old new state
-Gives (Err failure) old new answer = FailsAs old.original.now failure answer
+abbrev pub Gives : {A : Type 0} → Result (Unit {0}) Halt → Parser A → Result ParserState Refusal
+    → Type 0
+Gives {A} (Ok done) new answer = (state : ParserState) × (answer ≡ Ok state)
+    × Reaches {A = A} new state
+Gives (Err halt) new answer = HaltsAs halt answer
 
 abbrev pub item_at : Range ℕ → Item
 item_at span = record { token = spelled.Token.comma; start = span.start; end = span.end }
 
 abbrev pub Opens : {A : Type 0} → Parser A → Parser A → Function → Range ℕ → Type 0
-Opens {A} old new function span = Reaches {A = A} old new
+Opens {A} old new function span = Reaches {A = A} new
     (opened (state_of {A = A} old) function (item_at span))
 
 abbrev pub EndsFunction : {A : Type 0} → Parser A → Parser A → Type 0
-EndsFunction {A} old new = Reaches {A = A} old new (function_ended (opens_of old.func_stack.items)
+EndsFunction {A} old new = Reaches {A = A} new (function_ended (opens_of old.func_stack.items)
     (state_of {A = A} old))
 
 abbrev pub closed_at : ParserState → Range ℕ → Result ParserState Refusal
@@ -69,12 +77,6 @@ value_added s text span = record s {
       (with_value (word_of text (span.start + 1) (span.end - 1))) s.pending;
 }
 
-pub record AddsValue {A : Type 0} (old new : Parser A) (text : List ℕ)
-    (span : Range ℕ) : Type 0 where
-  pub is : state_of {A = A} new ≡ value_added (state_of {A = A} old) text span
-  pub same_text : new.original.now ≡ old.original.now
-  pub same_writer : new.writer ≡ old.writer
-
 -- a value's span has room for its quotes
 abbrev pub IsQuotedAt : Token → Range ℕ → Type 0
 IsQuotedAt (given.Value text) span = span.start + 1 ≤ span.end
@@ -83,8 +85,15 @@ IsQuotedAt _ span = Unit {0}
 abbrev pub IsQuoted : LexerToken → Type 0
 IsQuoted lexed = IsQuotedAt lexed.token lexed.span
 
+-- the answer of a parser that reads a text to its end
+abbrev pub Ends : {A : Type 0} → Result (Unit {0}) (Failure A) → List ℕ → Parser A
+    → Result ParserState Refusal → Type 0
+Ends {A} (Ok done) text new answer = Gives {A = A} (Ok done) new answer
+Ends (Err failure) text new answer = FailsAs text failure answer
+
 abbrev pub ReadsAll : {A : Type 0} → LexerState → Parser A → Parser A → Result (Unit {0})
     (Failure A) → Type 0
 ReadsAll {A} lexer old new result =
     (items : List Item) (ending : Ending) → ItemsFrom lexer.text lexer.place items ending
-    → Gives {A = A} result old new (answer_from (state_of {A = A} old) lexer.text items ending)
+    → Ends {A = A} result lexer.text new
+    (answer_from (state_of {A = A} old) lexer.text items ending)

@@ -1,7 +1,6 @@
 //! What a target is made of.
 
-use crate::refusing::Refusing;
-use crate::turns::Heap;
+use crate::turns::{Heap, empty_heap};
 use cfgx_fields::{Abi, Arch, Vendor};
 
 const ABIS: [&str; 19] = [
@@ -112,7 +111,7 @@ pub(crate) fn are_abis<'h>(_heap: Heap<'h>) -> bool {
 
 #[test]
 fn abis_have_their_texts(rt: HostRuntime) {
-    assert!(rt; are_abis(&Refusing::new(rt.alloc())));
+    assert!(rt; are_abis(&empty_heap(rt.alloc())));
 }
 
 /// Whether the named values have their texts.
@@ -156,7 +155,7 @@ pub(crate) fn are_architectures<'h>(_heap: Heap<'h>) -> bool {
 
 #[test]
 fn architectures_have_their_texts(rt: HostRuntime) {
-    assert!(rt; are_architectures(&Refusing::new(rt.alloc())));
+    assert!(rt; are_architectures(&empty_heap(rt.alloc())));
 }
 
 /// Whether the named values have their texts.
@@ -191,5 +190,5 @@ pub(crate) fn are_vendors<'h>(_heap: Heap<'h>) -> bool {
 
 #[test]
 fn vendors_have_their_texts(rt: HostRuntime) {
-    assert!(rt; are_vendors(&Refusing::new(rt.alloc())));
+    assert!(rt; are_vendors(&empty_heap(rt.alloc())));
 }

@@ -1,7 +1,6 @@
 //! Where a program runs.
 
-use crate::refusing::Refusing;
-use crate::turns::Heap;
+use crate::turns::{Heap, empty_heap};
 use cfgx_places::{Env, Family, Os, Panic};
 
 const OPERATING_SYSTEMS: [&str; 49] = [
@@ -142,7 +141,7 @@ pub(crate) fn are_systems<'h>(_heap: Heap<'h>) -> bool {
 
 #[test]
 fn operating_systems_have_their_texts(rt: HostRuntime) {
-    assert!(rt; are_systems(&Refusing::new(rt.alloc())));
+    assert!(rt; are_systems(&empty_heap(rt.alloc())));
 }
 
 /// Whether the named values have their texts.
@@ -156,7 +155,7 @@ pub(crate) fn are_families<'h>(_heap: Heap<'h>) -> bool {
 
 #[test]
 fn families_have_their_texts(rt: HostRuntime) {
-    assert!(rt; are_families(&Refusing::new(rt.alloc())));
+    assert!(rt; are_families(&empty_heap(rt.alloc())));
 }
 
 /// Whether the named values have their texts.
@@ -189,7 +188,7 @@ pub(crate) fn are_environments<'h>(_heap: Heap<'h>) -> bool {
 
 #[test]
 fn environments_have_their_texts(rt: HostRuntime) {
-    assert!(rt; are_environments(&Refusing::new(rt.alloc())));
+    assert!(rt; are_environments(&empty_heap(rt.alloc())));
 }
 
 /// Whether the named values have their texts.
@@ -203,5 +202,5 @@ pub(crate) fn are_panics<'h>(_heap: Heap<'h>) -> bool {
 
 #[test]
 fn panic_strategies_have_their_texts(rt: HostRuntime) {
-    assert!(rt; are_panics(&Refusing::new(rt.alloc())));
+    assert!(rt; are_panics(&empty_heap(rt.alloc())));
 }

@@ -1,7 +1,7 @@
-//! Targets and want of memory: each growth of a call refused in turn.
+//! Calls on targets that take memory, or need none where a text is borrowed.
 use crate::holding::holds;
-use crate::refusing::{EVERY, Refusing};
-use crate::turns::{Heap, is_refused_in_turns};
+use crate::refusing::EVERY;
+use crate::turns::{Heap, empty_heap};
 use cfg_expr::TargetPredicate;
 use cfg_expr::error::HasAtomicParseError;
 use cfg_expr::targets::{
@@ -46,13 +46,6 @@ pub(crate) fn copies_families(heap: Heap<'_>) -> Result<bool, AllocError> {
     Ok(are_families(&list, &["", "b"]) && are_families(&copy?, &["", "b"]))
 }
 
-#[test]
-fn is_met_by_lists_of_families(rt: HostRuntime) {
-    assert!(rt; is_refused_in_turns(rt.alloc(), makes_families));
-    assert!(rt; is_refused_in_turns(rt.alloc(), names_families));
-    assert!(rt; is_refused_in_turns(rt.alloc(), copies_families));
-}
-
 const UP_TO_128: &[HasAtomic] = &[
     HasAtomic::IntegerSize(8),
     HasAtomic::IntegerSize(16),
@@ -94,13 +87,6 @@ pub(crate) fn copies_widths(heap: Heap<'_>) -> Result<bool, AllocError> {
     Ok(are_widths(&list, 3) && are_widths(&copy?, 3))
 }
 
-#[test]
-fn is_met_by_lists_of_widths(rt: HostRuntime) {
-    assert!(rt; is_refused_in_turns(rt.alloc(), makes_widths));
-    assert!(rt; is_refused_in_turns(rt.alloc(), names_widths));
-    assert!(rt; is_refused_in_turns(rt.alloc(), copies_widths));
-}
-
 // The fault of a text that is no width.
 fn no_width(heap: Heap<'_>) -> Result<Option<HasAtomicParseError<Heap<'_>>>, AllocError> {
     match HasAtomic::read(heap, "PTR") {
@@ -124,12 +110,6 @@ pub(crate) fn copies_a_fault(heap: Heap<'_>) -> Result<bool, AllocError> {
     }
 }
 
-#[test]
-fn is_met_by_faults_of_widths(rt: HostRuntime) {
-    assert!(rt; is_refused_in_turns(rt.alloc(), reads_no_width));
-    assert!(rt; is_refused_in_turns(rt.alloc(), copies_a_fault));
-}
-
 pub(crate) fn builds_the_table(heap: Heap<'_>) -> Result<bool, AllocError> {
     Ok(TargetTable::builtins(heap)?.rows().len() == 5)
 }
@@ -146,13 +126,6 @@ pub(crate) fn copies_a_predicate(heap: Heap<'_>) -> Result<bool, AllocError> {
     let predicate = TargetPredicate::Abi(Abi::new(String::from_str(heap, "sim")?));
     let copy = predicate.try_clone(heap)?;
     Ok(copy == predicate)
-}
-
-#[test]
-fn is_met_by_rows_and_predicates(rt: HostRuntime) {
-    assert!(rt; is_refused_in_turns(rt.alloc(), builds_the_table));
-    assert!(rt; is_refused_in_turns(rt.alloc(), copies_a_row));
-    assert!(rt; is_refused_in_turns(rt.alloc(), copies_a_predicate));
 }
 
 // Whether a width is read with no memory at all.
@@ -176,7 +149,7 @@ fn are_copied(heap: Heap<'_>) -> bool {
 
 #[test]
 fn is_not_met_by_what_is_borrowed(rt: HostRuntime) {
-    let heap = Refusing::new(rt.alloc());
+    let heap = empty_heap(rt.alloc());
     assert!(rt; is_read(&heap));
     assert!(rt; are_copied(&heap));
 }
@@ -268,7 +241,7 @@ fn copies_a_panic(heap: Heap<'_>) -> Result<bool, AllocError> {
 
 #[test]
 fn is_met_by_predicates_with_an_owned_text(rt: HostRuntime) {
-    let heap = Refusing::new(rt.alloc());
+    let heap = empty_heap(rt.alloc());
     assert!(rt; holds(copies_an_abi(&heap)));
     assert!(rt; holds(copies_an_architecture(&heap)));
     assert!(rt; holds(copies_a_vendor(&heap)));
@@ -280,7 +253,7 @@ fn is_met_by_predicates_with_an_owned_text(rt: HostRuntime) {
 
 #[test]
 fn is_not_met_by_predicates_with_no_text(rt: HostRuntime) {
-    let heap = Refusing::new(rt.alloc());
+    let heap = empty_heap(rt.alloc());
     assert!(rt; is_free(&heap, &TargetPredicate::Endian(Endian::big)));
     assert!(rt; is_free(&heap, &TargetPredicate::HasAtomic(HasAtomic::Pointer)));
     assert!(rt;

@@ -14,9 +14,7 @@ begins : (g : Over) (c : After-read_all g) → Begins {A = g.row.A.Denot} (strip
 begins g c = record {
   one = c.new-lexer.ensures.one;
   lexer_is = c.new-lexer.ensures.starts;
-  state_is = c.new-parser.ensures.state;
-  text_is = c.new-parser.ensures.text ∙ c.original-text.ensures
-      ∙ ap (λ l. l.text) c.new-lexer.ensures.starts;
+  state_is = c.new-parser.ensures;
 }
 
 pub returns-in_err-read_all : goal.returns-in_err-read_all

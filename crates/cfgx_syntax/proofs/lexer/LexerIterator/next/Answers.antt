@@ -9,7 +9,7 @@ use Rattle.cfgx_syntax.proofs.lexer.LexerIterator.next.Goals as goal
 
 pub returns-in-Ok-clause-steps : goal.returns-in-Ok-clause-steps
 returns-in-Ok-clause-steps g c =
-    let trimmed = c.trim_start-rest.ensures.value in
+    let trimmed = c.trimmed-rest.ensures in
     let behind = IsBehind-trimmed _ _ _ c.self.invariant.0 c.self.invariant.1 trimmed in
     let token = token_of c.in-Ok.token in
     let begins = c.in-Ok.ensures in
@@ -23,7 +23,7 @@ returns-in-Ok-clause-steps g c =
 pub returns-in-Some-clause-steps : goal.returns-in-Some-clause-steps
 returns-in-Some-clause-steps g c =
     let behind = IsBehind-trimmed _ _ _ c.self.invariant.0 c.self.invariant.1
-    c.trim_start-rest.ensures.value in
+    c.trimmed-rest.ensures in
     rw (← c.self.view_is) (
     GivesFault-found _ _ _ _ behind c.of.result _ (cause_of c.in-Err.reason) c.in-Err.len
     (search rules) c.in-Err.ensures c.of.ensures (state_at _ _ _ (omega arith))

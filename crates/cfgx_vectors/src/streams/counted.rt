@@ -1,7 +1,8 @@
 // Streams in memory that give a little a call, and that fail where they are told to.
 ghost use Rattle.std.specs.Prelude.{Some};
 
-use super::*;
+use cfgx_engine::engine::streams::{Counted, Sink, Source, write_whole};
+use std::io;
 use std::io::ErrorKind;
 use std::test::Fail;
 
@@ -90,14 +91,14 @@ fn a_counted_reader_counts_its_failed_reads(rt: HostRuntime) -> Result<(), Fail>
     let mut buffer = [0u8; 8];
     assert_eq!(rt; source.read(&mut buffer).ok(), Some(3));
     assert_eq!(rt; buffer[0], b'a');
-    assert_eq!(rt; source.failures, 0);
+    assert_eq!(rt; source.failures(), 0);
     assert!(rt; source.read(&mut buffer).is_err());
-    assert_eq!(rt; source.failures, 1);
+    assert_eq!(rt; source.failures(), 1);
     assert_eq!(rt; source.read(&mut buffer).ok(), Some(3));
     assert_eq!(rt; buffer[0], b'd');
     assert_eq!(rt; source.read(&mut buffer).ok(), Some(1));
     assert_eq!(rt; source.read(&mut buffer).ok(), Some(0));
-    assert_eq!(rt; source.failures, 1);
+    assert_eq!(rt; source.failures(), 1);
     Ok(())
 }
 
@@ -108,12 +109,12 @@ fn a_counted_writer_counts_its_failed_writes(rt: HostRuntime) -> Result<(), Fail
     let mut sink = Counted::new(&mut room[..]);
     assert_eq!(rt; sink.write(b"abc").ok(), Some(3));
     assert_eq!(rt; sink.write(b"").ok(), Some(0));
-    assert_eq!(rt; sink.failures, 0);
+    assert_eq!(rt; sink.failures(), 0);
     assert_eq!(rt; sink.write(b"de").ok(), Some(1));
     assert_eq!(rt; sink.write(b"e").ok(), Some(0));
-    assert_eq!(rt; sink.failures, 1);
+    assert_eq!(rt; sink.failures(), 1);
     assert!(rt; sink.flush().is_ok());
-    assert_eq!(rt; sink.failures, 1);
+    assert_eq!(rt; sink.failures(), 1);
     Ok(())
 }
 
@@ -135,13 +136,13 @@ impl io::Write for Broken {
 fn a_counted_writer_counts_errors(rt: HostRuntime) -> Result<(), Fail> {
     let mut sink = Counted::new(Broken);
     assert!(rt; sink.write(b"a").is_err());
-    assert_eq!(rt; sink.failures, 1);
+    assert_eq!(rt; sink.failures(), 1);
     assert!(rt; sink.flush().is_err());
-    assert_eq!(rt; sink.failures, 2);
+    assert_eq!(rt; sink.failures(), 2);
     assert!(rt; !write_whole(&mut sink, b"a"));
-    assert_eq!(rt; sink.failures, 3);
+    assert_eq!(rt; sink.failures(), 3);
     assert!(rt; !write_whole(&mut sink, b""));
-    assert_eq!(rt; sink.failures, 4);
+    assert_eq!(rt; sink.failures(), 4);
     Ok(())
 }
 
@@ -196,17 +197,17 @@ fn a_counted_stream_tries_no_call_again(rt: HostRuntime) -> Result<(), Fail> {
     assert!(rt; counted.read(&mut buffer).is_err());
     assert!(rt; counted.write(b"ab").is_err());
     assert!(rt; counted.flush().is_err());
-    assert_eq!(rt; counted.failures, 3);
-    assert_eq!(rt; counted.stream.reads, 1);
-    assert_eq!(rt; counted.stream.writes, 1);
-    assert_eq!(rt; counted.stream.flushes, 1);
+    assert_eq!(rt; counted.failures(), 3);
+    assert_eq!(rt; counted.get_ref().reads, 1);
+    assert_eq!(rt; counted.get_ref().writes, 1);
+    assert_eq!(rt; counted.get_ref().flushes, 1);
     assert_eq!(rt; counted.read(&mut buffer).ok(), Some(0));
     assert_eq!(rt; counted.write(b"ab").ok(), Some(2));
     assert!(rt; counted.flush().is_ok());
-    assert_eq!(rt; counted.failures, 3);
-    assert_eq!(rt; counted.stream.reads, 2);
-    assert_eq!(rt; counted.stream.writes, 2);
-    assert_eq!(rt; counted.stream.flushes, 2);
+    assert_eq!(rt; counted.failures(), 3);
+    assert_eq!(rt; counted.get_ref().reads, 2);
+    assert_eq!(rt; counted.get_ref().writes, 2);
+    assert_eq!(rt; counted.get_ref().flushes, 2);
     Ok(())
 }
 
@@ -216,9 +217,9 @@ fn a_counted_writer_takes_the_whole(rt: HostRuntime) -> Result<(), Fail> {
     let mut room = [0u8; 6];
     let mut sink = Counted::new(&mut room[..]);
     assert!(rt; write_whole(&mut sink, b"hello\n"));
-    assert_eq!(rt; sink.failures, 0);
+    assert_eq!(rt; sink.failures(), 0);
     assert!(rt; !write_whole(&mut sink, b"more"));
-    assert_eq!(rt; sink.failures, 1);
+    assert_eq!(rt; sink.failures(), 1);
     assert_eq!(rt; room.as_slice(), b"hello\n".as_slice());
     Ok(())
 }
