@@ -1,27 +1,22 @@
-// Streams in memory that give a little a call, and that fail where they are told to.
+//! Streams of the standard library whose failed calls are counted.
 ghost use Rattle.std.specs.Prelude.{Some};
 
+use super::interrupted;
 use cfgx_engine::engine::streams::{Counted, Sink, Source, write_whole};
 use std::io;
-use std::io::ErrorKind;
 use std::test::Fail;
-
-// What a failed call answers. An interrupted call is not tried again either.
-fn interrupted() -> io::Error {
-    io::Error::from(ErrorKind::Interrupted)
-}
 
 // A reader of at most `each` bytes a call, whose read of the number `failing_read`, counted from 1,
 // fails.
 #[derive(Drop)]
-struct Pieces<'a> {
+struct PieceReader<'a> {
     left: &'a [u8],
     each: usize,
     failing_read: u64,
     reads: u64,
 }
 
-impl io::Read for Pieces<'_> {
+impl io::Read for PieceReader<'_> {
     ghost remaining = { λ pieces. Some pieces.left.now };
 
     fn read(&mut self, buffer: &mut [u8]) -> io::Result<usize> {
@@ -38,8 +33,8 @@ impl io::Read for Pieces<'_> {
 }
 
 // A reader of at most three bytes a call, whose second read fails.
-fn second_failing(left: &[u8]) -> Pieces<'_> {
-    Pieces {
+fn second_failing(left: &[u8]) -> PieceReader<'_> {
+    PieceReader {
         left,
         each: 3,
         failing_read: 2,
@@ -50,7 +45,7 @@ fn second_failing(left: &[u8]) -> Pieces<'_> {
 // Such a reader as a source that tells its bytes.
 #[derive(Drop)]
 struct Told<'a> {
-    pieces: Pieces<'a>,
+    pieces: PieceReader<'a>,
     failures: u64,
 }
 
