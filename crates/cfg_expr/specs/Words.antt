@@ -1,4 +1,4 @@
--- The words of other crates that the contracts of a caller name, who then lists this crate alone.
+-- Words of other crates for the contracts of a caller of `parse` and `eval`.
 pub use Rattle.cfgx_syntax.specs.Stripping.{strip}
 pub use Rattle.cfgx_grammar.specs.Answer.{Answers, HasOneTree}
 pub use Rattle.cfgx_grammar.specs.Fold.{fold}

@@ -95,6 +95,8 @@ impl<A: Allocator> fmt::Debug for Expression<A> {
 
 impl<A: SmallAllocator> Expression<A> {
     /// The expression of a text, which may stand in `cfg( )`.
+    ///
+    /// The error is the first fault of the text, or that `alloc` refused memory.
     pub fn parse(alloc: A, original: &str) -> Result<Self, Failure<A>>
         ensures { Answers (strip original.now) result }
     {
@@ -138,7 +140,8 @@ impl<A: SmallAllocator> Expression<A> {
     /// the predicates and literals of the list, and then its functions.
     ///
     /// All memory is taken before the first question, and none where the text has at most 32 bytes.
-    /// The error is that `alloc` refused it; then `ep` is as it was.
+    /// The error is that `alloc` refused it; then `ep` is as it was. It must be callable on each
+    /// predicate, in each state that the calls before leave it in.
     pub fn eval<EP, T>(&self, alloc: A, ep: &mut EP) -> Result<T, AllocError>
     where
         EP: FnMut(&Predicate<'_>) -> T,

@@ -6,7 +6,8 @@ use cfgx_engine::engine::{Counted, run};
 use std::process::ExitCode;
 use std::{env, io};
 
-/// The status where the words could not be had, since memory was refused. Nothing was written then.
+/// The status if the words could not be had: memory was refused, or one is not UTF-8. Nothing was
+/// written then.
 const REFUSED: u8 = 3;
 
 /// Hands the words behind the program's name to the engine, and answers its status.

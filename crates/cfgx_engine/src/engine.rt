@@ -31,9 +31,9 @@ const REFUSED: u8 = 3;
 ///
 /// `words` are those behind the program's name. What is written is made in memory whole before its
 /// first byte goes out; the usage line takes no memory. Status 0 says that it is done, 1 that a
-/// text is faulty, 2 that the words ask for nothing known, and 3 that memory was refused or that a
-/// call of the reader or writer failed. No failed call is tried again. The rules are in
-/// `docs/RULES.md`.
+/// text or the input is faulty, 2 wrong use or a triple that is not built in, and 3 that memory was
+/// refused or that a call of the reader or writer failed. No failed call is tried again. Both
+/// streams must count fewer than `u64::MAX` failed calls. The rules are in `docs/RULES.md`.
 pub fn run<A: SmallAllocator, R: Source, W: Sink>(
     alloc: A,
     words: &[&str],
@@ -58,7 +58,7 @@ pub fn run<A: SmallAllocator, R: Source, W: Sink>(
         × WritesFront (request_of (texts words.now)) (R.unread reader.old)
         (W.written writer.old) (W.written writer.new)) }
 
-    // Wrong use meets no want of memory.
+    // Wrong use takes no memory.
     ensures wrong_use { request_of (texts words.now) ≡ Request.wrong_use → result ≡ 3
         → W.failures writer.new ≡ W.failures writer.old + 1 }
 

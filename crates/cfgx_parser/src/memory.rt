@@ -1,10 +1,10 @@
 //! The allocators of expressions.
 use std::alloc::{Allocator, Global};
 
-/// An allocator's handle that is copied, and that takes few bytes, as a reference does.
+/// An allocator's handle that is copied, and that takes at most 2^32 bytes, as a reference does.
 ///
 /// The vectors of an expression hold one beside their inline places, so the bytes that they take
-/// depend on it. Every `&A` is such a handle: an allocator of any size is lent.
+/// depend on it. Every `&A` is such a handle: one of any other size is passed as `&alloc`.
 pub trait SmallAllocator: Allocator + Copy {
     ghost use Rattle.cfgx_syntax.specs.Size.{IsSmall};
 

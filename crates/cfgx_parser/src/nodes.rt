@@ -1,4 +1,4 @@
-//! The nodes in which an expression keeps its tree.
+//! The nodes in which a `Parsed` keeps its tree.
 ghost use Rattle.std.specs.Prelude.{◌≡◌, ◌<◌, ◌≤◌, length, OnOk};
 
 use crate::function::Func;

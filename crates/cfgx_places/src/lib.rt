@@ -36,5 +36,5 @@ pub type Family<'a, A = Global> = Field<'a, FamilyKind, A>;
 /// The value of `target_env`, such as `musl`.
 pub type Env<'a, A = Global> = Field<'a, EnvKind, A>;
 
-/// The value of `panic`: `abort` or `unwind`.
+/// The value of `panic`, such as `unwind`.
 pub type Panic<'a, A = Global> = Field<'a, PanicKind, A>;

@@ -20,7 +20,7 @@ const CARETS: &str = "^^^^^^^^^^^^^^^^^^^^^^^^^^^^^^^^^^^^^^^^^^^^^^^^^^^^^^^^^^
 /// Why a text is refused.
 #[derive(Clone, Copy, Debug, PartialEq, Eq)]
 pub enum Reason {
-    /// `not` has this many predicates, which is not one.
+    /// `not` has this many members, which is not one.
     InvalidNot(usize),
     /// Characters that no expression has. No call of this crate answers it.
     InvalidCharacters,
@@ -32,13 +32,13 @@ pub enum Reason {
     UnclosedQuotes,
     /// A quote is closed that was never opened. No call of this crate answers it.
     UnopenedQuotes,
-    /// There is no predicate and no function.
+    /// There is no item: no predicate, literal or function.
     Empty,
     /// A term that may not stand here, with the terms that may; none where nothing may.
     Unexpected(&'static [&'static str]),
-    /// A number is not one, or is out of its range.
+    /// A number is none or out of its range, or a `target_endian` is neither `big` nor `little`.
     InvalidInteger,
-    /// More than one predicate or function stands at the root.
+    /// More than one item stands at the root.
     MultipleRootPredicates,
     /// The width of an atomic is neither an integer nor `ptr`.
     InvalidHasAtomic,

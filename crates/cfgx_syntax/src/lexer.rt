@@ -209,6 +209,8 @@ impl<'a, A: Allocator> Lexer<'a, A> {
     }
 }
 
+/// Each item is the next token. The error is the lexical fault that the text ends with, or that
+/// memory was refused for its copy of the text.
 impl<'a, A: Allocator> Iterator for Lexer<'a, A> {
     type Item = Result<LexerToken<'a>, Failure<A>>;
 

@@ -1,4 +1,4 @@
-//! The named lists, the targets that are built in, and the version that they are of.
+//! The named lists, the targets that are built in, and a fixed version.
 
 ghost use Rattle.std.specs.Prelude.{◌≡◌, ◌∷◌, ◌++◌, [], IfOk, OnOk, codes, option_copied};
 ghost use Rattle.cfgx_targets.specs.Builtins.{apple_row, builtin_rows, widths_and_pointer};
@@ -122,7 +122,7 @@ impl<'a, A: Allocator> SortedList<'a, HasAtomic, A> {
     }
 }
 
-/// The version of the compiler that the targets and the named values are of.
+/// `1.99.0`, a fixed text. No claim is made that rows or named values are those of such a compiler.
 pub const fn rustc_version() -> &'static str
     ensures { result.now ≡ codes "1.99.0" }
 {

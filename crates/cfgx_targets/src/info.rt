@@ -12,7 +12,7 @@ use std::alloc::{AllocError, Allocator, Global};
 mod laws;
 
 /// What the predicates of a target ask for, with texts that are borrowed for `'a` or owned in the
-/// allocator `A`. A field that is `None` is one that the target has not.
+/// allocator `A`. `None` means that the target has no such value.
 ///
 /// Targets are ordered by their fields, the first one first.
 #[derive(Drop)]

@@ -10,21 +10,23 @@ use crate::endian::Endian;
 
 mod laws;
 
-/// The number that the text writes, at most 255: at most one `+`, and then ASCII digits.
+/// The number that the text writes, at most 255: at most one `+`, and then ASCII digits. `None`
+/// if it writes none.
 pub fn read_u8(text: &str) -> Option<u8>
     ensures { result ≡ read_below (2 ^ 8) text.now }
 {
     text.parse::<u8>().ok()
 }
 
-/// The number that the text writes, at most 65535: at most one `+`, and then ASCII digits.
+/// The number that the text writes, at most 65535: at most one `+`, and then ASCII digits. `None`
+/// if it writes none.
 pub fn read_u16(text: &str) -> Option<u16>
     ensures { result ≡ read_below (2 ^ 16) text.now }
 {
     text.parse::<u16>().ok()
 }
 
-/// The byte order that the text names.
+/// The byte order that the text names, or `None`.
 #[tactic(auto, unfolding(crate::specs::Endian::endian_named))]
 pub fn read_endian(text: &str) -> Option<Endian>
     ensures { result ≡ endian_named text.now }
@@ -36,7 +38,8 @@ pub fn read_endian(text: &str) -> Option<Endian>
     }
 }
 
-/// The width of atomics that the text names: a number as `read_u16` reads it, or `ptr`.
+/// The width of atomics that the text names: a number as `read_u16` reads it, or `ptr`. `None` for
+/// any other text.
 #[tactic(auto, unfolding(crate::specs::HasAtomic::atomic_named))]
 pub fn read_has_atomic(text: &str) -> Option<HasAtomic>
     ensures { result ≡ atomic_named text.now }

@@ -4,8 +4,9 @@
 //! the row goes on in the next one. Elsewhere `\n`, `\t`, `\r`, `\0` and `\\` stand for what they
 //! are in Rust, and `\N` for U+0085.
 //!
-//! No row is left out. The tables have no text that this crate answers otherwise on purpose, one
-//! with several functions at its root or with more than 255 functions in a list.
+//! No row is left out. The tables have no text that this crate answers otherwise on purpose: one
+//! with several functions at its root or with more than 255 functions in a list, and an accepted
+//! one with a bare `true` or `false`.
 use crate::streams::is_answer;
 use std::alloc::{AllocError, Global};
 use std::process::Abort;

@@ -1,4 +1,4 @@
-// Streams whose failed calls are counted, and the one loop that writes.
+//! Streams whose failed calls are counted, and the one loop that writes.
 
 ghost use Rattle.std.specs.Prelude.{◌≡◌, ℕ, ◌+◌, ◌<◌, List, Option, length, None};
 ghost use Rattle.std.specs.Prelude.{IfSome, IfNone, is_some, if◌then◌else◌};
@@ -169,7 +169,7 @@ impl<S: io::Write> Sink for Counted<S> {
 ///
 /// Where there is nothing to write no `write` is made, but the flush is. The first failed call ends
 /// it: no call is tried again, an interrupted one neither. What was written then is a beginning of
-/// the bytes.
+/// the bytes. The sink must count fewer than `u64::MAX` failed calls.
 pub fn write_whole<W: Sink>(sink: &mut W, bytes: &[u8]) -> bool
     requires { W.failures sink.old < u64.MAX }
     ensures count { W.failures sink.new ≡ W.failures sink.old + (if result then 0 else 1) }

@@ -1,4 +1,4 @@
--- What an `Expression` keeps of its text: the nodes of its tree, and the places of the predicates
+-- What a `Parsed` keeps of its text: the nodes of its tree, and the places of the predicates
 -- as they are asked.
 use Rattle.std.specs.Prelude.{◌≡◌, ℕ, List, map, Option, Some, None, option_map, option_and_then}
 use Rattle.std.specs.List.{AllByRecursion, slice_get, filter_map}

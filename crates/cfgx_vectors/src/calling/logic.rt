@@ -20,7 +20,7 @@ impl Logic for Cost {
 
     ghost not = { λ one. one };
 
-    // It takes less than 2^32 bytes: this line is the same for every type.
+    // It takes at most 2^32 bytes: this line is the same for every type.
     ghost small = { (lit≤ tt, lit≤ tt) };
 
     fn top() -> Cost {
