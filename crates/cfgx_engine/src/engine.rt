@@ -58,7 +58,7 @@ pub fn run<A: SmallAllocator, R: Source, W: Sink>(
         × WritesFront (request_of (texts words.now)) (R.unread reader.old)
         (W.written writer.old) (W.written writer.new)) }
 
-    // Wrong use takes no memory.
+    // On wrong use, status 3 only says that a call of the writer failed.
     ensures wrong_use { request_of (texts words.now) ≡ Request.wrong_use → result ≡ 3
         → W.failures writer.new ≡ W.failures writer.old + 1 }
 

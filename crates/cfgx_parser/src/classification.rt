@@ -26,7 +26,7 @@ pub(crate) struct Pending<'a> {
 /// What is wrong with a key or its value, and the bytes that are at fault.
 pub(crate) type Refused = (Reason, Span);
 
-/// What a key says that stands without a value.
+/// The leaf of a key that takes no value, or the fault if one stands there.
 fn bare(leaf: ExprNode, value: Option<Word<'_>>) -> Result<ExprNode, Refused>
     ensures { class_result result ≡ bare_answer leaf (option_map word_of value.entry) }
 {

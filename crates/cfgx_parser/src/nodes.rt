@@ -91,7 +91,7 @@ impl Default for ExprNode {
 pub(crate) struct Mark {
     /// The place of its node
     pub(crate) node: usize,
-    /// How many predicates of the lists around it wait
+    /// How many predicates of open lists were written before it
     pub(crate) leaves: usize,
 }
 
@@ -111,7 +111,7 @@ impl<A: SmallAllocator> Writer<A> {
     ghost use Rattle.cfgx_parser.specs.nodes.Node.{with_list_ended, with_function_ended};
     ghost use Rattle.cfgx_parser.specs.nodes.Writer.{written_of, Fits};
 
-    /// Nothing is written.
+    /// A writer that has written nothing.
     pub(crate) fn new(alloc: A) -> Self
         ensures { written_of result ≡ nothing }
     {

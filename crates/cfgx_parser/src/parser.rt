@@ -214,7 +214,7 @@ impl<'a, A: SmallAllocator> Parser<'a, A> {
         requires { IsBounded (state_of self.old) }
         ensures { Gives result self.new (predicate_ended (state_of self.old)) }
     {
-        // To take it moves a whole `Pending`, also if there is none, as at a `)` behind another.
+        // `take` moves a whole `Pending` even out of `None`, as at a `)` behind another.
         if self.pending.is_none() {
             return Ok(());
         }
@@ -336,7 +336,7 @@ impl<'a, A: SmallAllocator> Parser<'a, A> {
         Ok(())
     }
 
-    /// Ends a text of so many bytes: one item is left, whose nodes are written.
+    /// Ends a text of so many bytes, which has to be one item, and completes its nodes.
     fn finish(&mut self, len: usize) -> Result<(), Halt>
         requires { IsBounded (state_of self.old) }
         ensures { Gives result self.new (conclude len (state_of self.old)) }

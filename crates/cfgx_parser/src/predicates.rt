@@ -66,7 +66,7 @@ pub enum Predicate<'a, A: Allocator = Global> {
 }
 
 impl InnerTarget {
-    /// The predicate of the text in which it stands.
+    /// The predicate, with its texts cut out of the text in which it stands.
     fn to_pred<'a>(&self, text: &'a str) -> TargetPredicate<'a>
         requires { TargetHasCut text.now self.now }
         ensures { target_of result ≡ target_question_at text.now self.now }
@@ -101,7 +101,7 @@ impl InnerTarget {
 }
 
 impl InnerPredicate {
-    /// The predicate of the text in which it stands.
+    /// The predicate, with its texts cut out of the text in which it stands.
     pub(crate) fn to_pred<'a>(&self, text: &'a str) -> Predicate<'a>
         requires { HasCut text.now self.now }
         ensures { question_of result ≡ question_at text.now self.now }

@@ -61,7 +61,7 @@ fn trimmed(text: &str) -> &str
     ensures { IsTrimStart text.now result.now }
 {
     match text.as_bytes().first() {
-        // Most tokens have none, which their first byte tells without a character.
+        // Mostly there is none: then the first byte tells so, and no character is decoded.
         Some(first) if first.is_ascii_graphic() => text,
         _ => text.trim_start(),
     }
@@ -201,7 +201,7 @@ impl<'a, A: Allocator> Lexer<'a, A> {
     }
 
     /// The number of bytes after the last token that was given: it falls with each item, and is 0
-    /// once nothing is to come.
+    /// after `None` and after a refusal.
     pub fn items_left_bound(&self) -> usize
         ensures { result ≡ length self.now.text - self.now.place }
     {

@@ -1,5 +1,5 @@
-//! The tests that need nothing private, whose answers are known from outside; callers that are
-//! proved; and an allocator that refuses on demand.
+//! All tests, whose answers are known from outside; callers that are proved; and an allocator that
+//! refuses on demand.
 #![tactic(auto)]
 
 #[cfg(test)]

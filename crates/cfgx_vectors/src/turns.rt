@@ -25,8 +25,8 @@ pub(crate) fn has_every_block(heap: Refusing<Bump>) -> bool {
 const MOST_GROWTHS: u64 = 1000;
 
 /// Whether the call answers want of memory with its first growth refused, with its second, and so
-/// on, each time true when it is made again with memory, and true once none is refused; and whether
-/// any was. No call leaves a block behind, whatever it answers.
+/// on, and true when it is made again; whether it is true once none is refused, and at least one
+/// was before; and whether every block was back at the end of each turn.
 pub(crate) fn is_refused_in_turns<C>(alloc: Global, call: C) -> bool
 where
     C: Fn(&Refusing<Bump>) -> Result<bool, AllocError>,

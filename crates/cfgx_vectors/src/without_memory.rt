@@ -1,4 +1,4 @@
-//! Every call that takes no memory, with every growth refused: it gives its plain answer.
+//! Calls that take no memory, with every growth refused: each gives its plain answer.
 //!
 //! What such a call is given is made with memory first. A row is false if the answer is another
 //! one, and an error if there was no memory for what the call is given.

@@ -126,7 +126,7 @@ impl<A: SmallAllocator> Flags<A> {
         Ok(())
     }
 
-    /// The answer to a predicate, which is true if a flag of each kind names it.
+    /// The answer to a predicate. If flags of both kinds name it, it is true.
     fn answer(&self, predicate: &Predicate<'_>) -> Option<bool>
         ensures { IsAnswer self.now.known.items self.now.unknown.items
             (question_of predicate.now) result }
