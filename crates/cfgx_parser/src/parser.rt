@@ -214,10 +214,6 @@ impl<'a, A: SmallAllocator> Parser<'a, A> {
         requires { IsBounded (state_of self.old) }
         ensures { Gives result self.new (predicate_ended (state_of self.old)) }
     {
-        // `take` moves a whole `Pending` even out of `None`, as at a `)` behind another.
-        if self.pending.is_none() {
-            return Ok(());
-        }
         let Some(pending) = self.pending.take() else {
             return Ok(());
         };
