@@ -15,7 +15,7 @@ use Rattle.cfgx_parser.specs.parsing.State.{ParserState}
 use Rattle.cfgx_grammar.specs.parsing.Step.{step, conclude, ended_as, answer_from}
 use Rattle.cfgx_parser.specs.parsing.Bounded.{IsHeld, IsBounded}
 use Rattle.cfgx_parser.specs.parsing.Parser.{state_of, HaltsAs, FailsAs, Reaches, Gives}
-use Rattle.cfgx_parser.specs.parsing.Parser.{ReadsAll}
+use Rattle.cfgx_parser.specs.parsing.Parser.{ReadsAll, Says}
 use Rattle.cfgx_parser.specs.declared.parser.Halt.{Halt}
 use Rattle.cfgx_parser.specs.declared.parser.Halt.TheVariants as halt
 use Rattle.cfgx_parser.specs.declared.parser.Parser.{Parser}
@@ -55,11 +55,11 @@ Leads-read {A} lexer now next old before after item state l gives steps reaches 
     }
 
 -- a fault of the rest is the fault of the whole
-HaltsAs-more : (h : Halt) (part whole : Result ParserState Refusal)
-    → ((refusal : Refusal) → part ≡ Err refusal → whole ≡ Err refusal) → HaltsAs h part
-    → HaltsAs h whole
-HaltsAs-more (halt.Fault reason span) part whole more halts = more _ halts
-HaltsAs-more halt.Memory part whole more halts = tt
+HaltsAs-more : {A : Type 0} (h : Halt) (parser : Parser A) (part whole : Result ParserState Refusal)
+    → ((refusal : Refusal) → part ≡ Err refusal → whole ≡ Err refusal)
+    → HaltsAs {A = A} h parser part → HaltsAs {A = A} h parser whole
+HaltsAs-more halt.Fault parser part whole more halts = (halts.0, halts.1, more _ halts.2)
+HaltsAs-more halt.Memory parser part whole more halts = tt
 
 pub FailsAs-with : {A : Type 0} (text : List ℕ) (failure : Failure A)
     (refusal : Refusal) → FailsWith (fault_in text refusal) failure
@@ -67,20 +67,15 @@ pub FailsAs-with : {A : Type 0} (text : List ℕ) (failure : Failure A)
 FailsAs-with text (failure.Parse error) refusal fails = (refusal, refl, fails)
 FailsAs-with text (failure.Memory error) refusal fails = tt
 
--- what a failure says of a halt
-abbrev pub Says : {A : Type 0} → List ℕ → Halt → Failure A → Type 0
-Says {A} text h failure = (answer : Result ParserState Refusal) → HaltsAs h answer
-    → FailsAs text failure answer
-
 -- a token that is refused
 pub ReadsAll-read : {A : Type 0} (lexer now next : LexerState) (old before after : Parser A)
     (item : Item) (h : Halt) (failure : Failure A)
     → Leads {A = A} lexer now old before → GivesItem now item next
-    → HaltsAs h (step (state_of {A = A} before) item) → Says lexer.text h failure
-    → ReadsAll {A = A} lexer old after (Err failure)
+    → HaltsAs {A = A} h after (step (state_of {A = A} before) item)
+    → Says {A = A} lexer.text h after failure → ReadsAll {A = A} lexer old after (Err failure)
 ReadsAll-read {A} lexer now next old before after item h failure l gives halts says items ending
     come =
-    says _ (HaltsAs-more h (step (state_of {A = A} before) item) _
+    says _ (HaltsAs-more {A = A} h after (step (state_of {A = A} before) item) _
     (λ refusal e. Continues-refused lexer.text lexer.place now.place (state_of {A = A} old)
     (state_of {A = A} before) item refusal l.continues
     (stands_there lexer now next item l.text gives) e items ending come) halts)
@@ -123,10 +118,10 @@ ReadsAll-end {A} lexer now old before after l blank gives items ending come =
 pub ReadsAll-halt : {A : Type 0} (lexer now : LexerState) (old before after : Parser A)
     (h : Halt) (failure : Failure A)
     → Leads {A = A} lexer now old before → IsBlank (drop now.place now.text)
-    → HaltsAs h (conclude (length lexer.text) (state_of {A = A} before))
-    → Says lexer.text h failure → ReadsAll {A = A} lexer old after (Err failure)
+    → HaltsAs {A = A} h after (conclude (length lexer.text) (state_of {A = A} before))
+    → Says {A = A} lexer.text h after failure → ReadsAll {A = A} lexer old after (Err failure)
 ReadsAll-halt {A} lexer now old before after h failure l blank halts says items ending come =
-    says _ (subst (HaltsAs h)
+    says _ (subst (HaltsAs {A = A} h after)
     (sym (ended {A = A} lexer now old before items ending l blank come)) halts)
 
 -- what `next` gave, as the code takes it apart

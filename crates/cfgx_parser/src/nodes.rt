@@ -163,11 +163,9 @@ impl<A: SmallAllocator> Writer<A> {
         requires { leaves ≤ length (written_of self.old).leaves }
         ensures { OnOk result (written_of self.new ≡ with_list_ended leaves (written_of self.old)) }
     {
-        if leaves < self.leaves.len() {
-            self.asked
-                .extend_from_slice(&self.leaves.as_slice()[leaves..])?;
-            self.leaves.truncate(leaves);
-        }
+        self.asked
+            .extend_from_slice(&self.leaves.as_slice()[leaves..])?;
+        self.leaves.truncate(leaves);
         Ok(())
     }
 
@@ -180,6 +178,9 @@ impl<A: SmallAllocator> Writer<A> {
     {
         let len = self.nodes.len() - mark.node;
         self.nodes[mark.node] = ExprNode::Fn { func, len };
-        self.end_list(mark.leaves)
+        if mark.leaves < self.leaves.len() {
+            self.end_list(mark.leaves)?;
+        }
+        Ok(())
     }
 }

@@ -1,11 +1,11 @@
 //! From a text to the nodes of its tree, in one pass.
 ghost use Rattle.std.specs.Prelude.{◌≡◌, ◌+◌, ◌≤◌, length, ◌<◌, ◌↔◌, ◌≢◌, [], true, option_map};
-ghost use Rattle.std.specs.Prelude.{map, reverse, IsTrue, OnOk, IfOk, Result, Err};
-ghost use Rattle.cfgx_syntax.specs.Error.{cause_of, unexpected, Refusal};
+ghost use Rattle.std.specs.Prelude.{map, reverse, IsTrue, OnOk, IfOk, Err};
+ghost use Rattle.cfgx_syntax.specs.Error.{cause_of, unexpected};
 ghost use Rattle.cfgx_syntax.specs.Lexer.{token_of, item_of};
 ghost use Rattle.cfgx_grammar.specs.Neighbours.{next, expected};
 ghost use Rattle.cfgx_parser.specs.nodes.Writer.{Fits, written_of};
-ghost use Rattle.cfgx_parser.specs.parsing.State.{ParserState, counted};
+ghost use Rattle.cfgx_parser.specs.parsing.State.{counted};
 ghost use Rattle.cfgx_grammar.specs.FirstFault.{refusal};
 ghost use Rattle.cfgx_grammar.specs.parsing.Step.{over_top, one_more, root_more, with_item};
 ghost use Rattle.cfgx_grammar.specs.parsing.Step.{with_parens, leaf_ended, predicate_ended, opened};
@@ -13,7 +13,7 @@ ghost use Rattle.cfgx_grammar.specs.parsing.Step.{new_open, member_count, has_ro
 ghost use Rattle.cfgx_grammar.specs.parsing.Step.{closed_by, apply, step, unclosed, conclude};
 ghost use Rattle.cfgx_parser.specs.parsing.Fields.{function_of, open_of, opens_of, is_some_open};
 ghost use Rattle.cfgx_parser.specs.parsing.Bounded.{TopHasRoom};
-ghost use Rattle.cfgx_parser.specs.parsing.Parser.{HaltsAs, FailsAs};
+ghost use Rattle.cfgx_parser.specs.parsing.Parser.{shown};
 
 use crate::classification::{Pending, Word, classify};
 use crate::function::Func;
@@ -50,11 +50,19 @@ impl Default for FuncAndSpan {
     }
 }
 
-/// Why the parser goes no further.
+/// What is wrong with the text.
 #[derive(Drop)]
+pub(crate) struct Fault {
+    reason: Reason,
+    /// The bytes that are at fault
+    span: Span,
+}
+
+/// Why the parser goes no further. It is small, since each step may answer it.
+#[derive(Clone, Copy)]
 pub(crate) enum Halt {
-    /// What is wrong with the text, and the bytes that are at fault
-    Fault(Reason, Span),
+    /// The parser has noted a fault
+    Fault,
     /// Memory was refused
     Memory,
 }
@@ -69,18 +77,6 @@ impl From<AllocError> for Halt {
     }
 }
 
-/// The failure of a text of which the parser reads no more. A fault has a copy of the text, for
-/// which memory may be refused.
-fn failure<A: SmallAllocator>(alloc: A, original: &str, halt: Halt) -> Failure<A>
-    ensures { (answer : Result ParserState Refusal)
-        → HaltsAs halt answer → FailsAs original.now result answer }
-{
-    match halt {
-        Halt::Fault(reason, span) => Failure::of(alloc, original, span, reason),
-        Halt::Memory => Failure::Memory(AllocError),
-    }
-}
-
 /// What was read so far.
 #[derive(Drop)]
 pub(crate) struct Parser<'a, A: SmallAllocator> {
@@ -92,6 +88,8 @@ pub(crate) struct Parser<'a, A: SmallAllocator> {
     pending: Option<Pending<'a>>,
     /// How many items at the root have ended
     root_count: usize,
+    /// What is wrong, once that was found
+    fault: Option<Fault>,
 }
 
 /// Whether the token may stand behind the last one, or at the start.
@@ -99,14 +97,16 @@ fn may_follow(last: Option<Token<'_>>, token: Token<'_>) -> bool
     ensures { result ≡ next (option_map token_of last.entry) (token_of token.entry) }
 {
     use Token::*;
-    match last {
-        None => matches!(token, Key(_) | All | Any | Not),
-        Some(OpenParen) => matches!(token, Key(_) | All | Any | Not | CloseParen),
-        Some(Comma) => matches!(token, Key(_) | All | Any | Not | CloseParen | Comma),
-        Some(Key(_)) => matches!(token, Equals | CloseParen | Comma),
-        Some(Equals) => matches!(token, Value(_)),
-        Some(Value(_) | CloseParen) => matches!(token, CloseParen | Comma),
-        Some(All | Any | Not) => matches!(token, OpenParen),
+    match token {
+        Key(_) | All | Any | Not => matches!(last, None | Some(OpenParen | Comma)),
+        Value(_) => matches!(last, Some(Equals)),
+        Equals => matches!(last, Some(Key(_))),
+        OpenParen => matches!(last, Some(All | Any | Not)),
+        CloseParen => matches!(
+            last,
+            Some(OpenParen | Comma | Key(_) | Value(_) | CloseParen)
+        ),
+        Comma => matches!(last, Some(Comma | Key(_) | Value(_) | CloseParen)),
     }
 }
 
@@ -171,12 +171,18 @@ fn open_parens<A: SmallAllocator>(stack: &mut SmallVec<FuncAndSpan, 5, A>, place
 }
 
 /// The fault of a text of so many bytes that ends while this function is open.
-fn unclosed(top: &FuncAndSpan, len: usize) -> Halt
-    ensures { HaltsAs result (Err (unclosed len (open_of top.now) top.now.parens_index)) }
+fn unclosed(top: &FuncAndSpan, len: usize) -> Fault
+    ensures { shown result ≡ unclosed len (open_of top.now) top.now.parens_index }
 {
     match top.parens_index {
-        Some(place) => Halt::Fault(Reason::UnclosedParens, place..len),
-        None => Halt::Fault(Reason::Unexpected(&["("]), top.span.start..top.span.end),
+        Some(place) => Fault {
+            reason: Reason::UnclosedParens,
+            span: place..len,
+        },
+        None => Fault {
+            reason: Reason::Unexpected(&["("]),
+            span: top.span.start..top.span.end,
+        },
     }
 }
 
@@ -184,6 +190,7 @@ impl<'a, A: SmallAllocator> Parser<'a, A> {
     ghost use Rattle.cfgx_grammar.specs.parsing.State.{initial};
     ghost use Rattle.cfgx_parser.specs.parsing.Parser.{state_of, Gives, Opens, EndsFunction};
     ghost use Rattle.cfgx_parser.specs.parsing.Parser.{value_added, IsQuoted, closed_at, ReadsAll};
+    ghost use Rattle.cfgx_parser.specs.parsing.Parser.{HaltsAs, Says};
     ghost use Rattle.cfgx_parser.specs.parsing.Bounded.{IsBounded, HasRoom};
 
     /// A parser that has read nothing. It takes no memory.
@@ -196,6 +203,27 @@ impl<'a, A: SmallAllocator> Parser<'a, A> {
             last_token: None,
             pending: None,
             root_count: 0,
+            fault: None,
+        }
+    }
+
+    /// Notes a fault.
+    fn halt(&mut self, reason: Reason, span: Span) -> Halt
+        ensures { HaltsAs result self.new
+            (Err (refusal (cause_of reason) span.start span.end)) }
+    {
+        self.fault = Some(Fault { reason, span });
+        Halt::Fault
+    }
+
+    /// The failure of a text of which no more is read. A fault has a copy of the text, for which
+    /// memory may be refused.
+    fn failure(&mut self, alloc: A, original: &str, halt: Halt) -> Failure<A>
+        ensures { Says original.now halt self.old result }
+    {
+        match (halt, self.fault.take()) {
+            (Halt::Fault, Some(fault)) => { Failure::of(alloc, original, fault.span, fault.reason) }
+            _ => Failure::Memory(AllocError),
         }
     }
 
@@ -219,11 +247,22 @@ impl<'a, A: SmallAllocator> Parser<'a, A> {
         };
         let leaf = match classify(pending) {
             Ok(leaf) => leaf,
-            Err((reason, span)) => return Err(Halt::Fault(reason, span)),
+            Err((reason, span)) => return Err(self.halt(reason, span)),
         };
         self.writer.leaf(leaf)?;
         self.count_item();
         Ok(())
+    }
+
+    /// The same, and cheaper if none has begun, as is often so at a `)`.
+    fn end_pending(&mut self) -> Result<(), Halt>
+        requires { IsBounded (state_of self.old) }
+        ensures { Gives result self.new (predicate_ended (state_of self.old)) }
+    {
+        if self.pending.is_none() {
+            return Ok(());
+        }
+        self.end_predicate()
     }
 
     /// Opens a function, whose name stands at the span.
@@ -261,14 +300,14 @@ impl<'a, A: SmallAllocator> Parser<'a, A> {
         ensures { Gives result self.new (closed_at (state_of self.old) span) }
     {
         let Some(top) = self.func_stack.last() else {
-            return Err(Halt::Fault(Reason::UnopenedParens, span));
+            return Err(self.halt(Reason::UnopenedParens, span));
         };
         let (func, start, ended) = (top.func, top.span.start, top.members);
         let members = ended + usize::from(self.pending.is_some());
         if !has_room(func, members) {
-            return Err(Halt::Fault(Reason::InvalidNot(members), start..span.end));
+            return Err(self.halt(Reason::InvalidNot(members), start..span.end));
         }
-        self.end_predicate()?;
+        self.end_pending()?;
         self.end_function()?;
         Ok(())
     }
@@ -325,7 +364,7 @@ impl<'a, A: SmallAllocator> Parser<'a, A> {
     {
         let token = lexed.token;
         if !may_follow(self.last_token, token) {
-            return Err(Halt::Fault(expected(self.last_token), lexed.span));
+            return Err(self.halt(expected(self.last_token), lexed.span));
         }
         self.apply(lexed)?;
         self.last_token = Some(token);
@@ -338,16 +377,17 @@ impl<'a, A: SmallAllocator> Parser<'a, A> {
         ensures { Gives result self.new (conclude len (state_of self.old)) }
     {
         if matches!(self.last_token, Some(Token::Equals)) {
-            return Err(Halt::Fault(Reason::Unexpected(&["\"<value>\""]), len..len));
+            return Err(self.halt(Reason::Unexpected(&["\"<value>\""]), len..len));
         }
         if let Some(top) = self.func_stack.last() {
-            return Err(unclosed(top, len));
+            let Fault { reason, span } = unclosed(top, len);
+            return Err(self.halt(reason, span));
         }
         self.end_predicate()?;
         match self.root_count {
-            0 => Err(Halt::Fault(Reason::Empty, 0..len)),
+            0 => Err(self.halt(Reason::Empty, 0..len)),
             1 => Ok(self.writer.end_list(0)?),
-            _ => Err(Halt::Fault(Reason::MultipleRootPredicates, 0..len)),
+            _ => Err(self.halt(Reason::MultipleRootPredicates, 0..len)),
         }
     }
 
@@ -361,12 +401,12 @@ impl<'a, A: SmallAllocator> Parser<'a, A> {
         let text = lexer.original();
         for lexed in lexer {
             if let Err(halt) = self.read(lexed?) {
-                return Err(failure(alloc, text, halt));
+                return Err(self.failure(alloc, text, halt));
             }
         }
         match self.finish(text.len()) {
             Ok(()) => Ok(()),
-            Err(halt) => Err(failure(alloc, text, halt)),
+            Err(halt) => Err(self.failure(alloc, text, halt)),
         }
     }
 

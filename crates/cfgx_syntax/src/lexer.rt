@@ -74,11 +74,12 @@ fn starts_word(byte: u8) -> bool
     byte.is_ascii_alphabetic() || byte == b'_'
 }
 
-/// Whether the byte may stand in a word: an ASCII letter, an ASCII digit or `_`.
+/// Whether the byte may stand in a word: an ASCII letter, an ASCII digit or `_`. Most bytes of a
+/// text are asked, so this is a look into a table.
 fn continues_word(byte: u8) -> bool
     ensures { result ≡ continues_word byte }
 {
-    byte.is_ascii_alphanumeric() || byte == b'_'
+    CONTINUES_WORD[usize::from(byte)]
 }
 
 /// How many of the first bytes may stand in a word.
@@ -248,3 +249,26 @@ impl<'a, A: Allocator> Iterator for Lexer<'a, A> {
         }
     }
 }
+
+/// Which bytes may stand in a word.
+const CONTINUES_WORD: &[bool] = &[
+    false, false, false, false, false, false, false, false, false, false, false, false, false,
+    false, false, false, false, false, false, false, false, false, false, false, false, false,
+    false, false, false, false, false, false, false, false, false, false, false, false, false,
+    false, false, false, false, false, false, false, false, false, true, true, true, true, true,
+    true, true, true, true, true, false, false, false, false, false, false, false, true, true,
+    true, true, true, true, true, true, true, true, true, true, true, true, true, true, true, true,
+    true, true, true, true, true, true, true, true, false, false, false, false, true, false, true,
+    true, true, true, true, true, true, true, true, true, true, true, true, true, true, true, true,
+    true, true, true, true, true, true, true, true, true, false, false, false, false, false, false,
+    false, false, false, false, false, false, false, false, false, false, false, false, false,
+    false, false, false, false, false, false, false, false, false, false, false, false, false,
+    false, false, false, false, false, false, false, false, false, false, false, false, false,
+    false, false, false, false, false, false, false, false, false, false, false, false, false,
+    false, false, false, false, false, false, false, false, false, false, false, false, false,
+    false, false, false, false, false, false, false, false, false, false, false, false, false,
+    false, false, false, false, false, false, false, false, false, false, false, false, false,
+    false, false, false, false, false, false, false, false, false, false, false, false, false,
+    false, false, false, false, false, false, false, false, false, false, false, false, false,
+    false, false, false, false, false, false, false, false, false, false,
+];

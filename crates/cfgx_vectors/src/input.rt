@@ -35,15 +35,12 @@ impl Pieces<'_> {
     }
 }
 
-impl Source for Pieces<'_> {
-    ghost failures = { λ source. source.failures };
-
-    ghost unread = { λ source. Some source.left.now };
+impl io::Read for Pieces<'_> {
+    ghost remaining = { λ source. Some source.left.now };
 
     fn read(&mut self, buffer: &mut [u8]) -> io::Result<usize> {
         self.reads = self.reads.saturating_add(1);
         if self.reads == self.failing_read {
-            self.failures += 1;
             return Err(io::Error::from(ErrorKind::Interrupted));
         }
         let count = buffer.len().min(self.each.max(1)).min(self.left.len());
@@ -51,6 +48,20 @@ impl Source for Pieces<'_> {
         buffer[..count].copy_from_slice(front);
         self.left = behind;
         Ok(count)
+    }
+}
+
+impl Source for Pieces<'_> {
+    ghost failures = { λ source. source.failures };
+
+    ghost unread = { λ source. Some source.left.now };
+
+    fn read(&mut self, buffer: &mut [u8]) -> io::Result<usize> {
+        let answer = io::Read::read(self, buffer);
+        if answer.is_err() {
+            self.failures += 1;
+        }
+        answer
     }
 }
 

@@ -1,6 +1,6 @@
 -- What the parser's functions say: they compute the steps.
 use Rattle.std.specs.Prelude.{◌≡◌, ℕ, ◌+◌, ◌-◌, ◌≤◌, List, option_map}
-use Rattle.std.specs.Prelude.{Result, Ok, Err}
+use Rattle.std.specs.Prelude.{Result, Ok, Err, Some}
 use Rattle.std.specs.declared.ops.Range.{Range}
 use Rattle.cfgx_syntax.specs.Token as spelled
 use Rattle.cfgx_syntax.specs.Items.{Item, Ending, ItemsFrom}
@@ -8,6 +8,7 @@ use Rattle.cfgx_syntax.specs.LexerState.{LexerState}
 use Rattle.cfgx_syntax.specs.Lexer.{token_of}
 use Rattle.cfgx_syntax.specs.Error.{Refusal, cause_of, fault_in, fault_of}
 use Rattle.cfgx_grammar.specs.FirstFault.{refusal}
+use Rattle.cfgx_parser.specs.declared.parser.Fault.{Fault}
 use Rattle.cfgx_parser.specs.declared.parser.Halt.{Halt}
 use Rattle.cfgx_parser.specs.declared.parser.Halt.TheVariants as halt
 use Rattle.cfgx_syntax.specs.declared.error.Failure.{Failure}
@@ -33,17 +34,26 @@ state_of p = record {
   written = written_of p.writer;
 }
 
--- a parser that halts at a fault shows that one
-abbrev pub HaltsAs : Halt → Result ParserState Refusal → Type 0
-HaltsAs (halt.Fault reason span) answer =
-    answer ≡ Err (refusal (cause_of reason) span.start span.end)
-HaltsAs halt.Memory answer = Unit {0}
+-- a fault that was noted, as the steps show it
+abbrev pub shown : Fault → Refusal
+shown fault = refusal (cause_of fault.reason) fault.span.start fault.span.end
+
+-- a parser that halts at a fault has noted the one that the steps show
+abbrev pub HaltsAs : {A : Type 0} → Halt → Parser A → Result ParserState Refusal → Type 0
+HaltsAs halt.Fault parser answer = (fault : Fault) × (parser.fault ≡ Some fault)
+    × (answer ≡ Err (shown fault))
+HaltsAs halt.Memory parser answer = Unit {0}
 
 -- a fault of the text is the one that the steps show
 abbrev pub FailsAs : {A : Type 0} → List ℕ → Failure A → Result ParserState Refusal → Type 0
 FailsAs text (failure.Parse error) answer = (refusal : Refusal) × (answer ≡ Err refusal)
     × (fault_of error ≡ fault_in text refusal)
 FailsAs text (failure.Memory error) answer = Unit {0}
+
+-- what a failure says of a halt
+abbrev pub Says : {A : Type 0} → List ℕ → Halt → Parser A → Failure A → Type 0
+Says {A} text h parser failure = (answer : Result ParserState Refusal)
+    → HaltsAs {A = A} h parser answer → FailsAs text failure answer
 
 -- the parser went on to a state
 pub record Reaches {A : Type 0} (new : Parser A) (state : ParserState) : Type 0 where
@@ -55,7 +65,7 @@ abbrev pub Gives : {A : Type 0} → Result (Unit {0}) Halt → Parser A → Resu
     → Type 0
 Gives {A} (Ok done) new answer = (state : ParserState) × (answer ≡ Ok state)
     × Reaches {A = A} new state
-Gives (Err halt) new answer = HaltsAs halt answer
+Gives {A} (Err halt) new answer = HaltsAs {A = A} halt new answer
 
 abbrev pub item_at : Range ℕ → Item
 item_at span = record { token = spelled.Token.comma; start = span.start; end = span.end }

@@ -1,88 +1,13 @@
 //! Streams of the standard library whose failed calls are counted.
-ghost use Rattle.std.specs.Prelude.{Some};
-
 use super::interrupted;
+use crate::input::Pieces;
 use cfgx_engine::engine::streams::{Counted, Sink, Source, write_whole};
 use std::io;
 use std::test::Fail;
 
-// A reader of at most `each` bytes a call, whose read of the number `failing_read`, counted from 1,
-// fails.
-#[derive(Drop)]
-struct PieceReader<'a> {
-    left: &'a [u8],
-    each: usize,
-    failing_read: u64,
-    reads: u64,
-}
-
-impl io::Read for PieceReader<'_> {
-    ghost remaining = { λ pieces. Some pieces.left.now };
-
-    fn read(&mut self, buffer: &mut [u8]) -> io::Result<usize> {
-        self.reads = self.reads.saturating_add(1);
-        if self.reads == self.failing_read {
-            return Err(interrupted());
-        }
-        let count = buffer.len().min(self.each.max(1)).min(self.left.len());
-        let (front, behind) = self.left.split_at(count);
-        buffer[..count].copy_from_slice(front);
-        self.left = behind;
-        Ok(count)
-    }
-}
-
-// A reader of at most three bytes a call, whose second read fails.
-fn second_failing(left: &[u8]) -> PieceReader<'_> {
-    PieceReader {
-        left,
-        each: 3,
-        failing_read: 2,
-        reads: 0,
-    }
-}
-
-// Such a reader as a source that tells its bytes.
-#[derive(Drop)]
-struct Told<'a> {
-    pieces: PieceReader<'a>,
-    failures: u64,
-}
-
-impl Source for Told<'_> {
-    ghost failures = { λ told. told.failures };
-
-    ghost unread = { λ told. Some told.pieces.left.now };
-
-    fn read(&mut self, buffer: &mut [u8]) -> io::Result<usize> {
-        let answer = io::Read::read(&mut self.pieces, buffer);
-        if answer.is_err() {
-            self.failures += 1;
-        }
-        answer
-    }
-}
-
-#[test]
-fn a_failed_read_takes_no_bytes(rt: HostRuntime) -> Result<(), Fail> {
-    let mut source = Told {
-        pieces: second_failing(b"abcd"),
-        failures: 0,
-    };
-    let mut buffer = [0u8; 8];
-    assert_eq!(rt; source.read(&mut buffer).ok(), Some(3));
-    assert!(rt; source.read(&mut buffer).is_err());
-    assert_eq!(rt; source.failures, 1);
-    assert_eq!(rt; source.pieces.left, b"d".as_slice());
-    assert_eq!(rt; source.read(&mut buffer).ok(), Some(1));
-    assert_eq!(rt; source.read(&mut buffer).ok(), Some(0));
-    assert_eq!(rt; source.failures, 1);
-    Ok(())
-}
-
 #[test]
 fn a_counted_reader_counts_its_failed_reads(rt: HostRuntime) -> Result<(), Fail> {
-    let mut source = Counted::new(second_failing(b"abcdefg"));
+    let mut source = Counted::new(Pieces::new(b"abcdefg", 3, 2));
     let mut buffer = [0u8; 8];
     assert_eq!(rt; source.read(&mut buffer).ok(), Some(3));
     assert_eq!(rt; buffer[0], b'a');

@@ -2,9 +2,9 @@
 use Rattle.std.proofs.Common.{Ok, length, subst}
 use Rattle.std.proofs.lemmas.Result.{err_from_is_err_and}
 use Rattle.cfgx_grammar.specs.parsing.Step.{conclude}
-use Rattle.cfgx_parser.specs.parsing.Parser.{state_of, HaltsAs, Gives}
+use Rattle.cfgx_parser.specs.parsing.Parser.{state_of, HaltsAs, Says, Gives}
 use Rattle.cfgx_parser.proofs.Reading.{item_given, fault_given, Leads-read, ReadsAll-read}
-use Rattle.cfgx_parser.proofs.Reading.{Says, ReadsAll-fault, ReadsAll-end, ReadsAll-halt}
+use Rattle.cfgx_parser.proofs.Reading.{ReadsAll-fault, ReadsAll-end, ReadsAll-halt}
 use Rattle.cfgx_parser.proofs.parser.Parser.read_all.Goals as goal
 
 pub returns-in_err-lexed : goal.returns-in_err-lexed
@@ -36,8 +36,8 @@ returns-in-Err g c =
     c.in_ok-lexed.field-0 c.in_ok-lexed.was steps in
     ReadsAll-read {A = g.row.A.Denot} c.args.lexer now c.next.new.self c.args.self.now
     c.loop-lexed.self c.read.new.self _ c.in-Err.halt c.failure.result c.loop-lexed.invariant gives
-    c.in-Err.ensures (subst (λ t. Says {A = g.row.A.Denot} t c.in-Err.halt c.failure.result)
-    c.original-text.ensures c.failure.ensures)
+    c.in-Err.ensures (subst (λ t. Says {A = g.row.A.Denot} t c.in-Err.halt c.read.new.self
+    c.failure.result) c.original-text.ensures c.failure.ensures)
 
 pub returns-in-Ok : goal.returns-in-Ok
 returns-in-Ok g c =
@@ -52,7 +52,8 @@ returns-in-Err-finish g c =
     let failure = c.failure-in-Err-finish.result in
     ReadsAll-halt {A = g.row.A.Denot} c.args.lexer c.loop-lexed.lexed-iterator c.args.self.now
     c.loop-lexed.self c.finish.new.self h failure c.loop-lexed.invariant c.in-None.ensures.steps.0
-    (subst (λ t. HaltsAs h (conclude (length t) (state_of {A = g.row.A.Denot} c.loop-lexed.self)))
-    c.original-text.ensures c.in-Err-finish.ensures)
-    (subst (λ t. Says {A = g.row.A.Denot} t h failure) c.original-text.ensures
+    (subst (λ t. HaltsAs {A = g.row.A.Denot} h c.finish.new.self (conclude (length t)
+    (state_of {A = g.row.A.Denot} c.loop-lexed.self))) c.original-text.ensures
+    c.in-Err-finish.ensures)
+    (subst (λ t. Says {A = g.row.A.Denot} t h c.finish.new.self failure) c.original-text.ensures
     c.failure-in-Err-finish.ensures)
