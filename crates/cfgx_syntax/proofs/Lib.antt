@@ -1,3 +1,4 @@
+pub mod Blanks
 pub mod Cutting
 pub mod ErrorLemmas
 pub mod Finding
@@ -7,6 +8,7 @@ pub mod Lanes
 pub mod Repeated
 pub mod Scanning
 pub mod Sizes
+pub mod Tables
 pub mod TokenList
 pub mod Values
 pub mod Words

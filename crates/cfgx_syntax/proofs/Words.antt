@@ -1,5 +1,6 @@
 -- Where a word and a token of one byte end.
-use Rattle.std.proofs.Common.{add-zero, length-take, length-drop, ◌≡◌, ℕ, ◌+◌, ◌-◌, ◌<◌, ◌≤◌}
+use Rattle.std.proofs.Common.{add-zero, length-take, length-drop, ◌≡◌, ℕ, zero, suc, ◌+◌, ◌-◌, ◌<◌}
+use Rattle.std.proofs.Common.{◌≤◌}
 use Rattle.std.proofs.Common.{Bool, true, false, List, [], ◌∷◌, length, take, drop, get_or}
 use Rattle.std.proofs.Common.{sym, refl, ap, ◌∙◌, subst, arith}
 use Rattle.std.proofs.Math.Numerals.{one-add}
@@ -60,19 +61,18 @@ prefix_len-first (byte ∷ rest) some starts =
     let goes : continues_word byte ≡ true = starts_word-continues byte starts in
     rw goes (omega arith)
 
-pub IsCharBoundary-behind_word : (text : List ℕ) → IsUtf8 text → 0 < length text
-    → starts_word (get_or text 0 0) ≡ true → IsCharBoundary text (prefix_len continues_word text)
-IsCharBoundary-behind_word text utf8 some starts =
-    let n = prefix_len continues_word text in
-    let long : 0 < prefix_len continues_word text = prefix_len_some text some starts in
-    let inside : n ≤ length text = prefix_len-le-length continues_word text in
-    let before : n - 1 < length text = omega arith in
-    let last : continues_word (get_or text (n - 1) 0) ≡ true =
-    prefix_len_passes continues_word text (n - 1) 0 (omega arith) in
-    let low = continues_word-ascii (get_or text (n - 1) 0) last in
-    let cut = IsCharBoundary-after_ascii text (n - 1) utf8 before low in
-    let same : n - 1 + 1 ≡ n = omega arith in
-    subst (IsCharBoundary text) same cut
+-- behind bytes that pass a test which only ASCII passes
+pub IsCharBoundary-behind : (p : ℕ → Bool) → ((c : ℕ) → p c ≡ true → c < 128) → (text : List ℕ)
+    → IsUtf8 text → IsCharBoundary text (prefix_len p text)
+IsCharBoundary-behind p low text utf8 = by (prefix_len p text) refl where
+  by : (n : ℕ) → n ≡ prefix_len p text → IsCharBoundary text n
+  by zero is = IsCharBoundary-start text utf8
+  by (suc n) is =
+      let inside : prefix_len p text ≤ length text = prefix_len-le-length p text in
+      let last = prefix_len_passes p text n 0 (omega (arith, is)) in
+      let cut = IsCharBoundary-after_ascii text n utf8 (omega (arith, is, inside))
+      (low (get_or text n 0) last) in
+      subst (IsCharBoundary text) (omega arith) cut
 
 pub IsWord-front : (text : List ℕ) → 0 < length text → starts_word (get_or text 0 0) ≡ true
     → IsWord (take (prefix_len continues_word text) text)
@@ -143,7 +143,7 @@ pub BeginsWith-word : (text : List ℕ) (token : Token) → IsUtf8 text → 0 < 
 BeginsWith-word text token utf8 some starts spelled =
     let n = prefix_len continues_word text in
     let inside : n ≤ length text = prefix_len-le-length continues_word text in
-    let closes = IsCharBoundary-behind_word text utf8 some starts in
+    let closes = IsCharBoundary-behind continues_word continues_word-ascii text utf8 in
     let word = IsWord-front text some starts in
     record {
       spelled = spelled;

@@ -1,6 +1,7 @@
 -- What a `Lexer` gives.
-use Rattle.std.specs.Prelude.{◌≡◌, ℕ, ◌<◌, ◌≤◌, false, List, length, take, drop, slice_index}
-use Rattle.std.specs.Prelude.{Option, Some, None, Result, Ok, Err, ◌⊎◌}
+use Rattle.std.specs.Prelude.{◌≡◌, ℕ, ◌<◌, ◌≤◌, ◌&&◌, Bool, false, List, length, take, drop}
+use Rattle.std.specs.Prelude.{slice_index, Option, Some, None, Result, Ok, Err, ◌⊎◌}
+use Rattle.std.specs.Char.{is_ascii, is_whitespace}
 use Rattle.cfgx_syntax.specs.Cut.{CanBeCut}
 use Rattle.cfgx_syntax.specs.Token as spelled
 use Rattle.cfgx_syntax.specs.Token.{Spells, IsWhole}
@@ -52,6 +53,10 @@ abbrev pub GivesNext : {A : Type 0} → LexerState → Option (Result LexerToken
 GivesNext old None new = IsBlank (drop old.place old.text) × (new ≡ at_end old)
 GivesNext old (Some (Ok found)) new = GivesItem old (item_of found) new
 GivesNext old (Some (Err failure)) new = GivesFault old failure new
+
+-- a byte that is ASCII white space
+abbrev pub is_blank : ℕ → Bool
+is_blank byte = is_ascii byte && is_whitespace byte
 
 -- the rest of a text begins with this token, which takes so many bytes
 pub record BeginsWith (rest : List ℕ) (token : spelled.Token) (len : ℕ) : Type 0 where

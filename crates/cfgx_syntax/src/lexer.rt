@@ -3,7 +3,7 @@ ghost use Rattle.std.specs.Prelude.{◌≡◌, ◌-◌, ◌<◌, ◌≤◌, leng
 ghost use Rattle.std.specs.List.{prefix_len};
 ghost use Rattle.std.specs.Str.{IsTrimStart};
 ghost use Rattle.cfgx_syntax.specs.Items.{HasOneTokenList};
-ghost use Rattle.cfgx_syntax.specs.Lexer.{token_of, BeginsAs};
+ghost use Rattle.cfgx_syntax.specs.Lexer.{token_of, BeginsAs, is_blank};
 ghost use Rattle.cfgx_syntax.specs.LexerState.{starting};
 ghost use Rattle.cfgx_syntax.specs.Stripping.{strip};
 ghost use Rattle.cfgx_syntax.specs.Token.{starts_word, continues_word, IsWord, Spells};
@@ -56,14 +56,41 @@ pub struct LexerToken<'a> {
     pub span: Range<usize>,
 }
 
+/// Whether the byte is ASCII white space.
+fn is_blank(byte: u8) -> bool
+    ensures { result ≡ is_blank byte }
+{
+    IS_BLANK[usize::from(byte)]
+}
+
+/// How many of the first bytes are ASCII white space.
+fn blank_len(bytes: &[u8]) -> usize
+    ensures len { result ≡ prefix_len is_blank bytes.now }
+    ensures few { result ≤ length bytes.now }
+{
+    bytes.iter().take_while(|byte| is_blank(**byte)).count()
+}
+
+/// The text without the white space in front of it, where ASCII white space stands in most cases.
+fn behind_blanks(text: &str) -> &str
+    ensures { IsTrimStart text.now result.now }
+{
+    let rest = &text[blank_len(text.as_bytes())..];
+    match rest.as_bytes().first() {
+        // Only a longer character may be white space now.
+        Some(first) if !first.is_ascii() => rest.trim_start(),
+        _ => rest,
+    }
+}
+
 /// The text without the white space in front of it.
 fn trimmed(text: &str) -> &str
     ensures { IsTrimStart text.now result.now }
 {
     match text.as_bytes().first() {
-        // Mostly there is none: then the first byte tells so, and no character is decoded.
+        // Mostly there is none: then the first byte tells so.
         Some(first) if first.is_ascii_graphic() => text,
-        _ => text.trim_start(),
+        _ => behind_blanks(text),
     }
 }
 
@@ -271,4 +298,28 @@ const CONTINUES_WORD: &[bool] = &[
     false, false, false, false, false, false, false, false, false, false, false, false, false,
     false, false, false, false, false, false, false, false, false, false, false, false, false,
     false, false, false, false, false, false, false, false, false, false,
+];
+
+/// Which bytes are ASCII white space.
+const IS_BLANK: &[bool] = &[
+    false, false, false, false, false, false, false, false, false, true, true, true, true, true,
+    false, false, false, false, false, false, false, false, false, false, false, false, false,
+    false, false, false, false, false, true, false, false, false, false, false, false, false,
+    false, false, false, false, false, false, false, false, false, false, false, false, false,
+    false, false, false, false, false, false, false, false, false, false, false, false, false,
+    false, false, false, false, false, false, false, false, false, false, false, false, false,
+    false, false, false, false, false, false, false, false, false, false, false, false, false,
+    false, false, false, false, false, false, false, false, false, false, false, false, false,
+    false, false, false, false, false, false, false, false, false, false, false, false, false,
+    false, false, false, false, false, false, false, false, false, false, false, false, false,
+    false, false, false, false, false, false, false, false, false, false, false, false, false,
+    false, false, false, false, false, false, false, false, false, false, false, false, false,
+    false, false, false, false, false, false, false, false, false, false, false, false, false,
+    false, false, false, false, false, false, false, false, false, false, false, false, false,
+    false, false, false, false, false, false, false, false, false, false, false, false, false,
+    false, false, false, false, false, false, false, false, false, false, false, false, false,
+    false, false, false, false, false, false, false, false, false, false, false, false, false,
+    false, false, false, false, false, false, false, false, false, false, false, false, false,
+    false, false, false, false, false, false, false, false, false, false, false, false, false,
+    false, false, false, false, false, false, false, false,
 ];

@@ -3,10 +3,11 @@ use Rattle.std.proofs.Common.{◌≡◌, ◌<◌, List, [], ◌∷◌, ℕ, leng
 use Rattle.std.proofs.Common.{rules}
 use Rattle.std.specs.Str.{IsUtf8}
 use Rattle.cfgx_syntax.specs.Cut.{IsValueCut}
-use Rattle.cfgx_syntax.specs.Token.{Token, IsWhole, IsWord, Spells}
+use Rattle.cfgx_syntax.specs.Token.{Token, IsWhole, IsWord, Spells, continues_word}
 use Rattle.cfgx_syntax.specs.Lexer.{BeginsWith, token_of}
 use Rattle.cfgx_syntax.proofs.Words.{BeginsWith-byte, BeginsWith-word, IsWord-front}
-use Rattle.cfgx_syntax.proofs.Words.{IsCharBoundary-behind_word, starts_text, front_is}
+use Rattle.cfgx_syntax.proofs.Words.{IsCharBoundary-behind, continues_word-ascii, starts_text}
+use Rattle.cfgx_syntax.proofs.Words.{front_is}
 use Rattle.cfgx_syntax.proofs.lexer.first_token.Goals as goal
 
 -- a token of one byte, which stands first in the bytes of the text
@@ -30,10 +31,8 @@ returns-in-61 c = search (rules, one_byte)
 
 pub range-requires-clause-end_boundary : goal.range-requires-clause-end_boundary
 range-requires-clause-end_boundary c =
-    let text = c.args.text.now in
-    let starts = starts_text text c.as_bytes.result.now c.starts_word.result
-    c.as_bytes.ensures.value c.starts_word.ensures c.if-starts_word.true in
-    let cut = IsCharBoundary-behind_word text c.utf8.text c.requires starts in
+    let cut = IsCharBoundary-behind continues_word continues_word-ascii c.args.text.now
+    c.utf8.text in
     rw c.word_len-len.ensures cut
 
 pub word_token-requires : goal.word_token-requires
