@@ -1,6 +1,8 @@
 //! An input that is read whole: from a source in memory that gives little a call and fails where it
 //! is told to, up to the limit, and with each growth refused.
 ghost use Rattle.std.specs.Prelude.{◌≡◌, Some};
+ghost use Rattle.std.specs.Io.{ReadsAtMost};
+ghost use Rattle.std.specs.Io.KnownBytes.{ReadConsumes};
 
 use crate::holding::holds;
 use crate::refusing::Refusing;
@@ -38,7 +40,12 @@ impl Pieces<'_> {
 impl io::Read for Pieces<'_> {
     ghost remaining = { λ source. Some source.left.now };
 
-    fn read(&mut self, buffer: &mut [u8]) -> io::Result<usize> {
+    fn read(&mut self, buffer: &mut [u8]) -> io::Result<usize>
+        ensures bound { ReadsAtMost result buffer.new }
+        ensures bytes { ReadConsumes (Some self.old.left.now) (Some self.new.left.now)
+            result buffer.new }
+        ensures kept { self.new.failures ≡ self.old.failures }
+    {
         self.reads = self.reads.saturating_add(1);
         if self.reads == self.failing_read {
             return Err(io::Error::from(ErrorKind::Interrupted));
