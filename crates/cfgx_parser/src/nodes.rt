@@ -159,6 +159,7 @@ impl<A: SmallAllocator> Writer<A> {
     }
 
     /// Ends a list: its own predicates, which are behind the first `leaves`, are asked next.
+    #[inline(always)]
     pub(crate) fn end_list(&mut self, leaves: usize) -> Result<(), AllocError>
         requires { leaves ≤ length (written_of self.old).leaves }
         ensures { OnOk result (written_of self.new ≡ with_list_ended leaves (written_of self.old)) }

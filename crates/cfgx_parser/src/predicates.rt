@@ -102,6 +102,7 @@ impl InnerTarget {
 
 impl InnerPredicate {
     /// The predicate, with its texts cut out of the text in which it stands.
+    #[inline(always)]
     pub(crate) fn to_pred<'a>(&self, text: &'a str) -> Predicate<'a>
         requires { HasCut text.now self.now }
         ensures { question_of result ≡ question_at text.now self.now }
@@ -180,6 +181,7 @@ impl<'a> Iterator for Predicates<'a> {
 
     ghost remaining = { item_count (λ s. s) };
 
+    #[inline(always)]
     fn next(&mut self) -> Option<Predicate<'a>> {
         let (place, others) = self.asked.split_first()?;
         self.asked = others;

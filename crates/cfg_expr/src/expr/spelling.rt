@@ -83,6 +83,7 @@ impl Value<'_> {
 }
 
 /// Writes a key and its value, in quotes.
+#[inline(always)]
 fn write_value<W: Write>(writer: &mut W, key: &str, value: Value<'_>) -> io::Result<()>
     ensures { Writes (W.contents writer.old) (W.contents writer.new) result
         (key_and_value key.now (value_bytes value.entry)) }
