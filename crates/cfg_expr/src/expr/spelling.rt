@@ -43,6 +43,7 @@ fn write_bytes<W: Write>(writer: &mut W, bytes: &[u8]) -> io::Result<()>
 }
 
 /// Writes a key, and what stands between it and its value.
+#[inline(always)]
 fn write_key<W: Write>(writer: &mut W, key: &str) -> io::Result<()>
     ensures { Writes (W.contents writer.old) (W.contents writer.new) result
         (key.now ++ codes " = \"") }
