@@ -1,8 +1,10 @@
 //! Texts with a tree, and the predicates that they ask.
-use crate::holding::holds;
+use crate::deep::repeated;
+use crate::holding::{all_hold, holds, prints};
 use crate::streams::is_answer;
 use cfg_expr::error::Failure;
 use cfg_expr::expr::Predicates;
+use cfg_expr::memory::SmallAllocator;
 use cfg_expr::{Expression, Predicate, TargetPredicate};
 use cfgx_fields::Field;
 use cfgx_places::Field as Place;
@@ -234,19 +236,16 @@ fn ask_by_their_types(rt: HostRuntime) {
     }
 }
 
+/// Whether the predicates of both are equal, in their order.
+pub(crate) fn ask_the_same<A: SmallAllocator>(one: &Expression<A>, other: &Expression<A>) -> bool {
+    one.predicates().eq(other.predicates())
+}
+
 // Whether two texts have equal expressions.
 fn are_equal(alloc: Global, one: &str, other: &str) -> Result<bool, Failure> {
     let first = Expression::parse(alloc, one)?;
     let second = Expression::parse(alloc, other)?;
     Ok(first == second)
-}
-
-#[test]
-fn are_equal_by_their_stripped_texts(rt: HostRuntime) -> Result<(), Fail> {
-    assert!(rt; are_equal(rt.alloc(), "key", "key")?);
-    assert!(rt; !are_equal(rt.alloc(), "key", "key,")?);
-    assert!(rt; are_equal(rt.alloc(), "cfg(key)", "key")?);
-    Ok(())
 }
 
 // The bytes that a text was stripped to.
@@ -256,28 +255,58 @@ const ORIGINALS: &[(&str, &str)] = &[
     ("cfg( key )", " key "),
     ("cfg(key,,)", "key,,"),
     ("cfg(all())", "all()"),
+    ("cfg( all() )", " all() "),
     (" all( ) ", " all( ) "),
     ("cfg", "cfg"),
+    ("a", "a"),
+    ("all(a, any(b), c)", "all(a, any(b), c)"),
+    (
+        "cfg(any(unix, key = \"\u{e9}\",,),)",
+        "any(unix, key = \"\u{e9}\",,),",
+    ),
+    (
+        "all(a, b, c, d, not(e), f, g, h)",
+        "all(a, b, c, d, not(e), f, g, h)",
+    ),
 ];
 
-// Whether the text is stripped to this one.
+// Whether the text is stripped to this one, which its expression prints.
 fn is_stripped_to(alloc: Global, text: &str, original: &str) -> Result<bool, Failure> {
     let expression = Expression::parse(alloc, text)?;
-    Ok(expression.original() == original)
+    let is_printed = prints(alloc, &expression, original);
+    Ok(is_printed && expression.original() == original)
 }
 
 #[test]
-fn keep_the_stripped_text(rt: HostRuntime) {
+fn keep_and_print_the_stripped_text(rt: HostRuntime) -> Result<(), Fail> {
     for (text, original) in ORIGINALS {
         assert!(rt;
             holds(is_stripped_to(rt.alloc(), text, original)),
             "{text:?}"
         );
     }
+    let wide = repeated(rt.alloc(), "any(", "a,", 100, ")")?;
+    assert!(rt; is_stripped_to(rt.alloc(), wide.as_str(), wide.as_str())?);
+    Ok(())
 }
 
-// Whether there are so many predicates to come, and this flag is the next of them, if any is named.
-fn is_next(predicates: &mut Predicates<'_>, left: usize, flag: Option<&str>) -> bool {
+#[test]
+fn are_equal_by_their_stripped_texts(rt: HostRuntime) {
+    all_hold(
+        &rt,
+        &[
+            ("key", holds(are_equal(rt.alloc(), "key", "key"))),
+            ("cfg(key)", holds(are_equal(rt.alloc(), "cfg(key)", "key"))),
+            (
+                "key,",
+                are_equal(rt.alloc(), "key", "key,").ok() == Some(false),
+            ),
+        ],
+    );
+}
+
+/// Whether there are so many predicates to come, and this flag is the next of them, if one is named
+pub(crate) fn is_next(predicates: &mut Predicates<'_>, left: usize, flag: Option<&str>) -> bool {
     let is_left = predicates.left() == left;
     let is_flag = match (predicates.next(), flag) {
         (Some(Predicate::Flag(next)), Some(flag)) => next == flag,
@@ -291,29 +320,26 @@ fn is_next(predicates: &mut Predicates<'_>, left: usize, flag: Option<&str>) -> 
 #[test]
 fn count_what_is_to_come(rt: HostRuntime) -> Result<(), Fail> {
     let expression = Expression::parse(rt.alloc(), "all(a, any(b), c)")?;
-    let mut predicates = expression.predicates();
-    assert!(rt; is_next(&mut predicates, 3, Some("b")));
-    assert!(rt; is_next(&mut predicates, 2, Some("a")));
-    assert!(rt; is_next(&mut predicates, 1, Some("c")));
-    assert!(rt; is_next(&mut predicates, 0, None));
-    assert!(rt; is_next(&mut predicates, 0, None));
-    Ok(())
-}
-
-#[test]
-fn count_no_functions(rt: HostRuntime) -> Result<(), Fail> {
     let empty = Expression::parse(rt.alloc(), "all(any(), not(all()))")?;
-    assert!(rt; is_next(&mut empty.predicates(), 0, None));
+    let mut predicates = expression.predicates();
+    all_hold(
+        &rt,
+        &[
+            ("the first", is_next(&mut predicates, 3, Some("b"))),
+            ("the second", is_next(&mut predicates, 2, Some("a"))),
+            ("the third", is_next(&mut predicates, 1, Some("c"))),
+            ("the end", is_next(&mut predicates, 0, None)),
+            ("the end again", is_next(&mut predicates, 0, None)),
+            ("no function", is_next(&mut empty.predicates(), 0, None)),
+        ],
+    );
     Ok(())
 }
 
 #[test]
 fn debug_shows_the_stripped_text(rt: HostRuntime) -> Result<(), Fail> {
     let expression = Expression::parse(rt.alloc(), "cfg(all(a))")?;
-    assert_eq!(rt;
-        format!(in rt.alloc(); "{expression:?}")?.as_str(),
-        "Expression(\"all(a)\")"
-    );
-    assert_eq!(rt; expression.original(), "all(a)");
+    let shown = format!(in rt.alloc(); "{expression:?}")?;
+    assert!(rt; shown.as_str() == "Expression(\"all(a)\")");
     Ok(())
 }

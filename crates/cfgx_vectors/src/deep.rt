@@ -33,6 +33,16 @@ pub(crate) fn nested(
     repeated(alloc, front.as_str(), ")", times, "")
 }
 
+/// A front, a piece, how often it comes, a back, and how many `)` stand behind that.
+pub(crate) type Parts = (&'static str, &'static str, usize, &'static str, usize);
+
+/// The text of these parts.
+pub(crate) fn written(alloc: Global, parts: &Parts) -> Result<String, AllocError> {
+    let (front, piece, times, back, closed) = *parts;
+    let text = repeated(alloc, front, piece, times, back)?;
+    repeated(alloc, text.as_str(), ")", closed, "")
+}
+
 /// The parts of a text, where its fault starts and ends, and the reason.
 type Row = (
     &'static str,
@@ -124,29 +134,31 @@ fn faults_of_deep_and_wide_texts(rt: HostRuntime) -> Result<(), Fail> {
     Ok(())
 }
 
-// How many predicates the text asks.
-fn count_of(alloc: Global, text: Result<String, AllocError>) -> Result<Option<usize>, Failure> {
-    let expression = Expression::parse(alloc, text?.as_str())?;
-    Ok(count(expression.predicates()))
+// Texts, and how many predicates they ask.
+const COUNTS: &[(Parts, usize)] = &[
+    (("any(", "a,", 100_000, ")", 0), 100_000),
+    (("", "not(", 100_000, "a", 100_000), 1),
+    (("all(any(),", "all(),", 299, ")", 0), 0),
+    (("any(a,", "true,", 100_000, "b)", 0), 2),
+];
+
+// Whether there are so many predicates to come, and so many come.
+fn are(predicates: Predicates<'_>, count: usize) -> bool {
+    predicates.left() == count && predicates.count() == count
 }
 
-// How many predicates there are to come, and how many came, where these agree.
-fn count(predicates: Predicates<'_>) -> Option<usize> {
-    let left = predicates.left();
-    (predicates.count() == left).then_some(left)
+// Whether the text of these parts asks so many predicates.
+fn asks(alloc: Global, parts: &Parts, count: usize) -> Result<bool, Failure> {
+    let text = written(alloc, parts)?;
+    let expression = Expression::parse(alloc, text.as_str())?;
+    Ok(are(expression.predicates(), count))
 }
 
 #[test]
 fn predicates_of_deep_and_wide_texts(rt: HostRuntime) -> Result<(), Fail> {
-    let alloc = rt.alloc();
-    let wide = count_of(alloc, repeated(alloc, "any(", "a,", 100_000, ")"))?;
-    assert!(rt; wide == Some(100_000));
-    let deep = count_of(alloc, nested(alloc, "not(", 100_000, "a"))?;
-    assert!(rt; deep == Some(1));
-    let functions = count_of(alloc, repeated(alloc, "all(any(),", "all(),", 299, ")"))?;
-    assert!(rt; functions == Some(0));
-    let literals = count_of(alloc, repeated(alloc, "any(a,", "true,", 100_000, "b)"))?;
-    assert!(rt; literals == Some(2));
+    for (parts, count) in COUNTS {
+        assert!(rt; asks(rt.alloc(), parts, *count)?, "{count}");
+    }
     Ok(())
 }
 

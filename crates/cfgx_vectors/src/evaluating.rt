@@ -113,16 +113,13 @@ impl Logic for Lawless {
 
 #[cfg(test)]
 mod tests {
-    use crate::deep::{nested, repeated};
+    use crate::deep::nested;
     use crate::evaluating::terms::Terms;
     use crate::evaluating::{Lawless, questions_of, terms_of, value_with_flags};
-    use crate::refusing::{EVERY, Refusing};
-    use crate::turns::all_true;
     use cfg_expr::error::Failure;
     use cfg_expr::expr::Logic;
     use cfg_expr::{Expression, Predicate};
     use std::alloc::Global;
-    use std::process::Abort;
     use std::test::Fail;
 
     // The value where each predicate has the same answer.
@@ -285,109 +282,6 @@ mod tests {
         let terms: Terms = expression.eval(rt.alloc(), &mut answer)?;
         assert_eq!(rt; terms.as_bytes(), b"(((T&c3)&a2)&(F|b1))".as_slice());
         assert_eq!(rt; calls, 3);
-        Ok(())
-    }
-
-    // No predicate is asked, and `any()` is false whatever stands beside it.
-    #[test]
-    fn functions_alone_ask_nothing(rt: HostRuntime) -> Result<(), Fail> {
-        let many = repeated(rt.alloc(), "all(any(),", "all(),", 299, ")")?;
-        let heap = Refusing::new(rt.alloc());
-        let (value, calls, _) = evaluated_at(&heap, many.as_str(), 0)?;
-        assert!(rt; value == Some(false) && calls == 0);
-        Ok(())
-    }
-
-    #[test]
-    fn many_members(rt: HostRuntime) -> Result<(), Fail> {
-        let many = repeated(rt.alloc(), "all(any(),", "all(),", 299, ")")?;
-        assert!(rt; !value(rt.alloc(), many.as_str(), true)?);
-        let wide = repeated(rt.alloc(), "any(", "a,", 100_000, ")")?;
-        assert!(rt; !value(rt.alloc(), wide.as_str(), false)?);
-        assert!(rt; value(rt.alloc(), wide.as_str(), true)?);
-        let literals = repeated(rt.alloc(), "all(a,", "true,", 100_000, ")")?;
-        assert!(rt; !value(rt.alloc(), literals.as_str(), false)?);
-        assert!(rt; value(rt.alloc(), literals.as_str(), true)?);
-        Ok(())
-    }
-
-    // The value of so many `not` round a leaf, where a predicate is true.
-    fn value_of_not(alloc: Global, times: usize, leaf: &str) -> Result<bool, Fail> {
-        let text = nested(alloc, "not(", times, leaf)?;
-        value(alloc, text.as_str(), true)
-    }
-
-    #[test]
-    fn deep_members(rt: HostRuntime) -> Result<(), Fail> {
-        assert!(rt; value_of_not(rt.alloc(), 100_000, "a")?);
-        assert!(rt; !value_of_not(rt.alloc(), 100_001, "a")?);
-        Ok(())
-    }
-
-    #[test]
-    fn deep_literals(rt: HostRuntime) -> Result<(), Fail> {
-        assert!(rt; value_of_not(rt.alloc(), 100_000, "true")?);
-        assert!(rt; !value_of_not(rt.alloc(), 100_001, "true")?);
-        Ok(())
-    }
-
-    // No text here needs so many growths.
-    const MOST_GROWTHS: u64 = 100;
-
-    // Evaluates the text with the growth of this number refused, where `EVERY` is all of them.
-    // The value, how many predicates were asked, and how many there are.
-    fn evaluated_at(
-        heap: &Refusing<Global>,
-        text: &str,
-        turn: u64,
-    ) -> Result<(Option<bool>, usize, usize), Fail> {
-        let Ok(expression) = Expression::parse(heap, text) else {
-            return Err(Fail::from("no expression"));
-        };
-        heap.refuse(turn);
-        let (value, count) = all_true(heap, &expression);
-        Ok((value.ok(), count, expression.predicates().left()))
-    }
-
-    // Evaluates with the first growth refused, then with the second, until none is refused.
-    fn eval_in_turns(rt: &impl Abort, alloc: Global, text: &str) -> Result<(), Fail> {
-        for turn in 1..MOST_GROWTHS {
-            let refusing = Refusing::new(alloc);
-            let (value, count, predicates) = evaluated_at(&refusing, text, turn)?;
-            if !refusing.has_refused() {
-                assert!(rt; value == Some(true) && count == predicates, "{text}");
-                assert!(rt; turn > 1, "{text}");
-                return Ok(());
-            }
-            assert!(rt; value.is_none() && count == 0, "growth {turn} of {text}");
-        }
-        Err(Fail::from("too many growths"))
-    }
-
-    #[test]
-    fn refused_growths(rt: HostRuntime) -> Result<(), Fail> {
-        let wide = repeated(rt.alloc(), "any(", "a,", 100, ")")?;
-        eval_in_turns(&rt, rt.alloc(), wide.as_str())?;
-        let deep = nested(rt.alloc(), "any(", 100, "a")?;
-        eval_in_turns(&rt, rt.alloc(), deep.as_str())?;
-        let literals = repeated(rt.alloc(), "all(a,", "true,", 100, ")")?;
-        eval_in_turns(&rt, rt.alloc(), literals.as_str())
-    }
-
-    // Each has 31 or 32 bytes.
-    const SHORT: [&str; 3] = [
-        "any(a,a,a,a,a,a,a,a,a,a,a,a,a,a)",
-        "not(not(not(not(not(not(a))))))",
-        "all(all(),all(),all(),all(),a,a)",
-    ];
-
-    #[test]
-    fn a_short_text_takes_no_memory(rt: HostRuntime) -> Result<(), Fail> {
-        for text in SHORT {
-            let refusing = Refusing::new(rt.alloc());
-            let (value, _, _) = evaluated_at(&refusing, text, EVERY)?;
-            assert!(rt; value == Some(true), "{text}");
-        }
         Ok(())
     }
 }

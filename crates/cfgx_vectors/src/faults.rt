@@ -26,7 +26,7 @@ const BEHIND_VALUE: Reason = Reason::Unexpected(&[",", ")"]);
 
 const BEHIND_EQUALS: Reason = Reason::Unexpected(&["\""]);
 
-const NO_VALUE: Reason = Reason::Unexpected(&["\"<value>\""]);
+pub(crate) const NO_VALUE: Reason = Reason::Unexpected(&["\"<value>\""]);
 
 const BEHIND_NAME: Reason = Reason::Unexpected(&["("]);
 
@@ -34,7 +34,7 @@ const BEHIND_LIST: Reason = Reason::Unexpected(&[")", ","]);
 
 const BEHIND_COMMA: Reason = Reason::Unexpected(&[")", "<key>"]);
 
-const NOTHING: Reason = Reason::Unexpected(&[]);
+pub(crate) const NOTHING: Reason = Reason::Unexpected(&[]);
 
 const FEATURE_NAME: Reason = Reason::Unexpected(&["= \"<feature_name>\""]);
 

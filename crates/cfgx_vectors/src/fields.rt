@@ -1,8 +1,10 @@
-//! The eight field types: what no clause says of them. Each call gives an answer where there is
-//! memory, and its error where the memory was refused; and the clauses mean the texts, the order
-//! and the printing of Rust's `str`.
+//! The eight field types: what no clause says of them. No call takes memory but the copy of an
+//! owned text, which gives its error where its one growth is refused; and the clauses mean the
+//! texts, the order and the printing of Rust's `str`.
 
-use crate::refusing::Refusing;
+use crate::holding::{all_hold, holds};
+use crate::refusing::EVERY;
+use crate::turns::{Heap, empty_heap, has_every_block};
 use cfgx_fields::{AbiKind, ArchKind, TripleKind, VendorKind};
 use cfgx_places::{EnvKind, FamilyKind, OsKind, PanicKind};
 use std::alloc::{AllocError, Global};
@@ -12,36 +14,19 @@ use std::test::Fail;
 
 /// Texts in the order of their bytes: the longer `aa` stands below `b`, and letters past ASCII
 /// above all others.
-const RISING: &[&str] = &["", "Z", "a", "aa", "b", "é", "日本"];
+const RISING: &[&str] = &[
+    "",
+    "Z",
+    "a",
+    "a text of a field that is not a short one",
+    "a text of a field that stands behind it",
+    "aa",
+    "b",
+    "é",
+    "日本",
+];
 
-/// A field type.
-trait TextField: Ord + Hash + Display + Drop {
-    fn borrowed(text: &'static str) -> Self;
-
-    fn owned(text: String) -> Self;
-}
-
-impl<K: Drop> TextField for cfgx_fields::Field<'static, K> {
-    fn borrowed(text: &'static str) -> Self {
-        Self::new_const(text)
-    }
-
-    fn owned(text: String) -> Self {
-        Self::new(text)
-    }
-}
-
-impl<K: Drop> TextField for cfgx_places::Field<'static, K> {
-    fn borrowed(text: &'static str) -> Self {
-        Self::new_const(text)
-    }
-
-    fn owned(text: String) -> Self {
-        Self::new(text)
-    }
-}
-
-fn hash_of<T: Hash>(value: &T) -> u64 {
+pub(crate) fn hash_of<T: Hash>(value: &T) -> u64 {
     let mut state = DefaultHasher::new();
     value.hash(&mut state);
     state.finish()
@@ -62,99 +47,125 @@ fn prints_as<T: Display>(alloc: Global, field: &T, text: &str) -> Result<bool, A
     Ok(plain.as_str() == text && wide.as_str() == wanted.as_str())
 }
 
-// Whether a borrowed field of the text at the place compares with owned ones as the texts do.
-fn is_text<T: TextField>(alloc: Global, text: &'static str, i: usize) -> Result<bool, AllocError> {
-    let one = T::borrowed(text);
-    for (j, other) in RISING.iter().enumerate() {
-        let other = T::owned(String::from_str(alloc, other)?);
-        if !compare_as_texts(&one, &other, i, j) {
-            return Ok(false);
-        }
-    }
-    prints_as(alloc, &one, text)
-}
+/// A text of `RISING`, behind its place.
+type Placed = (usize, &'static str);
 
-fn are_texts<T: TextField>(alloc: Global) -> Result<bool, AllocError> {
-    for (i, text) in RISING.iter().enumerate() {
-        if !is_text::<T>(alloc, text, i)? {
-            return Ok(false);
-        }
-    }
-    Ok(true)
-}
-
-#[test]
-fn each_field_is_a_text(rt: HostRuntime) -> Result<(), Fail> {
-    use cfgx_fields::Field;
-    assert!(rt; are_texts::<Field<TripleKind>>(rt.alloc())?);
-    assert!(rt; are_texts::<Field<AbiKind>>(rt.alloc())?);
-    assert!(rt; are_texts::<Field<ArchKind>>(rt.alloc())?);
-    assert!(rt; are_texts::<Field<VendorKind>>(rt.alloc())?);
-    Ok(())
-}
-
-#[test]
-fn each_place_is_a_text(rt: HostRuntime) -> Result<(), Fail> {
-    use cfgx_places::Field;
-    assert!(rt; are_texts::<Field<OsKind>>(rt.alloc())?);
-    assert!(rt; are_texts::<Field<FamilyKind>>(rt.alloc())?);
-    assert!(rt; are_texts::<Field<EnvKind>>(rt.alloc())?);
-    assert!(rt; are_texts::<Field<PanicKind>>(rt.alloc())?);
-    Ok(())
-}
-
-// Whether the borrowed text is copied with no growth, and the owned one wants one, which is
-// refused once. Both have one text.
-fn may_be_refused<T, C>(
-    heap: &Refusing<Global>,
-    borrowed: &T,
-    owned: &T,
-    try_clone: C,
-) -> Result<bool, AllocError>
-where
-    T: Eq + Drop,
-    C: Fn(&T) -> Result<T, AllocError>,
-    requires { C.IsAlwaysCallable try_clone }
-{
-    heap.refuse(1);
-    let is_free = try_clone(borrowed)? == *borrowed && !heap.has_refused();
-    let is_refused = try_clone(owned).is_err() && heap.has_refused();
-    let stays = owned == borrowed;
-    Ok(is_free && is_refused && stays && try_clone(owned)? == *borrowed)
-}
-
-// The same of a field of a crate, whose text is borrowed or owned.
-macro_rules! copies_may_be_refused {
-    ($fields:ident, $kind:ty, $heap:ident) => {{
-        let owned: $fields::Field<$kind, &Refusing<Global>> =
-            $fields::Field::new(String::from_str($heap, "é")?);
-        may_be_refused(
-            $heap,
-            &$fields::Field::new_const("é"),
-            &owned,
-            |field| field.try_clone($heap),
+// Whether a borrowed field of the first text and an owned one of the second, of a crate's type,
+// are these texts, compare as they do, and print them, with every growth refused.
+macro_rules! are_texts {
+    ($fields:ident, $kind:ty, $alloc:ident, $heap:ident, $one:ident, $other:ident) => {{
+        $heap.refuse(0);
+        let owned: $fields::Field<'static, $kind, Heap<'_>> =
+            $fields::Field::new(String::from_str($heap, $other.1)?);
+        $heap.refuse(EVERY);
+        let borrowed = $fields::Field::new_const($one.1);
+        Ok(
+            compare_as_texts(&borrowed, &owned, $one.0, $other.0)
+                && borrowed.as_str() == $one.1
+                && owned.as_str() == $other.1
+                && prints_as($alloc, &borrowed, $one.1)?
+                && prints_as($alloc, &owned, $other.1)?,
         )
     }};
 }
 
-fn field_may_be_refused<K: Drop>(heap: &Refusing<Global>) -> Result<bool, AllocError> {
-    copies_may_be_refused!(cfgx_fields, K, heap)
+fn are_fields<K: Drop>(
+    alloc: Global,
+    heap: Heap<'_>,
+    one: Placed,
+    other: Placed,
+) -> Result<bool, AllocError> {
+    are_texts!(cfgx_fields, K, alloc, heap, one, other)
 }
 
-fn place_may_be_refused<K: Drop>(heap: &Refusing<Global>) -> Result<bool, AllocError> {
-    copies_may_be_refused!(cfgx_places, K, heap)
+fn are_places<K: Drop>(
+    alloc: Global,
+    heap: Heap<'_>,
+    one: Placed,
+    other: Placed,
+) -> Result<bool, AllocError> {
+    are_texts!(cfgx_places, K, alloc, heap, one, other)
+}
+
+// The same of each field type.
+fn are_all_texts(
+    alloc: Global,
+    heap: Heap<'_>,
+    one: Placed,
+    other: Placed,
+) -> Result<bool, AllocError> {
+    Ok(
+        are_fields::<TripleKind>(alloc, heap, one, other)?
+            && are_fields::<AbiKind>(alloc, heap, one, other)?
+            && are_fields::<ArchKind>(alloc, heap, one, other)?
+            && are_fields::<VendorKind>(alloc, heap, one, other)?
+            && are_places::<OsKind>(alloc, heap, one, other)?
+            && are_places::<FamilyKind>(alloc, heap, one, other)?
+            && are_places::<EnvKind>(alloc, heap, one, other)?
+            && are_places::<PanicKind>(alloc, heap, one, other)?,
+    )
 }
 
 #[test]
-fn each_copy_may_be_refused(rt: HostRuntime) -> Result<(), Fail> {
-    let heap = Refusing::new(rt.alloc());
-    assert!(rt; field_may_be_refused::<TripleKind>(&heap)?);
-    assert!(rt; field_may_be_refused::<AbiKind>(&heap)?);
-    assert!(rt; field_may_be_refused::<ArchKind>(&heap)?);
-    assert!(rt; field_may_be_refused::<VendorKind>(&heap)?);
-    assert!(rt; place_may_be_refused::<OsKind>(&heap)?);
-    assert!(rt; place_may_be_refused::<FamilyKind>(&heap)?);
-    assert!(rt; place_may_be_refused::<EnvKind>(&heap)?);
-    assert!(rt; place_may_be_refused::<PanicKind>(&heap)?);
+fn each_field_is_a_text(rt: HostRuntime) -> Result<(), Fail> {
+    let heap = empty_heap(rt.alloc());
+    for (i, one) in RISING.iter().enumerate() {
+        for (j, other) in RISING.iter().enumerate() {
+            assert!(rt;
+                are_all_texts(rt.alloc(), &heap, (i, *one), (j, *other))?,
+                "{one} and {other}"
+            );
+        }
+    }
+    assert!(rt; has_every_block(heap));
     Ok(())
+}
+
+// Whether a borrowed text of a crate's type is copied with no growth, and an owned one with one
+// growth; where that is refused, so is the copy, and the field stays.
+macro_rules! is_copied {
+    ($fields:ident, $kind:ty, $heap:ident) => {{
+        $heap.refuse(0);
+        let owned: $fields::Field<'static, $kind, Heap<'_>> =
+            $fields::Field::new(String::from_str($heap, "é")?);
+        $heap.refuse(EVERY);
+        let borrowed = $fields::Field::new_const("é");
+        let is_free = borrowed.try_clone($heap)? == borrowed;
+        $heap.refuse(1);
+        let is_refused = owned.try_clone($heap).is_err() && $heap.has_refused();
+        let stays = owned == borrowed;
+        $heap.refuse(2);
+        let is_equal = owned.try_clone($heap)? == borrowed;
+        Ok(is_free && is_refused && stays && is_equal && !$heap.has_refused())
+    }};
+}
+
+fn field_is_copied<K: Drop>(heap: Heap<'_>) -> Result<bool, AllocError> {
+    is_copied!(cfgx_fields, K, heap)
+}
+
+fn place_is_copied<K: Drop>(heap: Heap<'_>) -> Result<bool, AllocError> {
+    is_copied!(cfgx_places, K, heap)
+}
+
+#[test]
+fn each_copy_may_be_refused(rt: HostRuntime) {
+    let heap = empty_heap(rt.alloc());
+    all_hold(
+        &rt,
+        &[
+            ("a triple", holds(field_is_copied::<TripleKind>(&heap))),
+            ("an ABI", holds(field_is_copied::<AbiKind>(&heap))),
+            ("an architecture", holds(field_is_copied::<ArchKind>(&heap))),
+            ("a vendor", holds(field_is_copied::<VendorKind>(&heap))),
+            ("a system", holds(place_is_copied::<OsKind>(&heap))),
+            ("a family", holds(place_is_copied::<FamilyKind>(&heap))),
+            ("an environment", holds(place_is_copied::<EnvKind>(&heap))),
+            (
+                "a panic strategy",
+                holds(place_is_copied::<PanicKind>(&heap)),
+            ),
+        ],
+    );
+    assert!(rt; has_every_block(heap));
 }

@@ -71,29 +71,15 @@ pub fn plan(
 mod tests {
     use crate::deep::{nested, repeated};
     use crate::filling::{Decision, plan};
-    use crate::generated::agreeing::{is_filling, value_with};
+    use crate::generated::agreeing::{are_fillings, is_filling, value_with};
     use crate::lanes::{self, each_in_each, in_each};
-    use crate::refusing::Refusing;
     use cfg_expr::Expression;
-    use cfg_expr::memory::SmallAllocator;
     use std::alloc::{AllocError, Global};
     use std::process::Abort;
     use std::test::Fail;
 
     /// The two fillings.
-    type Fillings<A> = (Vec<bool, A>, Vec<bool, A>);
-
-    // The fillings, or `None` where there are not as many answers as predicates.
-    fn asked_over<A: SmallAllocator>(
-        alloc: A,
-        expression: &Expression<A>,
-        answers: &[Option<bool>],
-    ) -> Option<Result<Option<Fillings<A>>, AllocError>> {
-        if expression.predicates().left() != answers.len() {
-            return None;
-        }
-        Some(expression.polar_fillings(alloc, answers))
-    }
+    type Fillings = (Vec<bool>, Vec<bool>);
 
     const OTHER_NUMBER: &str = "another number of answers than of predicates";
 
@@ -101,11 +87,11 @@ mod tests {
         alloc: Global,
         expression: &Expression,
         answers: &[Option<bool>],
-    ) -> Result<Option<Fillings<Global>>, Fail> {
-        match asked_over(alloc, expression, answers) {
-            Some(found) => Ok(found?),
-            None => Err(Fail::from(OTHER_NUMBER)),
+    ) -> Result<Option<Fillings>, Fail> {
+        if expression.predicates().left() != answers.len() {
+            return Err(Fail::from(OTHER_NUMBER));
         }
+        Ok(expression.polar_fillings(alloc, answers)?)
     }
 
     const YES: Option<bool> = Some(true);
@@ -202,10 +188,7 @@ mod tests {
     ];
 
     // Whether these are the fillings that are wanted.
-    fn are<A: SmallAllocator>(
-        found: &Option<Fillings<A>>,
-        wanted: Option<(&[bool], &[bool])>,
-    ) -> bool {
+    fn are(found: &Option<Fillings>, wanted: Option<(&[bool], &[bool])>) -> bool {
         match (found, wanted) {
             (None, None) => true,
             (Some((with_true, with_false)), Some((true_wanted, false_wanted))) => {
@@ -288,85 +271,38 @@ mod tests {
         Ok(())
     }
 
-    // Whether so many members of `any` are all true in the first filling, and all false in the
-    // second.
-    fn fill_any(alloc: Global, count: usize) -> Result<bool, Fail> {
+    // Whether the first filling is so many times true, and the second one as often false.
+    fn are_alike(found: &Option<Fillings>, count: usize) -> bool {
+        match found {
+            Some((with_true, with_false)) => {
+                with_true.len() == count
+                    && with_false.len() == count
+                    && !with_true.contains(&false)
+                    && !with_false.contains(&true)
+            }
+            None => false,
+        }
+    }
+
+    // Whether so many unknown answers have such fillings.
+    fn has_alike(alloc: Global, expression: &Expression, count: usize) -> Result<bool, Fail> {
         let unknown: Option<bool> = None;
-        let text = repeated(alloc, "any(", "a,", count, ")")?;
         let answers = vec![in alloc; unknown; count]?;
-        let all_true = vec![in alloc; true; count]?;
-        let all_false = vec![in alloc; false; count]?;
-        has_fillings(
-            alloc,
-            text.as_str(),
-            answers.as_slice(),
-            Some((all_true.as_slice(), all_false.as_slice())),
-        )
+        let found = fillings_over(alloc, expression, answers.as_slice())?;
+        Ok(are_alike(&found, count))
+    }
+
+    // Whether so many members of `any` do.
+    fn fill_any(alloc: Global, count: usize) -> Result<bool, Fail> {
+        let text = repeated(alloc, "any(", "a,", count, ")")?;
+        let expression = Expression::parse(alloc, text.as_str())?;
+        has_alike(alloc, &expression, count)
     }
 
     #[test]
     fn a_hundred_thousand_members(rt: HostRuntime) -> Result<(), Fail> {
         assert!(rt; fill_any(rt.alloc(), 100_000)?);
         Ok(())
-    }
-
-    // No text here needs so many growths.
-    const MOST_GROWTHS: u64 = 100;
-
-    // With the growth of this number refused: the want of memory that is answered, or nothing where
-    // the fillings are those that are wanted.
-    fn seen_at(
-        heap: &Refusing<Global>,
-        text: &str,
-        answers: &[Option<bool>],
-        wanted: Option<(&[bool], &[bool])>,
-        turn: u64,
-    ) -> Result<Option<AllocError>, Fail> {
-        let Ok(expression) = Expression::parse(heap, text) else {
-            return Err(Fail::from("no expression"));
-        };
-        heap.refuse(turn);
-        match asked_over(heap, &expression, answers) {
-            Some(Ok(found)) if are(&found, wanted) => Ok(None),
-            Some(Err(error)) => Ok(Some(error)),
-            _ => Err(Fail::from("other fillings, or another number of answers")),
-        }
-    }
-
-    // The fillings with the first growth refused, then with the second, until none is refused.
-    fn fill_in_turns(
-        rt: &impl Abort,
-        alloc: Global,
-        text: &str,
-        answers: &[Option<bool>],
-        wanted: Option<(&[bool], &[bool])>,
-    ) -> Result<(), Fail> {
-        for turn in 1..MOST_GROWTHS {
-            let refusing = Refusing::new(alloc);
-            let seen = seen_at(&refusing, text, answers, wanted, turn)?;
-            assert!(rt;
-                seen.is_some() == refusing.has_refused(),
-                "growth {turn} of {text}"
-            );
-            if seen.is_none() {
-                assert!(rt; turn > 1, "{text}");
-                return Ok(());
-            }
-        }
-        Err(Fail::from("too many growths"))
-    }
-
-    #[test]
-    fn refused_growths(rt: HostRuntime) -> Result<(), Fail> {
-        let opposite: Option<(&[bool], &[bool])> = Some((&[false, true], &[true, false]));
-        fill_in_turns(&rt, rt.alloc(), "any(a, not(a))", &[None, None], opposite)?;
-        let wide = repeated(rt.alloc(), "any(", "all(),", 100, "a)")?;
-        fill_in_turns(&rt, rt.alloc(), wide.as_str(), &[None], None)?;
-        let deep = nested(rt.alloc(), "not(", 100, "a")?;
-        let plain: Option<(&[bool], &[bool])> = Some((&[true], &[false]));
-        fill_in_turns(&rt, rt.alloc(), deep.as_str(), &[None], plain)?;
-        let literals = repeated(rt.alloc(), "any(a,", "false,", 100, ")")?;
-        fill_in_turns(&rt, rt.alloc(), literals.as_str(), &[None], plain)
     }
 
     // How many predicates a text of `x`, `all`, `any` and `not` has.
@@ -444,6 +380,30 @@ mod tests {
         Ok(filling)
     }
 
+    // The value to which this filling leads, if it is one of the answers.
+    fn led_to(
+        alloc: Global,
+        expression: &Expression,
+        answers: &[Option<bool>],
+        filling: &[bool],
+    ) -> Result<Option<bool>, AllocError> {
+        if !is_filling(filling, answers) {
+            return Ok(None);
+        }
+        Ok(Some(value_with(alloc, expression, filling, false)?))
+    }
+
+    // The same of the filling of this number.
+    fn led_to_by(
+        alloc: Global,
+        expression: &Expression,
+        answers: &[Option<bool>],
+        number: usize,
+    ) -> Result<Option<bool>, AllocError> {
+        let filling = filling_of(alloc, number, answers.len())?;
+        led_to(alloc, expression, answers, filling.as_slice())
+    }
+
     // The value to which all the fillings lead, or nothing where they differ.
     fn common_value(
         alloc: Global,
@@ -452,12 +412,9 @@ mod tests {
     ) -> Result<Option<bool>, AllocError> {
         let (mut is_true, mut is_false) = (false, false);
         for number in 0..power(2, answers.len()) {
-            let filling = filling_of(alloc, number, answers.len())?;
-            if is_filling(filling.as_slice(), answers) {
-                let value = value_with(alloc, expression, filling.as_slice(), false)?;
-                is_true |= value;
-                is_false |= !value;
-            }
+            let value = led_to_by(alloc, expression, answers, number)?;
+            is_true |= value == YES;
+            is_false |= value == NO;
         }
         Ok(if is_true && is_false {
             None
@@ -493,19 +450,11 @@ mod tests {
         answers: &[Option<bool>],
     ) -> Result<bool, Fail> {
         let value = value_with(alloc, expression, answers, None)?;
-        if common_value(alloc, expression, answers)? != value
-            || !has_in_lanes(alloc, expression, answers, value)?
-        {
-            return Ok(false);
-        }
-        let Some((with_true, with_false)) = fillings_over(alloc, expression, answers)? else {
-            return Ok(value.is_some());
-        };
-        let are_fillings = is_filling(with_true.as_slice(), answers)
-            && is_filling(with_false.as_slice(), answers);
-        let above = value_with(alloc, expression, with_true.as_slice(), false)?;
-        let below = value_with(alloc, expression, with_false.as_slice(), true)?;
-        Ok(value.is_none() && are_fillings && above && !below)
+        Ok(
+            common_value(alloc, expression, answers)? == value
+                && has_in_lanes(alloc, expression, answers, value)?
+                && are_fillings(alloc, expression, answers, value)?,
+        )
     }
 
     fn agree_at(alloc: Global, expression: &Expression, number: usize) -> Result<bool, Fail> {
@@ -513,16 +462,26 @@ mod tests {
         agree(alloc, expression, answers.as_slice())
     }
 
-    // Asserts this of all answers to the text, and answers how many they are.
+    // The number of the first answers over which they do not agree, of so many.
+    fn first_wrong(
+        alloc: Global,
+        expression: &Expression,
+        cases: usize,
+    ) -> Result<Option<usize>, Fail> {
+        for number in 0..cases {
+            if !agree_at(alloc, expression, number)? {
+                return Ok(Some(number));
+            }
+        }
+        Ok(None)
+    }
+
+    // Asserts that they agree over all answers to the text, and answers how many these are.
     fn agreeing(rt: &impl Abort, alloc: Global, text: &str) -> Result<usize, Fail> {
         let expression = Expression::parse(alloc, text)?;
         let cases = power(3, expression.predicates().left());
-        for number in 0..cases {
-            assert!(rt;
-                agree_at(alloc, &expression, number)?,
-                "answers {number} of {text}"
-            );
-        }
+        let wrong = first_wrong(alloc, &expression, cases)?;
+        assert!(rt; wrong.is_none(), "answers {wrong:?} of {text}");
         Ok(cases)
     }
 

@@ -2,230 +2,212 @@
 //!
 //! A call answers `Ok(true)` if it gave its plain answer, `AllocError` if it was out of memory and
 //! left all else as it was, and `Ok(false)` in every other case. After each refused growth it is
-//! made again with memory.
-mod conditions;
+//! made again with memory. Fields are in `fields.rt`.
+pub(crate) mod conditions;
 mod runs;
-mod sections;
-mod values;
+mod targets;
 
-use crate::deep::{nested, repeated};
-use crate::holding::holds;
-use crate::picking::KINDS;
-use crate::targets::memory;
-use crate::turns::{Heap, is_refused_in_turns};
+use crate::deep::{Parts, written};
+use crate::faults::{NO_TOKEN, NO_VALUE, NOTHING};
+use crate::refusing::EVERY;
+use crate::turns::{Heap, empty_heap, has_every_block, is_refused_in_turns};
+use cfg_expr::Expression;
+use cfg_expr::error::Reason;
+use conditions::{Wanted, is_answer, lexes, uses};
+use runs::is_run_in_turns;
 use std::alloc::{AllocError, Global};
+use std::test::Fail;
 
-/// A call that takes memory. Those of the first group are given a text.
-#[derive(Clone, Copy, Debug)]
-enum Call {
-    Lexer,
-    Parse,
-    FromStr,
-    CloneExpression,
-    Eval,
-    PolarFillings,
-    EvalLanes,
-    Pick,
-    RunParse,
-    RunEval,
-    RunTarget,
+/// Calls that are made with a text: a faulty one is read only, and not every condition is
+/// evaluated.
+type Calls = &'static [&'static str];
 
-    CloneTriple,
-    CloneAbi,
-    CloneArch,
-    CloneVendor,
-    CloneOs,
-    CloneFamily,
-    CloneEnv,
-    ClonePanic,
+const LEXED: Calls = &["lexer", "parse", "from_str"];
 
-    NewFamilies,
-    NamedFamilies,
-    CloneFamilies,
-    NewHasAtomics,
-    NamedHasAtomics,
-    CloneHasAtomics,
-    Read,
-    CloneFault,
-    Builtins,
-    CloneRow,
-    ClonePredicate,
-}
+const READ: Calls = &["parse", "from_str"];
 
-/// The texts of the first group.
-#[derive(Clone, Copy, Debug)]
-enum Text {
-    Short(&'static str),
-    /// `all(`, forty times `any(a, b),`, and `)`
-    Wide,
-    /// Forty times `not(`, `a`, and forty times `)`
-    Deep,
-    /// The same without the last `)`
-    Open,
-    /// `any(a,`, forty times `false,`, and `)`
-    Literals,
-    /// None, for a call of the other groups
-    No,
-}
+const COPIED: Calls = &["parse", "from_str", "try_clone"];
 
-const THREE: Text = Text::Short("all(a, any(b), c)");
-
-const FAULTY: Text = Text::Short("a 8 b");
-
-const UNOPENED: Text = Text::Short("key)");
-
-/// Which call is made with which text.
-const TURNS: &[(Call, Text)] = &[
-    (Call::Lexer, FAULTY),
-    (Call::Parse, FAULTY),
-    (Call::Parse, UNOPENED),
-    (Call::Parse, THREE),
-    (Call::Parse, Text::Wide),
-    (Call::Parse, Text::Deep),
-    (Call::Parse, Text::Open),
-    (Call::Parse, Text::Literals),
-    (Call::FromStr, FAULTY),
-    (Call::FromStr, UNOPENED),
-    (Call::FromStr, THREE),
-    (Call::FromStr, Text::Wide),
-    (Call::FromStr, Text::Deep),
-    (Call::FromStr, Text::Open),
-    (Call::FromStr, Text::Literals),
-    (Call::CloneExpression, THREE),
-    (Call::CloneExpression, Text::Wide),
-    (Call::CloneExpression, Text::Deep),
-    (Call::CloneExpression, Text::Literals),
-    (Call::Eval, THREE),
-    (Call::Eval, Text::Wide),
-    (Call::Eval, Text::Deep),
-    (Call::Eval, Text::Literals),
-    (Call::PolarFillings, THREE),
-    (Call::PolarFillings, Text::Wide),
-    (Call::PolarFillings, Text::Deep),
-    (Call::PolarFillings, Text::Literals),
-    (Call::EvalLanes, THREE),
-    (Call::EvalLanes, Text::Wide),
-    (Call::EvalLanes, Text::Deep),
-    (Call::EvalLanes, Text::Literals),
-    (Call::Pick, THREE),
-    (Call::Pick, Text::Wide),
-    (Call::Pick, Text::Deep),
-    (Call::Pick, Text::Literals),
-    (Call::RunParse, FAULTY),
-    (Call::RunParse, UNOPENED),
-    (Call::RunParse, THREE),
-    (Call::RunParse, Text::Wide),
-    (Call::RunParse, Text::Deep),
-    (Call::RunParse, Text::Open),
-    (Call::RunParse, Text::Literals),
-    (Call::RunEval, FAULTY),
-    (Call::RunEval, UNOPENED),
-    (Call::RunEval, THREE),
-    (Call::RunEval, Text::Wide),
-    (Call::RunEval, Text::Deep),
-    (Call::RunEval, Text::Open),
-    (Call::RunEval, Text::Literals),
-    (Call::RunTarget, FAULTY),
-    (Call::RunTarget, UNOPENED),
-    (Call::RunTarget, THREE),
-    (Call::RunTarget, Text::Wide),
-    (Call::RunTarget, Text::Deep),
-    (Call::RunTarget, Text::Open),
-    (Call::RunTarget, Text::Literals),
-    (Call::CloneTriple, Text::No),
-    (Call::CloneAbi, Text::No),
-    (Call::CloneArch, Text::No),
-    (Call::CloneVendor, Text::No),
-    (Call::CloneOs, Text::No),
-    (Call::CloneFamily, Text::No),
-    (Call::CloneEnv, Text::No),
-    (Call::ClonePanic, Text::No),
-    (Call::NewFamilies, Text::No),
-    (Call::NamedFamilies, Text::No),
-    (Call::CloneFamilies, Text::No),
-    (Call::NewHasAtomics, Text::No),
-    (Call::NamedHasAtomics, Text::No),
-    (Call::CloneHasAtomics, Text::No),
-    (Call::Read, Text::No),
-    (Call::CloneFault, Text::No),
-    (Call::Builtins, Text::No),
-    (Call::CloneRow, Text::No),
-    (Call::ClonePredicate, Text::No),
+const EVALUATED: Calls = &[
+    "parse",
+    "from_str",
+    "try_clone",
+    "eval",
+    "polar_fillings",
+    "eval_lanes",
+    "pick",
 ];
 
-fn written(alloc: Global, text: Text) -> Result<String, AllocError> {
-    match text {
-        Text::Short(text) => String::from_str(alloc, text),
-        Text::Wide => repeated(alloc, "all(", "any(a, b),", 40, ")"),
-        Text::Deep => nested(alloc, "not(", 40, "a"),
-        Text::Open => {
-            let front = repeated(alloc, "", "not(", 40, "a")?;
-            repeated(alloc, front.as_str(), ")", 39, "")
+// A text, what it is stripped to, what parsing it answers, and its calls. What is evaluated is true
+// if all its predicates are, false if all are false, and asks nothing of targets.
+const SHORT: &[(&str, &str, Wanted, Calls)] = &[
+    ("a 8 b", "a 8 b", Err((2, 3, NO_TOKEN)), LEXED),
+    ("key)", "key)", Err((3, 4, Reason::UnopenedParens)), READ),
+    (
+        "key = \"abc",
+        "key = \"abc",
+        Err((6, 10, Reason::UnclosedQuotes)),
+        READ,
+    ),
+    ("key =", "key =", Err((5, 5, NO_VALUE)), READ),
+    ("unix = \"x\"", "unix = \"x\"", Err((8, 9, NOTHING)), READ),
+    (
+        "target_has_atomic = \"65536\"",
+        "target_has_atomic = \"65536\"",
+        Err((21, 26, Reason::InvalidHasAtomic)),
+        READ,
+    ),
+    (
+        "not(a, key = \"v\")",
+        "not(a, key = \"v\")",
+        Err((0, 17, Reason::InvalidNot(2))),
+        READ,
+    ),
+    (
+        "cfg(not(a, b))",
+        "not(a, b)",
+        Err((0, 9, Reason::InvalidNot(2))),
+        READ,
+    ),
+    (
+        "key1, key2",
+        "key1, key2",
+        Err((0, 10, Reason::MultipleRootPredicates)),
+        READ,
+    ),
+    ("all()", "all()", Ok(0), COPIED),
+    ("cfg(all())", "all()", Ok(0), COPIED),
+    ("cfg( all() )", " all() ", Ok(0), COPIED),
+    ("not(key = \"v\")", "not(key = \"v\")", Ok(1), COPIED),
+    (
+        "cfg(any(unix, key = \"\u{e9}\",,),)",
+        "any(unix, key = \"\u{e9}\",,),",
+        Ok(2),
+        COPIED,
+    ),
+    (
+        "all(feature = \"a\", not(unix), key = \"v\")",
+        "all(feature = \"a\", not(unix), key = \"v\")",
+        Ok(3),
+        COPIED,
+    ),
+    (
+        "any(target_pointer_width = \"64\", target_endian = \"big\", panic = \"a\")",
+        "any(target_pointer_width = \"64\", target_endian = \"big\", panic = \"a\")",
+        Ok(3),
+        COPIED,
+    ),
+    (
+        "all(a, b, c, d, not(e), f, g, h)",
+        "all(a, b, c, d, not(e), f, g, h)",
+        Ok(8),
+        COPIED,
+    ),
+    ("a", "a", Ok(1), EVALUATED),
+    ("cfg(key)", "key", Ok(1), EVALUATED),
+    ("all(a, any(b), c)", "all(a, any(b), c)", Ok(3), EVALUATED),
+];
+
+// The same of longer texts, from which nothing is stripped.
+const LONG: &[(Parts, Wanted, Calls)] = &[
+    (
+        ("", " ", 100_000, "8", 0),
+        Err((100_000, 100_001, NO_TOKEN)),
+        READ,
+    ),
+    (
+        ("", " ", 5_000, "8", 0),
+        Err((5_000, 5_001, NO_TOKEN)),
+        READ,
+    ),
+    (
+        ("\"", "v", 5_000, "", 0),
+        Err((0, 5_001, Reason::UnclosedQuotes)),
+        READ,
+    ),
+    (
+        ("", "not(", 40, "a", 39),
+        Err((3, 200, Reason::UnclosedParens)),
+        READ,
+    ),
+    (("all(", "key = \"v\", unix,", 40, ")", 0), Ok(80), COPIED),
+    (("", "k", 1_000, "", 0), Ok(1), EVALUATED),
+    (("key = \"", "v", 1_000, "\"", 0), Ok(1), EVALUATED),
+    (("all(", "any(a, b),", 40, ")", 0), Ok(80), EVALUATED),
+    (("", "not(", 40, "a", 40), Ok(1), EVALUATED),
+    (("any(a,", "false,", 40, ")", 0), Ok(1), EVALUATED),
+    (("any(", "a,", 100, ")", 0), Ok(100), EVALUATED),
+    (("", "any(", 100, "a", 100), Ok(1), EVALUATED),
+    (("", "not(", 100, "a", 100), Ok(1), EVALUATED),
+    (("all(a,", "true,", 100, ")", 0), Ok(1), EVALUATED),
+    (("any(a,", "false,", 100, ")", 0), Ok(1), EVALUATED),
+];
+
+// What the call answers.
+fn answer_to(
+    heap: Heap<'_>,
+    call: &str,
+    text: &str,
+    original: &str,
+    wanted: &Wanted,
+) -> Result<bool, AllocError> {
+    match call {
+        "lexer" => lexes(heap, text),
+        "parse" => is_answer(Expression::parse(heap, text), original, wanted),
+        "from_str" => is_answer(Expression::from_str(heap, text), original, wanted),
+        other => uses(heap, other, text, original, wanted),
+    }
+}
+
+// Whether each growth of these calls is refused in turn, and of runs over the text.
+fn is_right_in_turns(
+    alloc: Global,
+    calls: &[&str],
+    text: &str,
+    original: &str,
+    wanted: &Wanted,
+) -> bool {
+    for call in calls {
+        if !is_refused_in_turns(alloc, |heap| answer_to(heap, call, text, original, wanted)) {
+            return false;
         }
-        Text::Literals => repeated(alloc, "any(a,", "false,", 40, ")"),
-        Text::No => Ok(String::new(alloc)),
     }
-}
-
-// What the call answers. `alloc` is for the sink of a run.
-fn answer_to(alloc: Global, heap: Heap<'_>, call: Call, text: &str) -> Result<bool, AllocError> {
-    match call {
-        Call::Lexer => conditions::lexes(heap, text),
-        Call::Parse => conditions::parses(heap, text),
-        Call::FromStr => conditions::reads(heap, text),
-        Call::CloneExpression => conditions::copies(heap, text),
-        Call::Eval => conditions::evaluates(heap, text),
-        Call::PolarFillings => conditions::fills(heap, text),
-        Call::EvalLanes => conditions::evaluates_lanes(heap, text),
-        Call::Pick => sections::picks(heap, text),
-        Call::RunParse => runs::parses(alloc, heap, text),
-        Call::RunEval => runs::evaluates(alloc, heap, text),
-        Call::RunTarget => runs::answers(alloc, heap, text),
-        other => answer_of_target(heap, other),
-    }
-}
-
-// The same of a call that is given no text.
-fn answer_of_target(heap: Heap<'_>, call: Call) -> Result<bool, AllocError> {
-    match call {
-        Call::NewFamilies => memory::makes_families(heap),
-        Call::NamedFamilies => memory::names_families(heap),
-        Call::CloneFamilies => memory::copies_families(heap),
-        Call::NewHasAtomics => memory::makes_widths(heap),
-        Call::NamedHasAtomics => memory::names_widths(heap),
-        Call::CloneHasAtomics => memory::copies_widths(heap),
-        Call::Read => memory::reads_no_width(heap),
-        Call::CloneFault => memory::copies_a_fault(heap),
-        Call::Builtins => memory::builds_the_table(heap),
-        Call::CloneRow => memory::copies_a_row(heap),
-        Call::ClonePredicate => memory::copies_a_predicate(heap),
-        other => values::answer_of_field(heap, other),
-    }
-}
-
-fn is_right_in_turns(alloc: Global, call: Call, text: Text) -> Result<bool, AllocError> {
-    let text = written(alloc, text)?;
-    Ok(is_refused_in_turns(alloc, |heap| answer_to(alloc, heap, call, text.as_str())))
+    let status = if wanted.is_ok() { 0 } else { 1 };
+    is_run_in_turns(alloc, &["parse", text], "", None, status)
+        && is_run_in_turns(alloc, &["eval", text, text], "", None, status)
+        && is_run_in_turns(
+            alloc,
+            &["target", "aarch64-apple-ios", text],
+            "",
+            None,
+            status,
+        )
 }
 
 #[test]
-fn each_growth_of_each_call_is_refused(rt: HostRuntime) {
-    for (call, text) in TURNS {
+fn each_growth_of_each_call_is_refused(rt: HostRuntime) -> Result<(), Fail> {
+    for (text, original, wanted, calls) in SHORT {
         assert!(rt;
-            holds(is_right_in_turns(rt.alloc(), *call, *text)),
-            "{call:?} of {text:?}"
+            is_right_in_turns(rt.alloc(), calls, text, original, wanted),
+            "{text}"
         );
     }
-}
-
-// The same of a run of `pick` over the input of a row.
-fn is_picked_in_turns(alloc: Global, row: &(&str, &str, u8)) -> bool {
-    is_refused_in_turns(alloc, |heap| runs::picks(alloc, heap, row))
-}
-
-#[test]
-fn each_growth_of_a_run_of_pick_is_refused(rt: HostRuntime) {
-    for row in KINDS {
-        assert!(rt; is_picked_in_turns(rt.alloc(), row), "{row:?}");
+    for (parts, wanted, calls) in LONG {
+        let text = written(rt.alloc(), parts)?;
+        let text = text.as_str();
+        assert!(rt;
+            is_right_in_turns(rt.alloc(), calls, text, text, wanted),
+            "{parts:?}"
+        );
     }
+    Ok(())
+}
+
+// Whether the lexer ends with every growth refused.
+#[test]
+fn no_memory_ends_the_lexer(rt: HostRuntime) {
+    let heap = empty_heap(rt.alloc());
+    heap.refuse(EVERY);
+    assert!(rt; lexes(&heap, "a 8 b").is_err());
+    assert!(rt; has_every_block(heap));
 }

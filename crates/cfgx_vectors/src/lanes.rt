@@ -1,30 +1,14 @@
 //! Conditions in sixty-four lanes at once.
 use crate::auditing::{answer_of, answers_of, audit};
 use crate::deep::{nested, repeated};
-use crate::refusing::{EVERY, Refusing};
+use crate::holding::all_hold;
 use crate::targets::{README, darwin, windows};
 use cfg_expr::expr::Logic;
 use cfg_expr::expr::logic::Kleene64;
-use cfg_expr::memory::SmallAllocator;
 use cfg_expr::targets::{Abi, TargetInfo, TargetTable, Triple, Vendor};
 use cfg_expr::{Expression, Predicate, TargetPredicate};
 use std::alloc::{AllocError, Global};
-use std::process::Abort;
 use std::test::Fail;
-
-// The value over the answers, or `None` if there are not as many as predicates.
-fn asked_over<A: SmallAllocator>(
-    alloc: A,
-    expression: &Expression<A>,
-    answers: &[Kleene64],
-) -> Option<Result<Kleene64, AllocError>> {
-    if expression.predicates().left() != answers.len() {
-        return None;
-    }
-    Some(expression.eval_lanes(alloc, answers))
-}
-
-const OTHER_NUMBER: &str = "another number of answers than of predicates";
 
 /// The value over the answers, of which there have to be as many as predicates.
 pub(crate) fn value_over(
@@ -32,10 +16,10 @@ pub(crate) fn value_over(
     expression: &Expression,
     answers: &[Kleene64],
 ) -> Result<Kleene64, Fail> {
-    match asked_over(alloc, expression, answers) {
-        Some(value) => Ok(value?),
-        None => Err(Fail::from(OTHER_NUMBER)),
+    if expression.predicates().left() != answers.len() {
+        return Err(Fail::from("another number of answers than of predicates"));
     }
+    Ok(expression.eval_lanes(alloc, answers)?)
 }
 
 // The value of the text over the answers.
@@ -86,7 +70,8 @@ const ON_ROWS: &[(&str, u64, u64)] = &[
     ("any()", 0, u64::MAX),
 ];
 
-fn has_planes(lanes: Kleene64, is_true: u64, is_false: u64) -> bool {
+/// Whether it is true and false in these lanes.
+pub(crate) fn has_planes(lanes: Kleene64, is_true: u64, is_false: u64) -> bool {
     lanes.is_true() == is_true && lanes.is_false() == is_false
 }
 
@@ -123,18 +108,27 @@ fn lanes_of_a_predicate(rt: HostRuntime) -> Result<(), Fail> {
     Ok(())
 }
 
-// Lane 0 is true, lane 1 false, and all others are unknown.
-fn three() -> Kleene64 {
+/// Lane 0 is true, lane 1 false, and all others are unknown.
+pub(crate) fn three() -> Kleene64 {
     Kleene64::new(0b001, 0b010)
 }
 
 #[test]
 fn lanes_are_joined_one_by_one(rt: HostRuntime) {
-    assert!(rt; three().lane(0) == Some(true) && three().lane(1) == Some(false));
-    assert!(rt; three().lane(2).is_none() && three().lane(63).is_none());
-    assert!(rt; has_planes(three().and(three().not()), 0, 0b011));
-    assert!(rt; has_planes(three().or(three().not()), 0b011, 0));
-    assert!(rt; three() == Kleene64::new(1, 2) && three() != Kleene64::new(1, 0));
+    let three = three();
+    all_hold(
+        &rt,
+        &[
+            ("lane 0", three.lane(0) == Some(true)),
+            ("lane 1", three.lane(1) == Some(false)),
+            ("lane 2", three.lane(2).is_none()),
+            ("lane 63", three.lane(63).is_none()),
+            ("and", has_planes(three.and(three.not()), 0, 0b011)),
+            ("or", has_planes(three.or(three.not()), 0b011, 0)),
+            ("equal lanes", three == Kleene64::new(1, 2)),
+            ("other lanes", three != Kleene64::new(1, 0)),
+        ],
+    );
 }
 
 // Texts, and their values where each predicate is answered by these three lanes.
@@ -312,78 +306,6 @@ fn deep_and_wide_texts(rt: HostRuntime) -> Result<(), Fail> {
     Ok(())
 }
 
-// No text here needs so many growths.
-const MOST_GROWTHS: u64 = 100;
-
-// The value with the growth of this number refused, or nothing if it is out of memory.
-fn seen_at(
-    heap: &Refusing<Global>,
-    text: &str,
-    answers: &[Kleene64],
-    turn: u64,
-) -> Result<Option<Kleene64>, Fail> {
-    let Ok(expression) = Expression::parse(heap, text) else {
-        return Err(Fail::from("no expression"));
-    };
-    heap.refuse(turn);
-    match asked_over(heap, &expression, answers) {
-        Some(value) => Ok(value.ok()),
-        None => Err(Fail::from(OTHER_NUMBER)),
-    }
-}
-
-// Evaluates with the first growth refused, then with the second, until none is refused.
-fn eval_in_turns(
-    rt: &impl Abort,
-    alloc: Global,
-    text: &str,
-    answers: &[Kleene64],
-    wanted: Kleene64,
-) -> Result<(), Fail> {
-    for turn in 1..MOST_GROWTHS {
-        let refusing = Refusing::new(alloc);
-        let seen = seen_at(&refusing, text, answers, turn)?;
-        assert!(rt;
-            seen.is_none() == refusing.has_refused(),
-            "growth {turn} of {text}"
-        );
-        if let Some(value) = seen {
-            assert!(rt; turn > 1 && value == wanted, "{text}");
-            return Ok(());
-        }
-    }
-    Err(Fail::from("too many growths"))
-}
-
-#[test]
-fn refused_growths(rt: HostRuntime) -> Result<(), Fail> {
-    let wide = repeated(rt.alloc(), "any(", "a,", 100, ")")?;
-    let answers = vec![in rt.alloc(); three(); 100]?;
-    eval_in_turns(&rt, rt.alloc(), wide.as_str(), answers.as_slice(), three())?;
-    let deep = nested(rt.alloc(), "not(", 100, "a")?;
-    eval_in_turns(&rt, rt.alloc(), deep.as_str(), &[three()], three())?;
-    let literals = repeated(rt.alloc(), "all(a,", "true,", 100, ")")?;
-    eval_in_turns(&rt, rt.alloc(), literals.as_str(), &[three()], three())
-}
-
-// Each has 31 or 32 bytes, and asks so many predicates.
-const SHORT: [(&str, usize); 3] = [
-    ("any(a,a,a,a,a,a,a,a,a,a,a,a,a,a)", 14),
-    ("not(not(not(not(not(not(a))))))", 1),
-    ("all(all(),all(),all(),all(),a,a)", 2),
-];
-
-#[test]
-fn a_short_text_takes_no_memory(rt: HostRuntime) -> Result<(), Fail> {
-    for (text, count) in SHORT {
-        let answers = vec![in rt.alloc(); three(); count]?;
-        let refusing = Refusing::new(rt.alloc());
-        let seen = seen_at(&refusing, text, answers.as_slice(), EVERY)?;
-        assert!(rt; seen == Some(three()), "{text}");
-    }
-    Ok(())
-}
-
 // A row of this number, with the fields of one that is built in.
 fn numbered(
     alloc: Global,
@@ -428,16 +350,26 @@ fn plain_value(
     )
 }
 
-// Whether the audit answers for each row what it answers by itself.
-fn is_audited(alloc: Global, text: &str, rows: &[TargetInfo<'_>]) -> Result<bool, Fail> {
-    let verdicts = audit(alloc, text, rows)?;
-    let expression = Expression::parse(alloc, text)?;
-    for (row, verdict) in rows.iter().zip(verdicts.as_slice()) {
-        if plain_value(alloc, &expression, row)? != *verdict {
+// Whether these are the values on each of the rows by itself.
+fn are_values(
+    alloc: Global,
+    expression: &Expression,
+    rows: &[TargetInfo<'_>],
+    verdicts: &[Option<bool>],
+) -> Result<bool, AllocError> {
+    for (row, verdict) in rows.iter().zip(verdicts) {
+        if plain_value(alloc, expression, row)? != *verdict {
             return Ok(false);
         }
     }
     Ok(verdicts.len() == rows.len())
+}
+
+// Whether the audit answers for each row what it answers by itself.
+fn is_audited(alloc: Global, text: &str, rows: &[TargetInfo<'_>]) -> Result<bool, Fail> {
+    let verdicts = audit(alloc, text, rows)?;
+    let expression = Expression::parse(alloc, text)?;
+    Ok(are_values(alloc, &expression, rows, verdicts.as_slice())?)
 }
 
 const AUDITED: &[&str] = &[
@@ -449,29 +381,41 @@ const AUDITED: &[&str] = &[
     "all()",
 ];
 
+// The first text of which the audit of so many rows is wrong.
+fn first_wrong(alloc: Global, count: usize) -> Result<Option<&'static str>, Fail> {
+    let rows = numbered_rows(alloc, count)?;
+    for text in AUDITED {
+        if rows.len() != count || !is_audited(alloc, text, rows.as_slice())? {
+            return Ok(Some(*text));
+        }
+    }
+    Ok(None)
+}
+
 #[test]
 fn audits_of_rows_in_pieces(rt: HostRuntime) -> Result<(), Fail> {
     for count in [0, 1, 64, 65, 130] {
-        let rows = numbered_rows(rt.alloc(), count)?;
-        assert!(rt; rows.len() == count);
-        for text in AUDITED {
-            assert!(rt;
-                is_audited(rt.alloc(), text, rows.as_slice())?,
-                "{count}: {text}"
-            );
-        }
+        let wrong = first_wrong(rt.alloc(), count)?;
+        assert!(rt; wrong.is_none(), "{count}: {wrong:?}");
     }
     Ok(())
 }
 
 // Which of the five rows that take turns are simulators is known: those with the number 3.
+fn are_simulators(verdicts: &[Option<bool>]) -> bool {
+    for (number, verdict) in verdicts.iter().enumerate() {
+        if *verdict != Some(number % 5 == 3) {
+            return false;
+        }
+    }
+    true
+}
+
 #[test]
 fn an_audit_finds_the_simulators(rt: HostRuntime) -> Result<(), Fail> {
     let rows = numbered_rows(rt.alloc(), 130)?;
     let verdicts = audit(rt.alloc(), "target_abi = \"sim\"", rows.as_slice())?;
-    assert!(rt; verdicts.len() == 130);
-    for (number, verdict) in verdicts.iter().enumerate() {
-        assert!(rt; *verdict == Some(number % 5 == 3), "row {number}");
-    }
+    let are_right = are_simulators(verdicts.as_slice()) && verdicts.len() == 130;
+    assert!(rt; are_right);
     Ok(())
 }

@@ -2,11 +2,10 @@
 use crate::faults::NO_TOKEN;
 use cfg_expr::error::Failure;
 use cfg_expr::expr::lexer::{Lexer, Token};
-use std::alloc::Global;
-use std::process::Abort;
+use std::alloc::{Allocator, Global};
 
 /// A token, where it starts and ends, and how many bytes stand behind it.
-type Row = (Token<'static>, usize, usize, usize);
+pub(crate) type Row = (Token<'static>, usize, usize, usize);
 
 const FUNCTIONS: &str = "cfg(all(a, any (\u{a0}_b8),,not(\u{3000}all_c )  \n\t\r )   )";
 
@@ -47,8 +46,23 @@ const OF_VALUES: &[Row] = &[
     (Token::Value("\u{a0}"), 29, 33, 0),
 ];
 
-// Whether the next item is that of the row.
-fn gives(lexer: &mut Lexer<'_>, row: &Row) -> bool {
+// Texts, and their items.
+const ROWS: &[(&str, &[Row])] = &[
+    (FUNCTIONS, OF_FUNCTIONS),
+    ("key = \"\"", OF_AN_EMPTY_VALUE),
+    (VALUES, OF_VALUES),
+    ("\u{3000}key", &[(Token::Key("key"), 3, 6, 0)]),
+    // White space has none.
+    ("", &[]),
+    (" ", &[]),
+    ("\n\t\n", &[]),
+    ("\u{3000}", &[]),
+    ("cfg()", &[]),
+    ("cfg( )", &[]),
+];
+
+/// Whether the next item is that of the row.
+pub(crate) fn gives<A: Allocator>(lexer: &mut Lexer<'_, A>, row: &Row) -> bool {
     let (token, start, end, behind) = row;
     let is_item = match lexer.next() {
         Some(Ok(item)) => {
@@ -59,8 +73,8 @@ fn gives(lexer: &mut Lexer<'_>, row: &Row) -> bool {
     is_item && lexer.items_left_bound() == *behind
 }
 
-// Whether nothing is to come, however often it is asked.
-fn has_ended(lexer: &mut Lexer<'_>) -> bool {
+/// Whether nothing is to come, however often it is asked.
+pub(crate) fn has_ended<A: Allocator>(lexer: &mut Lexer<'_, A>) -> bool {
     for _call in 0..3 {
         if lexer.next().is_some() || lexer.items_left_bound() != 0 {
             return false;
@@ -69,27 +83,35 @@ fn has_ended(lexer: &mut Lexer<'_>) -> bool {
     true
 }
 
-// The text has these items, and then none.
-fn has_items(rt: &impl Abort, alloc: Global, text: &str, items: &[Row]) {
-    let mut lexer = Lexer::new(alloc, text);
-    for (place, row) in items.iter().enumerate() {
-        assert!(rt; gives(&mut lexer, row), "item {place} of {text}");
+/// Whether the next items are those of the rows.
+pub(crate) fn gives_all<A: Allocator>(lexer: &mut Lexer<'_, A>, items: &[Row]) -> bool {
+    for row in items {
+        if !gives(lexer, row) {
+            return false;
+        }
     }
-    assert!(rt; has_ended(&mut lexer), "{text}");
+    true
+}
+
+// Whether the text has these items, and then none.
+fn has_items(alloc: Global, text: &str, items: &[Row]) -> bool {
+    let mut lexer = Lexer::new(alloc, text);
+    gives_all(&mut lexer, items) && has_ended(&mut lexer)
 }
 
 #[test]
 fn gives_every_item(rt: HostRuntime) {
-    has_items(&rt, rt.alloc(), FUNCTIONS, OF_FUNCTIONS);
-    has_items(&rt, rt.alloc(), "key = \"\"", OF_AN_EMPTY_VALUE);
-    has_items(&rt, rt.alloc(), VALUES, OF_VALUES);
-    has_items(
-        &rt,
-        rt.alloc(),
-        "\u{3000}key",
-        &[(Token::Key("key"), 3, 6, 0)],
-    );
+    for (text, items) in ROWS {
+        assert!(rt; has_items(rt.alloc(), text, items), "{text}");
+    }
 }
+
+// Texts, what may be left before their first item, that item, and where the fault behind it is.
+// White space past ASCII counts its bytes, and a fault is one byte of a longer character.
+const FAULTS: &[(&str, usize, Row, usize)] = &[
+    ("a 8 b", 5, (Token::Key("a"), 0, 1, 4), 2),
+    ("\u{a0}key \u{e9}", 8, (Token::Key("key"), 2, 5, 3), 6),
+];
 
 // Whether the next item is the fault of a character at this place, with this text.
 fn gives_fault(lexer: &mut Lexer<'_>, place: usize, text: &str) -> bool {
@@ -106,26 +128,12 @@ fn gives_fault(lexer: &mut Lexer<'_>, place: usize, text: &str) -> bool {
 
 #[test]
 fn ends_with_its_fault(rt: HostRuntime) {
-    let mut lexer = Lexer::new(rt.alloc(), "a 8 b");
-    assert_eq!(rt; lexer.items_left_bound(), 5);
-    assert!(rt; gives(&mut lexer, &(Token::Key("a"), 0, 1, 4)));
-    assert!(rt; gives_fault(&mut lexer, 2, "a 8 b"));
-    assert_eq!(rt; lexer.items_left_bound(), 0);
-    assert!(rt; has_ended(&mut lexer));
-}
-
-// White space past ASCII counts its bytes, and a fault is one byte of a longer character.
-#[test]
-fn counts_bytes(rt: HostRuntime) {
-    let text = "\u{a0}key \u{e9}";
-    let mut lexer = Lexer::new(rt.alloc(), text);
-    assert!(rt; gives(&mut lexer, &(Token::Key("key"), 2, 5, 3)));
-    assert!(rt; gives_fault(&mut lexer, 6, text));
-}
-
-#[test]
-fn has_no_item_in_white_space(rt: HostRuntime) {
-    for text in ["", " ", "\n\t\n", "\u{3000}", "cfg()", "cfg( )"] {
-        has_items(&rt, rt.alloc(), text, &[]);
+    for (text, before, item, place) in FAULTS {
+        let mut lexer = Lexer::new(rt.alloc(), text);
+        let is_whole = lexer.items_left_bound() == *before;
+        let is_first = gives(&mut lexer, item);
+        let is_fault = gives_fault(&mut lexer, *place, text);
+        let is_at_its_end = lexer.items_left_bound() == 0 && has_ended(&mut lexer);
+        assert!(rt; is_whole && is_first && is_fault && is_at_its_end, "{text}");
     }
 }

@@ -14,8 +14,6 @@ mod deep;
 mod errors;
 pub mod evaluating;
 #[cfg(test)]
-mod expressions;
-#[cfg(test)]
 mod faults;
 #[cfg(test)]
 mod fields;
@@ -32,8 +30,6 @@ mod input;
 mod lanes;
 #[cfg(test)]
 mod lexer;
-#[cfg(test)]
-mod memory;
 #[cfg(test)]
 mod named;
 #[cfg(test)]

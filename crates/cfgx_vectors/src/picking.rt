@@ -5,7 +5,7 @@ mod long;
 use crate::commands::{DARWIN, IOS, MACABI, SIM, TVOS};
 use crate::holding::holds;
 use crate::input::Pieces;
-use crate::streams::{ALL, Recorder, USAGE};
+use crate::streams::{ALL, Recorder, USAGE, is_written};
 use cfgx_engine::engine::run;
 use std::alloc::{AllocError, Global};
 
@@ -302,12 +302,9 @@ fn is_picked_in_pieces(alloc: Global, triple: &str, each: usize, row: (&[u8], &s
     let mut source = Pieces::new(input, each, 0);
     let mut sink = Recorder::new(alloc);
     sink.each = each;
-    run(alloc, &["pick", triple], &mut source, &mut sink) == status
-        && sink.bytes.as_slice() == written.as_bytes()
-        && source.left.is_empty()
-        && source.failures == 0
-        && sink.failures == 0
-        && sink.flushes == 1
+    let ended = run(alloc, &["pick", triple], &mut source, &mut sink);
+    let is_written = is_written(&sink, written.as_bytes());
+    is_written && ended == status && source.left.is_empty() && source.failures == 0
 }
 
 #[test]
@@ -402,12 +399,9 @@ const UNREAD: &[(&[&str], &str, u8)] = &[
 fn is_unread(alloc: Global, words: &[&str], input: &[u8], written: &str, status: u8) -> bool {
     let mut source = Pieces::new(input, ALL, 1);
     let mut sink = Recorder::new(alloc);
-    run(alloc, words, &mut source, &mut sink) == status
-        && sink.bytes.as_slice() == written.as_bytes()
-        && source.left == input
-        && source.reads == 0
-        && sink.failures == 0
-        && sink.flushes == 1
+    let ended = run(alloc, words, &mut source, &mut sink);
+    let is_written = is_written(&sink, written.as_bytes());
+    is_written && ended == status && source.left == input && source.reads == 0
 }
 
 #[test]

@@ -1,11 +1,12 @@
 //! How many questions a value takes, and values over logics of which no law holds.
-use crate::deep::repeated;
+use crate::deep::{Parts, written};
 use crate::evaluating::Lawless;
 use crate::holding::holds;
 use cfg_expr::error::Failure;
 use cfg_expr::expr::Logic;
 use cfg_expr::{Expression, Predicate};
 use std::alloc::{AllocError, Global};
+use std::test::Fail;
 
 // The answer to `a`, to `b`, or to any other predicate.
 fn answer_to<T: Copy>(predicate: &Predicate<'_>, answers: (T, T, T)) -> T {
@@ -46,19 +47,49 @@ fn has_value<T: Logic + Copy + PartialEq>(
     Ok(value? == wanted && count == questions)
 }
 
-// Whether so many members, each of them false, take as many questions.
-fn asks_each_member(alloc: Global, count: usize) -> Result<bool, Failure> {
-    let wide = repeated(alloc, "any(", "a,", count, ")")?;
-    has_value(alloc, wide.as_str(), (false, false, false), false, count)
+/// A text, the answer to each predicate, the value, and how many questions it takes.
+type Long = (Parts, bool, bool, usize);
+
+const WIDE: &[Long] = &[
+    (("all(any(),", "all(),", 299, ")", 0), true, false, 0),
+    (("any(", "a,", 100_000, ")", 0), false, false, 100_000),
+    (("any(", "a,", 100_000, ")", 0), true, true, 100_000),
+    (("all(a,", "true,", 100_000, ")", 0), false, false, 1),
+    (("all(a,", "true,", 100_000, ")", 0), true, true, 1),
+];
+
+const DEEP: &[Long] = &[
+    (("", "not(", 100_000, "a", 100_000), true, true, 1),
+    (("", "not(", 100_001, "a", 100_001), true, false, 1),
+    (("", "not(", 100_000, "true", 100_000), true, true, 0),
+    (("", "not(", 100_001, "true", 100_001), true, false, 0),
+];
+
+fn is_as_said(alloc: Global, row: &Long) -> Result<bool, Fail> {
+    let (parts, answer, wanted, questions) = row;
+    let text = written(alloc, parts)?;
+    let answers = (*answer, *answer, *answer);
+    Ok(has_value(alloc, text.as_str(), answers, *wanted, *questions)?)
 }
 
 #[test]
-fn each_member_is_asked_once(rt: HostRuntime) {
-    assert!(rt; holds(asks_each_member(rt.alloc(), 100_000)));
+fn values_of_wide_texts(rt: HostRuntime) -> Result<(), Fail> {
+    for row in WIDE {
+        assert!(rt; is_as_said(rt.alloc(), row)?, "{row:?}");
+    }
+    Ok(())
+}
+
+#[test]
+fn values_of_deep_texts(rt: HostRuntime) -> Result<(), Fail> {
+    for row in DEEP {
+        assert!(rt; is_as_said(rt.alloc(), row)?, "{row:?}");
+    }
+    Ok(())
 }
 
 /// A logic whose `and` is its second value, and whose `or` is its first one.
-#[derive(Clone, Copy, Debug, PartialEq, Eq)]
+#[derive(Clone, Copy, PartialEq)]
 struct Sided(u64);
 
 impl Logic for Sided {
@@ -97,27 +128,15 @@ impl Logic for Sided {
     }
 }
 
-// The last member is joined first: 3 * 1 + 7 = 10, and 3 * 10 + 5 = 35.
-fn is_thirty_five(alloc: Global) -> bool {
-    let answers = (Lawless(5), Lawless(7), Lawless(0));
-    holds(has_value(alloc, "all(a, b)", answers, Lawless(35), 2))
-}
-
-// What is joined last is the answer to `a`.
-fn is_the_first(alloc: Global) -> bool {
-    let answers = (Sided(5), Sided(7), Sided(9));
-    holds(has_value(alloc, "all(a, b, c)", answers, Sided(5), 3))
-}
-
-// What is joined never counts, and is asked all the same.
-fn is_the_bottom(alloc: Global) -> bool {
-    let answers = (Sided(5), Sided(7), Sided(9));
-    holds(has_value(alloc, "any(a, b)", answers, Sided(2), 2))
-}
-
 #[test]
 fn no_law_is_needed(rt: HostRuntime) {
-    assert!(rt; is_thirty_five(rt.alloc()));
-    assert!(rt; is_the_first(rt.alloc()));
-    assert!(rt; is_the_bottom(rt.alloc()));
+    let alloc = rt.alloc();
+    let lawless = (Lawless(5), Lawless(7), Lawless(0));
+    let sided = (Sided(5), Sided(7), Sided(9));
+    // The last member is joined first: 3 * 1 + 7 = 10, and 3 * 10 + 5 = 35.
+    assert!(rt; holds(has_value(alloc, "all(a, b)", lawless, Lawless(35), 2)));
+    // What is joined last is the answer to `a`.
+    assert!(rt; holds(has_value(alloc, "all(a, b, c)", sided, Sided(5), 3)));
+    // What is joined never counts, and is asked all the same.
+    assert!(rt; holds(has_value(alloc, "any(a, b)", sided, Sided(2), 2)));
 }

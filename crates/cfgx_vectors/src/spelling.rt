@@ -1,4 +1,5 @@
 //! The spellings of predicates, as `spell` writes them.
+use crate::accepted::ask_the_same;
 use crate::holding::holds;
 use cfg_expr::error::Failure;
 use cfg_expr::expr::{Predicates, spell};
@@ -220,7 +221,7 @@ fn no_call_is_of_an_empty_slice(rt: HostRuntime) {
 fn is_read_again(alloc: Global, text: &str, spelled: &str) -> Result<bool, Failure> {
     let one = Expression::parse(alloc, text)?;
     let other = Expression::parse(alloc, spelled)?;
-    Ok(one.predicates().eq(other.predicates()))
+    Ok(ask_the_same(&one, &other))
 }
 
 #[test]

@@ -102,14 +102,17 @@ impl Sink for Recorder {
     }
 }
 
+/// Whether this was written with one flush and no failed call.
+pub(crate) fn is_written(sink: &Recorder, written: &[u8]) -> bool {
+    sink.bytes.as_slice() == written && sink.failures == 0 && sink.flushes == 1
+}
+
 /// Whether a run with these words ends with this status, and writes this with one flush and no
 /// failed call.
 pub(crate) fn is_answer(alloc: Global, words: &[&str], status: u8, written: &str) -> bool {
     let mut sink = Recorder::new(alloc);
-    run(alloc, words, &mut Ended, &mut sink) == status
-        && sink.bytes.as_slice() == written.as_bytes()
-        && sink.failures == 0
-        && sink.flushes == 1
+    let ended = run(alloc, words, &mut Ended, &mut sink);
+    is_written(&sink, written.as_bytes()) && ended == status
 }
 
 /// No limit.
@@ -137,6 +140,18 @@ const ROWS: &[(&str, Ending)] = &[
     ("key)", ((ALL, ALL, 1, false), 3, "", (1, 0))),
 ];
 
+/// Whether the sink had these calls, of which so many failed, and got these bytes.
+pub(crate) fn is_left_so(
+    sink: &Recorder,
+    written: &[u8],
+    calls: (u64, u64),
+    failures: u64,
+) -> bool {
+    sink.bytes.as_slice() == written
+        && (sink.writes, sink.flushes) == calls
+        && sink.failures == failures
+}
+
 /// Whether a run over this input ends so.
 pub(crate) fn ends_so(alloc: Global, words: &[&str], input: &str, ending: &Ending) -> bool {
     let ((each, room, failing_write, is_flush_failing), wanted, written, calls) = *ending;
@@ -147,11 +162,9 @@ pub(crate) fn ends_so(alloc: Global, words: &[&str], input: &str, ending: &Endin
     sink.failing_write = failing_write;
     sink.is_flush_failing = is_flush_failing;
     let status = run(alloc, words, &mut source, &mut sink);
-    status == wanted
-        && sink.bytes.as_slice() == written.as_bytes()
-        && source.failures == 0
-        && sink.failures == if wanted == 3 { 1 } else { 0 }
-        && (sink.writes, sink.flushes) == calls
+    let failures = if wanted == 3 { 1 } else { 0 };
+    let is_left = is_left_so(&sink, written.as_bytes(), calls, failures);
+    is_left && status == wanted && source.failures == 0
 }
 
 #[test]
@@ -164,9 +177,9 @@ fn a_failed_call_ends_the_run(rt: HostRuntime) {
     }
 }
 
-/// Whether a run over this input whose write of this number fails, counted from 0, ends with status
-/// 3 and has written so many bytes of the output, one a call.
-pub(crate) fn ends_at_write(
+// Whether a run over this input whose write of this number fails, counted from 0, ends with status
+// 3 and has written so many bytes of the output, one a call.
+fn ends_at_write(
     alloc: Global,
     words: &[&str],
     input: &str,
@@ -178,12 +191,24 @@ pub(crate) fn ends_at_write(
     sink.each = 1;
     sink.failing_write = (failing as u64).saturating_add(1);
     let status = run(alloc, words, &mut source, &mut sink);
-    status == 3
-        && source.failures == 0
-        && sink.failures == 1
-        && sink.bytes.as_slice() == written
-        && sink.writes == sink.failing_write
-        && sink.flushes == 0
+    let is_left = is_left_so(&sink, written, (sink.failing_write, 0), 1);
+    is_left && status == 3 && source.failures == 0
+}
+
+/// The number of the first write, of those of this output, whose failure does not end the run: what
+/// went out is to be the bytes before it, and nothing is to be written after them, nor flushed.
+pub(crate) fn first_wrong_write(
+    alloc: Global,
+    words: &[&str],
+    input: &str,
+    output: &[u8],
+) -> Option<usize> {
+    for failing in 0..output.len() {
+        if !ends_at_write(alloc, words, input, failing, &output[..failing]) {
+            return Some(failing);
+        }
+    }
+    None
 }
 
 // Words, and what a run with them writes.
@@ -223,22 +248,10 @@ const OUTPUTS: &[(&[&str], &str)] = &[
     (&["target", "nowhere", ")"], "unknown triple\n"),
 ];
 
-// The nth write fails, for each n: what went out is the first n - 1 bytes, and nothing is written
-// after them, nor flushed.
 #[test]
 fn each_write_fails_in_turn(rt: HostRuntime) {
     for (words, output) in OUTPUTS {
-        for failing in 0..output.len() {
-            assert!(rt;
-                ends_at_write(
-                    rt.alloc(),
-                    words,
-                    "",
-                    failing,
-                    &output.as_bytes()[..failing]
-                ),
-                "write {failing} of {words:?}"
-            );
-        }
+        let wrong = first_wrong_write(rt.alloc(), words, "", output.as_bytes());
+        assert!(rt; wrong.is_none(), "{wrong:?} of {words:?}");
     }
 }

@@ -1,6 +1,6 @@
 //! Targets: what no clause says of them. The readers, lists, rows and tables of worked examples,
-//! and the bytes that they print. What memory does to their calls is in `targets/memory.rt`.
-use crate::holding::holds;
+//! and the bytes that they print. What memory does to their calls is in `in_turn/targets.rt`.
+use crate::holding::{all_hold, prints};
 use cfg_expr::error::{Failure, Reason};
 use cfg_expr::expr::Predicates;
 use cfg_expr::targets::{
@@ -9,31 +9,27 @@ use cfg_expr::targets::{
 };
 use cfg_expr::{Expression, Predicate};
 use std::alloc::{AllocError, Global};
-use std::fmt::Display;
 use std::test::Fail;
 
-pub(crate) mod memory;
-
-// Whether the value prints this text.
-fn prints<T: Display>(alloc: Global, value: &T, text: &str) -> Result<bool, AllocError> {
-    let printed = format!(in alloc; "{value}")?;
-    Ok(printed.as_str() == text)
-}
+// Names of families, and what their list prints.
+const FAMILIES: &[(&[&str], &str)] = &[
+    (&["wasm", "unix"], "{unix, wasm}"),
+    (&["unix", "unix"], "{unix, unix}"),
+    (
+        &["j", "a", "i", "b", "h", "c", "g", "d", "f", "e"],
+        "{a, b, c, d, e, f, g, h, i, j}",
+    ),
+    (&[], "{}"),
+];
 
 // Whether the list of these families prints the text.
 fn lists(alloc: Global, names: &[&'static str], text: &str) -> Result<bool, AllocError> {
-    let list = Families::new(alloc, names.iter().map(|name| Family::new_const(*name)))?;
-    prints(alloc, &list, text)
-}
-
-const MANY: &[&str] = &["j", "a", "i", "b", "h", "c", "g", "d", "f", "e"];
-
-#[test]
-fn families_are_sorted_and_printed(rt: HostRuntime) {
-    assert!(rt; holds(lists(rt.alloc(), &["wasm", "unix"], "{unix, wasm}")));
-    assert!(rt; holds(lists(rt.alloc(), &["unix", "unix"], "{unix, unix}")));
-    assert!(rt; holds(lists(rt.alloc(), MANY, "{a, b, c, d, e, f, g, h, i, j}")));
-    assert!(rt; holds(lists(rt.alloc(), &[], "{}")));
+    let mut families = Vec::new(alloc);
+    for name in names {
+        families.push(Family::new_const(*name))?;
+    }
+    let list = Families::new(alloc, families.into_iter())?;
+    Ok(prints(alloc, &list, text))
 }
 
 const POINTER_FIRST: &[HasAtomic] = &[
@@ -43,26 +39,13 @@ const POINTER_FIRST: &[HasAtomic] = &[
 ];
 
 #[test]
-fn widths_are_sorted_and_printed(rt: HostRuntime) -> Result<(), Fail> {
-    let list = HasAtomics::new(rt.alloc(), POINTER_FIRST.iter().copied())?;
-    assert!(rt; prints(rt.alloc(), &list, "{8, 64, ptr}")?);
-    Ok(())
-}
-
-#[test]
-fn sorted_slices_are_told(rt: HostRuntime) {
-    let eight = HasAtomic::IntegerSize(8);
-    assert!(rt; !HasAtomics::is_sorted(&[HasAtomic::Pointer, eight]));
-    assert!(rt; HasAtomics::is_sorted(&[eight, eight]));
-    assert!(rt; HasAtomics::is_sorted(&[]));
-}
-
-// Whether the text is read as the width that prints this.
-fn reads(alloc: Global, text: &str, printed: &str) -> Result<bool, AllocError> {
-    match HasAtomic::read(alloc, text) {
-        Ok(width) => prints(alloc, &width, printed),
-        Err(_) => Ok(false),
+fn lists_are_sorted_and_printed(rt: HostRuntime) -> Result<(), Fail> {
+    for (names, text) in FAMILIES {
+        assert!(rt; lists(rt.alloc(), names, text)?, "{text}");
     }
+    let list = HasAtomics::new(rt.alloc(), POINTER_FIRST.iter().copied())?;
+    assert!(rt; prints(rt.alloc(), &list, "{8, 64, ptr}"));
+    Ok(())
 }
 
 // Texts of widths, and what these print.
@@ -77,48 +60,54 @@ const WIDTHS: &[(&str, &str)] = &[
     ("ptr", "ptr"),
 ];
 
-#[test]
-fn widths_are_read(rt: HostRuntime) {
-    for (text, printed) in WIDTHS {
-        assert!(rt; holds(reads(rt.alloc(), text, printed)), "{text}");
-    }
-}
-
-// Whether the text is refused by a fault that prints it.
-fn is_no_width(alloc: Global, text: &str) -> Result<bool, AllocError> {
-    let wanted = format!(in alloc; "expected integer or \"ptr\", found {text}")?;
-    match HasAtomic::read(alloc, text) {
-        Err(HasAtomicFailure::Parse(error)) => prints(alloc, &error, wanted.as_str()),
-        _ => Ok(false),
-    }
-}
-
 const NO_WIDTHS: &[&str] = &[
     "65536", "PTR", "", "+", "-0", "++1", " 64", "6 4", "0x40", "٣", "ptr ", "+ptr", LONG,
 ];
 
 const LONG: &str = "more bytes than any width is written with, and more than a short text has";
 
-#[test]
-fn other_texts_are_no_widths(rt: HostRuntime) {
-    for text in NO_WIDTHS {
-        assert!(rt; holds(is_no_width(rt.alloc(), text)), "{text:?}");
+// Whether the text is read as the width that prints this, or refused by a fault that prints it.
+fn reads(alloc: Global, text: &str, printed: &str, is_width: bool) -> bool {
+    match HasAtomic::read(alloc, text) {
+        Ok(width) => is_width && prints(alloc, &width, printed),
+        Err(HasAtomicFailure::Parse(error)) => !is_width && prints(alloc, &error, printed),
+        Err(HasAtomicFailure::Memory(_)) => false,
     }
 }
 
 #[test]
-fn byte_orders_are_read(rt: HostRuntime) {
-    let both = Reason::Unexpected(&["big", "little"]);
-    assert!(rt; "big".parse::<Endian>() == Ok(Endian::big));
-    assert!(rt; "little".parse::<Endian>() == Ok(Endian::little));
-    assert!(rt; "Big".parse::<Endian>() == Err(both));
+fn widths_are_read(rt: HostRuntime) -> Result<(), Fail> {
+    for (text, printed) in WIDTHS {
+        assert!(rt; reads(rt.alloc(), text, printed, true), "{text}");
+    }
+    for text in NO_WIDTHS {
+        let fault = format!(in rt.alloc(); "expected integer or \"ptr\", found {text}")?;
+        assert!(rt; reads(rt.alloc(), text, fault.as_str(), false), "{text:?}");
+    }
+    Ok(())
 }
 
 #[test]
-fn names_are_printed(rt: HostRuntime) {
-    assert!(rt; holds(prints(rt.alloc(), &Abi::<Global>::vec_extabi(), "vec-extabi")));
-    assert!(rt; holds(prints(rt.alloc(), &Os::<Global>::solid_asp3(), "solid_asp3")));
-    assert_eq!(rt; rustc_version(), "1.99.0");
+fn what_rust_knows_of_targets(rt: HostRuntime) {
+    let eight = HasAtomic::IntegerSize(8);
+    let both = Reason::Unexpected(&["big", "little"]);
+    let pointer_first = [HasAtomic::Pointer, eight];
+    let vec_extabi = Abi::<Global>::vec_extabi();
+    let solid_asp3 = Os::<Global>::solid_asp3();
+    all_hold(
+        &rt,
+        &[
+            ("ptr before 8", !HasAtomics::is_sorted(&pointer_first)),
+            ("8 twice", HasAtomics::is_sorted(&[eight, eight])),
+            ("no width", HasAtomics::is_sorted(&[])),
+            ("big", "big".parse::<Endian>() == Ok(Endian::big)),
+            ("little", "little".parse::<Endian>() == Ok(Endian::little)),
+            ("Big", "Big".parse::<Endian>() == Err(both)),
+            ("an ABI", prints(rt.alloc(), &vec_extabi, "vec-extabi")),
+            ("a system", prints(rt.alloc(), &solid_asp3, "solid_asp3")),
+            ("the version", rustc_version() == "1.99.0"),
+        ],
+    );
 }
 
 // A row that lacks all that a row may lack.
@@ -163,25 +152,6 @@ const OF_A_BARE_ROW: &[(&str, bool)] = &[
     ("target_pointer_width = \"32\"", false),
 ];
 
-// Whether each text's predicate has this answer on the row.
-fn are_answers(
-    alloc: Global,
-    row: &TargetInfo<'_>,
-    rows: &[(&str, bool)],
-) -> Result<bool, Failure> {
-    for (text, wanted) in rows {
-        if is_met(alloc, row, text)? != Some(*wanted) {
-            return Ok(false);
-        }
-    }
-    Ok(true)
-}
-
-#[test]
-fn missing_fields_have_what_stands_for_them(rt: HostRuntime) {
-    assert!(rt; holds(are_answers(rt.alloc(), &bare("bare"), OF_A_BARE_ROW)));
-}
-
 // Predicates on `aarch64-apple-ios`.
 const OF_IOS: &[(&str, bool)] = &[
     ("target_env = \"\"", true),
@@ -217,15 +187,26 @@ fn ios(alloc: Global) -> Result<TargetInfo<'static>, AllocError> {
     })
 }
 
-// Whether each text's predicate has this answer on the row of iOS.
-fn are_answers_on_ios(alloc: Global, rows: &[(&str, bool)]) -> Result<bool, Failure> {
-    let row = ios(alloc)?;
-    are_answers(alloc, &row, rows)
+// Whether each text's predicate has this answer on the row.
+fn are_answers(
+    alloc: Global,
+    row: &TargetInfo<'_>,
+    rows: &[(&str, bool)],
+) -> Result<bool, Failure> {
+    for (text, wanted) in rows {
+        if is_met(alloc, row, text)? != Some(*wanted) {
+            return Ok(false);
+        }
+    }
+    Ok(true)
 }
 
 #[test]
-fn a_row_meets_its_predicates(rt: HostRuntime) {
-    assert!(rt; holds(are_answers_on_ios(rt.alloc(), OF_IOS)));
+fn a_row_meets_its_predicates(rt: HostRuntime) -> Result<(), Fail> {
+    let alloc = rt.alloc();
+    assert!(rt; are_answers(alloc, &bare("bare"), OF_A_BARE_ROW)?);
+    assert!(rt; are_answers(alloc, &ios(alloc)?, OF_IOS)?);
+    Ok(())
 }
 
 // The expression of the README of cfg-expr, which asks the vendor first.
@@ -233,27 +214,6 @@ pub(crate) const README: &str = "all(target_os = \"windows\", target_arch = \"x8
     target_env = \"msvc\", target_feature = \"fxsr\", target_feature = \"sse\", \
     target_feature = \"sse2\", target_pointer_width = \"32\", target_endian = \"little\", \
     not(target_vendor = \"uwp\"), feature = \"cool_thing\",)";
-
-// Whether the row meets the first predicate, which stands in `not`, and whether it meets all of
-// the others.
-fn meets_readme(alloc: Global, row: &TargetInfo<'_>) -> Result<(bool, bool), Failure> {
-    let expression = Expression::parse(alloc, README)?;
-    let mut predicates = expression.predicates();
-    let is_first_met = match predicates.next() {
-        Some(predicate) => is_true_of(&predicate, row),
-        None => false,
-    };
-    Ok((is_first_met, are_true_of(predicates, row)))
-}
-
-fn are_true_of(predicates: Predicates<'_>, row: &TargetInfo<'_>) -> bool {
-    for predicate in predicates {
-        if !is_true_of(&predicate, row) {
-            return false;
-        }
-    }
-    true
-}
 
 // Every predicate that is not on a target is taken as true.
 fn is_true_of(predicate: &Predicate<'_>, row: &TargetInfo<'_>) -> bool {
@@ -280,15 +240,6 @@ pub(crate) fn windows(
     })
 }
 
-// The value of the expression on the row.
-fn value_of_readme(alloc: Global, row: &TargetInfo<'_>) -> Result<bool, Failure> {
-    let expression = Expression::parse(alloc, README)?;
-    Ok(expression.eval(
-        alloc,
-        &mut |predicate: &Predicate<'_>| is_true_of(predicate, row),
-    )?)
-}
-
 // A row of macOS.
 pub(crate) fn darwin(alloc: Global) -> Result<TargetInfo<'static>, AllocError> {
     Ok(TargetInfo {
@@ -298,26 +249,43 @@ pub(crate) fn darwin(alloc: Global) -> Result<TargetInfo<'static>, AllocError> {
     })
 }
 
-#[test]
-fn the_expression_of_the_readme_has_its_values(rt: HostRuntime) -> Result<(), Fail> {
-    let alloc = rt.alloc();
-    assert!(rt; value_of_readme(alloc, &windows(alloc, Vendor::pc())?)?);
-    assert!(rt; !value_of_readme(alloc, &windows(alloc, Vendor::uwp())?)?);
-    assert!(rt; !value_of_readme(alloc, &darwin(alloc)?)?);
-    Ok(())
+fn are_true_of(predicates: Predicates<'_>, row: &TargetInfo<'_>) -> bool {
+    for predicate in predicates {
+        if !is_true_of(&predicate, row) {
+            return false;
+        }
+    }
+    true
 }
 
-// Whether the row meets them so.
-fn is_readme(alloc: Global, row: TargetInfo<'static>, wanted: (bool, bool)) -> bool {
-    meets_readme(alloc, &row).ok() == Some(wanted)
+// Whether the row meets the first predicate, which stands in `not`, and whether it meets all of
+// the others.
+fn meets(mut predicates: Predicates<'_>, row: &TargetInfo<'_>) -> (bool, bool) {
+    let is_first_met = match predicates.next() {
+        Some(predicate) => is_true_of(&predicate, row),
+        None => false,
+    };
+    (is_first_met, are_true_of(predicates, row))
+}
+
+// The value of the expression on the row, and what of it the row meets.
+fn of_readme(alloc: Global, row: TargetInfo<'static>) -> Result<(bool, bool, bool), Failure> {
+    let expression = Expression::parse(alloc, README)?;
+    let (is_first_met, are_others_met) = meets(expression.predicates(), &row);
+    let value = expression.eval(
+        alloc,
+        &mut |predicate: &Predicate<'_>| is_true_of(predicate, &row),
+    )?;
+    Ok((value, is_first_met, are_others_met))
 }
 
 #[test]
-fn rows_meet_the_predicates_of_the_readme(rt: HostRuntime) -> Result<(), Fail> {
+fn the_expression_of_the_readme_on_rows(rt: HostRuntime) -> Result<(), Fail> {
     let alloc = rt.alloc();
-    assert!(rt; is_readme(alloc, windows(alloc, Vendor::pc())?, (false, true)));
-    assert!(rt; is_readme(alloc, windows(alloc, Vendor::uwp())?, (true, true)));
-    assert!(rt; is_readme(alloc, ios(alloc)?, (false, false)));
+    assert!(rt; of_readme(alloc, windows(alloc, Vendor::pc())?)? == (true, false, true));
+    assert!(rt; of_readme(alloc, windows(alloc, Vendor::uwp())?)? == (false, true, true));
+    assert!(rt; of_readme(alloc, darwin(alloc)?)? == (false, false, false));
+    assert!(rt; of_readme(alloc, ios(alloc)?)? == (false, false, false));
     Ok(())
 }
 
@@ -335,11 +303,12 @@ fn rows_with(
 
 // Whether the rows have these triples.
 fn have_triples(rows: &[TargetInfo<'_>], triples: &[&str]) -> bool {
+    for (row, triple) in rows.iter().zip(triples) {
+        if row.triple.as_str() != *triple {
+            return false;
+        }
+    }
     rows.len() == triples.len()
-        && rows
-            .iter()
-            .zip(triples)
-            .all(|(row, triple)| row.triple.as_str() == *triple)
 }
 
 // The place at which rows with these triples are refused, all of them given back, or `None` where
@@ -352,28 +321,22 @@ fn refused_at(alloc: Global, triples: &[&'static str]) -> Result<Option<usize>, 
     }
 }
 
+// Triples, and the place at which their rows are refused.
+const TABLES: &[(&[&str], Option<usize>)] = &[
+    (&[], None),
+    (&["a"], None),
+    (&["a", "b", "ba"], None),
+    (&["t", "t"], Some(1)),
+    (&["b", "a", "a"], Some(1)),
+    (&["a", "b", "b"], Some(2)),
+];
+
 #[test]
 fn tables_have_increasing_triples(rt: HostRuntime) -> Result<(), Fail> {
-    assert!(rt; refused_at(rt.alloc(), &[])?.is_none());
-    assert!(rt; refused_at(rt.alloc(), &["a"])?.is_none());
-    assert!(rt; refused_at(rt.alloc(), &["a", "b", "ba"])?.is_none());
-    assert!(rt; refused_at(rt.alloc(), &["t", "t"])? == Some(1));
-    assert!(rt; refused_at(rt.alloc(), &["b", "a", "a"])? == Some(1));
-    assert!(rt; refused_at(rt.alloc(), &["a", "b", "b"])? == Some(2));
-    Ok(())
-}
-
-// Whether a row is found by this triple.
-fn is_found(table: &TargetTable<'_>, triple: &str) -> bool {
-    get_builtin_target_by_triple(table, triple).is_some()
-}
-
-// Whether the row that is found by this triple has it.
-fn has_triple(table: &TargetTable<'_>, triple: &str) -> bool {
-    match get_builtin_target_by_triple(table, triple) {
-        Some(row) => row.triple.as_str() == triple,
-        None => false,
+    for (triples, place) in TABLES {
+        assert!(rt; refused_at(rt.alloc(), triples)? == *place, "{triples:?}");
     }
+    Ok(())
 }
 
 const BUILT_IN: &[&str] = &[
@@ -384,21 +347,39 @@ const BUILT_IN: &[&str] = &[
     "aarch64-apple-tvos",
 ];
 
-#[test]
-fn targets_are_found_by_their_triples(rt: HostRuntime) -> Result<(), Fail> {
-    let table = TargetTable::builtins(rt.alloc())?;
-    assert!(rt; have_triples(table.rows(), BUILT_IN));
-    for triple in BUILT_IN {
-        assert!(rt; has_triple(&table, triple), "{triple}");
+// Whether the row that is found by the triple has it, if there is to be one.
+fn is_found(table: &TargetTable<'_>, triple: &str, is_there: bool) -> bool {
+    match get_builtin_target_by_triple(table, triple) {
+        Some(row) => is_there && row.triple.as_str() == triple,
+        None => !is_there,
     }
-    Ok(())
+}
+
+const MISSING: &[&str] = &["", "aarch64-apple-tvos-sim", "aarch64-apple", "b"];
+
+// The first of the triples of which this is not so.
+fn first_wrong(
+    table: &TargetTable<'_>,
+    triples: &[&'static str],
+    is_there: bool,
+) -> Option<&'static str> {
+    for triple in triples {
+        if !is_found(table, triple, is_there) {
+            return Some(*triple);
+        }
+    }
+    None
 }
 
 #[test]
-fn other_triples_are_not_found(rt: HostRuntime) -> Result<(), Fail> {
+fn targets_are_found_by_their_triples(rt: HostRuntime) -> Result<(), Fail> {
     let table = TargetTable::builtins(rt.alloc())?;
-    for triple in ["", "aarch64-apple-tvos-sim", "aarch64-apple", "b"] {
-        assert!(rt; !is_found(&table, triple), "{triple}");
-    }
+    let wrong = first_wrong(&table, BUILT_IN, true);
+    let found = first_wrong(&table, MISSING, false);
+    let are_rows = have_triples(table.rows(), BUILT_IN);
+    assert!(rt;
+        are_rows && wrong.is_none() && found.is_none(),
+        "{wrong:?} {found:?}"
+    );
     Ok(())
 }

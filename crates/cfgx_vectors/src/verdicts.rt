@@ -9,29 +9,17 @@ use cfgx_engine::resolve::{Section, Verdict, pick};
 use std::alloc::Global;
 use std::test::Fail;
 
-/// The section of this name with this condition.
-pub(crate) fn section<A: SmallAllocator>(
-    alloc: A,
-    name: &str,
-    condition: &str,
-) -> Result<Section<A>, Failure<A>> {
-    Ok(Section {
-        name: String::from_str(alloc, name)?,
-        condition: Expression::parse(alloc, condition)?,
-    })
-}
-
 /// A condition, and what each of some targets says of it.
-type Row = (&'static str, &'static [Verdict]);
+pub(crate) type Row<'a> = (&'a str, &'static [Verdict]);
 
-const YES: Verdict = Verdict::Yes;
+pub(crate) const YES: Verdict = Verdict::Yes;
 
-const NO: Verdict = Verdict::No;
+pub(crate) const NO: Verdict = Verdict::No;
 
-const UNKNOWN: Verdict = Verdict::Unknown;
+pub(crate) const UNKNOWN: Verdict = Verdict::Unknown;
 
 // By the five rows that are built in, in their order.
-const ON_ROWS: &[Row] = &[
+const ON_ROWS: &[Row<'static>] = &[
     ("target_abi = \"sim\"", &[NO, NO, NO, YES, NO]),
     ("unix", &[YES; 5]),
     ("not(unix)", &[NO; 5]),
@@ -54,7 +42,7 @@ const ON_ROWS: &[Row] = &[
 ];
 
 // By a board of 16 bits without an operating system, and by one of 64 bits with Linux.
-const ON_BOARDS: &[Row] = &[
+const ON_BOARDS: &[Row<'static>] = &[
     ("target_os = \"none\"", &[YES, NO]),
     ("not(target_os = \"none\")", &[NO, YES]),
     ("target_pointer_width = \"64\"", &[NO, YES]),
@@ -101,43 +89,57 @@ const LINUX: Board<'static> = Board {
     pointer_width: 64,
 };
 
+/// Sections, and who has their memory.
+type Sections<A> = Vec<Section<A>, A>;
+
 // A section for each row, whose name is its condition.
-fn sections_of(alloc: Global, rows: &[Row]) -> Result<Vec<Section>, Failure> {
+fn sections_of<A: SmallAllocator>(alloc: A, rows: &[Row<'_>]) -> Result<Sections<A>, Failure<A>> {
     let mut sections = Vec::new(alloc);
     for (condition, _verdicts) in rows {
-        sections.push(section(alloc, condition, condition)?)?;
+        sections.push(Section {
+            name: String::from_str(alloc, condition)?,
+            condition: Expression::parse(alloc, condition)?,
+        })?;
     }
     Ok(sections)
 }
 
 // Whether these are the sections of the rows.
-fn are_of(sections: &[Section], rows: &[Row]) -> bool {
+fn are_of<A: SmallAllocator>(sections: &[Section<A>], rows: &[Row<'_>]) -> bool {
+    for (section, row) in sections.iter().zip(rows) {
+        if section.name.as_str() != row.0 || section.condition.original() != row.0 {
+            return false;
+        }
+    }
     sections.len() == rows.len()
-        && sections.iter().zip(rows).all(|(section, row)| {
-            section.name.as_str() == row.0 && section.condition.original() == row.0
-        })
 }
 
-// Whether the target of this number says of the sections what the rows do, and leaves them as they
-// were.
-fn is_picked<M: TargetMatcher>(
-    alloc: Global,
+// Whether these are the verdicts of the target of this number.
+fn are_verdicts(verdicts: &[Verdict], number: usize, rows: &[Row<'_>]) -> bool {
+    for (verdict, row) in verdicts.iter().zip(rows) {
+        if row.1.get(number) != Some(verdict) {
+            return false;
+        }
+    }
+    verdicts.len() == rows.len()
+}
+
+/// Whether the target of this number says of the sections what the rows do, twice, and leaves them
+/// as they were, also where it is out of memory.
+pub(crate) fn is_picked<A: SmallAllocator, M: TargetMatcher>(
+    alloc: A,
     matcher: &M,
     number: usize,
-    rows: &[Row],
-) -> Result<bool, Failure> {
+    rows: &[Row<'_>],
+) -> Result<bool, Failure<A>> {
     let sections = sections_of(alloc, rows)?;
-    let verdicts = pick(alloc, sections.as_slice(), matcher)?;
+    let verdicts = pick(alloc, sections.as_slice(), matcher);
+    if !are_of(sections.as_slice(), rows) {
+        return Ok(false);
+    }
+    let verdicts = verdicts?;
     let again = pick(alloc, sections.as_slice(), matcher)?;
-    Ok(
-        are_of(sections.as_slice(), rows)
-            && verdicts == again
-            && verdicts.len() == rows.len()
-            && verdicts
-                .iter()
-                .zip(rows)
-                .all(|(verdict, row)| row.1.get(number) == Some(verdict)),
-    )
+    Ok(verdicts == again && are_verdicts(verdicts.as_slice(), number, rows))
 }
 
 #[test]
@@ -157,30 +159,19 @@ fn verdicts_by_a_target_of_ones_own(rt: HostRuntime) -> Result<(), Fail> {
     Ok(())
 }
 
-// So many sections, of three kinds in turn.
-fn many(alloc: Global, count: usize) -> Result<Vec<Section>, Failure> {
-    let mut sections = Vec::new(alloc);
-    for number in 0..count {
-        let condition = match number % 3 {
-            0 => "target_os = \"linux\"",
-            1 => "feature = \"x\"",
-            _ => "not(target_os = \"linux\")",
-        };
-        sections.push(section(alloc, "", condition)?)?;
-    }
-    Ok(sections)
-}
+const THREE: &[Row<'static>] = &[
+    ("target_os = \"linux\"", &[YES]),
+    ("feature = \"x\"", &[UNKNOWN]),
+    ("not(target_os = \"linux\")", &[NO]),
+];
 
+// So many rows, which are these three in turn.
 #[test]
 fn verdicts_on_many_sections(rt: HostRuntime) -> Result<(), Fail> {
-    let sections = many(rt.alloc(), 20_000)?;
-    let verdicts = pick(rt.alloc(), sections.as_slice(), &LINUX)?;
-    assert!(rt; verdicts.len() == 20_000);
-    for (number, verdict) in verdicts.iter().enumerate() {
-        assert!(rt;
-            Some(verdict) == [YES, UNKNOWN, NO].get(number % 3),
-            "{number}"
-        );
+    let mut rows = Vec::new(rt.alloc());
+    for number in 0..20_000 {
+        rows.push(THREE[number % 3])?;
     }
+    assert!(rt; is_picked(rt.alloc(), &LINUX, 0, rows.as_slice())?);
     Ok(())
 }

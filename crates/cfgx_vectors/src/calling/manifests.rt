@@ -118,9 +118,9 @@ mod tests {
             bytes: Vec::new(alloc),
             failures: 0,
         };
-        run(alloc, words, &mut source, &mut sink) == 0
-            && source.left.is_empty()
-            && sink.bytes.as_slice() == written.as_bytes()
+        let status = run(alloc, words, &mut source, &mut sink);
+        let is_written = sink.bytes.as_slice() == written.as_bytes();
+        is_written && status == 0 && source.left.is_empty()
     }
 
     #[test]

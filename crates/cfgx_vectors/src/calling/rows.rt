@@ -37,6 +37,7 @@ fn lanes(predicate: &Predicate<'_>, rows: &[TargetInfo]) -> Kleene64 {
 #[cfg(test)]
 mod tests {
     use super::on_rows;
+    use crate::lanes::has_planes;
     use cfg_expr::targets::TargetTable;
     use std::test::Fail;
 
@@ -47,9 +48,7 @@ mod tests {
         let Some(value) = on_rows(rt.alloc(), "not(unix)", &rows[..2])? else {
             return Err(Fail::from("too many rows"));
         };
-        assert!(rt; value.lane(0) == Some(false));
-        assert!(rt; value.lane(1) == Some(false));
-        assert!(rt; value.lane(2).is_none());
+        assert!(rt; has_planes(value, 0b00, 0b11));
         Ok(())
     }
 }

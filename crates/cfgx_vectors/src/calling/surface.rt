@@ -2,6 +2,7 @@
 //! in no example of the pages.
 
 use super::streams::Kept;
+use crate::holding::all_hold;
 use cfg_expr::error::{Failure, Reason};
 use cfg_expr::expr::Logic;
 use cfg_expr::expr::laws::{lanes_are_maps, maps_keep_values};
@@ -13,94 +14,121 @@ use cfgx_engine::engine::laws::has_one_output;
 use cfgx_engine::engine::streams::write_whole;
 use cfgx_syntax::stripping::strip;
 use cfgx_targets::reading::{read_endian, read_has_atomic, read_u8, read_u16};
+use std::alloc::Global;
 use std::str::FromStr;
 use std::test::Fail;
 
 #[test]
 fn lists_are_asked_for_members(rt: HostRuntime) -> Result<(), Fail> {
-    let families = Families::unix(rt.alloc())?;
-    assert!(rt; families.contains(&Family::unix()));
-    assert!(rt; !families.contains(&Family::new_const("wasm")));
-    let widths = HasAtomics::atomic_8_16_32_ptr(rt.alloc())?;
-    assert!(rt; widths.contains(HasAtomic::IntegerSize(8)));
-    assert!(rt; !widths.contains(HasAtomic::IntegerSize(64)));
-    Ok(())
-}
-
-#[test]
-fn sorted_families_are_told(rt: HostRuntime) -> Result<(), Fail> {
     let families = Families::unix_wasm(rt.alloc())?;
-    assert!(rt; Families::is_sorted(families.as_slice()));
-    assert!(rt; !Families::is_sorted(&[<Family<'_>>::wasm(), Family::unix()]));
+    let widths = HasAtomics::atomic_8_16_32_ptr(rt.alloc())?;
+    all_hold(
+        &rt,
+        &[
+            ("unix", families.contains(&Family::unix())),
+            ("windows", !families.contains(&Family::new_const("windows"))),
+            ("8", widths.contains(HasAtomic::IntegerSize(8))),
+            ("64", !widths.contains(HasAtomic::IntegerSize(64))),
+            ("sorted", Families::is_sorted(families.as_slice())),
+            (
+                "not sorted",
+                !Families::is_sorted(&[<Family<'_>>::wasm(), Family::unix()]),
+            ),
+        ],
+    );
     Ok(())
-}
-
-#[test]
-fn refused_widths_are_compared(rt: HostRuntime) {
-    let alloc = rt.alloc();
-    assert!(rt; HasAtomic::read(alloc, "x") == HasAtomic::read(alloc, "x"));
-    assert!(rt; HasAtomic::read(alloc, "x") != HasAtomic::read(alloc, "y"));
-    assert!(rt; HasAtomic::read(alloc, "8") == Ok(HasAtomic::IntegerSize(8)));
-    assert!(rt; matches!(HasAtomic::read(alloc, ""), Err(HasAtomicFailure::Parse(_))));
 }
 
 #[test]
 fn values_are_read(rt: HostRuntime) {
-    assert!(rt; read_u8("+255") == Some(255) && read_u8("256").is_none());
-    assert!(rt; read_u16("65535") == Some(65_535) && read_u16("65536").is_none());
-    assert!(rt; read_endian("big") == Some(Endian::big) && read_endian("Big").is_none());
-    assert!(rt; read_has_atomic("ptr") == Some(HasAtomic::Pointer));
-    assert!(rt; Endian::from_str("little") == Ok(Endian::little));
+    let alloc = rt.alloc();
+    all_hold(
+        &rt,
+        &[
+            ("+255", read_u8("+255") == Some(255)),
+            ("256", read_u8("256").is_none()),
+            ("65535", read_u16("65535") == Some(65_535)),
+            ("65536", read_u16("65536").is_none()),
+            ("big", read_endian("big") == Some(Endian::big)),
+            ("Big", read_endian("Big").is_none()),
+            ("ptr", read_has_atomic("ptr") == Some(HasAtomic::Pointer)),
+            ("little", Endian::from_str("little") == Ok(Endian::little)),
+            (
+                "x and x",
+                HasAtomic::read(alloc, "x") == HasAtomic::read(alloc, "x"),
+            ),
+            (
+                "x and y",
+                HasAtomic::read(alloc, "x") != HasAtomic::read(alloc, "y"),
+            ),
+            (
+                "8",
+                HasAtomic::read(alloc, "8") == Ok(HasAtomic::IntegerSize(8)),
+            ),
+            ("no width", is_no_width(alloc, "")),
+        ],
+    );
 }
 
-#[test]
-fn texts_are_stripped(rt: HostRuntime) {
-    assert!(rt; strip("cfg(unix)") == "unix");
-    assert!(rt; strip("unix") == "unix");
-    assert!(rt; Lexer::new(rt.alloc(), "cfg(unix)").original() == "unix");
+fn is_no_width(alloc: Global, text: &str) -> bool {
+    matches!(
+        HasAtomic::read(alloc, text),
+        Err(HasAtomicFailure::Parse(_))
+    )
 }
 
-#[test]
-fn a_fault_is_made(rt: HostRuntime) {
-    match Failure::of(rt.alloc(), "a b", 2..3, Reason::MultipleRootPredicates) {
-        Failure::Parse(fault) => {
-            assert!(rt; fault.original.as_str() == "a b" && fault.span == (2..3));
-        }
-        Failure::Memory(_) => assert!(rt; false, "out of memory"),
+fn is_made(alloc: Global) -> bool {
+    match Failure::of(alloc, "a b", 2..3, Reason::MultipleRootPredicates) {
+        Failure::Parse(fault) => fault.original.as_str() == "a b" && fault.span == (2..3),
+        Failure::Memory(_) => false,
     }
 }
 
 // `Option` has an `and` and an `or` of its own, so these are named by the trait.
 #[test]
-fn logics_are_joined(rt: HostRuntime) {
-    assert!(rt; bool::top().and(true) && !bool::bottom().or(false));
-    assert!(rt; Logic::and(None, Some(false)) == Some(false));
-    assert!(rt; Logic::or(None, Some(false)).is_none());
-    assert!(rt; Kleene64::top().not() == Kleene64::bottom());
-    are_apart(&[Kleene64::new(1, 2)]);
-}
-
-#[test]
-fn laws_are_called(_rt: HostRuntime) {
+fn texts_are_stripped_and_logics_joined(rt: HostRuntime) {
     maps_keep_values::<bool, Option<bool>>();
     lanes_are_maps();
     has_one_output();
+    are_apart(&[Kleene64::new(1, 2)]);
+    let mut sink = Kept {
+        bytes: Vec::new(rt.alloc()),
+        failures: 0,
+    };
+    let is_written = write_whole(&mut sink, b"true\n");
+    all_hold(
+        &rt,
+        &[
+            ("a text in cfg()", strip("cfg(unix)") == "unix"),
+            ("a bare text", strip("unix") == "unix"),
+            (
+                "a lexer",
+                Lexer::new(rt.alloc(), "cfg(unix)").original() == "unix",
+            ),
+            ("a fault", is_made(rt.alloc())),
+            ("true", bool::top().and(true)),
+            ("false", !bool::bottom().or(false)),
+            ("and", Logic::and(None, Some(false)) == Some(false)),
+            ("or", Logic::or(None, Some(false)).is_none()),
+            ("lanes", Kleene64::top().not() == Kleene64::bottom()),
+            ("a text that is written", is_written),
+            ("its bytes", sink.bytes.as_slice() == b"true\n".as_slice()),
+        ],
+    );
 }
 
 #[test]
 fn fields_are_copied(rt: HostRuntime) -> Result<(), Fail> {
     let os = Os::new(String::from_str(rt.alloc(), "linux")?);
-    assert!(rt; os == Os::linux() && os == os.try_clone(rt.alloc())?);
-    assert!(rt; os > Os::new_const("ios") && os.as_str() == "linux");
+    let copy = os.try_clone(rt.alloc())?;
+    all_hold(
+        &rt,
+        &[
+            ("a borrowed text", os == Os::linux()),
+            ("a copy", os == copy),
+            ("the order", os > Os::new_const("ios")),
+            ("the text", os.as_str() == "linux"),
+        ],
+    );
     Ok(())
-}
-
-#[test]
-fn bytes_are_written_whole(rt: HostRuntime) {
-    let mut sink = Kept {
-        bytes: Vec::new(rt.alloc()),
-        failures: 0,
-    };
-    assert!(rt; write_whole(&mut sink, b"true\n"));
-    assert!(rt; sink.bytes.as_slice() == b"true\n".as_slice());
 }

@@ -54,11 +54,12 @@ pub(crate) fn value_with<T: Logic + Copy>(
 
 /// Whether it has each answer that is known.
 pub(crate) fn is_filling(filling: &[bool], answers: &[Option<bool>]) -> bool {
+    for (value, answer) in filling.iter().zip(answers) {
+        if answer.unwrap_or(*value) != *value {
+            return false;
+        }
+    }
     filling.len() == answers.len()
-        && filling
-            .iter()
-            .zip(answers)
-            .all(|(value, answer)| answer.unwrap_or(*value) == *value)
 }
 
 // Whether this is a filling of the answers that leads to the value.
@@ -73,8 +74,22 @@ fn leads_to(
     Ok(found == value && is_filling(filling, answers))
 }
 
-// Whether there are two fillings exactly if the value is unknown, one for each truth value.
-fn are_fillings(
+// Whether these are fillings of the answers that lead to true and to false.
+fn lead_to_both(
+    alloc: Global,
+    expression: &Expression,
+    answers: &[Option<bool>],
+    with_true: &[bool],
+    with_false: &[bool],
+) -> Result<bool, AllocError> {
+    Ok(
+        leads_to(alloc, expression, answers, with_true, true)?
+            && leads_to(alloc, expression, answers, with_false, false)?,
+    )
+}
+
+/// Whether there are two fillings exactly if the value is unknown, one for each truth value.
+pub(crate) fn are_fillings(
     alloc: Global,
     expression: &Expression,
     answers: &[Option<bool>],
@@ -83,12 +98,17 @@ fn are_fillings(
     if expression.predicates().left() != answers.len() {
         return Ok(false);
     }
-    let Some((with_true, with_false)) = expression.polar_fillings(alloc, answers)? else {
-        return Ok(value.is_some());
-    };
-    let is_true = leads_to(alloc, expression, answers, with_true.as_slice(), true)?;
-    let is_false = leads_to(alloc, expression, answers, with_false.as_slice(), false)?;
-    Ok(value.is_none() && is_true && is_false)
+    match expression.polar_fillings(alloc, answers)? {
+        Some((with_true, with_false)) if value.is_none() => lead_to_both(
+            alloc,
+            expression,
+            answers,
+            with_true.as_slice(),
+            with_false.as_slice(),
+        ),
+        Some(_) => Ok(false),
+        None => Ok(value.is_some()),
+    }
 }
 
 // Whether `eval` and this value agree over the answers, and if it is asked for, `polar_fillings`.

@@ -95,25 +95,35 @@ fn push_leaves(
     Ok(())
 }
 
+// Writes a condition with other members beside it, and what closes their function.
+fn push_members(numbers: &mut Numbers, text: &mut String, inner: &str) -> Result<(), AllocError> {
+    push_leaves(numbers, text, "", ",")?;
+    text.push_str(numbers.one_of(FRONTS))?;
+    text.push_str(inner)?;
+    push_leaves(numbers, text, ", ", "")?;
+    text.push_str(numbers.one_of(BACKS))?;
+    text.push_str(")")
+}
+
 // A function round a condition, with other members beside it.
 fn with_members(alloc: Global, numbers: &mut Numbers, inner: &str) -> Result<String, AllocError> {
     let mut text = String::from_str(alloc, numbers.one_of(FUNCTIONS))?;
-    push_leaves(numbers, &mut text, "", ",")?;
+    push_members(numbers, &mut text, inner)?;
+    Ok(text)
+}
+
+// Writes a condition alone, and what closes its `not`.
+fn push_alone(numbers: &mut Numbers, text: &mut String, inner: &str) -> Result<(), AllocError> {
     text.push_str(numbers.one_of(FRONTS))?;
     text.push_str(inner)?;
-    push_leaves(numbers, &mut text, ", ", "")?;
     text.push_str(numbers.one_of(BACKS))?;
-    text.push_str(")")?;
-    Ok(text)
+    text.push_str(")")
 }
 
 // A `not` round a condition.
 fn negated(alloc: Global, numbers: &mut Numbers, inner: &str) -> Result<String, AllocError> {
     let mut text = String::from_str(alloc, "not(")?;
-    text.push_str(numbers.one_of(FRONTS))?;
-    text.push_str(inner)?;
-    text.push_str(numbers.one_of(BACKS))?;
-    text.push_str(")")?;
+    push_alone(numbers, &mut text, inner)?;
     Ok(text)
 }
 
@@ -138,15 +148,16 @@ fn wrapped(alloc: Global, numbers: &mut Numbers) -> Result<String, AllocError> {
     Ok(text)
 }
 
-// A condition in which one token stands in the place of some characters.
-fn damaged(alloc: Global, numbers: &mut Numbers) -> Result<String, AllocError> {
-    let whole = condition(alloc, numbers)?;
-    let start = numbers.below(whole.len());
-    let end = start.saturating_add(numbers.below(4));
-    let token = numbers.one_of(TOKENS);
-    let mut text = String::new(alloc);
+// Writes a text, in which one token stands in the place of the characters from `start` to `end`.
+fn push_damaged(
+    text: &mut String,
+    whole: &str,
+    token: &str,
+    start: usize,
+    end: usize,
+) -> Result<(), AllocError> {
     let mut is_written = false;
-    for (place, character) in whole.as_str().char_indices() {
+    for (place, character) in whole.char_indices() {
         if place >= start && !is_written {
             text.push_str(token)?;
             is_written = true;
@@ -155,6 +166,17 @@ fn damaged(alloc: Global, numbers: &mut Numbers) -> Result<String, AllocError> {
             text.push(character)?;
         }
     }
+    Ok(())
+}
+
+// A condition in which one token stands in the place of some characters.
+fn damaged(alloc: Global, numbers: &mut Numbers) -> Result<String, AllocError> {
+    let whole = condition(alloc, numbers)?;
+    let start = numbers.below(whole.len());
+    let end = start.saturating_add(numbers.below(4));
+    let token = numbers.one_of(TOKENS);
+    let mut text = String::new(alloc);
+    push_damaged(&mut text, whole.as_str(), token, start, end)?;
     Ok(text)
 }
 

@@ -2,7 +2,7 @@
 use super::{KINDS, SECTIONS, VERDICTS, is_picked_in_pieces};
 use crate::commands::SIM;
 use crate::input::Pieces;
-use crate::streams::{ALL, Ending, Recorder, ends_at_write, ends_so};
+use crate::streams::{ALL, Ending, Recorder, ends_so, first_wrong_write, is_left_so};
 use cfgx_engine::engine::run;
 use std::alloc::Global;
 
@@ -37,18 +37,8 @@ fn a_failed_write_or_flush_ends_the_run(rt: HostRuntime) {
 #[test]
 fn each_write_fails_in_turn(rt: HostRuntime) {
     for (input, output, _status) in KINDS {
-        for failing in 0..output.len() {
-            assert!(rt;
-                ends_at_write(
-                    rt.alloc(),
-                    &WORDS,
-                    input,
-                    failing,
-                    &output.as_bytes()[..failing]
-                ),
-                "write {failing} of {input:?}"
-            );
-        }
+        let wrong = first_wrong_write(rt.alloc(), &WORDS, input, output.as_bytes());
+        assert!(rt; wrong.is_none(), "{wrong:?} of {input:?}");
     }
 }
 
@@ -59,27 +49,35 @@ fn ends_at_read(alloc: Global, input: &[u8], failing: u64, left: &[u8]) -> bool 
     let mut sink = Recorder::new(alloc);
     sink.failing_write = 1;
     sink.is_flush_failing = true;
-    run(alloc, &WORDS, &mut source, &mut sink) == 3
+    let status = run(alloc, &WORDS, &mut source, &mut sink);
+    is_left_so(&sink, b"", (0, 0), 0)
+        && status == 3
         && source.reads == failing
         && source.failures == 1
         && source.left == left
-        && sink.writes == 0
-        && sink.flushes == 0
-        && sink.bytes.is_empty()
 }
 
-// The last read of an input meets its end.
+// The number of the first read, counted from 1, whose failure does not end the run over the input.
+// Each has three bytes, and the last one meets the end.
+fn first_wrong_read(alloc: Global, input: &[u8]) -> Option<u64> {
+    let mut left = input;
+    for failing in 1..u64::MAX {
+        if !ends_at_read(alloc, input, failing, left) {
+            return Some(failing);
+        }
+        if left.is_empty() {
+            return None;
+        }
+        left = &left[left.len().min(3)..];
+    }
+    None
+}
+
 #[test]
 fn each_read_fails_in_turn(rt: HostRuntime) {
     for (input, _output, _status) in KINDS {
-        let input = input.as_bytes();
-        for before in 0..=input.len().div_ceil(3) {
-            let left = &input[before.saturating_mul(3).min(input.len())..];
-            assert!(rt;
-                ends_at_read(rt.alloc(), input, (before as u64).saturating_add(1), left),
-                "read behind {before} of {input:?}"
-            );
-        }
+        let wrong = first_wrong_read(rt.alloc(), input.as_bytes());
+        assert!(rt; wrong.is_none(), "{wrong:?} of {input:?}");
     }
 }
 

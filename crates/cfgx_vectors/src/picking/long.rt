@@ -1,71 +1,72 @@
 // Deep, wide and long inputs end in an answer.
 use super::is_picked;
 use crate::commands::{IOS, SIM};
-use crate::deep::{nested, repeated};
+use crate::deep::{Parts, repeated, written};
 use std::alloc::{AllocError, Global};
 use std::test::Fail;
-
-/// A front, a piece, how often it comes, and a back.
-type Parts = (&'static str, &'static str, usize, &'static str);
 
 // Inputs, what is written of them, and the status.
 const ROWS: &[(Parts, Parts, u8)] = &[
     (
-        ("", "n\tunix\n", 20_000, ""),
-        ("", "n\tyes\n", 20_000, ""),
+        ("", "n\tunix\n", 20_000, "", 0),
+        ("", "n\tyes\n", 20_000, "", 0),
         0,
     ),
     (
-        ("", "n\ta\r\n", 40_000, ""),
+        ("", "n\ta\r\n", 40_000, "", 0),
         (
             "",
             "n\tunknown\n\ttrue with 1\n\tfalse with 0\n",
             40_000,
             "",
+            0,
         ),
         0,
     ),
     (
-        ("", "n\tunix\n", 5_000, "n\tkey)"),
-        ("line 5001:\nkey)\n   ^ unopened parens\n", "", 0, ""),
+        ("", "n\tunix\n", 5_000, "n\tkey)", 0),
+        ("line 5001:\nkey)\n   ^ unopened parens\n", "", 0, "", 0),
         1,
     ),
     (
-        ("", "\r\n", 99_999, "x"),
-        ("line 100000: no tab\n", "", 0, ""),
+        ("", "\r\n", 99_999, "x", 0),
+        ("line 100000: no tab\n", "", 0, "", 0),
         1,
     ),
     (
-        ("", "\u{e9}", 50_000, "\tunix"),
-        ("", "\u{e9}", 50_000, "\tyes\n"),
-        0,
-    ),
-    (("", "a", 100_000, ""), ("line 1: no tab\n", "", 0, ""), 1),
-    (("", "\r", 100_000, ""), ("line 1: no tab\n", "", 0, ""), 1),
-    (("", "\t", 20_000, "unix"), ("\tyes\n", "", 0, ""), 0),
-    (
-        ("n\tall(", "unix,", 10_000, ")"),
-        ("n\tyes\n", "", 0, ""),
+        ("", "\u{e9}", 50_000, "\tunix", 0),
+        ("", "\u{e9}", 50_000, "\tyes\n", 0),
         0,
     ),
     (
-        ("n\tany(all(),", "any(),", 10_000, ")"),
-        ("n\tyes\n", "", 0, ""),
+        ("", "a", 100_000, "", 0),
+        ("line 1: no tab\n", "", 0, "", 0),
+        1,
+    ),
+    (
+        ("", "\r", 100_000, "", 0),
+        ("line 1: no tab\n", "", 0, "", 0),
+        1,
+    ),
+    (("", "\t", 20_000, "unix", 0), ("\tyes\n", "", 0, "", 0), 0),
+    (
+        ("n\tall(", "unix,", 10_000, ")", 0),
+        ("n\tyes\n", "", 0, "", 0),
+        0,
+    ),
+    (
+        ("n\tany(all(),", "any(),", 10_000, ")", 0),
+        ("n\tyes\n", "", 0, "", 0),
         0,
     ),
 ];
 
-fn joined(alloc: Global, parts: &Parts) -> Result<String, AllocError> {
-    let (front, piece, times, back) = *parts;
-    repeated(alloc, front, piece, times, back)
-}
-
 // Whether the input of the row ends as the row says.
 fn is_as_said(alloc: Global, row: &(Parts, Parts, u8)) -> Result<bool, AllocError> {
-    let (input, written, status) = row;
-    let input = joined(alloc, input)?;
-    let written = joined(alloc, written)?;
-    Ok(is_picked(alloc, SIM, input.as_bytes(), written.as_str(), *status))
+    let (input, output, status) = row;
+    let input = written(alloc, input)?;
+    let output = written(alloc, output)?;
+    Ok(is_picked(alloc, SIM, input.as_bytes(), output.as_str(), *status))
 }
 
 #[test]
@@ -76,31 +77,41 @@ fn many_lines_and_long_ones(rt: HostRuntime) -> Result<(), Fail> {
     Ok(())
 }
 
-// Whether the condition is unknown, true with one digit for each of so many occurrences, and false
-// with the other one.
-fn is_unknown(
-    alloc: Global,
-    condition: &str,
-    digits: (&str, &str),
-    count: usize,
-) -> Result<bool, AllocError> {
-    let input = repeated(alloc, "n\t", condition, 1, "\n")?;
+// Conditions that are unknown, true with one digit for each of so many occurrences, and false with
+// the other one.
+const UNKNOWN: &[(Parts, &str, &str, usize)] = &[
+    (("any(", "a,", 20_000, ")", 0), "1", "0", 20_000),
+    (("not(all(", "a,", 20_000, ")", 1), "0", "1", 20_000),
+    (("", "not(", 10_000, "a", 10_000), "1", "0", 1),
+    (("", "not(", 10_001, "a", 10_001), "0", "1", 1),
+];
+
+// The digits of both fillings behind the name and the verdict.
+fn unknown(alloc: Global, one: &str, other: &str, count: usize) -> Result<String, AllocError> {
     let front = "n\tunknown\n\ttrue with ";
-    let front = repeated(alloc, front, digits.0, count, "\n\tfalse with ")?;
-    let written = repeated(alloc, front.as_str(), digits.1, count, "\n")?;
-    Ok(is_picked(alloc, SIM, input.as_bytes(), written.as_str(), 0))
+    let text = repeated(alloc, front, one, count, "\n\tfalse with ")?;
+    repeated(alloc, text.as_str(), other, count, "\n")
+}
+
+// A line with the condition.
+fn line(alloc: Global, parts: &Parts) -> Result<String, AllocError> {
+    let condition = written(alloc, parts)?;
+    repeated(alloc, "n\t", condition.as_str(), 1, "\n")
+}
+
+// Whether the condition of the row is unknown so.
+fn is_unknown(alloc: Global, row: &(Parts, &str, &str, usize)) -> Result<bool, AllocError> {
+    let (parts, one, other, count) = row;
+    let input = line(alloc, parts)?;
+    let output = unknown(alloc, one, other, *count)?;
+    Ok(is_picked(alloc, SIM, input.as_bytes(), output.as_str(), 0))
 }
 
 #[test]
 fn fillings_of_deep_and_wide_conditions(rt: HostRuntime) -> Result<(), Fail> {
-    let wide = repeated(rt.alloc(), "any(", "a,", 20_000, ")")?;
-    assert!(rt; is_unknown(rt.alloc(), wide.as_str(), ("1", "0"), 20_000)?);
-    let turned = repeated(rt.alloc(), "not(all(", "a,", 20_000, "))")?;
-    assert!(rt; is_unknown(rt.alloc(), turned.as_str(), ("0", "1"), 20_000)?);
-    let even = nested(rt.alloc(), "not(", 10_000, "a")?;
-    assert!(rt; is_unknown(rt.alloc(), even.as_str(), ("1", "0"), 1)?);
-    let odd = nested(rt.alloc(), "not(", 10_001, "a")?;
-    assert!(rt; is_unknown(rt.alloc(), odd.as_str(), ("0", "1"), 1)?);
+    for row in UNKNOWN {
+        assert!(rt; is_unknown(rt.alloc(), row)?, "{row:?}");
+    }
     Ok(())
 }
 

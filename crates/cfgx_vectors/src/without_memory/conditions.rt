@@ -1,187 +1,189 @@
-//! Conditions that are asked, compared, printed and evaluated, and runs on wrong use.
-use super::printing::prints;
+//! Conditions that are asked, compared, printed and spelled, targets that they are asked of, and
+//! what stands beside them.
+use crate::accepted::{ask_the_same, is_next};
+use crate::holding::{all_hold, prints};
+use crate::in_turn::conditions::{is_three, is_true};
+use crate::lanes::has_planes;
 use crate::refusing::EVERY;
-use crate::streams::{Ended, Recorder, USAGE};
 use crate::turns::Heap;
 use cfg_expr::expr::logic::Kleene64;
-use cfg_expr::expr::spell;
-use cfg_expr::targets::TargetTable;
+use cfg_expr::expr::{Logic, spell};
+use cfg_expr::targets::{TargetInfo, TargetTable};
 use cfg_expr::{Expression, Predicate};
-use cfgx_engine::engine::run;
-use std::alloc::{AllocError, Global};
-use std::io;
-use std::io::{ErrorKind, Write};
+use cfgx_engine::engine::{Counted, Sink};
+use std::alloc::Global;
+use std::process::Abort;
+use std::test::Fail;
 
 const TEXT: &str = "all(a, any(b), feature = \"a feature with a long name\")";
 
 const OTHER: &str = "all(a, any(b), feature = \"a feature with a long name\"),";
 
-// It has 32 bytes.
-const SHORT: &str = "any(a,a,a,a,a,a,a,a,a,a,a,a,a,a)";
-
-// The expression of a text that has one. After it every growth is refused.
-fn accepted<'h>(heap: Heap<'h>, text: &str) -> Result<Expression<Heap<'h>>, AllocError> {
+pub(super) fn are_answered(rt: &impl Abort, alloc: Global, heap: Heap<'_>) -> Result<(), Fail> {
     heap.refuse(0);
-    let answer = Expression::parse(heap, text);
+    let one = Expression::parse(heap, TEXT)?;
+    let same = Expression::parse(heap, TEXT)?;
+    let other = Expression::parse(heap, OTHER)?;
+    let flags = Expression::parse(heap, "all(a, any(b), c)")?;
     heap.refuse(EVERY);
-    match answer {
-        Ok(expression) => Ok(expression),
-        Err(_) => Err(AllocError),
-    }
+    all_hold(
+        rt,
+        &[
+            ("original", one.original() == TEXT),
+            ("equal expressions", one == same),
+            ("other expressions", one != other),
+            ("display of an expression", prints(alloc, &one, TEXT)),
+            ("equal predicates", ask_the_same(&one, &other)),
+            ("other predicates", !ask_the_same(&one, &flags)),
+        ],
+    );
+    Ok(())
 }
 
-pub(super) fn keeps_its_text(heap: Heap<'_>) -> Result<bool, AllocError> {
-    Ok(accepted(heap, TEXT)?.original() == TEXT)
-}
-
-fn is_flag(predicate: Option<Predicate<'_>>, name: &str) -> bool {
-    match predicate {
-        Some(Predicate::Flag(flag)) => flag == name,
-        _ => false,
-    }
-}
-
-pub(super) fn asks(heap: Heap<'_>) -> Result<bool, AllocError> {
-    let expression = accepted(heap, TEXT)?;
-    let mut predicates = expression.predicates();
-    let are_flags = is_flag(predicates.next(), "b") && is_flag(predicates.next(), "a");
-    let is_feature = matches!(predicates.next(), Some(Predicate::Feature(_)));
-    Ok(are_flags && is_feature && predicates.next().is_none())
-}
-
-pub(super) fn counts_what_is_left(heap: Heap<'_>) -> Result<bool, AllocError> {
-    let expression = accepted(heap, TEXT)?;
-    let mut predicates = expression.predicates();
-    let before = predicates.left();
-    let _first = predicates.next();
-    Ok(before == 3 && predicates.left() == 2)
-}
-
-pub(super) fn compares(heap: Heap<'_>) -> Result<bool, AllocError> {
-    let one = accepted(heap, TEXT)?;
-    let same = accepted(heap, TEXT)?;
-    let other = accepted(heap, OTHER)?;
-    Ok(one == same && one != other)
-}
-
-pub(super) fn prints_its_text(heap: Heap<'_>) -> Result<bool, AllocError> {
-    Ok(prints(&accepted(heap, TEXT)?, TEXT))
-}
-
-pub(super) fn compares_predicates(heap: Heap<'_>) -> Result<bool, AllocError> {
-    let one = accepted(heap, TEXT)?;
-    let other = accepted(heap, OTHER)?;
-    let is_equal = one.predicates().eq(other.predicates());
-    Ok(is_equal && one.predicates().next() != one.predicates().last())
-}
-
-/// A writer of bytes that takes what stands next in a text, and nothing else.
-#[derive(Drop)]
-struct Expecting<'a> {
-    left: &'a [u8],
-}
-
-impl Write for Expecting<'_> {
-    fn write(&mut self, bytes: &[u8]) -> io::Result<usize> {
-        if !self.left.starts_with(bytes) {
-            return Err(io::Error::from(ErrorKind::Other));
-        }
-        self.left = &self.left[bytes.len().min(self.left.len())..];
-        Ok(bytes.len())
-    }
-
-    fn flush(&mut self) -> io::Result<()> {
-        Ok(())
-    }
-}
-
-fn is_spelled(predicate: &Predicate<'_>, spelling: &str) -> bool {
-    let mut writer = Expecting {
-        left: spelling.as_bytes(),
-    };
-    spell(predicate, &mut writer).is_ok() && writer.left.is_empty()
-}
-
-pub(super) fn spells(heap: Heap<'_>) -> Result<bool, AllocError> {
-    let expression = accepted(heap, "target_has_atomic = \"+00128\"")?;
-    match expression.predicates().next() {
-        Some(predicate) => Ok(is_spelled(&predicate, "target_has_atomic = \"128\"")),
-        None => Ok(false),
-    }
-}
-
-// The five rows.
-fn table<'h>(heap: Heap<'h>) -> Result<TargetTable<'h, Heap<'h>>, AllocError> {
+pub(super) fn predicates_are_answered(rt: &impl Abort, heap: Heap<'_>) -> Result<(), Fail> {
     heap.refuse(0);
-    let table = TargetTable::builtins(heap);
+    let expression = Expression::parse(heap, TEXT)?;
     heap.refuse(EVERY);
-    table
+    let mut predicates = expression.predicates();
+    all_hold(
+        rt,
+        &[
+            (
+                "the first predicate",
+                is_next(&mut predicates, 3, Some("b")),
+            ),
+            (
+                "the second predicate",
+                is_next(&mut predicates, 2, Some("a")),
+            ),
+            (
+                "the third predicate",
+                matches!(predicates.next(), Some(Predicate::Feature(_))),
+            ),
+            ("no predicate", is_next(&mut predicates, 0, None)),
+        ],
+    );
+    Ok(())
 }
 
-// Whether the predicate is true of the row of this number alone.
-fn is_met_by(predicate: &Predicate<'_>, table: &TargetTable<'_, Heap<'_>>, number: usize) -> bool {
+// Whether the predicate has this spelling.
+fn is_spelled(alloc: Global, predicate: &Predicate<'_>, spelling: &[u8]) -> bool {
+    let mut bytes = Vec::new(alloc);
+    spell(predicate, &mut bytes).is_ok() && bytes.as_slice() == spelling
+}
+
+pub(super) fn spellings_are_answered(
+    rt: &impl Abort,
+    alloc: Global,
+    heap: Heap<'_>,
+) -> Result<(), Fail> {
+    heap.refuse(0);
+    let expression = Expression::parse(heap, "target_has_atomic = \"+00128\"")?;
+    heap.refuse(EVERY);
+    for predicate in expression.predicates() {
+        assert!(rt; is_spelled(alloc, &predicate, b"target_has_atomic = \"128\""));
+    }
+    Ok(())
+}
+
+// Whether the predicate is true of the fourth of five rows alone, one by one and in lanes.
+fn is_met_by_the_fourth(predicate: &Predicate<'_>, rows: &[TargetInfo<'_, Heap<'_>>]) -> bool {
     let Predicate::Target(target) = predicate else {
         return false;
     };
-    table
-        .rows()
-        .iter()
-        .enumerate()
-        .all(|(place, row)| target.matches(row) == (place == number))
-}
-
-pub(super) fn matches(heap: Heap<'_>) -> Result<bool, AllocError> {
-    let table = table(heap)?;
-    let expression = accepted(heap, "target_abi = \"sim\"")?;
-    match expression.predicates().next() {
-        Some(predicate) => Ok(is_met_by(&predicate, &table, 3)),
-        None => Ok(false),
-    }
-}
-
-// The lanes of the predicate on the rows, which are at most 64.
-fn lanes(predicate: &Predicate<'_>, table: &TargetTable<'_, Heap<'_>>) -> Kleene64 {
-    match predicate {
-        Predicate::Target(target) if table.rows().len() <= 64 => target.lanes(table.rows()),
-        _ => Kleene64::new(0, 0),
-    }
-}
-
-pub(super) fn has_lanes(heap: Heap<'_>) -> Result<bool, AllocError> {
-    let table = table(heap)?;
-    let expression = accepted(heap, "target_abi = \"sim\"")?;
-    match expression.predicates().next() {
-        Some(predicate) => Ok(lanes(&predicate, &table) == Kleene64::new(0b01000, 0b10111)),
-        None => Ok(false),
-    }
-}
-
-pub(super) fn evaluates(heap: Heap<'_>) -> Result<bool, AllocError> {
-    let expression = accepted(heap, SHORT)?;
-    expression.eval(heap, &mut |_predicate: &Predicate<'_>| true)
-}
-
-pub(super) fn evaluates_lanes(heap: Heap<'_>) -> Result<bool, AllocError> {
-    let expression = accepted(heap, SHORT)?;
-    let answers = [Kleene64::new(0b001, 0b010); 14];
-    if expression.predicates().left() != answers.len() {
-        return Ok(false);
-    }
-    Ok(expression.eval_lanes(heap, &answers)? == Kleene64::new(0b001, 0b010))
-}
-
-// Words of wrong use.
-const NO_COMMANDS: &[&[&str]] = &[&[], &["parse"], &["pick"], &["pick", "a", "b"]];
-
-/// Runs on wrong use.
-pub(super) fn runs(alloc: Global, heap: Heap<'_>) -> bool {
-    heap.refuse(EVERY);
-    for words in NO_COMMANDS {
-        let mut sink = Recorder::new(alloc);
-        let status = run(heap, words, &mut Ended, &mut sink);
-        if status != 2 || sink.bytes.as_slice() != USAGE.as_bytes() {
+    for (place, row) in rows.iter().enumerate() {
+        if target.matches(row) != (place == 3) {
             return false;
         }
     }
-    true
+    rows.len() <= 64 && has_planes(target.lanes(rows), 0b01000, 0b10111)
+}
+
+pub(super) fn targets_are_answered(rt: &impl Abort, heap: Heap<'_>) -> Result<(), Fail> {
+    heap.refuse(0);
+    let table = TargetTable::builtins(heap)?;
+    let expression = Expression::parse(heap, "target_abi = \"sim\"")?;
+    heap.refuse(EVERY);
+    for predicate in expression.predicates() {
+        assert!(rt; is_met_by_the_fourth(&predicate, table.rows()));
+    }
+    Ok(())
+}
+
+// Each has 31 or 32 bytes.
+const SHORT: &[&str] = &[
+    "any(a,a,a,a,a,a,a,a,a,a,a,a,a,a)",
+    "not(not(not(not(not(not(a))))))",
+    "all(all(),all(),all(),all(),a,a)",
+];
+
+// Whether a condition is evaluated without memory, also in lanes.
+fn is_evaluated(heap: Heap<'_>, text: &str) -> Result<bool, Fail> {
+    heap.refuse(0);
+    let expression = Expression::parse(heap, text)?;
+    heap.refuse(EVERY);
+    Ok(is_true(heap, &expression)? && is_three(heap, &expression)?)
+}
+
+pub(super) fn short_texts_are_evaluated(rt: &impl Abort, heap: Heap<'_>) -> Result<(), Fail> {
+    for text in SHORT {
+        assert!(rt; is_evaluated(heap, text)?, "{text}");
+    }
+    Ok(())
+}
+
+// Whether the operations of a logic are what they are in Rust.
+fn is_logic<T: Logic + Copy + PartialEq>(rt: &impl Abort) {
+    let (yes, no) = (T::top(), T::bottom());
+    all_hold(
+        rt,
+        &[
+            ("yes and yes", yes.and(yes) == yes),
+            ("yes and no", yes.and(no) == no),
+            ("no or no", no.or(no) == no),
+            ("no or yes", no.or(yes) == yes),
+            ("not yes", yes.not() == no),
+            ("not no", no.not() == yes),
+        ],
+    );
+}
+
+// The same with an answer that is unknown.
+fn has_unknown<T: Logic + Copy + PartialEq>(rt: &impl Abort, unknown: T) {
+    all_hold(
+        rt,
+        &[
+            ("not unknown", unknown.not() == unknown),
+            ("unknown and yes", unknown.and(T::top()) == unknown),
+            ("unknown and no", unknown.and(T::bottom()) == T::bottom()),
+            ("unknown or yes", unknown.or(T::top()) == T::top()),
+            ("unknown or no", unknown.or(T::bottom()) == unknown),
+        ],
+    );
+}
+
+pub(super) fn streams_and_logics_are_answered(rt: &impl Abort, heap: Heap<'_>) {
+    heap.refuse(EVERY);
+    is_logic::<bool>(rt);
+    is_logic::<Option<bool>>(rt);
+    is_logic::<Kleene64>(rt);
+    has_unknown::<Option<bool>>(rt, None);
+    has_unknown(rt, Kleene64::new(0, 0));
+    let lanes = Kleene64::new(0b001, 0b010);
+    let mut room = [0u8; 4];
+    all_hold(
+        rt,
+        &[
+            ("new lanes", has_planes(lanes, 0b001, 0b010)),
+            ("a true lane", lanes.lane(0) == Some(true)),
+            ("a false lane", lanes.lane(1) == Some(false)),
+            ("an unknown lane", lanes.lane(63).is_none()),
+            ("equal lanes", lanes == Kleene64::new(1, 2)),
+            ("other lanes", lanes != Kleene64::new(1, 0)),
+            (
+                "a counted sink",
+                matches!(Counted::new(&mut room[..]).write(b"ab"), Ok(2)),
+            ),
+        ],
+    );
 }
