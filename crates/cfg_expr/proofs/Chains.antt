@@ -1,10 +1,9 @@
 -- What a chain of calls says to a caller of `eval`.
-use Rattle.std.proofs.Common.{◌≡◌, ◌≤◌, ◌+◌, ℕ, min, suc, List, [], ◌∷◌, length, map, take, drop}
-use Rattle.std.proofs.Common.{refl, ap}
-use Rattle.std.proofs.Common.{◌∙◌, arith, subst, sym}
+use Rattle.std.proofs.Common.{◌≡◌, ◌≤◌, ◌+◌, ℕ, min, suc, List, [], ◌∷◌, length, map, drop, refl}
+use Rattle.std.proofs.Common.{ap, ◌∙◌, arith, sym}
 use Rattle.std.specs.Borrow.{MutBor}
 use Rattle.std.specs.List.{AllZip}
-use Rattle.std.proofs.lemmas.List.{take_all}
+use Rattle.std.proofs.lemmas.List.{nil_from_length}
 use Rattle.cfgx_grammar.specs.Question.{Question}
 use Rattle.cfgx_grammar.specs.Answer.{HasOneTree}
 use Rattle.cfgx_grammar.specs.Grammar.{HasTree}
@@ -38,10 +37,8 @@ module _ {F T : Type 0} (asker : Asker F T) where
   Calls-by answer_to _ _ _ _ by
       (Calls.more before question given between questions answers after asks calls) =
       let first = by asks.shown given between asks.called in
-      let given_is = first.1 ∙ ap answer_to asks.shows in
-      let still = subst (λ (state : F). AnswersBy asker state answer_to) (sym first.0) by in
-      let others = Calls-by answer_to between questions answers after still calls in
-      cc
+      let still : AnswersBy asker between answer_to = rw first.0 by in
+      rw (first.1, asks.shows, Calls-by answer_to between questions answers after still calls)
 
   -- where each call keeps what holds of the closure, and its answer stands in a relation to its
   -- question, so do all the answers to all the questions
@@ -72,31 +69,27 @@ module _ {F T : Type 0} (asker : Asker F T) where
       (omega (arith, first.0, others.0), others.1 ∙ first.1)
 
   -- where each call answers the first one of the answers that are seen of the closure, and takes it
-  -- off, the answers are those that are seen in front
+  -- off, the answers are those that are seen at the start, if there is one for each question
   Calls-taken : (seen : F → List T) (otherwise : T)
       → ((before : F) (question : Question) (given : T) (after : F)
       → Asks asker before question given after
       → (given ≡ first_or otherwise (seen before)) × (seen after ≡ drop 1 (seen before)))
-      → (before : F) (questions : List Question) (answers : List T) (after : F)
-      → Calls asker before questions answers after → length questions ≤ length (seen before)
-      → answers ≡ take (length questions) (seen before)
-  Calls-taken seen otherwise each _ _ _ _ (Calls.none state) enough = refl
-  Calls-taken seen otherwise each _ _ _ _
-      (Calls.more before question given between questions answers after asks calls) enough =
+      → (before : F) (questions : List Question) (answers : List T) (after : F) (all : List T)
+      → Calls asker before questions answers after → seen before ≡ all
+      → length all ≡ length questions → answers ≡ all
+  Calls-taken seen otherwise each _ _ _ _ all (Calls.none state) are many =
+      sym (nil_from_length all many)
+  Calls-taken seen otherwise each _ _ _ _ [] (Calls.more _ _ _ _ _ _ _ asks calls) are many =
+      absurd (omega arith)
+  Calls-taken seen otherwise each _ _ _ _ (x ∷ all)
+      (Calls.more before question given between questions answers after asks calls) are many =
       let one = each before question given between asks in
-      taken (seen before) enough one.0 one.1
-      (λ left. Calls-taken seen otherwise each between questions answers after calls left)
-    where
-      taken : (all : List T) → suc (length questions) ≤ length all
-          → given ≡ first_or otherwise all → seen between ≡ drop 1 all
-          → (length questions ≤ length (seen between)
-          → answers ≡ take (length questions) (seen between))
-          → given ∷ answers ≡ take (suc (length questions)) all
-      taken [] enough first left others = absurd (omega arith)
-      taken (x ∷ all) enough first left others =
-          let rest = others (omega (arith, ap length left)) in
-          let same = ap (take (length questions)) left in
-          cc
+      rw (
+        one.0,
+        are,
+        Calls-taken seen otherwise each between questions answers after all calls
+            (one.1 ∙ ap (drop 1) are) (omega arith),
+      )
 
 -- there the value is that over all the answers that are seen at the start, if there are as many as
 -- a tree of the text asks
@@ -110,12 +103,10 @@ pub Evaluates-taken : {F T : Type 0} {logic : Operations T} {asker : Asker F T} 
     → (tree : Tree Question) × HasTree text tree × (length answers ≡ length (asked tree))
     → (one : HasOneTree text) × (value ≡ tree_value.fold logic one.tree answers)
 Evaluates-taken {logic} {asker} {before} {after} seen otherwise answers e each are tree =
-    let many : length (seen before) ≡ length (asked e.one.tree) = ap length are ∙ tree.2
-    ∙ ap (λ tree. length (asked tree)) (e.one.only tree.0 tree.1) in
     let taken = Calls-taken asker seen otherwise each before (asked e.one.tree) e.answers after
-    e.calls (omega arith) in
-    let all = take_all (length (asked e.one.tree)) (seen before) (omega arith) in
-    (e.one, e.value_is ∙ ap (tree_value.fold logic e.one.tree) (taken ∙ all ∙ are))
+    answers e.calls are
+    (tree.2 ∙ ap (λ tree. length (asked tree)) (e.one.only tree.0 tree.1)) in
+    (e.one, e.value_is ∙ ap (tree_value.fold logic e.one.tree) taken)
 
 -- where no call changes the closure, the value is that over the function by which it answers
 pub Evaluates-by : {F T : Type 0} {logic : Operations T} {asker : Asker F T} {text : List ℕ}

@@ -1,3 +1,3 @@
 pub mod Chains
+pub mod Filling
 pub mod evaluated
-pub mod filling

@@ -1,5 +1,5 @@
 pub mod Asked
 pub mod Joined
+pub mod Nodes
 pub mod Placed
 pub mod Read
-pub mod Valued

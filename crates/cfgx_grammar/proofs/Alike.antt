@@ -1,9 +1,8 @@
 -- Trees of one shape and with the same literals, whose other leaves stand in a relation one by one.
 use Rattle.std.proofs.Common.{◌≡◌, ℕ, suc, zero, Bool, true, false, List, [], ◌∷◌, ◌++◌, length}
-use Rattle.std.proofs.Common.{drop, refl, sym}
+use Rattle.std.proofs.Common.{drop, refl}
 use Rattle.std.specs.Prelude.{if◌then◌else◌}
 use Rattle.std.specs.List.{AllZip}
-use Rattle.std.proofs.lemmas.Bool.{true≢false}
 use Rattle.std.proofs.lemmas.Slice.Zip.{AllZip-long}
 use Rattle.cfgx_grammar.specs.Tree.{Tree, Trees, is_function, is_leaf, asked, asked_by}
 use Rattle.cfgx_grammar.specs.Fold.{first_or, answered, answered_each}
@@ -14,26 +13,22 @@ AllZip-drop : {T U : Type 0} (R : T → U → Type 0) (n : ℕ) (xs : List T) (y
     → AllZip R xs ys → AllZip R (drop n xs) (drop n ys)
 AllZip-drop R zero xs ys zipped = zipped
 AllZip-drop R (suc n) [] [] zipped = zipped
-AllZip-drop R (suc n) [] (y ∷ ys) zipped = absurd zipped
-AllZip-drop R (suc n) (x ∷ xs) [] zipped = absurd zipped
 AllZip-drop R (suc n) (x ∷ xs) (y ∷ ys) zipped = AllZip-drop R n xs ys zipped.1
+AllZip-drop R (suc n) _ _ zipped = absurd zipped
 
 pub AllZip-append : {T U : Type 0} (R : T → U → Type 0) (xs others : List T) (ys more : List U)
     → AllZip R xs ys → AllZip R others more → AllZip R (xs ++ others) (ys ++ more)
 AllZip-append R [] others [] more zipped rest = rest
-AllZip-append R [] others (y ∷ ys) more zipped rest = absurd zipped
-AllZip-append R (x ∷ xs) others [] more zipped rest = absurd zipped
 AllZip-append R (x ∷ xs) others (y ∷ ys) more zipped rest =
     (zipped.0, AllZip-append R xs others ys more zipped.1 rest)
+AllZip-append R _ others _ more zipped rest = absurd zipped
 
--- what stands in both lists or in none
-pub AllZip-if : {T U : Type 0} (R : T → U → Type 0) (b c : Bool) → b ≡ c → (xs others : List T)
-    (ys more : List U) → AllZip R (xs ++ others) (ys ++ more) → AllZip R others more
-    → AllZip R (if b then xs ++ others else others) (if c then ys ++ more else more)
-AllZip-if R true true same xs others ys more with without = with
-AllZip-if R false false same xs others ys more with without = without
-AllZip-if R true false same xs others ys more with without = absurd (true≢false same)
-AllZip-if R false true same xs others ys more with without = absurd (true≢false (sym same))
+-- one of two lists, on both sides
+pub AllZip-if : {T U : Type 0} (R : T → U → Type 0) (b : Bool) (xs others : List T)
+    (ys more : List U) → AllZip R xs ys → AllZip R others more
+    → AllZip R (if b then xs else others) (if b then ys else more)
+AllZip-if R true xs others ys more here rest = here
+AllZip-if R false xs others ys more here rest = rest
 
 module _ {T U : Type 0} (R : T → U → Type 0) where
   mutual
@@ -64,17 +59,11 @@ SameTests {T} {U} R f g = (x : Tree T) (y : Tree U) → Alike R x y → f x ≡ 
 module _ {T U : Type 0} (R : T → U → Type 0) where
   pub same_functions : SameTests R is_function is_function
   same_functions _ _ (Alike.leaf x y related) = refl
-  same_functions _ _ (Alike.literal truth) = refl
-  same_functions _ _ (Alike.all xs ys each) = refl
-  same_functions _ _ (Alike.any xs ys each) = refl
-  same_functions _ _ (Alike.not x y alike) = refl
+  same_functions _ _ _ = refl
 
   pub same_leaves : SameTests R is_leaf is_leaf
   same_leaves _ _ (Alike.leaf x y related) = refl
-  same_leaves _ _ (Alike.literal truth) = refl
-  same_leaves _ _ (Alike.all xs ys each) = refl
-  same_leaves _ _ (Alike.any xs ys each) = refl
-  same_leaves _ _ (Alike.not x y alike) = refl
+  same_leaves _ _ _ = refl
 
   mutual
     -- they ask alike
@@ -94,17 +83,9 @@ module _ {T U : Type 0} (R : T → U → Type 0) where
         → AllZip R (asked_by f xs) (asked_by g ys)
     asked_by-alike f g same _ _ AlikeEach.none = tt
     asked_by-alike f g same _ _ (AlikeEach.more x y xs ys first rest) =
-        chosen (f x) (g y) (same x y first) (asked-alike x y first)
-        (asked_by-alike f g same xs ys rest)
-      where
-        chosen : (b c : Bool) → b ≡ c → AllZip R (asked x) (asked y)
-            → AllZip R (asked_by f xs) (asked_by g ys)
-            → AllZip R ((if b then asked x else []) ++ asked_by f xs)
-            ((if c then asked y else []) ++ asked_by g ys)
-        chosen true true is here others = AllZip-append R _ _ _ _ here others
-        chosen false false is here others = others
-        chosen true false is here others = absurd (true≢false is)
-        chosen false true is here others = absurd (true≢false (sym is))
+        rw (same x y first) (AllZip-append R _ _ _ _
+        (AllZip-if R (g y) (asked x) [] (asked y) [] (asked-alike x y first) tt)
+        (asked_by-alike f g same xs ys rest))
 
   pub length-asked : (x : Tree T) (y : Tree U) → Alike R x y → length (asked y) ≡ length (asked x)
   length-asked x y alike = AllZip-long R (asked x) (asked y) (asked-alike x y alike)
@@ -119,9 +100,8 @@ module _ {T U : Type 0} (R : T → U → Type 0) (one : T) (other : U) (related 
   first-alike : (xs : List T) (ys : List U) → AllZip R xs ys
       → R (first_or one xs) (first_or other ys)
   first-alike [] [] zipped = related
-  first-alike [] (y ∷ ys) zipped = absurd zipped
-  first-alike (x ∷ xs) [] zipped = absurd zipped
   first-alike (x ∷ xs) (y ∷ ys) zipped = zipped.0
+  first-alike _ _ zipped = absurd zipped
 
   mutual
     pub answered-alike : {X : Type 0} (tree : Tree X) (xs : List T) (ys : List U) → AllZip R xs ys
@@ -141,9 +121,6 @@ module _ {T U : Type 0} (R : T → U → Type 0) (one : T) (other : U) (related 
     answered_each-alike (Trees.more (Tree.leaf x) trees) xs others ys further inner own =
         AlikeEach.more _ _ _ _ (answered-alike (Tree.leaf x) others further own)
         (answered_each-alike trees xs _ ys _ inner (AllZip-drop R 1 others further own))
-    answered_each-alike (Trees.more (Tree.literal truth) trees) xs others ys further inner own =
-        AlikeEach.more _ _ _ _ (Alike.literal truth)
-        (answered_each-alike trees xs others ys further inner own)
     answered_each-alike (Trees.more tree trees) xs others ys further inner own =
         AlikeEach.more _ _ _ _ (answered-alike tree xs ys inner)
         (answered_each-alike trees _ others _ further
@@ -168,8 +145,6 @@ mutual
   answered_each-shape otherwise (Trees.more (Tree.leaf x) trees) inner own =
       AlikeEach.more _ _ _ _ (answered-shape otherwise (Tree.leaf x) own)
       (answered_each-shape otherwise trees _ _)
-  answered_each-shape otherwise (Trees.more (Tree.literal truth) trees) inner own =
-      AlikeEach.more _ _ _ _ (Alike.literal truth) (answered_each-shape otherwise trees _ _)
   answered_each-shape otherwise (Trees.more tree trees) inner own =
       AlikeEach.more _ _ _ _ (answered-shape otherwise tree inner)
       (answered_each-shape otherwise trees _ _)

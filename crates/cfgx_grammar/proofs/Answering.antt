@@ -1,8 +1,9 @@
 -- What the parser answers for the one token list of a text, the grammar answers for the text.
-use Rattle.std.proofs.Common.{◌≡◌, ◌⊎◌, inl, inr, ℕ, List, [], ◌∷◌, length, Some, None, Result, Ok}
-use Rattle.std.proofs.Common.{Err, sym, refl, ap, ◌∙◌, subst}
+use Rattle.std.proofs.Common.{◌≡◌, ◌⊎◌, inl, inr, ℕ, List, length, Some, Result, Ok, Err, sym, refl}
+use Rattle.std.proofs.Common.{ap, ◌∙◌, subst}
 use Rattle.cfgx_syntax.specs.Items.{Ending, AreItems, HasOneTokenList, lexical}
 use Rattle.cfgx_syntax.specs.Error.{Refusal}
+use Rattle.cfgx_syntax.proofs.TokenList.{ItemsFrom-same}
 use Rattle.cfgx_grammar.specs.Question.{Question}
 use Rattle.cfgx_grammar.specs.Tree.{Tree}
 use Rattle.cfgx_grammar.specs.Grammar.{IsTree, HasTree}
@@ -11,12 +12,10 @@ use Rattle.cfgx_grammar.specs.Answer.{HasOneTree, HasNoTree, HasOneFault, HasNoF
 use Rattle.cfgx_grammar.specs.Answer.{IsRefused}
 use Rattle.cfgx_grammar.specs.parsing.State.{Builder, State, initial}
 use Rattle.cfgx_grammar.specs.parsing.Step.{and_then, step_each, conclude, ended_as, answer_from}
-use Rattle.cfgx_grammar.proofs.accepted.Steps.{tokens_of, ran, IsTree-accepted}
-use Rattle.cfgx_grammar.proofs.faults.Steps.{EndAgrees}
-use Rattle.cfgx_grammar.proofs.faults.Whole.{whole_agrees}
-use Rattle.cfgx_grammar.proofs.spelled.Items.{Laws}
-use Rattle.cfgx_grammar.proofs.spelled.Trees.{tree_builder, tree_laws, tree_built}
-use Rattle.cfgx_grammar.proofs.spelled.Whole.{Finds, Finds-tree}
+use Rattle.cfgx_grammar.proofs.accepted.{tokens_of, ran, IsTree-accepted}
+use Rattle.cfgx_grammar.proofs.faults.Steps.{EndAgrees, whole_agrees}
+use Rattle.cfgx_grammar.proofs.spelled.{Laws, tree_builder, tree_laws, tree_built, Finds}
+use Rattle.cfgx_grammar.proofs.spelled.{Finds-tree}
 
 -- every builder keeps these
 no_laws : {W M L : Type 0} (builder : Builder W M L) → Laws builder
@@ -77,28 +76,28 @@ module _ {W M L : Type 0} {builder : Builder W M L} (text : List ℕ)
   HasNoTree-refused : (refusal : Refusal) → answer ≡ Err refusal → HasNoTree text
   HasNoTree-refused refusal e tree has =
       let f = FindsTree-tree (no_laws builder) tree has in
-      let never = sym f.answers ∙ e in absurd (cc)
+      absurd (cc)
 
   answered : (r : Result (State builder) Refusal) → answer ≡ r
       → EndAgrees r (first_fault text one.items one.ending)
-  answered r e = subst (λ a. EndAgrees a (first_fault text one.items one.ending)) e
-      (whole_agrees builder text one.items one.ending)
+  answered r e = rw e at (whole_agrees builder text one.items one.ending)
+
+-- the tree of a text is one: it is what the parser builds that builds the tree
+pub same_tree : (text : List ℕ) (tree other : Tree Question) → HasTree text tree
+    → HasTree text other → other ≡ tree
+same_tree text tree other has its =
+    let same = ItemsFrom-same text 0 has.items its.items _ _ has.are_items its.are_items in
+    let f = Finds-tree tree_laws (length text) has.items tree has.spelled in
+    let g = Finds-tree tree_laws (length text) has.items other
+    (subst (λ l. IsTree (tokens_of l) other) same.0 its.spelled) in
+    let read : Ok g.read ≡ Ok f.read = sym g.runs ∙ f.runs in
+    let built : g.written ≡ f.written = cc in
+    cc (tree_built _ _ other g.builds, tree_built _ _ tree f.builds, built)
 
 module _ (text : List ℕ) (one : HasOneTokenList text) where
-  -- the tree of a text is one: it is what the parser builds that builds the tree
   pub HasOneTree-tree : (tree : Tree Question) → HasTree text tree → HasOneTree text
-  HasOneTree-tree tree has = record {
-    tree = tree;
-    has_tree = has;
-    only = λ other its.
-        let f = FindsTree-tree text one tree_laws tree has in
-        let g = FindsTree-tree text one tree_laws other its in
-        let same : Ok g.found.whole ≡ Ok f.found.whole = sym g.answers ∙ f.answers in
-        let built : g.found.written ≡ f.found.written = cc in
-        let trees : other ∷ [] ≡ tree ∷ [] = sym (tree_built _ _ other g.found.builds)
-        ∙ built ∙ tree_built _ _ tree f.found.builds in
-        cc;
-  }
+  HasOneTree-tree tree has =
+      record { tree = tree; has_tree = has; only = λ other its. same_tree text tree other has its }
 
   -- the first fault of the text is what the parser answers
   fault_shown : (fault : Refusal) → HasFault text fault
@@ -112,23 +111,17 @@ module _ {W M L : Type 0} {builder : Builder W M L} (text : List ℕ)
     (one : HasOneTokenList text) where
   HasNoFault-accepted : (u : State builder) → answer text one ≡ Ok u → HasNoFault text
   HasNoFault-accepted u e fault has =
-      let never : None ≡ Some fault =
-      sym (answered text one (Ok u) e) ∙ fault_shown text one fault has in
-      absurd (cc)
+      absurd (cc (answered text one (Ok u) e, fault_shown text one fault has))
 
   HasOneFault-refused : (refusal : Refusal) → answer {builder = builder} text one ≡ Err refusal
       → HasOneFault text refusal
-  HasOneFault-refused refusal e = record {
-    has_fault = record {
-      items = one.items;
-      ending = one.ending;
-      are_items = one.are;
-      shown = answered text one (Err refusal) e;
-    };
-    only = λ other has.
-        let same : Some other ≡ Some refusal =
-        sym (fault_shown text one other has) ∙ answered text one (Err refusal) e in cc;
-  }
+  HasOneFault-refused refusal e =
+      let shown = answered text one (Err refusal) e in
+      record {
+        has_fault =
+            record { items = one.items; ending = one.ending; are_items = one.are; shown = shown };
+        only = λ other has. cc (fault_shown text one other has, shown);
+      }
 
   pub IsAccepted-accepted : (u : State builder) → answer text one ≡ Ok u → IsAccepted text
   IsAccepted-accepted u e =

@@ -1,6 +1,5 @@
 -- The questions of a function are those of its arranged members.
-use Rattle.std.proofs.Common.{◌≡◌, Bool, true, false, List, [], ◌++◌, sym, refl, ap, ◌∙◌}
-use Rattle.std.proofs.Common.{append_assoc}
+use Rattle.std.proofs.Common.{◌≡◌, Bool, true, false, List, [], ◌++◌, refl, ap, append_assoc}
 use Rattle.std.specs.Prelude.{if◌then◌else◌}
 use Rattle.cfgx_grammar.specs.Question.{Question}
 use Rattle.cfgx_grammar.specs.Tree.{Tree, Trees, is_function, is_leaf, only, followed_by, arranged}
@@ -10,8 +9,7 @@ asked_each-followed_by : (trees others : Trees Question) → asked_each (followe
     asked_each trees ++ asked_each others
 asked_each-followed_by Trees.none others = refl
 asked_each-followed_by (Trees.more tree trees) others =
-    ap (λ l. asked tree ++ l) (asked_each-followed_by trees others)
-    ∙ sym (append_assoc (asked tree) (asked_each trees) (asked_each others))
+    rw (asked_each-followed_by trees others, append_assoc) refl
 
 asked_each-kept : (b : Bool) (tree : Tree Question) (kept : Trees Question)
     (rest : List Question) → asked_each kept ≡ rest
@@ -28,6 +26,4 @@ asked_each-only test (Trees.more tree trees) = asked_each-kept (test tree) tree 
 pub asked_each-arranged : (trees : Trees Question) → asked_by is_function trees
     ++ asked_by is_leaf trees ≡ asked_each (arranged trees)
 asked_each-arranged trees =
-    sym (asked_each-followed_by (only is_function trees) (only is_leaf trees)
-    ∙ ap (λ l. l ++ asked_each (only is_leaf trees)) (asked_each-only is_function trees)
-    ∙ ap (λ l. asked_by is_function trees ++ l) (asked_each-only is_leaf trees))
+    rw (asked_each-followed_by, asked_each-only is_function, asked_each-only is_leaf) refl

@@ -1,6 +1,5 @@
 -- A key by whether it begins with `target_`.
-use Rattle.std.proofs.Common.{◌≡◌, true, ℕ, List, ◌++◌, drop, nat_eq, Option}
-use Rattle.std.proofs.Common.{refl, ap, ◌∙◌}
+use Rattle.std.proofs.Common.{◌≡◌, true, ℕ, List, ◌++◌, drop, nat_eq, Option, refl, ap, ◌∙◌}
 use Rattle.std.specs.Prelude.{codes}
 use Rattle.std.specs.List.{starts_with}
 use Rattle.std.proofs.lemmas.List.{drop_at}

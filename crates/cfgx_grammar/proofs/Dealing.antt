@@ -1,12 +1,12 @@
 -- Answers that are dealt out to a tree are what the answered tree asks.
-use Rattle.std.proofs.Common.{◌≡◌, ℕ, zero, suc, ◌+◌, ◌≤◌, List, [], ◌∷◌, ◌++◌, length, take, drop}
-use Rattle.std.proofs.Common.{refl, sym, ap, ◌∙◌, arith, append_assoc, length-append, length-drop}
-use Rattle.std.proofs.Common.{drop_at}
+use Rattle.std.proofs.Common.{◌≡◌, ◌≤◌, List, [], ◌∷◌, ◌++◌, length, take, refl, sym, ap, ◌∙◌}
+use Rattle.std.proofs.Common.{arith, append_assoc, length-append, length-drop, drop_at}
+use Rattle.std.proofs.Math.Seq.{take-add}
 use Rattle.std.proofs.lemmas.List.{append-nil, take_all}
 use Rattle.cfgx_grammar.specs.Tree.{Tree, Trees, is_function, is_leaf, asked, asked_by}
 use Rattle.cfgx_grammar.specs.Fold.{behind, answered, answered_each}
-use Rattle.cfgx_grammar.proofs.Alike.{Alike, AlikeEach, SameShape, SameShapes}
-use Rattle.cfgx_grammar.proofs.Alike.{length-asked, length-asked_by}
+use Rattle.cfgx_grammar.proofs.Alike.{Alike, AlikeEach, SameShape, SameShapes, length-asked}
+use Rattle.cfgx_grammar.proofs.Alike.{length-asked_by}
 
 -- What a tree asks, dealt out to a tree of its shape, makes it again.
 module _ {X T : Type 0} (otherwise : T) where
@@ -22,12 +22,9 @@ module _ {X T : Type 0} (otherwise : T) where
         → Trees.more (answered otherwise tree ((asked answer ++ inner) ++ rest))
         (answered_each otherwise trees (behind (asked tree) ((asked answer ++ inner) ++ rest)) own)
         ≡ Trees.more answer answers
-    function_first many here own others = rw (
-      append_assoc (asked answer) inner rest,
-      here (inner ++ rest),
-      drop_at (asked answer) (inner ++ rest) (length (asked tree)) many,
-      others,
-    ) refl
+    function_first many here own others =
+        let second = drop_at (asked answer) (inner ++ rest) (length (asked tree)) many in
+        rw (append_assoc, here (inner ++ rest), second, others) refl
 
   -- the members of a list, whatever comes behind
   abbrev Remade : Trees X → Trees T → Type 0
@@ -42,10 +39,8 @@ module _ {X T : Type 0} (otherwise : T) where
   list_front trees answers many remade more =
       let inner = asked_by is_function answers in
       let own = asked_by is_leaf answers in
-      rw (
-        append_assoc inner own more,
-        drop_at inner (own ++ more) (length (asked_by is_function trees)) many,
-      ) (remade (own ++ more) more)
+      let second = drop_at inner (own ++ more) (length (asked_by is_function trees)) many in
+      rw (append_assoc, second) (remade (own ++ more) more)
 
   mutual
     answered-front : (tree : Tree X) (answer : Tree T) → SameShape tree answer → (more : List T)
@@ -65,19 +60,8 @@ module _ {X T : Type 0} (otherwise : T) where
     answered_each-front _ _ AlikeEach.none inner own = refl
     answered_each-front _ _ (AlikeEach.more _ _ xs ys (Alike.leaf x y related) rest) inner own =
         ap (Trees.more (Tree.leaf y)) (answered_each-front xs ys rest inner own)
-    answered_each-front _ _ (AlikeEach.more _ _ xs ys (Alike.literal truth) rest) inner own =
-        ap (Trees.more (Tree.literal truth)) (answered_each-front xs ys rest inner own)
-    answered_each-front _ _ (AlikeEach.more x y xs ys (Alike.all us vs each) rest) inner own =
-        function_first (Tree.all us) (Tree.all vs) xs ys _ inner
-        (length-asked Any _ _ (Alike.all us vs each)) (answered-front _ _ (Alike.all us vs each)) _
-        (answered_each-front xs ys rest inner own)
-    answered_each-front _ _ (AlikeEach.more x y xs ys (Alike.any us vs each) rest) inner own =
-        function_first (Tree.any us) (Tree.any vs) xs ys _ inner
-        (length-asked Any _ _ (Alike.any us vs each)) (answered-front _ _ (Alike.any us vs each)) _
-        (answered_each-front xs ys rest inner own)
-    answered_each-front _ _ (AlikeEach.more x y xs ys (Alike.not u v alike) rest) inner own =
-        function_first (Tree.not u) (Tree.not v) xs ys _ inner
-        (length-asked Any _ _ (Alike.not u v alike)) (answered-front _ _ (Alike.not u v alike)) _
+    answered_each-front _ _ (AlikeEach.more x y xs ys alike rest) inner own =
+        function_first x y xs ys _ inner (length-asked Any x y alike) (answered-front x y alike) _
         (answered_each-front xs ys rest inner own)
 
   pub answered-asked : (tree : Tree X) (answer : Tree T) → SameShape tree answer
@@ -88,29 +72,13 @@ module _ {X T : Type 0} (otherwise : T) where
 
 -- And an answered tree asks the answers that it took.
 
-take-none : {T : Type 0} (n : ℕ) → take n [] ≡ take {A = T} 0 []
-take-none zero = refl
-take-none (suc n) = refl
-
-take-both : {T : Type 0} (n m : ℕ) (xs : List T) → take n xs ++ take m (drop n xs) ≡ take (n + m) xs
-take-both zero m xs =
-    let none : 0 + m ≡ m = omega arith in
-    ap (λ n. take n xs) (sym none)
-take-both (suc n) m [] =
-    let one : suc n + m ≡ suc (n + m) = omega arith in
-    rw one (take-none m)
-take-both (suc n) m (x ∷ xs) =
-    let one : suc n + m ≡ suc (n + m) = omega arith in
-    rw one (ap (λ l. x ∷ l) (take-both n m xs))
-
 -- two parts of what is asked, one after another
 taken_both : {X T : Type 0} (first second : List X) (answers these those : List T)
     → these ≡ take (length first) answers
     → those ≡ take (length second) (behind first answers)
     → these ++ those ≡ take (length (first ++ second)) answers
 taken_both first second answers these those these_are those_are =
-    rw (these_are, those_are, length-append first second)
-    (take-both (length first) (length second) answers)
+    rw (these_are, those_are, length-append first second, take-add (length first)) refl
 
 -- enough is left for the second part
 enough_behind : {X T : Type 0} (first second : List X) (answers : List T)
@@ -163,16 +131,12 @@ module _ {X T : Type 0} (otherwise : T) where
     asked_each-taken (Trees.more (Tree.leaf x) trees) inner (answer ∷ own) enough some =
         let others = asked_each-taken trees inner own enough (omega arith) in
         (others.0, ap (λ l. answer ∷ l) others.1)
-    asked_each-taken (Trees.more (Tree.literal truth) trees) inner own enough some =
-        asked_each-taken trees inner own enough some
     asked_each-taken (Trees.more tree trees) inner own enough some =
         let rest = asked_by is_function trees in
         let others = asked_each-taken trees (behind (asked tree) inner) own
-        (enough_behind (asked tree) rest inner enough) some in (
-          taken_both (asked tree) rest inner _ _
-              (asked-taken tree inner (enough_first (asked tree) rest inner enough)) others.0,
-          others.1,
-        )
+        (enough_behind (asked tree) rest inner enough) some in
+        let first = asked-taken tree inner (enough_first (asked tree) rest inner enough) in
+        (taken_both (asked tree) rest inner _ _ first others.0, others.1)
 
   pub asked-answered : (tree : Tree X) (answers : List T)
       → length answers ≡ length (asked tree) → asked (answered otherwise tree answers) ≡ answers

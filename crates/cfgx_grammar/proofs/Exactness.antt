@@ -1,14 +1,14 @@
 -- Three values are exact: a value is known exactly where every filling leads to it.
-use Rattle.std.proofs.Common.{◌≡◌, Bool, true, false, not, ◌&&◌, ◌||◌, List, [], ◌∷◌, ◌++◌}
+use Rattle.std.proofs.Common.{◌≡◌, Bool, true, false, not, ◌&&◌, ◌||◌, List, [], ◌∷◌, ◌++◌, arith}
 use Rattle.std.proofs.Common.{length, Option, Some, None, sym, refl, ap, ◌∙◌, subst}
-use Rattle.std.specs.Prelude.{unwrap_or}
+use Rattle.std.proofs.lemmas.List.{map-append}
+use Rattle.std.specs.Prelude.{map, unwrap_or, if◌then◌else◌}
 use Rattle.std.specs.List.{AllZip}
-use Rattle.std.proofs.lemmas.Bool.{true≢false}
 use Rattle.cfgx_syntax.specs.Logic.{kleene_and, kleene_or, kleene_not}
 use Rattle.cfgx_grammar.specs.Tree.{Tree, Trees, is_function, is_leaf, asked}
 use Rattle.cfgx_grammar.specs.Fold.{Operations, from_last, value_of, values_by, answered, fold}
-use Rattle.cfgx_grammar.specs.Filling.{two_valued, three_valued, Agrees, IsFilling, IsExact}
-use Rattle.cfgx_grammar.specs.Filling.{filled, filled_each, polar}
+use Rattle.cfgx_grammar.specs.Filling.{two_valued, three_valued, Agrees, IsFilling, IsExact, filled}
+use Rattle.cfgx_grammar.specs.Filling.{filled_each, polar}
 use Rattle.cfgx_grammar.proofs.Alike.{Alike, AlikeEach, SameShape, SameShapes, SameTests}
 use Rattle.cfgx_grammar.proofs.Alike.{AllZip-append, AllZip-if, same_functions, same_leaves}
 use Rattle.cfgx_grammar.proofs.Alike.{asked-alike, answered-alike, answered-shape}
@@ -33,11 +33,10 @@ module _ {T U : Type 0} (one : Operations T) (other : Operations U) (R : T → U
       → (xs : List T) (ys : List U) → AllZip R xs ys
       → R (from_last join begin xs) (from_last joined begun ys)
   from_last_kept join joined begin begun base each [] [] all = base
-  from_last_kept join joined begin begun base each [] (y ∷ ys) all = absurd all
-  from_last_kept join joined begin begun base each (x ∷ xs) [] all = absurd all
   from_last_kept join joined begin begun base each (x ∷ xs) (y ∷ ys) all =
       each (from_last join begin xs) x (from_last joined begun ys) y
       (from_last_kept join joined begin begun base each xs ys all.1) all.0
+  from_last_kept join joined begin begun base each _ _ all = absurd all
 
   mutual
     -- leaves that are related make related values
@@ -64,8 +63,8 @@ module _ {T U : Type 0} (one : Operations T) (other : Operations U) (R : T → U
     values_kept f g same _ _ AlikeEach.none = tt
     values_kept f g same _ _ (AlikeEach.more x y xs ys first rest) =
         let others = values_kept f g same xs ys rest in
-        AllZip-if R (f x) (g y) (same x y first) (value_of one x ∷ []) (values_by one f xs)
-        (value_of other y ∷ []) (values_by other g ys) (value_kept x y first, others) others
+        rw (same x y first)
+        (AllZip-if R (g y) _ _ _ _ (value_kept x y first, others) others)
 
   -- and so do answers that are related
   pub fold_kept : {X : Type 0} (tree : Tree X) (xs : List T) (ys : List U) → AllZip R xs ys
@@ -77,43 +76,34 @@ module _ {T U : Type 0} (one : Operations T) (other : Operations U) (R : T → U
 
 agrees_and : (x y : Option Bool) (u v : Bool) → Agrees x u → Agrees y v
     → Agrees (kleene_and x y) (u && v)
-agrees_and (Some true) (Some true) u v p q = ap (λ b. b && v) p ∙ q
-agrees_and (Some true) (Some false) u v p q = ap (λ b. b && v) p ∙ q
 agrees_and (Some true) None u v p q = tt
-agrees_and (Some false) (Some true) u v p q = ap (λ b. b && v) p
-agrees_and (Some false) (Some false) u v p q = ap (λ b. b && v) p
-agrees_and (Some false) None u v p q = ap (λ b. b && v) p
+agrees_and (Some true) (Some true) u v p q = cc
+agrees_and (Some false) (Some true) u v p q = cc
 agrees_and None (Some true) u v p q = tt
 agrees_and None (Some false) true v p q = q
-agrees_and None (Some false) false v p q = refl
 agrees_and None None u v p q = tt
+agrees_and (Some _) _ u v p q = cc
+agrees_and None (Some false) false v p q = refl
 
 agrees_or : (x y : Option Bool) (u v : Bool) → Agrees x u → Agrees y v
     → Agrees (kleene_or x y) (u || v)
-agrees_or (Some true) (Some true) u v p q = ap (λ b. b || v) p
-agrees_or (Some true) (Some false) u v p q = ap (λ b. b || v) p
-agrees_or (Some true) None u v p q = ap (λ b. b || v) p
-agrees_or (Some false) (Some true) u v p q = ap (λ b. b || v) p ∙ q
-agrees_or (Some false) (Some false) u v p q = ap (λ b. b || v) p ∙ q
 agrees_or (Some false) None u v p q = tt
-agrees_or None (Some true) true v p q = refl
+agrees_or (Some true) (Some true) u v p q = cc
+agrees_or (Some false) (Some true) u v p q = cc
 agrees_or None (Some true) false v p q = q
 agrees_or None (Some false) u v p q = tt
 agrees_or None None u v p q = tt
+agrees_or (Some _) _ u v p q = cc
+agrees_or None (Some true) true v p q = refl
 
 agrees_not : (x : Option Bool) (u : Bool) → Agrees x u → Agrees (kleene_not x) (not u)
-agrees_not (Some true) u p = ap not p
-agrees_not (Some false) u p = ap not p
+agrees_not (Some true) u p = cc
+agrees_not (Some false) u p = cc
 agrees_not None u p = tt
 
 agreement : Preserve three_valued two_valued Agrees
-agreement = record {
-  top = refl;
-  bottom = refl;
-  and = agrees_and;
-  or = agrees_or;
-  not = agrees_not;
-}
+agreement =
+    record { top = refl; bottom = refl; and = agrees_and; or = agrees_or; not = agrees_not }
 
 -- what is known holds under every filling
 pub known_filled : {X : Type 0} (tree : Tree X) (answers : List (Option Bool))
@@ -132,95 +122,42 @@ side fill value = unwrap_or value fill
 side_joined : (fill : Bool) (x y : Option Bool)
     → ((side fill x && side fill y) ≡ side fill (kleene_and x y))
     × ((side fill x || side fill y) ≡ side fill (kleene_or x y))
-side_joined fill (Some true) (Some true) = (refl, refl)
-side_joined fill (Some true) (Some false) = (refl, refl)
-side_joined fill (Some true) None = (refl, refl)
-side_joined fill (Some false) (Some true) = (refl, refl)
-side_joined fill (Some false) (Some false) = (refl, refl)
-side_joined fill (Some false) None = (refl, refl)
-side_joined true None (Some true) = (refl, refl)
-side_joined true None (Some false) = (refl, refl)
-side_joined true None None = (refl, refl)
-side_joined false None (Some true) = (refl, refl)
-side_joined false None (Some false) = (refl, refl)
-side_joined false None None = (refl, refl)
+side_joined fill x y = (grind arith, grind arith)
 
 side_not : (fill : Bool) (x : Option Bool) → not (side (not fill) x) ≡ side fill (kleene_not x)
-side_not true (Some true) = refl
-side_not true (Some false) = refl
-side_not true None = refl
-side_not false (Some true) = refl
-side_not false (Some false) = refl
-side_not false None = refl
+side_not fill x = grind arith
+
+-- both sides tell whether a value is known
+known_sides : (x : Option Bool) (value : Bool) → side true x ≡ value → side false x ≡ value
+    → x ≡ Some value
+known_sides x value one other = grind arith
+
+unknown_sides : (x : Option Bool) → side true x ≡ true → side false x ≡ false → x ≡ None
+unknown_sides x one other = grind arith
 
 abbrev sides : Bool → List (Option Bool) → List Bool
-sides fill [] = []
-sides fill (value ∷ values) = side fill value ∷ sides fill values
+sides fill values = map (side fill) values
 
-sides-append : (fill : Bool) (xs ys : List (Option Bool))
-    → sides fill xs ++ sides fill ys ≡ sides fill (xs ++ ys)
-sides-append fill [] ys = refl
-sides-append fill (x ∷ xs) ys = ap (λ l. side fill x ∷ l) (sides-append fill xs ys)
+module _ (join : Bool → Bool → Bool) (joined : Option Bool → Option Bool → Option Bool)
+    (begin : Bool) (fill : Bool) (each : (x y : Option Bool)
+    → join (side fill x) (side fill y) ≡ side fill (joined x y)) where
+  from_last-sides : (values : List (Option Bool)) → from_last join begin (sides fill values)
+      ≡ side fill (from_last joined (Some begin) values)
+  from_last-sides [] = refl
+  from_last-sides (value ∷ values) = rw (from_last-sides values) (each _ value)
 
-all_sides : (fill : Bool) (values : List (Option Bool))
-    → from_last (λ x y. x && y) true (sides fill values)
-    ≡ side fill (from_last kleene_and (Some true) values)
-all_sides fill [] = refl
-all_sides fill (value ∷ values) = ap (λ b. b && side fill value) (all_sides fill values)
-    ∙ (side_joined fill (from_last kleene_and (Some true) values) value).0
+  list-sides : (inner own : List Bool) (these those : List (Option Bool))
+      → inner ≡ sides fill these → own ≡ sides fill those → from_last join begin (inner ++ own)
+      ≡ side fill (from_last joined (Some begin) (these ++ those))
+  list-sides inner own these those inner_are own_are =
+      rw (inner_are, own_are, ← map-append) (from_last-sides (these ++ those))
 
-any_sides : (fill : Bool) (values : List (Option Bool))
-    → from_last (λ x y. x || y) false (sides fill values)
-    ≡ side fill (from_last kleene_or (Some false) values)
-any_sides fill [] = refl
-any_sides fill (value ∷ values) = ap (λ b. b || side fill value) (any_sides fill values)
-    ∙ (side_joined fill (from_last kleene_or (Some false) values) value).1
-
--- the values of a list's members, as they are joined
-abbrev arranged_values : Trees (Option Bool) → List (Option Bool)
-arranged_values trees = values_by three_valued is_function trees
-    ++ values_by three_valued is_leaf trees
-
--- the values of its functions, and of its leaves, are sides of those in three values
-abbrev SidesOf : Bool → Trees (Option Bool) → Type 0
-SidesOf fill trees =
-    (values_by two_valued is_function (filled_each fill trees)
-    ≡ sides fill (values_by three_valued is_function trees))
-    × (values_by two_valued is_leaf (filled_each fill trees)
-    ≡ sides fill (values_by three_valued is_leaf trees))
-
-sides-both : (fill : Bool) (trees : Trees (Option Bool)) → SidesOf fill trees
-    → values_by two_valued is_function (filled_each fill trees)
-    ++ values_by two_valued is_leaf (filled_each fill trees) ≡ sides fill (arranged_values trees)
-sides-both fill trees sides_are = rw (sides_are.0, sides_are.1)
-    (sides-append fill (values_by three_valued is_function trees)
-    (values_by three_valued is_leaf trees))
-
-mutual
-  value-filled : (fill : Bool) (tree : Tree (Option Bool))
-      → value_of two_valued (filled fill tree) ≡ side fill (value_of three_valued tree)
-  value-filled fill (Tree.leaf answer) = refl
-  value-filled fill (Tree.literal true) = refl
-  value-filled fill (Tree.literal false) = refl
-  value-filled fill (Tree.all trees) = ap (from_last (λ x y. x && y) true)
-      (sides-both fill trees (values-filled fill trees)) ∙ all_sides fill (arranged_values trees)
-  value-filled fill (Tree.any trees) = ap (from_last (λ x y. x || y) false)
-      (sides-both fill trees (values-filled fill trees)) ∙ any_sides fill (arranged_values trees)
-  value-filled fill (Tree.not tree) =
-      ap not (value-filled (not fill) tree) ∙ side_not fill (value_of three_valued tree)
-
-  values-filled : (fill : Bool) (trees : Trees (Option Bool)) → SidesOf fill trees
-  values-filled fill Trees.none = (refl, refl)
-  values-filled fill (Trees.more (Tree.leaf answer) trees) =
-      let others = values-filled fill trees in
-      (others.0, ap (λ l. side fill answer ∷ l) others.1)
-  values-filled fill (Trees.more (Tree.literal truth) trees) =
-      let others = values-filled fill trees in
-      (others.0, rw (value-filled fill (Tree.literal truth), others.1) refl)
-  values-filled fill (Trees.more tree trees) =
-      let first = value-filled fill tree in
-      let others = values-filled fill trees in
-      (rw (first, others.0) refl, others.1)
+-- the members that pass a test are filled as the test says of the list before
+values-if : (fill b : Bool) (value : Bool) (known : Option Bool) (values : List Bool)
+    (others : List (Option Bool)) → value ≡ side fill known → values ≡ sides fill others
+    → (if b then value ∷ values else values) ≡ sides fill (if b then known ∷ others else others)
+values-if fill true value known values others first rest = rw (first, rest) refl
+values-if fill false value known values others first rest = rest
 
 mutual
   -- known answers stay, and a filling is of the tree's shape
@@ -237,6 +174,30 @@ mutual
   filled_each-agrees fill Trees.none = AlikeEach.none
   filled_each-agrees fill (Trees.more tree trees) =
       AlikeEach.more _ _ _ _ (filled-agrees fill tree) (filled_each-agrees fill trees)
+
+mutual
+  value-filled : (fill : Bool) (tree : Tree (Option Bool))
+      → value_of two_valued (filled fill tree) ≡ side fill (value_of three_valued tree)
+  value-filled fill (Tree.leaf answer) = refl
+  value-filled fill (Tree.literal true) = refl
+  value-filled fill (Tree.literal false) = refl
+  value-filled fill (Tree.all trees) =
+      list-sides _ _ true fill (λ x y. (side_joined fill x y).0) _ _ _ _
+      (values-filled is_function is_function (same_functions Agrees) fill trees)
+      (values-filled is_leaf is_leaf (same_leaves Agrees) fill trees)
+  value-filled fill (Tree.any trees) =
+      list-sides _ _ false fill (λ x y. (side_joined fill x y).1) _ _ _ _
+      (values-filled is_function is_function (same_functions Agrees) fill trees)
+      (values-filled is_leaf is_leaf (same_leaves Agrees) fill trees)
+  value-filled fill (Tree.not tree) =
+      ap not (value-filled (not fill) tree) ∙ side_not fill (value_of three_valued tree)
+
+  values-filled : (f : Tree (Option Bool) → Bool) (g : Tree Bool → Bool) → SameTests Agrees f g
+      → (fill : Bool) (trees : Trees (Option Bool)) → values_by two_valued g
+      (filled_each fill trees) ≡ sides fill (values_by three_valued f trees)
+  values-filled f g same fill Trees.none = refl
+  values-filled f g same fill (Trees.more tree trees) = rw (← same tree _ (filled-agrees fill tree))
+      (values-if fill (f tree) _ _ _ _ (value-filled fill tree) (values-filled f g same fill trees))
 
 module _ {X : Type 0} where
   mutual
@@ -271,40 +232,20 @@ module _ {X : Type 0} (tree : Tree X) (answers : List (Option Bool))
 
   polar_filling : (fill : Bool) → IsFilling answers (polar tree answers fill)
   polar_filling fill =
-      subst (λ l. IsFilling l (polar tree answers fill))
-      (asked-answered three_valued.top tree answers all)
-      (asked-alike Agrees given (filled fill given) (filled-agrees fill given))
-
-  known_from : (value : Bool) (found : Option Bool) → fold three_valued tree answers ≡ found
-      → ((filling : List Bool) → IsFilling answers filling
-      → fold two_valued tree filling ≡ value) → found ≡ Some value
-  known_from value (Some b) is every =
-      ap Some (sym (ap (side true) is) ∙ sym (polar_value true)
-      ∙ every (polar tree answers true) (polar_filling true))
-  known_from value None is every =
-      let above = sym (ap (side true) is) ∙ sym (polar_value true)
-      ∙ every (polar tree answers true) (polar_filling true) in
-      let below = sym (ap (side false) is) ∙ sym (polar_value false)
-      ∙ every (polar tree answers false) (polar_filling false) in
-      absurd (true≢false (above ∙ sym below))
-
-  unknown_from : (found : Option Bool) → fold three_valued tree answers ≡ found
-      → fold two_valued tree (polar tree answers true) ≡ true
-      → fold two_valued tree (polar tree answers false) ≡ false → found ≡ None
-  unknown_from None is above below = refl
-  unknown_from (Some b) is above below =
-      let one = sym above ∙ polar_value true ∙ ap (side true) is in
-      let other = sym below ∙ polar_value false ∙ ap (side false) is in
-      absurd (true≢false (one ∙ sym other))
+      rw (asked-answered three_valued.top tree answers all)
+      at (asked-alike Agrees given (filled fill given) (filled-agrees fill given))
 
   pub IsExact-fold : IsExact tree answers
   IsExact-fold = record {
     known = λ value. (
       λ is filling fills. known_filled tree answers filling value is fills,
-      λ every. known_from value (fold three_valued tree answers) refl every,
+      λ every. known_sides (fold three_valued tree answers) value
+          (sym (polar_value true) ∙ every _ (polar_filling true))
+          (sym (polar_value false) ∙ every _ (polar_filling false)),
     );
     unknown = (
       λ is. (polar_value true ∙ ap (side true) is, polar_value false ∙ ap (side false) is),
-      λ both. unknown_from (fold three_valued tree answers) refl both.0 both.1,
+      λ both. unknown_sides (fold three_valued tree answers) (sym (polar_value true) ∙ both.0)
+          (sym (polar_value false) ∙ both.1),
     );
   }

@@ -4,7 +4,6 @@ pub mod Arranging
 pub mod Classes
 pub mod Dealing
 pub mod Exactness
-pub mod Leaves
 pub mod Mapping
 pub mod Matched
 pub mod Reading

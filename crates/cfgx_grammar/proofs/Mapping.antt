@@ -1,12 +1,11 @@
 -- What a map between two logics makes of a value is the value of what it makes of the answers.
-use Rattle.std.proofs.Common.{◌≡◌, ◌∙◌, ℕ, ◌<◌, List, [], ◌∷◌, map, refl}
+use Rattle.std.proofs.Common.{◌≡◌, ℕ, ◌<◌, List, [], ◌∷◌, map, refl}
 use Rattle.std.specs.Prelude.{bit_and}
 use Rattle.std.specs.List.{AllByRecursion, AllZip}
 use Rattle.std.proofs.lemmas.Bool.Decides.{Decides-eqb}
 use Rattle.cfgx_syntax.specs.Kleene.{Planes, IsApart, lane}
-use Rattle.cfgx_syntax.proofs.Lanes.{AreApart-and, AreApart-or, AreApart-not}
-use Rattle.cfgx_syntax.proofs.Lanes.{EachLane-and, EachLane-or, EachLane-not}
-use Rattle.cfgx_syntax.proofs.Lanes.{EachLane-top, EachLane-bottom}
+use Rattle.cfgx_syntax.proofs.Lanes.{AreApart-and, AreApart-or, AreApart-not, EachLane-and}
+use Rattle.cfgx_syntax.proofs.Lanes.{EachLane-or, EachLane-not, EachLane-top, EachLane-bottom}
 use Rattle.cfgx_grammar.specs.Tree.{Tree}
 use Rattle.cfgx_grammar.specs.Fold.{Operations, fold}
 use Rattle.cfgx_grammar.specs.Filling.{three_valued}
@@ -23,12 +22,9 @@ module _ {T U : Type 0} (one : Operations T) (other : Operations U) (Holds : T �
   becomes = record {
     top = is.top;
     bottom = is.bottom;
-    and = λ x y u v p q. let both = is.and x y p.0 q.0 in
-        (both.0, both.1 ∙ (λ i. other.and (p.1 i) (q.1 i)));
-    or = λ x y u v p q. let both = is.or x y p.0 q.0 in
-        (both.0, both.1 ∙ (λ i. other.or (p.1 i) (q.1 i)));
-    not = λ x u p. let opposite = is.not x p.0 in
-        (opposite.0, opposite.1 ∙ (λ i. other.not (p.1 i)));
+    and = λ x y u v p q. let both = is.and x y p.0 q.0 in (both.0, cc (both.1, p.1, q.1));
+    or = λ x y u v p q. let both = is.or x y p.0 q.0 in (both.0, cc (both.1, p.1, q.1));
+    not = λ x u p. let opposite = is.not x p.0 in (opposite.0, cc (opposite.1, p.1));
   }
 
   each-becomes : (answers : List T) → AllByRecursion Holds answers

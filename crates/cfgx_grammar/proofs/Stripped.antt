@@ -1,11 +1,10 @@
 -- Nothing is stripped from a text that has a tree: behind the word `cfg` no `(` may stand.
-use Rattle.std.proofs.Common.{◌≡◌, ◌≢◌, ◌⊎◌, inl, inr, ⊎_elim, ℕ, ◌+◌, Bool, true, false, List, ◌∷◌}
-use Rattle.std.proofs.Common.{◌++◌, length, get_or, nat_eq, Ok, sym, refl, ap, ◌∙◌, arith}
+use Rattle.std.proofs.Common.{◌≡◌, ◌⊎◌, inl, inr, ⊎_elim, ℕ, ◌+◌, Bool, true, false, List, ◌∷◌}
+use Rattle.std.proofs.Common.{◌++◌, length, get_or, nat_eq, sym, refl, ap, ◌∙◌, arith}
 use Rattle.std.proofs.Common.{length-append}
 use Rattle.std.specs.Prelude.{codes}
 use Rattle.std.specs.List.{starts_with}
 use Rattle.std.proofs.lemmas.Slice.Eq.{starts_is}
-use Rattle.std.proofs.lemmas.Bool.{eqb-false}
 use Rattle.std.proofs.lemmas.Bool.Decides.{Decides-eqb}
 use Rattle.std.proofs.lemmas.Str.{NoCharPasses-nil}
 use Rattle.cfgx_syntax.specs.Stripping.{strip}
@@ -17,8 +16,7 @@ use Rattle.cfgx_grammar.specs.Grammar.{HasTree}
 use Rattle.cfgx_grammar.specs.parsing.State.{initial}
 use Rattle.cfgx_grammar.specs.parsing.Step.{step_each}
 use Rattle.cfgx_syntax.proofs.TokenList.{Follows-stands}
-use Rattle.cfgx_grammar.proofs.spelled.Trees.{tree_laws}
-use Rattle.cfgx_grammar.proofs.spelled.Whole.{Finds-tree}
+use Rattle.cfgx_grammar.proofs.spelled.{tree_laws, Finds-tree}
 
 -- `cfg` and `(` are the first two tokens of a text that begins with them
 abbrev word : Item
@@ -27,18 +25,12 @@ word = record { token = Token.key (codes "cfg"); start = 0; end = 3 }
 abbrev opening : Item
 opening = record { token = Token.open_paren; start = 3; end = 4 }
 
--- words that begin with other bytes are not equal
-other : {xs ys : List ℕ} → nat_eq (get_or xs 0 0) (get_or ys 0 0) ≡ false → xs ≢ ys
-other {xs} {ys} apart e =
-    eqb-false (get_or xs 0 0) (get_or ys 0 0) apart (ap (λ l. get_or l 0 0) e)
-
 is_key : IsKey (codes "cfg")
 is_key = record {
   spelled = (refl, refl);
-  not_all = other refl;
-  not_any = other refl;
-  not_not =
-      other refl;
+  not_all = λ e. omega (arith, ap (λ l. get_or l 0 0) e);
+  not_any = λ e. omega (arith, ap (λ l. get_or l 0 0) e);
+  not_not = λ e. omega (arith, ap (λ l. get_or l 0 0) e);
 }
 
 module _ (text rest : List ℕ) (is : text ≡ codes "cfg(" ++ rest) where
@@ -74,10 +66,7 @@ module _ (text rest : List ℕ) (is : text ≡ codes "cfg(" ++ rest) where
       let items : has.items ≡ word ∷ opening ∷ second.rest = first.items_are
       ∙ ap (λ l. word ∷ l) second.items_are in
       let found = Finds-tree tree_laws 0 has.items tree has.spelled in
-      let runs : step_each initial (word ∷ opening ∷ second.rest) ≡ Ok found.read =
-      ap (step_each initial)
-      (sym items) ∙ found.runs in
-      absurd (cc)
+      absurd (cc (ap (step_each initial) (sym items) ∙ found.runs))
 
 strip_by : (text : List ℕ) (b : Bool) → starts_with nat_eq text (codes "cfg(") ≡ b
     → (strip text ≡ text) ⊎ ((rest : List ℕ) × (text ≡ codes "cfg(" ++ rest))

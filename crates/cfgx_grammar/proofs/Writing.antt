@@ -1,6 +1,6 @@
 -- How writes one after another add up.
-use Rattle.std.proofs.Common.{◌≡◌, ℕ, List, ◌++◌, Option, None, Some, Result, Ok, Err, ap}
-use Rattle.std.proofs.Common.{sym, ◌∙◌, append_assoc}
+use Rattle.std.proofs.Common.{◌≡◌, ℕ, List, ◌++◌, Option, None, Some, Result, Ok, Err, ap, sym, ◌∙◌}
+use Rattle.std.proofs.Common.{append_assoc}
 use Rattle.std.specs.Io.KnownBytes.{Appends}
 use Rattle.std.specs.Prelude.{codes}
 use Rattle.cfgx_grammar.specs.Spelling.{key_and_value}
@@ -20,8 +20,7 @@ pub takes_more : {old mid new : Option (List ℕ)} {bytes between left : List �
     → Takes old mid bytes between → Takes mid new between left → Takes old new bytes left
 takes_more {old} {mid} {new} {bytes} {between} {left} first second = record {
   front = first.front ++ second.front;
-  whole = append_assoc first.front second.front left
-      ∙ ap (λ s. first.front ++ s) second.whole ∙ first.whole;
+  whole = rw (append_assoc, second.whole) first.whole;
   taken = appends_twice old mid new first.front second.front first.taken second.taken;
 }
 

@@ -1,4 +1,462 @@
 -- What the parser accepts is spelled by a tree.
-pub mod Lists
-pub mod Reads
-pub mod Steps
+use Rattle.std.proofs.Common.{◌≡◌, ℕ, suc, ◌+◌, true, List, [], ◌∷◌, ◌++◌, refl, ap, ◌∙◌, arith}
+use Rattle.std.proofs.Common.{subst, add-zero, append_assoc, ◌⊎◌, inl, inr, Option, Some, None}
+use Rattle.std.proofs.Common.{option_map, Result, Ok, sym, false, ◌==◌, Bool, map, Err, ◌-◌}
+use Rattle.std.proofs.lemmas.Bool.Decides.{Decides-eqb}
+use Rattle.std.proofs.lemmas.List.{append-nil}
+use Rattle.cfgx_syntax.specs.Token.{Token}
+use Rattle.cfgx_grammar.specs.Question.{Question, Leaf}
+use Rattle.cfgx_grammar.specs.Tree.{Tree, Trees, count}
+use Rattle.cfgx_grammar.specs.Grammar.{commas, Separates, IsItem, IsList, IsTree, leaf_tokens}
+use Rattle.cfgx_grammar.specs.Grammar.{IsLeaf}
+use Rattle.cfgx_grammar.specs.parsing.State.{Function, Open, name_of, Word, Pending, Builder, State}
+use Rattle.cfgx_grammar.specs.parsing.State.{initial}
+use Rattle.cfgx_grammar.specs.parsing.Step.{has_room, over_top, one_more, root_more, result_map}
+use Rattle.cfgx_grammar.specs.parsing.Step.{located_class, leaf_ended, ended_by, predicate_ended}
+use Rattle.cfgx_grammar.specs.parsing.Step.{new_open, and_then, opened, member_count}
+use Rattle.cfgx_grammar.specs.parsing.Step.{function_ended, closed_by, with_last, apply, step}
+use Rattle.cfgx_grammar.specs.parsing.Step.{step_each, one_root, concluded_by, conclude}
+use Rattle.std.proofs.lemmas.Bool.{false≢true}
+use Rattle.cfgx_grammar.specs.Classification.{Class, class}
+use Rattle.cfgx_grammar.specs.FirstFault.{lacks_value}
+use Rattle.cfgx_grammar.specs.LastPredicate.{class_of, word_of, with_value}
+use Rattle.cfgx_grammar.specs.Neighbours.{Kind, takes, kind_of}
+use Rattle.std.specs.Prelude.{if◌then◌else◌}
+use Rattle.cfgx_syntax.specs.Items.{Item}
+use Rattle.cfgx_syntax.specs.Error.{Refusal}
+
+-- The tree of a leaf: a predicate or a literal that stands alone.
+abbrev pub leaf_tree : Leaf → Tree Question
+leaf_tree (Leaf.predicate question) = Tree.leaf question
+leaf_tree (Leaf.literal truth) = Tree.literal truth
+
+-- it is the item that its tokens spell
+pub IsItem-leaf : (tokens : List Token) (leaf : Leaf) → IsLeaf tokens leaf
+    → IsItem tokens (leaf_tree leaf)
+IsItem-leaf tokens (Leaf.predicate question) is = is
+IsItem-leaf tokens (Leaf.literal truth) is = is
+
+-- What completes the open lists of the parser, as it is read from the end of a text: one member in
+-- front of another.
+
+-- which commas may come in front of the members that are left: none, any number, or, behind a
+-- member, those that separate it from them
+abbrev pub NoComma : ℕ → Trees Question → Type 0
+NoComma n trees = n ≡ 0
+
+abbrev pub AnyCommas : ℕ → Trees Question → Type 0
+AnyCommas n trees = Unit {0}
+
+-- the tokens of one tree as a list are those of the tree alone
+pub one_tree : (tokens : List Token) (trees : Trees Question) → count trees ≡ 1
+    → IsList tokens trees → (tree : Tree Question) × IsTree tokens tree
+one_tree tokens Trees.none one list = absurd (omega arith)
+one_tree tokens (Trees.more tree Trees.none) one (item, n, rest, are, some, spelled, end) =
+    (tree, (item, n, rw (are, end, append-nil (commas n)) refl, spelled))
+one_tree tokens (Trees.more tree (Trees.more second trees)) one list = absurd (omega arith)
+
+separated : (n : ℕ) (trees : Trees Question) → Separates (suc n) trees
+separated n Trees.none = tt
+separated n (Trees.more tree trees) = omega arith
+
+module _ {M : Type 0} where
+  -- The tokens close the open functions, the innermost of which has so many more members: behind
+  -- each `)` come commas and the members that are left of the list around it. At the root stands
+  -- one item.
+  abbrev pub Ends : List (Open M) → ℕ → ℕ → List Token → Type 0
+  Ends [] roots members tokens = (roots + members ≡ 1) × (tokens ≡ [])
+  Ends (top ∷ rest) roots members tokens =
+      (has_room top.function (top.members + members) ≡ true) × (n : ℕ) × (others : List Token)
+      × (trees : Trees Question) × (after : List Token)
+      × (tokens ≡ Token.close_paren ∷ (commas n ++ (others ++ after))) × Separates n trees
+      × IsList others trees × Ends rest roots (1 + count trees) after
+
+  -- the tokens are commas, members of the innermost list, and what closes it, where so many members
+  -- have no place in the stack yet
+  abbrev pub Rest : (ℕ → Trees Question → Type 0) → List (Open M) → ℕ → ℕ → List Token → Type 0
+  Rest May stack roots members tokens = (n : ℕ) × (others : List Token)
+      × (trees : Trees Question) × (after : List Token)
+      × (tokens ≡ commas n ++ (others ++ after)) × May n trees × IsList others trees
+      × Ends stack roots (members + count trees) after
+
+  pub Rest-any : (May : ℕ → Trees Question → Type 0) (stack : List (Open M)) (roots members : ℕ)
+      (tokens : List Token) → Rest May stack roots members tokens
+      → Rest AnyCommas stack roots members tokens
+  Rest-any May stack roots members tokens (n, others, trees, after, are, may, list, ends) =
+      (n, others, trees, after, are, tt, list, ends)
+
+  -- a member that has been counted
+  Ends-more : (stack : List (Open M)) (roots n m : ℕ) (tokens : List Token) → m ≡ suc n
+      → Ends (over_top one_more stack) (root_more stack roots) n tokens → Ends stack roots m tokens
+  Ends-more [] roots n m tokens is (one, none) = (omega arith, none)
+  Ends-more (top ∷ rest) roots n m tokens is ends =
+      let sum : top.members + 1 + n ≡ top.members + m = omega arith in rw sum at ends
+
+  pub Rest-more : (May : ℕ → Trees Question → Type 0) (stack : List (Open M)) (roots : ℕ)
+      (tokens : List Token)
+      → Rest May (over_top one_more stack) (root_more stack roots) 0 tokens
+      → Rest May stack roots 1 tokens
+  Rest-more May stack roots tokens (n, others, trees, after, are, may, list, ends) =
+      (n, others, trees, after, are, may, list, Ends-more stack roots _ _ after (omega arith) ends)
+
+  -- no member is left
+  pub Rest-none : (May : ℕ → Trees Question → Type 0) (stack : List (Open M)) (roots members : ℕ)
+      (tokens : List Token) → May 0 Trees.none → Ends stack roots members tokens
+      → Rest May stack roots members tokens
+  Rest-none May stack roots members tokens may ends =
+      (0, [], Trees.none, tokens, refl, may, refl, rw (add-zero members) ends)
+
+  -- a comma, and a member, in front of what is left
+  pub Rest-comma : (stack : List (Open M)) (roots members : ℕ) (tokens : List Token)
+      → Rest AnyCommas stack roots members tokens
+      → Rest Separates stack roots members (Token.comma ∷ tokens)
+  Rest-comma stack roots members tokens (n, others, trees, after, are, any, list, ends) =
+      (suc n, others, trees, after, ap (λ l. Token.comma ∷ l) are, separated n trees, list, ends)
+
+  pub Rest-item : (stack : List (Open M)) (roots : ℕ) (item tokens : List Token)
+      (tree : Tree Question) → IsItem item tree → Rest Separates stack roots 1 tokens
+      → Rest NoComma stack roots 0 (item ++ tokens)
+  Rest-item stack roots item tokens tree is (n, others, trees, after, are, may, list, ends) =
+      let sum : 1 + count trees ≡ 0 + suc (count trees) = omega arith in
+      let all : item ++ tokens ≡ (item ++ (commas n ++ others)) ++ after =
+      rw are (simp append_assoc) in
+      let left = subst (λ m. Ends stack roots m after) sum ends in
+      (0, _, Trees.more tree trees, after, all, refl, (item, n, others, refl, may, is, list), left)
+
+  -- a call in front of what is left behind it
+  pub Rest-call : (function : Function) (begun : Open M) (stack : List (Open M)) (roots : ℕ)
+      (tokens : List Token) → begun.function ≡ function → begun.members ≡ 0
+      → Rest NoComma (begun ∷ stack) roots 0 tokens
+      → Rest NoComma stack roots 0 (name_of function ∷ Token.open_paren ∷ tokens)
+  Rest-call function begun stack roots tokens is none
+      (n, inner, trees, _, these, bare, list, (room, m, others, left, after, are, may, rest, ends))
+      =
+      let one : begun.members + (0 + count trees) ≡ count trees = omega arith in
+      let (tree, spelled) = called function inner trees (rw (one, is) at room) list in
+      let behind = commas m ++ (others ++ after) in
+      let tokens_are : tokens ≡ (inner ++ Token.close_paren ∷ []) ++ behind =
+      these ∙ rw (bare, are) (simp append_assoc) in
+      rw tokens_are (Rest-item stack roots _ behind tree spelled
+      (m, others, left, after, refl, may, rest, ends))
+    where
+      called : (function : Function) (list : List Token) (trees : Trees Question)
+          → has_room function (count trees) ≡ true → IsList list trees
+          → (tree : Tree Question)
+          × IsItem (name_of function ∷ Token.open_paren ∷ (list ++ Token.close_paren ∷ [])) tree
+      called Function.all list trees room is = (Tree.all trees, (list, refl, is))
+      called Function.any list trees room is = (Tree.any trees, (list, refl, is))
+      called Function.not list trees room is =
+          let (tree, (item, n, are, spelled)) = one_tree list trees
+          ((Decides-eqb (count trees) 1).0 room) is in
+          let tokens = ap (λ l. Token.not ∷ Token.open_paren ∷ (l ++ Token.close_paren ∷ [])) are in
+          (Tree.not tree, (item, n, tokens, spelled))
+
+-- What the predicate that ends leaves, and what completes a state by its last token.
+
+pub ok_same : {A E : Type 0} (s t : A) → ◌≡◌ {A = Result A E} (Ok s) (Ok t) → s ≡ t
+ok_same s t e = cc
+
+module _ {W M L : Type 0} {builder : Builder W M L} where
+  -- what comes of a predicate that ends well
+  pub record LeafEnds (s t : State builder) (p : Pending) : Type 0 where
+    pub leaf : Leaf
+    pub written : L
+    pub class_is : class_of p ≡ Class.is leaf
+    pub ended : t ≡ leaf_ended s written
+
+  leaf_ends_as : (s t : State builder) (p : Pending) (c : Class) → class_of p ≡ c
+      → result_map (leaf_ended s) (located_class builder p c) ≡ Ok t → LeafEnds s t p
+  leaf_ends_as s t p (Class.is leaf) is ends =
+      record { leaf = leaf; written = builder.located p leaf; class_is = is; ended = (cc) }
+  leaf_ends_as s t p (Class.refused cause part) is ends = absurd (cc)
+
+  pub LeafEnds-ended : (s t : State builder) (p : Pending) → s.pending ≡ Some p
+      → predicate_ended s ≡ Ok t → LeafEnds s t p
+  LeafEnds-ended s t p pending ends =
+      leaf_ends_as s t p (class_of p) refl (ap (ended_by s) (sym pending) ∙ ends)
+
+  -- nothing ends where nothing pends
+  pub same_ended : (s t : State builder) → s.pending ≡ None → predicate_ended s ≡ Ok t → s ≡ t
+  same_ended s t none ends = ok_same s t (ap (ended_by s) (sym none) ∙ ends)
+
+  pub ended_none : (s t : State builder) (pending : Option Pending) → s.pending ≡ pending
+      → predicate_ended s ≡ Ok t → t.pending ≡ None
+  ended_none s t None is ends = rw (← same_ended s t is ends) is
+  ended_none s t (Some p) is ends = rw ((LeafEnds-ended s t p is ends).ended) refl
+
+  abbrev pub RestOf : (ℕ → Trees Question → Type 0) → State builder → ℕ → List Token → Type 0
+  RestOf May s members tokens = Rest May s.stack s.roots members tokens
+
+  -- tokens that begin with a predicate of this key, which the stack does not count yet
+  abbrev pub LeafRest : State builder → List ℕ → List Token → Type 0
+  LeafRest s key tokens =
+      (value : Option (List ℕ)) × (leaf : Leaf) × (others : List Token)
+      × (tokens ≡ leaf_tokens key value ++ others) × (class key value ≡ Class.is leaf)
+      × RestOf Separates s 1 others
+
+  -- the tokens complete what a state has read, by the last token that it read
+  abbrev pub Completes : Option Token → State builder → List Token → Type 0
+  Completes None s tokens = s.pending ≡ None → RestOf NoComma s 0 tokens
+  Completes (Some Token.open_paren) s tokens = s.pending ≡ None → RestOf NoComma s 0 tokens
+  Completes (Some Token.comma) s tokens = s.pending ≡ None → RestOf AnyCommas s 0 tokens
+  Completes (Some Token.close_paren) s tokens = s.pending ≡ None → RestOf Separates s 0 tokens
+  Completes (Some (Token.key _)) s tokens = (key : Word)
+      → s.pending ≡ Some (record { key = key; value = None })
+      → LeafRest s key.text (Token.key key.text ∷ tokens)
+  Completes (Some Token.equals) s tokens = (key : Word)
+      → s.pending ≡ Some (record { key = key; value = None })
+      → LeafRest s key.text (Token.key key.text ∷ Token.equals ∷ tokens)
+  Completes (Some (Token.value _)) s tokens = (key value : Word)
+      → s.pending ≡ Some (record { key = key; value = Some value })
+      → LeafRest s key.text (leaf_tokens key.text (Some value.text) ++ tokens)
+  Completes _ s tokens = (top : Open M) (rest : List (Open M)) → s.stack ≡ top ∷ rest
+      → s.pending ≡ None → (others : List Token) × (tokens ≡ Token.open_paren ∷ others)
+      × RestOf NoComma s 0 others
+
+  -- Where an item may come, so may one with no comma in front of it.
+  pub Completes-item : (last : Option Token) (s : State builder) (tokens : List Token)
+      → takes last Kind.item ≡ true → (s.pending ≡ None → RestOf NoComma s 0 tokens)
+      → Completes last s tokens
+  Completes-item None s tokens may r = r
+  Completes-item (Some Token.open_paren) s tokens may r = r
+  Completes-item (Some Token.comma) s tokens may r =
+      λ none. Rest-any NoComma s.stack s.roots 0 tokens (r none)
+  Completes-item _ s tokens may r = absurd (false≢true may)
+
+  -- behind a predicate that ends
+  LeafRest-ended : (s t : State builder) (tokens : List Token) (p : Pending) → s.pending ≡ Some p
+      → predicate_ended s ≡ Ok t → RestOf Separates t 0 tokens → LeafRest s p.key.text
+      (leaf_tokens p.key.text (option_map (λ v. v.text) p.value) ++ tokens)
+  LeafRest-ended s t tokens p is ends r =
+      let e = LeafEnds-ended s t p is ends in
+      let rest = Rest-more Separates s.stack s.roots tokens (rw e.ended at r) in
+      (_, e.leaf, tokens, refl, e.class_is, rest)
+
+  -- where a comma may come, what stands in front of it ends
+  pub Completes-ended : (last : Option Token) (s t : State builder) (tokens : List Token)
+      → takes last Kind.comma ≡ true → predicate_ended s ≡ Ok t → RestOf Separates t 0 tokens
+      → Completes last s tokens
+  Completes-ended (Some Token.comma) s t tokens may ends r = λ none.
+      rw (same_ended s t none ends) (Rest-any Separates t.stack t.roots 0 tokens r)
+  Completes-ended (Some Token.close_paren) s t tokens may ends r = λ none.
+      rw (same_ended s t none ends) r
+  Completes-ended (Some (Token.key _)) s t tokens may ends r = λ key is.
+      LeafRest-ended s t tokens _ is ends r
+  Completes-ended (Some (Token.value _)) s t tokens may ends r = λ key value is.
+      LeafRest-ended s t tokens _ is ends r
+  Completes-ended _ s t tokens may ends r = absurd (false≢true may)
+
+  -- where `)` may come, or the end of the text, no member is left
+  pub Completes-none : (last : Option Token) (s t : State builder) (tokens : List Token)
+      → (takes last Kind.closing ≡ true) ⊎ ((lacks_value last ≡ false) × (s.stack ≡ []))
+      → predicate_ended s ≡ Ok t → Ends t.stack t.roots 0 tokens → Completes last s tokens
+  Completes-none None s t tokens may ends e = λ none.
+      rw (same_ended s t none ends) (Rest-none NoComma t.stack t.roots 0 tokens refl e)
+  Completes-none (Some Token.open_paren) s t tokens may ends e = λ none.
+      rw (same_ended s t none ends) (Rest-none NoComma t.stack t.roots 0 tokens refl e)
+  Completes-none (Some Token.comma) s t tokens may ends e =
+      Completes-ended (Some Token.comma) s t _ refl ends (Rest-none Separates _ _ 0 _ tt e)
+  Completes-none (Some Token.close_paren) s t tokens may ends e =
+      Completes-ended (Some Token.close_paren) s t _ refl ends (Rest-none Separates _ _ 0 _ tt e)
+  Completes-none (Some (Token.key text)) s t tokens may ends e =
+      Completes-ended (Some (Token.key text)) s t _ refl ends (Rest-none Separates _ _ 0 _ tt e)
+  Completes-none (Some (Token.value text)) s t tokens may ends e =
+      Completes-ended (Some (Token.value text)) s t _ refl ends (Rest-none Separates _ _ 0 _ tt e)
+  Completes-none _ s t tokens (inl may) ends e = absurd (false≢true may)
+  Completes-none (Some Token.equals) s t tokens (inr may) ends e = absurd (false≢true (sym may.0))
+  Completes-none _ s t tokens (inr (whole, closed)) ends e = λ top rest is. absurd (cc)
+
+-- What the steps accept is spelled by a tree: each token stands in front of what completes the
+-- state behind it.
+
+abbrev pub tokens_of : List Item → List Token
+tokens_of items = map (λ item. item.token) items
+
+-- what went well, part by part
+mapped : {A B E : Type 0} (f : A → B) (r : Result A E) (u : B) → result_map f r ≡ Ok u
+    → (t : A) × (r ≡ Ok t) × (f t ≡ u)
+mapped f (Ok t) u e = (t, refl, ok_same (f t) u e)
+mapped f (Err e) u is = absurd (cc)
+
+allowed : {A E : Type 0} (b : Bool) (r : Result A E) (e : E) (u : A)
+    → (if b then r else Err e) ≡ Ok u → (b ≡ true) × (r ≡ Ok u)
+allowed true r e u is = (refl, is)
+allowed false r e u is = absurd (cc)
+
+not_refused : {A E : Type 0} (b : Bool) (r : Result A E) (e : E) (u : A)
+    → (if b then Err e else r) ≡ Ok u → (b ≡ false) × (r ≡ Ok u)
+not_refused false r e u is = (refl, is)
+not_refused true r e u is = absurd (cc)
+
+pub ran : {A B E : Type 0} (r : Result A E) (f : A → Result B E) (u : B) → and_then f r ≡ Ok u
+    → (t : A) × (r ≡ Ok t) × (f t ≡ Ok u)
+ran (Ok t) f u e = (t, refl, e)
+ran (Err e) f u is = absurd (cc)
+
+-- what a predicate that ends makes of the innermost open function
+abbrev pub counted : {M : Type 0} → Option Pending → Open M → Open M
+counted pending top = record top { members = member_count top pending }
+
+module _ {W M L : Type 0} {builder : Builder W M L} where
+  pub stack_ended : (s t : State builder) (pending : Option Pending) (stack : List (Open M))
+      → s.pending ≡ pending → s.stack ≡ stack → predicate_ended s ≡ Ok t
+      → t.stack ≡ over_top (counted pending) stack
+  stack_ended s t None [] is stack_is ends = rw (← same_ended s t is ends) stack_is
+  stack_ended s t None (top ∷ rest) is stack_is ends = rw (← same_ended s t is ends) stack_is
+  stack_ended s t (Some p) [] is stack_is ends =
+      rw ((LeafEnds-ended s t p is ends).ended, stack_is) refl
+  stack_ended s t (Some p) (top ∷ rest) is stack_is ends =
+      rw ((LeafEnds-ended s t p is ends).ended, stack_is) refl
+
+  -- what a `)` that is taken closes
+  abbrev pub Closes : State builder → State builder → Type 0
+  Closes s u = (top : Open M) × (rest : List (Open M)) × (settled : State builder)
+      × (s.stack ≡ top ∷ rest) × (has_room top.function (member_count top s.pending) ≡ true)
+      × (predicate_ended s ≡ Ok settled) × (function_ended settled.stack settled ≡ u)
+
+  pub Closes-stack : (s u : State builder) (item : Item) (stack : List (Open M)) → s.stack ≡ stack
+      → closed_by s item stack ≡ Ok u → Closes s u
+  Closes-stack s u item [] is does = absurd (cc)
+  Closes-stack s u item (top ∷ rest) is does =
+      let (room, closes) = allowed (has_room top.function (member_count top s.pending))
+      (result_map (λ t. function_ended t.stack t) (predicate_ended s)) _ u does in
+      let (settled, ends, closed) = mapped (λ t. function_ended t.stack t) (predicate_ended s) u
+      closes in
+      (top, rest, settled, is, room, ends, closed)
+
+  -- `)` stands in front of what completes the function around
+  Ends-close : (s u settled : State builder) (top : Open M) (rest : List (Open M))
+      (tokens : List Token) → s.stack ≡ top ∷ rest
+      → has_room top.function (member_count top s.pending) ≡ true → predicate_ended s ≡ Ok settled
+      → function_ended settled.stack settled ≡ u
+      → Completes (Some Token.close_paren) (with_last Token.close_paren u) tokens
+      → Ends settled.stack settled.roots 0 (Token.close_paren ∷ tokens)
+  Ends-close s u settled top rest tokens is room ends closed completes =
+      let stack = stack_ended s settled s.pending _ refl is ends in
+      let none = ended_none s settled s.pending refl ends in
+      let closed : function_ended (counted s.pending top ∷ rest) settled ≡ u =
+      ap (λ k. function_ended k settled) (sym stack) ∙ closed in
+      let (n, others, trees, after, are, may, list, around) = Rest-more Separates rest
+      settled.roots tokens ((rw (← closed) at completes) none) in
+      let roomy : has_room top.function (member_count top s.pending + 0) ≡ true =
+      rw add-zero room in
+      let closes = ap (λ l. Token.close_paren ∷ l) are in
+      rw stack (roomy, n, others, trees, after, closes, may, list, around)
+
+  -- what a step that succeeds has done
+  pub record Steps (s t : State builder) (item : Item) : Type 0 where
+    pub may : takes s.last (kind_of item.token) ≡ true
+    pub applied : State builder
+    pub does : apply s item item.token ≡ Ok applied
+    pub after : with_last item.token applied ≡ t
+
+  pub Steps-step : (s t : State builder) (item : Item) → step s item ≡ Ok t → Steps s t item
+  Steps-step s t item steps =
+      let (may, taken) = allowed (takes s.last (kind_of item.token))
+      (result_map (with_last item.token) (apply s item item.token)) _ t steps in
+      let (applied, does, after) = mapped (with_last item.token) (apply s item item.token) t taken
+      in
+      record { may = may; applied = applied; does = does; after = after }
+
+  -- a function's name in front of its members
+  Rest-name : (function : Function) (s u : State builder) (item : Item) (tokens : List Token)
+      → ◌≡◌ {A = Result (State builder) Refusal} (Ok (opened s function item)) (Ok u)
+      → Completes (Some Token.all) u tokens → s.pending ≡ None
+      → RestOf NoComma s 0 (name_of function ∷ tokens)
+  Rest-name function s u item tokens does completes none =
+      let (others, are, r) = (rw (← ok_same _ u does) at completes) _ s.stack refl none in
+      rw are (Rest-call function (new_open s function item) s.stack s.roots others refl refl r)
+
+  -- one token in front of others
+  module _ (s u : State builder) (tokens : List Token) (start end : ℕ) where
+    abbrev at : Token → Item
+    at token = record { token = token; start = start; end = end }
+
+    abbrev After : Token → State builder → Type 0
+    After token v = Completes (Some token) (with_last token v) tokens
+
+    Completes-open : apply s (at Token.open_paren) Token.open_paren ≡ Ok u
+        → After Token.open_paren u → Completes (Some Token.all) s (Token.open_paren ∷ tokens)
+    Completes-open does completes top rest is none =
+        let r = subst (After Token.open_paren) (sym (ok_same _ u does)) completes none in
+        (tokens, refl, rw is (rw is at r))
+
+    Completes-applied : (last : Option Token) (token : Token) → takes last (kind_of token) ≡ true
+        → apply s (at token) token ≡ Ok u → After token u → Completes last s (token ∷ tokens)
+    Completes-applied last (Token.key text) may does completes =
+        let (value, leaf, others, are, classed, r) = subst (After (Token.key text))
+        (sym (ok_same _ u does)) completes (word_of text start end) refl in
+        Completes-item last s _ may (λ none. rw are (Rest-item s.stack s.roots _ others
+        (leaf_tree leaf) (IsItem-leaf _ leaf (text, value, refl, classed)) r))
+    Completes-applied (Some Token.equals) (Token.value text) may does completes =
+        λ key is. subst (After (Token.value text)) (sym (ok_same _ u does)) completes key
+        (word_of text (start + 1) (end - 1)) (ap (option_map (with_value _)) is)
+    Completes-applied _ (Token.value text) may does completes = absurd (false≢true may)
+    Completes-applied (Some (Token.key _)) Token.equals may does completes =
+        subst (After Token.equals) (sym (ok_same s u does)) completes
+    Completes-applied _ Token.equals may does completes = absurd (false≢true may)
+    Completes-applied last Token.all may does completes =
+        Completes-item last s _ may (Rest-name Function.all s u (at Token.all) _ does completes)
+    Completes-applied last Token.any may does completes =
+        Completes-item last s _ may (Rest-name Function.any s u (at Token.any) _ does completes)
+    Completes-applied last Token.not may does completes =
+        Completes-item last s _ may (Rest-name Function.not s u (at Token.not) _ does completes)
+    Completes-applied (Some Token.all) Token.open_paren may does completes =
+        Completes-open does completes
+    Completes-applied (Some Token.any) Token.open_paren may does completes =
+        Completes-open does completes
+    Completes-applied (Some Token.not) Token.open_paren may does completes =
+        Completes-open does completes
+    Completes-applied _ Token.open_paren may does completes = absurd (false≢true may)
+    Completes-applied last Token.close_paren may does completes =
+        let (top, rest, settled, is, room, ends, closed) = Closes-stack s u (at Token.close_paren)
+        s.stack refl does in
+        Completes-none last s settled _ (inl may) ends
+        (Ends-close s u settled top rest tokens is room ends closed completes)
+    Completes-applied last Token.comma may does completes =
+        Completes-ended last s u _ may does (Rest-comma u.stack u.roots 0 tokens
+        (completes (ended_none s u s.pending refl does)))
+
+  -- the end of the text finds one item at the root, where no function is open
+  abbrev Concludes : State builder → Type 0
+  Concludes s = (settled : State builder) × (s.stack ≡ []) × (predicate_ended s ≡ Ok settled)
+      × (lacks_value s.last ≡ false) × (settled.roots ≡ 1)
+
+  Concludes-stack : (len : ℕ) (s u : State builder) (stack : List (Open M)) → s.stack ≡ stack
+      → lacks_value s.last ≡ false → concluded_by len s stack ≡ Ok u → Concludes s
+  Concludes-stack len s u (top ∷ rest) is whole e = absurd (cc)
+  Concludes-stack len s u [] is whole e =
+      let (settled, ends, rooted) = ran (predicate_ended s) (one_root len) u e in
+      let (some, found) = not_refused (settled.roots == 0) _ _ u rooted in
+      let (one, done) = allowed (settled.roots == 1) _ _ u found in
+      (settled, is, ends, whole, (Decides-eqb settled.roots 1).0 one)
+
+  Concludes-conclude : (len : ℕ) (s u : State builder) → conclude len s ≡ Ok u → Concludes s
+  Concludes-conclude len s u e =
+      let (whole, concludes) = not_refused (lacks_value s.last) (concluded_by len s s.stack) _ u e
+      in Concludes-stack len s u s.stack refl whole concludes
+
+  Completes-run : (items : List Item) (s t u : State builder) (len : ℕ)
+      → step_each s items ≡ Ok t → conclude len t ≡ Ok u → Completes s.last s (tokens_of items)
+  Completes-run [] s t u len runs ends =
+      let (settled, closed, ended, whole, one) = Concludes-conclude len s u
+      (ap (conclude len) (ok_same s t runs) ∙ ends) in
+      Completes-none s.last s settled [] (inr (whole, closed)) ended
+      (rw (stack_ended s settled s.pending [] refl closed ended) (omega (arith, one), refl))
+  Completes-run (item ∷ items) s t u len runs ends =
+      let r = ran (step s item) (λ u. step_each u items) t runs in
+      let d = Steps-step s r.0 item r.1 in
+      Completes-applied s d.applied (tokens_of items) item.start item.end s.last item.token d.may
+      d.does (subst (λ v. Completes v.last v (tokens_of items)) (sym d.after)
+      (Completes-run items r.0 t u len r.2 ends))
+
+  -- What the steps accept has a tree.
+  pub IsTree-accepted : (items : List Item) (s u : State builder) (len : ℕ)
+      → step_each initial items ≡ Ok s → conclude len s ≡ Ok u
+      → (tree : Tree Question) × IsTree (tokens_of items) tree
+  IsTree-accepted items s u len runs ends =
+      let (n, others, trees, after, are, none, list, (one, end)) =
+      Completes-run items initial s u len runs ends refl in
+      let (tree, spelled) = one_tree others trees (omega (arith, one)) list in
+      let whole : tokens_of items ≡ others = are ∙ rw (none, end, append-nil others) refl in
+      (tree, subst (λ l. IsTree l tree) (sym whole) spelled)

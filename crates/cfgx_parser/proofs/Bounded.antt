@@ -13,8 +13,8 @@ use Rattle.cfgx_parser.specs.parsing.Bounded.{counted_in, AreMarked, IsHeld}
 use Rattle.cfgx_parser.specs.nodes.Node.{asked_at}
 use Rattle.cfgx_parser.specs.declared.nodes.ExprNode.{ExprNode}
 use Rattle.cfgx_parser.specs.declared.nodes.ExprNode.TheVariants as node
-use Rattle.cfgx_grammar.proofs.accepted.Reads.{ok_same, LeafEnds-ended, same_ended}
-use Rattle.cfgx_grammar.proofs.accepted.Steps.{Closes-stack, Steps-step}
+use Rattle.cfgx_grammar.proofs.accepted.{ok_same, LeafEnds-ended, same_ended}
+use Rattle.cfgx_grammar.proofs.accepted.{Closes-stack, Steps-step}
 
 -- one more item, wherever it is counted
 counted-with_item : (stack : List OpenFunction) (roots : ℕ)
@@ -113,9 +113,9 @@ IsHeld-applied s u item Token.not does h = subst IsHeld (ok_same _ u does)
 IsHeld-applied s u item Token.open_paren does h = subst IsHeld (ok_same _ u does)
     (IsHeld-parens s item.start h)
 IsHeld-applied s u item Token.close_paren does h =
-    let c = Closes-stack s u item s.stack refl does in
-    subst IsHeld c.closed (IsHeld-closed c.settled c.settled.stack refl
-    (IsHeld-ended s c.settled s.pending refl c.ends h))
+    let (top, rest, settled, is, room, ends, closed) = Closes-stack s u item s.stack refl does in
+    subst IsHeld closed (IsHeld-closed settled settled.stack refl
+    (IsHeld-ended s settled s.pending refl ends h))
 IsHeld-applied s u item Token.comma does h = IsHeld-ended s u s.pending refl does h
 
 pub IsHeld-step : (s t : ParserState) (item : Item) → step s item ≡ Ok t → IsHeld s → IsHeld t

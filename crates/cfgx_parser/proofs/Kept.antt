@@ -12,7 +12,7 @@ use Rattle.cfgx_syntax.proofs.Values.{value_inside}
 use Rattle.cfgx_grammar.specs.Question.{Question}
 use Rattle.cfgx_grammar.specs.Tree.{Tree, is_function, is_leaf}
 use Rattle.cfgx_grammar.proofs.Answering.{answer, tree_of, FindsTree-tree, HasOneTree-tree}
-use Rattle.cfgx_grammar.proofs.alone.Regular.{all_of_first}
+use Rattle.cfgx_grammar.proofs.alone.{all_of_first}
 use Rattle.cfgx_parser.specs.nodes.Keeps.{KeepsTree, KeepsOneTree}
 use Rattle.cfgx_parser.specs.nodes.Node.{Written, nothing, with_list_ended}
 use Rattle.cfgx_parser.specs.nodes.Prefix.{node_at, prefix, places}

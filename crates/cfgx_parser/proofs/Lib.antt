@@ -1,7 +1,9 @@
 pub mod Asked
 pub mod Bounded
+pub mod Innermost
 pub mod Kept
 pub mod Lanes
+pub mod Last
 pub mod Places
 pub mod Reading
 pub mod Shapes

@@ -1,20 +1,24 @@
 -- What the rest of a text answers, the whole answers: one token after another, as the lexer gives
 -- them.
-use Rattle.std.proofs.Common.{◌≡◌, ℕ, List, length, drop, Some, Result, Ok, Err, sym}
+use Rattle.std.proofs.Common.{◌≡◌, ℕ, List, length, drop, Option, Some, Result, Ok, Err, sym}
 use Rattle.std.proofs.Common.{refl, ap, ◌∙◌, subst}
 use Rattle.cfgx_syntax.specs.Items.{Item, Ending, ItemsFrom, IsBlank, Stands, EndsAs, lexical}
 use Rattle.cfgx_syntax.specs.Error.{Refusal, FailsWith, fault_in}
 use Rattle.cfgx_syntax.specs.LexerState.{LexerState}
-use Rattle.cfgx_syntax.specs.Lexer.{GivesItem, GivesFault, GivesNext, item_of}
+use Rattle.cfgx_syntax.specs.Lexer.{GivesItem, GivesFault, GivesNext, item_of, token_of}
 use Rattle.cfgx_syntax.specs.declared.error.Failure.{Failure}
 use Rattle.cfgx_syntax.specs.declared.error.Failure.TheVariants as failure
 use Rattle.cfgx_syntax.specs.declared.lexer.LexerToken.{LexerToken}
+use Rattle.cfgx_syntax.specs.Token as spelled
 use Rattle.cfgx_grammar.proofs.Reading.{Continues, Continues-step}
 use Rattle.cfgx_grammar.proofs.Reading.{Continues-refused, Continues-ended}
 use Rattle.cfgx_parser.specs.parsing.State.{ParserState}
 use Rattle.cfgx_grammar.specs.parsing.Step.{step, conclude, ended_as, answer_from}
 use Rattle.cfgx_parser.specs.parsing.Bounded.{IsHeld, IsBounded}
-use Rattle.cfgx_parser.specs.parsing.Parser.{state_of, HaltsAs, FailsAs, Reaches, Gives}
+use Rattle.cfgx_parser.specs.parsing.Parser.{state_at, state_of, HaltsAs, FailsAs, Reaches}
+use Rattle.cfgx_parser.specs.parsing.Parser.{GivesAt}
+use Rattle.cfgx_parser.specs.parsing.Fields.{last_of}
+use Rattle.cfgx_parser.specs.declared.parser.LastToken.{LastToken}
 use Rattle.cfgx_parser.specs.parsing.Parser.{ReadsAll, Says}
 use Rattle.cfgx_parser.specs.declared.parser.Halt.{Halt}
 use Rattle.cfgx_parser.specs.declared.parser.Halt.TheVariants as halt
@@ -23,11 +27,18 @@ use Rattle.cfgx_parser.proofs.Bounded.{IsHeld-step}
 
 -- where the reader stands in the text
 pub record Leads {A : Type 0} (lexer : LexerState) (now : LexerState)
-    (old parser : Parser A) : Type 0 where
+    (old : Parser A) (last : Option spelled.Token) (parser : Parser A) : Type 0 where
   pub bounded : IsBounded (state_of {A = A} parser)
   pub text : now.text ≡ lexer.text
   pub continues : Continues lexer.text lexer.place (state_of {A = A} old) now.place
-      (state_of {A = A} parser)
+      (state_at {A = A} last parser)
+
+-- the same, where the parser keeps of the last token what tells what may follow
+pub record LeadsTo {A : Type 0} (lexer now : LexerState) (old : Parser A) (last : LastToken)
+    (parser : Parser A) : Type 0 where
+  pub token : Option spelled.Token
+  pub kept : last_of token ≡ last
+  pub leads : Leads {A = A} lexer now old token parser
 
 stands_there : (lexer now next : LexerState) (item : Item) → now.text ≡ lexer.text
     → GivesItem now item next → Stands lexer.text now.place item
@@ -35,22 +46,27 @@ stands_there lexer now next item text gives =
     subst (λ t. Stands t now.place item) text gives.stands
 
 pub Leads-read : {A : Type 0} (lexer now next : LexerState) (old before after : Parser A)
-    (item : Item) (state : ParserState) → Leads {A = A} lexer now old before
-    → GivesItem now item next → step (state_of {A = A} before) item ≡ Ok state
-    → Reaches {A = A} after state → Leads {A = A} lexer next old after
-Leads-read {A} lexer now next old before after item state l gives steps reaches =
+    (last : Option spelled.Token) (lexed : LexerToken) (state : ParserState)
+    → Leads {A = A} lexer now old last before → GivesItem now (item_of lexed) next
+    → step (state_at {A = A} last before) (item_of lexed) ≡ Ok state
+    → Reaches {A = A} (Some (token_of lexed.token)) after state
+    → Leads {A = A} lexer next old (Some (token_of lexed.token)) after
+Leads-read {A} lexer now next old before after last lexed state l gives steps reaches =
     let start = state_of {A = A} old in
-    let went = Continues-step lexer.text lexer.place now.place start (state_of {A = A} before) state
-    item l.continues (stands_there lexer now next item l.text gives) steps in
+    let from = state_at {A = A} last before in
+    let item = item_of lexed in
+    let went = Continues-step lexer.text lexer.place now.place start from state item l.continues
+    (stands_there lexer now next item l.text gives) steps in
+    let held = subst IsHeld reaches.is (IsHeld-step from state item steps
+    (record { counts = l.bounded.held.counts; marks = l.bounded.held.marks })) in
     record {
       bounded = record {
-        held = subst IsHeld reaches.is
-            (IsHeld-step (state_of {A = A} before) state item steps l.bounded.held);
+        held = record { counts = held.counts; marks = held.marks };
         fits = reaches.fits;
       };
       text = ap (λ (n : LexerState). n.text) gives.goes_on ∙ l.text;
       continues = subst (λ (n : LexerState). Continues lexer.text lexer.place start n.place
-          (state_of {A = A} after)) (sym gives.goes_on)
+          (state_at {A = A} (Some (token_of lexed.token)) after)) (sym gives.goes_on)
           (subst (Continues lexer.text lexer.place start item.end) reaches.is went);
     }
 
@@ -69,60 +85,65 @@ FailsAs-with text (failure.Memory error) refusal fails = tt
 
 -- a token that is refused
 pub ReadsAll-read : {A : Type 0} (lexer now next : LexerState) (old before after : Parser A)
-    (item : Item) (h : Halt) (failure : Failure A)
-    → Leads {A = A} lexer now old before → GivesItem now item next
-    → HaltsAs {A = A} h after (step (state_of {A = A} before) item)
+    (last : Option spelled.Token) (item : Item) (h : Halt) (failure : Failure A)
+    → Leads {A = A} lexer now old last before → GivesItem now item next
+    → HaltsAs {A = A} h after (step (state_at {A = A} last before) item)
     → Says {A = A} lexer.text h after failure → ReadsAll {A = A} lexer old after (Err failure)
-ReadsAll-read {A} lexer now next old before after item h failure l gives halts says items ending
-    come =
-    says _ (HaltsAs-more {A = A} h after (step (state_of {A = A} before) item) _
+ReadsAll-read {A} lexer now next old before after last item h failure l gives halts says items
+    ending come =
+    says _ (HaltsAs-more {A = A} h after (step (state_at {A = A} last before) item) _
     (λ refusal e. Continues-refused lexer.text lexer.place now.place (state_of {A = A} old)
-    (state_of {A = A} before) item refusal l.continues
+    (state_at {A = A} last before) item refusal l.continues
     (stands_there lexer now next item l.text gives) e items ending come) halts)
 
 -- the lexical fault
 pub ReadsAll-fault : {A : Type 0} (lexer now next : LexerState) (old before after : Parser A)
-    (failure : Failure A) → Leads {A = A} lexer now old before
+    (last : Option spelled.Token) (failure : Failure A) → Leads {A = A} lexer now old last before
     → GivesFault {A = A} now failure next → ReadsAll {A = A} lexer old after (Err failure)
-ReadsAll-fault {A} lexer now next old before after failure l gives items ending come =
+ReadsAll-fault {A} lexer now next old before after last failure l gives items ending come =
     let refused : lexical lexer.text gives.ending ≡ Some gives.refusal =
     ap (λ t. lexical t gives.ending) (sym l.text) ∙ gives.refused in
     let answer = Continues-ended lexer.text lexer.place now.place (state_of {A = A} old)
-    (state_of {A = A} before) gives.ending l.continues
+    (state_at {A = A} last before) gives.ending l.continues
     (subst (λ t. EndsAs t now.place gives.ending) l.text gives.ends) items ending come
-    ∙ ap (λ o. ended_as lexer.text o (state_of {A = A} before)) refused in
+    ∙ ap (λ o. ended_as lexer.text o (state_at {A = A} last before)) refused in
     let fails : FailsAs now.text failure (Err gives.refusal) =
     FailsAs-with now.text failure gives.refusal gives.fails in
     subst (λ t. FailsAs t failure (answer_from (state_of {A = A} old) lexer.text items ending))
     l.text (subst (FailsAs now.text failure) (sym answer) fails)
 
 -- the end of the text, as it is told of the whole
-ended : {A : Type 0} (lexer now : LexerState) (old before : Parser A) (items : List Item)
-    (ending : Ending) → Leads {A = A} lexer now old before → IsBlank (drop now.place now.text)
+ended : {A : Type 0} (lexer now : LexerState) (old before : Parser A)
+    (last : Option spelled.Token) (items : List Item) (ending : Ending)
+    → Leads {A = A} lexer now old last before → IsBlank (drop now.place now.text)
     → ItemsFrom lexer.text lexer.place items ending
     → answer_from (state_of {A = A} old) lexer.text items ending
-    ≡ conclude (length lexer.text) (state_of {A = A} before)
-ended {A} lexer now old before items ending l blank come =
+    ≡ conclude (length lexer.text) (state_at {A = A} last before)
+ended {A} lexer now old before last items ending l blank come =
     Continues-ended lexer.text lexer.place now.place (state_of {A = A} old)
-    (state_of {A = A} before) Ending.blank l.continues
+    (state_at {A = A} last before) Ending.blank l.continues
     (subst (λ t. IsBlank (drop now.place t)) l.text blank) items ending come
 
 pub ReadsAll-end : {A : Type 0} (lexer now : LexerState) (old before after : Parser A)
-    → Leads {A = A} lexer now old before → IsBlank (drop now.place now.text)
-    → Gives {A = A} (Ok tt) after (conclude (length lexer.text) (state_of {A = A} before))
+    (last : Option spelled.Token) → Leads {A = A} lexer now old last before
+    → IsBlank (drop now.place now.text)
+    → GivesAt {A = A} last (Ok tt) after
+    (conclude (length lexer.text) (state_at {A = A} last before))
     → ReadsAll {A = A} lexer old after (Ok tt)
-ReadsAll-end {A} lexer now old before after l blank gives items ending come =
-    subst (Gives {A = A} (Ok tt) after)
-    (sym (ended {A = A} lexer now old before items ending l blank come)) gives
+ReadsAll-end {A} lexer now old before after last l blank gives items ending come = (
+  last,
+  subst (GivesAt {A = A} last (Ok tt) after)
+      (sym (ended {A = A} lexer now old before last items ending l blank come)) gives,
+)
 
 pub ReadsAll-halt : {A : Type 0} (lexer now : LexerState) (old before after : Parser A)
-    (h : Halt) (failure : Failure A)
-    → Leads {A = A} lexer now old before → IsBlank (drop now.place now.text)
-    → HaltsAs {A = A} h after (conclude (length lexer.text) (state_of {A = A} before))
+    (last : Option spelled.Token) (h : Halt) (failure : Failure A)
+    → Leads {A = A} lexer now old last before → IsBlank (drop now.place now.text)
+    → HaltsAs {A = A} h after (conclude (length lexer.text) (state_at {A = A} last before))
     → Says {A = A} lexer.text h after failure → ReadsAll {A = A} lexer old after (Err failure)
-ReadsAll-halt {A} lexer now old before after h failure l blank halts says items ending come =
+ReadsAll-halt {A} lexer now old before after last h failure l blank halts says items ending come =
     says _ (subst (HaltsAs {A = A} h after)
-    (sym (ended {A = A} lexer now old before items ending l blank come)) halts)
+    (sym (ended {A = A} lexer now old before last items ending l blank come)) halts)
 
 -- what `next` gave, as the code takes it apart
 pub item_given : {A : Type 0} (old new : LexerState) (item : Result LexerToken (Failure A))

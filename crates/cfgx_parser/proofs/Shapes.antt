@@ -4,7 +4,7 @@ use Rattle.std.proofs.Common.{◌≡◌, ℕ, suc, ◌+◌, length, map, refl, a
 use Rattle.std.proofs.Common.{length-append}
 use Rattle.std.proofs.lemmas.List.{map-append}
 use Rattle.cfgx_grammar.specs.Tree.{Tree, Trees, is_function, is_leaf, count}
-use Rattle.cfgx_grammar.proofs.Alike.{Alike, AlikeEach, SameShape, SameShapes}
+use Rattle.cfgx_grammar.proofs.Alike.{Alike, AlikeEach}
 use Rattle.cfgx_grammar.proofs.Alike.{same_functions, same_leaves}
 use Rattle.cfgx_parser.specs.nodes.Prefix.{prefix, prefix_each}
 use Rattle.cfgx_parser.specs.nodes.Prefix.{places, places_by}
@@ -23,11 +23,9 @@ module _ {X Y : Type 0} where
     inner_are : (place : ℕ) → places_by is_function place xs ≡ places_by is_function place ys
     own_are : (place : ℕ) → places_by is_leaf place xs ≡ places_by is_leaf place ys
 
-  abbrev Any : X → Y → Type 0
-  Any x y = Unit {0}
-
+module _ {X Y : Type 0} {R : X → Y → Type 0} where
   mutual
-    same_nodes : (x : Tree X) (y : Tree Y) → SameShape x y → SameNodes x y
+    same_nodes : (x : Tree X) (y : Tree Y) → Alike R x y → SameNodes x y
     same_nodes _ _ (Alike.leaf x y related) =
         record { length_is = refl; shapes_are = refl; places_are = λ place. refl }
     same_nodes _ _ (Alike.literal truth) =
@@ -54,7 +52,7 @@ module _ {X Y : Type 0} where
           places_are = λ place. same.places_are (place + 1);
         }
 
-    same_members : (xs : Trees X) (ys : Trees Y) → SameShapes xs ys → SameMembers xs ys
+    same_members : (xs : Trees X) (ys : Trees Y) → AlikeEach R xs ys → SameMembers xs ys
     same_members _ _ AlikeEach.none = record {
       count_is = refl;
       length_is = refl;
@@ -65,8 +63,8 @@ module _ {X Y : Type 0} where
     same_members _ _ (AlikeEach.more x y xs ys first rest) =
         let one = same_nodes x y first in
         let others = same_members xs ys rest in
-        let function = same_functions Any x y first in
-        let leaf = same_leaves Any x y first in
+        let function = same_functions R x y first in
+        let leaf = same_leaves R x y first in
         record {
           count_is = ap suc others.count_is;
           length_is = rw (
@@ -95,13 +93,13 @@ module _ {X Y : Type 0} where
           ) refl;
         }
 
-  pub length-shape : (x : Tree X) (y : Tree Y) → SameShape x y
+  pub length-shape : (x : Tree X) (y : Tree Y) → Alike R x y
       → length (prefix x) ≡ length (prefix y)
   length-shape x y same = (same_nodes x y same).length_is
 
-  pub shapes-shape : (x : Tree X) (y : Tree Y) → SameShape x y
+  pub shapes-shape : (x : Tree X) (y : Tree Y) → Alike R x y
       → map shape_of (prefix x) ≡ map shape_of (prefix y)
   shapes-shape x y same = (same_nodes x y same).shapes_are
 
-  pub places-shape : (x : Tree X) (y : Tree Y) → SameShape x y → places 0 x ≡ places 0 y
+  pub places-shape : (x : Tree X) (y : Tree Y) → Alike R x y → places 0 x ≡ places 0 y
   places-shape x y same = (same_nodes x y same).places_are 0

@@ -66,7 +66,7 @@ pub KeepsOneTree-reads : {A : Type 0} {text : List ℕ} {lexer : LexerState} {ol
     (new : Parser A) → Begins {A = A} text lexer old → ReadsAll {A = A} lexer old new (Ok tt)
     → KeepsOneTree text new.writer.nodes.items new.writer.asked.items
 KeepsOneTree-reads {text} new b reads =
-    let gives = given new (Ok tt) b reads in
+    let gives = (given new (Ok tt) b reads).1 in
     subst (λ (s : ParserState). KeepsOneTree text s.written.nodes s.written.asked) gives.2.is
     (KeepsOneTree-accepted text b.one gives.0 gives.1)
 
@@ -74,6 +74,6 @@ pub IsAccepted-reads : {A : Type 0} {text : List ℕ} {lexer : LexerState} {old 
     (new : Parser A) → Begins {A = A} text lexer old → ReadsAll {A = A} lexer old new (Ok tt)
     → (strip text ≡ text) × IsAccepted text
 IsAccepted-reads {text} new b reads =
-    let gives = given new (Ok tt) b reads in
+    let gives = (given new (Ok tt) b reads).1 in
     let found = tree_of text b.one gives.0 gives.1 in
     (strip-tree text found.0 found.1, IsAccepted-accepted text b.one gives.0 gives.1)

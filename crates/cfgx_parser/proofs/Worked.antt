@@ -7,7 +7,7 @@ use Rattle.cfgx_syntax.specs.Token.{Token}
 use Rattle.cfgx_grammar.specs.Classification.{class}
 use Rattle.cfgx_grammar.specs.parsing.State.{initial}
 use Rattle.cfgx_grammar.specs.parsing.Step.{answer_from}
-use Rattle.cfgx_grammar.proofs.worked.Rows.{shallow, nested, single_items}
+use Rattle.cfgx_grammar.proofs.worked.{shallow, nested, single_items}
 use Rattle.cfgx_parser.specs.nodes.Node.{nothing}
 use Rattle.cfgx_parser.specs.nodes.Prefix.{places}
 use Rattle.cfgx_parser.specs.parsing.State.{ParserState}

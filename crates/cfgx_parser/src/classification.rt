@@ -15,6 +15,15 @@ pub(crate) struct Word<'a> {
     pub(crate) span: Span,
 }
 
+impl Word<'_> {
+    /// Where they stand, for what keeps it.
+    fn span(&self) -> Span
+        ensures { result ≡ self.now.span }
+    {
+        self.span.start..self.span.end
+    }
+}
+
 /// A predicate or literal that has not ended: its key, and its value, without the quotes, if that
 /// was read.
 #[derive(Drop)]
@@ -27,18 +36,18 @@ pub(crate) struct Pending<'a> {
 pub(crate) type Refused = (Reason, Span);
 
 /// The leaf of a key that takes no value, or the fault if one stands there.
-fn bare(leaf: ExprNode, value: Option<Word<'_>>) -> Result<ExprNode, Refused>
-    ensures { class_result result ≡ bare_answer leaf (option_map word_of value.entry) }
+fn bare(leaf: ExprNode, value: &Option<Word<'_>>) -> Result<ExprNode, Refused>
+    ensures { class_result result ≡ bare_answer leaf (option_map word_of value.now) }
 {
     match value {
         None => Ok(leaf),
-        Some(value) => Err((Reason::Unexpected(&[]), value.span)),
+        Some(value) => Err((Reason::Unexpected(&[]), value.span())),
     }
 }
 
 /// The predicate of a key that begins with `target_`, by what follows and by its value.
-fn target(which: &str, key: Word<'_>, value: Word<'_>) -> Result<ExprNode, Refused>
-    ensures { class_result result ≡ target_answer which.now (word_of key.entry)
+fn target(which: &str, key: &Word<'_>, value: Word<'_>) -> Result<ExprNode, Refused>
+    ensures { class_result result ≡ target_answer which.now (word_of key.now)
         (word_of value.entry) }
 {
     use ExprNode::Predicate;
@@ -66,50 +75,56 @@ fn target(which: &str, key: Word<'_>, value: Word<'_>) -> Result<ExprNode, Refus
             Some(width) => Ok(Predicate(Target(PointerWidth(width)))),
             None => Err((Reason::InvalidInteger, span)),
         },
-        _ => Err((Reason::Unexpected(TARGET_KEYS), key.span)),
+        _ => Err((Reason::Unexpected(TARGET_KEYS), key.span())),
     }
 }
 
 /// The predicate of a key that is in none of the tables, or that begins with `target_`.
-fn other(key: Word<'_>, value: Option<Word<'_>>) -> Result<ExprNode, Refused>
-    ensures { class_result result ≡ other_answer (word_of key.entry)
-        (option_map word_of value.entry) }
+fn other(key: &Word<'_>, value: &Option<Word<'_>>) -> Result<ExprNode, Refused>
+    ensures { class_result result ≡ other_answer (word_of key.now)
+        (option_map word_of value.now) }
 {
     let Some(which) = key.text.strip_prefix("target_") else {
         return Ok(ExprNode::Predicate(InnerPredicate::Other {
-            identifier: key.span,
-            value: value.map(|value| value.span),
+            identifier: key.span(),
+            value: value.as_ref().map(|value| value.span()),
         }));
     };
     match value {
-        Some(value) => target(which, key, value),
-        None => Err((Reason::Unexpected(&["= \"<target_cfg_value>\""]), key.span)),
+        Some(value) => {
+            let (text, span) = (value.text, value.span());
+            target(which, key, Word { text, span })
+        }
+        None => Err((
+            Reason::Unexpected(&["= \"<target_cfg_value>\""]),
+            key.span(),
+        )),
     }
 }
 
 /// The predicate or the literal of a key and its value, or what is wrong with them.
 #[tactic(auto, unfolding(cfgx_grammar::specs::Classification::class))]
-pub(crate) fn classify(pending: Pending<'_>) -> Result<ExprNode, Refused>
-    ensures { class_result result ≡ classified (pending_of pending.entry) }
+pub(crate) fn classify(pending: &Pending<'_>) -> Result<ExprNode, Refused>
+    ensures { class_result result ≡ classified (pending_of pending.now) }
 {
     use ExprNode::{Literal, Predicate};
     use InnerPredicate::*;
-    let Pending { key, value } = pending;
+    let (key, value) = (&pending.key, &pending.value);
     match key.text {
         "true" => bare(Literal(true), value),
         "false" => bare(Literal(false), value),
-        "unix" => bare(Predicate(Target(InnerTarget::Family(key.span))), value),
-        "windows" => bare(Predicate(Target(InnerTarget::Family(key.span))), value),
+        "unix" => bare(Predicate(Target(InnerTarget::Family(key.span()))), value),
+        "windows" => bare(Predicate(Target(InnerTarget::Family(key.span()))), value),
         "test" => bare(Predicate(Test), value),
         "debug_assertions" => bare(Predicate(DebugAssertions), value),
         "proc_macro" => bare(Predicate(ProcMacro), value),
         "feature" => match value {
-            Some(value) => Ok(Predicate(Feature(value.span))),
-            None => Err((Reason::Unexpected(&["= \"<feature_name>\""]), key.span)),
+            Some(value) => Ok(Predicate(Feature(value.span()))),
+            None => Err((Reason::Unexpected(&["= \"<feature_name>\""]), key.span())),
         },
         "panic" => match value {
-            Some(value) => Ok(Predicate(Target(InnerTarget::Panic(value.span)))),
-            None => Err((Reason::Unexpected(&["= \"<panic_strategy>\""]), key.span)),
+            Some(value) => Ok(Predicate(Target(InnerTarget::Panic(value.span())))),
+            None => Err((Reason::Unexpected(&["= \"<panic_strategy>\""]), key.span())),
         },
         _ => other(key, value),
     }

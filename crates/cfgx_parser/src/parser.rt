@@ -6,13 +6,11 @@ ghost use Rattle.cfgx_syntax.specs.Lexer.{token_of, item_of};
 ghost use Rattle.cfgx_grammar.specs.Neighbours.{next, expected};
 ghost use Rattle.cfgx_parser.specs.nodes.Writer.{Fits, written_of};
 ghost use Rattle.cfgx_parser.specs.parsing.State.{counted};
-ghost use Rattle.cfgx_grammar.specs.FirstFault.{refusal};
-ghost use Rattle.cfgx_grammar.specs.parsing.Step.{over_top, one_more, root_more, with_item};
-ghost use Rattle.cfgx_grammar.specs.parsing.Step.{with_parens, leaf_ended, predicate_ended, opened};
-ghost use Rattle.cfgx_grammar.specs.parsing.Step.{new_open, member_count, has_room, function_ended};
-ghost use Rattle.cfgx_grammar.specs.parsing.Step.{closed_by, apply, step, unclosed, conclude};
-ghost use Rattle.cfgx_parser.specs.parsing.Fields.{function_of, open_of, opens_of, is_some_open};
-ghost use Rattle.cfgx_parser.specs.parsing.Bounded.{TopHasRoom};
+ghost use Rattle.cfgx_grammar.specs.FirstFault.{refusal, lacks_value};
+ghost use Rattle.cfgx_grammar.specs.parsing.Step.{with_item, predicate_ended, has_room};
+ghost use Rattle.cfgx_grammar.specs.parsing.Step.{apply, step, unclosed, one_root, conclude};
+ghost use Rattle.cfgx_parser.specs.parsing.Fields.{function_of, open_of, empty_list};
+ghost use Rattle.cfgx_parser.specs.parsing.Fields.{last_of, token_like};
 ghost use Rattle.cfgx_parser.specs.parsing.Parser.{shown};
 
 use crate::classification::{Pending, Word, classify};
@@ -24,18 +22,37 @@ use cfgx_syntax::lexer::{Lexer, LexerToken, Token};
 use smallvec::SmallVec;
 use std::alloc::AllocError;
 
+/// A list that has not ended: the members of a function, or the root.
+#[derive(Clone, Copy)]
+pub(crate) struct OpenList {
+    /// How many of its items have ended
+    members: usize,
+    /// Where its `(` stands, once that was read
+    parens_index: Option<usize>,
+}
+
+impl OpenList {
+    /// A list whose first item is still to come.
+    fn new() -> Self
+        ensures { result ≡ empty_list }
+    {
+        OpenList {
+            members: 0,
+            parens_index: None,
+        }
+    }
+}
+
 /// A function whose `)` was not read yet.
 #[derive(Drop)]
 pub(crate) struct FuncAndSpan {
     func: Func,
     /// Where its name stands
     span: Span,
-    /// Where its `(` stands, once that was read
-    parens_index: Option<usize>,
-    /// How many of its members have ended
-    members: usize,
     /// Where it began among the nodes
     mark: Mark,
+    /// The list in which it stands
+    around: OpenList,
 }
 
 impl Default for FuncAndSpan {
@@ -43,9 +60,46 @@ impl Default for FuncAndSpan {
         FuncAndSpan {
             func: Func::Not,
             span: 0..0,
-            parens_index: None,
-            members: 0,
             mark: Mark { node: 0, leaves: 0 },
+            around: OpenList::new(),
+        }
+    }
+}
+
+/// The last token, as far as it tells what may follow.
+#[derive(Clone, Copy)]
+pub(crate) enum LastToken {
+    /// None was read
+    Start,
+    /// A word that names no function
+    Key,
+    /// What stands between two quotes
+    Value,
+    /// `=`
+    Equals,
+    /// `all`, `any` or `not`
+    Function,
+    /// `(`
+    OpenParen,
+    /// `)`
+    CloseParen,
+    /// `,`
+    Comma,
+}
+
+impl LastToken {
+    /// This token.
+    fn of(token: Token<'_>) -> Self
+        ensures { result ≡ last_of (Some (token_of token.entry)) }
+    {
+        match token {
+            Token::Key(_) => LastToken::Key,
+            Token::Value(_) => LastToken::Value,
+            Token::Equals => LastToken::Equals,
+            Token::All | Token::Any | Token::Not => LastToken::Function,
+            Token::OpenParen => LastToken::OpenParen,
+            Token::CloseParen => LastToken::CloseParen,
+            Token::Comma => LastToken::Comma,
         }
     }
 }
@@ -80,51 +134,57 @@ impl From<AllocError> for Halt {
 /// What was read so far.
 #[derive(Drop)]
 pub(crate) struct Parser<'a, A: SmallAllocator> {
+    /// The functions that are open, the innermost last
     func_stack: SmallVec<FuncAndSpan, 5, A>,
+    /// The innermost list. It is not on the stack, so that counting a member is cheap
+    list: OpenList,
     /// The nodes of what has ended
     writer: Writer<A>,
-    last_token: Option<Token<'a>>,
     /// The predicate or literal that has not ended
     pending: Option<Pending<'a>>,
-    /// How many items at the root have ended
-    root_count: usize,
     /// What is wrong, once that was found
     fault: Option<Fault>,
 }
 
 /// Whether the token may stand behind the last one, or at the start.
-fn may_follow(last: Option<Token<'_>>, token: Token<'_>) -> bool
-    ensures { result ≡ next (option_map token_of last.entry) (token_of token.entry) }
+fn may_follow(last: LastToken, token: Token<'_>) -> bool
+    ensures { result ≡ next (token_like last) (token_of token.entry) }
 {
-    use Token::*;
+    use LastToken::*;
     match token {
-        Key(_) | All | Any | Not => matches!(last, None | Some(OpenParen | Comma)),
-        Value(_) => matches!(last, Some(Equals)),
-        Equals => matches!(last, Some(Key(_))),
-        OpenParen => matches!(last, Some(All | Any | Not)),
-        CloseParen => matches!(
-            last,
-            Some(OpenParen | Comma | Key(_) | Value(_) | CloseParen)
-        ),
-        Comma => matches!(last, Some(Comma | Key(_) | Value(_) | CloseParen)),
+        Token::Key(_) | Token::All | Token::Any | Token::Not => {
+            matches!(last, Start | OpenParen | Comma)
+        }
+        Token::Value(_) => matches!(last, Equals),
+        Token::Equals => matches!(last, Key),
+        Token::OpenParen => matches!(last, Function),
+        Token::CloseParen => matches!(last, OpenParen | Comma | Key | Value | CloseParen),
+        Token::Comma => matches!(last, Comma | Key | Value | CloseParen),
     }
 }
 
 /// What a fault says that it expected behind the last token, or at the start.
-fn expected(last: Option<Token<'_>>) -> Reason
-    ensures { cause_of result ≡ unexpected (expected (option_map token_of last.entry)) }
+fn expected(last: LastToken) -> Reason
+    ensures { cause_of result ≡ unexpected (expected (token_like last)) }
 {
-    use Token::*;
+    use LastToken::*;
     Reason::Unexpected(match last {
-        None => &["<key>", "all", "any", "not"],
-        Some(OpenParen) => &["<key>", ")", "all", "any", "not"],
-        Some(Comma) => &[")", "<key>"],
-        Some(Key(_)) => &["=", ",", ")"],
-        Some(Equals) => &["\""],
-        Some(Value(_)) => &[",", ")"],
-        Some(All | Any | Not) => &["("],
-        Some(CloseParen) => &[")", ","],
+        Start => &["<key>", "all", "any", "not"],
+        OpenParen => &["<key>", ")", "all", "any", "not"],
+        Comma => &[")", "<key>"],
+        Key => &["=", ",", ")"],
+        Equals => &["\""],
+        Value => &[",", ")"],
+        Function => &["("],
+        CloseParen => &[")", ","],
     })
+}
+
+/// Whether a value has to follow the last token.
+fn lacks_value(last: LastToken) -> bool
+    ensures { result ≡ lacks_value (token_like last) }
+{
+    matches!(last, LastToken::Equals)
 }
 
 /// The function with this many members.
@@ -148,33 +208,11 @@ fn has_room(func: Func, members: usize) -> bool
     }
 }
 
-/// Counts one more member of the innermost open function. It answers whether one is open.
-fn count_member<A: SmallAllocator>(stack: &mut SmallVec<FuncAndSpan, 5, A>) -> bool
-    requires { TopHasRoom (opens_of stack.old.items) }
-    ensures counted { opens_of stack.new.items ≡ over_top one_more (opens_of stack.old.items) }
-    ensures open { result ≡ is_some_open (opens_of stack.old.items) }
-{
-    let Some(top) = stack.last_mut() else {
-        return false;
-    };
-    top.members += 1;
-    true
-}
-
-/// Notes where the `(` of the innermost open function stands.
-fn open_parens<A: SmallAllocator>(stack: &mut SmallVec<FuncAndSpan, 5, A>, place: usize)
-    ensures { opens_of stack.new.items ≡ over_top (with_parens place) (opens_of stack.old.items) }
-{
-    if let Some(top) = stack.last_mut() {
-        top.parens_index = Some(place);
-    }
-}
-
 /// The fault of a text of so many bytes that ends while this function is open.
-fn unclosed(top: &FuncAndSpan, len: usize) -> Fault
-    ensures { shown result ≡ unclosed len (open_of top.now) top.now.parens_index }
+fn unclosed(top: &FuncAndSpan, list: OpenList, len: usize) -> Fault
+    ensures { shown result ≡ unclosed len (open_of top.now list) list.parens_index }
 {
-    match top.parens_index {
+    match list.parens_index {
         Some(place) => Fault {
             reason: Reason::UnclosedParens,
             span: place..len,
@@ -188,9 +226,10 @@ fn unclosed(top: &FuncAndSpan, len: usize) -> Fault
 
 impl<'a, A: SmallAllocator> Parser<'a, A> {
     ghost use Rattle.cfgx_grammar.specs.parsing.State.{initial};
-    ghost use Rattle.cfgx_parser.specs.parsing.Parser.{state_of, Gives, Opens, EndsFunction};
-    ghost use Rattle.cfgx_parser.specs.parsing.Parser.{value_added, IsQuoted, closed_at, ReadsAll};
-    ghost use Rattle.cfgx_parser.specs.parsing.Parser.{HaltsAs, Says};
+    ghost use Rattle.cfgx_parser.specs.parsing.Parser.{state_of, Gives, Opens, WritesPending};
+    ghost use Rattle.cfgx_parser.specs.parsing.Parser.{parens_opened, value_added, IsQuoted};
+    ghost use Rattle.cfgx_parser.specs.parsing.Parser.{closed_at, concluded, HaltsAs, Says};
+    ghost use Rattle.cfgx_parser.specs.parsing.Parser.{Reads, Finishes, ReadsAll};
     ghost use Rattle.cfgx_parser.specs.parsing.Bounded.{IsBounded, HasRoom};
 
     /// A parser that has read nothing. It takes no memory.
@@ -199,10 +238,9 @@ impl<'a, A: SmallAllocator> Parser<'a, A> {
     {
         Parser {
             func_stack: SmallVec::new(alloc),
+            list: OpenList::new(),
             writer: Writer::new(alloc),
-            last_token: None,
             pending: None,
-            root_count: 0,
             fault: None,
         }
     }
@@ -227,42 +265,62 @@ impl<'a, A: SmallAllocator> Parser<'a, A> {
         }
     }
 
+    /// Notes where the `(` of the innermost function stands.
+    fn open_parens(&mut self, place: usize)
+        ensures { state_of self.new ≡ parens_opened (state_of self.old) place }
+    {
+        self.list.parens_index = Some(place);
+    }
+
     /// Counts an item that has ended in the innermost list.
     fn count_item(&mut self)
         requires { HasRoom (state_of self.old) }
-        ensures { state_of self.new ≡ with_item (state_of self.old) }
+        ensures counted { state_of self.new ≡ with_item (state_of self.old) }
+        ensures functions { self.new.func_stack.items ≡ self.old.func_stack.items }
     {
-        if !count_member(&mut self.func_stack) {
-            self.root_count += 1;
-        }
+        self.list.members += 1;
     }
 
-    /// Ends the predicate or literal that has begun, if one has.
-    fn end_predicate(&mut self) -> Result<(), Halt>
-        requires { IsBounded (state_of self.old) }
-        ensures { Gives result self.new (predicate_ended (state_of self.old)) }
+    /// Writes the predicate or literal that has begun.
+    fn write_leaf(&mut self) -> Result<(), Halt>
+        requires { Fits (written_of self.old.writer) }
+        ensures { WritesPending self.old self.new result }
     {
-        let Some(pending) = self.pending.take() else {
+        let Some(pending) = &self.pending else {
             return Ok(());
         };
         let leaf = match classify(pending) {
             Ok(leaf) => leaf,
             Err((reason, span)) => return Err(self.halt(reason, span)),
         };
+        self.pending = None;
         self.writer.leaf(leaf)?;
-        self.count_item();
         Ok(())
     }
 
     /// The same, and cheaper if none has begun, as is often so at a `)`.
-    fn end_pending(&mut self) -> Result<(), Halt>
-        requires { IsBounded (state_of self.old) }
-        ensures { Gives result self.new (predicate_ended (state_of self.old)) }
+    fn write_pending(&mut self) -> Result<(), Halt>
+        requires { Fits (written_of self.old.writer) }
+        ensures { WritesPending self.old self.new result }
     {
         if self.pending.is_none() {
             return Ok(());
         }
-        self.end_predicate()
+        self.write_leaf()
+    }
+
+    /// Ends the predicate or literal that has begun, if one has.
+    fn end_predicate(&mut self) -> Result<(), Halt>
+        requires { IsBounded (state_of self.old) }
+        ensures answer { Gives result self.new (predicate_ended (state_of self.old)) }
+        ensures functions { OnOk result
+            (self.new.func_stack.items ≡ self.old.func_stack.items) }
+    {
+        if self.pending.is_some() {
+            self.write_leaf()?;
+            self.count_item();
+        }
+        Ok(())
     }
 
     /// Opens a function, whose name stands at the span.
@@ -274,23 +332,10 @@ impl<'a, A: SmallAllocator> Parser<'a, A> {
         self.func_stack.push(FuncAndSpan {
             func,
             span,
-            parens_index: None,
-            members: 0,
             mark,
+            around: self.list,
         })?;
-        Ok(())
-    }
-
-    /// Ends the innermost function, whose members all have ended.
-    fn end_function(&mut self) -> Result<(), AllocError>
-        requires { IsBounded (state_of self.old) }
-        ensures { OnOk result (EndsFunction self.old self.new) }
-    {
-        if let Some(top) = self.func_stack.pop() {
-            let func = counted(top.func, top.members);
-            self.writer.end_function(top.mark, func)?;
-            self.count_item();
-        }
+        self.list = OpenList::new();
         Ok(())
     }
 
@@ -299,16 +344,18 @@ impl<'a, A: SmallAllocator> Parser<'a, A> {
         requires { IsBounded (state_of self.old) }
         ensures { Gives result self.new (closed_at (state_of self.old) span) }
     {
-        let Some(top) = self.func_stack.last() else {
+        let Some(top) = self.func_stack.pop() else {
             return Err(self.halt(Reason::UnopenedParens, span));
         };
-        let (func, start, ended) = (top.func, top.span.start, top.members);
-        let members = ended + usize::from(self.pending.is_some());
-        if !has_room(func, members) {
-            return Err(self.halt(Reason::InvalidNot(members), start..span.end));
+        let members = self.list.members + usize::from(self.pending.is_some());
+        if !has_room(top.func, members) {
+            return Err(self.halt(Reason::InvalidNot(members), top.span.start..span.end));
         }
-        self.end_pending()?;
-        self.end_function()?;
+        self.write_pending()?;
+        self.list = top.around;
+        self.writer
+            .end_function(top.mark, counted(top.func, members))?;
+        self.count_item();
         Ok(())
     }
 
@@ -333,62 +380,77 @@ impl<'a, A: SmallAllocator> Parser<'a, A> {
             (apply (state_of self.old) (item_of lexed.entry) (token_of lexed.entry.token)) }
     {
         let LexerToken { token, span } = lexed;
-        match token {
+        let func = match token {
             Token::Key(text) => {
                 let key = Word { text, span };
                 self.pending = Some(Pending { key, value: None });
-                Ok(())
+                return Ok(());
             }
             Token::Value(text) => {
                 self.add_value(text, span);
-                Ok(())
+                return Ok(());
             }
-            Token::Equals => Ok(()),
-            Token::All => Ok(self.open(Func::All(0), span)?),
-            Token::Any => Ok(self.open(Func::Any(0), span)?),
-            Token::Not => Ok(self.open(Func::Not, span)?),
+            Token::Equals => return Ok(()),
             Token::OpenParen => {
-                open_parens(&mut self.func_stack, span.start);
-                Ok(())
+                self.open_parens(span.start);
+                return Ok(());
             }
-            Token::CloseParen => self.close(span),
-            Token::Comma => self.end_predicate(),
-        }
+            Token::CloseParen => return self.close(span),
+            Token::Comma => return self.end_predicate(),
+            Token::All => Func::All(0),
+            Token::Any => Func::Any(0),
+            Token::Not => Func::Not,
+        };
+        Ok(self.open(func, span)?)
     }
 
-    /// Reads one token.
-    fn read(&mut self, lexed: LexerToken<'a>) -> Result<(), Halt>
+    /// Reads one token behind the last one, or at the start.
+    fn read(&mut self, last: LastToken, lexed: LexerToken<'a>) -> Result<(), Halt>
         requires bounded { IsBounded (state_of self.old) }
         requires quoted { IsQuoted lexed }
-        ensures { Gives result self.new (step (state_of self.old) (item_of lexed.entry)) }
+        ensures { Reads last lexed.entry self.old self.new result }
     {
-        let token = lexed.token;
-        if !may_follow(self.last_token, token) {
-            return Err(self.halt(expected(self.last_token), lexed.span));
+        if !may_follow(last, lexed.token) {
+            return Err(self.halt(expected(last), lexed.span));
         }
-        self.apply(lexed)?;
-        self.last_token = Some(token);
-        Ok(())
+        self.apply(lexed)
     }
 
-    /// Ends a text of so many bytes, which has to be one item, and completes its nodes.
-    fn finish(&mut self, len: usize) -> Result<(), Halt>
-        requires { IsBounded (state_of self.old) }
-        ensures { Gives result self.new (conclude len (state_of self.old)) }
+    /// Ends a text of so many bytes whose items all have ended. It has to be one.
+    fn one_root(&mut self, len: usize) -> Result<(), Halt>
+        requires fits { Fits (written_of self.old.writer) }
+        requires closed { self.old.func_stack.items ≡ [] }
+        ensures { Gives result self.new (one_root len (state_of self.old)) }
     {
-        if matches!(self.last_token, Some(Token::Equals)) {
-            return Err(self.halt(Reason::Unexpected(&["\"<value>\""]), len..len));
-        }
-        if let Some(top) = self.func_stack.last() {
-            let Fault { reason, span } = unclosed(top, len);
-            return Err(self.halt(reason, span));
-        }
-        self.end_predicate()?;
-        match self.root_count {
+        match self.list.members {
             0 => Err(self.halt(Reason::Empty, 0..len)),
             1 => Ok(self.writer.end_list(0)?),
             _ => Err(self.halt(Reason::MultipleRootPredicates, 0..len)),
         }
+    }
+
+    /// Ends a text of so many bytes in which no value is missing.
+    fn end_root(&mut self, len: usize) -> Result<(), Halt>
+        requires { IsBounded (state_of self.old) }
+        ensures { Gives result self.new (concluded (state_of self.old) len) }
+    {
+        if let Some(top) = self.func_stack.last() {
+            let Fault { reason, span } = unclosed(top, self.list, len);
+            return Err(self.halt(reason, span));
+        }
+        self.end_predicate()?;
+        self.one_root(len)
+    }
+
+    /// Ends a text of so many bytes behind its last token, and completes its nodes.
+    fn finish(&mut self, last: LastToken, len: usize) -> Result<(), Halt>
+        requires { IsBounded (state_of self.old) }
+        ensures { Finishes last len self.old self.new result }
+    {
+        if lacks_value(last) {
+            return Err(self.halt(Reason::Unexpected(&["\"<value>\""]), len..len));
+        }
+        self.end_root(len)
     }
 
     /// Reads what the lexer gives, to the end of the text.
@@ -399,12 +461,16 @@ impl<'a, A: SmallAllocator> Parser<'a, A> {
         ensures { ReadsAll lexer.entry self.old self.new result }
     {
         let text = lexer.original();
+        let mut last = LastToken::Start;
         for lexed in lexer {
-            if let Err(halt) = self.read(lexed?) {
+            let lexed = lexed?;
+            let token = lexed.token;
+            if let Err(halt) = self.read(last, lexed) {
                 return Err(self.failure(alloc, text, halt));
             }
+            last = LastToken::of(token);
         }
-        match self.finish(text.len()) {
+        match self.finish(last, text.len()) {
             Ok(()) => Ok(()),
             Err(halt) => Err(self.failure(alloc, text, halt)),
         }

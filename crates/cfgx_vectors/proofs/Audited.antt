@@ -1,6 +1,6 @@
 -- Sixty-four targets at once have the values that each of them has alone.
 use Rattle.std.proofs.Common.{◌≡◌, ◌∙◌, ◌<◌, ◌≤◌, ℕ, zero, suc, Bool, List, [], ◌∷◌, ◌++◌, Option}
-use Rattle.std.proofs.Common.{Some, None, ap, arith, length, map, refl, subst, sym, take, ⊎_elim}
+use Rattle.std.proofs.Common.{Some, ap, arith, length, map, refl, subst, sym, take, ⊎_elim}
 use Rattle.std.specs.Prelude.{get_or}
 use Rattle.std.specs.List.{AllZip, slice_get}
 use Rattle.std.proofs.Math.Seq.{take-suc}

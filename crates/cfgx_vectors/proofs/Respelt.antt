@@ -1,5 +1,5 @@
 -- What is read of a text that asks one predicate alone.
-use Rattle.std.proofs.Common.{◌≡◌, ◌∙◌, List, ℕ, Ok, Err, sym, subst}
+use Rattle.std.proofs.Common.{◌∙◌, List, ℕ, Ok, Err, sym, subst}
 use Rattle.std.specs.Prelude.{Result}
 use Rattle.cfgx_syntax.specs.Stripping.{strip}
 use Rattle.cfgx_syntax.specs.declared.error.Failure.{Failure}

@@ -1,12 +1,13 @@
 -- Members that are joined from the last back.
-use Rattle.std.proofs.Common.{◌≡◌, ◌+◌, ◌<◌, ◌≤◌, ◌++◌, ℕ, Bool, true, false, List, [], ◌∷◌}
-use Rattle.std.proofs.Common.{length, map, take, drop, set, get_or, Option, Some, None, refl, sym}
-use Rattle.std.proofs.Common.{ap, ◌∙◌, arith, subst}
-use Rattle.std.proofs.lemmas.List.{drop_more, drop-set, take-set-le, take-take, get_or-take}
+use Rattle.std.proofs.Common.{◌≡◌, ◌+◌, ◌<◌, ◌++◌, ℕ, Bool, true, false, List, [], ◌∷◌, length}
+use Rattle.std.proofs.Common.{map, take, drop, set, get_or, Option, Some, None, refl, sym, ap, ◌∙◌}
+use Rattle.std.proofs.Common.{append_assoc, arith, ◌||◌}
+use Rattle.std.proofs.Math.Seq.{get_or-append_seam}
+use Rattle.std.proofs.lemmas.List.{drop_more, length-take-le, set_at, take_more}
 use Rattle.std.specs.List.{cons_option}
 use Rattle.cfgx_grammar.specs.Fold.{Operations, from_last}
 use Rattle.cfg_expr.specs.nodes.Reading.{Member, begin_of, join_of, join_value, value_in, values_in}
-use Rattle.cfg_expr.specs.nodes.Reading.{taken, joined}
+use Rattle.cfg_expr.specs.nodes.Reading.{taken, joined, is_held}
 use Rattle.cfg_expr.specs.declared.expr.evaluating.Connective.{Connective}
 use Rattle.cfg_expr.specs.declared.expr.evaluating.Member.TheVariants as member
 
@@ -21,8 +22,7 @@ values-taken : {T : Type 0} (members : List (Member T))
     → values_in true (map (taken false) members) ≡ values_in true members
 values-taken [] = refl
 values-taken (member.Leaf value ∷ members) = values-taken members
-values-taken (member.Function value ∷ members) = ap (λ l. value ∷ l) (values-taken members)
-values-taken (member.Joined ∷ members) = values-taken members
+values-taken (first ∷ members) = rw (values-taken members) refl
 
 -- two passes join all members
 pub joined-twice : {T : Type 0} (logic : Operations T) (connective : Connective)
@@ -34,28 +34,14 @@ joined-twice logic connective members =
     (sym (from_last-append (join_of logic connective) (begin_of logic connective)
     (values_in true members) (values_in false members)))
 
--- A pass from the last place back leaves the front of a list as it was.
-
-pub front-last : {X : Type 0} (place : ℕ) (otherwise : X) (old new : List X)
-    → take (place + 1) new ≡ take (place + 1) old → get_or new place otherwise
-    ≡ get_or old place otherwise
-front-last place otherwise old new front =
-    sym (get_or-take (place + 1) new place otherwise (omega arith))
-    ∙ ap (λ l. get_or l place otherwise) front
-    ∙ get_or-take (place + 1) old place otherwise (omega arith)
-
-pub front-less : {X : Type 0} (place : ℕ) (old new : List X)
-    → take (place + 1) new ≡ take (place + 1) old → take place new ≡ take place old
-front-less place old new front =
-    sym (take-take place (place + 1) new (omega arith)) ∙ ap (take place) front
-    ∙ take-take place (place + 1) old (omega arith)
-
--- One pass, from the last member back to the place: the value so far, and the members.
-pub record Joins {T : Type 0} (join : T → T → T) (functions : Bool) (begin : T)
-    (old : List (Member T)) (value : T) (place : ℕ) (members : List (Member T)) : Type 0 where
-  pub value_is : value ≡ from_last join begin (values_in functions (drop place old))
-  pub front : take place members ≡ take place old
-  pub back : drop place members ≡ map (taken functions) (drop place old)
+-- one pass does, if it leaves none
+pub joined-once : {T : Type 0} (logic : Operations T) (connective : Connective)
+    (members : List (Member T)) → values_in true (map (taken false) members) ≡ []
+    → from_last (join_of logic connective) (begin_of logic connective) (values_in false members)
+    ≡ joined logic connective members
+joined-once logic connective members none =
+    ap (from_last (join_of logic connective) _) (sym none)
+    ∙ joined-twice logic connective members
 
 from_last-cons : {T : Type 0} (join : T → T → T) (begin : T) (value : Option T) (values : List T)
     → join_value join (from_last join begin values) value
@@ -63,32 +49,46 @@ from_last-cons : {T : Type 0} (join : T → T → T) (begin : T) (value : Option
 from_last-cons join begin None values = refl
 from_last-cons join begin (Some value) values = refl
 
-pub Joins-next : {T : Type 0} {join : T → T → T} {functions : Bool} {begin : T}
-    {old : List (Member T)} {value next : T} {after place : ℕ} {members : List (Member T)}
-    {new_one : Member T} (otherwise : Member T) → after ≡ place + 1 → place < length members
-    → length members ≡ length old → Joins join functions begin old value after members
+-- One pass, from the last member back to the place: the value so far, and the members.
+abbrev pub Joins : {T : Type 0} → (T → T → T) → Bool → T → List (Member T) → T → Bool → ℕ
+    → List (Member T) → Type 0
+Joins join functions begin old value left place members =
+    (value ≡ from_last join begin (values_in functions (drop place old)))
+    × (members ≡ take place old ++ map (taken functions) (drop place old))
+    × (left ≡ false → values_in true (map (taken functions) (drop place old)) ≡ [])
+
+-- a member that is not held adds no value
+values-left : {T : Type 0} (first : Member T) (rest : List (Member T)) (left : Bool)
+    → (left ≡ false → values_in true rest ≡ []) → (left || is_held first) ≡ false
+    → values_in true (first ∷ rest) ≡ []
+values-left member.Joined rest false none is = none refl
+values-left (member.Leaf value) rest false none is = absurd (cc)
+values-left (member.Function value) rest false none is = absurd (cc)
+values-left first rest true none is = absurd (cc)
+
+pub Joins-next : {T : Type 0} (join : T → T → T) (functions : Bool) (begin : T)
+    (old members : List (Member T)) (value next : T) (left held : Bool)
+    (new_one otherwise : Member T) (place : ℕ) → place < length old
+    → Joins join functions begin old value left (place + 1) members
     → next ≡ join_value join value (value_in functions (get_or members place otherwise))
     → new_one ≡ taken functions (get_or members place otherwise)
-    → Joins join functions begin old next place (set members place new_one)
-Joins-next {T} {join} {functions} {begin} {old} {value} {next} {after} {place} {members} {new_one}
-    otherwise one_more inside many before is same =
-    let joins = subst (λ at. Joins join functions begin old value at members) one_more before in
-    let one = front-last place otherwise old members joins.front in
-    let last = drop_more old place otherwise (omega (arith, many))
-    ∙ ap (λ x. x ∷ drop (place + 1) old) (sym one) in
-    record {
-      value_is = is ∙ rw (joins.value_is, last) (from_last-cons join begin _ _);
-      front = take-set-le place members place new_one (omega arith)
-          ∙ front-less place old members joins.front;
-      back = drop-set members place new_one inside ∙ rw (joins.back, same, last) refl;
-    }
-
-pub Joins-end : {T : Type 0} {join : T → T → T} {functions : Bool} {begin : T}
-    {old : List (Member T)} {value : T} {place : ℕ} {members : List (Member T)} → place ≤ 0
-    → Joins join functions begin old value place members
-    → (value ≡ from_last join begin (values_in functions old))
-    × (members ≡ map (taken functions) old)
-Joins-end {T} {join} {functions} {begin} {old} {value} {place} {members} none joins =
-    let start : place ≡ 0 = omega (arith, none) in
-    let all = subst (λ at. Joins join functions begin old value at members) start joins in
-    (all.value_is, all.back)
+    → held ≡ is_held new_one
+    → Joins join functions begin old next (left || held) place (set members place new_one)
+Joins-next join functions begin old members value next left held new_one otherwise place inside
+    joins is same held_is =
+    let member = get_or old place otherwise in
+    let back = map (taken functions) (drop (place + 1) old) in
+    let at : length (take place old) ≡ place = length-take-le place old (omega arith) in
+    let last : drop place old ≡ member ∷ drop (place + 1) old =
+    drop_more old place otherwise inside in
+    let members_are : members ≡ take place old ++ member ∷ back = joins.1
+    ∙ rw (take_more old place otherwise inside, append_assoc) refl in
+    let one : get_or members place otherwise ≡ member = rw members_are
+    (ap (λ n. get_or (take place old ++ member ∷ back) n otherwise) (sym at)
+    ∙ get_or-append_seam (take place old) member back otherwise) in (
+      is ∙ rw (joins.0, one, last) (from_last-cons join begin (value_in functions member) _),
+      rw (last, same, one, members_are) (set_at (take place old) member back _ place at),
+      λ none. rw last (values-left (taken functions member) back left joins.2
+          (ap (λ m. left || is_held m) (sym (same ∙ ap (taken functions) one))
+          ∙ ap (λ b. left || b) (sym held_is) ∙ none)),
+    )

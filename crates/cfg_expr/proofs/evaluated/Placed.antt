@@ -1,174 +1,140 @@
 -- Answers that are put at the places of a tree's predicates, in the order in which it asks, stand
 -- there as its nodes do.
-use Rattle.std.proofs.Common.{◌≡◌, ℕ, ◌+◌, List, [], ◌∷◌, ◌++◌, length, map, set}
-use Rattle.std.proofs.Common.{refl, sym, ap, ◌∙◌, arith}
-use Rattle.std.proofs.Common.{append_assoc, length-append}
-use Rattle.std.proofs.lemmas.List.{append-nil, length-map, map-append, set_at}
-use Rattle.cfgx_grammar.specs.Tree.{Tree, Trees, is_function, is_leaf, asked, asked_by}
+use Rattle.std.proofs.Common.{◌≡◌, ⊎_elim, ℕ, zero, suc, ◌+◌, ◌-◌, ◌<◌, List, [], ◌∷◌, ◌++◌, length}
+use Rattle.std.proofs.Common.{map, get_or, set, refl, sym, ap, ◌∙◌, arith}
+use Rattle.std.proofs.lemmas.Bool.{cases_eq, cases_lt}
+use Rattle.std.proofs.lemmas.List.{append-nil, ext_get_or, get_or-append_right}
+use Rattle.std.proofs.lemmas.List.{get_or-set_other, get_or_append_left, get_or_past, length-map}
+use Rattle.std.proofs.lemmas.List.{length-replicate, length-set, map-append}
+use Rattle.std.proofs.lemmas.Grind.{get_or-set_at}
+use Rattle.std.specs.List.{AllByRecursion}
+use Rattle.cfgx_grammar.specs.Tree.{Tree, Trees, is_function, is_leaf, asked}
 use Rattle.cfgx_grammar.specs.Fold.{Operations, answered}
 use Rattle.cfgx_grammar.proofs.Alike.{answered-shape}
 use Rattle.cfgx_grammar.proofs.Dealing.{asked-answered}
-use Rattle.cfgx_parser.specs.nodes.Prefix.{Node, prefix, prefix_each}
-use Rattle.cfgx_parser.specs.nodes.Prefix.{places, places_by}
-use Rattle.cfgx_parser.specs.nodes.Shape.{shape_of}
+use Rattle.cfgx_parser.specs.nodes.Prefix.{Node, prefix, prefix_each, places, places_by}
+use Rattle.cfgx_parser.specs.nodes.Shape.{shape, shape_of}
+use Rattle.cfgx_parser.specs.declared.nodes.ExprNode.{ExprNode}
 use Rattle.cfgx_parser.proofs.Shapes.{length-shape, places-shape, shapes-shape}
 use Rattle.cfg_expr.specs.nodes.Answers.{no_answers, with_answers}
 use Rattle.cfg_expr.specs.nodes.Reading.{Member, read}
 use Rattle.cfg_expr.specs.declared.expr.evaluating.Member.TheVariants as member
-use Rattle.cfg_expr.proofs.evaluated.Read.{slot_of, entry, read-whole}
+use Rattle.cfg_expr.proofs.evaluated.Nodes.{read-mapped}
+use Rattle.cfg_expr.proofs.evaluated.Read.{slot_of, entry, read-tree}
+
+-- the place is none of these
+abbrev Misses : ℕ → List ℕ → Type 0
+Misses place places = AllByRecursion (λ other. place ≡ other → ⊥) places
+
+Misses-both : (place : ℕ) (these those : List ℕ) → Misses place (these ++ those)
+    → Misses place these × Misses place those
+Misses-both place [] those misses = (tt, misses)
+Misses-both place (first ∷ these) those misses =
+    let both = Misses-both place these those misses.1 in ((misses.0, both.0), both.1)
 
 module _ {T : Type 0} where
-  with_answers-append : (slots : List (Member T)) (ps qs : List ℕ) (xs ys : List T)
-      → length ps ≡ length xs → with_answers slots (ps ++ qs) (xs ++ ys)
-      ≡ with_answers (with_answers slots ps xs) qs ys
-  with_answers-append slots [] qs [] ys many = refl
-  with_answers-append slots [] qs (x ∷ xs) ys many = absurd (omega arith)
-  with_answers-append slots (p ∷ ps) qs [] ys many = absurd (omega arith)
-  with_answers-append slots (p ∷ ps) qs (x ∷ xs) ys many =
-      with_answers-append (set slots p (member.Leaf x)) ps qs xs ys (omega arith)
+  -- what is in the slot at a place
+  abbrev at : List (Member T) → ℕ → Member T
+  at slots place = get_or slots place member.Joined
 
-  -- the answers put at the places make one part of a list, which begins at `at`, into another
-  record Fills (at : ℕ) (before : List (Member T)) (ps : List ℕ) (xs : List T)
-      (after : List (Member T)) : Type 0 where
-    many : length ps ≡ length xs
-    fills : (front back : List (Member T)) → length front ≡ at
-        → with_answers (front ++ (before ++ back)) ps xs ≡ front ++ (after ++ back)
+  inside : (all : List (Member T)) (place : ℕ) (x : T) → at all place ≡ member.Leaf x
+      → place < length all
+  inside all place x here = ⊎_elim (λ below. below)
+      (λ past. absurd (cc (here, get_or_past all place member.Joined past)))
+      (cases_lt place (length all))
 
-  -- nothing is put
-  Fills-none : (at : ℕ) (part : List (Member T)) → Fills at part [] [] part
-  Fills-none at part = record { many = refl; fills = λ front back is. refl }
-
-  Fills-one : (at : ℕ) (x : T) → Fills at (member.Joined ∷ []) (at ∷ []) (x ∷ [])
-      (member.Leaf x ∷ [])
-  Fills-one at x = record {
-    many = refl;
-    fills = λ front back is. set_at front member.Joined back (member.Leaf x) at is;
-  }
-
-  -- one part behind the other
-  Fills-both : {at next : ℕ} {before others after rest : List (Member T)} {ps qs : List ℕ}
-      {xs ys : List T} → Fills at before ps xs after → at + length after ≡ next
-      → Fills next others qs ys rest
-      → Fills at (before ++ others) (ps ++ qs) (xs ++ ys) (after ++ rest)
-  Fills-both {at} {next} {before} {others} {after} {rest} {ps} {qs} {xs} {ys} first is second =
-      record {
-        many = omega (arith, length-append ps qs, length-append xs ys, first.many, second.many);
-        fills = λ front back here.
-            let there : length (front ++ after) ≡ next = omega (arith, length-append front after) in
-            rw (
-              append_assoc before others back,
-              with_answers-append (front ++ (before ++ (others ++ back))) ps qs xs ys first.many,
-              first.fills front (others ++ back) here,
-              sym (append_assoc front after (others ++ back)),
-              second.fills (front ++ after) back there,
-              append_assoc front after (rest ++ back),
-              append_assoc after rest back,
-            ) refl;
-      }
-
-  -- one after the other
-  Fills-then : {at : ℕ} {before between after : List (Member T)} {ps qs : List ℕ} {xs ys : List T}
-      → Fills at before ps xs between → Fills at between qs ys after
-      → Fills at before (ps ++ qs) (xs ++ ys) after
-  Fills-then {at} {before} {between} {after} {ps} {qs} {xs} {ys} first second = record {
-    many = omega (arith, length-append ps qs, length-append xs ys, first.many, second.many);
-    fills = λ front back here. rw (
-      with_answers-append (front ++ (before ++ back)) ps qs xs ys first.many,
-      first.fills front back here,
-      second.fills front back here,
-    ) refl;
-  }
-
-  -- no answer at any node, and all the answers
-  abbrev no_slot : Node T → Member T
-  no_slot node = member.Joined
-
-  abbrev blank : List (Node T) → List (Member T)
-  blank = map no_slot
+  -- where each slot is right but for the places still to come, all are right at the end
+  put-right : (all slots : List (Member T)) (ps : List ℕ) (xs : List T)
+      → map (at all) ps ≡ map member.Leaf xs → length slots ≡ length all
+      → ((place : ℕ) → Misses place ps → at slots place ≡ at all place)
+      → with_answers slots ps xs ≡ all
+  put-right all slots [] [] found many right =
+      ext_get_or member.Joined slots all many (λ place inside. right place tt)
+  put-right all slots [] (x ∷ xs) found many right = absurd (cc)
+  put-right all slots (p ∷ ps) [] found many right = absurd (cc)
+  put-right all slots (p ∷ ps) (x ∷ xs) found many right =
+      let here : at all p ≡ member.Leaf x = cc in
+      let rest : map (at all) ps ≡ map member.Leaf xs = cc in
+      let below : p < length slots = omega (arith, inside all p x here) in
+      put-right all (set slots p (member.Leaf x)) ps xs rest (length-set slots p _ ∙ many)
+      (λ place misses. ⊎_elim
+      (λ same. get_or-set_at slots p place _ _ same below ∙ sym here ∙ ap (at all) (sym same))
+      (λ other. get_or-set_other slots p place _ _ other ∙ right place (other, misses))
+      (cases_eq place p))
 
   abbrev slots : List (Node T) → List (Member T)
   slots = map slot_of
 
-  -- the answers of those members that are functions
-  abbrev halves : Trees T → List (Member T)
-  halves Trees.none = []
-  halves (Trees.more (Tree.leaf x) trees) = member.Joined ∷ halves trees
-  halves (Trees.more tree trees) = slots (prefix tree) ++ halves trees
-
-  abbrev FillsTree : ℕ → Tree T → Type 0
-  FillsTree at tree = Fills at (blank (prefix tree)) (places at tree) (asked tree)
-      (slots (prefix tree))
-
-  -- the members that are functions are asked first
-  abbrev FillsInner : ℕ → Trees T → Type 0
-  FillsInner at trees = Fills at (blank (prefix_each trees)) (places_by is_function at trees)
-      (asked_by is_function trees) (halves trees)
-
-  abbrev FillsOwn : ℕ → Trees T → Type 0
-  FillsOwn at trees = Fills at (halves trees) (places_by is_leaf at trees)
-      (asked_by is_leaf trees) (slots (prefix_each trees))
-
-  -- a function's own node has no answer
-  Fills-headed : {at : ℕ} {before after : List (Member T)} {ps : List ℕ} {xs : List T}
-      → Fills (at + 1) before ps xs after
-      → Fills at (member.Joined ∷ before) ps xs (member.Joined ∷ after)
-  Fills-headed {at} inner = Fills-both (Fills-none at (member.Joined ∷ [])) refl inner
-
+  -- what stands at none of the places is no answer
   mutual
-    fills-tree : (tree : Tree T) (at : ℕ) → FillsTree at tree
-    fills-tree (Tree.leaf x) at = Fills-one at x
-    fills-tree (Tree.literal truth) at = Fills-none at (member.Joined ∷ [])
-    fills-tree (Tree.all trees) at =
-        Fills-headed (Fills-then (fills-inner trees (at + 1)) (fills-own trees (at + 1)))
-    fills-tree (Tree.any trees) at =
-        Fills-headed (Fills-then (fills-inner trees (at + 1)) (fills-own trees (at + 1)))
-    fills-tree (Tree.not tree) at = Fills-headed (fills-tree tree (at + 1))
+    covered : (tree : Tree T) (first place offset : ℕ) → place ≡ first + offset
+        → Misses place (places first tree) → at (slots (prefix tree)) offset ≡ member.Joined
+    covered (Tree.leaf x) first place zero is misses = absurd (misses.0 (omega (arith, is)))
+    covered (Tree.all trees) first place (suc offset) is misses =
+        let both = Misses-both place (places_by is_function (first + 1) trees) _ misses in
+        each-covered trees (first + 1) place offset (omega (arith, is)) both.0 both.1
+    covered (Tree.any trees) first place (suc offset) is misses =
+        let both = Misses-both place (places_by is_function (first + 1) trees) _ misses in
+        each-covered trees (first + 1) place offset (omega (arith, is)) both.0 both.1
+    covered (Tree.not tree) first place (suc offset) is misses =
+        covered tree (first + 1) place offset (omega (arith, is)) misses
+    covered (Tree.literal truth) first place (suc offset) is misses = refl
+    covered tree first place offset is misses = refl
 
-    fills-inner : (trees : Trees T) (at : ℕ) → FillsInner at trees
-    fills-inner Trees.none at = Fills-none at []
-    fills-inner (Trees.more (Tree.leaf x) trees) at = Fills-headed (fills-inner trees (at + 1))
-    fills-inner (Trees.more tree trees) at =
-        let first = prefix tree in
-        rw (map-append no_slot first (prefix_each trees))
-        (Fills-both (fills-tree tree at) (ap (λ n. at + n) (length-map first slot_of))
-        (fills-inner trees (at + length first)))
-
-    fills-own : (trees : Trees T) (at : ℕ) → FillsOwn at trees
-    fills-own Trees.none at = Fills-none at []
-    fills-own (Trees.more (Tree.leaf x) trees) at =
-        Fills-both (Fills-one at x) refl (fills-own trees (at + 1))
-    fills-own (Trees.more tree trees) at =
-        let first = prefix tree in
-        rw (map-append slot_of first (prefix_each trees))
-        (Fills-both (Fills-none at (slots first)) (ap (λ n. at + n) (length-map first slot_of))
-        (fills-own trees (at + length first)))
-
-  blank-replicate : (nodes : List (Node T)) → blank nodes ≡ no_answers (length nodes)
-  blank-replicate [] = refl
-  blank-replicate (node ∷ nodes) = ap (λ l. member.Joined ∷ l) (blank-replicate nodes)
+    each-covered : (trees : Trees T) (first place offset : ℕ) → place ≡ first + offset
+        → Misses place (places_by is_function first trees)
+        → Misses place (places_by is_leaf first trees)
+        → at (slots (prefix_each trees)) offset ≡ member.Joined
+    each-covered Trees.none first place offset is inner own = refl
+    each-covered (Trees.more (Tree.leaf x) trees) first place zero is inner own =
+        absurd (own.0 (omega (arith, is)))
+    each-covered (Trees.more (Tree.leaf x) trees) first place (suc offset) is inner own =
+        each-covered trees (first + 1) place offset (omega (arith, is)) inner own.1
+    each-covered (Trees.more (Tree.literal truth) trees) first place zero is inner own = refl
+    each-covered (Trees.more (Tree.literal truth) trees) first place (suc offset) is inner own =
+        each-covered trees (first + 1) place offset (omega (arith, is)) inner own
+    each-covered (Trees.more tree trees) first place offset is inner own =
+        let these = slots (prefix tree) in
+        let count = length-map (prefix tree) slot_of in
+        let both = Misses-both place (places first tree) _ inner in
+        ap (λ l. at l offset) (map-append slot_of (prefix tree) (prefix_each trees)) ∙ ⊎_elim
+        (λ below. get_or_append_left these _ member.Joined offset (omega (arith, count))
+        ∙ covered tree first place offset is both.0)
+        (λ past. get_or-append_right these _ _ offset member.Joined count past
+        ∙ each-covered trees _ place (offset - length (prefix tree)) (omega (arith, is))
+        both.1 own) (cases_lt offset (length (prefix tree)))
 
   placed : (tree : Tree T) → with_answers (no_answers (length (prefix tree))) (places 0 tree)
       (asked tree) ≡ slots (prefix tree)
   placed tree =
-      let whole = (fills-tree tree 0).fills [] [] refl in
-      rw (
-        append-nil (blank (prefix tree)),
-        append-nil (slots (prefix tree)),
-        blank-replicate (prefix tree),
-      ) at whole
+      let all = slots (prefix tree) in
+      let count = length (prefix tree) in
+      put-right all (no_answers count) (places 0 tree) (asked tree)
+      (read-mapped tree slot_of member.Joined)
+      (length-replicate count member.Joined ∙ sym (length-map (prefix tree) slot_of))
+      (λ place misses. blank count place ∙ sym (covered tree 0 place place (omega arith) misses))
+    where
+      blank : (count place : ℕ) → at (no_answers count) place ≡ member.Joined
+      blank zero place = refl
+      blank (suc count) zero = refl
+      blank (suc count) (suc place) = blank count place
 
 -- answers to what a tree asks, put at its places and read, leave its value over them
 pub read-placed : {X T : Type 0} (logic : Operations T) (tree : Tree X) (answers : List T)
-    → length answers ≡ length (asked tree)
-    → read logic (map shape_of (prefix tree))
-    (with_answers (no_answers (length (prefix tree))) (places 0 tree) answers)
+    (nodes : List ExprNode) → map shape nodes ≡ map shape_of (prefix tree)
+    → length answers ≡ length (asked tree) → read logic (map shape nodes)
+    (with_answers (no_answers (length nodes)) (places 0 tree) answers)
     ≡ entry logic (answered logic.top tree answers) ∷ []
-read-placed {T = T} logic tree answers many =
+read-placed {T = T} logic tree answers nodes shapes many =
     let given = answered logic.top tree answers in
-    let shape = answered-shape logic.top tree answers in
-    let asks = asked-answered logic.top tree answers many in
-    let blanks : List (Member T) = no_answers (length (prefix tree)) in
-    let put : with_answers blanks (places 0 tree) answers ≡ slots (prefix given) =
-    ap (with_answers blanks (places 0 tree)) (sym asks)
-    ∙ rw (length-shape tree given shape, places-shape tree given shape) (placed given) in
-    rw (put, shapes-shape tree given shape) (read-whole logic given)
+    let same = answered-shape logic.top tree answers in
+    let count : length nodes ≡ length (prefix given) = sym (length-map nodes shape)
+    ∙ ap length shapes ∙ length-map (prefix tree) shape_of ∙ length-shape tree given same in
+    let put : with_answers (no_answers (length nodes)) (places 0 tree) answers
+    ≡ slots (prefix given) = rw (count, places-shape tree given same)
+    (ap (with_answers _ (places 0 given)) (sym (asked-answered logic.top tree answers many))
+    ∙ placed given) in
+    rw (put, shapes, shapes-shape tree given same) (rw (
+      append-nil (map shape_of (prefix given)),
+      append-nil (slots (prefix given)),
+    ) at (read-tree logic given [] []))

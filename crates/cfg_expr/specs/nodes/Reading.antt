@@ -1,16 +1,16 @@
 -- Nodes that are read from the last to the first, over a stack of the trees that no function has
 -- joined yet, the first one on top. Source: Polish notation, whose functions stand in front of
 -- their members.
-use Rattle.std.specs.Prelude.{◌++◌, ℕ, Bool, true, false, List, [], ◌∷◌, take, drop}
-use Rattle.std.specs.Prelude.{Option, Some, None, option_map}
+use Rattle.std.specs.Prelude.{◌++◌, ℕ, Bool, true, false, List, [], ◌∷◌, length, min, take, drop}
+use Rattle.std.specs.Prelude.{Option, Some, None, unwrap_or}
 use Rattle.std.specs.List.{filter_map}
 use Rattle.cfgx_grammar.specs.Fold.{Operations, constant, from_last}
 use Rattle.cfgx_parser.specs.nodes.Shape.{Shape}
-use Rattle.cfgx_parser.specs.declared.function.Func.{Func}
 use Rattle.cfgx_parser.specs.declared.function.Func.TheVariants.{Not, All, Any}
 use Rattle.cfg_expr.specs.declared.expr.evaluating.Connective.{Connective}
 use Rattle.cfg_expr.specs.declared.expr.evaluating.Connective.TheVariants.{And, Or}
 pub use Rattle.cfg_expr.specs.declared.expr.evaluating.Member.{Member}
+use Rattle.cfg_expr.specs.declared.expr.evaluating.Stack.{Stack}
 use Rattle.cfg_expr.specs.declared.expr.evaluating.Member.TheVariants as member
 
 -- what a connective begins with, and how it joins two values
@@ -58,25 +58,20 @@ abbrev pub joined : {T : Type 0} → Operations T → Connective → List (Membe
 joined logic connective members = from_last (join_of logic connective) (begin_of logic connective)
     (values_in true members ++ values_in false members)
 
+-- the value of a member, if it was not joined
+abbrev pub value_or_top : {T : Type 0} → Operations T → Member T → T
+value_or_top logic member = unwrap_or (any_value member) logic.top
+
 -- the value on top
-abbrev pub top_value : {T : Type 0} → List (Member T) → Option T
-top_value [] = None
-top_value (top ∷ rest) = any_value top
+abbrev pub top_value : {T : Type 0} → Operations T → List (Member T) → T
+top_value logic [] = logic.top
+top_value logic (top ∷ rest) = value_or_top logic top
 
-abbrev pub function_member : {T : Type 0} → Option T → Member T
-function_member None = member.Joined
-function_member (Some value) = member.Function value
-
--- how many members a function takes off the stack, and what it makes of them
-abbrev pub arity : Func → ℕ
-arity Not = 1
-arity (All count) = count
-arity (Any count) = count
-
-abbrev pub made : {T : Type 0} → Operations T → Func → List (Member T) → Member T
-made logic Not members = function_member (option_map logic.not (top_value members))
-made logic (All count) members = member.Function (joined logic And members)
-made logic (Any count) members = member.Function (joined logic Or members)
+-- with the members of a list, as far as they are there, joined
+abbrev pub joined_list : {T : Type 0} → Operations T → Connective → ℕ → List (Member T)
+    → List (Member T)
+joined_list logic connective count stack = let present = min count (length stack) in
+    member.Function (joined logic connective (take present stack)) ∷ drop present stack
 
 -- the stack with a predicate's answer, with a literal, or with a function in the place of its
 -- members
@@ -84,8 +79,30 @@ abbrev pub put : {T : Type 0} → Operations T → Shape → Member T → List (
     → List (Member T)
 put logic Shape.predicate slot stack = slot ∷ stack
 put logic (Shape.literal truth) slot stack = member.Leaf (constant logic truth) ∷ stack
-put logic (Shape.function func) slot stack = made logic func (take (arity func) stack)
-    ∷ drop (arity func) stack
+put logic (Shape.function Not) slot stack =
+    member.Function (logic.not (top_value logic stack)) ∷ drop 1 stack
+put logic (Shape.function (All count)) slot stack = joined_list logic And count stack
+put logic (Shape.function (Any count)) slot stack = joined_list logic Or count stack
+
+-- with what is on top, if that does not stand in the slots, which takes one place more
+abbrev pub with_top : {T : Type 0} → Member T → List (Member T) → List (Member T)
+with_top (member.Leaf value) others = member.Leaf value ∷ others
+with_top (member.Function value) others = member.Function value ∷ others
+with_top member.Joined others = others
+
+abbrev pub held : {T : Type 0} → Member T → ℕ
+held (member.Leaf value) = 1
+held (member.Function value) = 1
+held member.Joined = 0
+
+abbrev pub is_held : {T : Type 0} → Member T → Bool
+is_held (member.Leaf value) = true
+is_held (member.Function value) = true
+is_held member.Joined = false
+
+-- the stack, as the code keeps it
+abbrev pub stack_of : {T : Type 0} → Stack T → List (Member T) → List (Member T)
+stack_of stack slots = with_top stack.top (drop stack.others slots)
 
 -- the stack that the nodes leave, each with what stands in its slot
 abbrev pub read : {T : Type 0} → Operations T → List Shape → List (Member T)

@@ -4,23 +4,29 @@
 //! its members, which are on top, what they make. What is left on the stack is the value.
 //!
 //! Answers and stack share one slot for each node. The answers that are still to be read stand in
-//! front, and the stack at the back, with its top in front: it has at most one member for each node
+//! front, and the stack at the back, often but for its top: it has at most one member for each node
 //! that was read.
-ghost use Rattle.std.specs.Prelude.{◌≡◌, ◌<◌, ◌≤◌, ◌+◌, ◌∷◌, ℕ, Some, IfOk, OnErr, IsOk};
+ghost use Rattle.std.specs.Prelude.{◌≡◌, ◌<◌, ◌≤◌, ◌+◌, ◌∷◌, ℕ, List, Some, IfOk, OnErr, IsOk};
 ghost use Rattle.std.specs.Prelude.{length, map, replicate, set, get_or, take, drop};
+ghost use Rattle.std.specs.Prelude.{true, false, [], ◌||◌};
 ghost use Rattle.cfgx_grammar.specs.Answer.{HasOneTree};
 ghost use Rattle.cfgx_grammar.specs.Fold as tree_value;
 ghost use Rattle.cfgx_grammar.specs.Fold.{constant, from_last};
 ghost use Rattle.cfgx_grammar.specs.Given.{AreAnswersTo};
 ghost use Rattle.cfgx_parser.specs.Predicate.{question_of};
-ghost use Rattle.cfgx_parser.specs.nodes.Shape.{shape};
+ghost use Rattle.cfgx_grammar.specs.Question.{Question};
+ghost use Rattle.cfgx_grammar.specs.Tree.{Tree, asked};
+ghost use Rattle.cfgx_parser.specs.nodes.Prefix.{places, prefix};
+ghost use Rattle.cfgx_parser.specs.nodes.Shape.{function, shape, shape_of};
 ghost use Rattle.cfg_expr.specs.Asking.{Asks, MayAsk};
 ghost use Rattle.cfg_expr.specs.Evaluation.{Evaluates, MayEvaluate};
-ghost use Rattle.cfg_expr.specs.nodes.Answers.{Ends, Holds, at_start, with_answers};
+ghost use Rattle.cfg_expr.specs.nodes.Answers.{Ends, no_answers, with_answers};
 ghost use Rattle.cfg_expr.specs.nodes.Reading.{begin_of, join_of, join_value, values_in, taken};
-ghost use Rattle.cfg_expr.specs.nodes.Reading.{any_value, value_in, joined, made, put, read};
-ghost use Rattle.cfg_expr.specs.nodes.Reading.{top_value, arity};
+ghost use Rattle.cfg_expr.specs.nodes.Reading.{any_value, value_in, value_or_top, joined, put};
+ghost use Rattle.cfg_expr.specs.nodes.Reading.{read, joined_list, top_value, held, is_held};
+ghost use Rattle.cfg_expr.specs.nodes.Reading.{stack_of};
 ghost use Rattle.cfg_expr.specs.declared.expr.evaluating.Member.TheVariants as member;
+ghost use Rattle.cfgx_parser.specs.declared.function.Func.TheVariants as func;
 
 use super::Func;
 use crate::memory::SmallAllocator;
@@ -30,7 +36,7 @@ use cfgx_parser::predicates::Predicate;
 use cfgx_syntax::logic::Logic;
 use smallvec::SmallVec;
 use std::alloc::{AllocError, Allocator};
-use std::mem;
+use std::{mem, slice};
 
 /// A tree that was read, by its value.
 #[derive(Drop)]
@@ -64,6 +70,13 @@ impl<T> Member<T> {
         }
     }
 
+    /// Whether it was not joined.
+    fn is_held(&self) -> bool
+        ensures { result ≡ is_held self.now }
+    {
+        !matches!(self, Member::Joined)
+    }
+
     /// Takes the value, if the member is of the kind: a function, or a leaf.
     fn take_kind(&mut self, functions: bool) -> Option<T>
         ensures value { result ≡ value_in functions self.old }
@@ -75,6 +88,28 @@ impl<T> Member<T> {
             _ => None,
         }
     }
+}
+
+impl<T: Logic> Member<T> {
+    /// Its value, or `top` if it was joined.
+    fn value_or_top(self) -> T
+        ensures { result ≡ value_or_top T.Logic self }
+    {
+        match self.value() {
+            Some(value) => value,
+            None => T::top(),
+        }
+    }
+}
+
+/// The stack of the trees that no function has joined yet. What a function made is not put into the
+/// slots at once, so that one `not` after another changes nothing there.
+#[derive(Drop)]
+pub(crate) struct Stack<T> {
+    /// What is on top, if it is not in the slots, and else `Joined`
+    top: Member<T>,
+    /// Where the others begin among the slots
+    others: usize,
 }
 
 /// What the closure answers.
@@ -96,6 +131,16 @@ fn put_member<T: Logic>(member: Member<T>, place: usize, slots: &mut [Member<T>]
     }
 }
 
+/// Puts an answer at the next place, if there is one.
+fn put_next<T: Logic>(answer: T, places: &mut slice::Iter<'_, usize>, slots: &mut [Member<T>])
+    ensures { (more : List T) → with_answers slots.new places.new.rest.now more
+        ≡ with_answers slots.old places.old.rest.now (answer ∷ more) }
+{
+    if let Some(place) = places.next() {
+        put_member(Member::Leaf(answer), *place, slots);
+    }
+}
+
 /// Asks each predicate, in order, and puts its answer at its place among the nodes.
 fn ask_each<EP, T, A>(parsed: &Parsed<A>, slots: &mut [Member<T>], ep: &mut EP)
 where
@@ -104,24 +149,22 @@ where
     A: SmallAllocator,
     requires { MayEvaluate EP.FnMut parsed.now ep.old }
     ensures { (one : HasOneTree parsed.now)
-        × Ends EP.FnMut (at_start ep.old one.tree slots.old) ep.new slots.new }
+        × Ends EP.FnMut one.tree ep.old slots.old ep.new slots.new }
 {
     let mut places = parsed.places().iter();
     for predicate in parsed.predicates() {
         let answer = ask(predicate, ep);
-        if let Some(place) = places.next() {
-            put_member(Member::Leaf(answer), *place, slots);
-        }
+        put_next(answer, &mut places, slots);
     }
 }
 
 /// Puts answers that are there already at their places among the nodes.
 fn put_each<T: Logic + Copy>(places: &[usize], given: &[T], slots: &mut [Member<T>])
-    requires { length places.now ≡ length given.now }
     ensures { slots.new ≡ with_answers slots.old places.now given.now }
 {
-    for (place, answer) in places.iter().zip(given) {
-        put_member(Member::Leaf(*answer), *place, slots);
+    let mut places = places.iter();
+    for answer in given {
+        put_next(*answer, &mut places, slots);
     }
 }
 
@@ -152,69 +195,53 @@ impl Connective {
         }
     }
 
-    /// Joins a member to the value, if it is of the kind.
-    fn join_one<T: Logic>(self, value: T, member: &mut Member<T>, functions: bool) -> T
+    /// Joins a member to the value, if it is of the kind, and else notes whether it is left.
+    fn join_one<T: Logic>(
+        self,
+        value: T,
+        member: &mut Member<T>,
+        functions: bool,
+        left: &mut bool,
+    ) -> T
         ensures value { result
             ≡ join_value (join_of T.Logic self) value (value_in functions member.old) }
         ensures member { member.new ≡ taken functions member.old }
+        ensures left { left.new ≡ (left.old || is_held (taken functions member.old)) }
     {
         match member.take_kind(functions) {
             Some(last) => self.join(value, last),
-            None => value,
+            None => {
+                *left |= member.is_held();
+                value
+            }
         }
     }
 
     /// Joins to the value the members that are functions, or those that are leaves, from the last
-    /// back.
-    fn join_kind<T: Logic>(self, value: T, members: &mut [Member<T>], functions: bool) -> T
-        ensures value { result
+    /// back. Answers as well whether any other is left.
+    fn join_kind<T: Logic>(self, value: T, members: &mut [Member<T>], functions: bool) -> (T, bool)
+        ensures value { result.0
             ≡ from_last (join_of T.Logic self) value (values_in functions members.old) }
         ensures members { members.new ≡ map (taken functions) members.old }
+        ensures left { result.1 ≡ false → values_in true members.new ≡ [] }
     {
         let mut value = value;
+        let mut left = false;
         for place in (0..members.len()).rev() {
-            value = self.join_one(value, &mut members[place], functions);
+            value = self.join_one(value, &mut members[place], functions, &mut left);
         }
-        value
+        (value, left)
     }
 
     /// Joins the members: from the last back, the leaves, and then the functions.
     fn join_all<T: Logic>(self, members: &mut [Member<T>]) -> T
         ensures { result ≡ joined T.Logic self members.old }
     {
-        let leaves = self.join_kind(self.begin(), members, false);
-        self.join_kind(leaves, members, true)
-    }
-}
-
-/// Takes the value off that is on top.
-fn take_top<T>(stack: &mut [Member<T>]) -> Option<T>
-    ensures { result ≡ top_value stack.old }
-{
-    mem::replace(stack.first_mut()?, Member::Joined).value()
-}
-
-/// How many members a function takes off the stack.
-fn number_of(func: &Func) -> usize
-    ensures { result ≡ arity func.now }
-{
-    match func {
-        Func::Not => 1,
-        Func::All(count) | Func::Any(count) => *count,
-    }
-}
-
-/// What a function makes of its members.
-fn make<T: Logic>(func: &Func, members: &mut [Member<T>]) -> Member<T>
-    ensures { result ≡ made T.Logic func.now members.old }
-{
-    match func {
-        Func::Not => match take_top(members) {
-            Some(value) => Member::Function(value.not()),
-            None => Member::Joined,
-        },
-        Func::All(_) => Member::Function(Connective::And.join_all(members)),
-        Func::Any(_) => Member::Function(Connective::Or.join_all(members)),
+        let (leaves, left) = self.join_kind(self.begin(), members, false);
+        if !left {
+            return leaves;
+        }
+        self.join_kind(leaves, members, true).0
     }
 }
 
@@ -225,92 +252,201 @@ fn constant<T: Logic>(truth: bool) -> T
     if truth { T::top() } else { T::bottom() }
 }
 
-/// Reads a literal: puts its value on the stack. Answers where the top is now.
-fn read_literal<T: Logic>(truth: bool, top: usize, slots: &mut [Member<T>]) -> usize
-    requires { (0 < top) × (top ≤ length slots.old) }
-    ensures stack { drop result slots.new
-        ≡ member.Leaf (constant T.Logic truth) ∷ drop top slots.old }
-    ensures front { (place : ℕ) → place < top → take place slots.new ≡ take place slots.old }
-    ensures within { (top ≤ result + 1) × (result ≤ length slots.new) }
+/// Puts what is on top into the slots as well.
+fn put_top<T: Logic>(stack: Stack<T>, slots: &mut [Member<T>]) -> Stack<T>
+    requires { (0 < stack.others) × (stack.others ≤ length slots.old) }
+    ensures top { result.top ≡ member.Joined }
+    ensures stack { drop result.others slots.new ≡ stack_of stack slots.old }
+    ensures front { (place : ℕ) → place + held stack.top ≤ stack.others
+        → take place slots.new ≡ take place slots.old }
+    ensures begins { result.others + held stack.top ≡ stack.others }
+    ensures many { length slots.new ≡ length slots.old }
 {
-    put_member(Member::Leaf(constant(truth)), top - 1, slots);
-    top - 1
-}
-
-/// Reads a predicate: puts the answer at its place on the stack. Answers where the top is now.
-fn read_predicate<T: Logic>(place: usize, top: usize, slots: &mut [Member<T>]) -> usize
-    requires { (place < top) × (top ≤ length slots.old) }
-    ensures stack { drop result slots.new
-        ≡ get_or slots.old place member.Joined ∷ drop top slots.old }
-    ensures front { take place slots.new ≡ take place slots.old }
-    ensures within { (place ≤ result) × (result ≤ length slots.new) }
-{
-    let next = top - 1;
-    if place != next {
-        let leaf = mem::replace(&mut slots[place], Member::Joined);
-        put_member(leaf, next, slots);
+    if let Member::Joined = stack.top {
+        return stack;
     }
-    next
+    let others = stack.others - 1;
+    put_member(stack.top, others, slots);
+    Stack {
+        top: Member::Joined,
+        others,
+    }
 }
 
-/// Reads a function: puts what it makes on the stack, in the place of its members. Answers where
-/// the top is now.
-fn read_function<T: Logic>(func: &Func, top: usize, slots: &mut [Member<T>]) -> usize
-    requires { (0 < top) × (top ≤ length slots.old) }
-    ensures stack { drop result slots.new
-        ≡ made T.Logic func.now (take (arity func.now) (drop top slots.old))
-        ∷ drop (arity func.now) (drop top slots.old) }
-    ensures front { (place : ℕ) → place < top → take place slots.new ≡ take place slots.old }
-    ensures within { (top ≤ result + 1) × (result ≤ length slots.new) }
+/// Reads a literal: puts its value on the stack.
+fn read_literal<T: Logic>(truth: bool, stack: Stack<T>, slots: &mut [Member<T>]) -> Stack<T>
+    requires { (0 < stack.others) × (stack.others ≤ length slots.old) }
+    ensures stack { stack_of result slots.new
+        ≡ member.Leaf (constant T.Logic truth) ∷ stack_of stack slots.old }
+    ensures front { (place : ℕ) → place + held stack.top ≤ stack.others
+        → take place slots.new ≡ take place slots.old }
+    ensures within { (stack.others ≤ result.others + held stack.top)
+        × (held result.top ≤ 1) × (result.others ≤ length slots.new) }
 {
-    let end = top + number_of(func).min(slots.len() - top);
-    let member = make(func, &mut slots[top..end]);
-    put_member(member, end - 1, slots);
-    end - 1
+    Stack {
+        top: Member::Leaf(constant(truth)),
+        others: put_top(stack, slots).others,
+    }
 }
 
-/// Reads the node at the place: puts it on the stack, in the place of its members. Answers where
-/// the top is now.
-fn read_node<T: Logic>(node: &ExprNode, place: usize, top: usize, slots: &mut [Member<T>]) -> usize
-    requires { (place < top) × (top ≤ length slots.old) }
-    ensures stack { drop result slots.new
-        ≡ put T.Logic (shape node.now) (get_or slots.old place member.Joined)
-        (drop top slots.old) }
+/// Reads a predicate: puts the answer at its place on the stack.
+fn read_predicate<T: Logic>(place: usize, stack: Stack<T>, slots: &mut [Member<T>]) -> Stack<T>
+    requires { (place + held stack.top < stack.others) × (stack.others ≤ length slots.old) }
+    ensures stack { stack_of result slots.new
+        ≡ get_or slots.old place member.Joined ∷ stack_of stack slots.old }
     ensures front { take place slots.new ≡ take place slots.old }
-    ensures within { (place ≤ result) × (result ≤ length slots.new) }
+    ensures within { (place + held result.top ≤ result.others)
+        × (result.others ≤ length slots.new) }
+{
+    let Stack { top, others } = put_top(stack, slots);
+    let others = others - 1;
+    if place != others {
+        let leaf = mem::replace(&mut slots[place], Member::Joined);
+        put_member(leaf, others, slots);
+    }
+    Stack { top, others }
+}
+
+/// Takes the value of the first member, or answers `top` where there is none.
+fn take_first<T: Logic>(members: &mut [Member<T>]) -> T
+    ensures { result ≡ top_value T.Logic members.old }
+{
+    match members.first_mut() {
+        Some(first) => mem::replace(first, Member::Joined).value_or_top(),
+        None => T::top(),
+    }
+}
+
+/// Takes the member in front off the slots from the place on, and turns it over.
+fn take_not<T: Logic>(others: usize, slots: &mut [Member<T>]) -> Stack<T>
+    requires { others ≤ length slots.old }
+    ensures stack { stack_of result slots.new
+        ≡ put T.Logic (function func.Not) member.Joined (drop others slots.old) }
+    ensures front { (place : ℕ) → place ≤ others → take place slots.new ≡ take place slots.old }
+    ensures within { (others ≤ result.others) × (held result.top ≤ 1)
+        × (result.others ≤ length slots.new) }
+{
+    if others < slots.len() {
+        let member = mem::replace(&mut slots[others], Member::Joined);
+        return Stack {
+            top: Member::Function(member.value_or_top().not()),
+            others: others + 1,
+        };
+    }
+    Stack {
+        top: Member::Function(T::top().not()),
+        others,
+    }
+}
+
+/// Reads a `not`: turns over what is on top.
+fn read_not<T: Logic>(stack: Stack<T>, slots: &mut [Member<T>]) -> Stack<T>
+    requires { (0 < stack.others) × (stack.others ≤ length slots.old) }
+    ensures stack { stack_of result slots.new
+        ≡ put T.Logic (function func.Not) member.Joined (stack_of stack slots.old) }
+    ensures front { (place : ℕ) → place ≤ stack.others
+        → take place slots.new ≡ take place slots.old }
+    ensures within { (stack.others ≤ result.others) × (held result.top ≤ 1)
+        × (result.others ≤ length slots.new) }
+{
+    let others = stack.others;
+    match stack.top.value() {
+        Some(value) => Stack {
+            top: Member::Function(value.not()),
+            others,
+        },
+        None => take_not(others, slots),
+    }
+}
+
+/// Reads `all` or `any` of this many members: joins them, and puts their value in their place.
+fn read_list<T: Logic>(
+    connective: Connective,
+    count: usize,
+    stack: Stack<T>,
+    slots: &mut [Member<T>],
+) -> Stack<T>
+    requires { (0 < stack.others) × (stack.others ≤ length slots.old) }
+    ensures stack { stack_of result slots.new
+        ≡ joined_list T.Logic connective count (stack_of stack slots.old) }
+    ensures front { (place : ℕ) → place + held stack.top ≤ stack.others
+        → take place slots.new ≡ take place slots.old }
+    ensures within { (stack.others ≤ result.others + held stack.top)
+        × (held result.top ≤ 1) × (result.others ≤ length slots.new) }
+{
+    let first = put_top(stack, slots).others;
+    let end = first + count.min(slots.len() - first);
+    let value = connective.join_all(&mut slots[first..end]);
+    Stack {
+        top: Member::Function(value),
+        others: end,
+    }
+}
+
+/// Reads the node at the place: puts it on the stack, in the place of its members.
+fn read_node<T: Logic>(
+    node: &ExprNode,
+    place: usize,
+    stack: Stack<T>,
+    slots: &mut [Member<T>],
+) -> Stack<T>
+    requires { (place + held stack.top < stack.others) × (stack.others ≤ length slots.old) }
+    ensures stack { stack_of result slots.new
+        ≡ put T.Logic (shape node.now) (get_or slots.old place member.Joined)
+        (stack_of stack slots.old) }
+    ensures front { take place slots.new ≡ take place slots.old }
+    ensures within { (place + held result.top ≤ result.others)
+        × (result.others ≤ length slots.new) }
 {
     match node {
-        ExprNode::Fn { func, .. } => read_function(func, top, slots),
-        ExprNode::Predicate(_) => read_predicate(place, top, slots),
-        ExprNode::Literal(truth) => read_literal(*truth, top, slots),
+        ExprNode::Predicate(_) => read_predicate(place, stack, slots),
+        ExprNode::Literal(truth) => read_literal(*truth, stack, slots),
+        ExprNode::Fn { func, .. } => match func {
+            Func::Not => read_not(stack, slots),
+            Func::All(count) => read_list(Connective::And, *count, stack, slots),
+            Func::Any(count) => read_list(Connective::Or, *count, stack, slots),
+        },
     }
 }
 
-/// Reads the nodes from the last to the first, each with what stands at its place. Answers where
-/// the top is then.
-fn read_all<T: Logic>(nodes: &[ExprNode], slots: &mut [Member<T>]) -> usize
+/// Reads the nodes from the last to the first, each with what stands at its place.
+fn read_all<T: Logic>(nodes: &[ExprNode], slots: &mut [Member<T>]) -> Stack<T>
     requires { length slots.old ≡ length nodes.now }
-    ensures stack { drop result slots.new ≡ read T.Logic (map shape nodes.now) slots.old }
-    ensures within { result ≤ length slots.new }
+    ensures stack { stack_of result slots.new ≡ read T.Logic (map shape nodes.now) slots.old }
+    ensures within { result.others ≤ length slots.new }
 {
-    let mut top = slots.len();
+    let mut stack = Stack {
+        top: Member::Joined,
+        others: slots.len(),
+    };
     for place in (0..nodes.len()).rev() {
-        top = read_node(&nodes[place], place, top, slots);
+        stack = read_node(&nodes[place], place, stack, slots);
     }
-    top
+    stack
+}
+
+/// The value on top.
+fn top_value<T: Logic>(stack: Stack<T>, slots: &mut [Member<T>]) -> T
+    requires { stack.others ≤ length slots.old }
+    ensures { result ≡ top_value T.Logic (stack_of stack slots.old) }
+{
+    let others = stack.others;
+    match stack.top.value() {
+        Some(value) => value,
+        None => take_first(&mut slots[others..]),
+    }
 }
 
 /// The value over the answers at the places of the nodes.
-fn read_value<T: Logic, A: SmallAllocator>(parsed: &Parsed<A>, slots: &mut [Member<T>]) -> T
-    requires { Holds parsed.now slots.old }
-    ensures { (held : Holds parsed.now slots.old)
-        → result ≡ tree_value.fold T.Logic held.one.tree held.answers }
+fn read_value<T: Logic>(nodes: &[ExprNode], slots: &mut [Member<T>]) -> T
+    requires { length slots.old ≡ length nodes.now }
+    ensures { (tree : Tree Question) (answers : List T)
+        → map shape nodes.now ≡ map shape_of (prefix tree) → length answers ≡ length (asked tree)
+        → slots.old ≡ with_answers (no_answers (length nodes.now)) (places 0 tree) answers
+        → result ≡ tree_value.fold T.Logic tree answers }
 {
-    let top = read_all(parsed.nodes(), slots);
-    match take_top(&mut slots[top..]) {
-        Some(value) => value,
-        None => unreachable!(),
-    }
+    let stack = read_all(nodes, slots);
+    top_value(stack, slots)
 }
 
 /// No answer yet at any of this many places.
@@ -342,10 +478,11 @@ where
     ensures refused { OnErr result (ep.new ≡ ep.old) }
     ensures short { length parsed.now ≤ 32 → IsOk result }
 {
-    let mut answers = no_answers(&alloc, parsed.nodes().len())?;
+    let nodes = parsed.nodes();
+    let mut answers = no_answers(&alloc, nodes.len())?;
     let slots = answers.as_mut_slice();
     ask_each(parsed, slots, ep);
-    Ok(read_value(parsed, slots))
+    Ok(read_value(nodes, slots))
 }
 
 /// The value over answers that are there already, in the order of the questions.
@@ -361,8 +498,9 @@ where
         × (value ≡ tree_value.fold T.Logic one.tree given.now)) }
     ensures short { length parsed.now ≤ 32 → IsOk result }
 {
-    let mut answers = no_answers(&alloc, parsed.nodes().len())?;
+    let nodes = parsed.nodes();
+    let mut answers = no_answers(&alloc, nodes.len())?;
     let slots = answers.as_mut_slice();
     put_each(parsed.places(), given, slots);
-    Ok(read_value(parsed, slots))
+    Ok(read_value(nodes, slots))
 }

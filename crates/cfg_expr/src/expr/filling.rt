@@ -1,7 +1,13 @@
 //! The fillings that tell whether a value is known: where it is not, the condition is true with the
 //! one and false with the other.
-ghost use Rattle.std.specs.Prelude.{◌≡◌, ◌<◌, true, false, length, map};
-ghost use Rattle.std.specs.Prelude.{get_or, replicate, set, IfOk};
+//!
+//! One pass over the nodes finds which predicates stand below an odd number of `not`. A queue holds
+//! in front whether each tree does that is still to come, and behind what was found of the nodes
+//! that were gone over: a node takes the first one off, adds what it finds, and puts in front what
+//! holds of its members. A tree has at least one node, so the queue holds no more than one value
+//! for each node, and at the end what was found of them all, in order.
+ghost use Rattle.std.specs.Prelude.{◌≡◌, ◌++◌, ◌∷◌, true, false, [], length, map};
+ghost use Rattle.std.specs.Prelude.{replicate, IfOk, OnOk};
 ghost use Rattle.cfgx_grammar.specs.Given.{AreAnswersTo};
 ghost use Rattle.cfgx_grammar.specs.Answer.{HasOneTree};
 ghost use Rattle.cfgx_grammar.specs.Filling.{three_valued, PolarFillings};
@@ -9,72 +15,89 @@ ghost use Rattle.cfgx_grammar.specs.Fold.{fold};
 ghost use Rattle.cfgx_grammar.specs.Grammar.{HasTree};
 ghost use Rattle.cfgx_grammar.specs.Question.{Question};
 ghost use Rattle.cfgx_grammar.specs.Tree.{Tree, asked};
-ghost use Rattle.cfg_expr.specs.nodes.Parity.{reach, turned, turned_at, odd_behind, end_noted};
-ghost use Rattle.cfg_expr.specs.nodes.Parity.{pass, filled_by};
+ghost use Rattle.cfgx_parser.specs.nodes.Shape.{shape};
+ghost use Rattle.cfg_expr.specs.nodes.Parity.{arity, filled_at, gone_over, pass};
 
 use super::{Func, evaluating};
 use crate::memory::SmallAllocator;
 use cfgx_parser::nodes::ExprNode;
 use cfgx_parser::parsed::Parsed;
 use std::alloc::AllocError;
+use std::collections::VecDeque;
 
-/// Turns the truth value at the place over, if there is one.
-fn turn_over(flips: &mut [bool], place: usize)
-    ensures { flips.new ≡ turned_at flips.old place }
+/// How many members a function has.
+fn number_of(func: &Func) -> usize
+    ensures { result ≡ arity func.now }
 {
-    if place < flips.len() {
-        flips[place] = !flips[place];
+    match func {
+        Func::Not => 1,
+        Func::All(count) | Func::Any(count) => *count,
     }
 }
 
-/// Goes over the node at the place: notes whether it stands below an odd number of `not`, and where
-/// it ends, and answers what holds of the next node, if no `not` ends there.
-fn go_over(node: &ExprNode, place: usize, flips: &mut [bool], odd: bool) -> bool
-    requires { place < length flips.old }
-    ensures odd { result ≡ odd_behind (reach node.now) (turned odd (get_or flips.old place false)) }
-    ensures flips { flips.new ≡ set (end_noted (reach node.now) place flips.old) place
-        (turned odd (get_or flips.old place false)) }
+/// Puts a truth value in front, this many times.
+fn put_in_front<A: SmallAllocator>(
+    count: usize,
+    odd: bool,
+    queue: &mut VecDeque<bool, A>,
+) -> Result<(), AllocError>
+    ensures { OnOk result (queue.new.items ≡ replicate count odd ++ queue.old.items) }
 {
-    let below = odd != flips[place];
-    let next = match node {
-        ExprNode::Fn {
-            func: Func::Not,
-            len,
-        } => {
-            turn_over(flips, place.saturating_add(*len));
-            !below
+    for _member in 0..count {
+        queue.push_front(odd)?;
+    }
+    Ok(())
+}
+
+/// Goes over a node. Only of a predicate is it found whether it stands below an odd number of
+/// `not`.
+fn go_over<A: SmallAllocator>(
+    node: &ExprNode,
+    queue: &mut VecDeque<bool, A>,
+) -> Result<(), AllocError>
+    ensures { OnOk result (queue.new.items ≡ gone_over (shape node.now) queue.old.items) }
+{
+    if let Some(odd) = queue.pop_front() {
+        match node {
+            ExprNode::Fn { func, .. } => {
+                queue.push_back(false)?;
+                let below = odd != matches!(func, Func::Not);
+                put_in_front(number_of(func), below, queue)?;
+            }
+            ExprNode::Predicate(_) => queue.push_back(odd)?,
+            ExprNode::Literal(_) => queue.push_back(false)?,
         }
-        _ => below,
-    };
-    flips[place] = below;
-    next
+    }
+    Ok(())
 }
 
-/// Whether each node stands below an odd number of `not`.
-fn parities<A: SmallAllocator>(alloc: A, nodes: &[ExprNode]) -> Result<Vec<bool, A>, AllocError>
-    ensures { IfOk result (λ odds. odds.items
-        ≡ pass (map reach nodes.now) false (replicate (length nodes.now) false)) }
+/// Which nodes are predicates that stand below an odd number of `not`.
+fn parities<A: SmallAllocator>(
+    alloc: A,
+    nodes: &[ExprNode],
+) -> Result<VecDeque<bool, A>, AllocError>
+    ensures { IfOk result (λ odds. odds.items ≡ pass (map shape nodes.now) (false ∷ [])) }
 {
-    let mut flips = vec![in alloc; false; nodes.len()]?;
-    let mut odd = false;
-    for (place, node) in nodes.iter().enumerate() {
-        odd = go_over(node, place, &mut flips, odd);
+    let mut queue = VecDeque::with_capacity(alloc, nodes.len())?;
+    queue.push_back(false)?;
+    for node in nodes {
+        go_over(node, &mut queue)?;
     }
-    Ok(flips)
+    Ok(queue)
 }
 
 /// The fillings with true and with false of the answers to the predicates at the places.
 fn fillings<A: SmallAllocator>(
     alloc: A,
-    odds: &[bool],
+    odds: &VecDeque<bool, A>,
     places: &[usize],
     answers: &[Option<bool>],
 ) -> Result<(Vec<bool, A>, Vec<bool, A>), AllocError>
     requires { length places.now ≡ length answers.now }
     ensures with_true { IfOk result (λ found. found.0.items
-        ≡ filled_by (map (λ place. get_or odds.now place false) places.now) answers.now true) }
+        ≡ filled_at odds.now.items places.now answers.now true) }
     ensures with_false { IfOk result (λ found. found.1.items
-        ≡ filled_by (map (λ place. get_or odds.now place false) places.now) answers.now false) }
+        ≡ filled_at odds.now.items places.now answers.now false) }
 {
     let mut with_true = Vec::with_capacity(alloc, places.len())?;
     let mut with_false = Vec::with_capacity(alloc, places.len())?;

@@ -1,18 +1,77 @@
 -- The stack of open functions against the tokens: each open function is the last place that lies
 -- less deep than what stands inside it, and its members are the items of that depth behind it.
-use Rattle.std.proofs.Common.{◌≡◌, ◌⊎◌, inl, inr, ℕ, suc, ◌+◌, ◌<◌, ◌≤◌, Bool, true, false}
-use Rattle.std.proofs.Common.{List, [], ◌∷◌, ◌++◌, length, take, Option, Some, None, sym, refl, ap}
-use Rattle.std.proofs.Common.{◌∙◌, subst, arith, take_all}
-use Rattle.std.specs.Prelude.{slice_get}
+use Rattle.std.proofs.Common.{◌≡◌, ⊎_elim, ℕ, zero, suc, ◌+◌, ◌<◌, ◌≤◌, ◌&&◌, ◌==◌, Bool, true}
+use Rattle.std.proofs.Common.{false, List, [], ◌∷◌, ◌++◌, length, Option, Some, None, sym, refl, ap}
+use Rattle.std.proofs.Common.{◌∙◌, arith, take_at, option_map, take_all}
+use Rattle.std.specs.Prelude.{if◌then◌else◌, nat_le, slice_get}
 use Rattle.std.proofs.lemmas.Bool.{cases_lt}
+use Rattle.std.proofs.lemmas.List.{take-append-le, length_push}
 use Rattle.cfgx_syntax.specs.Items.{Item}
 use Rattle.cfgx_grammar.specs.Neighbours.{Kind, kind_of, is_kind}
-use Rattle.cfgx_grammar.specs.Depth.{depth, depth_at, members_at}
-use Rattle.cfgx_grammar.proofs.faults.Counting.{slice_get_front, slice_get_next, slice_get-inside}
-use Rattle.cfgx_grammar.proofs.faults.Counting.{length_more, depth_at_front, members_at_item}
-use Rattle.cfgx_grammar.proofs.faults.Counting.{members_at_other, members_at_deeper}
+use Rattle.cfgx_grammar.specs.Depth.{count_below, last_below, first_below, begins_member, depth}
+use Rattle.cfgx_grammar.specs.Depth.{depth_at, members_at}
+use Rattle.std.proofs.lemmas.Option.{slice_get_within}
 use Rattle.cfgx_grammar.specs.parsing.State.{Function, Open, name_of}
 use Rattle.cfgx_grammar.specs.parsing.Step.{over_top, one_more, root_more, with_parens}
+
+-- Counting and searching the places of a list that grows at its end.
+
+module _ {X : Type 0} where
+  pub slice_get_front : (xs ys : List X) (k : ℕ) → k < length xs
+      → slice_get (xs ++ ys) k ≡ slice_get xs k
+  slice_get_front [] ys k lt = absurd (omega (arith, lt))
+  slice_get_front (x ∷ xs) ys zero lt = refl
+  slice_get_front (x ∷ xs) ys (suc k) lt = slice_get_front xs ys k (omega (arith, lt))
+
+  pub slice_get_next : (xs : List X) (y : X) (ys : List X)
+      → slice_get (xs ++ y ∷ ys) (length xs) ≡ Some y
+  slice_get_next [] y ys = refl
+  slice_get_next (x ∷ xs) y ys = slice_get_next xs y ys
+
+  pub first_below-none : (answer : ℕ → Option X) (n : ℕ)
+      → ((k : ℕ) → k < n → answer k ≡ None) → first_below answer n ≡ None
+  first_below-none answer zero none = refl
+  first_below-none answer (suc n) none =
+      rw (first_below-none answer n (λ k lt. none k (omega (arith, lt)))) (none n (omega arith))
+
+  pub first_below-found : (answer : ℕ → Option X) (place n : ℕ) (x : X) → place < n
+      → ((k : ℕ) → k < place → answer k ≡ None) → answer place ≡ Some x
+      → first_below answer n ≡ Some x
+  first_below-found answer place zero x lt none here = absurd (omega (arith, lt))
+  first_below-found answer place (suc n) x lt none here = ⊎_elim
+      (λ (less : place < n). rw (first_below-found answer place n x less none here) refl)
+      (λ (most : n ≤ place). let same : place ≡ n = omega (arith, lt, most) in
+      rw (first_below-none answer n (λ k below. none k (omega (arith, below, same))))
+      (ap answer (sym same) ∙ here)) (cases_lt place n)
+
+pub last_below-found : (test : ℕ → Bool) (place n : ℕ) → place < n → test place ≡ true
+    → ((k : ℕ) → place < k → k < n → test k ≡ false) → last_below test n ≡ Some place
+last_below-found test place zero lt here none = absurd (omega (arith, lt))
+last_below-found test place (suc n) lt here none = ⊎_elim
+    (λ (less : place < n). rw (none n less (omega arith)) (last_below-found test place n less here
+    (λ k above below. none k above (omega (arith, below)))))
+    (λ (most : n ≤ place). let same : place ≡ n = omega (arith, lt, most) in
+    rw (ap test (sym same) ∙ here) (ap Some (sym same))) (cases_lt place n)
+
+count_below-same : (p q : ℕ → Bool) (n : ℕ) → ((k : ℕ) → k < n → p k ≡ q k)
+    → count_below p n ≡ count_below q n
+count_below-same p q zero same = refl
+count_below-same p q (suc n) same =
+    rw (same n (omega arith), count_below-same p q n (λ k lt. same k (omega (arith, lt)))) refl
+
+count_below-none : (test : ℕ → Bool) (n : ℕ) → ((k : ℕ) → k < n → test k ≡ false)
+    → count_below test n ≡ 0
+count_below-none test zero none = refl
+count_below-none test (suc n) none = rw (none n (omega arith))
+    (count_below-none test n (λ k lt. none k (omega (arith, lt))))
+
+-- behind the last token no item begins
+pub members_at_end : (items : List Item) (level from : ℕ) → length items ≤ from
+    → members_at items level from ≡ 0
+members_at_end items level from past = count_below-none _ (length items)
+    (λ k lt. grind arith)
+
+-- The levels.
 
 -- the name of an open function stands at the place, so many functions are open in front of it, and
 -- more everywhere behind it
@@ -26,20 +85,13 @@ pub record IsOpenAt (front : List Item) (level : ℕ) (function : Function) (sta
   pub before : depth_at front place ≡ level
   pub inside : (k : ℕ) → place < k → k ≤ length front → level < depth_at front k
 
--- its `(` stands behind its name
-pub record IsEntered (front : List Item) (parens : Option ℕ) (place : ℕ) : Type 0 where
-  pub paren : Item
-  pub stands : slice_get front (place + 1) ≡ Some paren
-  pub noted : parens ≡ Some paren.start
+-- the place is that of the last token, or of one in front of it
+abbrev pub IsLast : Bool → ℕ → List Item → Type 0
+IsLast true place front = place + 1 ≡ length front
+IsLast false place front = place + 1 < length front
 
--- its name is the last token
-pub record IsNamed (front : List Item) (parens : Option ℕ) (place : ℕ) : Type 0 where
-  pub last : place + 1 ≡ length front
-  pub noted : parens ≡ None
-
-abbrev pub HasParens : Bool → List Item → Option ℕ → ℕ → Type 0
-HasParens true front parens place = IsNamed front parens place
-HasParens false front parens place = IsEntered front parens place
+abbrev pub start_of : Option Item → Option ℕ
+start_of item = option_map (λ (i : Item). i.start) item
 
 module _ {M : Type 0} where
   -- an open function, by whether its name is the last token, and how many of its members go on
@@ -47,7 +99,8 @@ module _ {M : Type 0} where
       (going : ℕ) : Type 0 where
     pub place : ℕ
     pub opened : IsOpenAt front level top.function top.start top.end place
-    pub parens : HasParens is_named front top.parens place
+    pub named_last : IsLast is_named place front
+    pub parens : start_of (slice_get front (place + 1)) ≡ top.parens
     pub counted : members_at front (level + 1) (place + 1) ≡ top.members + going
 
   abbrev pub Levels : List Item → ℕ → Bool → List (Open M) → ℕ → Type 0
@@ -64,107 +117,123 @@ module _ {M : Type 0} where
     record {
       place = l.place;
       opened = l.opened;
+      named_last = l.named_last;
       parens = l.parens;
       counted = l.counted ∙ omega arith;
     },
     levels,
   )
 
+-- One more token at the end.
+
 module _ (front : List Item) (item : Item) where
   abbrev more : List Item
   more = front ++ item ∷ []
+
+  pub length_more : length more ≡ suc (length front)
+  length_more = length_push front item ∙ omega arith
+
+  pub depth_at_front : (k : ℕ) → k ≤ length front → depth_at more k ≡ depth_at front k
+  depth_at_front k le = ap depth (take-append-le k front (item ∷ []) le)
+
+  pub depth_at_end : depth_at more (length front) ≡ depth front
+  depth_at_end = ap depth (take_at front (item ∷ []) (length front) refl)
+
+  abbrev counts : List Item → ℕ → ℕ → ℕ → Bool
+  counts items level from place = nat_le from place
+      && (depth_at items place == level && begins_member (slice_get items place))
+
+  -- whether the token is counted
+  abbrev is_counted : ℕ → ℕ → Bool
+  is_counted level from = nat_le from (length front)
+      && (depth front == level && is_kind Kind.item (kind_of item.token))
+
+  pub members_at_more : (level from : ℕ) (counted : Bool) → is_counted level from ≡ counted
+      → members_at more level from ≡ (if counted then suc (members_at front level from)
+      else members_at front level from)
+  members_at_more level from counted is =
+      let same = count_below-same (counts more level from) (counts front level from) (length front)
+      (λ k lt. rw (depth_at_front k (omega (arith, lt)), slice_get_front front (item ∷ []) k lt)
+      refl) in
+      let last : counts more level from (length front) ≡ counted =
+      rw (depth_at_end, slice_get_next front item []) is in
+      rw (length_more, last, same) refl
+
+  -- the token begins an item at the depth
+  pub members_at_item : (level from : ℕ) → from ≤ length front → depth front ≡ level
+      → is_kind Kind.item (kind_of item.token) ≡ true
+      → members_at more level from ≡ members_at front level from + 1
+  members_at_item level from le at begins =
+      members_at_more level from true (grind arith) ∙ omega arith
+
+  -- it begins none
+  pub members_at_other : (level from : ℕ) → is_kind Kind.item (kind_of item.token) ≡ false
+      → members_at more level from ≡ members_at front level from
+  members_at_other level from begins = members_at_more level from false (grind arith)
+
+  -- it lies deeper
+  pub members_at_deeper : (level from : ℕ) → level < depth front
+      → members_at more level from ≡ members_at front level from
+  members_at_deeper level from deeper = members_at_more level from false (grind arith)
 
   IsOpenAt-more : (level : ℕ) (function : Function) (start end place : ℕ) → level < depth more
       → IsOpenAt front level function start end place
       → IsOpenAt more level function start end place
   IsOpenAt-more level function start end place deep is =
-      let at = slice_get-inside front place is.name is.stands in
+      let at = slice_get_within front place is.name is.stands in
       record {
         name = is.name;
         stands = slice_get_front front (item ∷ []) place at ∙ is.stands;
         named = is.named;
         starts = is.starts;
         ends = is.ends;
-        before = depth_at_front front item place (omega (arith, at)) ∙ is.before;
-        inside = λ k behind within. by k behind within (cases_lt (length front) k);
+        before = depth_at_front place (omega (arith, at)) ∙ is.before;
+        inside = λ k behind within. ⊎_elim
+            (λ (past : length front < k). rw (take_all k more
+            (omega (arith, past, length_more))) deep)
+            (λ (old : k ≤ length front). rw (depth_at_front k old)
+            (is.inside k behind old)) (cases_lt (length front) k);
       }
-    where
-      by : (k : ℕ) → place < k → k ≤ length more → (length front < k) ⊎ (k ≤ length front)
-          → level < depth_at more k
-      by k behind within (inl past) =
-          let whole : take k more ≡ more =
-          take_all k more (omega (arith, past, length_more front item)) in
-          subst (λ l. level < depth l) (sym whole) deep
-      by k behind within (inr old) =
-          subst (λ d. level < d) (sym (depth_at_front front item k old)) (is.inside k behind old)
 
-  IsEntered-more : (parens : Option ℕ) (place : ℕ) → IsEntered front parens place
-      → IsEntered more parens place
-  IsEntered-more parens place is = record {
-    paren = is.paren;
-    stands = slice_get_front front (item ∷ []) (place + 1)
-        (slice_get-inside front (place + 1) is.paren is.stands) ∙ is.stands;
-    noted = is.noted;
-  }
-
-  -- the token adds so many to the items of the level
-  IsLevel-more : {M : Type 0} (level going added : ℕ) (top : Open M) → level < depth more
-      → ((place : ℕ) → place < length front → members_at more (level + 1) (place + 1)
-      ≡ members_at front (level + 1) (place + 1) + added)
-      → IsLevel front false level top going → IsLevel more false level top (going + added)
-  IsLevel-more level going added top deep adds is = record {
+  -- the token changes the items of the level, and how many of its members go on
+  IsLevel-more : {M : Type 0} (level going goes : ℕ) (top : Open M) → level < depth more
+      → ((place : ℕ) → place < length front
+      → members_at front (level + 1) (place + 1) ≡ top.members + going
+      → members_at more (level + 1) (place + 1) ≡ top.members + goes)
+      → IsLevel front false level top going → IsLevel more false level top goes
+  IsLevel-more level going goes top deep adds is = record {
     place = is.place;
     opened = IsOpenAt-more level _ _ _ is.place deep is.opened;
-    parens = IsEntered-more _ is.place is.parens;
-    counted = adds is.place (slice_get-inside front is.place _ is.opened.stands)
-        ∙ ap (λ n. n + added) is.counted ∙ omega arith;
+    named_last = omega (arith, is.named_last, length_more);
+    parens = rw (slice_get_front front (item ∷ []) (is.place + 1) is.named_last) is.parens;
+    counted = adds is.place (omega (arith, is.named_last)) is.counted;
   }
 
-  -- the token begins no item, or it lies deeper than the levels
-  abbrev pub AddsNothing : ℕ → Type 0
-  AddsNothing height = (is_kind Kind.item (kind_of item.token) ≡ false) ⊎ (height < depth front)
-
-  same_count : (height level from : ℕ) → level ≤ height → AddsNothing height
-      → members_at more level from ≡ members_at front level from + 0
-  same_count height level from le (inl other) =
-      members_at_other front item level from other ∙ omega arith
-  same_count height level from le (inr deeper) =
-      members_at_deeper front item level from (omega (arith, le, deeper)) ∙ omega arith
-
-  less_high : (height : ℕ) → AddsNothing (height + 1) → AddsNothing height
-  less_high height (inl other) = inl other
-  less_high height (inr deeper) = inr (omega (arith, deeper))
-
+  -- the token adds nothing to the items of any level
   pub Levels-same : {M : Type 0} (roots going : ℕ) (stack : List (Open M))
-      → length stack ≤ depth more → AddsNothing (length stack)
-      → Levels front roots false stack going
-      → Levels more roots false stack going
-  Levels-same roots going [] deep adds levels =
-      same_count 0 0 0 (omega arith) adds ∙ omega arith ∙ levels
-  Levels-same roots going (top ∷ rest) deep adds levels =
-      let few = less_high (length rest)
-      (subst AddsNothing (omega arith) adds) in
-      let level : IsLevel more false (length rest) top (going + 0) =
-      IsLevel-more (length rest) going 0 top (omega (arith, deep))
-      (λ place lt. same_count (suc (length rest)) (length rest + 1) (place + 1) (omega arith) adds)
-      levels.0 in
-      let none : going + 0 ≡ going = omega arith in (
-        subst (IsLevel more false (length rest) top) none level,
-        Levels-same roots 1 rest (omega (arith, deep)) few levels.1,
-      )
+      → length stack ≤ depth more → ((level from : ℕ) → level ≤ length stack
+      → members_at more level from ≡ members_at front level from)
+      → Levels front roots false stack going → Levels more roots false stack going
+  Levels-same roots going [] deep same levels = same 0 0 (omega arith) ∙ levels
+  Levels-same roots going (top ∷ rest) deep same (l, levels) = (
+    IsLevel-more (length rest) going going top (omega (arith, deep))
+        (λ place lt counted. same (length rest + 1) (place + 1) (omega arith) ∙ counted) l,
+    Levels-same roots 1 rest (omega (arith, deep))
+        (λ level from le. same level from (omega (arith, le))) levels,
+  )
 
   -- the token begins an item of the innermost list
   pub Levels-item : {M : Type 0} (roots : ℕ) (stack : List (Open M)) → length stack ≤ depth more
       → depth front ≡ length stack → is_kind Kind.item (kind_of item.token) ≡ true
       → Levels front roots false stack 0 → Levels more roots false stack 1
   Levels-item roots [] deep at begins levels =
-      members_at_item front item 0 0 (omega arith) at begins
-      ∙ ap (λ n. n + 1) levels ∙ omega arith
-  Levels-item roots (top ∷ rest) deep at begins levels = (
+      members_at_item 0 0 (omega arith) at begins ∙ ap (λ n. n + 1) levels ∙ omega arith
+  Levels-item roots (top ∷ rest) deep at begins (l, levels) = (
     IsLevel-more (length rest) 0 1 top (omega (arith, deep))
-        (λ place lt. members_at_item front item (length rest + 1) (place + 1) (omega (arith, lt))
-        (at ∙ omega arith) begins) levels.0,
-    Levels-same roots 1 rest (omega (arith, deep)) (inr (omega (arith, at))) levels.1,
+        (λ place lt counted. members_at_item (length rest + 1) (place + 1)
+        (omega (arith, lt)) (at ∙ omega arith) begins ∙ ap (λ n. n + 1) counted ∙ omega arith) l,
+    Levels-same roots 1 rest (omega (arith, deep))
+        (λ level from le. members_at_deeper level from (omega (arith, at, le))) levels,
   )
 
   -- the token is the `(` of the innermost function
@@ -173,18 +242,16 @@ module _ (front : List Item) (item : Item) where
       → Levels front roots true stack going
       → Levels more roots false (over_top (with_parens item.start) stack) going
   Levels-open roots going [] deep other levels =
-      members_at_other front item 0 0 other ∙ levels
-  Levels-open roots going (top ∷ rest) deep other levels =
-      let l = levels.0 in (
-        record {
-          place = l.place;
-          opened = IsOpenAt-more (length rest) _ _ _ l.place (omega (arith, deep)) l.opened;
-          parens = record {
-            paren = item;
-            stands = ap (slice_get more) l.parens.last ∙ slice_get_next front item [];
-            noted = refl;
-          };
-          counted = members_at_other front item (length rest + 1) (l.place + 1) other ∙ l.counted;
-        },
-        Levels-same roots 1 rest (omega (arith, deep)) (inl other) levels.1,
-      )
+      members_at_other 0 0 other ∙ levels
+  Levels-open roots going (top ∷ rest) deep other (l, levels) = (
+    record {
+      place = l.place;
+      opened = IsOpenAt-more (length rest) _ _ _ l.place (omega (arith, deep)) l.opened;
+      named_last = omega (arith, l.named_last, length_more);
+      parens = ap (λ k. start_of (slice_get more k)) l.named_last
+          ∙ ap start_of (slice_get_next front item []);
+      counted = members_at_other (length rest + 1) (l.place + 1) other ∙ l.counted;
+    },
+    Levels-same roots 1 rest (omega (arith, deep))
+        (λ level from le. members_at_other level from other) levels,
+  )

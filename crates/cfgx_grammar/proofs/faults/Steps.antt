@@ -1,51 +1,217 @@
+-- What the parser refuses it refuses with the first fault.
+use Rattle.std.proofs.Common.{◌≡◌, ◌⊎◌, inl, inr, ℕ, ◌+◌, Bool, true, false, List, [], ◌∷◌, ◌++◌}
+use Rattle.std.proofs.Common.{length, reverse, cond, Option, Some, None, Result, Ok, Err, sym, refl}
+use Rattle.std.proofs.Common.{ap, ◌∙◌, subst, arith, suc, ◌-◌, ◌<◌, ◌==◌, option_map, take_all}
+use Rattle.std.proofs.Common.{⊎_elim, ◌≤◌, append_assoc, length-append}
+use Rattle.std.specs.Prelude.{count_by, option_and_then, if◌then◌else◌, codes}
+use Rattle.std.proofs.lemmas.Bool.{false≢true, lt-ltb, le-ltb, eq-eqb, ne_eqb, cases_lt}
+use Rattle.std.proofs.Math.Seq.{take-append_seam}
+use Rattle.std.proofs.lemmas.List.{reverse-append, append-nil}
+use Rattle.std.proofs.lemmas.List.Sums.{sum_by_push}
+use Rattle.cfgx_syntax.specs.Token.{Token}
+use Rattle.cfgx_syntax.specs.Items.{Item, Ending, lexical}
+use Rattle.cfgx_syntax.specs.Error.{Refusal, unexpected, invalid_not, empty}
+use Rattle.cfgx_syntax.specs.Error.{multiple_root_predicates}
+use Rattle.cfgx_grammar.specs.Classification.{Class}
+use Rattle.cfgx_grammar.specs.Neighbours.{Kind, takes, kind_of, is_kind, next, expected}
+use Rattle.cfgx_grammar.specs.Depth.{names_function, is_closing, depth, depth_at, innermost}
+use Rattle.cfgx_grammar.specs.Depth.{members, roots, members_at, first_below}
+use Rattle.cfgx_grammar.specs.LastPredicate.{key_token, key_last, equals_token, equals_last}
+use Rattle.cfgx_grammar.specs.LastPredicate.{predicate_token, predicate_last, class_of, Word}
+use Rattle.cfgx_grammar.specs.LastPredicate.{word_of, with_value}
+use Rattle.cfgx_grammar.specs.FirstFault.{predicate_fault, class_fault, head_token, last_token}
+use Rattle.cfgx_grammar.specs.FirstFault.{lacks_value, count_fault, not_fault, fault_by}
+use Rattle.cfgx_grammar.specs.FirstFault.{fault_behind, unclosed_fault, open_fault, root_fault}
+use Rattle.cfgx_grammar.specs.FirstFault.{end_fault, refusal, fault_at, first_fault}
+use Rattle.cfgx_grammar.specs.parsing.State.{Pending, Builder, Open, State, initial, Function}
+use Rattle.cfgx_grammar.specs.parsing.State.{name_of}
+use Rattle.cfgx_grammar.specs.parsing.Step.{result_map, located_class, leaf_ended, ended_by}
+use Rattle.cfgx_grammar.specs.parsing.Step.{predicate_ended, over_top, one_more, and_then}
+use Rattle.cfgx_grammar.specs.parsing.Step.{member_count, has_room, function_ended, new_open}
+use Rattle.cfgx_grammar.specs.parsing.Step.{closed_by, opened, with_last, with_parens, apply, step}
+use Rattle.cfgx_grammar.specs.parsing.Step.{unclosed, one_root, concluded_by, conclude, step_each}
+use Rattle.cfgx_grammar.specs.parsing.Step.{ended_as, answer_from}
+use Rattle.cfgx_grammar.proofs.faults.Levels.{Levels, Levels-ended, IsLevel, start_of, Levels-same}
+use Rattle.cfgx_grammar.proofs.faults.Levels.{Levels-item, Levels-open, slice_get_next}
+use Rattle.cfgx_grammar.proofs.faults.Levels.{members_at_other, length_more, last_below-found}
+use Rattle.cfgx_grammar.proofs.faults.Levels.{members_at_end, depth_at_end, first_below-none}
+use Rattle.cfgx_grammar.proofs.faults.Levels.{first_below-found}
+use Rattle.std.specs.Option.{option_or}
+use Rattle.std.proofs.lemmas.Option.{slice_get_within, slice_get_past}
+
+-- What the parser keeps between two tokens, by the tokens in front of it.
+
+-- Tokens are named from the last one back.
+
+-- the predicate that has begun
+abbrev pub begun_token : Item → List Item → Token → Option Pending
+begun_token item before (Token.key text) = key_token item (Token.key text)
+begun_token item before (Token.value text) =
+    predicate_token item before (Token.value text)
+begun_token item before Token.equals = key_last before
+begun_token item before _ = None
+
+abbrev pub begun_last : List Item → Option Pending
+begun_last [] = None
+begun_last (item ∷ before) = begun_token item before item.token
+
+abbrev pub names_last : Option Token → Bool
+names_last None = false
+names_last (Some token) = names_function token
+
+-- how many members have begun and not ended
+abbrev pub going : Option Pending → ℕ
+going None = 0
+going (Some pending) = 1
+
+abbrev pub names : List Item → ℕ
+names front = count_by (λ item. names_function item.token) front
+
+abbrev pub closings : List Item → ℕ
+closings front = count_by (λ item. is_closing item.token) front
+
+-- one more token
+
+module _ (front : List Item) (item : Item) where
+  pub last_more : last_token (front ++ item ∷ []) ≡ Some item.token
+  last_more = ap head_token (reverse-append front (item ∷ []))
+
+  pub begun_more : begun_last (reverse (front ++ item ∷ []))
+      ≡ begun_token item (reverse front) item.token
+  begun_more = ap begun_last (reverse-append front (item ∷ []))
+
+  pub names_more : names (front ++ item ∷ []) ≡ names front + cond (names_function item.token) 1 0
+  names_more = sum_by_push (λ (i : Item). cond (names_function i.token) 1 0) front item
+
+  pub closings_more : closings (front ++ item ∷ [])
+      ≡ closings front + cond (is_closing item.token) 1 0
+  closings_more = sum_by_push (λ (i : Item). cond (is_closing i.token) 1 0) front item
+
+-- What may stand behind the last token says which it is.
+
+-- What a token of this kind says of those in front of it. In front of an item no predicate has
+-- begun and no name is the last token; in front of `(` stands a name, in front of `=` a key, and in
+-- front of a value `=`.
+abbrev pub Says : Kind → Option Pending → Option Pending → Option Pending → Bool → Type 0
+Says Kind.item begun key equals names = (begun ≡ None) × (names ≡ false)
+Says Kind.opening begun key equals names = (begun ≡ None) × (names ≡ true)
+Says Kind.equals begun key equals names = (begun ≡ key) × (names ≡ false)
+Says Kind.value begun key equals names = (begun ≡ equals) × (names ≡ false)
+Says _ begun key equals names = Unit {0}
+
+says_token : (kind : Kind) (item : Item) (before : List Item) (token : Token)
+    → takes (Some token) kind ≡ true → Says kind (begun_token item before token)
+    (key_token item token) (equals_token before token) (names_function token)
+says_token Kind.closing item before token may = tt
+says_token Kind.comma item before token may = tt
+says_token Kind.item item before Token.open_paren may = (refl, refl)
+says_token Kind.item item before Token.comma may = (refl, refl)
+says_token Kind.opening item before Token.all may = (refl, refl)
+says_token Kind.opening item before Token.any may = (refl, refl)
+says_token Kind.opening item before Token.not may = (refl, refl)
+says_token Kind.equals item before (Token.key _) may = (refl, refl)
+says_token Kind.value item before Token.equals may = (refl, refl)
+says_token _ item before _ may = absurd (false≢true may)
+
+pub says : (kind : Kind) (back : List Item) → takes (head_token back) kind ≡ true
+    → Says kind (begun_last back) (key_last back) (equals_last back) (names_last (head_token back))
+says Kind.item [] may = (refl, refl)
+says Kind.closing [] may = tt
+says Kind.comma [] may = tt
+says _ [] may = absurd (false≢true may)
+says kind (item ∷ before) may = says_token kind item before item.token may
+
+-- a predicate that has begun has ended but behind `=`
+ended_token : (item : Item) (before : List Item) (token : Token)
+    → lacks_value (Some token) ≡ false
+    → begun_token item before token ≡ predicate_token item before token
+ended_token item before Token.equals whole = absurd (false≢true (sym whole))
+ended_token item before _ whole = refl
+
+ended_last : (back : List Item) → lacks_value (head_token back) ≡ false
+    → begun_last back ≡ predicate_last back
+ended_last [] whole = refl
+ended_last (item ∷ before) whole = ended_token item before item.token whole
+
+-- in front of `)` and `,` stands what has ended, or nothing
+pub after_end : (last : Option Token)
+    → (takes last Kind.closing ≡ true) ⊎ (takes last Kind.comma ≡ true)
+    → (lacks_value last ≡ false) × (names_last last ≡ false)
+after_end None which = (refl, refl)
+after_end (Some (Token.key _)) which = (refl, refl)
+after_end (Some (Token.value _)) which = (refl, refl)
+after_end (Some Token.open_paren) which = (refl, refl)
+after_end (Some Token.close_paren) which = (refl, refl)
+after_end (Some Token.comma) which = (refl, refl)
+after_end _ (inl may) = absurd (false≢true may)
+after_end _ (inr may) = absurd (false≢true may)
+
+pub height_kept : {M : Type 0} (f : Open M → Open M) (stack : List (Open M))
+    → length (over_top f stack) ≡ length stack
+height_kept f stack = grind arith
+
+module _ {W M L : Type 0} {builder : Builder W M L} where
+  pub record Matches (front : List Item) (s : State builder) : Type 0 where
+    pub last : s.last ≡ last_token front
+    pub pending : s.pending ≡ begun_last (reverse front)
+    pub balance : closings front + length s.stack ≡ names front
+    pub levels : Levels front s.roots (names_last (last_token front)) s.stack (going s.pending)
+
+  pub Matches-initial : Matches [] (initial {builder = builder})
+  Matches-initial = record { last = refl; pending = refl; balance = refl; levels = refl }
+
+  pub depth_is : (front : List Item) (s : State builder) → Matches front s
+      → depth front ≡ length s.stack
+  depth_is front s m = omega (arith, m.balance)
+
+  -- The predicate that ends.
+
+  module _ (front : List Item) (is_named : Bool) (s : State builder) where
+    -- the state in which it has ended
+    pub record Ended (t : State builder) : Type 0 where
+      pub settled : t.pending ≡ None
+      pub height : length t.stack ≡ length s.stack
+      pub levels : Levels front t.roots is_named t.stack 0
+
+    -- it ends well where the tokens show no fault of it, and otherwise with that fault
+    abbrev pub EndsAs : Result (State builder) Refusal → Option Refusal → Type 0
+    EndsAs (Ok t) fault = (fault ≡ None) × Ended t
+    EndsAs (Err refusal) fault = fault ≡ Some refusal
+
+    class_ends : (p : Pending) (class : Class) → Levels front s.roots is_named s.stack 1
+        → EndsAs (result_map (leaf_ended s) (located_class builder p class)) (class_fault p class)
+    class_ends p (Class.is leaf) levels =
+        let ended = Levels-ended front s.roots is_named s.stack levels in
+        (refl, record { settled = refl; height = height_kept one_more s.stack; levels = ended })
+    class_ends p (Class.refused cause part) levels = refl
+
+    pending_ends : (pending : Option Pending) → s.pending ≡ pending
+        → Levels front s.roots is_named s.stack (going pending) → EndsAs (ended_by s pending)
+        (option_and_then (λ p. class_fault p (class_of p)) pending)
+    pending_ends None is levels =
+        (refl, record { settled = is; height = refl; levels = levels })
+    pending_ends (Some p) is levels = class_ends p (class_of p) levels
+
+  pub predicate_ends : (front : List Item) (s : State builder) (m : Matches front s)
+      → lacks_value (last_token front) ≡ false
+      → EndsAs front (names_last (last_token front)) s (predicate_ended s) (predicate_fault front)
+  predicate_ends front s m whole =
+      let is = m.pending ∙ ended_last (reverse front) whole in
+      subst (λ o. EndsAs front (names_last (last_token front)) s (predicate_ended s)
+      (option_and_then (λ p. class_fault p (class_of p)) o)) is
+      (pending_ends front (names_last (last_token front)) s s.pending refl m.levels)
+
 -- Each step refuses a token with the fault that the tokens in front of it show, and the end of the
 -- text likewise.
-use Rattle.std.proofs.Common.{◌≡◌, ◌⊎◌, inl, inr, ℕ, suc, ◌+◌, ◌-◌, ◌<◌, ◌==◌, Bool, true, false}
-use Rattle.std.proofs.Common.{List, [], ◌∷◌, ◌++◌, cond, length, reverse, Option, Some, None}
-use Rattle.std.proofs.Common.{option_map}
-use Rattle.std.proofs.Common.{Result, Ok, Err, sym, refl, ap, ◌∙◌, subst, arith, take_all}
-use Rattle.std.specs.Prelude.{if◌then◌else◌, codes, slice_get, option_and_then}
-use Rattle.std.specs.Option.{option_or}
-use Rattle.std.proofs.lemmas.Bool.{lt-ltb, le-ltb, eq-eqb, ne_eqb}
-use Rattle.cfgx_syntax.specs.Token.{Token}
-use Rattle.cfgx_syntax.specs.Items.{Item}
-use Rattle.cfgx_syntax.specs.Error.{Refusal, unexpected}
-use Rattle.cfgx_syntax.specs.Error.{invalid_not, empty, multiple_root_predicates}
-use Rattle.cfgx_grammar.specs.Neighbours.{Kind, kind_of, is_kind, next, expected, takes}
-use Rattle.cfgx_grammar.specs.Depth.{depth, depth_at, innermost, members, roots, members_at}
-use Rattle.cfgx_grammar.specs.Depth.{names_function, is_closing}
-use Rattle.cfgx_grammar.specs.LastPredicate.{Word, word_of, with_value}
-use Rattle.cfgx_grammar.specs.FirstFault.{last_token}
-use Rattle.cfgx_grammar.specs.FirstFault.{predicate_fault, count_fault, not_fault, fault_by}
-use Rattle.cfgx_grammar.specs.FirstFault.{fault_behind, unclosed_fault, open_fault, root_fault}
-use Rattle.cfgx_grammar.specs.FirstFault.{end_fault, refusal, lacks_value}
-use Rattle.cfgx_grammar.proofs.faults.Counting.{slice_get_next, slice_get-inside, slice_get_past}
-use Rattle.cfgx_grammar.proofs.faults.Counting.{length_more, last_below-found, members_at_end}
-use Rattle.cfgx_grammar.proofs.faults.Counting.{depth_at_end}
-use Rattle.cfgx_grammar.specs.FirstFault.{refusal, lacks_value}
-use Rattle.cfgx_grammar.specs.parsing.State.{Function, Pending, Builder, Open, State, name_of}
-use Rattle.cfgx_grammar.specs.parsing.Step.{and_then, result_map, one_more, member_count}
-use Rattle.cfgx_grammar.specs.parsing.Step.{has_room, predicate_ended, function_ended}
-use Rattle.cfgx_grammar.specs.parsing.Step.{new_open, closed_by, opened, with_last, with_parens}
-use Rattle.cfgx_grammar.specs.parsing.Step.{apply, step, unclosed, one_root, concluded_by, conclude}
-use Rattle.cfgx_grammar.proofs.faults.Levels.{IsLevel, HasParens, Levels, Levels-ended}
-use Rattle.cfgx_grammar.proofs.faults.Levels.{Levels-same, Levels-item, Levels-open}
-use Rattle.cfgx_grammar.proofs.faults.Matches.{names_last, going, Matches, depth_is, last_more}
-use Rattle.cfgx_grammar.proofs.faults.Matches.{begun_token, begun_more, names_more, closings_more}
-use Rattle.cfgx_grammar.proofs.faults.Matches.{says}
-use Rattle.cfgx_grammar.proofs.faults.Matches.{after_end, height_kept, Ended, EndsAs}
-use Rattle.cfgx_grammar.proofs.faults.Matches.{predicate_ends, names, closings}
 
 -- the members that have ended and the one that goes on
 going_counted : {M : Type 0} (top : Open M) (pending : Option Pending)
     → top.members + going pending ≡ member_count top pending
-going_counted top None = omega arith
-going_counted top (Some pending) = refl
+going_counted top pending = grind arith
 
 going_value : (value : Word) (pending : Option Pending)
     → going (option_map (with_value value) pending) ≡ going pending
-going_value value None = refl
-going_value value (Some p) = refl
+going_value value pending = grind arith
 
 -- the fault of a function that is closed
 room_fault : (function : Function) (name close : Item) (start count : ℕ)
@@ -55,6 +221,13 @@ room_fault : (function : Function) (name close : Item) (start count : ℕ)
 room_fault Function.all name close start count named starts = rw named refl
 room_fault Function.any name close start count named starts = rw named refl
 room_fault Function.not name close start count named starts = rw (named, starts) refl
+
+-- the fault of a function that stays open
+unclosed_is : {M : Type 0} (len : ℕ) (name : Item) (top : Open M) (paren : Option Item)
+    (parens : Option ℕ) → name.start ≡ top.start → name.end ≡ top.end → start_of paren ≡ parens
+    → unclosed_fault len name paren ≡ unclosed len top parens
+unclosed_is len name top None parens starts ends is = rw (← is, starts, ends) refl
+unclosed_is len name top (Some paren) parens starts ends is = rw (← is) refl
 
 module _ {W M L : Type 0} {builder : Builder W M L} where
   -- what a token leads to is what the tokens show
@@ -84,7 +257,7 @@ module _ {W M L : Type 0} {builder : Builder W M L} (front : List Item) (s : Sta
     deep_is = depth_is front s m ∙ ap length is ∙ omega arith
 
     within : level.place < length front
-    within = slice_get-inside front level.place level.opened.name level.opened.stands
+    within = slice_get_within front level.place level.opened.name level.opened.stands
 
     innermost_is : innermost front ≡ Some level.place
     innermost_is = last_below-found _ level.place (length front) within
@@ -108,30 +281,18 @@ module _ {W M L : Type 0} {builder : Builder W M L} (front : List Item) (s : Sta
         (member_count top s.pending) level.opened.named level.opened.starts)
 
     -- it stays open
-    unclosed_is : (len : ℕ) (b : Bool) → HasParens b front top.parens level.place
-        → unclosed_fault len level.opened.name (slice_get front (level.place + 1))
-        ≡ unclosed len top top.parens
-    unclosed_is len false entered = rw (entered.stands, entered.noted) refl
-    unclosed_is len true last = rw (
-      last.last,
-      slice_get_past front,
-      level.opened.starts,
-      level.opened.ends,
-      last.noted,
-    ) refl
-
     open_fault_is : (len : ℕ) → option_and_then (open_fault len front) (innermost front)
         ≡ Some (unclosed len top top.parens)
     open_fault_is len = rw (innermost_is, level.opened.stands)
-        (ap Some (unclosed_is len named level.parens))
+        (ap Some (unclosed_is len level.opened.name top _ _ level.opened.starts level.opened.ends
+        level.parens))
 
   -- the levels, by whether a name is the last token
   levels_of : (b : Bool) → named ≡ b → Levels front s.roots b s.stack (going s.pending)
   levels_of b is = subst (λ c. Levels front s.roots c s.stack (going s.pending)) is m.levels
 
   plain_levels : (b : Bool) → s.pending ≡ None → named ≡ b → Levels front s.roots b s.stack 0
-  plain_levels b none is = subst (λ p. Levels front s.roots b s.stack (going p)) none
-      (levels_of b is)
+  plain_levels b none is = rw none at (levels_of b is)
 
   module _ (start end : ℕ) where
     abbrev at : Token → Item
@@ -140,73 +301,40 @@ module _ {W M L : Type 0} {builder : Builder W M L} (front : List Item) (s : Sta
     abbrev more : Token → List Item
     more token = front ++ at token ∷ []
 
-    abbrev balanced : Token → ℕ → Type 0
-    balanced token height = closings (more token) + height ≡ names (more token)
+    -- so many functions are open behind the token
+    abbrev Rises : Token → ℕ → Type 0
+    Rises token height = height + cond (is_closing token) 1 0
+        ≡ length s.stack + cond (names_function token) 1 0
+
+    balanced : (token : Token) (height : ℕ) → Rises token height
+        → closings (more token) + height ≡ names (more token)
+    balanced token height rises =
+        let n = names_more front (at token) in
+        let c = closings_more front (at token) in omega (arith, m.balance, rises, n, c)
 
     -- what the token leaves, by what it says of its own
-    matched : (token : Token) (t : State builder) (b : Bool) (w : ℕ) → t.last ≡ Some token
-        → names_function token ≡ b → t.pending ≡ begun_token (at token) (reverse front) token
-        → going t.pending ≡ w → balanced token (length t.stack)
-        → Levels (more token) t.roots b t.stack w
+    matched : (token : Token) (t : State builder) (w : ℕ) → t.last ≡ Some token
+        → t.pending ≡ begun_token (at token) (reverse front) token → going t.pending ≡ w
+        → Rises token (length t.stack)
+        → Levels (more token) t.roots (names_function token) t.stack w
         → Matches (more token) t
-    matched token t b w last is pending goes balance levels = record {
+    matched token t w last pending goes rises levels = record {
       last = last ∙ sym (last_more front (at token));
       pending = pending ∙ sym (begun_more front (at token));
-      balance = balance;
-      levels = subst (λ c. Levels (more token) t.roots c t.stack (going t.pending))
-          (sym (ap names_last (last_more front (at token)) ∙ is))
-          (subst (Levels (more token) t.roots b t.stack) (sym goes) levels);
+      balance = balanced token _ rises;
+      levels = rw (last_more front (at token), goes) levels;
     }
-
-    kept : (token : Token) → names_function token ≡ false → is_closing token ≡ false
-        → balanced token (length s.stack)
-    kept token no_name no_close =
-        let n = names_more front (at token) ∙ ap (λ b. names front + cond b 1 0) no_name in
-        let c = closings_more front (at token) ∙ ap (λ b. closings front + cond b 1 0) no_close in
-        omega (arith, m.balance, n, c)
 
     -- a token that neither opens nor closes a function and begins no item
     stays : (token : Token) (t : State builder) (w : ℕ) → t.last ≡ Some token
-        → names_function token ≡ false → is_closing token ≡ false
-        → is_kind Kind.item (kind_of token) ≡ false → length t.stack ≡ length s.stack
+        → names_function token ≡ false
+        → is_kind Kind.item (kind_of token) ≡ false → Rises token (length t.stack)
         → t.pending ≡ begun_token (at token) (reverse front) token → going t.pending ≡ w
         → Levels front t.roots false t.stack w → Matches (more token) t
-    stays token t w last no_name no_close other height pending goes levels =
-        let balance = ap (λ n. closings (more token) + n) height ∙ kept token no_name no_close in
-        matched token t false w last no_name pending goes balance (Levels-same front (at token)
-        t.roots w t.stack (omega (arith, balance)) (inl other) levels)
-
-    key_step : (text : List ℕ) → takes (last_token front) Kind.item ≡ true
-        → Agrees (more (Token.key text)) (result_map (with_last (Token.key text))
-        (apply s (at (Token.key text)) (Token.key text))) None
-    key_step text may =
-        let token = Token.key text in
-        let a = says Kind.item (reverse front) may in
-        let balance = kept token refl refl in
-        let levels = Levels-item front (at token) s.roots s.stack (omega (arith, balance))
-        (depth_is front s m) refl (plain_levels false (m.pending ∙ a.0) a.1) in
-        (refl, matched token _ false 1 refl refl refl refl balance levels)
-
-    equals_step : takes (last_token front) Kind.equals ≡ true → Agrees (more Token.equals)
-        (result_map (with_last Token.equals) (apply s (at Token.equals) Token.equals)) None
-    equals_step may =
-        let a = says Kind.equals (reverse front) may in (
-          refl,
-          stays Token.equals _ _ refl refl refl refl refl (m.pending ∙ a.0) refl
-              (levels_of false a.1),
-        )
-
-    value_step : (text : List ℕ) → takes (last_token front) Kind.value ≡ true
-        → Agrees (more (Token.value text)) (result_map (with_last (Token.value text))
-        (apply s (at (Token.value text)) (Token.value text))) None
-    value_step text may =
-        let value = word_of text (start + 1) (end - 1) in
-        let a = says Kind.value (reverse front) may in (
-          refl,
-          stays (Token.value text) _ _ refl refl refl refl refl
-              (ap (option_map (with_value value)) (m.pending ∙ a.0))
-              (going_value value s.pending) (levels_of false a.1),
-        )
+    stays token t w last no_name other rises pending goes levels =
+        matched token t w last pending goes rises (rw no_name (Levels-same front (at token)
+        t.roots w t.stack (omega (arith, balanced token _ rises))
+        (λ level from le. members_at_other front (at token) level from other) levels))
 
     -- the name of a function
     name_step : (function : Function) → takes (last_token front) Kind.item ≡ true
@@ -220,10 +348,9 @@ module _ {W M L : Type 0} {builder : Builder W M L} (front : List Item) (s : Sta
         let item = at token in
         let a = says Kind.item (reverse front) may in
         let pending : s.pending ≡ None = m.pending ∙ a.0 in
-        let n = names_more front item ∙ ap (λ b. names front + cond b 1 0) is_name in
-        let c = closings_more front item ∙ ap (λ b. closings front + cond b 1 0) no_close in
-        let balance : balanced token (suc (length s.stack)) = omega (arith, m.balance, n, c) in
-        let deep : length s.stack < depth (more token) = omega (arith, balance) in
+        let rises : Rises token (suc (length s.stack)) = rw (is_name, no_close) (omega arith) in
+        let long = length_more front item in
+        let deep : length s.stack < depth (more token) = omega (arith, balanced token _ rises) in
         let outer = Levels-item front item s.roots s.stack (omega (arith, deep))
         (depth_is front s m) begins (plain_levels false pending a.1) in
         let here : IsLevel (more token) true (length s.stack) (new_open s function item)
@@ -236,31 +363,14 @@ module _ {W M L : Type 0} {builder : Builder W M L} (front : List Item) (s : Sta
             starts = refl;
             ends = refl;
             before = depth_at_end front item ∙ depth_is front s m;
-            inside = λ k behind within. subst (λ l. length s.stack < depth l)
-                (sym (take_all k (more token) (omega (arith, behind, length_more front item))))
-                deep;
+            inside = λ k behind within. rw (take_all k (more token) (omega arith)) deep;
           };
-          parens = record { last = omega (arith, length_more front item); noted = refl };
+          named_last = omega arith;
+          parens = ap start_of (slice_get_past (more token) _ (omega arith));
           counted = members_at_end (more token) (length s.stack + 1) (length front + 1)
-              (omega (arith, length_more front item)) ∙ sym (ap going pending) ∙ omega arith;
+              (omega arith) ∙ sym (ap going pending) ∙ omega arith;
         } in
-        (refl, matched token _ true _ refl is_name (pending ∙ sym none) refl balance (here, outer))
-
-    -- `(`
-    open_step : takes (last_token front) Kind.opening ≡ true → Agrees (more Token.open_paren)
-        (result_map (with_last Token.open_paren) (apply s (at Token.open_paren) Token.open_paren))
-        None
-    open_step may =
-        let token = Token.open_paren in
-        let a = says Kind.opening (reverse front) may in
-        let balance = kept token refl refl in
-        let levels = Levels-open front (at token) s.roots (going s.pending) s.stack
-        (omega (arith, balance)) refl (levels_of true a.1) in (
-          refl,
-          matched token _ false _ refl refl (m.pending ∙ a.0) refl
-              (ap (λ n. closings (more token) + n) (height_kept (with_parens start) s.stack)
-              ∙ balance) levels,
-        )
+        (refl, matched token _ _ refl (pending ∙ sym none) refl rises (rw is_name (here, outer)))
 
     -- `,` and `)`, in front of which a predicate ends
     ended_here : (takes (last_token front) Kind.closing ≡ true)
@@ -268,8 +378,7 @@ module _ {W M L : Type 0} {builder : Builder W M L} (front : List Item) (s : Sta
         → EndsAs front false s (predicate_ended s) (predicate_fault front)
     ended_here which =
         let a = after_end (last_token front) which in
-        subst (λ b. EndsAs front b s (predicate_ended s) (predicate_fault front)) a.1
-        (predicate_ends front s m a.0)
+        rw a.1 at (predicate_ends front s m a.0)
 
     comma_ends : (r : Result (State builder) Refusal) (fault : Option Refusal)
         → EndsAs front false s r fault
@@ -277,7 +386,8 @@ module _ {W M L : Type 0} {builder : Builder W M L} (front : List Item) (s : Sta
     comma_ends (Err refusal) fault ends = ends
     comma_ends (Ok t) fault (none, e) = (
       none,
-      stays Token.comma _ 0 refl refl refl refl e.height e.settled (ap going e.settled) e.levels,
+      stays Token.comma _ 0 refl refl refl (ap (λ n. n + 0) e.height) e.settled (ap going e.settled)
+          e.levels,
     )
 
     function_closes : (t : State builder) (stack : List (Open M)) → t.stack ≡ stack
@@ -287,15 +397,13 @@ module _ {W M L : Type 0} {builder : Builder W M L} (front : List Item) (s : Sta
     function_closes t (top ∷ rest) is e some =
         let token = Token.close_paren in
         let heights : length s.stack ≡ suc (length rest) = sym e.height ∙ ap length is in
-        let n = names_more front (at token) in
-        let c = closings_more front (at token) in
-        let balance : balanced token (length rest) = omega (arith, m.balance, n, c, heights) in
-        let old : Levels front t.roots false (top ∷ rest) 0 =
-        subst (λ k. Levels front t.roots false k 0) is e.levels in
+        let rises : Rises token (length rest) = omega (arith, heights) in
+        let old = rw is at e.levels in
         let levels = Levels-ended (more token) t.roots false rest (Levels-same front (at token)
-        t.roots 1 rest (omega (arith, balance)) (inl refl) old.1) in
-        matched token _ false 0 refl refl e.settled (ap going e.settled)
-        (ap (λ k. closings (more token) + k) (height_kept one_more rest) ∙ balance) levels
+        t.roots 1 rest (omega (arith, balanced token _ rises))
+        (λ level from le. members_at_other front (at token) level from refl) old.1) in
+        matched token _ 0 refl e.settled (ap going e.settled)
+        (ap (λ k. k + 1) (height_kept one_more rest) ∙ rises) levels
 
     close_ends : (r : Result (State builder) Refusal) (fault : Option Refusal)
         → EndsAs front false s r fault → 0 < length s.stack → Agrees (more Token.close_paren)
@@ -334,31 +442,47 @@ module _ {W M L : Type 0} {builder : Builder W M L} (front : List Item) (s : Sta
     token_step : (token : Token) → next (last_token front) token ≡ true
         → Agrees (more token) (result_map (with_last token) (apply s (at token) token))
         (fault_by front (at token) token)
-    token_step (Token.key text) may = key_step text may
-    token_step (Token.value text) may = value_step text may
-    token_step Token.equals may = equals_step may
+    token_step (Token.key text) may = let token = Token.key text in
+        let a = says Kind.item (reverse front) may in
+        let levels = Levels-item front (at token) s.roots s.stack
+        (omega (arith, balanced token (length s.stack) refl)) (depth_is front s m) refl
+        (plain_levels false (m.pending ∙ a.0) a.1) in
+        (refl, matched token _ 1 refl refl refl refl levels)
+    token_step (Token.value text) may = let value = word_of text (start + 1) (end - 1) in
+        let a = says Kind.value (reverse front) may in (
+          refl,
+          stays (Token.value text) _ _ refl refl refl refl
+              (ap (option_map (with_value value)) (m.pending ∙ a.0))
+              (going_value value s.pending) (levels_of false a.1),
+        )
+    token_step Token.equals may = let a = says Kind.equals (reverse front) may in (
+      refl,
+      stays Token.equals _ _ refl refl refl refl (m.pending ∙ a.0) refl (levels_of false a.1),
+    )
     token_step Token.all may = name_step Function.all may refl refl refl refl
     token_step Token.any may = name_step Function.any may refl refl refl refl
     token_step Token.not may = name_step Function.not may refl refl refl refl
-    token_step Token.open_paren may = open_step may
+    token_step Token.open_paren may = let token = Token.open_paren in
+        let a = says Kind.opening (reverse front) may in
+        let levels = Levels-open front (at token) s.roots (going s.pending) s.stack
+        (omega (arith, balanced token (length s.stack) refl)) refl (levels_of true a.1) in
+        let rises = ap (λ n. n + 0) (height_kept (with_parens start) s.stack) in
+        (refl, matched token _ _ refl (m.pending ∙ a.0) refl rises levels)
     token_step Token.close_paren may = close_step s.stack refl (ended_here (inl may))
     token_step Token.comma may =
         comma_ends (predicate_ended s) (predicate_fault front) (ended_here (inr may))
 
-    step_by : (last : Option Token) (token : Token) (b : Bool) → last ≡ last_token front
-        → next last token ≡ b
-        → Agrees (more token) (if b then result_map (with_last token) (apply s (at token) token)
-        else Err (refusal (unexpected (expected last)) start end)) (fault_behind front (at token))
-    step_by last token true is may =
-        let here : next (last_token front) token ≡ true = ap (λ l. next l token) (sym is) ∙ may in
-        rw here (token_step token here)
-    step_by last token false is may =
-        let here : next (last_token front) token ≡ false = ap (λ l. next l token) (sym is) ∙ may in
-        rw here (rw is refl)
-
     pub step_agrees : (token : Token)
         → Agrees (more token) (step s (at token)) (fault_behind front (at token))
-    step_agrees token = step_by s.last token _ m.last refl
+    step_agrees token = rw m.last (by _ refl)
+      where
+        by : (b : Bool) → next (last_token front) token ≡ b → Agrees (more token)
+            (if b then result_map (with_last token) (apply s (at token) token)
+            else Err (refusal (unexpected (expected (last_token front))) start end))
+            (if b then fault_by front (at token) token
+            else Some (refusal (unexpected (expected (last_token front))) start end))
+        by true may = token_step token may
+        by false may = refl
 
   -- the end of the text
   root_agrees : (len : ℕ) (t : State builder) (none one : Bool)
@@ -396,12 +520,76 @@ module _ {W M L : Type 0} {builder : Builder W M L} (front : List Item) (s : Sta
       rw (whole, ne_eqb (depth front) 0 (λ zero. omega (arith, zero, deep_is top rest is)))
       (open_fault_is top rest is len)
 
-  end_by : (len : ℕ) (last : Option Token) (b : Bool) → last ≡ last_token front
-      → lacks_value last ≡ b
-      → EndAgrees (if b then Err (refusal (unexpected (codes "\"<value>\"" ∷ [])) len len)
-      else concluded_by len s s.stack) (end_fault len front)
-  end_by len last true is lacks = rw (ap lacks_value (sym is) ∙ lacks) refl
-  end_by len last false is lacks = end_stack len s.stack refl (ap lacks_value (sym is) ∙ lacks)
-
   pub end_agrees : (len : ℕ) → EndAgrees (conclude len s) (end_fault len front)
-  end_agrees len = end_by len s.last _ m.last refl
+  end_agrees len = by _ refl
+    where
+      by : (b : Bool) → lacks_value s.last ≡ b → EndAgrees
+          (if b then Err (refusal (unexpected (codes "\"<value>\"" ∷ [])) len len)
+          else concluded_by len s s.stack) (end_fault len front)
+      by true lacks = rw (ap lacks_value (sym m.last) ∙ lacks) refl
+      by false lacks = end_stack len s.stack refl (ap lacks_value (sym m.last) ∙ lacks)
+
+-- What the steps answer for all tokens of a text is its first fault, or none.
+
+-- the tokens lead on where none shows a fault, and otherwise to the first fault
+abbrev Scanned : {W M L : Type 0} {builder : Builder W M L} → List Item
+    → Result (State builder) Refusal → Type 0
+Scanned all (Ok t) = (first_below (fault_at all) (length all) ≡ None) × Matches all t
+Scanned all (Err refusal) = first_below (fault_at all) (length all) ≡ Some refusal
+
+-- no token of these shows a fault
+abbrev HasNone : List Item → ℕ → Type 0
+HasNone all n = (k : ℕ) → k < n → fault_at all k ≡ None
+
+module _ (all front : List Item) (item : Item) (items : List Item)
+    (is : all ≡ front ++ item ∷ items) where
+  fault_next : fault_at all (length front) ≡ fault_behind front item
+  fault_next = rw (is, take-append_seam, slice_get_next) refl
+
+  next_inside : length front < length all
+  next_inside = omega (arith, ap length is, length-append front (item ∷ items))
+
+  none_more : HasNone all (length front) → fault_behind front item ≡ None
+      → HasNone all (length (front ++ item ∷ []))
+  none_more none here k lt = ⊎_elim (none k) (λ (past : length front ≤ k).
+      let same : k ≡ length front = omega (arith, lt, past, length_more front item) in
+      ap (fault_at all) same ∙ fault_next ∙ here) (cases_lt k (length front))
+
+  scan_next : {W M L : Type 0} {builder : Builder W M L} (r : Result (State builder) Refusal)
+      → HasNone all (length front) → Agrees (front ++ item ∷ []) r (fault_behind front item)
+      → ((t : State builder) → Matches (front ++ item ∷ []) t → fault_behind front item ≡ None
+      → Scanned all (step_each t items)) → Scanned all (and_then (λ t. step_each t items) r)
+  scan_next (Err refusal) none agrees go = first_below-found (fault_at all) (length front)
+      (length all) refusal next_inside none (fault_next ∙ agrees)
+  scan_next (Ok t) none agrees go = go t agrees.1 agrees.0
+
+scan : {W M L : Type 0} {builder : Builder W M L} (items all front : List Item)
+    (s : State builder) → all ≡ front ++ items → Matches front s → HasNone all (length front)
+    → Scanned all (step_each s items)
+scan [] all front s is m none =
+    let same : all ≡ front = is ∙ append-nil front in
+    (first_below-none (fault_at all) (length all) (rw (← same) at none), rw (← same) at m)
+scan (item ∷ items) all front s is m none =
+    scan_next all front item items is (step s item) none
+    (step_agrees front s m item.start item.end item.token)
+    (λ t more here. scan items all (front ++ item ∷ []) t
+    (is ∙ sym (append_assoc front (item ∷ []) items)) more
+    (none_more all front item items is none here))
+
+module _ {W M L : Type 0} (builder : Builder W M L) (text : List ℕ) (items : List Item)
+    (ending : Ending) where
+  at_end : (o : Option Refusal) (t : State builder) → Matches items t
+      → EndAgrees (ended_as text o t) (option_or o (end_fault (length text) items))
+  at_end (Some refusal) t m = refl
+  at_end None t m = end_agrees items t m (length text)
+
+  whole_by : (r : Result (State builder) Refusal) → Scanned items r
+      → EndAgrees (and_then (ended_as text (lexical text ending)) r)
+      (first_fault text items ending)
+  whole_by (Err refusal) scanned = rw scanned refl
+  whole_by (Ok t) scanned = rw scanned.0 (at_end (lexical text ending) t scanned.1)
+
+  pub whole_agrees : EndAgrees (answer_from (initial {builder = builder}) text items ending)
+      (first_fault text items ending)
+  whole_agrees = whole_by (step_each initial items)
+      (scan items items [] initial refl Matches-initial (λ k lt. absurd (omega (arith, lt))))

@@ -16,9 +16,9 @@ use Rattle.cfgx_parser.specs.nodes.Writes.{IsPlaced, ArePlaced, WritesNodes}
 use Rattle.cfgx_parser.specs.parsing.State.{counted, node_builder}
 use Rattle.cfgx_parser.specs.declared.function.Func.TheVariants.{Not}
 use Rattle.cfgx_parser.specs.declared.nodes.ExprNode.TheVariants as node
-use Rattle.cfgx_grammar.proofs.alone.Regular.{all_of_first, all_of_second}
-use Rattle.cfgx_grammar.proofs.Leaves.{leaf_tree}
-use Rattle.cfgx_grammar.proofs.spelled.Items.{Calls, Laws}
+use Rattle.cfgx_grammar.proofs.alone.{all_of_first, all_of_second}
+use Rattle.cfgx_grammar.proofs.accepted.{leaf_tree}
+use Rattle.cfgx_grammar.proofs.spelled.{Calls, Laws}
 use Rattle.cfgx_parser.proofs.spelled.Located.{Stands, NamesClass, NamesClass-class}
 use Rattle.cfgx_parser.proofs.spelled.Written.{WritesNodes-none, WritesNodes-then}
 use Rattle.cfgx_parser.proofs.spelled.Written.{WritesNodes-predicate, WritesNodes-literal}

@@ -5,7 +5,7 @@ use Rattle.std.proofs.Common.{sym, refl, ap, ◌∙◌, arith, append_assoc, len
 use Rattle.std.proofs.lemmas.List.{append-nil, map-append, length-map, length_push, set_at, take_at}
 use Rattle.std.proofs.lemmas.List.{drop_at}
 use Rattle.cfgx_grammar.specs.Question.{Question}
-use Rattle.cfgx_grammar.proofs.alone.Regular.{all_of_both}
+use Rattle.cfgx_grammar.proofs.alone.{all_of_both}
 use Rattle.cfgx_parser.specs.nodes.Located.{question_at, HasCut}
 use Rattle.cfgx_parser.specs.nodes.Node.{Written, mark_of, with_leaf, with_function}
 use Rattle.cfgx_parser.specs.nodes.Node.{with_function_ended}

@@ -1,5 +1,5 @@
 -- The state that the parser's fields keep.
-use Rattle.std.specs.Prelude.{ℕ, Bool, true, false, List, [], ◌∷◌, map, reverse, Option, Some, None}
+use Rattle.std.specs.Prelude.{ℕ, List, [], ◌∷◌, Option, Some, None}
 use Rattle.std.specs.Prelude.{option_map, Result, Ok, Err}
 use Rattle.std.specs.declared.ops.Range.{Range}
 use Rattle.cfgx_syntax.specs.Error.{Refusal, unexpected, cause_of}
@@ -14,6 +14,10 @@ use Rattle.cfgx_parser.specs.declared.classification.Word as code_word
 use Rattle.cfgx_parser.specs.declared.classification.Pending as code_pending
 use Rattle.cfgx_parser.specs.declared.nodes.ExprNode.{ExprNode}
 use Rattle.cfgx_parser.specs.declared.parser.FuncAndSpan.{FuncAndSpan}
+use Rattle.cfgx_parser.specs.declared.parser.OpenList.{OpenList}
+use Rattle.cfgx_parser.specs.declared.parser.LastToken.{LastToken}
+use Rattle.cfgx_parser.specs.declared.parser.LastToken.TheVariants as last
+use Rattle.cfgx_syntax.specs.Token as spelled
 
 abbrev pub word_of : code_word.Word → Word
 word_of word = record { text = word.text.now; start = word.span.start; end = word.span.end }
@@ -50,21 +54,50 @@ function_of func.Not = Function.not
 function_of (func.All members) = Function.all
 function_of (func.Any members) = Function.any
 
--- an open function, as the parser keeps it
-abbrev pub open_of : FuncAndSpan → OpenFunction
-open_of f = record {
+abbrev pub empty_list : OpenList
+empty_list = record { members = 0; parens_index = None }
+
+-- an open function and its list, as the parser keeps them
+abbrev pub open_of : FuncAndSpan → OpenList → OpenFunction
+open_of f list = record {
   function = function_of f.func;
   start = f.span.start;
   end = f.span.end;
-  parens = f.parens_index;
-  members = f.members;
+  parens = list.parens_index;
+  members = list.members;
   mark = f.mark;
 }
 
--- the open functions, the innermost first
-abbrev pub opens_of : List FuncAndSpan → List OpenFunction
-opens_of functions = map open_of (reverse functions)
+-- the open functions, by the innermost list and the functions, the innermost first
+abbrev pub opens_in : OpenList → List FuncAndSpan → List OpenFunction
+opens_in list [] = []
+opens_in list (top ∷ rest) = open_of top list ∷ opens_in top.around rest
 
-abbrev pub is_some_open : List OpenFunction → Bool
-is_some_open [] = false
-is_some_open (top ∷ rest) = true
+-- how many items at the root have ended
+abbrev pub roots_in : OpenList → List FuncAndSpan → ℕ
+roots_in list [] = list.members
+roots_in list (top ∷ rest) = roots_in top.around rest
+
+-- what the parser keeps of the last token
+abbrev pub last_of : Option spelled.Token → LastToken
+last_of None = last.Start
+last_of (Some (spelled.Token.key text)) = last.Key
+last_of (Some (spelled.Token.value text)) = last.Value
+last_of (Some spelled.Token.equals) = last.Equals
+last_of (Some spelled.Token.all) = last.Function
+last_of (Some spelled.Token.any) = last.Function
+last_of (Some spelled.Token.not) = last.Function
+last_of (Some spelled.Token.open_paren) = last.OpenParen
+last_of (Some spelled.Token.close_paren) = last.CloseParen
+last_of (Some spelled.Token.comma) = last.Comma
+
+-- a token of which it keeps that
+abbrev pub token_like : LastToken → Option spelled.Token
+token_like last.Start = None
+token_like last.Key = Some (spelled.Token.key [])
+token_like last.Value = Some (spelled.Token.value [])
+token_like last.Equals = Some spelled.Token.equals
+token_like last.Function = Some spelled.Token.all
+token_like last.OpenParen = Some spelled.Token.open_paren
+token_like last.CloseParen = Some spelled.Token.close_paren
+token_like last.Comma = Some spelled.Token.comma

@@ -1,11 +1,11 @@
 -- What the parser's functions say: they compute the steps.
-use Rattle.std.specs.Prelude.{◌≡◌, ℕ, ◌+◌, ◌-◌, ◌≤◌, List, option_map}
-use Rattle.std.specs.Prelude.{Result, Ok, Err, Some}
+use Rattle.std.specs.Prelude.{◌≡◌, ℕ, ◌+◌, ◌-◌, ◌≤◌, List, reverse, option_map}
+use Rattle.std.specs.Prelude.{Option, Some, None, Result, Ok, Err}
 use Rattle.std.specs.declared.ops.Range.{Range}
 use Rattle.cfgx_syntax.specs.Token as spelled
 use Rattle.cfgx_syntax.specs.Items.{Item, Ending, ItemsFrom}
 use Rattle.cfgx_syntax.specs.LexerState.{LexerState}
-use Rattle.cfgx_syntax.specs.Lexer.{token_of}
+use Rattle.cfgx_syntax.specs.Lexer.{token_of, item_of}
 use Rattle.cfgx_syntax.specs.Error.{Refusal, cause_of, fault_in, fault_of}
 use Rattle.cfgx_grammar.specs.FirstFault.{refusal}
 use Rattle.cfgx_parser.specs.declared.parser.Fault.{Fault}
@@ -17,22 +17,28 @@ use Rattle.cfgx_syntax.specs.declared.lexer.LexerToken.{LexerToken}
 use Rattle.cfgx_syntax.specs.declared.lexer.Token.{Token}
 use Rattle.cfgx_syntax.specs.declared.lexer.Token.TheVariants as given
 use Rattle.cfgx_parser.specs.nodes.Writer.{Fits, written_of}
-use Rattle.cfgx_grammar.specs.parsing.State.{Function}
-use Rattle.cfgx_parser.specs.parsing.State.{ParserState}
-use Rattle.cfgx_grammar.specs.parsing.Step.{opened, function_ended, closed_by}
-use Rattle.cfgx_grammar.specs.parsing.Step.{answer_from}
+use Rattle.cfgx_grammar.specs.parsing.State.{Function, Pending}
+use Rattle.cfgx_parser.specs.nodes.Node.{Written, with_leaf}
+use Rattle.cfgx_parser.specs.parsing.State.{ParserState, classified}
+use Rattle.cfgx_grammar.specs.parsing.Step.{opened, closed_by, concluded_by, result_map}
+use Rattle.cfgx_grammar.specs.parsing.Step.{answer_from, over_top, with_parens, step, conclude}
 use Rattle.cfgx_grammar.specs.LastPredicate.{with_value, word_of}
-use Rattle.cfgx_parser.specs.parsing.Fields.{opens_of, pending_of}
+use Rattle.cfgx_parser.specs.parsing.Fields.{opens_in, roots_in, pending_of, last_of}
+use Rattle.cfgx_parser.specs.declared.parser.LastToken.{LastToken}
 use Rattle.cfgx_parser.specs.declared.parser.Parser.{Parser}
 
-abbrev pub state_of : {A : Type 0} → Parser A → ParserState
-state_of p = record {
-  stack = opens_of p.func_stack.items;
+-- behind a last token, which the parser is told, or at the start
+abbrev pub state_at : {A : Type 0} → Option spelled.Token → Parser A → ParserState
+state_at last p = record {
+  stack = opens_in p.list (reverse p.func_stack.items);
   pending = option_map pending_of p.pending;
-  roots = p.root_count;
-  last = option_map token_of p.last_token;
+  roots = roots_in p.list (reverse p.func_stack.items);
+  last = last;
   written = written_of p.writer;
 }
+
+abbrev pub state_of : {A : Type 0} → Parser A → ParserState
+state_of {A} p = state_at {A = A} None p
 
 -- a fault that was noted, as the steps show it
 abbrev pub shown : Fault → Refusal
@@ -56,30 +62,62 @@ Says {A} text h parser failure = (answer : Result ParserState Refusal)
     → HaltsAs {A = A} h parser answer → FailsAs text failure answer
 
 -- the parser went on to a state
-pub record Reaches {A : Type 0} (new : Parser A) (state : ParserState) : Type 0 where
-  pub is : state ≡ state_of {A = A} new
+pub record Reaches {A : Type 0} (last : Option spelled.Token) (new : Parser A) (state : ParserState)
+    : Type 0 where
+  pub is : state ≡ state_at {A = A} last new
   pub fits : Fits (written_of new.writer)
 
--- the answer of a function that goes one step
+-- the answer of a function that goes one step, to a token that is the last one then
+abbrev pub GivesAt : {A : Type 0} → Option spelled.Token → Result (Unit {0}) Halt → Parser A
+    → Result ParserState Refusal → Type 0
+GivesAt {A} last (Ok done) new answer = (state : ParserState) × (answer ≡ Ok state)
+    × Reaches {A = A} last new state
+GivesAt {A} last (Err halt) new answer = HaltsAs {A = A} halt new answer
+
 abbrev pub Gives : {A : Type 0} → Result (Unit {0}) Halt → Parser A → Result ParserState Refusal
     → Type 0
-Gives {A} (Ok done) new answer = (state : ParserState) × (answer ≡ Ok state)
-    × Reaches {A = A} new state
-Gives {A} (Err halt) new answer = HaltsAs {A = A} halt new answer
+Gives {A} = GivesAt {A = A} None
 
 abbrev pub item_at : Range ℕ → Item
 item_at span = record { token = spelled.Token.comma; start = span.start; end = span.end }
 
 abbrev pub Opens : {A : Type 0} → Parser A → Parser A → Function → Range ℕ → Type 0
-Opens {A} old new function span = Reaches {A = A} new
+Opens {A} old new function span = Reaches {A = A} None new
     (opened (state_of {A = A} old) function (item_at span))
 
-abbrev pub EndsFunction : {A : Type 0} → Parser A → Parser A → Type 0
-EndsFunction {A} old new = Reaches {A = A} new (function_ended (opens_of old.func_stack.items)
-    (state_of {A = A} old))
+-- the state without its predicate, and with what was written
+abbrev pub settled : ParserState → Written → ParserState
+settled s written = record s { pending = None; written = written }
+
+-- the predicate that has begun, if one has, is written, but not counted
+abbrev pub pending_written : Option Pending → ParserState → Result ParserState Refusal
+pending_written None s = Ok (settled s s.written)
+pending_written (Some p) s = result_map (λ leaf. settled s (with_leaf leaf s.written))
+    (classified p)
+
+-- it is written, and no more changes
+pub record Wrote {A : Type 0} (old new : Parser A) : Type 0 where
+  pub written : pending_written (state_of {A = A} old).pending (state_of {A = A} old)
+      ≡ Ok (settled (state_of {A = A} old) (written_of new.writer))
+  pub fits : Fits (written_of new.writer)
+  pub none : new.pending ≡ None
+  pub functions : new.func_stack.items ≡ old.func_stack.items
+  pub list : new.list ≡ old.list
+
+abbrev pub WritesPending : {A : Type 0} → Parser A → Parser A → Result (Unit {0}) Halt → Type 0
+WritesPending {A} old new (Ok done) = Wrote {A = A} old new
+WritesPending {A} old new (Err halt) = HaltsAs {A = A} halt new
+    (pending_written (state_of {A = A} old).pending (state_of {A = A} old))
+
+abbrev pub parens_opened : ParserState → ℕ → ParserState
+parens_opened s place = record s { stack = over_top (with_parens place) s.stack }
 
 abbrev pub closed_at : ParserState → Range ℕ → Result ParserState Refusal
 closed_at s span = closed_by s (item_at span) s.stack
+
+-- the end of a text of so many bytes in which no value is missing
+abbrev pub concluded : ParserState → ℕ → Result ParserState Refusal
+concluded s len = concluded_by len s s.stack
 
 abbrev pub value_added : ParserState → List ℕ → Range ℕ → ParserState
 value_added s text span = record s {
@@ -95,10 +133,24 @@ IsQuotedAt _ span = Unit {0}
 abbrev pub IsQuoted : LexerToken → Type 0
 IsQuoted lexed = IsQuotedAt lexed.token lexed.span
 
+-- one token is read, whatever the last one is of which the parser is told
+abbrev pub Reads : {A : Type 0} → LastToken → LexerToken → Parser A → Parser A
+    → Result (Unit {0}) Halt → Type 0
+Reads {A} last lexed old new result = (before : Option spelled.Token) → last_of before ≡ last
+    → GivesAt {A = A} (Some (token_of lexed.token)) result new
+    (step (state_at {A = A} before old) (item_of lexed))
+
+-- the text of so many bytes ends behind it
+abbrev pub Finishes : {A : Type 0} → LastToken → ℕ → Parser A → Parser A
+    → Result (Unit {0}) Halt → Type 0
+Finishes {A} last len old new result = (before : Option spelled.Token) → last_of before ≡ last
+    → GivesAt {A = A} before result new (conclude len (state_at {A = A} before old))
+
 -- the answer of a parser that reads a text to its end
 abbrev pub Ends : {A : Type 0} → Result (Unit {0}) (Failure A) → List ℕ → Parser A
     → Result ParserState Refusal → Type 0
-Ends {A} (Ok done) text new answer = Gives {A = A} (Ok done) new answer
+Ends {A} (Ok done) text new answer = (last : Option spelled.Token)
+    × GivesAt {A = A} last (Ok done) new answer
 Ends (Err failure) text new answer = FailsAs text failure answer
 
 abbrev pub ReadsAll : {A : Type 0} → LexerState → Parser A → Parser A → Result (Unit {0})

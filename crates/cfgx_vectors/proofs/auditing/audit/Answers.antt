@@ -1,6 +1,5 @@
 -- The expression is that of the stripped text.
 use Rattle.std.proofs.Common.{subst, sym}
-use Rattle.cfgx_grammar.specs.Answer.{HasOneTree}
 use Rattle.cfgx_grammar.specs.Grammar.{HasTree}
 use Rattle.cfgx_vectors.proofs.auditing.audit.Goals as goal
 

@@ -1,5 +1,5 @@
 -- One lane more.
-use Rattle.std.proofs.Common.{◌≡◌, ◌∙◌, ◌+◌, ◌++◌, ◌∷◌, [], ap, arith, suc, sym}
+use Rattle.std.proofs.Common.{◌≡◌, ◌∙◌, ◌+◌, ◌++◌, ◌∷◌, [], ap, arith, suc}
 use Rattle.std.proofs.lemmas.List.{append_assoc}
 use Rattle.cfgx_syntax.specs.Kleene.{lane}
 use Rattle.cfgx_vectors.specs.Audits.{first_lanes}

@@ -1,13 +1,10 @@
 -- What follows of a closure that no call changes.
-use Rattle.std.proofs.Common.{subst}
+use Rattle.std.proofs.Common.{sym}
 use Rattle.std.proofs.lemmas.Result.{IfOk-weaker}
-use Rattle.cfg_expr.specs.Evaluation.{IsValueBy}
 use Rattle.cfg_expr.proofs.Chains.{Evaluates-by}
 use Rattle.cfg_expr.proofs.expr.Expression.eval.Goals as goal
 
 pub returns-clause-by : goal.returns-clause-by
-returns-clause-by g c =
-    IfOk-weaker c.value_of.result _ _
-    (λ value evaluates answer_to by. subst (λ text. IsValueBy g.T.Logic text answer_to value)
-    c.self.view_is (Evaluates-by evaluates answer_to by))
-    c.value_of.ensures.value
+returns-clause-by g c = rw (sym c.self.view_is) (IfOk-weaker c.value_of.result _ _
+    (λ value evaluates answer_to by. Evaluates-by evaluates answer_to by)
+    c.value_of.ensures.value)

@@ -1,5 +1,5 @@
 -- One node more is read.
-use Rattle.std.proofs.Common.{◌-◌, ◌<◌, arith, length, sym}
+use Rattle.std.proofs.Common.{◌≡◌, ◌+◌, ◌-◌, ◌<◌, arith, length, map}
 use Rattle.std.proofs.lemmas.List.{get_or-map, length-map}
 use Rattle.cfgx_parser.specs.nodes.Shape.{Shape, shape}
 use Rattle.cfg_expr.specs.declared.expr.evaluating.Member.TheVariants as member
@@ -8,12 +8,12 @@ use Rattle.cfg_expr.proofs.expr.evaluating.read_all.Goals as goal
 
 pub loop-place-preserved : goal.loop-place-preserved
 loop-place-preserved g c =
-    let more = c.loop-place-test.true in
     let nodes = c.args.nodes.now in
-    let inside : c.loop-place.place - 1 < length nodes =
-    omega (arith, c.loop-place.auto.place, more) in
-    Reading-next member.Joined (omega (arith, more))
-    (omega (arith, length-map nodes shape, inside))
-    (sym (get_or-map shape nodes _ _ Shape.predicate inside)) c.loop-place.invariant
-    c.read_node-top.ensures.stack c.read_node-top.ensures.front c.read_node-top.ensures.within
-    c.read_node-top.auto.slots
+    let place = c.loop-place.place - 1 in
+    let one_more : c.loop-place.place ≡ place + 1 = omega (arith, c.loop-place-test.true) in
+    let inside : place < length nodes = omega (arith, c.loop-place.auto.place, one_more) in
+    let shapes = get_or-map shape nodes place _ Shape.predicate inside in
+    Reading-next (map shape nodes) place member.Joined
+    (omega (arith, length-map nodes shape, inside)) (omega (arith, c.requires, inside))
+    (rw one_more at c.loop-place.invariant) (rw shapes c.read_node-stack.ensures.stack)
+    c.read_node-stack.ensures.front c.read_node-stack.ensures.within

@@ -1,24 +1,16 @@
 -- The value is on top.
-use Rattle.std.proofs.Common.{◌∙◌, sym}
-use Rattle.std.proofs.lemmas.List.{take_rest}
-use Rattle.cfg_expr.proofs.evaluated.Valued.{length-held, value-read}
+use Rattle.std.proofs.Common.{◌∙◌, [], ap, map}
+use Rattle.cfgx_grammar.specs.Fold.{answered}
+use Rattle.cfgx_parser.specs.nodes.Shape.{shape}
+use Rattle.cfg_expr.specs.nodes.Reading.{top_value, read}
+use Rattle.cfg_expr.proofs.evaluated.Placed.{read-placed}
+use Rattle.cfg_expr.proofs.evaluated.Read.{value-entry}
 use Rattle.cfg_expr.proofs.expr.evaluating.read_value.Goals as goal
 
-pub read_all-top-requires : goal.read_all-top-requires
-read_all-top-requires g c =
-    length-held c.args.parsed.now c.nodes.result.now c.args.slots.now c.nodes.ensures.nodes
-    c.requires
-
-pub unreachable-requires : goal.unreachable-requires
-unreachable-requires g c =
-    let some = value-read c.args.parsed.now c.nodes.result.now c.args.slots.now
-    c.nodes.ensures.nodes c.requires g.T.Logic (take_rest c.read_all-top.new.slots _)
-    c.read_all-top.ensures.stack in
-    absurd (cc (sym c.in-None.is ∙ c.take_top.ensures ∙ some))
-
 pub returns : goal.returns
-returns g c held =
-    let some = value-read c.args.parsed.now c.nodes.result.now c.args.slots.now
-    c.nodes.ensures.nodes held g.T.Logic (take_rest c.read_all-top.new.slots _)
-    c.read_all-top.ensures.stack in
-    cc (sym c.in-Some.is ∙ c.take_top.ensures ∙ some)
+returns g c tree answers shapes many slots_are =
+    let left = read-placed g.T.Logic tree answers c.args.nodes.now shapes many in
+    c.top_value.ensures ∙ ap (top_value g.T.Logic) c.read_all-stack.ensures.stack
+    ∙ ap (λ l. top_value g.T.Logic (read g.T.Logic (map shape c.args.nodes.now) l)) slots_are
+    ∙ ap (top_value g.T.Logic) left
+    ∙ value-entry g.T.Logic (answered g.T.Logic.top tree answers) []

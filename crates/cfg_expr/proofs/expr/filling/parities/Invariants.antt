@@ -1,9 +1,9 @@
 -- The rest of the pass leaves what the whole pass leaves.
-use Rattle.std.proofs.Common.{false, length, map, replicate}
-use Rattle.cfg_expr.specs.nodes.Parity.{pass, reach}
-use Rattle.cfg_expr.proofs.filling.Passing.{Leaves}
+use Rattle.std.proofs.Common.{◌≡◌, [], ◌∷◌, drop, false, map}
+use Rattle.cfgx_parser.specs.nodes.Shape.{shape}
+use Rattle.cfg_expr.specs.nodes.Parity.{pass}
 use Rattle.cfg_expr.proofs.expr.filling.parities.Given as goal
 
-abbrev pub invariant-loop-place : goal.invariant-loop-place
-invariant-loop-place g l = Leaves l.nodes
-    (pass (map reach l.nodes) false (replicate (length l.nodes) false)) l.place l.odd l.flips.items
+abbrev pub invariant-loop-node : goal.invariant-loop-node
+invariant-loop-node g l = pass (map shape (drop l.node-index l.nodes)) l.queue.items
+    ≡ pass (map shape l.nodes) (false ∷ [])

@@ -2,8 +2,9 @@
 use Rattle.std.proofs.Common.{◌∙◌, Bool, ap, length, sym, true, false}
 use Rattle.cfgx_grammar.specs.Tree.{asked}
 use Rattle.cfgx_parser.proofs.Places.{length-places}
-use Rattle.cfgx_parser.specs.nodes.Prefix.{places, prefix}
-use Rattle.cfg_expr.proofs.filling.Polar.{polar-kept}
+use Rattle.cfgx_parser.specs.nodes.Prefix.{places}
+use Rattle.cfg_expr.proofs.Filling.{polar-kept}
+use Rattle.cfg_expr.proofs.evaluated.Nodes.{shapes-kept}
 use Rattle.cfg_expr.proofs.expr.filling.polar_fillings.Goals as goal
 
 pub fillings-requires : goal.fillings-requires
@@ -21,18 +22,15 @@ returns-in-Some-clause-fillings g c =
 pub returns-in_ok-fillings-in-None-clause-fillings
     : goal.returns-in_ok-fillings-in-None-clause-fillings
 returns-in_ok-fillings-in-None-clause-fillings g c =
-    let value = c.in_ok-value_over.ensures.value in
-    let kept = c.nodes.ensures.nodes in
+    let one = c.in_ok-value_over.ensures.value.0 in
     let asks = c.places.ensures in
-    let one = value.0 in
-    let nodes_are = kept.1 ∙ ap prefix (one.only kept.0.tree kept.0.has_tree) in
-    let asks_are = asks.1 ∙ ap (places 0) (one.only asks.0.tree asks.0.has_tree) in
-    let many = c.requires.2
-    ∙ ap (λ tree. length (asked tree)) (one.only c.requires.0 c.requires.1) in
-    let passed = c.deref.ensures.value ∙ c.in_ok-odds-in-None.ensures in
-    let is = λ (fill : Bool). polar-kept c.args.parsed.now c.nodes.result.now one.tree nodes_are
-    c.deref.result.now c.places.result.now c.args.answers.now fill asks_are many passed in
-    let found = c.in_ok-fillings-in-None.ensures in (
-      one,
-      (sym value.1 ∙ c.in-None.is, found.with_true ∙ is true, found.with_false ∙ is false),
-    )
+    let given = c.requires in
+    let is = λ (fill : Bool). polar-kept c.nodes.result.now one.tree
+    (shapes-kept c.nodes.result.now c.nodes.ensures.nodes one) _ c.places.result.now
+    c.args.answers.now fill
+    (asks.1 ∙ ap (places 0) (one.only asks.0.tree asks.0.has_tree))
+    (given.2 ∙ ap (λ tree. length (asked tree)) (one.only given.0 given.1))
+    c.in_ok-odds-in-None.ensures in
+    let found = c.in_ok-fillings-in-None.ensures in
+    let unknown = sym c.in_ok-value_over.ensures.value.1 ∙ c.in-None.is in
+    (one, (unknown, found.with_true ∙ is true, found.with_false ∙ is false))

@@ -1,4 +1,4 @@
-use Rattle.cfgx_grammar.proofs.alone.Whole.{spelling_alone}
+use Rattle.cfgx_grammar.proofs.alone.{spelling_alone}
 use Rattle.cfg_expr.proofs.expr.spelling.spell.Goals as goal
 
 pub returns-clause-alone : goal.returns-clause-alone

@@ -2,7 +2,7 @@
 use Rattle.std.proofs.Common.{◌∙◌, subst, sym}
 use Rattle.std.specs.List.{AllByRecursion}
 use Rattle.cfgx_grammar.specs.Regular.{IsRegular}
-use Rattle.cfgx_grammar.proofs.alone.Regular.{regular_tree}
+use Rattle.cfgx_grammar.proofs.alone.{regular_tree}
 use Rattle.cfgx_parser.proofs.Asked.{NamePredicates-kept, questions_at-kept}
 use Rattle.cfgx_parser.proofs.Kept.{KeepsOneTree-seen}
 use Rattle.cfgx_parser.proofs.parsed.Parsed.predicates.Goals as goal

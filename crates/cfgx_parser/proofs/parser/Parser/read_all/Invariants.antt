@@ -1,7 +1,7 @@
 -- What the rest of the text answers, the whole answers.
-use Rattle.cfgx_parser.proofs.Reading.{Leads}
+use Rattle.cfgx_parser.proofs.Reading.{LeadsTo}
 use Rattle.cfgx_parser.proofs.parser.Parser.read_all.Given as goal
 
 abbrev pub invariant-loop-lexed : goal.invariant-loop-lexed
 invariant-loop-lexed g l =
-    Leads {A = g.row.A.Denot} l.fn.lexer l.lexed-iterator l.initial.self l.self
+    LeadsTo {A = g.row.A.Denot} l.fn.lexer l.lexed-iterator l.initial.self l.last l.self

@@ -1,18 +1,26 @@
 -- Each member is one step of the pass.
-use Rattle.std.proofs.Common.{arith}
-use Rattle.cfg_expr.proofs.evaluated.Joined.{Joins-next, Joins-end}
+use Rattle.std.proofs.Common.{◌≡◌, ◌∙◌, ◌+◌, ◌-◌, ap, sym, arith}
+use Rattle.cfg_expr.specs.nodes.Reading.{is_held}
+use Rattle.cfg_expr.proofs.evaluated.Joined.{Joins-next}
 use Rattle.cfg_expr.proofs.expr.evaluating.Connective.join_kind.Goals as goal
 
 pub loop-place-preserved : goal.loop-place-preserved
 loop-place-preserved g c =
     let more = c.loop-place-test.true in
-    Joins-next c.index-members-place.result (omega (arith, more))
+    let one_more : c.loop-place.place ≡ c.loop-place.place - 1 + 1 = omega (arith, more) in
+    let step = c.join_one-value.ensures in
+    rw step.left (Joins-next _ _ _ _ _ _ _ _ _ _ c.index-members-place.result
+    (c.loop-place.place - 1)
     (omega (arith, c.loop-place.auto.members, c.loop-place.auto.place, more))
-    c.loop-place.auto.members c.loop-place.invariant c.join_one-value.ensures.value
-    c.join_one-value.ensures.member
+    (rw one_more at c.loop-place.invariant) step.value step.member
+    (ap is_held (sym step.member)))
 
 pub returns-clause-value : goal.returns-clause-value
-returns-clause-value g c = (Joins-end c.loop-place-test.false c.loop-place.invariant).0
+returns-clause-value g c =
+    let start : c.loop-place.place ≡ 0 = omega (arith, c.loop-place-test.false) in
+    rw start at c.loop-place.invariant.0
 
 pub returns-clause-members : goal.returns-clause-members
-returns-clause-members g c = (Joins-end c.loop-place-test.false c.loop-place.invariant).1
+returns-clause-members g c =
+    let start : c.loop-place.place ≡ 0 = omega (arith, c.loop-place-test.false) in
+    rw start at c.loop-place.invariant.1

@@ -1,0 +1,37 @@
+-- The members are in front of what is left of the slots.
+use Rattle.std.proofs.Common.{◌≡◌, ◌+◌, ◌-◌, ◌++◌, ◌∷◌, ℕ, List, append_assoc, ap, arith}
+use Rattle.std.proofs.Common.{drop, take, drop_at, length, length-append, min, sym}
+use Rattle.std.proofs.lemmas.List.{length-drop, length-take}
+use Rattle.cfg_expr.specs.nodes.Reading.{stack_of}
+use Rattle.cfg_expr.specs.declared.expr.evaluating.Member.TheVariants as member
+use Rattle.cfg_expr.proofs.expr.evaluating.read_list.Goals as goal
+
+part-dropped : {X : Type 0} (front part rest : List X) (end : ℕ)
+    → length front + length part ≡ end → drop end (front ++ (part ++ rest)) ≡ rest
+part-dropped front part rest end many =
+    rw (sym (append_assoc front part rest))
+    (drop_at (front ++ part) rest end (omega (arith, many, length-append front part)))
+
+pub returns-clause-stack : goal.returns-clause-stack
+returns-clause-stack g c =
+    let first = c.put_top-first.result.others in
+    let slots = c.put_top-first.new.slots in
+    let start = c.put_top-first.ensures.stack in
+    let stacked = length-drop first slots in
+    let present : first + c.min.result - first
+    ≡ min c.args.count (length (stack_of c.args.stack c.args.slots.now)) =
+    omega (arith, c.min.ensures, stacked, ap length start) in
+    rw (sym present, sym start, sym c.join_all-value.ensures)
+    (ap (λ l. member.Function c.join_all-value.result ∷ l)
+    (part-dropped (take first slots) c.join_all-value.new.members
+    (drop (first + c.min.result - first) (drop first slots)) (first + c.min.result) (omega (
+      arith,
+      c.requires,
+      c.join_all-value.auto.members,
+      c.min.ensures,
+      c.put_top-first.ensures.begins,
+      c.put_top-first.ensures.many,
+      stacked,
+      length-take first slots,
+      length-take (first + c.min.result - first) (drop first slots),
+    ))))

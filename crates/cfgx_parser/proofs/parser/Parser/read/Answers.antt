@@ -1,0 +1,8 @@
+-- A token that may stand there does what it does whatever stands in front of it.
+use Rattle.cfgx_parser.proofs.Last.{Reads-follows}
+use Rattle.cfgx_parser.proofs.parser.Parser.read.Goals as goal
+
+pub returns : goal.returns
+returns g c =
+    Reads-follows {A = g.row.A.Denot} c.args.last c.args.lexed c.apply.result c.args.self.now
+    c.apply.new.self (cc) c.apply.ensures
