@@ -20,7 +20,7 @@ use Rattle.cfgx_grammar.proofs.spelled.{Finds-tree}
 -- every builder keeps these
 no_laws : {W M L : Type 0} (builder : Builder W M L) → Laws builder
 no_laws builder = record {
-  ItemBuilds = λ items w v tree. Unit {0};
+  MemberBuilds = λ items w v tree. Unit {0};
   ListBuilds = λ items w v trees. Unit {0};
   key = λ x key leaf w is classed. tt;
   value = λ x y z key value leaf w x_is z_is classed. tt;

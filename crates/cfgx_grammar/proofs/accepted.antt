@@ -7,7 +7,7 @@ use Rattle.std.proofs.lemmas.List.{append-nil}
 use Rattle.cfgx_syntax.specs.Token.{Token}
 use Rattle.cfgx_grammar.specs.Question.{Question, Leaf}
 use Rattle.cfgx_grammar.specs.Tree.{Tree, Trees, count}
-use Rattle.cfgx_grammar.specs.Grammar.{commas, Separates, IsItem, IsList, IsTree, leaf_tokens}
+use Rattle.cfgx_grammar.specs.Grammar.{commas, Separates, IsMember, IsList, IsTree, leaf_tokens}
 use Rattle.cfgx_grammar.specs.Grammar.{IsLeaf}
 use Rattle.cfgx_grammar.specs.parsing.State.{Function, Open, name_of, Word, Pending, Builder, State}
 use Rattle.cfgx_grammar.specs.parsing.State.{initial}
@@ -30,11 +30,11 @@ abbrev pub leaf_tree : Leaf → Tree Question
 leaf_tree (Leaf.predicate question) = Tree.leaf question
 leaf_tree (Leaf.literal truth) = Tree.literal truth
 
--- it is the item that its tokens spell
-pub IsItem-leaf : (tokens : List Token) (leaf : Leaf) → IsLeaf tokens leaf
-    → IsItem tokens (leaf_tree leaf)
-IsItem-leaf tokens (Leaf.predicate question) is = is
-IsItem-leaf tokens (Leaf.literal truth) is = is
+-- it is the member that its tokens spell
+pub IsMember-leaf : (tokens : List Token) (leaf : Leaf) → IsLeaf tokens leaf
+    → IsMember tokens (leaf_tree leaf)
+IsMember-leaf tokens (Leaf.predicate question) is = is
+IsMember-leaf tokens (Leaf.literal truth) is = is
 
 -- What completes the open lists of the parser, as it is read from the end of a text: one member in
 -- front of another.
@@ -51,8 +51,8 @@ AnyCommas n trees = Unit {0}
 pub one_tree : (tokens : List Token) (trees : Trees Question) → count trees ≡ 1
     → IsList tokens trees → (tree : Tree Question) × IsTree tokens tree
 one_tree tokens Trees.none one list = absurd (omega arith)
-one_tree tokens (Trees.more tree Trees.none) one (item, n, rest, are, some, spelled, end) =
-    (tree, (item, n, rw (are, end, append-nil (commas n)) refl, spelled))
+one_tree tokens (Trees.more tree Trees.none) one (member, n, rest, are, some, spelled, end) =
+    (tree, (member, n, rw (are, end, append-nil (commas n)) refl, spelled))
 one_tree tokens (Trees.more tree (Trees.more second trees)) one list = absurd (omega arith)
 
 separated : (n : ℕ) (trees : Trees Question) → Separates (suc n) trees
@@ -113,15 +113,15 @@ module _ {M : Type 0} where
   Rest-comma stack roots members tokens (n, others, trees, after, are, any, list, ends) =
       (suc n, others, trees, after, ap (λ l. Token.comma ∷ l) are, separated n trees, list, ends)
 
-  pub Rest-item : (stack : List (Open M)) (roots : ℕ) (item tokens : List Token)
-      (tree : Tree Question) → IsItem item tree → Rest Separates stack roots 1 tokens
-      → Rest NoComma stack roots 0 (item ++ tokens)
-  Rest-item stack roots item tokens tree is (n, others, trees, after, are, may, list, ends) =
+  pub Rest-member : (stack : List (Open M)) (roots : ℕ) (member tokens : List Token)
+      (tree : Tree Question) → IsMember member tree → Rest Separates stack roots 1 tokens
+      → Rest NoComma stack roots 0 (member ++ tokens)
+  Rest-member stack roots member tokens tree is (n, others, trees, after, are, may, list, ends) =
       let sum : 1 + count trees ≡ 0 + suc (count trees) = omega arith in
-      let all : item ++ tokens ≡ (item ++ (commas n ++ others)) ++ after =
+      let all : member ++ tokens ≡ (member ++ (commas n ++ others)) ++ after =
       rw are (simp append_assoc) in
       let left = subst (λ m. Ends stack roots m after) sum ends in
-      (0, _, Trees.more tree trees, after, all, refl, (item, n, others, refl, may, is, list), left)
+      (0, _, Trees.more tree trees, after, all, refl, (member, n, others, refl, may, is, list), left)
 
   -- a call in front of what is left behind it
   pub Rest-call : (function : Function) (begun : Open M) (stack : List (Open M)) (roots : ℕ)
@@ -136,20 +136,20 @@ module _ {M : Type 0} where
       let behind = commas m ++ (others ++ after) in
       let tokens_are : tokens ≡ (inner ++ Token.close_paren ∷ []) ++ behind =
       these ∙ rw (bare, are) (simp append_assoc) in
-      rw tokens_are (Rest-item stack roots _ behind tree spelled
+      rw tokens_are (Rest-member stack roots _ behind tree spelled
       (m, others, left, after, refl, may, rest, ends))
     where
       called : (function : Function) (list : List Token) (trees : Trees Question)
           → has_room function (count trees) ≡ true → IsList list trees
           → (tree : Tree Question)
-          × IsItem (name_of function ∷ Token.open_paren ∷ (list ++ Token.close_paren ∷ [])) tree
+          × IsMember (name_of function ∷ Token.open_paren ∷ (list ++ Token.close_paren ∷ [])) tree
       called Function.all list trees room is = (Tree.all trees, (list, refl, is))
       called Function.any list trees room is = (Tree.any trees, (list, refl, is))
       called Function.not list trees room is =
-          let (tree, (item, n, are, spelled)) = one_tree list trees
+          let (tree, (member, n, are, spelled)) = one_tree list trees
           ((Decides-eqb (count trees) 1).0 room) is in
           let tokens = ap (λ l. Token.not ∷ Token.open_paren ∷ (l ++ Token.close_paren ∷ [])) are in
-          (Tree.not tree, (item, n, tokens, spelled))
+          (Tree.not tree, (member, n, tokens, spelled))
 
 -- What the predicate that ends leaves, and what completes a state by its last token.
 
@@ -213,15 +213,15 @@ module _ {W M L : Type 0} {builder : Builder W M L} where
       → s.pending ≡ None → (others : List Token) × (tokens ≡ Token.open_paren ∷ others)
       × RestOf NoComma s 0 others
 
-  -- Where an item may come, so may one with no comma in front of it.
-  pub Completes-item : (last : Option Token) (s : State builder) (tokens : List Token)
-      → takes last Kind.item ≡ true → (s.pending ≡ None → RestOf NoComma s 0 tokens)
+  -- Where a member may come, so may one with no comma in front of it.
+  pub Completes-member : (last : Option Token) (s : State builder) (tokens : List Token)
+      → takes last Kind.name ≡ true → (s.pending ≡ None → RestOf NoComma s 0 tokens)
       → Completes last s tokens
-  Completes-item None s tokens may r = r
-  Completes-item (Some Token.open_paren) s tokens may r = r
-  Completes-item (Some Token.comma) s tokens may r =
+  Completes-member None s tokens may r = r
+  Completes-member (Some Token.open_paren) s tokens may r = r
+  Completes-member (Some Token.comma) s tokens may r =
       λ none. Rest-any NoComma s.stack s.roots 0 tokens (r none)
-  Completes-item _ s tokens may r = absurd (false≢true may)
+  Completes-member _ s tokens may r = absurd (false≢true may)
 
   -- behind a predicate that ends
   LeafRest-ended : (s t : State builder) (tokens : List Token) (p : Pending) → s.pending ≡ Some p
@@ -386,8 +386,8 @@ module _ {W M L : Type 0} {builder : Builder W M L} where
     Completes-applied last (Token.key text) may does completes =
         let (value, leaf, others, are, classed, r) = subst (After (Token.key text))
         (sym (ok_same _ u does)) completes (word_of text start end) refl in
-        Completes-item last s _ may (λ none. rw are (Rest-item s.stack s.roots _ others
-        (leaf_tree leaf) (IsItem-leaf _ leaf (text, value, refl, classed)) r))
+        Completes-member last s _ may (λ none. rw are (Rest-member s.stack s.roots _ others
+        (leaf_tree leaf) (IsMember-leaf _ leaf (text, value, refl, classed)) r))
     Completes-applied (Some Token.equals) (Token.value text) may does completes =
         λ key is. subst (After (Token.value text)) (sym (ok_same _ u does)) completes key
         (word_of text (start + 1) (end - 1)) (ap (option_map (with_value _)) is)
@@ -396,11 +396,11 @@ module _ {W M L : Type 0} {builder : Builder W M L} where
         subst (After Token.equals) (sym (ok_same s u does)) completes
     Completes-applied _ Token.equals may does completes = absurd (false≢true may)
     Completes-applied last Token.all may does completes =
-        Completes-item last s _ may (Rest-name Function.all s u (at Token.all) _ does completes)
+        Completes-member last s _ may (Rest-name Function.all s u (at Token.all) _ does completes)
     Completes-applied last Token.any may does completes =
-        Completes-item last s _ may (Rest-name Function.any s u (at Token.any) _ does completes)
+        Completes-member last s _ may (Rest-name Function.any s u (at Token.any) _ does completes)
     Completes-applied last Token.not may does completes =
-        Completes-item last s _ may (Rest-name Function.not s u (at Token.not) _ does completes)
+        Completes-member last s _ may (Rest-name Function.not s u (at Token.not) _ does completes)
     Completes-applied (Some Token.all) Token.open_paren may does completes =
         Completes-open does completes
     Completes-applied (Some Token.any) Token.open_paren may does completes =
@@ -417,7 +417,7 @@ module _ {W M L : Type 0} {builder : Builder W M L} where
         Completes-ended last s u _ may does (Rest-comma u.stack u.roots 0 tokens
         (completes (ended_none s u s.pending refl does)))
 
-  -- the end of the text finds one item at the root, where no function is open
+  -- the end of the text finds one member at the root, where no function is open
   abbrev Concludes : State builder → Type 0
   Concludes s = (settled : State builder) × (s.stack ≡ []) × (predicate_ended s ≡ Ok settled)
       × (lacks_value s.last ≡ false) × (settled.roots ≡ 1)

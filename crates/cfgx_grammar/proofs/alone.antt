@@ -10,7 +10,7 @@ use Rattle.cfgx_syntax.specs.Token.{IsWhole}
 use Rattle.cfgx_syntax.specs.Items.{Item, Ending, ItemsFrom, IsBlank, Stands, AreItems}
 use Rattle.cfgx_grammar.specs.Question.{Question, Leaf, TargetQuestion}
 use Rattle.cfgx_grammar.specs.Tree.{Tree, Trees, is_function, is_leaf, asked, asked_by}
-use Rattle.cfgx_grammar.specs.Grammar.{commas, IsItem, IsList, HasTree, leaf_tokens}
+use Rattle.cfgx_grammar.specs.Grammar.{commas, IsMember, IsList, HasTree, leaf_tokens}
 use Rattle.cfgx_grammar.specs.Regular.{IsRegular, CanBeQuoted, IsAlone}
 use Rattle.std.specs.Option.{option_or}
 use Rattle.std.specs.Fmt.{decimal}
@@ -84,7 +84,7 @@ abbrev AreRegular : List Question → Type 0
 AreRegular questions = AllByRecursion IsRegular questions
 
 regular_leaf : (tokens : List Token) (question : Question) → AreSpelled tokens
-    → IsItem tokens (Tree.leaf question) → IsRegular question
+    → IsMember tokens (Tree.leaf question) → IsRegular question
 regular_leaf tokens question spelled (key, None, is, says) =
     let all = subst AreSpelled is spelled in
     record { key = key; value = None; is_key = all.0; can_be_quoted = tt; says = says }
@@ -106,32 +106,32 @@ regular_if true questions regular = regular
 regular_if false questions regular = tt
 
 mutual
-  regular_item : (tokens : List Token) (tree : Tree Question) → AreSpelled tokens
-      → IsItem tokens tree
+  regular_member : (tokens : List Token) (tree : Tree Question) → AreSpelled tokens
+      → IsMember tokens tree
       → AreRegular (asked tree)
-  regular_item tokens (Tree.leaf question) spelled item =
-      (regular_leaf tokens question spelled item, tt)
-  regular_item tokens (Tree.literal truth) spelled item = tt
-  regular_item tokens (Tree.all trees) spelled (inner, is, list) =
+  regular_member tokens (Tree.leaf question) spelled member =
+      (regular_leaf tokens question spelled member, tt)
+  regular_member tokens (Tree.literal truth) spelled member = tt
+  regular_member tokens (Tree.all trees) spelled (inner, is, list) =
       let each = spelled_inner Token.all tokens inner is spelled in
       all_of_both IsRegular _ _ (regular_list is_function inner trees each list)
       (regular_list is_leaf inner trees each list)
-  regular_item tokens (Tree.any trees) spelled (inner, is, list) =
+  regular_member tokens (Tree.any trees) spelled (inner, is, list) =
       let each = spelled_inner Token.any tokens inner is spelled in
       all_of_both IsRegular _ _ (regular_list is_function inner trees each list)
       (regular_list is_leaf inner trees each list)
-  regular_item tokens (Tree.not tree) spelled (item, n, is, one) =
-      let each = spelled_inner Token.not tokens (item ++ commas n) is spelled in
-      regular_item item tree (all_of_first IsSpelled item (commas n) each) one
+  regular_member tokens (Tree.not tree) spelled (member, n, is, one) =
+      let each = spelled_inner Token.not tokens (member ++ commas n) is spelled in
+      regular_member member tree (all_of_first IsSpelled member (commas n) each) one
 
   regular_list : (test : Tree Question → Bool) (tokens : List Token) (trees : Trees Question)
       → AreSpelled tokens
       → IsList tokens trees → AreRegular (asked_by test trees)
   regular_list test tokens Trees.none spelled list = tt
-  regular_list test tokens (Trees.more tree trees) spelled (item, n, rest, is, apart, one, more) =
+  regular_list test tokens (Trees.more tree trees) spelled (member, n, rest, is, apart, one, more) =
       let all = subst AreSpelled is spelled in
-      let behind = all_of_second IsSpelled item (commas n ++ rest) all in
-      let here = regular_item item tree (all_of_first IsSpelled item _ all) one in
+      let behind = all_of_second IsSpelled member (commas n ++ rest) all in
+      let here = regular_member member tree (all_of_first IsSpelled member _ all) one in
       all_of_both IsRegular _ _ (regular_if (test tree) (asked tree) here)
       (regular_list test rest trees (all_of_second IsSpelled (commas n) rest behind) more)
 
@@ -139,8 +139,8 @@ pub regular_tree : (text : List ℕ) (tree : Tree Question) → HasTree text tre
     → AreRegular (asked tree)
 regular_tree text tree has =
     let all = spelled_items text 0 has.items Ending.blank has.are_items in
-    let (item, n, is, one) = has.spelled in
-    regular_item item tree (all_of_first IsSpelled item (commas n) (subst AreSpelled is all)) one
+    let (member, n, is, one) = has.spelled in
+    regular_member member tree (all_of_first IsSpelled member (commas n) (subst AreSpelled is all)) one
 
 -- The spelling of a predicate that can stand in a text is a text of this predicate alone.
 

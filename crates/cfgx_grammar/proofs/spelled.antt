@@ -10,12 +10,12 @@ use Rattle.cfgx_grammar.specs.Classification.{Class, class}
 use Rattle.cfgx_grammar.specs.FirstFault.{lacks_value}
 use Rattle.cfgx_grammar.specs.LastPredicate.{word_of, class_of}
 use Rattle.cfgx_grammar.specs.Tree.{Tree, Trees, count}
-use Rattle.cfgx_grammar.specs.Grammar.{commas, Separates, leaf_tokens, IsCall, IsItem, IsList}
+use Rattle.cfgx_grammar.specs.Grammar.{commas, Separates, leaf_tokens, IsCall, IsMember, IsList}
 use Rattle.cfgx_grammar.specs.Grammar.{IsTree}
 use Rattle.cfgx_grammar.specs.Neighbours.{Kind, takes}
 use Rattle.cfgx_grammar.specs.parsing.State.{Function, Pending, Builder, Open, State, name_of}
 use Rattle.cfgx_grammar.specs.parsing.State.{initial}
-use Rattle.cfgx_grammar.specs.parsing.Step.{with_item, one_more, ended_by, predicate_ended}
+use Rattle.cfgx_grammar.specs.parsing.Step.{with_member, one_more, ended_by, predicate_ended}
 use Rattle.cfgx_grammar.specs.parsing.Step.{new_open, member_count, has_room, function_ended}
 use Rattle.cfgx_grammar.specs.parsing.Step.{closed_by, with_parens, with_last, step_each}
 use Rattle.cfgx_grammar.specs.parsing.Step.{concluded_by, conclude}
@@ -23,7 +23,7 @@ use Rattle.cfgx_grammar.proofs.accepted.{leaf_tree, tokens_of, counted, stack_en
 use Rattle.std.proofs.lemmas.List.{append-nil}
 use Rattle.std.proofs.Math.Seq.{take-append_seam, drop-append_seam}
 
--- The tokens of a tree are taken, from any state in which an item may come, and what is built keeps
+-- The tokens of a tree are taken, from any state in which a member may come, and what is built keeps
 -- the laws of the builder.
 
 -- a key, and a key with its value, as they stand at their tokens
@@ -40,34 +40,34 @@ value_at x key z value = record {
 abbrev pub Calls : {W M L : Type 0} → Builder W M L → (List Item → W → W → Tree Question → Type 0)
     → (List Item → W → W → Trees Question → Type 0) → Function → Tree Question → Trees Question
     → Type 0
-Calls {W} builder ItemBuilds ListBuilds function tree trees = (head opening closing : Item)
+Calls {W} builder MemberBuilds ListBuilds function tree trees = (head opening closing : Item)
     (members : List Item) (w v : W) → ListBuilds members (builder.function function w) v trees
-    → ItemBuilds (head ∷ opening ∷ (members ++ closing ∷ [])) w
+    → MemberBuilds (head ∷ opening ∷ (members ++ closing ∷ [])) w
     (builder.function_ended (builder.mark_of w) function (count trees) v) tree
 
--- what is built of the items of a tree, and of those of a list: from the first to the second
+-- what is built of the tokens of a tree, and of those of a list: from the first to the second
 pub record Laws {W M L : Type 0} (builder : Builder W M L) : Type 1 where
-  pub ItemBuilds : List Item → W → W → Tree Question → Type 0
+  pub MemberBuilds : List Item → W → W → Tree Question → Type 0
   pub ListBuilds : List Item → W → W → Trees Question → Type 0
   pub key : (x : Item) (key : List ℕ) (leaf : Leaf) (w : W) → x.token ≡ Token.key key
       → class key None ≡ Class.is leaf
-      → ItemBuilds (x ∷ []) w (builder.leaf (builder.located (key_at x key) leaf) w)
+      → MemberBuilds (x ∷ []) w (builder.leaf (builder.located (key_at x key) leaf) w)
       (leaf_tree leaf)
   pub value : (x y z : Item) (key value : List ℕ) (leaf : Leaf) (w : W)
       → x.token ≡ Token.key key → z.token ≡ Token.value value
       → class key (Some value) ≡ Class.is leaf
-      → ItemBuilds (x ∷ y ∷ z ∷ []) w
+      → MemberBuilds (x ∷ y ∷ z ∷ []) w
       (builder.leaf (builder.located (value_at x key z value) leaf) w) (leaf_tree leaf)
   pub none : (w : W) → ListBuilds [] w w Trees.none
   pub more : (xs ys zs : List Item) (tree : Tree Question) (trees : Trees Question) (w v u : W)
-      → ItemBuilds xs w v tree → ListBuilds zs v u trees
+      → MemberBuilds xs w v tree → ListBuilds zs v u trees
       → ListBuilds (xs ++ (ys ++ zs)) w u (Trees.more tree trees)
   pub all : (trees : Trees Question)
-      → Calls builder ItemBuilds ListBuilds Function.all (Tree.all trees) trees
+      → Calls builder MemberBuilds ListBuilds Function.all (Tree.all trees) trees
   pub any : (trees : Trees Question)
-      → Calls builder ItemBuilds ListBuilds Function.any (Tree.any trees) trees
+      → Calls builder MemberBuilds ListBuilds Function.any (Tree.any trees) trees
   pub not : (tree : Tree Question)
-      → Calls builder ItemBuilds ListBuilds Function.not (Tree.not tree)
+      → Calls builder MemberBuilds ListBuilds Function.not (Tree.not tree)
       (Trees.more tree Trees.none)
 
 -- the first item of some tokens
@@ -78,7 +78,7 @@ first_item : (items : List Item) (token : Token) (tokens : List Token)
 first_item [] token tokens is = absurd (cc)
 first_item (x ∷ rest) token tokens is = (x, rest, refl, (cc), (cc))
 
--- behind an item, and behind the commas that follow it: `)`, `,` and the end may come
+-- behind a member, and behind the commas that follow it: `)`, `,` and the end may come
 abbrev IsEnd : Option Token → Type 0
 IsEnd last = (takes last Kind.closing ≡ true) × (takes last Kind.comma ≡ true)
     × (lacks_value last ≡ false)
@@ -88,17 +88,17 @@ abbrev more : {M : Type 0} → ℕ → Open M → Open M
 more n f = record f { members = f.members + n }
 
 module _ {W M L : Type 0} {builder : Builder W M L} where
-  -- the state behind so many more items of the innermost list
+  -- the state behind so many more members of the innermost list
   abbrev grown : ℕ → State builder → State builder
   grown zero s = s
-  grown (suc n) s = grown n (with_item s)
+  grown (suc n) s = grown n (with_member s)
 
   abbrev settled : State builder → Option Token → W → State builder
   settled s last written = record s { pending = None; last = last; written = written }
 
   -- and behind one more
   abbrev pub between : State builder → Option Token → W → State builder
-  between s last written = with_item (settled s last written)
+  between s last written = with_member (settled s last written)
 
   -- the members are counted in the innermost function
   grown_top : (n : ℕ) (s : State builder) (top : Open M) (rest : List (Open M))
@@ -134,7 +134,7 @@ module _ {W M L : Type 0} {builder : Builder W M L} where
   }
 
   opens : (s : State builder) (function : Function) (head opening : Item) (rest : List Item)
-      → takes s.last Kind.item ≡ true → head.token ≡ name_of function
+      → takes s.last Kind.name ≡ true → head.token ≡ name_of function
       → opening.token ≡ Token.open_paren
       → step_each s (head ∷ opening ∷ rest) ≡ step_each (inside s function head opening) rest
   opens s Function.all head opening rest may named is = rw (named, may, is) refl
@@ -142,9 +142,9 @@ module _ {W M L : Type 0} {builder : Builder W M L} where
   opens s Function.not head opening rest may named is = rw (named, may, is) refl
 
 module _ {W M L : Type 0} {builder : Builder W M L} (laws : Laws builder) where
-  -- The state when an item and `n` commas behind it have been taken from the front of some items;
+  -- The state when a member and `n` commas behind it have been taken from the front of some items;
   -- the predicate has ended, or ends there.
-  pub record ItemEnds (s : State builder) (items : List Item) (back : List Token) (n : ℕ)
+  pub record MemberEnds (s : State builder) (items : List Item) (back : List Token) (n : ℕ)
       (tree : Tree Question) : Type 0 where
     pub first : List Item
     pub commas_behind : List Item
@@ -156,8 +156,8 @@ module _ {W M L : Type 0} {builder : Builder W M L} (laws : Laws builder) where
     pub runs : step_each s items ≡ step_each after rest
     pub is_end : IsEnd after.last
     pub ends : predicate_ended after ≡ Ok (between s after.last written)
-    pub builds : laws.ItemBuilds first s.written written tree
-    pub items_come : 0 < n → after ≡ between s (Some Token.comma) written
+    pub builds : laws.MemberBuilds first s.written written tree
+    pub members_come : 0 < n → after ≡ between s (Some Token.comma) written
 
   -- the state when a list has been taken
   pub record ListEnds (s : State builder) (items : List Item) (back : List Token)
@@ -174,15 +174,15 @@ module _ {W M L : Type 0} {builder : Builder W M L} (laws : Laws builder) where
     pub builds : laws.ListBuilds first s.written written trees
 
   -- a predicate or a literal, whose tokens have been taken
-  ItemEnds-pending : (s : State builder) (first rest : List Item) (back : List Token)
+  MemberEnds-pending : (s : State builder) (first rest : List Item) (back : List Token)
       (pending : Pending) (last : Token) (leaf : Leaf) → tokens_of rest ≡ back
       → step_each s (first ++ rest)
       ≡ step_each (record s { pending = Some pending; last = Some last }) rest
       → IsEnd (Some last) → class_of pending ≡ Class.is leaf
-      → laws.ItemBuilds first s.written
+      → laws.MemberBuilds first s.written
       (builder.leaf (builder.located pending leaf) s.written) (leaf_tree leaf)
-      → ItemEnds s (first ++ rest) back 0 (leaf_tree leaf)
-  ItemEnds-pending s first rest back pending last leaf rest_is runs is_end classed builds = record {
+      → MemberEnds s (first ++ rest) back 0 (leaf_tree leaf)
+  MemberEnds-pending s first rest back pending last leaf rest_is runs is_end classed builds = record {
     first = first;
     commas_behind = [];
     rest = rest;
@@ -194,37 +194,37 @@ module _ {W M L : Type 0} {builder : Builder W M L} (laws : Laws builder) where
     is_end = is_end;
     ends = rw classed refl;
     builds = builds;
-    items_come = λ some. absurd (omega arith);
+    members_come = λ some. absurd (omega arith);
   }
 
-  ItemEnds-leaf : (s : State builder) (items : List Item) (leaf : Leaf) (key : List ℕ)
-      (value : Option (List ℕ)) (back : List Token) → takes s.last Kind.item ≡ true
+  MemberEnds-leaf : (s : State builder) (items : List Item) (leaf : Leaf) (key : List ℕ)
+      (value : Option (List ℕ)) (back : List Token) → takes s.last Kind.name ≡ true
       → tokens_of items ≡ leaf_tokens key value ++ back → class key value ≡ Class.is leaf
-      → ItemEnds s items back 0 (leaf_tree leaf)
-  ItemEnds-leaf s (x ∷ rest) leaf key None back may is classed =
+      → MemberEnds s items back 0 (leaf_tree leaf)
+  MemberEnds-leaf s (x ∷ rest) leaf key None back may is classed =
       let x_is : x.token ≡ Token.key key = cc in
-      ItemEnds-pending s (x ∷ []) rest back (key_at x key) (Token.key key) leaf (cc)
+      MemberEnds-pending s (x ∷ []) rest back (key_at x key) (Token.key key) leaf (cc)
       (rw (x_is, may) refl) (refl, refl, refl) classed (laws.key x key leaf s.written x_is classed)
-  ItemEnds-leaf s (x ∷ y ∷ z ∷ rest) leaf key (Some value) back may is classed =
+  MemberEnds-leaf s (x ∷ y ∷ z ∷ rest) leaf key (Some value) back may is classed =
       let x_is : x.token ≡ Token.key key = cc in
       let y_is : y.token ≡ Token.equals = cc in
       let z_is : z.token ≡ Token.value value = cc in
-      ItemEnds-pending s (x ∷ y ∷ z ∷ []) rest back (value_at x key z value) (Token.value value)
+      MemberEnds-pending s (x ∷ y ∷ z ∷ []) rest back (value_at x key z value) (Token.value value)
       leaf (cc) (rw (x_is, may, y_is, z_is) refl) (refl, refl, refl) classed
       (laws.value x y z key value leaf s.written x_is z_is classed)
-  ItemEnds-leaf s _ leaf key None back may is classed = absurd (cc)
-  ItemEnds-leaf s _ leaf key (Some value) back may is classed = absurd (cc)
+  MemberEnds-leaf s _ leaf key None back may is classed = absurd (cc)
+  MemberEnds-leaf s _ leaf key (Some value) back may is classed = absurd (cc)
 
-  -- commas behind an item
-  pub ItemEnds-commas : (n m : ℕ) (s : State builder) (items : List Item) (back : List Token)
-      (tree : Tree Question) → ItemEnds s items (commas n ++ back) m tree
-      → ItemEnds s items back (n + m) tree
-  ItemEnds-commas zero m s items back tree i = rw zero-add i
-  ItemEnds-commas (suc n) m s items back tree i =
+  -- commas behind a member
+  pub MemberEnds-commas : (n m : ℕ) (s : State builder) (items : List Item) (back : List Token)
+      (tree : Tree Question) → MemberEnds s items (commas n ++ back) m tree
+      → MemberEnds s items back (n + m) tree
+  MemberEnds-commas zero m s items back tree i = rw zero-add i
+  MemberEnds-commas (suc n) m s items back tree i =
       let (x, rest, are, x_is, rest_is) = first_item i.rest Token.comma (commas n ++ back) i.rest_is
       in
       let sum : n + suc m ≡ suc n + m = omega arith in
-      rw (← sum) (ItemEnds-commas n (suc m) s items back tree (record {
+      rw (← sum) (MemberEnds-commas n (suc m) s items back tree (record {
         first = i.first;
         commas_behind = i.commas_behind ++ x ∷ [];
         rest = rest;
@@ -237,12 +237,12 @@ module _ {W M L : Type 0} {builder : Builder W M L} (laws : Laws builder) where
         is_end = (refl, refl, refl);
         ends = refl;
         builds = i.builds;
-        items_come = λ some. refl;
+        members_come = λ some. refl;
       }))
 
   -- the last member, and a member in front of others
   ListEnds-one : (s : State builder) (items : List Item) (back : List Token) (n : ℕ)
-      (tree : Tree Question) → ItemEnds s items back n tree
+      (tree : Tree Question) → MemberEnds s items back n tree
       → ListEnds s items back (Trees.more tree Trees.none)
   ListEnds-one s items back n tree i = record {
     first = i.first ++ (i.commas_behind ++ []);
@@ -258,9 +258,9 @@ module _ {W M L : Type 0} {builder : Builder W M L} (laws : Laws builder) where
   }
 
   ListEnds-more : (s : State builder) (items : List Item) (others back : List Token) (n : ℕ)
-      (tree : Tree Question) (trees : Trees Question) → ItemEnds s items (others ++ back) n tree
+      (tree : Tree Question) (trees : Trees Question) → MemberEnds s items (others ++ back) n tree
       → Separates n trees → IsList others trees
-      → ((t : State builder) (rest : List Item) → takes t.last Kind.item ≡ true
+      → ((t : State builder) (rest : List Item) → takes t.last Kind.name ≡ true
       → takes t.last Kind.closing ≡ true → t.pending ≡ None → tokens_of rest ≡ others ++ back
       → ListEnds t rest back trees) → ListEnds s items back (Trees.more tree trees)
   ListEnds-more s items others back n tree Trees.none i some list go_on =
@@ -275,24 +275,24 @@ module _ {W M L : Type 0} {builder : Builder W M L} (laws : Laws builder) where
         rest_is = l.rest_is;
         after = l.after;
         written = l.written;
-        runs = i.runs ∙ ap (λ u. step_each u i.rest) (i.items_come some) ∙ l.runs;
+        runs = i.runs ∙ ap (λ u. step_each u i.rest) (i.members_come some) ∙ l.runs;
         closes = l.closes;
         ends = l.ends;
         builds = laws.more _ _ _ tree (Trees.more second trees) _ _ _ i.builds l.builds;
       }
 
   -- a call, by its members
-  ItemEnds-call : (s : State builder) (items : List Item) (function : Function)
+  MemberEnds-call : (s : State builder) (items : List Item) (function : Function)
       (tokens inner back : List Token) (tree : Tree Question) (trees : Trees Question)
-      → takes s.last Kind.item ≡ true → tokens_of items ≡ tokens ++ back
+      → takes s.last Kind.name ≡ true → tokens_of items ≡ tokens ++ back
       → IsCall (name_of function) tokens inner → has_room function (count trees) ≡ true
-      → Calls builder laws.ItemBuilds laws.ListBuilds function tree trees
-      → ((start : State builder) (members : List Item) → takes start.last Kind.item ≡ true
+      → Calls builder laws.MemberBuilds laws.ListBuilds function tree trees
+      → ((start : State builder) (members : List Item) → takes start.last Kind.name ≡ true
       → takes start.last Kind.closing ≡ true → start.pending ≡ s.pending
       → tokens_of members ≡ inner ++ Token.close_paren ∷ back
       → ListEnds start members (Token.close_paren ∷ back) trees)
-      → ItemEnds s items back 0 tree
-  ItemEnds-call s (x ∷ y ∷ items) name tokens inner back tree trees may is call room calls list =
+      → MemberEnds s items back 0 tree
+  MemberEnds-call s (x ∷ y ∷ items) name tokens inner back tree trees may is call room calls list =
       let all : tokens_of (x ∷ y ∷ items)
       ≡ name_of name ∷ Token.open_paren ∷ (inner ++ Token.close_paren ∷ back) =
       is ∙ rw call (simp append_assoc) in
@@ -319,38 +319,38 @@ module _ {W M L : Type 0} {builder : Builder W M L} (laws : Laws builder) where
         is_end = (refl, refl, refl);
         ends = refl;
         builds = rw members (calls x y z l.first s.written l.written l.builds);
-        items_come = λ some. absurd (omega arith);
+        members_come = λ some. absurd (omega arith);
       }
-  ItemEnds-call s _ function tokens inner back tree trees may is call room calls list = absurd (cc)
+  MemberEnds-call s _ function tokens inner back tree trees may is call room calls list = absurd (cc)
 
   mutual
-    pub ItemEnds-item : (tree : Tree Question) (s : State builder) (items : List Item)
-        (tokens back : List Token) → takes s.last Kind.item ≡ true → s.pending ≡ None
-        → tokens_of items ≡ tokens ++ back → IsItem tokens tree → ItemEnds s items back 0 tree
-    ItemEnds-item (Tree.leaf question) s items tokens back may none is (key, value, are, classed) =
-        ItemEnds-leaf s items (Leaf.predicate question) key value back may (rw are at is) classed
-    ItemEnds-item (Tree.literal truth) s items tokens back may none is (key, value, are, classed) =
-        ItemEnds-leaf s items (Leaf.literal truth) key value back may (rw are at is) classed
-    ItemEnds-item (Tree.all trees) s items tokens back may none is (inner, call, list) =
-        ItemEnds-call s items Function.all tokens inner back _ trees may is call refl
-        (laws.all trees) (λ t members item closing same are. ListEnds-list trees t members inner _
-        item closing (same ∙ none) are list)
-    ItemEnds-item (Tree.any trees) s items tokens back may none is (inner, call, list) =
-        ItemEnds-call s items Function.any tokens inner back _ trees may is call refl
-        (laws.any trees) (λ t members item closing same are. ListEnds-list trees t members inner _
-        item closing (same ∙ none) are list)
-    ItemEnds-item (Tree.not tree) s items tokens back may none is (inner, n, call, spelled) =
-        ItemEnds-call s items Function.not tokens (inner ++ commas n) back _
+    pub MemberEnds-member : (tree : Tree Question) (s : State builder) (items : List Item)
+        (tokens back : List Token) → takes s.last Kind.name ≡ true → s.pending ≡ None
+        → tokens_of items ≡ tokens ++ back → IsMember tokens tree → MemberEnds s items back 0 tree
+    MemberEnds-member (Tree.leaf question) s items tokens back may none is (key, value, are, classed) =
+        MemberEnds-leaf s items (Leaf.predicate question) key value back may (rw are at is) classed
+    MemberEnds-member (Tree.literal truth) s items tokens back may none is (key, value, are, classed) =
+        MemberEnds-leaf s items (Leaf.literal truth) key value back may (rw are at is) classed
+    MemberEnds-member (Tree.all trees) s items tokens back may none is (inner, call, list) =
+        MemberEnds-call s items Function.all tokens inner back _ trees may is call refl
+        (laws.all trees) (λ t members named closing same are. ListEnds-list trees t members inner _
+        named closing (same ∙ none) are list)
+    MemberEnds-member (Tree.any trees) s items tokens back may none is (inner, call, list) =
+        MemberEnds-call s items Function.any tokens inner back _ trees may is call refl
+        (laws.any trees) (λ t members named closing same are. ListEnds-list trees t members inner _
+        named closing (same ∙ none) are list)
+    MemberEnds-member (Tree.not tree) s items tokens back may none is (inner, n, call, spelled) =
+        MemberEnds-call s items Function.not tokens (inner ++ commas n) back _
         (Trees.more tree Trees.none) may is call refl (laws.not tree)
-        (λ t members item closing same are. ListEnds-one t members _ _ tree
-        (ItemEnds-commas n 0 t members _ tree (ItemEnds-item tree t members inner _ item
+        (λ t members named closing same are. ListEnds-one t members _ _ tree
+        (MemberEnds-commas n 0 t members _ tree (MemberEnds-member tree t members inner _ named
         (same ∙ none) (are ∙ append_assoc inner (commas n) _) spelled)))
 
     ListEnds-list : (trees : Trees Question) (s : State builder) (items : List Item)
-        (tokens back : List Token) → takes s.last Kind.item ≡ true
+        (tokens back : List Token) → takes s.last Kind.name ≡ true
         → takes s.last Kind.closing ≡ true → s.pending ≡ None
         → tokens_of items ≡ tokens ++ back → IsList tokens trees → ListEnds s items back trees
-    ListEnds-list Trees.none s items tokens back item closing none is list = record {
+    ListEnds-list Trees.none s items tokens back named closing none is list = record {
       first = [];
       rest = items;
       items_are = refl;
@@ -362,12 +362,12 @@ module _ {W M L : Type 0} {builder : Builder W M L} (laws : Laws builder) where
       ends = ap (ended_by s) none ∙ (λ i. Ok (record s { pending = none i }));
       builds = laws.none s.written;
     }
-    ListEnds-list (Trees.more tree trees) s items tokens back item closing none is
+    ListEnds-list (Trees.more tree trees) s items tokens back named closing none is
         (front, n, others, are, some, spelled, list) =
-        let i = ItemEnds-item tree s items front (commas n ++ (others ++ back)) item none
+        let i = MemberEnds-member tree s items front (commas n ++ (others ++ back)) named none
         (is ∙ rw are (simp append_assoc)) spelled in
         ListEnds-more s items others back _ tree trees
-        (ItemEnds-commas n 0 s items (others ++ back) tree i) (rw add-zero some) list
+        (MemberEnds-commas n 0 s items (others ++ back) tree i) (rw add-zero some) list
         (λ t rest may close settled rest_is. ListEnds-list trees t rest others back may close
         settled rest_is list)
 
@@ -415,7 +415,7 @@ calls function tree trees is head opening closing members w v built =
 
 pub tree_laws : Laws tree_builder
 tree_laws = record {
-  ItemBuilds = λ items w v tree. v ≡ w ++ tree ∷ [];
+  MemberBuilds = λ items w v tree. v ≡ w ++ tree ∷ [];
   ListBuilds = λ items w v trees. v ≡ w ++ list_of trees;
   key = λ x key leaf w is classed. refl;
   value = λ x y z key value leaf w x_is z_is classed. refl;
@@ -428,7 +428,7 @@ tree_laws = record {
 }
 
 pub tree_built : (items : List Item) (built : List (Tree Question)) (tree : Tree Question)
-    → tree_laws.ItemBuilds items [] built tree → built ≡ tree ∷ []
+    → tree_laws.MemberBuilds items [] built tree → built ≡ tree ∷ []
 unfolding tree_laws
 tree_built items built tree is = is
 
@@ -461,16 +461,16 @@ module _ {W M L : Type 0} {builder : Builder W M L} (laws : Laws builder) where
     pub rest : List Item
     pub items_are : items ≡ first ++ rest
     pub written : W
-    pub builds : laws.ItemBuilds first builder.nothing written tree
+    pub builds : laws.MemberBuilds first builder.nothing written tree
     pub whole : State builder
     pub concludes : conclude len read ≡ Ok whole
     pub whole_is : whole.written ≡ builder.root_ended written
 
   pub Finds-tree : (len : ℕ) (items : List Item) (tree : Tree Question)
       → IsTree (tokens_of items) tree → Finds len items tree
-  Finds-tree len items tree (item, n, is, spelled) =
-      let i = ItemEnds-commas laws n 0 initial items [] tree (ItemEnds-item laws tree initial items
-      item _ refl refl (is ∙ ap (λ l. item ++ l) (sym (append-nil (commas n)))) spelled) in
+  Finds-tree len items tree (member, n, is, spelled) =
+      let i = MemberEnds-commas laws n 0 initial items [] tree (MemberEnds-member laws tree initial items
+      member _ refl refl (is ∙ ap (λ l. member ++ l) (sym (append-nil (commas n)))) spelled) in
       let settled = between initial i.after.last i.written in
       let none = none_open i.after settled i.after.stack refl i.ends refl in
       record {

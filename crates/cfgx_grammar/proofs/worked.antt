@@ -29,7 +29,7 @@ use Rattle.cfgx_grammar.specs.Spelling.{spelling}
 use Rattle.std.proofs.lemmas.Str.{NoCharPasses-nil}
 use Rattle.cfgx_syntax.proofs.TokenList.{ItemsFrom-same}
 use Rattle.cfgx_grammar.specs.Answer.{HasNoTree}
-use Rattle.cfgx_grammar.specs.Grammar.{HasTree, IsItem, IsList, IsTree}
+use Rattle.cfgx_grammar.specs.Grammar.{HasTree, IsMember, IsList, IsTree}
 use Rattle.cfgx_grammar.specs.parsing.State.{State, initial}
 use Rattle.cfgx_grammar.specs.parsing.Step.{step_each, answer_from}
 use Rattle.cfgx_grammar.proofs.accepted.{tokens_of}
@@ -356,11 +356,11 @@ is_a : IsKey (codes "a")
 is_a =
     record { spelled = (refl, refl); not_all = λ e. cc; not_any = λ e. cc; not_not = λ e. cc }
 
-is_flag_a : IsItem (key (codes "a") ∷ []) (flag (codes "a"))
+is_flag_a : IsMember (key (codes "a") ∷ []) (flag (codes "a"))
 unfolding class
 is_flag_a = (codes "a", None, refl, refl)
 
-is_flag_b : IsItem (key (codes "b") ∷ []) (flag (codes "b"))
+is_flag_b : IsMember (key (codes "b") ∷ []) (flag (codes "b"))
 unfolding class
 is_flag_b = (codes "b", None, refl, refl)
 

@@ -59,7 +59,7 @@ innermost front = last_below (λ place. nat_lt (depth_at front place) (depth fro
 -- a key or the name of a function stands there, with which a member of a list begins
 abbrev pub begins_member : Option Item → Bool
 begins_member None = false
-begins_member (Some item) = is_kind Kind.item (kind_of item.token)
+begins_member (Some item) = is_kind Kind.name (kind_of item.token)
 
 -- how many members begin at the depth, from the place on
 abbrev pub members_at : List Item → ℕ → ℕ → ℕ

@@ -33,27 +33,29 @@ Separates n Trees.none = Unit {0}
 Separates n (Trees.more tree trees) = 0 < n
 
 abbrev mutual
-  -- the tokens spell the tree as one item
-  pub IsItem : List Token → Tree Question → Type 0
-  IsItem tokens (Tree.leaf question) = IsLeaf tokens (Leaf.predicate question)
-  IsItem tokens (Tree.literal truth) = IsLeaf tokens (Leaf.literal truth)
-  IsItem tokens (Tree.all trees) = (inner : List Token) × IsCall Token.all tokens inner
+  -- the tokens spell the tree as one member of a list
+  pub IsMember : List Token → Tree Question → Type 0
+  IsMember tokens (Tree.leaf question) = IsLeaf tokens (Leaf.predicate question)
+  IsMember tokens (Tree.literal truth) = IsLeaf tokens (Leaf.literal truth)
+  IsMember tokens (Tree.all trees) = (inner : List Token) × IsCall Token.all tokens inner
       × IsList inner trees
-  IsItem tokens (Tree.any trees) = (inner : List Token) × IsCall Token.any tokens inner
+  IsMember tokens (Tree.any trees) = (inner : List Token) × IsCall Token.any tokens inner
       × IsList inner trees
-  IsItem tokens (Tree.not tree) = (item : List Token) × (n : ℕ)
-      × IsCall Token.not tokens (item ++ commas n) × IsItem item tree
+  IsMember tokens (Tree.not tree) = (member : List Token) × (n : ℕ)
+      × IsCall Token.not tokens (member ++ commas n) × IsMember member tree
 
   -- the tokens spell the trees as a list
   pub IsList : List Token → Trees Question → Type 0
   IsList tokens Trees.none = tokens ≡ []
   IsList tokens (Trees.more tree trees) =
-      (item : List Token) × (n : ℕ) × (rest : List Token) × (tokens ≡ item ++ (commas n ++ rest))
-      × Separates n trees × IsItem item tree × IsList rest trees
+      (member : List Token) × (n : ℕ) × (rest : List Token)
+      × (tokens ≡ member ++ (commas n ++ rest)) × Separates n trees
+      × IsMember member tree × IsList rest trees
 
--- the tokens are one item and any number of commas
+-- the tokens are one member and any number of commas
 abbrev pub IsTree : List Token → Tree Question → Type 0
-IsTree tokens tree = (item : List Token) × (n : ℕ) × (tokens ≡ item ++ commas n) × IsItem item tree
+IsTree tokens tree = (member : List Token) × (n : ℕ) × (tokens ≡ member ++ commas n)
+    × IsMember member tree
 
 -- a text, already stripped, has this tree: it ends with no place where no token can start, and its
 -- tokens spell the tree

@@ -4,9 +4,9 @@ use Rattle.std.specs.Prelude.{ℕ, Bool, true, false, List, [], ◌∷◌, codes
 use Rattle.std.specs.List.{list_any}
 use Rattle.cfgx_syntax.specs.Token.{Token}
 
--- the kinds of tokens; a key and a function's name both begin an item
+-- the kinds of tokens; a key and a function's name are one, and begin a member
 pub data Kind : Type 0 where
-  item : Kind
+  name : Kind
   equals : Kind
   value : Kind
   opening : Kind
@@ -14,18 +14,18 @@ pub data Kind : Type 0 where
   comma : Kind
 
 abbrev pub kind_of : Token → Kind
-kind_of (Token.key _) = Kind.item
+kind_of (Token.key _) = Kind.name
 kind_of (Token.value _) = Kind.value
 kind_of Token.equals = Kind.equals
-kind_of Token.all = Kind.item
-kind_of Token.any = Kind.item
-kind_of Token.not = Kind.item
+kind_of Token.all = Kind.name
+kind_of Token.any = Kind.name
+kind_of Token.not = Kind.name
 kind_of Token.open_paren = Kind.opening
 kind_of Token.close_paren = Kind.closing
 kind_of Token.comma = Kind.comma
 
 abbrev pub is_kind : Kind → Kind → Bool
-is_kind Kind.item Kind.item = true
+is_kind Kind.name Kind.name = true
 is_kind Kind.equals Kind.equals = true
 is_kind Kind.value Kind.value = true
 is_kind Kind.opening Kind.opening = true
@@ -35,9 +35,9 @@ is_kind _ _ = false
 
 -- what may stand behind the last token, or at the start
 abbrev pub followers : Option Token → List Kind
-followers None = Kind.item ∷ []
-followers (Some Token.open_paren) = Kind.item ∷ Kind.closing ∷ []
-followers (Some Token.comma) = Kind.item ∷ Kind.closing ∷ Kind.comma ∷ []
+followers None = Kind.name ∷ []
+followers (Some Token.open_paren) = Kind.name ∷ Kind.closing ∷ []
+followers (Some Token.comma) = Kind.name ∷ Kind.closing ∷ Kind.comma ∷ []
 followers (Some (Token.key _)) = Kind.equals ∷ Kind.closing ∷ Kind.comma ∷ []
 followers (Some Token.equals) = Kind.value ∷ []
 followers (Some (Token.value _)) = Kind.comma ∷ Kind.closing ∷ []

@@ -16,11 +16,11 @@ use Rattle.cfgx_parser.specs.declared.nodes.ExprNode.TheVariants as node
 use Rattle.cfgx_grammar.proofs.accepted.{ok_same, LeafEnds-ended, same_ended}
 use Rattle.cfgx_grammar.proofs.accepted.{Closes-stack, Steps-step}
 
--- one more item, wherever it is counted
-counted-with_item : (stack : List OpenFunction) (roots : ℕ)
+-- one more member, wherever it is counted
+counted-with_member : (stack : List OpenFunction) (roots : ℕ)
     → root_more stack roots + counted_in (over_top one_more stack) ≡ suc (roots + counted_in stack)
-counted-with_item [] roots = omega arith
-counted-with_item (top ∷ rest) roots = omega arith
+counted-with_member [] roots = omega arith
+counted-with_member (top ∷ rest) roots = omega arith
 
 AreMarked-more : (stack : List OpenFunction) (n m k l : ℕ) → n ≤ m → k ≤ l → AreMarked stack n k
     → AreMarked stack m l
@@ -42,7 +42,7 @@ IsHeld-leaf s leaf h =
     let nodes = length_push s.written.nodes leaf in
     let leaves = length-append s.written.leaves (asked_at leaf (length s.written.nodes)) in
     record {
-      counts = omega (arith, counted-with_item s.stack s.roots, nodes, h.counts);
+      counts = omega (arith, counted-with_member s.stack s.roots, nodes, h.counts);
       marks = AreMarked-more (over_top one_more s.stack)
           (length s.written.nodes) _ (length s.written.leaves) _ (omega (arith, nodes))
           (omega (arith, leaves))
@@ -78,7 +78,7 @@ IsHeld-closed t (top ∷ rest) is h =
     (node.Fn (counted top.function top.members) (length t.written.nodes - top.mark.node)) in
     let leaves = length-take top.mark.leaves t.written.leaves in
     record {
-      counts = omega (arith, counted-with_item rest t.roots, nodes, counts);
+      counts = omega (arith, counted-with_member rest t.roots, nodes, counts);
       marks = AreMarked-more (over_top one_more rest) top.mark.node _ top.mark.leaves _
           (omega (arith, nodes, marks.0)) (omega (arith, leaves, marks.1))
           (AreMarked-top rest _ _ one_more (λ f. refl) marks.2);

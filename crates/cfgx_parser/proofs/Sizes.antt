@@ -2,7 +2,7 @@
 use Rattle.std.proofs.Common.{◌≡◌, ℕ, ◌+◌, ◌≤◌, List, [], ◌∷◌, ◌++◌, length, Option}
 use Rattle.std.proofs.Common.{Some, None, ap, ◌∙◌, arith, length-append}
 use Rattle.cfgx_syntax.specs.Token.{Token}
-use Rattle.cfgx_grammar.specs.Grammar.{leaf_tokens, IsCall, IsItem, IsList, commas}
+use Rattle.cfgx_grammar.specs.Grammar.{leaf_tokens, IsCall, IsMember, IsList, commas}
 use Rattle.cfgx_grammar.specs.Grammar.{HasTree}
 use Rattle.cfgx_syntax.specs.Items.{Item, Ending}
 use Rattle.cfgx_syntax.proofs.Sizes.{items-bytes}
@@ -23,7 +23,7 @@ call-tokens name tokens inner is =
     omega (arith, ap length is, length-append inner (Token.close_paren ∷ []))
 
 mutual
-  pub tree-tokens : (tree : Tree Question) (tokens : List Token) → IsItem tokens tree
+  pub tree-tokens : (tree : Tree Question) (tokens : List Token) → IsMember tokens tree
       → length (prefix tree) ≤ length tokens
   tree-tokens (Tree.leaf question) tokens is =
       let some : 1 ≤ length tokens = omega (arith, leaf-tokens is.0 is.1, ap length is.2) in

@@ -7,7 +7,7 @@ ghost use Rattle.cfgx_grammar.specs.Neighbours.{next, expected};
 ghost use Rattle.cfgx_parser.specs.nodes.Writer.{Fits, written_of};
 ghost use Rattle.cfgx_parser.specs.parsing.State.{counted};
 ghost use Rattle.cfgx_grammar.specs.FirstFault.{refusal, lacks_value};
-ghost use Rattle.cfgx_grammar.specs.parsing.Step.{with_item, predicate_ended, has_room};
+ghost use Rattle.cfgx_grammar.specs.parsing.Step.{with_member, predicate_ended, has_room};
 ghost use Rattle.cfgx_grammar.specs.parsing.Step.{apply, step, unclosed, one_root, conclude};
 ghost use Rattle.cfgx_parser.specs.parsing.Fields.{function_of, open_of, empty_list};
 ghost use Rattle.cfgx_parser.specs.parsing.Fields.{last_of, token_like};
@@ -25,14 +25,14 @@ use std::alloc::AllocError;
 /// A list that has not ended: the members of a function, or the root.
 #[derive(Clone, Copy)]
 pub(crate) struct OpenList {
-    /// How many of its items have ended
+    /// How many of its members have ended
     members: usize,
     /// Where its `(` stands, once that was read
     parens_index: Option<usize>,
 }
 
 impl OpenList {
-    /// A list whose first item is still to come.
+    /// A list whose first member is still to come.
     fn new() -> Self
         ensures { result ≡ empty_list }
     {
@@ -272,10 +272,10 @@ impl<'a, A: SmallAllocator> Parser<'a, A> {
         self.list.parens_index = Some(place);
     }
 
-    /// Counts an item that has ended in the innermost list.
-    fn count_item(&mut self)
+    /// Counts a member that has ended in the innermost list.
+    fn count_member(&mut self)
         requires { HasRoom (state_of self.old) }
-        ensures counted { state_of self.new ≡ with_item (state_of self.old) }
+        ensures counted { state_of self.new ≡ with_member (state_of self.old) }
         ensures functions { self.new.func_stack.items ≡ self.old.func_stack.items }
     {
         self.list.members += 1;
@@ -318,7 +318,7 @@ impl<'a, A: SmallAllocator> Parser<'a, A> {
     {
         if self.pending.is_some() {
             self.write_leaf()?;
-            self.count_item();
+            self.count_member();
         }
         Ok(())
     }
@@ -355,7 +355,7 @@ impl<'a, A: SmallAllocator> Parser<'a, A> {
         self.list = top.around;
         self.writer
             .end_function(top.mark, counted(top.func, members))?;
-        self.count_item();
+        self.count_member();
         Ok(())
     }
 
@@ -416,7 +416,8 @@ impl<'a, A: SmallAllocator> Parser<'a, A> {
         self.apply(lexed)
     }
 
-    /// Ends a text of so many bytes whose items all have ended. It has to be one.
+    /// Ends a text of so many bytes whose functions all have ended. One member has to stand at
+    /// the root.
     fn one_root(&mut self, len: usize) -> Result<(), Halt>
         requires fits { Fits (written_of self.old.writer) }
         requires closed { self.old.func_stack.items ≡ [] }

@@ -32,13 +32,13 @@ pub enum Reason {
     UnclosedQuotes,
     /// A quote is closed that was never opened. No call of this crate answers it.
     UnopenedQuotes,
-    /// There is no item: no predicate, literal or function.
+    /// There is no predicate, literal or function.
     Empty,
     /// A term that may not stand here, with the terms that may; none where nothing may.
     Unexpected(&'static [&'static str]),
     /// A number is none or out of its range, or a `target_endian` is neither `big` nor `little`.
     InvalidInteger,
-    /// More than one item stands at the root.
+    /// More than one predicate, literal or function stands outside of every function.
     MultipleRootPredicates,
     /// The width of an atomic is neither an integer nor `ptr`.
     InvalidHasAtomic,

@@ -1,5 +1,5 @@
 -- The stack of open functions against the tokens: each open function is the last place that lies
--- less deep than what stands inside it, and its members are the items of that depth behind it.
+-- less deep than what stands inside it, and its members are those that begin at that depth behind it.
 use Rattle.std.proofs.Common.{◌≡◌, ⊎_elim, ℕ, zero, suc, ◌+◌, ◌<◌, ◌≤◌, ◌&&◌, ◌==◌, Bool, true}
 use Rattle.std.proofs.Common.{false, List, [], ◌∷◌, ◌++◌, length, Option, Some, None, sym, refl, ap}
 use Rattle.std.proofs.Common.{◌∙◌, arith, take_at, option_map, take_all}
@@ -65,7 +65,7 @@ count_below-none test zero none = refl
 count_below-none test (suc n) none = rw (none n (omega arith))
     (count_below-none test n (λ k lt. none k (omega (arith, lt))))
 
--- behind the last token no item begins
+-- behind the last token no member begins
 pub members_at_end : (items : List Item) (level from : ℕ) → length items ≤ from
     → members_at items level from ≡ 0
 members_at_end items level from past = count_below-none _ (length items)
@@ -146,7 +146,7 @@ module _ (front : List Item) (item : Item) where
   -- whether the token is counted
   abbrev is_counted : ℕ → ℕ → Bool
   is_counted level from = nat_le from (length front)
-      && (depth front == level && is_kind Kind.item (kind_of item.token))
+      && (depth front == level && is_kind Kind.name (kind_of item.token))
 
   pub members_at_more : (level from : ℕ) (counted : Bool) → is_counted level from ≡ counted
       → members_at more level from ≡ (if counted then suc (members_at front level from)
@@ -159,15 +159,15 @@ module _ (front : List Item) (item : Item) where
       rw (depth_at_end, slice_get_next front item []) is in
       rw (length_more, last, same) refl
 
-  -- the token begins an item at the depth
-  pub members_at_item : (level from : ℕ) → from ≤ length front → depth front ≡ level
-      → is_kind Kind.item (kind_of item.token) ≡ true
+  -- the token begins a member at the depth
+  pub members_at_name : (level from : ℕ) → from ≤ length front → depth front ≡ level
+      → is_kind Kind.name (kind_of item.token) ≡ true
       → members_at more level from ≡ members_at front level from + 1
-  members_at_item level from le at begins =
+  members_at_name level from le at begins =
       members_at_more level from true (grind arith) ∙ omega arith
 
   -- it begins none
-  pub members_at_other : (level from : ℕ) → is_kind Kind.item (kind_of item.token) ≡ false
+  pub members_at_other : (level from : ℕ) → is_kind Kind.name (kind_of item.token) ≡ false
       → members_at more level from ≡ members_at front level from
   members_at_other level from begins = members_at_more level from false (grind arith)
 
@@ -195,7 +195,7 @@ module _ (front : List Item) (item : Item) where
             (is.inside k behind old)) (cases_lt (length front) k);
       }
 
-  -- the token changes the items of the level, and how many of its members go on
+  -- the token changes the members of the level, and how many of its members go on
   IsLevel-more : {M : Type 0} (level going goes : ℕ) (top : Open M) → level < depth more
       → ((place : ℕ) → place < length front
       → members_at front (level + 1) (place + 1) ≡ top.members + going
@@ -209,7 +209,7 @@ module _ (front : List Item) (item : Item) where
     counted = adds is.place (omega (arith, is.named_last)) is.counted;
   }
 
-  -- the token adds nothing to the items of any level
+  -- the token adds no member to any level
   pub Levels-same : {M : Type 0} (roots going : ℕ) (stack : List (Open M))
       → length stack ≤ depth more → ((level from : ℕ) → level ≤ length stack
       → members_at more level from ≡ members_at front level from)
@@ -222,15 +222,15 @@ module _ (front : List Item) (item : Item) where
         (λ level from le. same level from (omega (arith, le))) levels,
   )
 
-  -- the token begins an item of the innermost list
-  pub Levels-item : {M : Type 0} (roots : ℕ) (stack : List (Open M)) → length stack ≤ depth more
-      → depth front ≡ length stack → is_kind Kind.item (kind_of item.token) ≡ true
+  -- the token begins a member of the innermost list
+  pub Levels-member : {M : Type 0} (roots : ℕ) (stack : List (Open M)) → length stack ≤ depth more
+      → depth front ≡ length stack → is_kind Kind.name (kind_of item.token) ≡ true
       → Levels front roots false stack 0 → Levels more roots false stack 1
-  Levels-item roots [] deep at begins levels =
-      members_at_item 0 0 (omega arith) at begins ∙ ap (λ n. n + 1) levels ∙ omega arith
-  Levels-item roots (top ∷ rest) deep at begins (l, levels) = (
+  Levels-member roots [] deep at begins levels =
+      members_at_name 0 0 (omega arith) at begins ∙ ap (λ n. n + 1) levels ∙ omega arith
+  Levels-member roots (top ∷ rest) deep at begins (l, levels) = (
     IsLevel-more (length rest) 0 1 top (omega (arith, deep))
-        (λ place lt counted. members_at_item (length rest + 1) (place + 1)
+        (λ place lt counted. members_at_name (length rest + 1) (place + 1)
         (omega (arith, lt)) (at ∙ omega arith) begins ∙ ap (λ n. n + 1) counted ∙ omega arith) l,
     Levels-same roots 1 rest (omega (arith, deep))
         (λ level from le. members_at_deeper level from (omega (arith, at, le))) levels,
@@ -238,7 +238,7 @@ module _ (front : List Item) (item : Item) where
 
   -- the token is the `(` of the innermost function
   pub Levels-open : {M : Type 0} (roots going : ℕ) (stack : List (Open M))
-      → length stack ≤ depth more → is_kind Kind.item (kind_of item.token) ≡ false
+      → length stack ≤ depth more → is_kind Kind.name (kind_of item.token) ≡ false
       → Levels front roots true stack going
       → Levels more roots false (over_top (with_parens item.start) stack) going
   Levels-open roots going [] deep other levels =

@@ -32,7 +32,7 @@ use Rattle.cfgx_grammar.specs.parsing.Step.{closed_by, opened, with_last, with_p
 use Rattle.cfgx_grammar.specs.parsing.Step.{unclosed, one_root, concluded_by, conclude, step_each}
 use Rattle.cfgx_grammar.specs.parsing.Step.{ended_as, answer_from}
 use Rattle.cfgx_grammar.proofs.faults.Levels.{Levels, Levels-ended, IsLevel, start_of, Levels-same}
-use Rattle.cfgx_grammar.proofs.faults.Levels.{Levels-item, Levels-open, slice_get_next}
+use Rattle.cfgx_grammar.proofs.faults.Levels.{Levels-member, Levels-open, slice_get_next}
 use Rattle.cfgx_grammar.proofs.faults.Levels.{members_at_other, length_more, last_below-found}
 use Rattle.cfgx_grammar.proofs.faults.Levels.{members_at_end, depth_at_end, first_below-none}
 use Rattle.cfgx_grammar.proofs.faults.Levels.{first_below-found}
@@ -89,11 +89,11 @@ module _ (front : List Item) (item : Item) where
 
 -- What may stand behind the last token says which it is.
 
--- What a token of this kind says of those in front of it. In front of an item no predicate has
+-- What a token of this kind says of those in front of it. In front of a name no predicate has
 -- begun and no name is the last token; in front of `(` stands a name, in front of `=` a key, and in
 -- front of a value `=`.
 abbrev pub Says : Kind → Option Pending → Option Pending → Option Pending → Bool → Type 0
-Says Kind.item begun key equals names = (begun ≡ None) × (names ≡ false)
+Says Kind.name begun key equals names = (begun ≡ None) × (names ≡ false)
 Says Kind.opening begun key equals names = (begun ≡ None) × (names ≡ true)
 Says Kind.equals begun key equals names = (begun ≡ key) × (names ≡ false)
 Says Kind.value begun key equals names = (begun ≡ equals) × (names ≡ false)
@@ -104,8 +104,8 @@ says_token : (kind : Kind) (item : Item) (before : List Item) (token : Token)
     (key_token item token) (equals_token before token) (names_function token)
 says_token Kind.closing item before token may = tt
 says_token Kind.comma item before token may = tt
-says_token Kind.item item before Token.open_paren may = (refl, refl)
-says_token Kind.item item before Token.comma may = (refl, refl)
+says_token Kind.name item before Token.open_paren may = (refl, refl)
+says_token Kind.name item before Token.comma may = (refl, refl)
 says_token Kind.opening item before Token.all may = (refl, refl)
 says_token Kind.opening item before Token.any may = (refl, refl)
 says_token Kind.opening item before Token.not may = (refl, refl)
@@ -115,7 +115,7 @@ says_token _ item before _ may = absurd (false≢true may)
 
 pub says : (kind : Kind) (back : List Item) → takes (head_token back) kind ≡ true
     → Says kind (begun_last back) (key_last back) (equals_last back) (names_last (head_token back))
-says Kind.item [] may = (refl, refl)
+says Kind.name [] may = (refl, refl)
 says Kind.closing [] may = tt
 says Kind.comma [] may = tt
 says _ [] may = absurd (false≢true may)
@@ -325,10 +325,10 @@ module _ {W M L : Type 0} {builder : Builder W M L} (front : List Item) (s : Sta
       levels = rw (last_more front (at token), goes) levels;
     }
 
-    -- a token that neither opens nor closes a function and begins no item
+    -- a token that neither opens nor closes a function and begins no member
     stays : (token : Token) (t : State builder) (w : ℕ) → t.last ≡ Some token
         → names_function token ≡ false
-        → is_kind Kind.item (kind_of token) ≡ false → Rises token (length t.stack)
+        → is_kind Kind.name (kind_of token) ≡ false → Rises token (length t.stack)
         → t.pending ≡ begun_token (at token) (reverse front) token → going t.pending ≡ w
         → Levels front t.roots false t.stack w → Matches (more token) t
     stays token t w last no_name other rises pending goes levels =
@@ -337,21 +337,21 @@ module _ {W M L : Type 0} {builder : Builder W M L} (front : List Item) (s : Sta
         (λ level from le. members_at_other front (at token) level from other) levels))
 
     -- the name of a function
-    name_step : (function : Function) → takes (last_token front) Kind.item ≡ true
+    name_step : (function : Function) → takes (last_token front) Kind.name ≡ true
         → names_function (name_of function) ≡ true → is_closing (name_of function) ≡ false
-        → is_kind Kind.item (kind_of (name_of function)) ≡ true
+        → is_kind Kind.name (kind_of (name_of function)) ≡ true
         → begun_token (at (name_of function)) (reverse front) (name_of function) ≡ None
         → Agrees (more (name_of function)) (Ok (with_last (name_of function)
         (opened s function (at (name_of function))))) None
     name_step function may is_name no_close begins none =
         let token = name_of function in
         let item = at token in
-        let a = says Kind.item (reverse front) may in
+        let a = says Kind.name (reverse front) may in
         let pending : s.pending ≡ None = m.pending ∙ a.0 in
         let rises : Rises token (suc (length s.stack)) = rw (is_name, no_close) (omega arith) in
         let long = length_more front item in
         let deep : length s.stack < depth (more token) = omega (arith, balanced token _ rises) in
-        let outer = Levels-item front item s.roots s.stack (omega (arith, deep))
+        let outer = Levels-member front item s.roots s.stack (omega (arith, deep))
         (depth_is front s m) begins (plain_levels false pending a.1) in
         let here : IsLevel (more token) true (length s.stack) (new_open s function item)
         (going s.pending) = record {
@@ -443,8 +443,8 @@ module _ {W M L : Type 0} {builder : Builder W M L} (front : List Item) (s : Sta
         → Agrees (more token) (result_map (with_last token) (apply s (at token) token))
         (fault_by front (at token) token)
     token_step (Token.key text) may = let token = Token.key text in
-        let a = says Kind.item (reverse front) may in
-        let levels = Levels-item front (at token) s.roots s.stack
+        let a = says Kind.name (reverse front) may in
+        let levels = Levels-member front (at token) s.roots s.stack
         (omega (arith, balanced token (length s.stack) refl)) (depth_is front s m) refl
         (plain_levels false (m.pending ∙ a.0) a.1) in
         (refl, matched token _ 1 refl refl refl refl levels)

@@ -66,14 +66,14 @@ located_class builder p (Class.refused cause part) = Err (refusal cause (part_of
     (part_of p part).end)
 
 module _ {W M L : Type 0} {builder : Builder W M L} where
-  -- with one more item in the innermost list
-  abbrev pub with_item : State builder → State builder
-  with_item s = record s { stack = over_top one_more s.stack; roots = root_more s.stack s.roots }
+  -- with one more member in the innermost list
+  abbrev pub with_member : State builder → State builder
+  with_member s = record s { stack = over_top one_more s.stack; roots = root_more s.stack s.roots }
 
   -- the predicate has ended
   abbrev pub leaf_ended : State builder → L → State builder
   leaf_ended s leaf =
-      with_item (record s { pending = None; written = builder.leaf leaf s.written })
+      with_member (record s { pending = None; written = builder.leaf leaf s.written })
 
   abbrev pub ended_by : State builder → Option Pending → Result (State builder) Refusal
   ended_by s None = Ok s
@@ -105,7 +105,7 @@ module _ {W M L : Type 0} {builder : Builder W M L} where
   -- the innermost function has ended, whose members all have
   abbrev pub function_ended : List (Open M) → State builder → State builder
   function_ended [] s = s
-  function_ended (top ∷ rest) s = with_item (record s {
+  function_ended (top ∷ rest) s = with_member (record s {
     stack = rest;
     written = builder.function_ended top.mark top.function top.members s.written;
   })
@@ -150,7 +150,7 @@ module _ {W M L : Type 0} {builder : Builder W M L} where
 
   -- The end.
 
-  -- one item stands at the root
+  -- one member stands at the root
   abbrev pub one_root : ℕ → State builder → Result (State builder) Refusal
   one_root len s =
       if s.roots == 0 then Err (refusal empty 0 len)

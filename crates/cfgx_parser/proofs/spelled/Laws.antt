@@ -58,8 +58,8 @@ Called-not tree = record {
 
 module _ (text : List ℕ) where
   -- for a tree whose items stand at their places, and for a list
-  abbrev pub ItemWrites : List Item → Written → Written → Tree Question → Type 0
-  ItemWrites items w v tree = ArePlaced text items
+  abbrev pub MemberWrites : List Item → Written → Written → Tree Question → Type 0
+  MemberWrites items w v tree = ArePlaced text items
       → WritesNodes text w v (prefix tree)
       (if is_leaf tree then places (length w.nodes) tree else [])
       (if is_function tree then places (length w.nodes) tree else [])
@@ -85,7 +85,7 @@ module _ (text : List ℕ) where
 
   list_writes : (xs ys zs : List Item) (tree : Tree Question) (trees : Trees Question)
       (w v u : Written)
-      → ItemWrites xs w v tree → ListWrites zs v u trees
+      → MemberWrites xs w v tree → ListWrites zs v u trees
       → ListWrites (xs ++ (ys ++ zs)) w u (Trees.more tree trees)
   list_writes xs ys zs tree trees w v u writes more placed =
       let P = λ (item : Item). IsPlaced text item item.token in
@@ -97,7 +97,7 @@ module _ (text : List ℕ) where
 
   call_writes : (function : Function) (tree : Tree Question) (trees : Trees Question)
       → Called function tree trees
-      → Calls node_builder ItemWrites ListWrites function tree trees
+      → Calls node_builder MemberWrites ListWrites function tree trees
   call_writes function tree trees called head opening closing members w v writes placed =
       let P = λ (item : Item). IsPlaced text item item.token in
       let written = writes (all_of_first P members (closing ∷ []) placed.1.1) in
@@ -109,7 +109,7 @@ module _ (text : List ℕ) where
 
   pub node_laws : Laws node_builder
   node_laws = record {
-    ItemBuilds = ItemWrites;
+    MemberBuilds = MemberWrites;
     ListBuilds = ListWrites;
     key = λ x key leaf w is classed placed. leaf_writes w _ None key None leaf (record {
       key_holds = subst (IsPlaced text x) is placed.0;
@@ -129,6 +129,6 @@ module _ (text : List ℕ) where
   }
 
   pub laws_written : (items : List Item) (w v : Written) (tree : Tree Question)
-      → node_laws.ItemBuilds items w v tree → ItemWrites items w v tree
+      → node_laws.MemberBuilds items w v tree → MemberWrites items w v tree
   unfolding node_laws
   laws_written items w v tree writes = writes

@@ -28,7 +28,7 @@ abbrev pub TopHasRoom : List OpenFunction → Type 0
 TopHasRoom [] = Unit {0}
 TopHasRoom (top ∷ rest) = top.members + 1 < 2 ^ 64
 
--- one more item of the innermost list can be counted
+-- one more member of the innermost list can be counted
 pub record HasRoom (s : ParserState) : Type 0 where
   pub top : TopHasRoom s.stack
   pub root : s.roots + 1 < 2 ^ 64

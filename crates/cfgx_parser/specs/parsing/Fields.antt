@@ -73,7 +73,7 @@ abbrev pub opens_in : OpenList → List FuncAndSpan → List OpenFunction
 opens_in list [] = []
 opens_in list (top ∷ rest) = open_of top list ∷ opens_in top.around rest
 
--- how many items at the root have ended
+-- how many members at the root have ended
 abbrev pub roots_in : OpenList → List FuncAndSpan → ℕ
 roots_in list [] = list.members
 roots_in list (top ∷ rest) = roots_in top.around rest

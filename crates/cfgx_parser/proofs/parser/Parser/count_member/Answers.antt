@@ -3,7 +3,7 @@ use Rattle.std.proofs.Common.{◌+◌, refl, reverse, arith}
 use Rattle.cfgx_grammar.specs.parsing.Step.{one_more}
 use Rattle.cfgx_parser.specs.declared.parser.OpenList.{OpenList}
 use Rattle.cfgx_parser.proofs.Innermost.{opens-changed, roots-more, has_room-innermost}
-use Rattle.cfgx_parser.proofs.parser.Parser.count_item.Goals as goal
+use Rattle.cfgx_parser.proofs.parser.Parser.count_member.Goals as goal
 
 pub overflow_add-self : goal.overflow_add-self
 overflow_add-self g c =
