@@ -1,5 +1,5 @@
 //! The nodes in which a `Parsed` keeps its tree.
-ghost use Rattle.std.specs.Prelude.{◌≡◌, ◌<◌, ◌≤◌, length, OnOk};
+ghost use Rattle.std.specs.Prelude.{◌≡◌, ◌<◌, ◌≤◌, length, OnOk, IfOk};
 
 use crate::function::Func;
 use crate::memory::SmallAllocator;
@@ -95,6 +95,13 @@ pub(crate) struct Mark {
     pub(crate) leaves: usize,
 }
 
+/// How many bytes of a text there are for each node, so that room for the nodes is made at once.
+const BYTES_FOR_A_NODE: usize = 8;
+
+/// The most nodes for which room is made at once. It is 140 KiB: a block of that size grows where it
+/// stands, and is not copied.
+const MOST_RESERVED: usize = 2560;
+
 /// The nodes of a tree as they are written, one pass over the text.
 #[derive(Drop)]
 pub(crate) struct Writer<A: SmallAllocator> {
@@ -111,15 +118,16 @@ impl<A: SmallAllocator> Writer<A> {
     ghost use Rattle.cfgx_parser.specs.nodes.Node.{with_list_ended, with_function_ended};
     ghost use Rattle.cfgx_parser.specs.nodes.Writer.{written_of, Fits};
 
-    /// A writer that has written nothing.
-    pub(crate) fn new(alloc: A) -> Self
-        ensures { written_of result ≡ nothing }
+    /// A writer that has written nothing, for a text of so many bytes.
+    pub(crate) fn new(alloc: A, len: usize) -> Result<Self, AllocError>
+        ensures { IfOk result (λ writer. written_of writer ≡ nothing) }
     {
-        Writer {
-            nodes: SmallVec::new(alloc),
+        let room = (len / BYTES_FOR_A_NODE).min(MOST_RESERVED);
+        Ok(Writer {
+            nodes: SmallVec::with_capacity(alloc, room)?,
             leaves: SmallVec::new(alloc),
             asked: SmallVec::new(alloc),
-        }
+        })
     }
 
     /// Where a function would begin.

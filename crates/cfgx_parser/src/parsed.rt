@@ -98,7 +98,7 @@ pub fn parse<A: SmallAllocator>(alloc: A, original: &str) -> Result<Parsed<A>, F
 {
     let lexer = Lexer::new(alloc, original);
     let text = lexer.original();
-    let mut parser = Parser::new(alloc);
+    let mut parser = Parser::new(alloc, text.len())?;
     parser.read_all(alloc, lexer)?;
     let original = String::from_str(alloc, text)?;
     let (nodes, asked) = parser.into_parts();

@@ -232,17 +232,19 @@ impl<'a, A: SmallAllocator> Parser<'a, A> {
     ghost use Rattle.cfgx_parser.specs.parsing.Parser.{Reads, Finishes, ReadsAll};
     ghost use Rattle.cfgx_parser.specs.parsing.Bounded.{IsBounded, HasRoom};
 
-    /// A parser that has read nothing. It takes no memory.
-    pub(crate) fn new(alloc: A) -> Self
-        ensures { state_of result ≡ initial }
+    /// A parser that has read nothing of a text of so many bytes.
+    ///
+    /// The error is that `alloc` refused room for the nodes, which a text of 47 bytes has inline.
+    pub(crate) fn new(alloc: A, len: usize) -> Result<Self, AllocError>
+        ensures { IfOk result (λ parser. state_of parser ≡ initial) }
     {
-        Parser {
+        Ok(Parser {
             func_stack: SmallVec::new(alloc),
             list: OpenList::new(),
-            writer: Writer::new(alloc),
+            writer: Writer::new(alloc, len)?,
             pending: None,
             fault: None,
-        }
+        })
     }
 
     /// Notes a fault.

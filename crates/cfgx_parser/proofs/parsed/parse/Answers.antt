@@ -10,16 +10,17 @@ use Rattle.cfgx_parser.proofs.parsed.parse.Goals as goal
 
 -- the parser starts at the text's start
 begins : (g : Over) (c : After-read_all g) → Begins {A = g.row.A.Denot} (strip c.args.original.now)
-    c.new-lexer.result c.new-parser.result
+    c.new-lexer.result c.in_ok-parser.parser
 begins g c = record {
   one = c.new-lexer.ensures.one;
   lexer_is = c.new-lexer.ensures.starts;
-  state_is = c.new-parser.ensures;
+  state_is = c.in_ok-parser.ensures;
 }
 
 pub returns-in_err-read_all : goal.returns-in_err-read_all
 returns-in_err-read_all g c =
-    let p = err_from_is_err_and c.from_residual.result c.from_residual.ensures.1 in
+    let p = err_from_is_err_and c.from_residual-in_err-read_all.result
+    c.from_residual-in_err-read_all.ensures.1 in
     rw (p.1, p.2) (Answers-fails c.read_all.new.self c.in_err-read_all.field-0.0
     (begins g (goal.at.returns-in_err-read_all g c).After-read_all) c.in_err-read_all.ensures)
 
@@ -42,3 +43,7 @@ returns g c =
     let same = c.in_ok-original.ensures.ok ∙ c.original-text.ensures
     ∙ ap (λ l. l.text) begun.lexer_is in
     (same, found.0, found.1)
+
+pub returns-in_err-parser : goal.returns-in_err-parser
+returns-in_err-parser g c = Answers-memory (strip c.args.original.now) c.new-lexer.ensures.one _
+    c.from_residual.result c.from_residual.ensures.1
