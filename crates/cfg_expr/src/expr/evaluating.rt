@@ -41,12 +41,12 @@ use std::{mem, slice};
 /// A tree that was read, by its value.
 #[derive(Drop)]
 pub(crate) enum Member<T> {
+    /// It was joined, or there is no answer yet. It is first, so that slots of it are zeros
+    Joined,
     /// A leaf, which the function around it has not joined yet
     Leaf(T),
     /// A function, likewise
     Function(T),
-    /// It was joined, or there is no answer yet
-    Joined,
 }
 
 impl<T> Default for Member<T> {
