@@ -88,17 +88,6 @@ pub record Added {T : Type 0} (answer : T → Bool) (rows left : List T) (is_tru
   pub false_is : is_false ≡ bits (map not (map answer done))
 
 module _ {T : Type 0} {answer : T → Bool} {rows left : List T} {is_true is_false : ℕ} where
-  pub Added-next : (before : List T) (row : T) (t f : ℕ) (given : Bool) → left ≡ before ++ row ∷ []
-      → given ≡ answer row → t ≡ digit given + 2 * is_true → f ≡ digit (not given) + 2 * is_false
-      → Added answer rows left is_true is_false → Added answer rows before t f
-  Added-next before row t f given left_is answers true_is false_is added = record {
-    done = row ∷ added.done;
-    rows_are = added.rows_are ∙ ap (λ l. l ++ added.done) left_is
-        ∙ append_assoc before (row ∷ []) added.done;
-    true_is = true_is ∙ (λ i. digit (answers i) + 2 * added.true_is i);
-    false_is = false_is ∙ (λ i. digit (not (answers i)) + 2 * added.false_is i);
-  }
-
   -- a row that is left has a bit in both planes
   pub Added-fit : (before : List T) (row : T) → left ≡ before ++ row ∷ [] → length rows ≤ 64
       → Added answer rows left is_true is_false → (is_true < 2 ^ 63) × (is_false < 2 ^ 63)
