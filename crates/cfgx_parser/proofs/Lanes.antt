@@ -51,9 +51,6 @@ bits-apart (b ∷ bs) (suc i) = omega (
   bits-apart bs i,
 )
 
-pub AreApart-bits : (bs : List Bool) → AreApart (bits bs) (bits (map not bs))
-AreApart-bits bs = AreApart-from _ _ (bits-apart bs)
-
 -- the lanes are the answers, and unknown past them
 lane-bits : (bs : List Bool) (i : ℕ)
     → answer_of (bit_at (bits bs) i) (bit_at (bits (map not bs)) i) ≡ slice_get bs i
@@ -65,18 +62,11 @@ lane-bits (b ∷ bs) (suc i) =
     (λ j. answer_of (bit_at-next b (bits bs) i j) (bit_at-next (not b) (bits (map not bs)) i j))
     ∙ lane-bits bs i
 
-pub EachLane-bits : (bs : List Bool)
-    → EachLane (record { is_true = bits bs; is_false = bits (map not bs) }) (slice_get bs)
-EachLane-bits bs i below = lane-bits bs i
-
 -- so many answers need so many bits
 bits-lt : (bs : List Bool) → bits bs < 2 ^ length bs
 bits-lt [] = omega arith
 bits-lt (true ∷ bs) = omega (arith, bits-lt bs, pow-succ' 2 (length bs))
 bits-lt (false ∷ bs) = omega (arith, bits-lt bs, pow-succ' 2 (length bs))
-
-pub bits-fit : (bs : List Bool) → length bs ≤ 63 → bits bs < 2 ^ 63
-bits-fit bs few = omega (arith, bits-lt bs, pow_mono few)
 
 -- What two planes hold, while answers are added from the last row to the first: those of the rows
 -- that come after the ones that are left.
@@ -103,8 +93,8 @@ module _ {T : Type 0} {answer : T → Bool} {rows left : List T} {is_true is_fal
         length-map added.done answer,
       ) in
       let opposite : length (map not given) ≤ 63 = omega (arith, length-map given not, below) in (
-        subst (λ n. n < 2 ^ 63) (sym added.true_is) (bits-fit given below),
-        subst (λ n. n < 2 ^ 63) (sym added.false_is) (bits-fit (map not given) opposite),
+        omega (arith, added.true_is, bits-lt given, pow_mono below),
+        omega (arith, added.false_is, bits-lt (map not given), pow_mono opposite),
       )
 
   -- in the end they hold the answers of all rows
@@ -115,6 +105,6 @@ module _ {T : Type 0} {answer : T → Bool} {rows left : List T} {is_true is_fal
       let all : rows ≡ added.done = added.rows_are
       ∙ ap (λ l. l ++ added.done) (nil_from_length left none) in
       rw (added.true_is, added.false_is, all) (
-        AreApart-bits (map answer added.done),
-        EachLane-bits (map answer added.done),
+        AreApart-from _ _ (bits-apart (map answer added.done)),
+        λ i below. lane-bits (map answer added.done) i,
       )

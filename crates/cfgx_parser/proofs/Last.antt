@@ -35,17 +35,11 @@ module _ (last : Option Token) where
   ended-after : (s : ParserState) (pending : Option Pending)
       → ended_by (after_token last s) pending ≡ result_map (after_token last) (ended_by s pending)
   ended-after s None = refl
-  ended-after s (Some p) = mapped (classified p)
-    where
-      mapped : (class : Result ExprNode Refusal)
-          → result_map (leaf_ended (after_token last s)) class
-          ≡ result_map (after_token last) (result_map (leaf_ended s) class)
-      mapped class = grind arith
+  ended-after s (Some p) = grind arith
 
   function-after : (stack : List OpenFunction) (s : ParserState)
       → function_ended stack (after_token last s) ≡ after_token last (function_ended stack s)
-  function-after [] s = refl
-  function-after (top ∷ rest) s = refl
+  function-after stack s = grind arith
 
   closed-after : (s : ParserState) (item : Item) (stack : List OpenFunction)
       → closed_by (after_token last s) item stack
@@ -132,12 +126,7 @@ module _ {A : Type 0} (last : LastToken) (lexed : LexerToken) (result : Result (
       GivesAt-after {A = A} (Some token) result new _ _ gives (rw may
       (ap (result_map (with_last token)) (apply-after before (state_of {A = A} old)
       (item_of lexed) token)
-      ∙ again token before (apply (state_of {A = A} old) (item_of lexed) token)))
-    where
-      again : (token : Token) (before : Option Token) (answer : Answer)
-          → result_map (with_last token) (result_map (after_token before) answer)
-          ≡ result_map (after_token (Some token)) answer
-      again token before answer = grind arith
+      ∙ grind arith))
 
 module _ {A : Type 0} (last : LastToken) (len : ℕ) (result : Result (Unit {0}) Halt)
     (old new : Parser A) where
