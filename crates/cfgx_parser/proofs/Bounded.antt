@@ -19,8 +19,7 @@ use Rattle.cfgx_grammar.proofs.accepted.{Closes-stack, Steps-step}
 -- one more member, wherever it is counted
 counted-with_member : (stack : List OpenFunction) (roots : ℕ)
     → root_more stack roots + counted_in (over_top one_more stack) ≡ suc (roots + counted_in stack)
-counted-with_member [] roots = omega arith
-counted-with_member (top ∷ rest) roots = omega arith
+counted-with_member stack roots = grind arith
 
 AreMarked-more : (stack : List OpenFunction) (n m k l : ℕ) → n ≤ m → k ≤ l → AreMarked stack n k
     → AreMarked stack m l
@@ -70,10 +69,8 @@ IsHeld-closed : (t : ParserState) (stack : List OpenFunction) → t.stack ≡ st
     → IsHeld (function_ended stack t)
 IsHeld-closed t [] is h = h
 IsHeld-closed t (top ∷ rest) is h =
-    let marks : AreMarked (top ∷ rest) (length t.written.nodes) (length t.written.leaves) =
-    subst (λ l. AreMarked l (length t.written.nodes) (length t.written.leaves)) is h.marks in
-    let counts : t.roots + counted_in (top ∷ rest) ≤ length t.written.nodes =
-    subst (λ l. t.roots + counted_in l ≤ length t.written.nodes) is h.counts in
+    let marks = rw is at h.marks in
+    let counts = rw is at h.counts in
     let nodes = length-set t.written.nodes top.mark.node
     (node.Fn (counted top.function top.members) (length t.written.nodes - top.mark.node)) in
     let leaves = length-take top.mark.leaves t.written.leaves in
@@ -86,8 +83,7 @@ IsHeld-closed t (top ∷ rest) is h =
 
 counted-parens : (place : ℕ) (stack : List OpenFunction)
     → counted_in (over_top (with_parens place) stack) ≡ counted_in stack
-counted-parens place [] = refl
-counted-parens place (top ∷ rest) = refl
+counted-parens place stack = grind arith
 
 IsHeld-parens : (s : ParserState) (place : ℕ) → IsHeld s
     → IsHeld (record s { stack = over_top (with_parens place) s.stack })

@@ -46,18 +46,8 @@ module _ (last : Option Token) where
       ≡ result_map (after_token last) (closed_by s item stack)
   closed-after s item [] = refl
   closed-after s item (top ∷ rest) =
-      chosen (has_room top.function (member_count top s.pending)) _ (predicate_ended s)
-      (ended-after s s.pending)
-    where
-      chosen : (room : Bool) (refusal : Refusal) (ended : Answer)
-          → predicate_ended (after_token last s) ≡ result_map (after_token last) ended
-          → (if room then result_map (λ t. function_ended t.stack t)
-          (predicate_ended (after_token last s)) else Err refusal)
-          ≡ result_map (after_token last) (if room then result_map (λ t. function_ended t.stack t)
-          ended else Err refusal)
-      chosen false refusal ended is = refl
-      chosen true refusal (Err other) is = rw is refl
-      chosen true refusal (Ok t) is = rw is (ap Ok (function-after t.stack t))
+      let ended = ended-after s s.pending in
+      grind (arith, function-after, ended)
 
   pub apply-after : (s : ParserState) (item : Item) (token : Token)
       → apply (after_token last s) item token ≡ result_map (after_token last) (apply s item token)
@@ -73,34 +63,22 @@ module _ (last : Option Token) where
       → concluded_by len (after_token last s) stack
       ≡ result_map (after_token last) (concluded_by len s stack)
   concluded-after len s (top ∷ rest) = refl
-  concluded-after len s [] = ap (and_then (one_root len)) (ended-after s s.pending)
-      ∙ mapped (predicate_ended s)
-    where
-      mapped : (ended : Answer) → and_then (one_root len) (result_map (after_token last) ended)
-          ≡ result_map (after_token last) (and_then (one_root len) ended)
-      mapped (Ok t) = root-after len t
-      mapped (Err refusal) = refl
+  concluded-after len s [] =
+      let ended = ended-after s s.pending in
+      grind (arith, root-after, ended)
 
-module _ {A : Type 0} (last : Option Token) (result : Result (Unit {0}) Halt)
-    (new : Parser A) where
-  -- what a step gives of a state without its last token, it gives of the state with a token
-  pub GivesAt-after : (answer whole : Answer) → Gives {A = A} result new answer
-      → whole ≡ result_map (after_token last) answer → GivesAt {A = A} last result new whole
-  GivesAt-after answer whole gives is = given result gives
-    where
-      given : (result : Result (Unit {0}) Halt) → Gives {A = A} result new answer
-          → GivesAt {A = A} last result new whole
-      given (Ok done) gives = (
-        _,
-        is ∙ ap (result_map (after_token last)) gives.1,
-        record { is = ap (after_token last) gives.2.is; fits = gives.2.fits },
-      )
-      given (Err halt.Fault) gives = (
-        gives.0,
-        gives.1,
-        is ∙ ap (result_map (after_token last)) gives.2,
-      )
-      given (Err halt.Memory) gives = tt
+-- what a step gives of a state without its last token, it gives of the state with a token
+pub GivesAt-after : {A : Type 0} (last : Option Token) (result : Result (Unit {0}) Halt)
+    (new : Parser A) (answer whole : Answer) → Gives {A = A} result new answer
+    → whole ≡ result_map (after_token last) answer → GivesAt {A = A} last result new whole
+GivesAt-after last (Ok done) new answer whole gives is = (
+  _,
+  is ∙ ap (result_map (after_token last)) gives.1,
+  record { is = ap (after_token last) gives.2.is; fits = gives.2.fits },
+)
+GivesAt-after last (Err halt.Fault) new answer whole gives is =
+    (gives.0, gives.1, is ∙ ap (result_map (after_token last)) gives.2)
+GivesAt-after last (Err halt.Memory) new answer whole gives is = tt
 
 -- What may follow a token, the parser tells by what it keeps of it.
 

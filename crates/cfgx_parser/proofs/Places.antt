@@ -44,12 +44,7 @@ module _ {X : Type 0} (all : List (Node X)) where
 
   StandAt-both : (ps qs : List ℕ) (xs ys : List X) → StandAt ps xs → StandAt qs ys
       → StandAt (ps ++ qs) (xs ++ ys)
-  StandAt-both ps qs xs ys first rest = rw (
-    map-append (slice_get all) ps qs,
-    map-append (λ x. Some (Node.leaf x)) xs ys,
-    first,
-    rest,
-  )
+  StandAt-both ps qs xs ys first rest = simp (map-append, first, rest)
 
   -- the members that are functions, and those that are leaves
   abbrev MembersStand : ℕ → Trees X → Type 0
@@ -99,9 +94,7 @@ module _ {X : Type 0} (all : List (Node X)) where
   read-StandAt read of each (p ∷ ps) (x ∷ xs) stand =
       let first : slice_get all p ≡ Some (Node.leaf x) = cc in
       let rest : StandAt ps xs = cc in
-      let one = each p x first in
-      let others = read-StandAt read of each ps xs rest in
-      cc
+      cc (each p x first, read-StandAt read of each ps xs rest)
 
 module _ {X : Type 0} (tree : Tree X) where
   all-stand : StandAt (prefix tree) (places 0 tree) (asked tree)

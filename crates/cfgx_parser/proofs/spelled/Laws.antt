@@ -110,15 +110,11 @@ module _ (text : List ℕ) where
   node_laws = record {
     MemberBuilds = MemberWrites;
     ListBuilds = ListWrites;
-    key = λ x key leaf w is classed placed. leaf_writes w _ None key None leaf (record {
-      key_holds = subst (IsPlaced text x) is placed.0;
-      value_holds = tt;
-    }) classed;
+    key = λ x key leaf w is classed placed.
+        leaf_writes w _ None key None leaf (subst (IsPlaced text x) is placed.0, tt) classed;
     value = λ x y z key value leaf w x_is z_is classed placed.
-        leaf_writes w _ (Some _) key (Some value) leaf (record {
-          key_holds = subst (IsPlaced text x) x_is placed.0;
-          value_holds = subst (IsPlaced text z) z_is placed.1.1.0;
-        }) classed;
+        leaf_writes w _ (Some _) key (Some value) leaf
+        (subst (IsPlaced text x) x_is placed.0, subst (IsPlaced text z) z_is placed.1.1.0) classed;
     none = λ w placed. WritesNodes-none text w;
     more = list_writes;
     all = λ trees. call_writes Function.all (Tree.all trees) trees (Called-all trees);

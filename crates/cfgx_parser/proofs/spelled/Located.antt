@@ -21,14 +21,12 @@ use Rattle.std.specs.declared.ops.Range.{Range}
 abbrev pub ValueHolds : List ℕ → Option (Range ℕ) → Option (List ℕ) → Type 0
 ValueHolds text None None = Unit {0}
 ValueHolds text (Some span) (Some value) = Holds text span value
-ValueHolds text None (Some value) = ⊥
-ValueHolds text (Some span) None = ⊥
+ValueHolds text _ _ = ⊥
 
 -- a key and its value, where they stand
-pub record Stands (text : List ℕ) (key_span : Range ℕ) (value_span : Option (Range ℕ))
-    (key : List ℕ) (value : Option (List ℕ)) : Type 0 where
-  pub key_holds : Holds text key_span key
-  pub value_holds : ValueHolds text value_span value
+abbrev pub Stands : List ℕ → Range ℕ → Option (Range ℕ) → List ℕ → Option (List ℕ) → Type 0
+Stands text key_span value_span key value =
+    Holds text key_span key × ValueHolds text value_span value
 
 module _ (text : List ℕ) (key_span : Range ℕ) where
   -- the predicate of these places is the question, and can be cut out of the text
@@ -79,10 +77,9 @@ module _ (text : List ℕ) (key_span : Range ℕ) where
       (value : Option (List ℕ)) → Holds text key_span key → ValueHolds text span value
       → NamesClass span (plain key value)
   names_other None key None key_holds holds = (ap Question.flag key_holds.0, (key_holds.1, tt))
-  names_other (Some span) key None key_holds holds = absurd holds
-  names_other None key (Some value) key_holds holds = absurd holds
   names_other (Some span) key (Some value) key_holds holds =
       (rw (key_holds.0, holds.0) refl, (key_holds.1, holds.1))
+  names_other span key value key_holds holds = absurd holds
 
   in_case : (span : Option (Range ℕ)) (b : Bool) (x y : Class) → (b ≡ true → NamesClass span x)
       → NamesClass span y
@@ -128,27 +125,21 @@ module _ (text : List ℕ) (key_span : Range ℕ) where
   names_family key word holds is =
       (ap (λ name. Question.target (TargetQuestion.family name)) (holds.0 ∙ is), holds.1)
 
-  names_last : (span : Option (Range ℕ)) (key : List ℕ)
-      (value : Option (List ℕ)) → Stands text key_span span key value → (b : Bool)
-      → NamesClass span (if b then valued (target_class (drop 7 key))
-      (codes "= \"<target_cfg_value>\"") value else plain key value)
-  names_last span key value s true = names_valued span value _ _
-      (λ t v h. names_target (drop 7 key) t v h) s.value_holds
-  names_last span key value s false = names_other span key value s.key_holds s.value_holds
-
   pub NamesClass-class : (span : Option (Range ℕ)) (key : List ℕ)
       (value : Option (List ℕ)) → Stands text key_span span key value
       → NamesClass span (class key value)
   unfolding class
   NamesClass-class span key value s =
-      let holds = s.value_holds in
+      let holds = s.1 in
       let literal = λ (truth : Bool). names_bare span value (Leaf.literal truth) tt holds in
       named_by span key value _ key_lines _
-      (names_last span key value s (starts_with nat_eq key (codes "target_"))) (λ named. named)
+      (in_case span (starts_with nat_eq key (codes "target_")) _ _
+      (λ _. names_valued span value _ _ (λ t v h. names_target (drop 7 key) t v h) holds)
+      (names_other span key value s.0 holds)) (λ named. named)
       (λ _. literal true)
       (λ _. literal false)
-      (λ is. names_bare span value _ (names_family key _ s.key_holds is) holds)
-      (λ is. names_bare span value _ (names_family key _ s.key_holds is) holds)
+      (λ is. names_bare span value _ (names_family key _ s.0 is) holds)
+      (λ is. names_bare span value _ (names_family key _ s.0 is) holds)
       (λ _. names_bare span value _ (refl, tt) holds)
       (λ _. names_bare span value _ (refl, tt) holds)
       (λ _. names_bare span value _ (refl, tt) holds)
