@@ -36,12 +36,11 @@ shown_same text (first ∷ nodes) (suc place) x is = shown_same text nodes place
 filtered : {X Y : Type 0} (h : X → Option Y) (xs : List X)
     (ys : List Y) → map h xs ≡ map (λ (y : Y). Some y) ys → filter_map h xs ≡ ys
 filtered h [] [] e = refl
-filtered h [] (y ∷ ys) e = absurd (cc)
-filtered h (x ∷ xs) [] e = absurd (cc)
 filtered h (x ∷ xs) (y ∷ ys) e =
     let first : h x ≡ Some y = cc in
     let rest : map h xs ≡ map (λ (y : _). Some y) ys = cc in
     rw first (ap (λ l. y ∷ l) (filtered h xs ys rest))
+filtered h xs ys e = absurd (cc)
 
 -- where a predicate is found
 
@@ -49,14 +48,12 @@ NamesPredicate-found : (text : List ℕ) (nodes : List ExprNode) (place : ℕ)
     (question : Question) → AllByRecursion (NodeHasCut text) nodes
     → question_in text nodes place ≡ Some question
     → NamesPredicate text nodes place
-NamesPredicate-found text [] place question cuts e = absurd (cc)
-NamesPredicate-found text (node.Fn func len ∷ nodes) zero question cuts e = absurd (cc)
 NamesPredicate-found text (node.Predicate predicate ∷ nodes) zero question cuts e =
     record { predicate = predicate; stands = refl; cut = cuts.0 }
-NamesPredicate-found text (node.Literal truth ∷ nodes) zero question cuts e = absurd (cc)
 NamesPredicate-found text (x ∷ nodes) (suc place) question cuts e =
     let n = NamesPredicate-found text nodes place question cuts.1 e in
     record { predicate = n.predicate; stands = n.stands; cut = n.cut }
+NamesPredicate-found text nodes place question cuts e = absurd (cc)
 
 NamePredicates-asks : (text : List ℕ) (nodes : List ExprNode) (asks : List ℕ)
     (questions : List Question) → AllByRecursion (NodeHasCut text) nodes

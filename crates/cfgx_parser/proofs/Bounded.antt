@@ -24,11 +24,8 @@ counted-with_member stack roots = grind arith
 AreMarked-more : (stack : List OpenFunction) (n m k l : ℕ) → n ≤ m → k ≤ l → AreMarked stack n k
     → AreMarked stack m l
 AreMarked-more [] n m k l p q marks = tt
-AreMarked-more (top ∷ rest) n m k l p q marks = (
-  omega (arith, marks.0),
-  omega (arith, marks.1),
-  marks.2,
-)
+AreMarked-more (top ∷ rest) n m k l p q marks =
+    (omega (arith, marks.0), omega (arith, marks.1), marks.2)
 
 AreMarked-top : (stack : List OpenFunction) (n k : ℕ) (f : OpenFunction → OpenFunction)
     → ((top : OpenFunction) → (f top).mark ≡ top.mark) → AreMarked stack n k
@@ -61,8 +58,7 @@ IsHeld-opened s function item h =
     let nodes = length_push s.written.nodes (node.Fn (counted function 0) 0) in
     record {
       counts = omega (arith, nodes, h.counts);
-      marks =
-          (omega (arith, nodes), omega arith, h.marks);
+      marks = (omega (arith, nodes), omega arith, h.marks);
     }
 
 IsHeld-closed : (t : ParserState) (stack : List OpenFunction) → t.stack ≡ stack → IsHeld t

@@ -25,12 +25,8 @@ use Rattle.cfgx_parser.proofs.spelled.Laws.{node_laws, laws_written}
 -- the text of a key or of a value stands at its place
 placed_at : (text : List ℕ) (token : Token) (start end : ℕ)
     → Spells (slice_range text start end) token → end ≤ length text
-    → CanBeCut text token start end → IsPlaced text (record {
-      token = token;
-      start = start;
-      end =
-          end;
-    }) token
+    → CanBeCut text token start end
+    → IsPlaced text (record { token = token; start = start; end = end }) token
 placed_at text (Token.key word) start end spelled inside cut = (spelled.0, cut.spelling)
 placed_at text (Token.value word) start end spelled inside cut =
     (value_inside text word start end inside spelled.0, cut.value)
@@ -94,9 +90,6 @@ KeepsOneTree-seen {nodes} {asks} is = subst (λ (bytes : List ℕ). KeepsOneTree
 pub few-nodes : {text : List ℕ} {nodes : List ExprNode} {asks : List ℕ}
     → KeepsOneTree text nodes asks
     → length nodes ≤ length text
-few-nodes {text} {nodes} keeps = omega (
-  arith,
-  nodes-bytes text keeps.one.tree keeps.one.has_tree,
-  length-map nodes (node_at text),
-  ap length keeps.keeps.nodes_are,
-)
+few-nodes {text} {nodes} keeps =
+    let few = nodes-bytes text keeps.one.tree keeps.one.has_tree in
+    omega (arith, few, length-map nodes (node_at text), ap length keeps.keeps.nodes_are)

@@ -38,18 +38,12 @@ answer-digit false = refl
 -- at most one of both planes has a bit
 bits-apart : (bs : List Bool) (i : ℕ) → bit_at (bits bs) i + bit_at (bits (map not bs)) i ≤ 1
 bits-apart [] i = omega (arith, bit_at-zero i)
-bits-apart (b ∷ bs) zero = omega (
-  arith,
-  bit_at-first b (bits bs),
-  bit_at-first (not b) (bits (map not bs)),
-  digit-opposite b,
-)
-bits-apart (b ∷ bs) (suc i) = omega (
-  arith,
-  bit_at-next b (bits bs) i,
-  bit_at-next (not b) (bits (map not bs)) i,
-  bits-apart bs i,
-)
+bits-apart (b ∷ bs) zero =
+    let other = bit_at-first (not b) (bits (map not bs)) in
+    omega (arith, bit_at-first b (bits bs), other, digit-opposite b)
+bits-apart (b ∷ bs) (suc i) =
+    let other = bit_at-next (not b) (bits (map not bs)) i in
+    omega (arith, bit_at-next b (bits bs) i, other, bits-apart bs i)
 
 -- the lanes are the answers, and unknown past them
 lane-bits : (bs : List Bool) (i : ℕ)
@@ -83,15 +77,9 @@ module _ {T : Type 0} {answer : T → Bool} {rows left : List T} {is_true is_fal
       → Added answer rows left is_true is_false → (is_true < 2 ^ 63) × (is_false < 2 ^ 63)
   Added-fit before row left_is few added =
       let given = map answer added.done in
-      let below : length given ≤ 63 = omega (
-        arith,
-        few,
-        ap length added.rows_are,
-        length-append left added.done,
-        ap length left_is,
-        length-append before (row ∷ []),
-        length-map added.done answer,
-      ) in
+      let all = ap length added.rows_are ∙ length-append left added.done in
+      let last = ap length left_is ∙ length-append before (row ∷ []) in
+      let below : length given ≤ 63 = omega (arith, all, last, length-map added.done answer) in
       let opposite : length (map not given) ≤ 63 = omega (arith, length-map given not, below) in (
         omega (arith, added.true_is, bits-lt given, pow_mono below),
         omega (arith, added.false_is, bits-lt (map not given), pow_mono opposite),

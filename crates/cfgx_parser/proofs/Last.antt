@@ -55,17 +55,13 @@ module _ (last : Option Token) where
   apply-after s item Token.comma = ended-after s s.pending
   apply-after s item token = grind arith
 
-  root-after : (len : ℕ) (s : ParserState)
-      → one_root len (after_token last s) ≡ result_map (after_token last) (one_root len s)
-  root-after len s = grind (arith, nat_tests)
-
   pub concluded-after : (len : ℕ) (s : ParserState) (stack : List OpenFunction)
       → concluded_by len (after_token last s) stack
       ≡ result_map (after_token last) (concluded_by len s stack)
   concluded-after len s (top ∷ rest) = refl
   concluded-after len s [] =
       let ended = ended-after s s.pending in
-      grind (arith, root-after, ended)
+      grind (arith, nat_tests, ended)
 
 -- what a step gives of a state without its last token, it gives of the state with a token
 pub GivesAt-after : {A : Type 0} (last : Option Token) (result : Result (Unit {0}) Halt)
@@ -113,8 +109,7 @@ module _ {A : Type 0} (last : LastToken) (len : ℕ) (result : Result (Unit {0})
       → Gives {A = A} result new (concluded (state_of {A = A} old) len)
       → Finishes {A = A} last len old new result
   Finishes-ended lacks gives before is =
+      let none : lacks_value before ≡ false =
+      sym (lacks_value-like before) ∙ ap (λ l. lacks_value (token_like l)) is ∙ lacks in
       GivesAt-after {A = A} before result new _ _ gives (rw none
       (concluded-after before len (state_of {A = A} old) (state_of {A = A} old).stack))
-    where
-      none : lacks_value before ≡ false
-      none = sym (lacks_value-like before) ∙ ap (λ l. lacks_value (token_like l)) is ∙ lacks

@@ -89,21 +89,17 @@ module _ {X : Type 0} (all : List (Node X)) where
       → ((place : ℕ) (x : X) → slice_get all place ≡ Some (Node.leaf x) → read place ≡ of x)
       → (ps : List ℕ) (xs : List X) → StandAt ps xs → map read ps ≡ map of xs
   read-StandAt read of each [] [] stand = refl
-  read-StandAt read of each [] (x ∷ xs) stand = absurd (cc)
-  read-StandAt read of each (p ∷ ps) [] stand = absurd (cc)
   read-StandAt read of each (p ∷ ps) (x ∷ xs) stand =
       let first : slice_get all p ≡ Some (Node.leaf x) = cc in
       let rest : StandAt ps xs = cc in
       cc (each p x first, read-StandAt read of each ps xs rest)
+  read-StandAt read of each ps xs stand = absurd (cc)
 
 module _ {X : Type 0} (tree : Tree X) where
   all-stand : StandAt (prefix tree) (places 0 tree) (asked tree)
-  all-stand = leaves-stand (prefix tree) tree 0 (record {
-    front = [];
-    back = [];
-    is = sym (append-nil (prefix tree));
-    at = refl;
-  })
+  all-stand =
+      leaves-stand (prefix tree) tree 0
+      (record { front = []; back = []; is = sym (append-nil (prefix tree)); at = refl })
 
   pub read-places : {Y : Type 0} (read : ℕ → Y) (of : X → Y)
       → ((place : ℕ) (x : X) → slice_get (prefix tree) place ≡ Some (Node.leaf x)

@@ -72,12 +72,9 @@ pub WritesNodes-function : (text : List ℕ) (w v : Written) (first last : Func)
     → WritesNodes text w (with_function_ended (mark_of w) last v) (headed last shown) []
     (inner ++ own)
 WritesNodes-function text w v first last shown own inner a =
+    let many = length-nodes text (with_function first w) v shown own inner a in
     let long : length v.nodes - length w.nodes ≡ length shown + 1 =
-    omega (
-      arith,
-      length-nodes text (with_function first w) v shown own inner a,
-      length_push w.nodes (node.Fn first 0),
-    ) in
+    omega (arith, many, length_push w.nodes (node.Fn first 0)) in
     let nodes : v.nodes ≡ w.nodes ++ node.Fn first 0 ∷ a.added = a.nodes_are
     ∙ append_assoc w.nodes (node.Fn first 0 ∷ []) a.added in
     let closed : set v.nodes (length w.nodes) (node.Fn last (length v.nodes - length w.nodes)) ≡
