@@ -1,24 +1,20 @@
 -- What a token and the end of a text do depends on no token in front of them, and keeps that one.
-use Rattle.std.proofs.Common.{◌≡◌, ℕ, Bool, true, false, List, [], ◌∷◌, Option, Some, None}
-use Rattle.std.proofs.Common.{Result, Ok, Err, sym, refl, ap, ◌∙◌, arith, if◌then◌else◌}
+use Rattle.std.proofs.Common.{◌≡◌, ℕ, true, false, List, [], ◌∷◌, Option, Some, None, Result, Ok}
+use Rattle.std.proofs.Common.{Err, sym, refl, ap, ◌∙◌, arith}
 use Rattle.std.proofs.lemmas.Bool.Decides.{nat_tests}
 use Rattle.cfgx_syntax.specs.Token.{Token}
 use Rattle.cfgx_syntax.specs.Items.{Item}
 use Rattle.cfgx_syntax.specs.Error.{Refusal}
 use Rattle.cfgx_syntax.specs.Lexer.{token_of, item_of}
 use Rattle.cfgx_syntax.specs.declared.lexer.LexerToken.{LexerToken}
-use Rattle.cfgx_grammar.specs.FirstFault.{refusal, lacks_value}
+use Rattle.cfgx_grammar.specs.FirstFault.{lacks_value}
 use Rattle.cfgx_grammar.specs.Neighbours.{next}
 use Rattle.cfgx_grammar.specs.parsing.State.{Pending}
-use Rattle.cfgx_grammar.specs.parsing.Step.{and_then, result_map, has_room, member_count}
-use Rattle.cfgx_grammar.specs.parsing.Step.{leaf_ended, predicate_ended, ended_by}
-use Rattle.cfgx_grammar.specs.parsing.Step.{function_ended, closed_by, apply}
-use Rattle.cfgx_grammar.specs.parsing.Step.{one_root, concluded_by, with_last}
+use Rattle.cfgx_grammar.specs.parsing.Step.{result_map, ended_by, function_ended, closed_by, apply}
+use Rattle.cfgx_grammar.specs.parsing.Step.{concluded_by, with_last}
 use Rattle.cfgx_parser.specs.parsing.Fields.{last_of, token_like}
-use Rattle.cfgx_parser.specs.parsing.Parser.{state_of, Gives, GivesAt, Reads}
-use Rattle.cfgx_parser.specs.parsing.Parser.{Finishes, concluded}
-use Rattle.cfgx_parser.specs.parsing.State.{OpenFunction, ParserState, classified}
-use Rattle.cfgx_parser.specs.declared.nodes.ExprNode.{ExprNode}
+use Rattle.cfgx_parser.specs.parsing.Parser.{state_of, Gives, GivesAt, Reads, Finishes, concluded}
+use Rattle.cfgx_parser.specs.parsing.State.{OpenFunction, ParserState}
 use Rattle.cfgx_parser.specs.declared.parser.Halt.{Halt}
 use Rattle.cfgx_parser.specs.declared.parser.Halt.TheVariants as halt
 use Rattle.cfgx_parser.specs.declared.parser.LastToken.{LastToken}

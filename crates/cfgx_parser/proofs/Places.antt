@@ -1,11 +1,10 @@
 -- What stands at the places of a tree's predicates.
-use Rattle.std.proofs.Common.{◌≡◌, ℕ, ◌+◌, List, [], ◌∷◌, ◌++◌, length, map, Some}
-use Rattle.std.proofs.Common.{sym, refl, ap, ◌∙◌, arith, append_assoc, length-append}
+use Rattle.std.proofs.Common.{◌≡◌, ℕ, ◌+◌, List, [], ◌∷◌, ◌++◌, length, map, Some, sym, refl, ap}
+use Rattle.std.proofs.Common.{◌∙◌, arith, append_assoc, length-append}
 use Rattle.std.specs.List.{slice_get}
 use Rattle.std.proofs.lemmas.List.{append-nil, length-map, map-append}
 use Rattle.cfgx_grammar.specs.Tree.{Tree, Trees, is_function, is_leaf, asked, asked_by}
-use Rattle.cfgx_parser.specs.nodes.Prefix.{Node, prefix, prefix_each}
-use Rattle.cfgx_parser.specs.nodes.Prefix.{places, places_by}
+use Rattle.cfgx_parser.specs.nodes.Prefix.{Node, prefix, prefix_each, places, places_by}
 
 -- a part of a list, which begins at a place
 record Lies {X : Type 0} (all : List X) (place : ℕ) (part : List X) : Type 0 where

@@ -1,7 +1,7 @@
 -- What the rest of a text answers, the whole answers: one token after another, as the lexer gives
 -- them.
-use Rattle.std.proofs.Common.{◌≡◌, ℕ, List, length, drop, Option, Some, Result, Ok, Err, sym}
-use Rattle.std.proofs.Common.{refl, ap, ◌∙◌, subst}
+use Rattle.std.proofs.Common.{◌≡◌, ℕ, List, length, drop, Option, Some, Result, Ok, Err, sym, refl}
+use Rattle.std.proofs.Common.{ap, ◌∙◌, subst}
 use Rattle.cfgx_syntax.specs.Items.{Item, Ending, ItemsFrom, IsBlank, Stands, EndsAs, lexical}
 use Rattle.cfgx_syntax.specs.Error.{Refusal, FailsWith, fault_in}
 use Rattle.cfgx_syntax.specs.LexerState.{LexerState}
@@ -10,16 +10,15 @@ use Rattle.cfgx_syntax.specs.declared.error.Failure.{Failure}
 use Rattle.cfgx_syntax.specs.declared.error.Failure.TheVariants as failure
 use Rattle.cfgx_syntax.specs.declared.lexer.LexerToken.{LexerToken}
 use Rattle.cfgx_syntax.specs.Token as spelled
-use Rattle.cfgx_grammar.proofs.Reading.{Continues, Continues-step}
-use Rattle.cfgx_grammar.proofs.Reading.{Continues-refused, Continues-ended}
+use Rattle.cfgx_grammar.proofs.Reading.{Continues, Continues-step, Continues-refused}
+use Rattle.cfgx_grammar.proofs.Reading.{Continues-ended}
 use Rattle.cfgx_parser.specs.parsing.State.{ParserState}
 use Rattle.cfgx_grammar.specs.parsing.Step.{step, conclude, ended_as, answer_from}
 use Rattle.cfgx_parser.specs.parsing.Bounded.{IsHeld, IsBounded}
-use Rattle.cfgx_parser.specs.parsing.Parser.{state_at, state_of, HaltsAs, FailsAs, Reaches}
-use Rattle.cfgx_parser.specs.parsing.Parser.{GivesAt}
+use Rattle.cfgx_parser.specs.parsing.Parser.{state_at, state_of, HaltsAs, FailsAs, Reaches, GivesAt}
+use Rattle.cfgx_parser.specs.parsing.Parser.{ReadsAll, Says}
 use Rattle.cfgx_parser.specs.parsing.Fields.{last_of}
 use Rattle.cfgx_parser.specs.declared.parser.LastToken.{LastToken}
-use Rattle.cfgx_parser.specs.parsing.Parser.{ReadsAll, Says}
 use Rattle.cfgx_parser.specs.declared.parser.Halt.{Halt}
 use Rattle.cfgx_parser.specs.declared.parser.Halt.TheVariants as halt
 use Rattle.cfgx_parser.specs.declared.parser.Parser.{Parser}

@@ -1,13 +1,10 @@
 -- Trees of one shape have the same functions and literals as nodes, and their predicates at the
 -- same places.
-use Rattle.std.proofs.Common.{◌≡◌, ℕ, suc, ◌+◌, length, map, refl, ap}
-use Rattle.std.proofs.Common.{length-append}
+use Rattle.std.proofs.Common.{◌≡◌, ℕ, suc, ◌+◌, length, map, refl, ap, length-append}
 use Rattle.std.proofs.lemmas.List.{map-append}
 use Rattle.cfgx_grammar.specs.Tree.{Tree, Trees, is_function, is_leaf, count}
-use Rattle.cfgx_grammar.proofs.Alike.{Alike, AlikeEach}
-use Rattle.cfgx_grammar.proofs.Alike.{same_functions, same_leaves}
-use Rattle.cfgx_parser.specs.nodes.Prefix.{prefix, prefix_each}
-use Rattle.cfgx_parser.specs.nodes.Prefix.{places, places_by}
+use Rattle.cfgx_grammar.proofs.Alike.{Alike, AlikeEach, same_functions, same_leaves}
+use Rattle.cfgx_parser.specs.nodes.Prefix.{prefix, prefix_each, places, places_by}
 use Rattle.cfgx_parser.specs.nodes.Shape.{shape_of}
 
 module _ {X Y : Type 0} where

@@ -4,7 +4,7 @@ use Rattle.std.proofs.Common.{Some, None, refl, ap, ◌∙◌}
 use Rattle.std.specs.Prelude.{codes, if◌then◌else◌}
 use Rattle.std.specs.List.{starts_with}
 use Rattle.std.proofs.lemmas.Slice.Eq.{bytes_eq-Decides}
-use Rattle.cfgx_syntax.specs.Error.{Cause, invalid_integer, invalid_has_atomic}
+use Rattle.cfgx_syntax.specs.Error.{Cause}
 use Rattle.std.specs.Str.{bytes_eq}
 use Rattle.cfgx_targets.specs.Endian.{endian_named}
 use Rattle.cfgx_targets.specs.HasAtomic.{atomic_named}
