@@ -1,6 +1,6 @@
 -- The predicates at a tree's places are what the tree asks, in this order.
 use Rattle.std.proofs.Common.{◌≡◌, ℕ, zero, suc, List, [], ◌∷◌}
-use Rattle.std.proofs.Common.{length, map, Option, Some, None, option_map, refl, ap, ◌∙◌}
+use Rattle.std.proofs.Common.{length, map, Option, Some, None, option_map, refl, ap, ◌∙◌, arith}
 use Rattle.std.specs.Prelude.{option_and_then}
 use Rattle.std.specs.List.{AllByRecursion, slice_get, filter_map}
 use Rattle.cfgx_grammar.specs.Question.{Question}
@@ -12,7 +12,7 @@ use Rattle.cfgx_parser.specs.nodes.Keeps.{KeepsTree, predicate_of, predicate_at,
 use Rattle.cfgx_parser.specs.nodes.Keeps.{NamesPredicate, NamePredicates}
 use Rattle.cfgx_parser.specs.declared.nodes.ExprNode.{ExprNode}
 use Rattle.cfgx_parser.specs.declared.nodes.ExprNode.TheVariants as node
-use Rattle.cfgx_parser.proofs.Places.{length-places, read-places}
+use Rattle.cfgx_parser.proofs.Places.{read-places}
 
 -- the question of a node that is a predicate
 abbrev question_of_node : Node Question → Option Question
@@ -28,23 +28,19 @@ shown_same : (text : List ℕ) (nodes : List ExprNode) (place : ℕ) (x : Node Q
     → slice_get (map (node_at text) nodes) place ≡ Some x
     → question_in text nodes place ≡ question_of_node x
 shown_same text [] place x is = absurd (cc)
-shown_same text (node.Fn func len ∷ nodes) zero x is =
-    let same : Node.function func len ≡ x = cc in ap question_of_node same
-shown_same text (node.Predicate predicate ∷ nodes) zero x is =
-    let same : Node.leaf (question_at text predicate) ≡ x = cc in ap question_of_node same
-shown_same text (node.Literal truth ∷ nodes) zero x is =
-    let same : Node.literal truth ≡ x = cc in ap question_of_node same
+shown_same text (node.Fn func len ∷ nodes) zero x is = grind arith
+shown_same text (node.Predicate predicate ∷ nodes) zero x is = grind arith
+shown_same text (node.Literal truth ∷ nodes) zero x is = grind arith
 shown_same text (first ∷ nodes) (suc place) x is = shown_same text nodes place x is
 
 filtered : {X Y : Type 0} (h : X → Option Y) (xs : List X)
     (ys : List Y) → map h xs ≡ map (λ (y : Y). Some y) ys → filter_map h xs ≡ ys
 filtered h [] [] e = refl
-filtered h [] (y ∷ ys) e = absurd (cc)
-filtered h (x ∷ xs) [] e = absurd (cc)
 filtered h (x ∷ xs) (y ∷ ys) e =
     let first : h x ≡ Some y = cc in
     let rest : map h xs ≡ map (λ (y : _). Some y) ys = cc in
     rw first (ap (λ l. y ∷ l) (filtered h xs ys rest))
+filtered h xs ys e = absurd (cc)
 
 -- where a predicate is found
 
@@ -52,14 +48,12 @@ NamesPredicate-found : (text : List ℕ) (nodes : List ExprNode) (place : ℕ)
     (question : Question) → AllByRecursion (NodeHasCut text) nodes
     → question_in text nodes place ≡ Some question
     → NamesPredicate text nodes place
-NamesPredicate-found text [] place question cuts e = absurd (cc)
-NamesPredicate-found text (node.Fn func len ∷ nodes) zero question cuts e = absurd (cc)
 NamesPredicate-found text (node.Predicate predicate ∷ nodes) zero question cuts e =
     record { predicate = predicate; stands = refl; cut = cuts.0 }
-NamesPredicate-found text (node.Literal truth ∷ nodes) zero question cuts e = absurd (cc)
 NamesPredicate-found text (x ∷ nodes) (suc place) question cuts e =
     let n = NamesPredicate-found text nodes place question cuts.1 e in
     record { predicate = n.predicate; stands = n.stands; cut = n.cut }
+NamesPredicate-found text nodes place question cuts e = absurd (cc)
 
 NamePredicates-asks : (text : List ℕ) (nodes : List ExprNode) (asks : List ℕ)
     (questions : List Question) → AllByRecursion (NodeHasCut text) nodes
@@ -96,7 +90,3 @@ module _ {text : List ℕ} {nodes : List ExprNode} {asks : List ℕ} {tree : Tre
 
   pub NamePredicates-kept : NamePredicates text nodes asks
   NamePredicates-kept = NamePredicates-asks text nodes asks (asked tree) k.cuts asks_kept
-
-  pub length-asked_kept : length asks ≡ length (asked tree)
-  length-asked_kept =
-      ap length k.asked_are ∙ length-places tree

@@ -19,17 +19,13 @@ use Rattle.cfgx_grammar.proofs.accepted.{Closes-stack, Steps-step}
 -- one more member, wherever it is counted
 counted-with_member : (stack : List OpenFunction) (roots : ℕ)
     → root_more stack roots + counted_in (over_top one_more stack) ≡ suc (roots + counted_in stack)
-counted-with_member [] roots = omega arith
-counted-with_member (top ∷ rest) roots = omega arith
+counted-with_member stack roots = grind arith
 
 AreMarked-more : (stack : List OpenFunction) (n m k l : ℕ) → n ≤ m → k ≤ l → AreMarked stack n k
     → AreMarked stack m l
 AreMarked-more [] n m k l p q marks = tt
-AreMarked-more (top ∷ rest) n m k l p q marks = (
-  omega (arith, marks.0),
-  omega (arith, marks.1),
-  marks.2,
-)
+AreMarked-more (top ∷ rest) n m k l p q marks =
+    (omega (arith, marks.0), omega (arith, marks.1), marks.2)
 
 AreMarked-top : (stack : List OpenFunction) (n k : ℕ) (f : OpenFunction → OpenFunction)
     → ((top : OpenFunction) → (f top).mark ≡ top.mark) → AreMarked stack n k
@@ -62,18 +58,15 @@ IsHeld-opened s function item h =
     let nodes = length_push s.written.nodes (node.Fn (counted function 0) 0) in
     record {
       counts = omega (arith, nodes, h.counts);
-      marks =
-          (omega (arith, nodes), omega arith, h.marks);
+      marks = (omega (arith, nodes), omega arith, h.marks);
     }
 
 IsHeld-closed : (t : ParserState) (stack : List OpenFunction) → t.stack ≡ stack → IsHeld t
     → IsHeld (function_ended stack t)
 IsHeld-closed t [] is h = h
 IsHeld-closed t (top ∷ rest) is h =
-    let marks : AreMarked (top ∷ rest) (length t.written.nodes) (length t.written.leaves) =
-    subst (λ l. AreMarked l (length t.written.nodes) (length t.written.leaves)) is h.marks in
-    let counts : t.roots + counted_in (top ∷ rest) ≤ length t.written.nodes =
-    subst (λ l. t.roots + counted_in l ≤ length t.written.nodes) is h.counts in
+    let marks = rw is at h.marks in
+    let counts = rw is at h.counts in
     let nodes = length-set t.written.nodes top.mark.node
     (node.Fn (counted top.function top.members) (length t.written.nodes - top.mark.node)) in
     let leaves = length-take top.mark.leaves t.written.leaves in
@@ -86,8 +79,7 @@ IsHeld-closed t (top ∷ rest) is h =
 
 counted-parens : (place : ℕ) (stack : List OpenFunction)
     → counted_in (over_top (with_parens place) stack) ≡ counted_in stack
-counted-parens place [] = refl
-counted-parens place (top ∷ rest) = refl
+counted-parens place stack = grind arith
 
 IsHeld-parens : (s : ParserState) (place : ℕ) → IsHeld s
     → IsHeld (record s { stack = over_top (with_parens place) s.stack })

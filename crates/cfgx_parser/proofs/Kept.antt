@@ -1,10 +1,9 @@
 -- What is kept of a text that is accepted: the nodes of its tree.
-use Rattle.std.proofs.Common.{◌≡◌, ℕ, List, [], ◌∷◌, ◌++◌, map, length, Ok, sym, refl, ap}
-use Rattle.std.proofs.Common.{◌∙◌, subst, arith}
-use Rattle.std.proofs.lemmas.List.{length-map}
+use Rattle.std.proofs.Common.{◌≡◌, ℕ, List, [], ◌∷◌, ◌++◌, map, length, Ok, sym, refl, ap, ◌∙◌}
+use Rattle.std.proofs.Common.{subst, arith}
+use Rattle.std.proofs.lemmas.List.{length-map, append-nil}
 use Rattle.std.specs.Prelude.{if◌then◌else◌, slice_range, ◌≤◌}
 use Rattle.std.specs.List.{AllByRecursion}
-use Rattle.std.proofs.lemmas.List.{append-nil}
 use Rattle.cfgx_syntax.specs.Cut.{CanBeCut}
 use Rattle.cfgx_syntax.specs.Items.{Item, ItemsFrom, HasOneTokenList}
 use Rattle.cfgx_syntax.specs.Token.{Token, Spells}
@@ -25,12 +24,8 @@ use Rattle.cfgx_parser.proofs.spelled.Laws.{node_laws, laws_written}
 -- the text of a key or of a value stands at its place
 placed_at : (text : List ℕ) (token : Token) (start end : ℕ)
     → Spells (slice_range text start end) token → end ≤ length text
-    → CanBeCut text token start end → IsPlaced text (record {
-      token = token;
-      start = start;
-      end =
-          end;
-    }) token
+    → CanBeCut text token start end
+    → IsPlaced text (record { token = token; start = start; end = end }) token
 placed_at text (Token.key word) start end spelled inside cut = (spelled.0, cut.spelling)
 placed_at text (Token.value word) start end spelled inside cut =
     (value_inside text word start end inside spelled.0, cut.value)
@@ -94,9 +89,6 @@ KeepsOneTree-seen {nodes} {asks} is = subst (λ (bytes : List ℕ). KeepsOneTree
 pub few-nodes : {text : List ℕ} {nodes : List ExprNode} {asks : List ℕ}
     → KeepsOneTree text nodes asks
     → length nodes ≤ length text
-few-nodes {text} {nodes} keeps = omega (
-  arith,
-  nodes-bytes text keeps.one.tree keeps.one.has_tree,
-  length-map nodes (node_at text),
-  ap length keeps.keeps.nodes_are,
-)
+few-nodes {text} {nodes} keeps =
+    let few = nodes-bytes text keeps.one.tree keeps.one.has_tree in
+    omega (arith, few, length-map nodes (node_at text), ap length keeps.keeps.nodes_are)

@@ -1,11 +1,10 @@
 -- Answers one after another as the bits of two planes, the first one lowest.
 use Rattle.std.proofs.Common.{◌≡◌, ◌∙◌, ◌+◌, ◌*◌, ◌<◌, ◌≤◌, ◌^◌, ℕ, zero, suc, Bool, true, false}
-use Rattle.std.proofs.Common.{not, List, [], ◌∷◌, ◌++◌, length, map, refl, ap, sym, arith}
+use Rattle.std.proofs.Common.{not, List, [], ◌∷◌, ◌++◌, length, map, refl, ap, arith}
 use Rattle.std.specs.Prelude.{if◌then◌else◌}
 use Rattle.std.specs.Int.{bit_at}
 use Rattle.std.specs.List.{slice_get}
-use Rattle.std.proofs.Common.{subst}
-use Rattle.std.proofs.lemmas.List.{append_assoc, length-append, length-map, nil_from_length}
+use Rattle.std.proofs.lemmas.List.{length-append, length-map, nil_from_length}
 use Rattle.std.proofs.Math.Nat.{pow-succ'}
 use Rattle.std.proofs.Math.Pow.{pow_mono}
 use Rattle.std.proofs.lemmas.Nat.Bits.{bit_at-zero, bit_at-suc, bit_at_lowest}
@@ -38,21 +37,12 @@ answer-digit false = refl
 -- at most one of both planes has a bit
 bits-apart : (bs : List Bool) (i : ℕ) → bit_at (bits bs) i + bit_at (bits (map not bs)) i ≤ 1
 bits-apart [] i = omega (arith, bit_at-zero i)
-bits-apart (b ∷ bs) zero = omega (
-  arith,
-  bit_at-first b (bits bs),
-  bit_at-first (not b) (bits (map not bs)),
-  digit-opposite b,
-)
-bits-apart (b ∷ bs) (suc i) = omega (
-  arith,
-  bit_at-next b (bits bs) i,
-  bit_at-next (not b) (bits (map not bs)) i,
-  bits-apart bs i,
-)
-
-pub AreApart-bits : (bs : List Bool) → AreApart (bits bs) (bits (map not bs))
-AreApart-bits bs = AreApart-from _ _ (bits-apart bs)
+bits-apart (b ∷ bs) zero =
+    let other = bit_at-first (not b) (bits (map not bs)) in
+    omega (arith, bit_at-first b (bits bs), other, digit-opposite b)
+bits-apart (b ∷ bs) (suc i) =
+    let other = bit_at-next (not b) (bits (map not bs)) i in
+    omega (arith, bit_at-next b (bits bs) i, other, bits-apart bs i)
 
 -- the lanes are the answers, and unknown past them
 lane-bits : (bs : List Bool) (i : ℕ)
@@ -65,18 +55,11 @@ lane-bits (b ∷ bs) (suc i) =
     (λ j. answer_of (bit_at-next b (bits bs) i j) (bit_at-next (not b) (bits (map not bs)) i j))
     ∙ lane-bits bs i
 
-pub EachLane-bits : (bs : List Bool)
-    → EachLane (record { is_true = bits bs; is_false = bits (map not bs) }) (slice_get bs)
-EachLane-bits bs i below = lane-bits bs i
-
 -- so many answers need so many bits
 bits-lt : (bs : List Bool) → bits bs < 2 ^ length bs
 bits-lt [] = omega arith
 bits-lt (true ∷ bs) = omega (arith, bits-lt bs, pow-succ' 2 (length bs))
 bits-lt (false ∷ bs) = omega (arith, bits-lt bs, pow-succ' 2 (length bs))
-
-pub bits-fit : (bs : List Bool) → length bs ≤ 63 → bits bs < 2 ^ 63
-bits-fit bs few = omega (arith, bits-lt bs, pow_mono few)
 
 -- What two planes hold, while answers are added from the last row to the first: those of the rows
 -- that come after the ones that are left.
@@ -88,34 +71,17 @@ pub record Added {T : Type 0} (answer : T → Bool) (rows left : List T) (is_tru
   pub false_is : is_false ≡ bits (map not (map answer done))
 
 module _ {T : Type 0} {answer : T → Bool} {rows left : List T} {is_true is_false : ℕ} where
-  pub Added-next : (before : List T) (row : T) (t f : ℕ) (given : Bool) → left ≡ before ++ row ∷ []
-      → given ≡ answer row → t ≡ digit given + 2 * is_true → f ≡ digit (not given) + 2 * is_false
-      → Added answer rows left is_true is_false → Added answer rows before t f
-  Added-next before row t f given left_is answers true_is false_is added = record {
-    done = row ∷ added.done;
-    rows_are = added.rows_are ∙ ap (λ l. l ++ added.done) left_is
-        ∙ append_assoc before (row ∷ []) added.done;
-    true_is = true_is ∙ (λ i. digit (answers i) + 2 * added.true_is i);
-    false_is = false_is ∙ (λ i. digit (not (answers i)) + 2 * added.false_is i);
-  }
-
   -- a row that is left has a bit in both planes
   pub Added-fit : (before : List T) (row : T) → left ≡ before ++ row ∷ [] → length rows ≤ 64
       → Added answer rows left is_true is_false → (is_true < 2 ^ 63) × (is_false < 2 ^ 63)
   Added-fit before row left_is few added =
       let given = map answer added.done in
-      let below : length given ≤ 63 = omega (
-        arith,
-        few,
-        ap length added.rows_are,
-        length-append left added.done,
-        ap length left_is,
-        length-append before (row ∷ []),
-        length-map added.done answer,
-      ) in
+      let all = ap length added.rows_are ∙ length-append left added.done in
+      let last = ap length left_is ∙ length-append before (row ∷ []) in
+      let below : length given ≤ 63 = omega (arith, all, last, length-map added.done answer) in
       let opposite : length (map not given) ≤ 63 = omega (arith, length-map given not, below) in (
-        subst (λ n. n < 2 ^ 63) (sym added.true_is) (bits-fit given below),
-        subst (λ n. n < 2 ^ 63) (sym added.false_is) (bits-fit (map not given) opposite),
+        omega (arith, added.true_is, bits-lt given, pow_mono below),
+        omega (arith, added.false_is, bits-lt (map not given), pow_mono opposite),
       )
 
   -- in the end they hold the answers of all rows
@@ -126,6 +92,6 @@ module _ {T : Type 0} {answer : T → Bool} {rows left : List T} {is_true is_fal
       let all : rows ≡ added.done = added.rows_are
       ∙ ap (λ l. l ++ added.done) (nil_from_length left none) in
       rw (added.true_is, added.false_is, all) (
-        AreApart-bits (map answer added.done),
-        EachLane-bits (map answer added.done),
+        AreApart-from _ _ (bits-apart (map answer added.done)),
+        λ i below. lane-bits (map answer added.done) i,
       )

@@ -1,24 +1,20 @@
 -- What a token and the end of a text do depends on no token in front of them, and keeps that one.
-use Rattle.std.proofs.Common.{◌≡◌, ℕ, Bool, true, false, List, [], ◌∷◌, Option, Some, None}
-use Rattle.std.proofs.Common.{Result, Ok, Err, sym, refl, ap, ◌∙◌, arith, if◌then◌else◌}
+use Rattle.std.proofs.Common.{◌≡◌, ℕ, true, false, List, [], ◌∷◌, Option, Some, None, Result, Ok}
+use Rattle.std.proofs.Common.{Err, sym, refl, ap, ◌∙◌, arith}
 use Rattle.std.proofs.lemmas.Bool.Decides.{nat_tests}
 use Rattle.cfgx_syntax.specs.Token.{Token}
 use Rattle.cfgx_syntax.specs.Items.{Item}
 use Rattle.cfgx_syntax.specs.Error.{Refusal}
 use Rattle.cfgx_syntax.specs.Lexer.{token_of, item_of}
 use Rattle.cfgx_syntax.specs.declared.lexer.LexerToken.{LexerToken}
-use Rattle.cfgx_grammar.specs.FirstFault.{refusal, lacks_value}
+use Rattle.cfgx_grammar.specs.FirstFault.{lacks_value}
 use Rattle.cfgx_grammar.specs.Neighbours.{next}
 use Rattle.cfgx_grammar.specs.parsing.State.{Pending}
-use Rattle.cfgx_grammar.specs.parsing.Step.{and_then, result_map, has_room, member_count}
-use Rattle.cfgx_grammar.specs.parsing.Step.{leaf_ended, predicate_ended, ended_by}
-use Rattle.cfgx_grammar.specs.parsing.Step.{function_ended, closed_by, apply}
-use Rattle.cfgx_grammar.specs.parsing.Step.{one_root, concluded_by, with_last}
+use Rattle.cfgx_grammar.specs.parsing.Step.{result_map, ended_by, function_ended, closed_by, apply}
+use Rattle.cfgx_grammar.specs.parsing.Step.{concluded_by, with_last}
 use Rattle.cfgx_parser.specs.parsing.Fields.{last_of, token_like}
-use Rattle.cfgx_parser.specs.parsing.Parser.{state_of, Gives, GivesAt, Reads}
-use Rattle.cfgx_parser.specs.parsing.Parser.{Finishes, concluded}
-use Rattle.cfgx_parser.specs.parsing.State.{OpenFunction, ParserState, classified}
-use Rattle.cfgx_parser.specs.declared.nodes.ExprNode.{ExprNode}
+use Rattle.cfgx_parser.specs.parsing.Parser.{state_of, Gives, GivesAt, Reads, Finishes, concluded}
+use Rattle.cfgx_parser.specs.parsing.State.{OpenFunction, ParserState}
 use Rattle.cfgx_parser.specs.declared.parser.Halt.{Halt}
 use Rattle.cfgx_parser.specs.declared.parser.Halt.TheVariants as halt
 use Rattle.cfgx_parser.specs.declared.parser.LastToken.{LastToken}
@@ -35,35 +31,19 @@ module _ (last : Option Token) where
   ended-after : (s : ParserState) (pending : Option Pending)
       → ended_by (after_token last s) pending ≡ result_map (after_token last) (ended_by s pending)
   ended-after s None = refl
-  ended-after s (Some p) = mapped (classified p)
-    where
-      mapped : (class : Result ExprNode Refusal)
-          → result_map (leaf_ended (after_token last s)) class
-          ≡ result_map (after_token last) (result_map (leaf_ended s) class)
-      mapped class = grind arith
+  ended-after s (Some p) = grind arith
 
   function-after : (stack : List OpenFunction) (s : ParserState)
       → function_ended stack (after_token last s) ≡ after_token last (function_ended stack s)
-  function-after [] s = refl
-  function-after (top ∷ rest) s = refl
+  function-after stack s = grind arith
 
   closed-after : (s : ParserState) (item : Item) (stack : List OpenFunction)
       → closed_by (after_token last s) item stack
       ≡ result_map (after_token last) (closed_by s item stack)
   closed-after s item [] = refl
   closed-after s item (top ∷ rest) =
-      chosen (has_room top.function (member_count top s.pending)) _ (predicate_ended s)
-      (ended-after s s.pending)
-    where
-      chosen : (room : Bool) (refusal : Refusal) (ended : Answer)
-          → predicate_ended (after_token last s) ≡ result_map (after_token last) ended
-          → (if room then result_map (λ t. function_ended t.stack t)
-          (predicate_ended (after_token last s)) else Err refusal)
-          ≡ result_map (after_token last) (if room then result_map (λ t. function_ended t.stack t)
-          ended else Err refusal)
-      chosen false refusal ended is = refl
-      chosen true refusal (Err other) is = rw is refl
-      chosen true refusal (Ok t) is = rw is (ap Ok (function-after t.stack t))
+      let ended = ended-after s s.pending in
+      grind (arith, function-after, ended)
 
   pub apply-after : (s : ParserState) (item : Item) (token : Token)
       → apply (after_token last s) item token ≡ result_map (after_token last) (apply s item token)
@@ -71,42 +51,26 @@ module _ (last : Option Token) where
   apply-after s item Token.comma = ended-after s s.pending
   apply-after s item token = grind arith
 
-  root-after : (len : ℕ) (s : ParserState)
-      → one_root len (after_token last s) ≡ result_map (after_token last) (one_root len s)
-  root-after len s = grind (arith, nat_tests)
-
   pub concluded-after : (len : ℕ) (s : ParserState) (stack : List OpenFunction)
       → concluded_by len (after_token last s) stack
       ≡ result_map (after_token last) (concluded_by len s stack)
   concluded-after len s (top ∷ rest) = refl
-  concluded-after len s [] = ap (and_then (one_root len)) (ended-after s s.pending)
-      ∙ mapped (predicate_ended s)
-    where
-      mapped : (ended : Answer) → and_then (one_root len) (result_map (after_token last) ended)
-          ≡ result_map (after_token last) (and_then (one_root len) ended)
-      mapped (Ok t) = root-after len t
-      mapped (Err refusal) = refl
+  concluded-after len s [] =
+      let ended = ended-after s s.pending in
+      grind (arith, nat_tests, ended)
 
-module _ {A : Type 0} (last : Option Token) (result : Result (Unit {0}) Halt)
-    (new : Parser A) where
-  -- what a step gives of a state without its last token, it gives of the state with a token
-  pub GivesAt-after : (answer whole : Answer) → Gives {A = A} result new answer
-      → whole ≡ result_map (after_token last) answer → GivesAt {A = A} last result new whole
-  GivesAt-after answer whole gives is = given result gives
-    where
-      given : (result : Result (Unit {0}) Halt) → Gives {A = A} result new answer
-          → GivesAt {A = A} last result new whole
-      given (Ok done) gives = (
-        _,
-        is ∙ ap (result_map (after_token last)) gives.1,
-        record { is = ap (after_token last) gives.2.is; fits = gives.2.fits },
-      )
-      given (Err halt.Fault) gives = (
-        gives.0,
-        gives.1,
-        is ∙ ap (result_map (after_token last)) gives.2,
-      )
-      given (Err halt.Memory) gives = tt
+-- what a step gives of a state without its last token, it gives of the state with a token
+pub GivesAt-after : {A : Type 0} (last : Option Token) (result : Result (Unit {0}) Halt)
+    (new : Parser A) (answer whole : Answer) → Gives {A = A} result new answer
+    → whole ≡ result_map (after_token last) answer → GivesAt {A = A} last result new whole
+GivesAt-after last (Ok done) new answer whole gives is = (
+  _,
+  is ∙ ap (result_map (after_token last)) gives.1,
+  record { is = ap (after_token last) gives.2.is; fits = gives.2.fits },
+)
+GivesAt-after last (Err halt.Fault) new answer whole gives is =
+    (gives.0, gives.1, is ∙ ap (result_map (after_token last)) gives.2)
+GivesAt-after last (Err halt.Memory) new answer whole gives is = tt
 
 -- What may follow a token, the parser tells by what it keeps of it.
 
@@ -132,12 +96,7 @@ module _ {A : Type 0} (last : LastToken) (lexed : LexerToken) (result : Result (
       GivesAt-after {A = A} (Some token) result new _ _ gives (rw may
       (ap (result_map (with_last token)) (apply-after before (state_of {A = A} old)
       (item_of lexed) token)
-      ∙ again token before (apply (state_of {A = A} old) (item_of lexed) token)))
-    where
-      again : (token : Token) (before : Option Token) (answer : Answer)
-          → result_map (with_last token) (result_map (after_token before) answer)
-          ≡ result_map (after_token (Some token)) answer
-      again token before answer = grind arith
+      ∙ grind arith))
 
 module _ {A : Type 0} (last : LastToken) (len : ℕ) (result : Result (Unit {0}) Halt)
     (old new : Parser A) where
@@ -146,8 +105,7 @@ module _ {A : Type 0} (last : LastToken) (len : ℕ) (result : Result (Unit {0})
       → Gives {A = A} result new (concluded (state_of {A = A} old) len)
       → Finishes {A = A} last len old new result
   Finishes-ended lacks gives before is =
+      let none : lacks_value before ≡ false =
+      sym (lacks_value-like before) ∙ ap (λ l. lacks_value (token_like l)) is ∙ lacks in
       GivesAt-after {A = A} before result new _ _ gives (rw none
       (concluded-after before len (state_of {A = A} old) (state_of {A = A} old).stack))
-    where
-      none : lacks_value before ≡ false
-      none = sym (lacks_value-like before) ∙ ap (λ l. lacks_value (token_like l)) is ∙ lacks

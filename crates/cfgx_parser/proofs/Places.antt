@@ -1,11 +1,10 @@
 -- What stands at the places of a tree's predicates.
-use Rattle.std.proofs.Common.{◌≡◌, ℕ, ◌+◌, List, [], ◌∷◌, ◌++◌, length, map, Some}
-use Rattle.std.proofs.Common.{sym, refl, ap, ◌∙◌, arith, append_assoc, length-append}
+use Rattle.std.proofs.Common.{◌≡◌, ℕ, ◌+◌, List, [], ◌∷◌, ◌++◌, length, map, Some, sym, refl, ap}
+use Rattle.std.proofs.Common.{◌∙◌, arith, append_assoc, length-append}
 use Rattle.std.specs.List.{slice_get}
 use Rattle.std.proofs.lemmas.List.{append-nil, length-map, map-append}
 use Rattle.cfgx_grammar.specs.Tree.{Tree, Trees, is_function, is_leaf, asked, asked_by}
-use Rattle.cfgx_parser.specs.nodes.Prefix.{Node, prefix, prefix_each}
-use Rattle.cfgx_parser.specs.nodes.Prefix.{places, places_by}
+use Rattle.cfgx_parser.specs.nodes.Prefix.{Node, prefix, prefix_each, places, places_by}
 
 -- a part of a list, which begins at a place
 record Lies {X : Type 0} (all : List X) (place : ℕ) (part : List X) : Type 0 where
@@ -44,12 +43,7 @@ module _ {X : Type 0} (all : List (Node X)) where
 
   StandAt-both : (ps qs : List ℕ) (xs ys : List X) → StandAt ps xs → StandAt qs ys
       → StandAt (ps ++ qs) (xs ++ ys)
-  StandAt-both ps qs xs ys first rest = rw (
-    map-append (slice_get all) ps qs,
-    map-append (λ x. Some (Node.leaf x)) xs ys,
-    first,
-    rest,
-  )
+  StandAt-both ps qs xs ys first rest = simp (map-append, first, rest)
 
   -- the members that are functions, and those that are leaves
   abbrev MembersStand : ℕ → Trees X → Type 0
@@ -94,23 +88,17 @@ module _ {X : Type 0} (all : List (Node X)) where
       → ((place : ℕ) (x : X) → slice_get all place ≡ Some (Node.leaf x) → read place ≡ of x)
       → (ps : List ℕ) (xs : List X) → StandAt ps xs → map read ps ≡ map of xs
   read-StandAt read of each [] [] stand = refl
-  read-StandAt read of each [] (x ∷ xs) stand = absurd (cc)
-  read-StandAt read of each (p ∷ ps) [] stand = absurd (cc)
   read-StandAt read of each (p ∷ ps) (x ∷ xs) stand =
       let first : slice_get all p ≡ Some (Node.leaf x) = cc in
       let rest : StandAt ps xs = cc in
-      let one = each p x first in
-      let others = read-StandAt read of each ps xs rest in
-      cc
+      cc (each p x first, read-StandAt read of each ps xs rest)
+  read-StandAt read of each ps xs stand = absurd (cc)
 
 module _ {X : Type 0} (tree : Tree X) where
   all-stand : StandAt (prefix tree) (places 0 tree) (asked tree)
-  all-stand = leaves-stand (prefix tree) tree 0 (record {
-    front = [];
-    back = [];
-    is = sym (append-nil (prefix tree));
-    at = refl;
-  })
+  all-stand =
+      leaves-stand (prefix tree) tree 0
+      (record { front = []; back = []; is = sym (append-nil (prefix tree)); at = refl })
 
   pub read-places : {Y : Type 0} (read : ℕ → Y) (of : X → Y)
       → ((place : ℕ) (x : X) → slice_get (prefix tree) place ≡ Some (Node.leaf x)

@@ -1,13 +1,10 @@
 -- Trees of one shape have the same functions and literals as nodes, and their predicates at the
 -- same places.
-use Rattle.std.proofs.Common.{◌≡◌, ℕ, suc, ◌+◌, length, map, refl, ap}
-use Rattle.std.proofs.Common.{length-append}
+use Rattle.std.proofs.Common.{◌≡◌, ℕ, suc, ◌+◌, length, map, refl, ap, length-append}
 use Rattle.std.proofs.lemmas.List.{map-append}
 use Rattle.cfgx_grammar.specs.Tree.{Tree, Trees, is_function, is_leaf, count}
-use Rattle.cfgx_grammar.proofs.Alike.{Alike, AlikeEach}
-use Rattle.cfgx_grammar.proofs.Alike.{same_functions, same_leaves}
-use Rattle.cfgx_parser.specs.nodes.Prefix.{prefix, prefix_each}
-use Rattle.cfgx_parser.specs.nodes.Prefix.{places, places_by}
+use Rattle.cfgx_grammar.proofs.Alike.{Alike, AlikeEach, same_functions, same_leaves}
+use Rattle.cfgx_parser.specs.nodes.Prefix.{prefix, prefix_each, places, places_by}
 use Rattle.cfgx_parser.specs.nodes.Shape.{shape_of}
 
 module _ {X Y : Type 0} where
@@ -63,34 +60,15 @@ module _ {X Y : Type 0} {R : X → Y → Type 0} where
     same_members _ _ (AlikeEach.more x y xs ys first rest) =
         let one = same_nodes x y first in
         let others = same_members xs ys rest in
-        let function = same_functions R x y first in
-        let leaf = same_leaves R x y first in
+        let f = same_functions R x y first in
+        let l = same_leaves R x y first in
+        let k = length (prefix y) in
         record {
           count_is = ap suc others.count_is;
-          length_is = rw (
-            length-append (prefix x) (prefix_each xs),
-            length-append (prefix y) (prefix_each ys),
-            one.length_is,
-            others.length_is,
-          ) refl;
-          shapes_are = rw (
-            map-append shape_of (prefix x) (prefix_each xs),
-            map-append shape_of (prefix y) (prefix_each ys),
-            one.shapes_are,
-            others.shapes_are,
-          ) refl;
-          inner_are = λ place. rw (
-            function,
-            one.places_are place,
-            one.length_is,
-            others.inner_are (place + length (prefix y)),
-          ) refl;
-          own_are = λ place. rw (
-            leaf,
-            one.places_are place,
-            one.length_is,
-            others.own_are (place + length (prefix y)),
-          ) refl;
+          length_is = simp (length-append, one.length_is, others.length_is);
+          shapes_are = simp (map-append, one.shapes_are, others.shapes_are);
+          inner_are = λ n. rw (f, one.places_are n, one.length_is, others.inner_are (n + k)) refl;
+          own_are = λ n. rw (l, one.places_are n, one.length_is, others.own_are (n + k)) refl;
         }
 
   pub length-shape : (x : Tree X) (y : Tree Y) → Alike R x y

@@ -1,9 +1,8 @@
 -- How many nodes the tree of so many tokens has, and that of so many bytes.
-use Rattle.std.proofs.Common.{◌≡◌, ℕ, ◌+◌, ◌≤◌, List, [], ◌∷◌, ◌++◌, length, Option}
-use Rattle.std.proofs.Common.{Some, None, ap, ◌∙◌, arith, length-append}
+use Rattle.std.proofs.Common.{◌≡◌, ℕ, ◌+◌, ◌≤◌, List, [], ◌∷◌, ◌++◌, length, Option, Some, None, ap}
+use Rattle.std.proofs.Common.{◌∙◌, arith, length-append}
 use Rattle.cfgx_syntax.specs.Token.{Token}
-use Rattle.cfgx_grammar.specs.Grammar.{leaf_tokens, IsCall, IsMember, IsList, commas}
-use Rattle.cfgx_grammar.specs.Grammar.{HasTree}
+use Rattle.cfgx_grammar.specs.Grammar.{leaf_tokens, IsCall, IsMember, IsList, commas, HasTree}
 use Rattle.cfgx_syntax.specs.Items.{Item, Ending}
 use Rattle.cfgx_syntax.proofs.Sizes.{items-bytes}
 use Rattle.std.proofs.lemmas.List.{length-map}
@@ -26,36 +25,24 @@ mutual
   pub tree-tokens : (tree : Tree Question) (tokens : List Token) → IsMember tokens tree
       → length (prefix tree) ≤ length tokens
   tree-tokens (Tree.leaf question) tokens is =
-      let some : 1 ≤ length tokens = omega (arith, leaf-tokens is.0 is.1, ap length is.2) in
-      omega arith
+      omega (arith, leaf-tokens is.0 is.1, ap length is.2)
   tree-tokens (Tree.literal truth) tokens is =
-      let some : 1 ≤ length tokens = omega (arith, leaf-tokens is.0 is.1, ap length is.2) in
-      omega arith
+      omega (arith, leaf-tokens is.0 is.1, ap length is.2)
   tree-tokens (Tree.all trees) tokens is =
-      let call = call-tokens Token.all tokens is.0 is.1 in
-      let inner = trees-tokens trees is.0 is.2 in
-      omega arith
+      omega (arith, call-tokens Token.all tokens is.0 is.1, trees-tokens trees is.0 is.2)
   tree-tokens (Tree.any trees) tokens is =
-      let call = call-tokens Token.any tokens is.0 is.1 in
-      let inner = trees-tokens trees is.0 is.2 in
-      omega arith
+      omega (arith, call-tokens Token.any tokens is.0 is.1, trees-tokens trees is.0 is.2)
   tree-tokens (Tree.not tree) tokens is =
       let call = call-tokens Token.not tokens (is.0 ++ commas is.1) is.2 in
-      let inner = tree-tokens tree is.0 is.3 in
-      let both = length-append is.0 (commas is.1) in
-      omega arith
+      omega (arith, call, tree-tokens tree is.0 is.3, length-append is.0 (commas is.1))
 
   trees-tokens : (trees : Trees Question) (tokens : List Token) → IsList tokens trees
       → length (prefix_each trees) ≤ length tokens
   trees-tokens Trees.none tokens is = omega arith
   trees-tokens (Trees.more tree trees) tokens is =
-      let first = tree-tokens tree is.0 is.5 in
-      let others = trees-tokens trees is.2 is.6 in
-      let all : length tokens ≡ length is.0 + (length (commas is.1) + length is.2) =
-      ap length is.3 ∙ length-append is.0 (commas is.1 ++ is.2)
-      ∙ ap (λ n. length is.0 + n) (length-append (commas is.1) is.2) in
+      let all = simp length-append at (ap length is.3) in
       let nodes = length-append (prefix tree) (prefix_each trees) in
-      omega arith
+      omega (arith, all, nodes, tree-tokens tree is.0 is.5, trees-tokens trees is.2 is.6)
 
 -- and a text has no more nodes than bytes
 pub nodes-bytes : (text : List ℕ) (tree : Tree Question) → HasTree text tree

@@ -1,8 +1,8 @@
 -- What reading the whole text gives, `parse` answers.
-use Rattle.std.proofs.Common.{◌≡◌, ℕ, List, Result, Ok, Err, sym, ap, ◌∙◌, subst}
+use Rattle.std.proofs.Common.{◌≡◌, ℕ, List, Result, Ok, Err, ap, subst}
 use Rattle.std.specs.Prelude.{IsErrAnd}
 use Rattle.std.proofs.lemmas.Result.{err_from_is_err_and}
-use Rattle.cfgx_syntax.specs.Items.{ItemsFrom, HasOneTokenList}
+use Rattle.cfgx_syntax.specs.Items.{HasOneTokenList}
 use Rattle.cfgx_syntax.specs.LexerState.{LexerState, starting}
 use Rattle.cfgx_syntax.specs.Stripping.{strip}
 use Rattle.cfgx_syntax.specs.declared.error.Failure.{Failure}
@@ -26,32 +26,11 @@ pub record Begins {A : Type 0} (text : List ℕ) (lexer : LexerState)
   pub lexer_is : lexer ≡ starting text
   pub state_is : state_of {A = A} parser ≡ initial
 
-given : {A : Type 0} {text : List ℕ} {lexer : LexerState} {old : Parser A} (new : Parser A)
-    (result : Result (Unit {0}) (Failure A)) (b : Begins {A = A} text lexer old)
-    → ReadsAll {A = A} lexer old new result → Ends {A = A} result lexer.text new (answer text b.one)
-given {A} {text} {lexer} {old} new result b reads =
-    let come : ItemsFrom lexer.text lexer.place b.one.items b.one.ending =
-    subst (λ (l : LexerState). ItemsFrom l.text l.place b.one.items b.one.ending)
-    (sym b.lexer_is) b.one.are in
-    let same : answer_from (state_of {A = A} old) lexer.text b.one.items b.one.ending ≡ answer text
-    b.one =
-    ap (λ s. answer_from s lexer.text b.one.items b.one.ending) b.state_is
-    ∙ ap (λ (l : LexerState). answer_from initial l.text b.one.items b.one.ending) b.lexer_is in
-    subst (Ends {A = A} result lexer.text new) same (reads b.one.items b.one.ending come)
-
 fails_as : {A : Type 0} (text : List ℕ) (one : HasOneTokenList text)
     (f : Failure A) → FailsAs text f (answer text one) → Answers text (Err f)
 fails_as text one (failure.Parse error) fails =
     (fails.0, fails.2, IsRefused-refused text one fails.0 fails.1)
 fails_as text one (failure.Memory error) fails = accepted_or_refused text one
-
-pub Answers-fails : {A : Type 0} {text : List ℕ} {lexer : LexerState} {old : Parser A}
-    (new : Parser A) (f : Failure A) → Begins {A = A} text lexer old
-    → ReadsAll {A = A} lexer old new (Err f) → Answers text (Err f)
-Answers-fails {text} new f b reads =
-    let fails = given new (Err f) b reads in
-    fails_as text b.one f
-    (subst (λ (l : LexerState). FailsAs l.text f (answer text b.one)) b.lexer_is fails)
 
 -- where memory runs out
 pub Answers-memory : {A : Type 0} (text : List ℕ) → HasOneTokenList text → (error : _)
@@ -61,19 +40,30 @@ Answers-memory text one error result is =
     let p = err_from_is_err_and result is in
     rw (p.1, p.2) (accepted_or_refused text one)
 
--- what is accepted
-pub KeepsOneTree-reads : {A : Type 0} {text : List ℕ} {lexer : LexerState} {old : Parser A}
-    (new : Parser A) → Begins {A = A} text lexer old → ReadsAll {A = A} lexer old new (Ok tt)
-    → KeepsOneTree text new.writer.nodes.items new.writer.asked.items
-KeepsOneTree-reads {text} new b reads =
-    let gives = (given new (Ok tt) b reads).1 in
-    subst (λ (s : ParserState). KeepsOneTree text s.written.nodes s.written.asked) gives.2.is
-    (KeepsOneTree-accepted text b.one gives.0 gives.1)
+module _ {A : Type 0} {text : List ℕ} {lexer : LexerState} {old : Parser A} (new : Parser A) where
+  given : (result : Result (Unit {0}) (Failure A)) (b : Begins {A = A} text lexer old)
+      → ReadsAll {A = A} lexer old new result → Ends {A = A} result text new (answer text b.one)
+  given result b reads =
+      let all = subst (λ l. ReadsAll {A = A} l old new result) b.lexer_is reads in
+      subst (Ends {A = A} result text new)
+      (ap (λ s. answer_from s text b.one.items b.one.ending) b.state_is)
+      (all b.one.items b.one.ending b.one.are)
 
-pub IsAccepted-reads : {A : Type 0} {text : List ℕ} {lexer : LexerState} {old : Parser A}
-    (new : Parser A) → Begins {A = A} text lexer old → ReadsAll {A = A} lexer old new (Ok tt)
-    → (strip text ≡ text) × IsAccepted text
-IsAccepted-reads {text} new b reads =
-    let gives = (given new (Ok tt) b reads).1 in
-    let found = tree_of text b.one gives.0 gives.1 in
-    (strip-tree text found.0 found.1, IsAccepted-accepted text b.one gives.0 gives.1)
+  pub Answers-fails : (f : Failure A) → Begins {A = A} text lexer old
+      → ReadsAll {A = A} lexer old new (Err f) → Answers text (Err f)
+  Answers-fails f b reads = fails_as text b.one f (given (Err f) b reads)
+
+  -- what is accepted
+  pub KeepsOneTree-reads : Begins {A = A} text lexer old → ReadsAll {A = A} lexer old new (Ok tt)
+      → KeepsOneTree text new.writer.nodes.items new.writer.asked.items
+  KeepsOneTree-reads b reads =
+      let gives = (given (Ok tt) b reads).1 in
+      subst (λ (s : ParserState). KeepsOneTree text s.written.nodes s.written.asked) gives.2.is
+      (KeepsOneTree-accepted text b.one gives.0 gives.1)
+
+  pub IsAccepted-reads : Begins {A = A} text lexer old → ReadsAll {A = A} lexer old new (Ok tt)
+      → (strip text ≡ text) × IsAccepted text
+  IsAccepted-reads b reads =
+      let gives = (given (Ok tt) b reads).1 in
+      let found = tree_of text b.one gives.0 gives.1 in
+      (strip-tree text found.0 found.1, IsAccepted-accepted text b.one gives.0 gives.1)

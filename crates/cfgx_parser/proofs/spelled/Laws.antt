@@ -11,7 +11,7 @@ use Rattle.cfgx_grammar.specs.Tree.{Tree, Trees, is_function, is_leaf, count}
 use Rattle.cfgx_grammar.specs.parsing.State.{Function}
 use Rattle.cfgx_parser.specs.nodes.Located.{located}
 use Rattle.cfgx_parser.specs.nodes.Node.{Written, with_leaf}
-use Rattle.cfgx_parser.specs.nodes.Prefix.{headed, prefix, prefix_each, places, places_by}
+use Rattle.cfgx_parser.specs.nodes.Prefix.{Node, headed, prefix, prefix_each, places, places_by}
 use Rattle.cfgx_parser.specs.nodes.Writes.{IsPlaced, ArePlaced, WritesNodes}
 use Rattle.cfgx_parser.specs.parsing.State.{counted, node_builder}
 use Rattle.cfgx_parser.specs.declared.function.Func.TheVariants.{Not}
@@ -21,8 +21,7 @@ use Rattle.cfgx_grammar.proofs.accepted.{leaf_tree}
 use Rattle.cfgx_grammar.proofs.spelled.{Calls, Laws}
 use Rattle.cfgx_parser.proofs.spelled.Located.{Stands, NamesClass, NamesClass-class}
 use Rattle.cfgx_parser.proofs.spelled.Written.{WritesNodes-none, WritesNodes-then}
-use Rattle.cfgx_parser.proofs.spelled.Written.{WritesNodes-predicate, WritesNodes-literal}
-use Rattle.cfgx_parser.proofs.spelled.Written.{WritesNodes-function, length-nodes}
+use Rattle.cfgx_parser.proofs.spelled.Written.{WritesNodes-leaf, WritesNodes-function, length-nodes}
 
 -- a function's tree, by its kind and its members
 record Called (function : Function) (tree : Tree Question) (trees : Trees Question) : Type 0 where
@@ -79,9 +78,9 @@ module _ (text : List ℕ) where
       let named : NamesClass text key_span span (Class.is (Leaf.predicate question)) =
       subst (NamesClass text key_span span) classed
       (NamesClass-class text key_span span key value stands) in
-      WritesNodes-predicate text w _ question named.0 named.1
+      WritesNodes-leaf text w _ (Node.leaf question) (ap Node.leaf named.0) named.1
   leaf_writes w key_span span key value (Leaf.literal truth) stands classed =
-      WritesNodes-literal text w truth
+      WritesNodes-leaf text w (node.Literal truth) _ refl tt
 
   list_writes : (xs ys zs : List Item) (tree : Tree Question) (trees : Trees Question)
       (w v u : Written)
@@ -111,15 +110,11 @@ module _ (text : List ℕ) where
   node_laws = record {
     MemberBuilds = MemberWrites;
     ListBuilds = ListWrites;
-    key = λ x key leaf w is classed placed. leaf_writes w _ None key None leaf (record {
-      key_holds = subst (IsPlaced text x) is placed.0;
-      value_holds = tt;
-    }) classed;
+    key = λ x key leaf w is classed placed.
+        leaf_writes w _ None key None leaf (subst (IsPlaced text x) is placed.0, tt) classed;
     value = λ x y z key value leaf w x_is z_is classed placed.
-        leaf_writes w _ (Some _) key (Some value) leaf (record {
-          key_holds = subst (IsPlaced text x) x_is placed.0;
-          value_holds = subst (IsPlaced text z) z_is placed.1.1.0;
-        }) classed;
+        leaf_writes w _ (Some _) key (Some value) leaf
+        (subst (IsPlaced text x) x_is placed.0, subst (IsPlaced text z) z_is placed.1.1.0) classed;
     none = λ w placed. WritesNodes-none text w;
     more = list_writes;
     all = λ trees. call_writes Function.all (Tree.all trees) trees (Called-all trees);

@@ -2,9 +2,9 @@
 use Rattle.std.proofs.Common.{◌≡◌, ℕ, Bool, true, false, List, [], ◌∷◌, ◌^◌, drop, nat_eq, Option}
 use Rattle.std.proofs.Common.{Some, None, refl, ap, ◌∙◌}
 use Rattle.std.specs.Prelude.{codes, if◌then◌else◌}
-use Rattle.std.specs.List.{starts_with, AllByRecursion}
+use Rattle.std.specs.List.{starts_with}
 use Rattle.std.proofs.lemmas.Slice.Eq.{bytes_eq-Decides}
-use Rattle.cfgx_syntax.specs.Error.{Cause, invalid_integer, invalid_has_atomic}
+use Rattle.cfgx_syntax.specs.Error.{Cause}
 use Rattle.std.specs.Str.{bytes_eq}
 use Rattle.cfgx_targets.specs.Endian.{endian_named}
 use Rattle.cfgx_targets.specs.HasAtomic.{atomic_named}
@@ -21,14 +21,12 @@ use Rattle.std.specs.declared.ops.Range.{Range}
 abbrev pub ValueHolds : List ℕ → Option (Range ℕ) → Option (List ℕ) → Type 0
 ValueHolds text None None = Unit {0}
 ValueHolds text (Some span) (Some value) = Holds text span value
-ValueHolds text None (Some value) = ⊥
-ValueHolds text (Some span) None = ⊥
+ValueHolds text _ _ = ⊥
 
 -- a key and its value, where they stand
-pub record Stands (text : List ℕ) (key_span : Range ℕ) (value_span : Option (Range ℕ))
-    (key : List ℕ) (value : Option (List ℕ)) : Type 0 where
-  pub key_holds : Holds text key_span key
-  pub value_holds : ValueHolds text value_span value
+abbrev pub Stands : List ℕ → Range ℕ → Option (Range ℕ) → List ℕ → Option (List ℕ) → Type 0
+Stands text key_span value_span key value =
+    Holds text key_span key × ValueHolds text value_span value
 
 module _ (text : List ℕ) (key_span : Range ℕ) where
   -- the predicate of these places is the question, and can be cut out of the text
@@ -79,10 +77,9 @@ module _ (text : List ℕ) (key_span : Range ℕ) where
       (value : Option (List ℕ)) → Holds text key_span key → ValueHolds text span value
       → NamesClass span (plain key value)
   names_other None key None key_holds holds = (ap Question.flag key_holds.0, (key_holds.1, tt))
-  names_other (Some span) key None key_holds holds = absurd holds
-  names_other None key (Some value) key_holds holds = absurd holds
   names_other (Some span) key (Some value) key_holds holds =
       (rw (key_holds.0, holds.0) refl, (key_holds.1, holds.1))
+  names_other span key value key_holds holds = absurd holds
 
   in_case : (span : Option (Range ℕ)) (b : Bool) (x y : Class) → (b ≡ true → NamesClass span x)
       → NamesClass span y
@@ -90,55 +87,37 @@ module _ (text : List ℕ) (key_span : Range ℕ) where
   in_case span true x y hx hy = hx refl
   in_case span false x y hx hy = hy
 
-  -- each line of a table names what it reads, so the table does
-  named_by : {Value : Type 0} (span : Option (Range ℕ)) (name : List ℕ) (value : Value)
-      (otherwise : Class) (lines : List (Line Value))
-      → AllByRecursion (λ l. name ≡ l.name → NamesClass span (l.read value)) lines
-      → NamesClass span otherwise
-      → NamesClass span (by_name lines name value otherwise)
-  named_by span name value otherwise [] each last = last
-  named_by {Value} span name value otherwise (first ∷ rest) each last =
-      in_case span (bytes_eq name first.name) (first.read value) (by_name rest name value otherwise)
-      (λ is. each.0 ((bytes_eq-Decides name first.name).0 is))
-      (named_by span name value otherwise rest each.1 last)
+  -- the goal, once each line of a table names what it reads
+  abbrev Shown : {V : Type 0} → Option (Range ℕ) → List ℕ → V → List (Line V) → Type 0 → Type 0
+  Shown span name value [] goal = goal
+  Shown span name value (first ∷ rest) goal =
+      (name ≡ first.name → NamesClass span (first.read value)) → Shown span name value rest goal
+
+  -- then the table does
+  named_by : {V : Type 0} (span : Option (Range ℕ)) (name : List ℕ) (value : V) (otherwise : Class)
+      (lines : List (Line V)) (goal : Type 0) → NamesClass span otherwise
+      → (NamesClass span (by_name lines name value otherwise) → goal)
+      → Shown span name value lines goal
+  named_by span name value otherwise [] goal last whole = whole last
+  named_by span name value otherwise (first ∷ rest) goal last whole = λ each.
+      named_by span name value otherwise rest goal last (λ others. whole (in_case span
+      (bytes_eq name first.name) (first.read value) (by_name rest name value otherwise)
+      (λ is. each ((bytes_eq-Decides name first.name).0 is)) others))
 
   names_target : (name : List ℕ) (span : Range ℕ) (value : List ℕ) → Holds text span value
       → NamesClass (Some span) (target_class name value)
   names_target name span value holds =
-      named_by (Some span) name value _ target_lines (
-        λ _. (ap (λ v. Question.target (TargetQuestion.abi v)) holds.0, holds.1),
-        (
-          λ _. (ap (λ v. Question.target (TargetQuestion.arch v)) holds.0, holds.1),
-          (
-            λ _. (ap (λ v. Question.target (TargetQuestion.os v)) holds.0, holds.1),
-            (
-              λ _. (ap (λ v. Question.target (TargetQuestion.family v)) holds.0, holds.1),
-              (
-                λ _. (ap (λ v. Question.target (TargetQuestion.env v)) holds.0, holds.1),
-                (
-                  λ _. (ap (λ v. Question.target (TargetQuestion.vendor v)) holds.0, holds.1),
-                  (
-                    λ _. names_target_feature span value holds,
-                    (
-                      λ _. names_read span TargetQuestion.endian invalid_integer
-                          (endian_named value) (λ y. (refl, tt)),
-                      (
-                        λ _. names_read span TargetQuestion.has_atomic invalid_has_atomic
-                            (atomic_named value) (λ y. (refl, tt)),
-                        (
-                          λ _. names_read span TargetQuestion.pointer_width invalid_integer
-                              (read_below (2 ^ 8) value) (λ y. (refl, tt)),
-                          tt,
-                        ),
-                      ),
-                    ),
-                  ),
-                ),
-              ),
-            ),
-          ),
-        ),
-      ) tt
+      named_by (Some span) name value _ target_lines _ tt (λ named. named)
+      (λ _. (ap (λ v. Question.target (TargetQuestion.abi v)) holds.0, holds.1))
+      (λ _. (ap (λ v. Question.target (TargetQuestion.arch v)) holds.0, holds.1))
+      (λ _. (ap (λ v. Question.target (TargetQuestion.os v)) holds.0, holds.1))
+      (λ _. (ap (λ v. Question.target (TargetQuestion.family v)) holds.0, holds.1))
+      (λ _. (ap (λ v. Question.target (TargetQuestion.env v)) holds.0, holds.1))
+      (λ _. (ap (λ v. Question.target (TargetQuestion.vendor v)) holds.0, holds.1))
+      (λ _. names_target_feature span value holds)
+      (λ _. names_read span _ _ (endian_named value) (λ y. (refl, tt)))
+      (λ _. names_read span _ _ (atomic_named value) (λ y. (refl, tt)))
+      (λ _. names_read span _ _ (read_below (2 ^ 8) value) (λ y. (refl, tt)))
 
   -- `unix` and `windows` are families of their own names
   names_family : (key word : List ℕ) → Holds text key_span key → key ≡ word
@@ -146,49 +125,24 @@ module _ (text : List ℕ) (key_span : Range ℕ) where
   names_family key word holds is =
       (ap (λ name. Question.target (TargetQuestion.family name)) (holds.0 ∙ is), holds.1)
 
-  names_last : (span : Option (Range ℕ)) (key : List ℕ)
-      (value : Option (List ℕ)) → Stands text key_span span key value → (b : Bool)
-      → NamesClass span (if b then valued (target_class (drop 7 key))
-      (codes "= \"<target_cfg_value>\"") value else plain key value)
-  names_last span key value s true = names_valued span value _ _
-      (λ t v h. names_target (drop 7 key) t v h) s.value_holds
-  names_last span key value s false = names_other span key value s.key_holds s.value_holds
-
   pub NamesClass-class : (span : Option (Range ℕ)) (key : List ℕ)
       (value : Option (List ℕ)) → Stands text key_span span key value
       → NamesClass span (class key value)
   unfolding class
   NamesClass-class span key value s =
-      let holds = s.value_holds in
+      let holds = s.1 in
       let literal = λ (truth : Bool). names_bare span value (Leaf.literal truth) tt holds in
-      named_by span key value _ key_lines (
-        λ _. literal true,
-        (
-          λ _. literal false,
-          (
-            λ is. names_bare span value _ (names_family key _ s.key_holds is) holds,
-            (
-              λ is. names_bare span value _ (names_family key _ s.key_holds is) holds,
-              (
-                λ _. names_bare span value _ (refl, tt) holds,
-                (
-                  λ _. names_bare span value _ (refl, tt) holds,
-                  (
-                    λ _. names_bare span value _ (refl, tt) holds,
-                    (
-                      λ _. names_valued span value _ _
-                          (λ t v h. (ap Question.feature h.0, h.1)) holds,
-                      (
-                        λ _. names_valued span value _ _
-                            (λ t v h. (ap (λ v. Question.target (TargetQuestion.panic v)) h.0, h.1))
-                            holds,
-                        tt,
-                      ),
-                    ),
-                  ),
-                ),
-              ),
-            ),
-          ),
-        ),
-      ) (names_last span key value s (starts_with nat_eq key (codes "target_")))
+      named_by span key value _ key_lines _
+      (in_case span (starts_with nat_eq key (codes "target_")) _ _
+      (λ _. names_valued span value _ _ (λ t v h. names_target (drop 7 key) t v h) holds)
+      (names_other span key value s.0 holds)) (λ named. named)
+      (λ _. literal true)
+      (λ _. literal false)
+      (λ is. names_bare span value _ (names_family key _ s.0 is) holds)
+      (λ is. names_bare span value _ (names_family key _ s.0 is) holds)
+      (λ _. names_bare span value _ (refl, tt) holds)
+      (λ _. names_bare span value _ (refl, tt) holds)
+      (λ _. names_bare span value _ (refl, tt) holds)
+      (λ _. names_valued span value _ _ (λ t v h. (ap Question.feature h.0, h.1)) holds)
+      (λ _. names_valued span value _ _
+      (λ t v h. (ap (λ v. Question.target (TargetQuestion.panic v)) h.0, h.1)) holds)

@@ -1,18 +1,16 @@
 -- What is written for a tree, part by part.
-use Rattle.std.proofs.Common.{◌≡◌, ℕ, ◌+◌, ◌-◌, Bool, List, [], ◌∷◌, ◌++◌, length, map, take}
-use Rattle.std.proofs.Common.{drop, set}
+use Rattle.std.proofs.Common.{◌≡◌, ℕ, ◌+◌, ◌-◌, List, [], ◌∷◌, ◌++◌, length, map, take, drop, set}
 use Rattle.std.proofs.Common.{sym, refl, ap, ◌∙◌, arith, append_assoc, length-append}
 use Rattle.std.proofs.lemmas.List.{append-nil, map-append, length-map, length_push, set_at, take_at}
 use Rattle.std.proofs.lemmas.List.{drop_at}
 use Rattle.cfgx_grammar.specs.Question.{Question}
 use Rattle.cfgx_grammar.proofs.alone.{all_of_both}
-use Rattle.cfgx_parser.specs.nodes.Located.{question_at, HasCut}
-use Rattle.cfgx_parser.specs.nodes.Node.{Written, mark_of, with_leaf, with_function}
+use Rattle.cfgx_parser.specs.nodes.Node.{Written, mark_of, asked_at, with_leaf, with_function}
 use Rattle.cfgx_parser.specs.nodes.Node.{with_function_ended}
 use Rattle.cfgx_parser.specs.nodes.Prefix.{Node, node_at, headed}
 use Rattle.cfgx_parser.specs.nodes.Writes.{NodeHasCut, WritesNodes}
 use Rattle.cfgx_parser.specs.declared.function.Func.{Func}
-use Rattle.cfgx_parser.specs.declared.nodes.InnerPredicate.{InnerPredicate}
+use Rattle.cfgx_parser.specs.declared.nodes.ExprNode.{ExprNode}
 use Rattle.cfgx_parser.specs.declared.nodes.ExprNode.TheVariants as node
 
 pub WritesNodes-none : (text : List ℕ) (w : Written) → WritesNodes text w w [] [] []
@@ -53,27 +51,14 @@ length-nodes text old new shown own inner w =
     ∙ ap (λ n. length old.nodes + n) (sym (length-map w.added (node_at text))
     ∙ ap length w.shown_are)
 
-pub WritesNodes-predicate : (text : List ℕ) (w : Written) (predicate : InnerPredicate)
-    (question : Question) → question_at text predicate ≡ question
-    → HasCut text predicate
-    → WritesNodes text w (with_leaf (node.Predicate predicate) w) (Node.leaf question ∷ [])
-    (length w.nodes ∷ []) []
-WritesNodes-predicate text w predicate question names cut = record {
-  added = node.Predicate predicate ∷ [];
+pub WritesNodes-leaf : (text : List ℕ) (w : Written) (leaf : ExprNode) (shown : Node Question)
+    → node_at text leaf ≡ shown → NodeHasCut text leaf
+    → WritesNodes text w (with_leaf leaf w) (shown ∷ []) (asked_at leaf (length w.nodes)) []
+WritesNodes-leaf text w leaf shown is cut = record {
+  added = leaf ∷ [];
   nodes_are = refl;
-  shown_are = ap (λ q. Node.leaf q ∷ []) names;
+  shown_are = ap (λ n. n ∷ []) is;
   cuts = (cut, tt);
-  leaves_are = refl;
-  asked_are = sym (append-nil w.asked);
-}
-
-pub WritesNodes-literal : (text : List ℕ) (w : Written) (truth : Bool)
-    → WritesNodes text w (with_leaf (node.Literal truth) w) (Node.literal truth ∷ []) [] []
-WritesNodes-literal text w truth = record {
-  added = node.Literal truth ∷ [];
-  nodes_are = refl;
-  shown_are = refl;
-  cuts = (tt, tt);
   leaves_are = refl;
   asked_are = sym (append-nil w.asked);
 }
@@ -86,12 +71,9 @@ pub WritesNodes-function : (text : List ℕ) (w v : Written) (first last : Func)
     → WritesNodes text w (with_function_ended (mark_of w) last v) (headed last shown) []
     (inner ++ own)
 WritesNodes-function text w v first last shown own inner a =
+    let many = length-nodes text (with_function first w) v shown own inner a in
     let long : length v.nodes - length w.nodes ≡ length shown + 1 =
-    omega (
-      arith,
-      length-nodes text (with_function first w) v shown own inner a,
-      length_push w.nodes (node.Fn first 0),
-    ) in
+    omega (arith, many, length_push w.nodes (node.Fn first 0)) in
     let nodes : v.nodes ≡ w.nodes ++ node.Fn first 0 ∷ a.added = a.nodes_are
     ∙ append_assoc w.nodes (node.Fn first 0 ∷ []) a.added in
     let closed : set v.nodes (length w.nodes) (node.Fn last (length v.nodes - length w.nodes)) ≡

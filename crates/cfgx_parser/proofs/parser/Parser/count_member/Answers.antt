@@ -8,11 +8,8 @@ use Rattle.cfgx_parser.proofs.parser.Parser.count_member.Goals as goal
 pub overflow_add-self : goal.overflow_add-self
 overflow_add-self g c =
     let now = c.args.self.now in
-    omega (
-      arith,
-      has_room-innermost now.list (reverse now.func_stack.items) c.requires.top
-          c.requires.root,
-    )
+    let functions = reverse now.func_stack.items in
+    omega (arith, has_room-innermost now.list functions c.requires.top c.requires.root)
 
 pub returns-clause-counted : goal.returns-clause-counted
 returns-clause-counted g c =

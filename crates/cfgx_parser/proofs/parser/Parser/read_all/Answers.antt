@@ -3,70 +3,52 @@ use Rattle.std.proofs.Common.{Ok, Some, length, sym, subst}
 use Rattle.std.proofs.lemmas.Result.{err_from_is_err_and}
 use Rattle.cfgx_syntax.specs.Lexer.{token_of}
 use Rattle.cfgx_grammar.specs.parsing.Step.{conclude}
-use Rattle.cfgx_parser.specs.parsing.Parser.{state_at, HaltsAs, Says, GivesAt}
-use Rattle.cfgx_parser.proofs.Reading.{item_given, fault_given, Leads-read, ReadsAll-read}
+use Rattle.cfgx_parser.specs.parsing.Parser.{state_at, HaltsAs, GivesAt}
+use Rattle.cfgx_parser.proofs.Reading.{Leads-read, ReadsAll-read}
 use Rattle.cfgx_parser.proofs.Reading.{ReadsAll-fault, ReadsAll-end, ReadsAll-halt}
 use Rattle.cfgx_parser.proofs.parser.Parser.read_all.Goals as goal
 
 pub returns-in_err-lexed : goal.returns-in_err-lexed
 returns-in_err-lexed g c =
     let p = err_from_is_err_and c.from_residual.result c.from_residual.ensures.1 in
-    let now = c.loop-lexed.lexed-iterator in
-    let steps = c.in-Some.ensures.steps in
-    let gives = fault_given {A = g.row.A.Denot} now c.next.new.self c.in-Some.lexed
-    c.in_err-lexed.field-0.0 c.in_err-lexed.was steps in
-    let before = c.loop-lexed.invariant in
-    rw (p.1, p.2) (ReadsAll-fault {A = g.row.A.Denot} c.args.lexer now c.next.new.self
-    c.args.self.now c.loop-lexed.self c.loop-lexed.self before.token c.in_err-lexed.field-0.0
-    before.leads gives)
+    let gives = rw c.in_err-lexed.was at c.in-Some.ensures.steps in
+    rw (p.1, p.2) (ReadsAll-fault {A = g.row.A.Denot} c.loop-lexed.invariant.leads
+    c.loop-lexed.self c.next.new.self c.in_err-lexed.field-0.0 gives)
 
 pub loop-lexed-preserved : goal.loop-lexed-preserved
 loop-lexed-preserved g c =
-    let now = c.loop-lexed.lexed-iterator in
-    let steps = c.in-Some.ensures.steps in
-    let gives = item_given {A = g.row.A.Denot} now c.next.new.self c.in-Some.lexed
-    c.in_ok-lexed.lexed c.in_ok-lexed.was steps in
+    let gives = rw c.in_ok-lexed.was at c.in-Some.ensures.steps in
     let before = c.loop-lexed.invariant in
     let read = c.in_default.ensures before.token before.kept in
     record {
       token = Some (token_of c.in_ok-lexed.lexed.token);
       kept = sym c.of-last.ensures;
-      leads = Leads-read {A = g.row.A.Denot} c.args.lexer now c.next.new.self c.args.self.now
-          c.loop-lexed.self c.read.new.self before.token c.in_ok-lexed.lexed read.0 before.leads
-          gives read.1 read.2;
+      leads = Leads-read {A = g.row.A.Denot} before.leads c.read.new.self c.next.new.self
+          c.in_ok-lexed.lexed read.0 gives read.1 read.2;
     }
 
 pub returns-in-Err : goal.returns-in-Err
 returns-in-Err g c =
-    let now = c.loop-lexed.lexed-iterator in
-    let steps = c.in-Some.ensures.steps in
-    let gives = item_given {A = g.row.A.Denot} now c.next.new.self c.in-Some.lexed
-    c.in_ok-lexed.lexed c.in_ok-lexed.was steps in
+    let gives = rw c.in_ok-lexed.was at c.in-Some.ensures.steps in
     let before = c.loop-lexed.invariant in
-    ReadsAll-read {A = g.row.A.Denot} c.args.lexer now c.next.new.self c.args.self.now
-    c.loop-lexed.self c.read.new.self before.token _ c.in-Err.halt c.failure.result before.leads
-    gives (c.in-Err.ensures before.token before.kept) (subst (λ t. Says {A = g.row.A.Denot} t
-    c.in-Err.halt c.read.new.self c.failure.result) c.original-text.ensures c.failure.ensures)
+    ReadsAll-read {A = g.row.A.Denot} before.leads c.read.new.self c.next.new.self _
+    c.in-Err.halt c.failure.result gives (c.in-Err.ensures before.token before.kept)
+    (rw c.original-text.ensures at c.failure.ensures)
 
 pub returns-in-Ok : goal.returns-in-Ok
 returns-in-Ok g c =
     let before = c.loop-lexed.invariant in
-    ReadsAll-end {A = g.row.A.Denot} c.args.lexer c.loop-lexed.lexed-iterator c.args.self.now
-    c.loop-lexed.self c.finish.new.self before.token before.leads c.in-None.ensures.steps.0
+    ReadsAll-end {A = g.row.A.Denot} before.leads c.finish.new.self c.in-None.ensures.steps.0
     (subst (λ t. GivesAt {A = g.row.A.Denot} before.token (Ok tt) c.finish.new.self
     (conclude (length t) (state_at {A = g.row.A.Denot} before.token c.loop-lexed.self)))
     c.original-text.ensures (c.in-Ok.ensures before.token before.kept))
 
 pub returns-in-Err-finish : goal.returns-in-Err-finish
 returns-in-Err-finish g c =
-    let h = c.in-Err-finish.halt in
-    let failure = c.failure-in-Err-finish.result in
     let before = c.loop-lexed.invariant in
-    ReadsAll-halt {A = g.row.A.Denot} c.args.lexer c.loop-lexed.lexed-iterator c.args.self.now
-    c.loop-lexed.self c.finish.new.self before.token h failure before.leads
-    c.in-None.ensures.steps.0
-    (subst (λ t. HaltsAs {A = g.row.A.Denot} h c.finish.new.self (conclude (length t)
-    (state_at {A = g.row.A.Denot} before.token c.loop-lexed.self))) c.original-text.ensures
-    (c.in-Err-finish.ensures before.token before.kept))
-    (subst (λ t. Says {A = g.row.A.Denot} t h c.finish.new.self failure) c.original-text.ensures
-    c.failure-in-Err-finish.ensures)
+    ReadsAll-halt {A = g.row.A.Denot} before.leads c.finish.new.self c.in-Err-finish.halt
+    c.failure-in-Err-finish.result c.in-None.ensures.steps.0
+    (subst (λ t. HaltsAs {A = g.row.A.Denot} c.in-Err-finish.halt c.finish.new.self
+    (conclude (length t) (state_at {A = g.row.A.Denot} before.token c.loop-lexed.self)))
+    c.original-text.ensures (c.in-Err-finish.ensures before.token before.kept))
+    (rw c.original-text.ensures at c.failure-in-Err-finish.ensures)

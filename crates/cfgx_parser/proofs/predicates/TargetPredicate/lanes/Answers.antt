@@ -1,17 +1,8 @@
 -- The row that is added is the last one that is left; in the end none is.
-use Rattle.std.proofs.Common.{◌∙◌, [], ap, refl, sym}
-use Rattle.std.proofs.lemmas.List.{append-nil}
+use Rattle.std.proofs.Common.{◌∙◌, ap}
 use Rattle.cfgx_syntax.specs.Kleene.{lane}
-use Rattle.cfgx_parser.proofs.Lanes.{Added-next, Added-fit, Added-end}
+use Rattle.cfgx_parser.proofs.Lanes.{Added-fit, Added-end}
 use Rattle.cfgx_parser.proofs.predicates.TargetPredicate.lanes.Goals as goal
-
-pub loop-row-init : goal.loop-row-init
-loop-row-init g c = record {
-  done = [];
-  rows_are = sym (append-nil c.args.rows.now);
-  true_is = refl;
-  false_is = refl;
-}
 
 pub with_lowest-is_true-requires : goal.with_lowest-is_true-requires
 with_lowest-is_true-requires g c =
@@ -22,12 +13,6 @@ pub with_lowest-is_false-requires : goal.with_lowest-is_false-requires
 with_lowest-is_false-requires g c =
     (Added-fit c.in-Some.before.now c.in-Some.row.now c.in-Some.ensures.cases.0 c.requires
     c.loop-row.invariant).1
-
-pub loop-row-preserved : goal.loop-row-preserved
-loop-row-preserved g c =
-    Added-next c.in-Some.before.now c.in-Some.row.now _ _ c.matches-answer.result
-    c.in-Some.ensures.cases.0 c.matches-answer.ensures c.with_lowest-is_true.ensures
-    c.with_lowest-is_false.ensures c.loop-row.invariant
 
 pub new-requires : goal.new-requires
 new-requires g c = (Added-end c.in_default.ensures.cases c.loop-row.invariant).0
