@@ -1,9 +1,10 @@
 -- What a chain of calls says to a caller of `eval`.
-use Rattle.std.proofs.Common.{◌≡◌, ◌≤◌, ◌+◌, ℕ, min, suc, List, [], ◌∷◌, length, map, drop, refl}
+use Rattle.std.proofs.Common.{◌≡◌, ◌≤◌, ◌+◌, ℕ, min, suc, List, [], ◌∷◌, length, drop, refl}
 use Rattle.std.proofs.Common.{ap, ◌∙◌, arith, sym}
 use Rattle.std.specs.Borrow.{MutBor}
 use Rattle.std.specs.List.{AllZip}
 use Rattle.std.proofs.lemmas.List.{nil_from_length}
+use Rattle.std.proofs.lemmas.Slice.Zip.{AllZip-map}
 use Rattle.cfgx_grammar.specs.Question.{Question}
 use Rattle.cfgx_grammar.specs.Answer.{HasOneTree}
 use Rattle.cfgx_grammar.specs.Grammar.{HasTree}
@@ -27,18 +28,6 @@ module _ {F T : Type 0} (asker : Asker F T) where
   Calls-length _ _ _ _ (Calls.none state) = refl
   Calls-length _ _ _ _ (Calls.more _ _ _ between questions answers after _ calls) =
       ap suc (Calls-length between questions answers after calls)
-
-  -- where no call changes the closure, and each answers what a function says of its question, the
-  -- answers are those of the function
-  Calls-by : (answer_to : Question → T) (before : F) (questions : List Question)
-      (answers : List T) (after : F) → AnswersBy asker before answer_to
-      → Calls asker before questions answers after → answers ≡ map answer_to questions
-  Calls-by answer_to _ _ _ _ by (Calls.none state) = refl
-  Calls-by answer_to _ _ _ _ by
-      (Calls.more before question given between questions answers after asks calls) =
-      let first = by asks.shown given between asks.called in
-      let still : AnswersBy asker between answer_to = rw first.0 by in
-      rw (first.1, asks.shows, Calls-by answer_to between questions answers after still calls)
 
   -- where each call keeps what holds of the closure, and its answer stands in a relation to its
   -- question, so do all the answers to all the questions
@@ -114,7 +103,12 @@ pub Evaluates-by : {F T : Type 0} {logic : Operations T} {asker : Asker F T} {te
     → (answer_to : Question → T) → AnswersBy asker before answer_to
     → IsValueBy logic text answer_to value
 Evaluates-by {logic = logic} {asker} {before = before} {after} e answer_to by =
-    let answers = Calls-by asker answer_to before (asked e.one.tree) e.answers after by e.calls in
+    let answers = AllZip-map answer_to (asked e.one.tree) e.answers
+    (Calls-AllZip asker (λ state. AnswersBy asker state answer_to)
+    (λ question given. given ≡ answer_to question)
+    (λ before question given between by asks. let first = by asks.shown given between asks.called in
+    (rw (first.1, asks.shows) refl, rw first.0 by))
+    before (asked e.one.tree) e.answers after by e.calls) in
     record {
       one = e.one;
       value_is = e.value_is ∙ ap (tree_value.fold logic e.one.tree) answers;

@@ -90,9 +90,6 @@ module _ {T : Type 0} where
         absurd (own.0 (omega (arith, is)))
     each-covered (Trees.more (Tree.leaf x) trees) first place (suc offset) is inner own =
         each-covered trees (first + 1) place offset (omega (arith, is)) inner own.1
-    each-covered (Trees.more (Tree.literal truth) trees) first place zero is inner own = refl
-    each-covered (Trees.more (Tree.literal truth) trees) first place (suc offset) is inner own =
-        each-covered trees (first + 1) place offset (omega (arith, is)) inner own
     each-covered (Trees.more tree trees) first place offset is inner own =
         let these = slots (prefix tree) in
         let count = length-map (prefix tree) slot_of in
