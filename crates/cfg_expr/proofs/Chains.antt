@@ -106,7 +106,8 @@ Evaluates-by {logic = logic} {asker} {before = before} {after} e answer_to by =
     let answers = AllZip-map answer_to (asked e.one.tree) e.answers
     (Calls-AllZip asker (λ state. AnswersBy asker state answer_to)
     (λ question given. given ≡ answer_to question)
-    (λ before question given between by asks. let first = by asks.shown given between asks.called in
+    (λ before question given between by asks.
+    let first = by asks.shown given between asks.called in
     (rw (first.1, asks.shows) refl, rw first.0 by))
     before (asked e.one.tree) e.answers after by e.calls) in
     record {

@@ -5,7 +5,7 @@ use Rattle.std.proofs.Common.{map, get_or, set, refl, sym, ap, ◌∙◌, arith}
 use Rattle.std.proofs.lemmas.Bool.{cases_eq, cases_lt}
 use Rattle.std.proofs.lemmas.List.{append-nil, ext_get_or, get_or-append_right}
 use Rattle.std.proofs.lemmas.List.{get_or-set_other, get_or_append_left, get_or_past, length-map}
-use Rattle.std.proofs.lemmas.List.{length-replicate, length-set, map-append}
+use Rattle.std.proofs.lemmas.List.{get_or-replicate, length-replicate, length-set, map-append}
 use Rattle.std.proofs.lemmas.Grind.{get_or-set_at}
 use Rattle.std.specs.List.{AllByRecursion}
 use Rattle.cfgx_grammar.specs.Tree.{Tree, Trees, is_function, is_leaf, asked}
@@ -106,15 +106,12 @@ module _ {T : Type 0} where
   placed tree =
       let all = slots (prefix tree) in
       let count = length (prefix tree) in
+      let blank : (place : ℕ) → at (no_answers count) place ≡ member.Joined =
+      λ place. grind (arith, get_or-replicate, get_or_past, length-replicate) in
       put-right all (no_answers count) (places 0 tree) (asked tree)
       (read-mapped tree slot_of member.Joined)
       (length-replicate count member.Joined ∙ sym (length-map (prefix tree) slot_of))
-      (λ place misses. blank count place ∙ sym (covered tree 0 place place (omega arith) misses))
-    where
-      blank : (count place : ℕ) → at (no_answers count) place ≡ member.Joined
-      blank zero place = refl
-      blank (suc count) zero = refl
-      blank (suc count) (suc place) = blank count place
+      (λ place misses. blank place ∙ sym (covered tree 0 place place (omega arith) misses))
 
 -- answers to what a tree asks, put at its places and read, leave its value over them
 pub read-placed : {X T : Type 0} (logic : Operations T) (tree : Tree X) (answers : List T)
