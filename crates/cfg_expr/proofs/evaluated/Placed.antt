@@ -37,12 +37,6 @@ module _ {T : Type 0} where
   abbrev at : List (Member T) → ℕ → Member T
   at slots place = get_or slots place member.Joined
 
-  inside : (all : List (Member T)) (place : ℕ) (x : T) → at all place ≡ member.Leaf x
-      → place < length all
-  inside all place x here = ⊎_elim (λ below. below)
-      (λ past. absurd (cc (here, get_or_past all place member.Joined past)))
-      (cases_lt place (length all))
-
   -- where each slot is right but for the places still to come, all are right at the end
   put-right : (all slots : List (Member T)) (ps : List ℕ) (xs : List T)
       → map (at all) ps ≡ map member.Leaf xs → length slots ≡ length all
@@ -55,7 +49,9 @@ module _ {T : Type 0} where
   put-right all slots (p ∷ ps) (x ∷ xs) found many right =
       let here : at all p ≡ member.Leaf x = cc in
       let rest : map (at all) ps ≡ map member.Leaf xs = cc in
-      let below : p < length slots = omega (arith, inside all p x here) in
+      let below : p < length slots = ⊎_elim (λ below. below)
+      (λ past. absurd (cc (here, get_or_past all p member.Joined (omega (arith, many, past)))))
+      (cases_lt p (length slots)) in
       put-right all (set slots p (member.Leaf x)) ps xs rest (length-set slots p _ ∙ many)
       (λ place misses. ⊎_elim
       (λ same. get_or-set_at slots p place _ _ same below ∙ sym here ∙ ap (at all) (sym same))
