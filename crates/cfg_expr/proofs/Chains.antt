@@ -69,7 +69,8 @@ module _ {F T : Type 0} (asker : Asker F T) where
   Calls-taken seen otherwise each (x ∷ all)
       (Calls.more before question given between _ _ _ asks calls) are many =
       let one = each before question given between asks in
-      let rest = Calls-taken seen otherwise each all calls (one.1 ∙ ap (drop 1) are) (omega arith) in
+      let rest = Calls-taken seen otherwise each all calls (one.1 ∙ ap (drop 1) are)
+      (omega arith) in
       rw (one.0, are, rest)
 
 -- there the value is that over all the answers that are seen at the start, if there are as many as
