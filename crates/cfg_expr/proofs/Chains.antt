@@ -1,9 +1,10 @@
 -- What a chain of calls says to a caller of `eval`.
-use Rattle.std.proofs.Common.{◌≡◌, ◌≤◌, ◌+◌, ℕ, min, suc, List, [], ◌∷◌, length, map, drop, refl}
+use Rattle.std.proofs.Common.{◌≡◌, ◌≤◌, ◌+◌, ℕ, min, suc, List, [], ◌∷◌, length, drop, refl}
 use Rattle.std.proofs.Common.{ap, ◌∙◌, arith, sym}
 use Rattle.std.specs.Borrow.{MutBor}
 use Rattle.std.specs.List.{AllZip}
 use Rattle.std.proofs.lemmas.List.{nil_from_length}
+use Rattle.std.proofs.lemmas.Slice.Zip.{AllZip-map}
 use Rattle.cfgx_grammar.specs.Question.{Question}
 use Rattle.cfgx_grammar.specs.Answer.{HasOneTree}
 use Rattle.cfgx_grammar.specs.Grammar.{HasTree}
@@ -22,23 +23,10 @@ AddsOne {F} {T} asker seen most = (before : F) (question : Question) (given : T)
 
 module _ {F T : Type 0} (asker : Asker F T) where
   -- there are as many answers as questions
-  pub Calls-length : (before : F) (questions : List Question) (answers : List T) (after : F)
+  pub Calls-length : {before after : F} {questions : List Question} {answers : List T}
       → Calls asker before questions answers after → length answers ≡ length questions
-  Calls-length _ _ _ _ (Calls.none state) = refl
-  Calls-length _ _ _ _ (Calls.more _ _ _ between questions answers after _ calls) =
-      ap suc (Calls-length between questions answers after calls)
-
-  -- where no call changes the closure, and each answers what a function says of its question, the
-  -- answers are those of the function
-  Calls-by : (answer_to : Question → T) (before : F) (questions : List Question)
-      (answers : List T) (after : F) → AnswersBy asker before answer_to
-      → Calls asker before questions answers after → answers ≡ map answer_to questions
-  Calls-by answer_to _ _ _ _ by (Calls.none state) = refl
-  Calls-by answer_to _ _ _ _ by
-      (Calls.more before question given between questions answers after asks calls) =
-      let first = by asks.shown given between asks.called in
-      let still : AnswersBy asker between answer_to = rw first.0 by in
-      rw (first.1, asks.shows, Calls-by answer_to between questions answers after still calls)
+  Calls-length (Calls.none state) = refl
+  Calls-length (Calls.more _ _ _ _ _ _ _ _ calls) = ap suc (Calls-length calls)
 
   -- where each call keeps what holds of the closure, and its answer stands in a relation to its
   -- question, so do all the answers to all the questions
@@ -56,16 +44,14 @@ module _ {F T : Type 0} (asker : Asker F T) where
   -- where each call adds one to what the closure counts in, up to a bound, the chain adds the
   -- number of questions
   Calls-count : (seen : F → MutBor ℕ) (most : ℕ) → AddsOne asker seen most
-      → (before : F) (questions : List Question) (answers : List T) (after : F)
+      → {before after : F} {questions : List Question} {answers : List T}
       → (seen before).now ≤ most → Calls asker before questions answers after
       → ((seen after).now ≡ min ((seen before).now + length questions) most)
       × ((seen after).ghost_name ≡ (seen before).ghost_name)
-  Calls-count seen most each _ _ _ _ fits (Calls.none state) = (omega arith, refl)
-  Calls-count seen most each _ _ _ _ fits
-      (Calls.more before question given between questions answers after asks calls) =
+  Calls-count seen most each fits (Calls.none state) = (omega arith, refl)
+  Calls-count seen most each fits (Calls.more before question given between _ _ _ asks calls) =
       let first = each before question given between asks in
-      let others = Calls-count seen most each between questions answers after
-      (omega (arith, first.0)) calls in
+      let others = Calls-count seen most each (omega (arith, first.0)) calls in
       (omega (arith, first.0, others.0), others.1 ∙ first.1)
 
   -- where each call answers the first one of the answers that are seen of the closure, and takes it
@@ -74,22 +60,18 @@ module _ {F T : Type 0} (asker : Asker F T) where
       → ((before : F) (question : Question) (given : T) (after : F)
       → Asks asker before question given after
       → (given ≡ first_or otherwise (seen before)) × (seen after ≡ drop 1 (seen before)))
-      → (before : F) (questions : List Question) (answers : List T) (after : F) (all : List T)
+      → {before after : F} {questions : List Question} {answers : List T} (all : List T)
       → Calls asker before questions answers after → seen before ≡ all
       → length all ≡ length questions → answers ≡ all
-  Calls-taken seen otherwise each _ _ _ _ all (Calls.none state) are many =
-      sym (nil_from_length all many)
-  Calls-taken seen otherwise each _ _ _ _ [] (Calls.more _ _ _ _ _ _ _ asks calls) are many =
+  Calls-taken seen otherwise each all (Calls.none state) are many = sym (nil_from_length all many)
+  Calls-taken seen otherwise each [] (Calls.more _ _ _ _ _ _ _ asks calls) are many =
       absurd (omega arith)
-  Calls-taken seen otherwise each _ _ _ _ (x ∷ all)
-      (Calls.more before question given between questions answers after asks calls) are many =
+  Calls-taken seen otherwise each (x ∷ all)
+      (Calls.more before question given between _ _ _ asks calls) are many =
       let one = each before question given between asks in
-      rw (
-        one.0,
-        are,
-        Calls-taken seen otherwise each between questions answers after all calls
-            (one.1 ∙ ap (drop 1) are) (omega arith),
-      )
+      let rest = Calls-taken seen otherwise each all calls (one.1 ∙ ap (drop 1) are)
+      (omega arith) in
+      rw (one.0, are, rest)
 
 -- there the value is that over all the answers that are seen at the start, if there are as many as
 -- a tree of the text asks
@@ -103,8 +85,7 @@ pub Evaluates-taken : {F T : Type 0} {logic : Operations T} {asker : Asker F T} 
     → (tree : Tree Question) × HasTree text tree × (length answers ≡ length (asked tree))
     → (one : HasOneTree text) × (value ≡ tree_value.fold logic one.tree answers)
 Evaluates-taken {logic} {asker} {before} {after} seen otherwise answers e each are tree =
-    let taken = Calls-taken asker seen otherwise each before (asked e.one.tree) e.answers after
-    answers e.calls are
+    let taken = Calls-taken asker seen otherwise each answers e.calls are
     (tree.2 ∙ ap (λ tree. length (asked tree)) (e.one.only tree.0 tree.1)) in
     (e.one, e.value_is ∙ ap (tree_value.fold logic e.one.tree) taken)
 
@@ -114,7 +95,13 @@ pub Evaluates-by : {F T : Type 0} {logic : Operations T} {asker : Asker F T} {te
     → (answer_to : Question → T) → AnswersBy asker before answer_to
     → IsValueBy logic text answer_to value
 Evaluates-by {logic = logic} {asker} {before = before} {after} e answer_to by =
-    let answers = Calls-by asker answer_to before (asked e.one.tree) e.answers after by e.calls in
+    let answers = AllZip-map answer_to (asked e.one.tree) e.answers
+    (Calls-AllZip asker (λ state. AnswersBy asker state answer_to)
+    (λ question given. given ≡ answer_to question)
+    (λ before question given between by asks.
+    let first = by asks.shown given between asks.called in
+    (rw (first.1, asks.shows) refl, rw first.0 by))
+    before (asked e.one.tree) e.answers after by e.calls) in
     record {
       one = e.one;
       value_is = e.value_is ∙ ap (tree_value.fold logic e.one.tree) answers;
@@ -128,7 +115,6 @@ pub Evaluates-count : {F T : Type 0} {logic : Operations T} {asker : Asker F T} 
     → ((seen before).ghost_name ≡ (seen after).ghost_name → count ≡ (seen after).now)
     → (one : HasOneTree text) × (count ≡ min (length (asked one.tree)) most)
 Evaluates-count {asker = asker} {before = before} {after} seen most e each starts ends =
-    let all = Calls-count asker seen most each before (asked e.one.tree) e.answers after
-    (omega (arith, starts)) e.calls in
+    let all = Calls-count asker seen most each (omega (arith, starts)) e.calls in
     let is = ends (sym all.1) in
     (e.one, omega (arith, all.0, starts, is))

@@ -93,16 +93,9 @@ module _ (fill : Bool) where
       rw (filled_by-odds xs answers values given.1 made.1, sym given.0, made.0) refl
 
   -- the tree with parities has the answers of the tree, and says how it is filled
-  abbrev Says : Bool → Tree (Option Bool) → Type 0
-  Says odd tree = let with = with_odds odd tree in
-      Alike Answer with tree × Alike Filled with (filled (turned fill odd) tree)
-
-  abbrev EachSays : Bool → Trees (Option Bool) → Type 0
-  EachSays odd trees = let with = with_odds_each odd trees in
-      AlikeEach Answer with trees × AlikeEach Filled with (filled_each (turned fill odd) trees)
-
   mutual
-    says : (odd : Bool) (tree : Tree (Option Bool)) → Says odd tree
+    says : (odd : Bool) (tree : Tree (Option Bool)) → let with = with_odds odd tree in
+        Alike Answer with tree × Alike Filled with (filled (turned fill odd) tree)
     says odd (Tree.leaf x) = (Alike.leaf _ _ refl, Alike.leaf _ _ refl)
     says odd (Tree.literal truth) = (Alike.literal truth, Alike.literal truth)
     says odd (Tree.all trees) =
@@ -113,7 +106,8 @@ module _ (fill : Bool) where
         let one = says (not odd) tree in
         (Alike.not _ _ one.0, rw turned-not (Alike.not _ _ one.1))
 
-    each-says : (odd : Bool) (trees : Trees (Option Bool)) → EachSays odd trees
+    each-says : (odd : Bool) (trees : Trees (Option Bool)) → let with = with_odds_each odd trees in
+        AlikeEach Answer with trees × AlikeEach Filled with (filled_each (turned fill odd) trees)
     each-says odd Trees.none = (AlikeEach.none, AlikeEach.none)
     each-says odd (Trees.more tree trees) =
         let one = says odd tree in

@@ -9,13 +9,13 @@ use Rattle.cfg_expr.specs.declared.expr.evaluating.Member.{Member}
 use Rattle.cfg_expr.specs.nodes.Answers.{Asking, Ends, with_answers}
 
 -- one call more
-Calls-then : {F T : Type 0} {asker : Asker F T} (start : F) (questions : List Question)
-    (answers : List T) (now : F) {question : Question} {answer : T} {after : F}
+Calls-then : {F T : Type 0} {asker : Asker F T} {start now after : F} {questions : List Question}
+    {answers : List T} {question : Question} {answer : T}
     → Calls asker start questions answers now → Asks asker now question answer after
     → Calls asker start (questions ++ question ∷ []) (answers ++ answer ∷ []) after
-Calls-then _ _ _ _ (Calls.none state) asks = Calls.more _ _ _ _ _ _ _ asks (Calls.none _)
-Calls-then _ _ _ _ (Calls.more _ _ _ between questions answers now first calls) asks =
-    Calls.more _ _ _ _ _ _ _ first (Calls-then between questions answers now calls asks)
+Calls-then (Calls.none state) asks = Calls.more _ _ _ _ _ _ _ asks (Calls.none _)
+Calls-then (Calls.more _ _ _ _ _ _ _ first calls) asks =
+    Calls.more _ _ _ _ _ _ _ first (Calls-then calls asks)
 
 module _ {F T : Type 0} {asker : Asker F T} {start now : F} {questions rest : List Question}
     {at left : List ℕ} {initial slots : List (Member T)}
@@ -34,7 +34,7 @@ module _ {F T : Type 0} {asker : Asker F T} {start now : F} {questions rest : Li
   Asking-next {question} {others} {answer} is asks puts = record {
     before = asking.before ++ question ∷ [];
     given = asking.given ++ answer ∷ [];
-    calls = Calls-then _ _ _ _ asking.calls asks;
+    calls = Calls-then asking.calls asks;
     all = asking.all ∙ rw (is, append_assoc asking.before (question ∷ []) others) refl;
     puts = λ more. puts more ∙ asking.puts (answer ∷ more)
         ∙ rw (append_assoc asking.given (answer ∷ []) more) refl;

@@ -5,7 +5,7 @@ use Rattle.std.proofs.Common.{map, get_or, set, refl, sym, ap, ◌∙◌, arith}
 use Rattle.std.proofs.lemmas.Bool.{cases_eq, cases_lt}
 use Rattle.std.proofs.lemmas.List.{append-nil, ext_get_or, get_or-append_right}
 use Rattle.std.proofs.lemmas.List.{get_or-set_other, get_or_append_left, get_or_past, length-map}
-use Rattle.std.proofs.lemmas.List.{length-replicate, length-set, map-append}
+use Rattle.std.proofs.lemmas.List.{get_or-replicate, length-replicate, length-set, map-append}
 use Rattle.std.proofs.lemmas.Grind.{get_or-set_at}
 use Rattle.std.specs.List.{AllByRecursion}
 use Rattle.cfgx_grammar.specs.Tree.{Tree, Trees, is_function, is_leaf, asked}
@@ -37,12 +37,6 @@ module _ {T : Type 0} where
   abbrev at : List (Member T) → ℕ → Member T
   at slots place = get_or slots place member.Joined
 
-  inside : (all : List (Member T)) (place : ℕ) (x : T) → at all place ≡ member.Leaf x
-      → place < length all
-  inside all place x here = ⊎_elim (λ below. below)
-      (λ past. absurd (cc (here, get_or_past all place member.Joined past)))
-      (cases_lt place (length all))
-
   -- where each slot is right but for the places still to come, all are right at the end
   put-right : (all slots : List (Member T)) (ps : List ℕ) (xs : List T)
       → map (at all) ps ≡ map member.Leaf xs → length slots ≡ length all
@@ -55,7 +49,9 @@ module _ {T : Type 0} where
   put-right all slots (p ∷ ps) (x ∷ xs) found many right =
       let here : at all p ≡ member.Leaf x = cc in
       let rest : map (at all) ps ≡ map member.Leaf xs = cc in
-      let below : p < length slots = omega (arith, inside all p x here) in
+      let below : p < length slots = ⊎_elim (λ below. below)
+      (λ past. absurd (cc (here, get_or_past all p member.Joined (omega (arith, many, past)))))
+      (cases_lt p (length slots)) in
       put-right all (set slots p (member.Leaf x)) ps xs rest (length-set slots p _ ∙ many)
       (λ place misses. ⊎_elim
       (λ same. get_or-set_at slots p place _ _ same below ∙ sym here ∙ ap (at all) (sym same))
@@ -90,9 +86,6 @@ module _ {T : Type 0} where
         absurd (own.0 (omega (arith, is)))
     each-covered (Trees.more (Tree.leaf x) trees) first place (suc offset) is inner own =
         each-covered trees (first + 1) place offset (omega (arith, is)) inner own.1
-    each-covered (Trees.more (Tree.literal truth) trees) first place zero is inner own = refl
-    each-covered (Trees.more (Tree.literal truth) trees) first place (suc offset) is inner own =
-        each-covered trees (first + 1) place offset (omega (arith, is)) inner own
     each-covered (Trees.more tree trees) first place offset is inner own =
         let these = slots (prefix tree) in
         let count = length-map (prefix tree) slot_of in
@@ -109,15 +102,12 @@ module _ {T : Type 0} where
   placed tree =
       let all = slots (prefix tree) in
       let count = length (prefix tree) in
+      let blank : (place : ℕ) → at (no_answers count) place ≡ member.Joined =
+      λ place. grind (arith, get_or-replicate, get_or_past, length-replicate) in
       put-right all (no_answers count) (places 0 tree) (asked tree)
       (read-mapped tree slot_of member.Joined)
       (length-replicate count member.Joined ∙ sym (length-map (prefix tree) slot_of))
-      (λ place misses. blank count place ∙ sym (covered tree 0 place place (omega arith) misses))
-    where
-      blank : (count place : ℕ) → at (no_answers count) place ≡ member.Joined
-      blank zero place = refl
-      blank (suc count) zero = refl
-      blank (suc count) (suc place) = blank count place
+      (λ place misses. blank place ∙ sym (covered tree 0 place place (omega arith) misses))
 
 -- answers to what a tree asks, put at its places and read, leave its value over them
 pub read-placed : {X T : Type 0} (logic : Operations T) (tree : Tree X) (answers : List T)

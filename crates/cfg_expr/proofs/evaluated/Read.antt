@@ -5,11 +5,11 @@ use Rattle.std.proofs.Common.{length-append}
 use Rattle.std.proofs.Math.Seq.{drop-append_seam, take-append_seam}
 use Rattle.std.proofs.lemmas.List.{get_or-take, map-append, drop_more, take-take}
 use Rattle.cfgx_grammar.specs.Tree.{Tree, Trees, is_function, is_leaf, count}
-use Rattle.cfgx_grammar.specs.Fold.{Operations, constant, value_of, values_by}
+use Rattle.cfgx_grammar.specs.Fold.{Operations, constant, from_last, value_of, values_by}
 use Rattle.cfgx_parser.specs.nodes.Prefix.{Node, prefix, prefix_each}
 use Rattle.cfgx_parser.specs.nodes.Shape.{Shape, shape_of}
-use Rattle.cfg_expr.specs.nodes.Reading.{Member, values_in, top_value, joined, joined_list, put}
-use Rattle.cfg_expr.specs.nodes.Reading.{read, held, stack_of}
+use Rattle.cfg_expr.specs.nodes.Reading.{Member, begin_of, join_of, values_in, top_value}
+use Rattle.cfg_expr.specs.nodes.Reading.{joined_list, put, read, held, stack_of}
 use Rattle.cfg_expr.specs.declared.expr.evaluating.Connective.{Connective}
 use Rattle.cfg_expr.specs.declared.expr.evaluating.Connective.TheVariants.{And, Or}
 use Rattle.cfg_expr.specs.declared.expr.evaluating.Stack.{Stack}
@@ -60,23 +60,22 @@ module _ {T : Type 0} (logic : Operations T) where
   -- a list takes its members off
   joined-entries : (connective : Connective) (trees : Trees T) (rest : List (Member T))
       → joined_list logic connective (count trees) (entries trees ++ rest)
-      ≡ member.Function (joined logic connective (entries trees)) ∷ rest
+      ≡ member.Function (from_last (join_of logic connective) (begin_of logic connective)
+      (values_by logic is_function trees ++ values_by logic is_leaf trees)) ∷ rest
   joined-entries connective trees rest =
       let many = length-entries trees in
+      let values = values-entries trees in
       let all : min (count trees) (length (entries trees ++ rest)) ≡ length (entries trees) =
       omega (arith, length-append (entries trees) rest) in
-      rw (all, take-append_seam (entries trees) rest, drop-append_seam (entries trees) rest) refl
+      rw (all, take-append_seam (entries trees) rest, drop-append_seam (entries trees) rest)
+      (rw (values.0, values.1) refl)
 
   mutual
     pub read-tree : (tree : Tree T) → Reads (prefix tree) (entry tree ∷ [])
     read-tree (Tree.all trees) shapes slots =
-        let values = values-entries trees in
-        rw (read-each trees shapes slots)
-        (joined-entries And trees _ ∙ rw (values.0, values.1) refl)
+        rw (read-each trees shapes slots) (joined-entries And trees _)
     read-tree (Tree.any trees) shapes slots =
-        let values = values-entries trees in
-        rw (read-each trees shapes slots)
-        (joined-entries Or trees _ ∙ rw (values.0, values.1) refl)
+        rw (read-each trees shapes slots) (joined-entries Or trees _)
     read-tree (Tree.not tree) shapes slots =
         rw (read-tree tree shapes slots, value-entry tree (read logic shapes slots)) refl
     read-tree tree shapes slots = refl

@@ -15,6 +15,6 @@ returns-clause-value g c =
       calls = ends.calls;
       value_is = c.read_value.ensures one.tree ends.answers
           (shapes-kept c.nodes-nodes.result.now c.nodes-nodes.ensures.nodes one)
-          (Calls-length g.EP.FnMut _ _ _ _ ends.calls)
+          (Calls-length g.EP.FnMut ends.calls)
           (rw blank at ends.slots_are);
     }

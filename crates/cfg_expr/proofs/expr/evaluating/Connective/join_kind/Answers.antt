@@ -1,5 +1,5 @@
 -- Each member is one step of the pass.
-use Rattle.std.proofs.Common.{◌≡◌, ◌∙◌, ◌+◌, ◌-◌, ap, sym, arith}
+use Rattle.std.proofs.Common.{◌≡◌, ◌+◌, ◌-◌, ap, sym, arith}
 use Rattle.cfg_expr.specs.nodes.Reading.{is_held}
 use Rattle.cfg_expr.proofs.evaluated.Joined.{Joins-next}
 use Rattle.cfg_expr.proofs.expr.evaluating.Connective.join_kind.Goals as goal
@@ -14,13 +14,3 @@ loop-place-preserved g c =
     (omega (arith, c.loop-place.auto.members, c.loop-place.auto.place, more))
     (rw one_more at c.loop-place.invariant) step.value step.member
     (ap is_held (sym step.member)))
-
-pub returns-clause-value : goal.returns-clause-value
-returns-clause-value g c =
-    let start : c.loop-place.place ≡ 0 = omega (arith, c.loop-place-test.false) in
-    rw start at c.loop-place.invariant.0
-
-pub returns-clause-members : goal.returns-clause-members
-returns-clause-members g c =
-    let start : c.loop-place.place ≡ 0 = omega (arith, c.loop-place-test.false) in
-    rw start at c.loop-place.invariant.1
