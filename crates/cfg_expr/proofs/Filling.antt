@@ -8,8 +8,7 @@ use Rattle.cfgx_grammar.specs.Question.{Question}
 use Rattle.cfgx_grammar.specs.Tree.{Tree, Trees, asked, count}
 use Rattle.cfgx_grammar.specs.Fold.{answered}
 use Rattle.cfgx_grammar.specs.Filling.{three_valued, filled, filled_each, polar}
-use Rattle.cfgx_grammar.proofs.Alike.{Alike, AlikeEach}
-use Rattle.cfgx_grammar.proofs.Alike.{answered-shape, asked-alike}
+use Rattle.cfgx_grammar.proofs.Alike.{Alike, AlikeEach, answered-shape, asked-alike}
 use Rattle.cfgx_grammar.proofs.Dealing.{asked-answered}
 use Rattle.cfgx_parser.specs.nodes.Prefix.{Node, prefix, prefix_each, places}
 use Rattle.cfgx_parser.specs.nodes.Shape.{Shape, shape, shape_of}

@@ -32,6 +32,7 @@ fn write_once<'a, W: Write>(writer: &mut W, bytes: &'a [u8]) -> io::Result<&'a [
 }
 
 /// Writes all the bytes, in as many calls as the writer needs. No failed call is tried again.
+#[tactic(auto, using(cfgx_grammar::proofs::Writing::takes_more))]
 fn write_bytes<W: Write>(writer: &mut W, bytes: &[u8]) -> io::Result<()>
     ensures { Writes (W.contents writer.old) (W.contents writer.new) result bytes.now }
 {
