@@ -64,14 +64,13 @@ module _ {F T : Type 0} (asker : Asker F T) where
       → Calls asker before questions answers after → seen before ≡ all
       → length all ≡ length questions → answers ≡ all
   Calls-taken seen otherwise each all (Calls.none state) are many = sym (nil_from_length all many)
-  Calls-taken seen otherwise each [] (Calls.more _ _ _ _ _ _ _ asks calls) are many =
-      absurd (omega arith)
   Calls-taken seen otherwise each (x ∷ all)
       (Calls.more before question given between _ _ _ asks calls) are many =
       let one = each before question given between asks in
       let rest = Calls-taken seen otherwise each all calls (one.1 ∙ ap (drop 1) are)
       (omega arith) in
       rw (one.0, are, rest)
+  Calls-taken seen otherwise each [] calls are many = absurd (omega arith)
 
 -- there the value is that over all the answers that are seen at the start, if there are as many as
 -- a tree of the text asks

@@ -2,7 +2,7 @@
 use Rattle.std.proofs.Common.{◌≡◌, ℕ, Bool, true, false, not, List, [], ◌∷◌, ◌++◌, length, map}
 use Rattle.std.proofs.Common.{replicate, Option, sym, refl, ap, ◌∙◌, append_assoc}
 use Rattle.std.specs.Prelude.{unwrap_or}
-use Rattle.std.specs.List.{AllZip}
+use Rattle.std.proofs.lemmas.Slice.Zip.{AllZip-map}
 use Rattle.std.proofs.lemmas.List.{append-nil, map-append}
 use Rattle.cfgx_grammar.specs.Question.{Question}
 use Rattle.cfgx_grammar.specs.Tree.{Tree, Trees, asked, count}
@@ -75,21 +75,19 @@ turned-not true true = refl
 turned-not false true = refl
 
 abbrev Answer : Option Bool × Bool → Option Bool → Type 0
-Answer x answer = x.0 ≡ answer
+Answer x answer = answer ≡ x.0
 
 module _ (fill : Bool) where
-  abbrev Filled : Option Bool × Bool → Bool → Type 0
-  Filled x value = value ≡ unwrap_or x.0 (turned fill x.1)
+  abbrev value : Option Bool × Bool → Bool
+  value x = unwrap_or x.0 (turned fill x.1)
 
-  filled_by-odds : (xs : List (Option Bool × Bool)) (answers : List (Option Bool))
-      (values : List Bool) → AllZip Answer xs answers → AllZip Filled xs values
-      → filled_by (map (λ x. x.1) xs) answers fill ≡ values
-  filled_by-odds [] answers [] given made = refl
-  filled_by-odds [] answers (value ∷ values) given made = absurd made
-  filled_by-odds (x ∷ xs) [] values given made = absurd given
-  filled_by-odds (x ∷ xs) (answer ∷ answers) [] given made = absurd made
-  filled_by-odds (x ∷ xs) (answer ∷ answers) (value ∷ values) given made =
-      rw (filled_by-odds xs answers values given.1 made.1, sym given.0, made.0) refl
+  abbrev Filled : Option Bool × Bool → Bool → Type 0
+  Filled x filled = filled ≡ value x
+
+  filled_by-odds : (xs : List (Option Bool × Bool))
+      → filled_by (map (λ x. x.1) xs) (map (λ x. x.0) xs) fill ≡ map value xs
+  filled_by-odds [] = refl
+  filled_by-odds (x ∷ xs) = rw (filled_by-odds xs) refl
 
   -- the tree with parities has the answers of the tree, and says how it is filled
   mutual
@@ -129,7 +127,9 @@ polar-kept nodes tree nodes_are found asks answers fill asks_are many is =
     let places_are : asks ≡ places 0 with = asks_are ∙ places-shape tree given same
     ∙ sym (places-shape with given all.0) in
     let asks_given = asked-answered three_valued.top tree answers many in
+    let answers_are = AllZip-map (λ x. x.0) (asked with) answers
+    (rw asks_given at (asked-alike Answer with given all.0)) in
     rw (passed, places_are, read-mapped with odd_in false)
-    (filled_by-odds fill (asked with) answers _
-    (rw asks_given at (asked-alike Answer with given all.0))
-    (asked-alike (Filled fill) with _ all.1))
+    (ap (λ l. filled_by (map (λ x. x.1) (asked with)) l fill) answers_are
+    ∙ filled_by-odds fill (asked with)
+    ∙ sym (AllZip-map (value fill) (asked with) _ (asked-alike (Filled fill) with _ all.1)))

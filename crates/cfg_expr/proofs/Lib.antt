@@ -1,3 +1,4 @@
 pub mod Chains
 pub mod Filling
+pub mod Parts
 pub mod evaluated

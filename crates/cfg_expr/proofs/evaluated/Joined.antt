@@ -34,15 +34,6 @@ joined-twice logic connective members =
     (sym (from_last-append (join_of logic connective) (begin_of logic connective)
     (values_in true members) (values_in false members)))
 
--- one pass does, if it leaves none
-pub joined-once : {T : Type 0} (logic : Operations T) (connective : Connective)
-    (members : List (Member T)) → values_in true (map (taken false) members) ≡ []
-    → from_last (join_of logic connective) (begin_of logic connective) (values_in false members)
-    ≡ joined logic connective members
-joined-once logic connective members none =
-    ap (from_last (join_of logic connective) _) (sym none)
-    ∙ joined-twice logic connective members
-
 from_last-cons : {T : Type 0} (join : T → T → T) (begin : T) (value : Option T) (values : List T)
     → join_value join (from_last join begin values) value
     ≡ from_last join begin (cons_option value values)

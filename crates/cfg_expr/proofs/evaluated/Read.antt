@@ -112,12 +112,8 @@ Reading-next shapes {old} {slots} place otherwise inside kept reading are front 
     record {
       below = within.0;
       within = within.1;
-      are = are ∙ rw (
-        reading.are,
-        one,
-        drop_more shapes place Shape.predicate inside,
-        drop_more old place otherwise kept,
-      ) refl;
+      are = are ∙ rw (reading.are, one, drop_more shapes place Shape.predicate inside)
+          (rw (drop_more old place otherwise kept) refl);
       front = front ∙ sym (take-take place (place + 1) slots (omega arith))
           ∙ ap (take place) reading.front ∙ take-take place (place + 1) old (omega arith);
     }

@@ -43,16 +43,6 @@ fn write_bytes<W: Write>(writer: &mut W, bytes: &[u8]) -> io::Result<()>
     Ok(())
 }
 
-/// Writes a key, and what stands between it and its value.
-#[inline(always)]
-fn write_key<W: Write>(writer: &mut W, key: &str) -> io::Result<()>
-    ensures { Writes (W.contents writer.old) (W.contents writer.new) result
-        (key.now ++ codes " = \"") }
-{
-    write_bytes(writer, key.as_bytes())?;
-    write_bytes(writer, b" = \"")
-}
-
 /// Writes a number in decimal.
 fn write_decimal<W: Write>(writer: &mut W, number: u16) -> io::Result<()>
     ensures { Writes (W.contents writer.old) (W.contents writer.new) result (decimal number) }
@@ -84,15 +74,37 @@ impl Value<'_> {
     }
 }
 
+/// Writes a value and the quote behind it.
+#[inline(always)]
+#[tactic(auto, using(crate::proofs::Parts::front_of_first, crate::proofs::Parts::writes_second))]
+fn write_to_quote<W: Write>(writer: &mut W, value: Value<'_>) -> io::Result<()>
+    ensures { Writes (W.contents writer.old) (W.contents writer.new) result
+        (value_bytes value.entry ++ codes "\"") }
+{
+    value.write(writer)?;
+    write_bytes(writer, b"\"")
+}
+
+/// Writes what stands in front of a value, the value, and the quote behind it.
+#[inline(always)]
+#[tactic(auto, using(crate::proofs::Parts::front_of_first, crate::proofs::Parts::writes_second))]
+fn write_quoted<W: Write>(writer: &mut W, front: &[u8], value: Value<'_>) -> io::Result<()>
+    ensures { Writes (W.contents writer.old) (W.contents writer.new) result
+        (front.now ++ (value_bytes value.entry ++ codes "\"")) }
+{
+    write_bytes(writer, front)?;
+    write_to_quote(writer, value)
+}
+
 /// Writes a key and its value, in quotes.
 #[inline(always)]
+#[tactic(auto, using(crate::proofs::Parts::front_of_first, crate::proofs::Parts::writes_second))]
 fn write_value<W: Write>(writer: &mut W, key: &str, value: Value<'_>) -> io::Result<()>
     ensures { Writes (W.contents writer.old) (W.contents writer.new) result
         (key_and_value key.now (value_bytes value.entry)) }
 {
-    write_key(writer, key)?;
-    value.write(writer)?;
-    write_bytes(writer, b"\"")
+    write_bytes(writer, key.as_bytes())?;
+    write_quoted(writer, b" = \"", value)
 }
 
 /// The value that names the byte order.

@@ -18,20 +18,17 @@ returns-clause-stack g c =
     let slots = c.put_top-first.new.slots in
     let start = c.put_top-first.ensures.stack in
     let stacked = length-drop first slots in
+    let top = c.put_top-first.ensures in
+    let front : length (take first slots) ≡ first =
+    omega (arith, c.requires, top.begins, top.many, length-take first slots) in
+    let taken = length-take (first + c.min.result - first) (drop first slots) in
+    let part : length c.join_all-value.new.members ≡ c.min.result =
+    omega (arith, c.min.ensures, c.join_all-value.auto.members, stacked, taken) in
     let present : first + c.min.result - first
     ≡ min c.args.count (length (stack_of c.args.stack c.args.slots.now)) =
     omega (arith, c.min.ensures, stacked, ap length start) in
     rw (sym present, sym start, sym c.join_all-value.ensures)
     (ap (λ l. member.Function c.join_all-value.result ∷ l)
     (part-dropped (take first slots) c.join_all-value.new.members
-    (drop (first + c.min.result - first) (drop first slots)) (first + c.min.result) (omega (
-      arith,
-      c.requires,
-      c.join_all-value.auto.members,
-      c.min.ensures,
-      c.put_top-first.ensures.begins,
-      c.put_top-first.ensures.many,
-      stacked,
-      length-take first slots,
-      length-take (first + c.min.result - first) (drop first slots),
-    ))))
+    (drop (first + c.min.result - first) (drop first slots)) (first + c.min.result)
+    (omega (arith, front, part))))
