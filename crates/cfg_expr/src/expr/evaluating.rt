@@ -359,6 +359,16 @@ fn read_not<T: Logic>(stack: Stack<T>, slots: &mut [Member<T>]) -> Stack<T>
     }
 }
 
+/// Joins the members of a list. Each connective has loops of its own, in which it is not asked for.
+fn join_members<T: Logic>(connective: Connective, members: &mut [Member<T>]) -> T
+    ensures { result ≡ joined T.Logic connective members.old }
+{
+    match connective {
+        Connective::And => Connective::And.join_all(members),
+        Connective::Or => Connective::Or.join_all(members),
+    }
+}
+
 /// Reads `all` or `any` of this many members: joins them, and puts their value in their place.
 fn read_list<T: Logic>(
     connective: Connective,
@@ -376,7 +386,7 @@ fn read_list<T: Logic>(
 {
     let first = put_top(stack, slots).others;
     let end = first + count.min(slots.len() - first);
-    let value = connective.join_all(&mut slots[first..end]);
+    let value = join_members(connective, &mut slots[first..end]);
     Stack {
         top: Member::Function(value),
         others: end,
@@ -401,11 +411,18 @@ fn read_node<T: Logic>(
     match node {
         ExprNode::Predicate(_) => read_predicate(place, stack, slots),
         ExprNode::Literal(truth) => read_literal(*truth, stack, slots),
-        ExprNode::Fn { func, .. } => match func {
-            Func::Not => read_not(stack, slots),
-            Func::All(count) => read_list(Connective::And, *count, stack, slots),
-            Func::Any(count) => read_list(Connective::Or, *count, stack, slots),
-        },
+        ExprNode::Fn { func, .. } => {
+            // So that one test tells a `not`.
+            let list = match func {
+                Func::Not => None,
+                Func::All(count) => Some((Connective::And, *count)),
+                Func::Any(count) => Some((Connective::Or, *count)),
+            };
+            match list {
+                None => read_not(stack, slots),
+                Some((connective, count)) => read_list(connective, count, stack, slots),
+            }
+        }
     }
 }
 

@@ -22,13 +22,13 @@ returns-clause-stack g c =
     let front : length (take first slots) ≡ first =
     omega (arith, c.requires, top.begins, top.many, length-take first slots) in
     let taken = length-take (first + c.min.result - first) (drop first slots) in
-    let part : length c.join_all-value.new.members ≡ c.min.result =
-    omega (arith, c.min.ensures, c.join_all-value.auto.members, stacked, taken) in
+    let part : length c.join_members-value.new.members ≡ c.min.result =
+    omega (arith, c.min.ensures, c.join_members-value.auto.members, stacked, taken) in
     let present : first + c.min.result - first
     ≡ min c.args.count (length (stack_of c.args.stack c.args.slots.now)) =
     omega (arith, c.min.ensures, stacked, ap length start) in
-    rw (sym present, sym start, sym c.join_all-value.ensures)
-    (ap (λ l. member.Function c.join_all-value.result ∷ l)
-    (part-dropped (take first slots) c.join_all-value.new.members
+    rw (sym present, sym start, sym c.join_members-value.ensures)
+    (ap (λ l. member.Function c.join_members-value.result ∷ l)
+    (part-dropped (take first slots) c.join_members-value.new.members
     (drop (first + c.min.result - first) (drop first slots)) (first + c.min.result)
     (omega (arith, front, part))))
