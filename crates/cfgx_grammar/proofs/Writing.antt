@@ -1,9 +1,7 @@
 -- How writes one after another add up.
-use Rattle.std.proofs.Common.{◌≡◌, ℕ, List, ◌++◌, Option, None, Some, Result, Ok, Err, ap, sym, ◌∙◌}
+use Rattle.std.proofs.Common.{ℕ, List, ◌++◌, Option, None, Some, Result, Ok, Err, ap, sym, ◌∙◌}
 use Rattle.std.proofs.Common.{append_assoc}
 use Rattle.std.specs.Io.KnownBytes.{Appends}
-use Rattle.std.specs.Prelude.{codes}
-use Rattle.cfgx_grammar.specs.Spelling.{key_and_value}
 use Rattle.cfgx_grammar.specs.Writing.{Takes, TakesFront, Writes}
 
 -- known bytes that grow twice
@@ -50,8 +48,3 @@ writes_second old mid new (Err error) first second taken (left, more) = (
     taken = appends_twice old mid new first more.front taken more.taken;
   },
 )
-
--- a key with a value in two parts
-pub value_parts : (key value : List ℕ) → key_and_value key value
-    ≡ (key ++ codes " = \"") ++ (value ++ codes "\"")
-value_parts key value = sym (append_assoc key (codes " = \"") (value ++ codes "\""))

@@ -120,8 +120,8 @@ module _ {M : Type 0} where
       let sum : 1 + count trees ≡ 0 + suc (count trees) = omega arith in
       let all : member ++ tokens ≡ (member ++ (commas n ++ others)) ++ after =
       rw are (simp append_assoc) in
-      let left = subst (λ m. Ends stack roots m after) sum ends in
-      (0, _, Trees.more tree trees, after, all, refl, (member, n, others, refl, may, is, list), left)
+      let end = subst (λ m. Ends stack roots m after) sum ends in
+      (0, _, Trees.more tree trees, after, all, refl, (member, n, others, refl, may, is, list), end)
 
   -- a call in front of what is left behind it
   pub Rest-call : (function : Function) (begun : Open M) (stack : List (Open M)) (roots : ℕ)

@@ -140,7 +140,8 @@ pub regular_tree : (text : List ℕ) (tree : Tree Question) → HasTree text tre
 regular_tree text tree has =
     let all = spelled_items text 0 has.items Ending.blank has.are_items in
     let (member, n, is, one) = has.spelled in
-    regular_member member tree (all_of_first IsSpelled member (commas n) (subst AreSpelled is all)) one
+    regular_member member tree
+    (all_of_first IsSpelled member (commas n) (subst AreSpelled is all)) one
 
 -- The spelling of a predicate that can stand in a text is a text of this predicate alone.
 

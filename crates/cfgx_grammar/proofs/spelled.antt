@@ -23,8 +23,8 @@ use Rattle.cfgx_grammar.proofs.accepted.{leaf_tree, tokens_of, counted, stack_en
 use Rattle.std.proofs.lemmas.List.{append-nil}
 use Rattle.std.proofs.Math.Seq.{take-append_seam, drop-append_seam}
 
--- The tokens of a tree are taken, from any state in which a member may come, and what is built keeps
--- the laws of the builder.
+-- The tokens of a tree are taken, from any state in which a member may come, and what is built
+-- keeps the laws of the builder.
 
 -- a key, and a key with its value, as they stand at their tokens
 abbrev pub key_at : Item → List ℕ → Pending
@@ -182,7 +182,7 @@ module _ {W M L : Type 0} {builder : Builder W M L} (laws : Laws builder) where
       → laws.MemberBuilds first s.written
       (builder.leaf (builder.located pending leaf) s.written) (leaf_tree leaf)
       → MemberEnds s (first ++ rest) back 0 (leaf_tree leaf)
-  MemberEnds-pending s first rest back pending last leaf rest_is runs is_end classed builds = record {
+  MemberEnds-pending s first rest back pending last leaf rest_is runs is_end says builds = record {
     first = first;
     commas_behind = [];
     rest = rest;
@@ -192,7 +192,7 @@ module _ {W M L : Type 0} {builder : Builder W M L} (laws : Laws builder) where
     written = _;
     runs = runs;
     is_end = is_end;
-    ends = rw classed refl;
+    ends = rw says refl;
     builds = builds;
     members_come = λ some. absurd (omega arith);
   }
@@ -321,16 +321,16 @@ module _ {W M L : Type 0} {builder : Builder W M L} (laws : Laws builder) where
         builds = rw members (calls x y z l.first s.written l.written l.builds);
         members_come = λ some. absurd (omega arith);
       }
-  MemberEnds-call s _ function tokens inner back tree trees may is call room calls list = absurd (cc)
+  MemberEnds-call s _ name tokens inner back tree trees may is call room calls list = absurd (cc)
 
   mutual
     pub MemberEnds-member : (tree : Tree Question) (s : State builder) (items : List Item)
         (tokens back : List Token) → takes s.last Kind.name ≡ true → s.pending ≡ None
         → tokens_of items ≡ tokens ++ back → IsMember tokens tree → MemberEnds s items back 0 tree
-    MemberEnds-member (Tree.leaf question) s items tokens back may none is (key, value, are, classed) =
-        MemberEnds-leaf s items (Leaf.predicate question) key value back may (rw are at is) classed
-    MemberEnds-member (Tree.literal truth) s items tokens back may none is (key, value, are, classed) =
-        MemberEnds-leaf s items (Leaf.literal truth) key value back may (rw are at is) classed
+    MemberEnds-member (Tree.leaf question) s items tokens back may none is (key, value, are, says) =
+        MemberEnds-leaf s items (Leaf.predicate question) key value back may (rw are at is) says
+    MemberEnds-member (Tree.literal truth) s items tokens back may none is (key, value, are, says) =
+        MemberEnds-leaf s items (Leaf.literal truth) key value back may (rw are at is) says
     MemberEnds-member (Tree.all trees) s items tokens back may none is (inner, call, list) =
         MemberEnds-call s items Function.all tokens inner back _ trees may is call refl
         (laws.all trees) (λ t members named closing same are. ListEnds-list trees t members inner _
@@ -469,8 +469,9 @@ module _ {W M L : Type 0} {builder : Builder W M L} (laws : Laws builder) where
   pub Finds-tree : (len : ℕ) (items : List Item) (tree : Tree Question)
       → IsTree (tokens_of items) tree → Finds len items tree
   Finds-tree len items tree (member, n, is, spelled) =
-      let i = MemberEnds-commas laws n 0 initial items [] tree (MemberEnds-member laws tree initial items
-      member _ refl refl (is ∙ ap (λ l. member ++ l) (sym (append-nil (commas n)))) spelled) in
+      let i = MemberEnds-commas laws n 0 initial items [] tree
+      (MemberEnds-member laws tree initial items member _ refl refl
+      (is ∙ ap (λ l. member ++ l) (sym (append-nil (commas n)))) spelled) in
       let settled = between initial i.after.last i.written in
       let none = none_open i.after settled i.after.stack refl i.ends refl in
       record {

@@ -98,8 +98,8 @@ pub(crate) struct Mark {
 /// How many bytes of a text there are for each node, so that room for the nodes is made at once.
 const BYTES_FOR_A_NODE: usize = 8;
 
-/// The most nodes for which room is made at once. It is 140 KiB: a block of that size grows where it
-/// stands, and is not copied.
+/// The most nodes for which room is made at once. It is 140 KiB: a block of that size grows where
+/// it stands, and is not copied.
 const MOST_RESERVED: usize = 2560;
 
 /// The nodes of a tree as they are written, one pass over the text.

@@ -1,5 +1,6 @@
 -- The stack of open functions against the tokens: each open function is the last place that lies
--- less deep than what stands inside it, and its members are those that begin at that depth behind it.
+-- less deep than what stands inside it, and its members are those that begin at that depth behind
+-- it.
 use Rattle.std.proofs.Common.{◌≡◌, ⊎_elim, ℕ, zero, suc, ◌+◌, ◌<◌, ◌≤◌, ◌&&◌, ◌==◌, Bool, true}
 use Rattle.std.proofs.Common.{false, List, [], ◌∷◌, ◌++◌, length, Option, Some, None, sym, refl, ap}
 use Rattle.std.proofs.Common.{◌∙◌, arith, take_at, option_map, take_all}

@@ -40,8 +40,8 @@ pub record Open (M : Type 0) : Type 0 where
   pub members : ℕ
   pub mark : M
 
--- The open functions, the innermost first; the predicate that has not ended; how many members at the
--- root have ended; the last token; what was written.
+-- The open functions, the innermost first; the predicate that has not ended; how many members at
+-- the root have ended; the last token; what was written.
 pub record State {W M L : Type 0} (builder : Builder W M L) : Type 0 where
   pub stack : List (Open M)
   pub pending : Option Pending
