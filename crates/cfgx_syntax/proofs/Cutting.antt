@@ -29,14 +29,7 @@ pub IsValueCut-from_rest : (text rest : List ℕ) (token : Token) (place len : �
     → IsValueCut text token place (place + len)
 IsValueCut-from_rest text rest (Token.value inside) place len some within is cut =
     inner_cut text place len some (IsCut-from_rest text rest place 1 (len - 1) within is cut)
-IsValueCut-from_rest text rest (Token.key word) place len some within is cut = tt
-IsValueCut-from_rest text rest Token.equals place len some within is cut = tt
-IsValueCut-from_rest text rest Token.all place len some within is cut = tt
-IsValueCut-from_rest text rest Token.any place len some within is cut = tt
-IsValueCut-from_rest text rest Token.not place len some within is cut = tt
-IsValueCut-from_rest text rest Token.open_paren place len some within is cut = tt
-IsValueCut-from_rest text rest Token.close_paren place len some within is cut = tt
-IsValueCut-from_rest text rest Token.comma place len some within is cut = tt
+IsValueCut-from_rest text rest _ place len some within is cut = tt
 
 -- a token in front of the rest of a text can be cut out of the text
 pub CanBeCut-from_rest : (text rest : List ℕ) (token : Token) (place len : ℕ) → 0 < len

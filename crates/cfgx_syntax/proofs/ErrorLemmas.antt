@@ -41,31 +41,6 @@ terms_eq-Decides (x ∷ xs) (y ∷ ys) =
     both_decide (pointwise nat_eq x.now y.now) (same_terms xs ys)
     (bytes_eq-Decides x.now y.now) (terms_eq-Decides xs ys) (λ e f. cc) (λ e. cc) (λ e. cc)
 
--- a number for each kind of cause
-abbrev kind_of : Cause → ℕ
-kind_of (invalid_not _) = 0
-kind_of invalid_characters = 1
-kind_of unclosed_parens = 2
-kind_of unopened_parens = 3
-kind_of unclosed_quotes = 4
-kind_of unopened_quotes = 5
-kind_of empty = 6
-kind_of (unexpected _) = 7
-kind_of invalid_integer = 8
-kind_of multiple_root_predicates = 9
-kind_of invalid_has_atomic = 10
-kind_of unknown_builtin = 11
-
--- causes of different kinds are not equal
-apart-Decides : (answer : Bool) (one other : Cause) → answer ≡ false
-    → nat_eq (kind_of one) (kind_of other) ≡ false → Decides answer (one ≡ other)
-apart-Decides answer one other refused apart = (
-  λ yes. let e : false ≡ true = sym refused ∙ yes in cc,
-  λ same.
-      let e : kind_of one ≡ kind_of other = ap kind_of same in
-      absurd (eqb-false (kind_of one) (kind_of other) apart e),
-)
-
 -- the derived `==` of two reasons decides whether their causes are equal
 pub reason_eq-Decides : (one other : Reason)
     → Decides ((reason_eq.ghosts).eq one other) (cause_of one ≡ cause_of other)
@@ -74,19 +49,8 @@ reason_eq-Decides (reason.InvalidNot m) (reason.InvalidNot n) =
 reason_eq-Decides (reason.Unexpected xs) (reason.Unexpected ys) =
     let terms = terms_eq-Decides xs.now ys.now in
     (λ e. ap unexpected (terms.0 e), λ e. terms.1 (cc))
-reason_eq-Decides reason.InvalidCharacters reason.InvalidCharacters = (λ _. refl, λ _. refl)
-reason_eq-Decides reason.UnclosedParens reason.UnclosedParens = (λ _. refl, λ _. refl)
-reason_eq-Decides reason.UnopenedParens reason.UnopenedParens = (λ _. refl, λ _. refl)
-reason_eq-Decides reason.UnclosedQuotes reason.UnclosedQuotes = (λ _. refl, λ _. refl)
-reason_eq-Decides reason.UnopenedQuotes reason.UnopenedQuotes = (λ _. refl, λ _. refl)
-reason_eq-Decides reason.Empty reason.Empty = (λ _. refl, λ _. refl)
-reason_eq-Decides reason.InvalidInteger reason.InvalidInteger = (λ _. refl, λ _. refl)
-reason_eq-Decides reason.MultipleRootPredicates reason.MultipleRootPredicates =
-    (λ _. refl, λ _. refl)
-reason_eq-Decides reason.InvalidHasAtomic reason.InvalidHasAtomic = (λ _. refl, λ _. refl)
-reason_eq-Decides reason.UnknownBuiltin reason.UnknownBuiltin = (λ _. refl, λ _. refl)
-reason_eq-Decides one other =
-    apart-Decides ((reason_eq.ghosts).eq one other) (cause_of one) (cause_of other) refl refl
+reason_eq-Decides one reason.Empty = (λ e. cc, λ e. cc)
+reason_eq-Decides one other = (λ e. cc, λ e. cc)
 
 -- two faults are equal where their fields are
 same_faults : (one other : Fault) → one.original ≡ other.original

@@ -53,49 +53,24 @@ AreApart-or t f u g one other =
     AreApart-not (bit_and f g) (bit_or t u)
     (AreApart-and f t g u (AreApart-not t f one) (AreApart-not u g other))
 
--- the three answers of two bits
-data Answer (t f : ℕ) : Type 0 where
-  yes : t ≡ 1 → f ≡ 0 → Answer t f
-  no : t ≡ 0 → f ≡ 1 → Answer t f
-  unknown : t ≡ 0 → f ≡ 0 → Answer t f
-
-other : (n : ℕ) → (n == 1) ≡ false → n ≤ 1 → n ≡ 0
-other n not_one few = grind (arith, nat_tests, common_steps)
-
-answer : (t f : ℕ) → t + f ≤ 1 → Answer t f
-answer t f few =
-    ⊎_elim (λ p. let set : t ≡ 1 = (Decides-eqb t 1).0 p in Answer.yes set (omega arith))
-    (λ not_yes.
-    ⊎_elim (λ p. let set : f ≡ 1 = (Decides-eqb f 1).0 p in Answer.no (omega arith) set)
-    (λ not_no.
-    Answer.unknown (other t not_yes (omega arith)) (other f not_no (omega arith)))
-    (cases_Bool (f == 1))) (cases_Bool (t == 1))
-
--- what holds of each of the three answers holds of any
-each_one : (P : ℕ → ℕ → Type 0) → P 1 0 → P 0 1 → P 0 0 → (t f : ℕ) → Answer t f → P t f
-each_one P true_is false_is none_is t f (Answer.yes p q) = rw (p, q) true_is
-each_one P true_is false_is none_is t f (Answer.no p q) = rw (p, q) false_is
-each_one P true_is false_is none_is t f (Answer.unknown p q) = rw (p, q) none_is
-
-by_and : (t f u g : ℕ) → Answer t f → Answer u g
+by_and : (t f u g : ℕ) → t + f ≤ 1 → u + g ≤ 1
     → answer_of (min t u) (max f g) ≡ kleene_and (answer_of t f) (answer_of u g)
-by_and t f u g one other =
-    let beside = λ (v h : ℕ). each_one (λ u g. answer_of (min v u) (max h g)
-    ≡ kleene_and (answer_of v h) (answer_of u g)) in
-    each_one (λ t f. answer_of (min t u) (max f g) ≡ kleene_and (answer_of t f) (answer_of u g))
-    (beside 1 0 refl refl refl u g other) (beside 0 1 refl refl refl u g other)
-    (beside 0 0 refl refl refl u g other) t f one
+by_and t f u g one other = grind (arith, nat_tests, common_steps)
 
-by_not : (t f : ℕ) → Answer t f → answer_of f t ≡ kleene_not (answer_of t f)
-by_not = each_one (λ t f. answer_of f t ≡ kleene_not (answer_of t f)) refl refl refl
+by_or : (t f u g : ℕ) → t + f ≤ 1 → u + g ≤ 1
+    → answer_of (max t u) (min f g) ≡ kleene_or (answer_of t f) (answer_of u g)
+by_or t f u g one other = grind (arith, nat_tests, common_steps)
+
+by_not : (t f : ℕ) → t + f ≤ 1 → answer_of f t ≡ kleene_not (answer_of t f)
+by_not t f few = grind (arith, nat_tests, common_steps)
 
 -- the answer of equal bits
 same_answer : (t f u g : ℕ) → t ≡ u → f ≡ g → answer_of t f ≡ answer_of u g
 same_answer t f u g p q i = answer_of (p i) (q i)
 
-lane_answer : (planes : Planes) (i : ℕ) → AreApart planes.is_true planes.is_false
-    → Answer (bit_at planes.is_true i) (bit_at planes.is_false i)
-lane_answer planes i apart = answer _ _ (apart_at planes.is_true planes.is_false i apart)
+lane_apart : (planes : Planes) (i : ℕ) → AreApart planes.is_true planes.is_false
+    → bit_at planes.is_true i + bit_at planes.is_false i ≤ 1
+lane_apart planes i apart = apart_at planes.is_true planes.is_false i apart
 
 pub EachLane-and : (one other : Planes) → AreApart one.is_true one.is_false
     → AreApart other.is_true other.is_false
@@ -103,39 +78,19 @@ pub EachLane-and : (one other : Planes) → AreApart one.is_true one.is_false
 EachLane-and one other apart apart_too i below =
     same_answer _ _ _ _ (bit_at_and one.is_true other.is_true i)
     (bit_at_or one.is_false other.is_false i)
-    ∙ by_and _ _ _ _ (lane_answer one i apart) (lane_answer other i apart_too)
+    ∙ by_and _ _ _ _ (lane_apart one i apart) (lane_apart other i apart_too)
 
 pub EachLane-not : (planes : Planes) → AreApart planes.is_true planes.is_false
     → EachLane (planes_not planes) (λ i. kleene_not (lane i planes))
-EachLane-not planes apart i below = by_not _ _ (lane_answer planes i apart)
-
--- "or" is "and" of the opposites
-opposite : (a b : Option Bool)
-    → kleene_not (kleene_and (kleene_not a) (kleene_not b)) ≡ kleene_or a b
-opposite (Some true) (Some true) = refl
-opposite (Some true) (Some false) = refl
-opposite (Some true) None = refl
-opposite (Some false) (Some true) = refl
-opposite (Some false) (Some false) = refl
-opposite (Some false) None = refl
-opposite None (Some true) = refl
-opposite None (Some false) = refl
-opposite None None = refl
+EachLane-not planes apart i below = by_not _ _ (lane_apart planes i apart)
 
 pub EachLane-or : (one other : Planes) → AreApart one.is_true one.is_false
     → AreApart other.is_true other.is_false
     → EachLane (planes_or one other) (λ i. kleene_or (lane i one) (lane i other))
 EachLane-or one other apart apart_too i below =
-    let no = planes_not one in
-    let no_too = planes_not other in
-    let no_apart = AreApart-not one.is_true one.is_false apart in
-    let no_apart_too = AreApart-not other.is_true other.is_false apart_too in
-    let both_apart = AreApart-and no.is_true no.is_false _ _ no_apart no_apart_too in
-    EachLane-not (planes_and no no_too) both_apart i below
-    ∙ ap kleene_not (EachLane-and no no_too no_apart no_apart_too i below)
-    ∙ (λ j. kleene_not (kleene_and (EachLane-not one apart i below j)
-    (EachLane-not other apart_too i below j)))
-    ∙ opposite (lane i one) (lane i other)
+    same_answer _ _ _ _ (bit_at_or one.is_true other.is_true i)
+    (bit_at_and one.is_false other.is_false i)
+    ∙ by_or _ _ _ _ (lane_apart one i apart) (lane_apart other i apart_too)
 
 pub EachLane-top : EachLane planes_top (λ _. Some true)
 EachLane-top i below =

@@ -83,14 +83,10 @@ IsWord-front (byte ∷ rest) some starts =
 
 pub IsWhole-word : (rest : List ℕ) (token : Token) → EndsWord rest → IsWhole token rest
 IsWhole-word rest (Token.key word) ends = ends
-IsWhole-word rest (Token.value inside) ends = refl
-IsWhole-word rest Token.equals ends = refl
 IsWhole-word rest Token.all ends = ends
 IsWhole-word rest Token.any ends = ends
 IsWhole-word rest Token.not ends = ends
-IsWhole-word rest Token.open_paren ends = refl
-IsWhole-word rest Token.close_paren ends = refl
-IsWhole-word rest Token.comma ends = refl
+IsWhole-word rest _ ends = refl
 
 -- the front of a text up to a place where it can be cut
 pub IsCut-front : (text : List ℕ) (len : ℕ) → IsUtf8 text → len ≤ length text
@@ -126,14 +122,7 @@ IsValueCut-word text word (Token.value inside) start end is spelled =
     let quoted : IsWord (in_quotes inside) = subst IsWord spelled.0 is in
     let wrong : false ≡ true = quoted.0 in
     cc
-IsValueCut-word text word (Token.key _) start end is spelled = tt
-IsValueCut-word text word Token.equals start end is spelled = tt
-IsValueCut-word text word Token.all start end is spelled = tt
-IsValueCut-word text word Token.any start end is spelled = tt
-IsValueCut-word text word Token.not start end is spelled = tt
-IsValueCut-word text word Token.open_paren start end is spelled = tt
-IsValueCut-word text word Token.close_paren start end is spelled = tt
-IsValueCut-word text word Token.comma start end is spelled = tt
+IsValueCut-word text word _ start end is spelled = tt
 
 -- a text begins with the token that its first word spells
 pub BeginsWith-word : (text : List ℕ) (token : Token) → IsUtf8 text → 0 < length text
