@@ -2,7 +2,7 @@
 use Rattle.std.proofs.Common.{◌≡◌, ℕ, Bool, true, false, List, [], ◌∷◌, ◌&&◌, Bor, map, nat_eq}
 use Rattle.std.proofs.Common.{refl, ap, sym, ◌∙◌}
 use Rattle.std.proofs.lemmas.Bool.{eqb-false}
-use Rattle.std.proofs.lemmas.Bool.Decides.{Decides-eqb}
+use Rattle.std.proofs.lemmas.Bool.Decides.{Decides-eqb, Decides-and, Decides-like}
 use Rattle.std.proofs.lemmas.Slice.Eq.{bytes_eq-Decides}
 use Rattle.std.specs.Bool.{Decides, ◌==◌}
 use Rattle.std.specs.Cmp.Lexicographic.{pointwise}
@@ -17,17 +17,6 @@ use Rattle.cfgx_syntax.specs.Error.{invalid_characters, unclosed_parens, unopene
 use Rattle.cfgx_syntax.specs.Error.{unclosed_quotes, unopened_quotes, invalid_integer}
 use Rattle.cfgx_syntax.specs.Error.{multiple_root_predicates, invalid_has_atomic, unknown_builtin}
 
--- what holds of both parts holds of the two tests together
-both_decide : {P Q R : Type 0} (p q : Bool) → Decides p P → Decides q Q → (P → Q → R) → (R → P)
-    → (R → Q) → Decides (p && q) R
-both_decide true true hp hq join left right = (λ _. join (hp.0 refl) (hq.0 refl), λ _. refl)
-both_decide true false hp hq join left right = (λ e. cc, λ r. hq.1 (right r))
-both_decide false q hp hq join left right = (λ e. cc, λ r. hp.1 (left r))
-
-pair_decides : {P Q : Type 0} (p q : Bool) → Decides p P → Decides q Q → Decides (p && q) (P × Q)
-pair_decides {P} {Q} p q hp hq =
-    both_decide {R = P × Q} p q hp hq (λ x y. (x, y)) (λ r. r.0) (λ r. r.1)
-
 -- whether two lists of texts have the same bytes, text by text
 abbrev same_terms : List (Bor (List ℕ)) → List (Bor (List ℕ)) → Bool
 same_terms xs ys = pointwise (λ x y. pointwise nat_eq x.now y.now) xs ys
@@ -38,8 +27,8 @@ terms_eq-Decides [] [] = (λ _. refl, λ _. refl)
 terms_eq-Decides [] (y ∷ ys) = (λ e. cc, λ e. cc)
 terms_eq-Decides (x ∷ xs) [] = (λ e. cc, λ e. cc)
 terms_eq-Decides (x ∷ xs) (y ∷ ys) =
-    both_decide (pointwise nat_eq x.now y.now) (same_terms xs ys)
-    (bytes_eq-Decides x.now y.now) (terms_eq-Decides xs ys) (λ e f. cc) (λ e. cc) (λ e. cc)
+    Decides-like _ (λ both. cc) (λ same. (cc, cc))
+    (Decides-and _ _ (bytes_eq-Decides x.now y.now) (terms_eq-Decides xs ys))
 
 -- the derived `==` of two reasons decides whether their causes are equal
 pub reason_eq-Decides : (one other : Reason)
@@ -52,12 +41,6 @@ reason_eq-Decides (reason.Unexpected xs) (reason.Unexpected ys) =
 reason_eq-Decides one reason.Empty = (λ e. cc, λ e. cc)
 reason_eq-Decides one other = (λ e. cc, λ e. cc)
 
--- two faults are equal where their fields are
-same_faults : (one other : Fault) → one.original ≡ other.original
-    → (one.start ≡ other.start) × (one.end ≡ other.end) → one.cause ≡ other.cause → one ≡ other
-same_faults one other text span cause i =
-    record { original = text i; start = span.0 i; end = span.1 i; cause = cause i }
-
 -- comparing text, span and reason decides whether two faults are equal
 pub fault_eq-Decides : {A : Type 0} (one other : ParseError A)
     → Decides (bytes_eq (string_bytes one.original) (string_bytes other.original)
@@ -65,19 +48,23 @@ pub fault_eq-Decides : {A : Type 0} (one other : ParseError A)
     && (reason_eq.ghosts).eq one.reason other.reason))
     (fault_of one ≡ fault_of other)
 fault_eq-Decides one other =
-    let starts = one.span.start == other.span.start in
-    let ends = one.span.end == other.span.end in
-    let texts = bytes_eq (string_bytes one.original) (string_bytes other.original) in
-    let reasons = (reason_eq.ghosts).eq one.reason other.reason in
-    let span = pair_decides starts ends
-    (Decides-eqb one.span.start other.span.start) (Decides-eqb one.span.end other.span.end) in
-    let others = pair_decides (starts && ends) reasons span
-    (reason_eq-Decides one.reason other.reason) in
-    both_decide texts ((starts && ends) && reasons)
-    (bytes_eq-Decides (string_bytes one.original) (string_bytes other.original)) others
-    (λ text rest. same_faults (fault_of one) (fault_of other) text rest.0 rest.1)
-    (λ e. ap (λ (f : Fault). f.original) e)
+    Decides-like _
+    (λ p i. record {
+      original = p.0 i;
+      start = p.1.0.0 i;
+      end = p.1.0.1 i;
+      cause = p.1.1 i;
+    })
     (λ e. (
-      (ap (λ (f : Fault). f.start) e, ap (λ (f : Fault). f.end) e),
-      ap (λ (f : Fault). f.cause) e,
+      ap (λ (f : Fault). f.original) e,
+      (
+        (ap (λ (f : Fault). f.start) e, ap (λ (f : Fault). f.end) e),
+        ap (λ (f : Fault). f.cause) e,
+      ),
     ))
+    (Decides-and _ _
+    (bytes_eq-Decides (string_bytes one.original) (string_bytes other.original))
+    (Decides-and _ _
+    (Decides-and _ _
+    (Decides-eqb one.span.start other.span.start) (Decides-eqb one.span.end other.span.end))
+    (reason_eq-Decides one.reason other.reason)))

@@ -7,6 +7,7 @@ use Rattle.std.specs.Char.{is_not_whitespace}
 use Rattle.std.specs.Str.{NonePass, encode_utf8_all}
 use Rattle.std.proofs.lemmas.List.Folds.{drop_split}
 use Rattle.std.proofs.lemmas.Str.{encode_same, length-encode, len_utf8_bounds}
+use Rattle.std.proofs.lemmas.Bool.{both_ways}
 use Rattle.cfgx_syntax.specs.Items.{IsBlank}
 
 -- white space alone lies between `from` and the place, and a character that is none stands there
@@ -30,26 +31,14 @@ same_behind : (ws vs : List ℕ) (c d : ℕ) (r t : List ℕ) → NonePass is_no
     → (c ≡ d) × (r ≡ t)
 same_behind [] [] c d r t white light seen shown e = encode_same c d r t e
 same_behind [] (v ∷ vs) c d r t white light seen shown e =
-    let tail = encode_utf8_all vs ++ (encode_utf8 d ++ t) in
-    let apart : encode_utf8 c ++ r ≡ encode_utf8 v ++ tail =
-    e ∙ append_assoc (encode_utf8 v) (encode_utf8_all vs) (encode_utf8 d ++ t) in
-    let same = (encode_same c v r tail apart).0 in
-    let wrong : false ≡ true = sym light.0 ∙ ap is_not_whitespace (sym same) ∙ seen in
-    cc
+    let same = encode_same c v _ _ (simp append_assoc at e) in
+    absurd (both_ways _ light.0 (rw same.0 at seen))
 same_behind (w ∷ ws) [] c d r t white light seen shown e =
-    let tail = encode_utf8_all ws ++ (encode_utf8 c ++ r) in
-    let apart : encode_utf8 w ++ tail ≡ encode_utf8 d ++ t =
-    sym (append_assoc (encode_utf8 w) (encode_utf8_all ws) (encode_utf8 c ++ r)) ∙ e in
-    let same = (encode_same w d tail t apart).0 in
-    let wrong : false ≡ true = sym white.0 ∙ ap is_not_whitespace same ∙ shown in
-    cc
+    let same = encode_same w d _ _ (simp append_assoc at e) in
+    absurd (both_ways _ white.0 (rw (← same.0) at shown))
 same_behind (w ∷ ws) (v ∷ vs) c d r t white light seen shown e =
-    let one = encode_utf8_all ws ++ (encode_utf8 c ++ r) in
-    let other = encode_utf8_all vs ++ (encode_utf8 d ++ t) in
-    let apart : encode_utf8 w ++ one ≡ encode_utf8 v ++ other =
-    sym (append_assoc (encode_utf8 w) (encode_utf8_all ws) (encode_utf8 c ++ r)) ∙ e
-    ∙ append_assoc (encode_utf8 v) (encode_utf8_all vs) (encode_utf8 d ++ t) in
-    same_behind ws vs c d r t white.1 light.1 seen shown (encode_same w v one other apart).1
+    let same = encode_same w v _ _ (simp append_assoc at e) in
+    same_behind ws vs c d r t white.1 light.1 seen shown same.1
 
 -- white space alone does not go on with such a character
 none_behind : (ws cs : List ℕ) (c : ℕ) (r : List ℕ) → NonePass is_not_whitespace ws
@@ -63,29 +52,16 @@ none_behind ws [] c r white light seen e =
       length-append (encode_utf8_all ws) (encode_utf8 c ++ r),
     )
 none_behind [] (v ∷ vs) c r white light seen e =
-    let same = (encode_same c v r (encode_utf8_all vs) e).0 in
-    let wrong : false ≡ true = sym light.0 ∙ ap is_not_whitespace (sym same) ∙ seen in
-    cc
+    both_ways _ light.0 (rw (encode_same c v _ _ e).0 at seen)
 none_behind (w ∷ ws) (v ∷ vs) c r white light seen e =
-    let one = encode_utf8_all ws ++ (encode_utf8 c ++ r) in
-    let apart : encode_utf8 w ++ one ≡ encode_utf8 v ++ encode_utf8_all vs =
-    sym (append_assoc (encode_utf8 w) (encode_utf8_all ws) (encode_utf8 c ++ r)) ∙ e in
-    none_behind ws vs c r white.1 light.1 seen
-    (encode_same w v one (encode_utf8_all vs) apart).1
+    let same = encode_same w v _ _ (rw append_assoc at e) in
+    none_behind ws vs c r white.1 light.1 seen same.1
 
 -- what follows `from`: the white space, and the character
 from_first : (text : List ℕ) (from place c : ℕ) (first : IsFirst text from place c)
     → encode_utf8_all first.gap.0 ++ (encode_utf8 c ++ first.more) ≡ drop from text
 from_first text from place c first =
-    ap (λ l. l ++ (encode_utf8 c ++ first.more)) first.gap.1
-    ∙ ap (λ l. slice_range text from place ++ l) (sym first.stands)
-    ∙ sym (drop_split text from place first.behind)
-
--- a place with something behind it is told by what is behind it
-place_by_rest : (text : List ℕ) (p q : ℕ) → 0 < length (drop p text)
-    → drop p text ≡ drop q text → p ≡ q
-place_by_rest text p q some e =
-    omega (arith, some, length-drop p text, length-drop q text, ap length e)
+    rw (first.gap.1, ← first.stands) (sym (drop_split text from place first.behind))
 
 pub IsFirst-same : (text : List ℕ) (from p q c d : ℕ) → IsFirst text from p c
     → IsFirst text from q d → (p ≡ q) × (c ≡ d)
@@ -93,12 +69,9 @@ IsFirst-same text from p q c d one other =
     let both = from_first text from p c one ∙ sym (from_first text from q d other) in
     let same = same_behind one.gap.0 other.gap.0 c d one.more other.more
     one.gap.2 other.gap.2 one.visible other.visible both in
-    let front : encode_utf8 c ++ one.more ≡ encode_utf8 d ++ one.more =
-    ap (λ x. encode_utf8 x ++ one.more) same.0 in
-    let rests : drop p text ≡ drop q text =
-    one.stands ∙ front ∙ ap (λ l. encode_utf8 d ++ l) same.1 ∙ sym other.stands in
+    let rests : drop p text ≡ drop q text = cc in
     let some : 0 < length (drop p text) = rw one.stands (char_some c one.more) in
-    (place_by_rest text p q some rests, same.0)
+    (omega (arith, length-drop p text, length-drop q text, ap length rests), same.0)
 
 pub IsFirst-not_blank : (text : List ℕ) (from p c : ℕ) → IsFirst text from p c
     → IsBlank (drop from text) → ⊥
