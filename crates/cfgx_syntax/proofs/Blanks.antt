@@ -1,16 +1,17 @@
 -- ASCII white space in front of a text, and the white space behind that.
 use Rattle.std.proofs.Common.{◌≡◌, ℕ, ◌+◌, ◌<◌, Bool, true, false, List, [], ◌∷◌, ◌++◌}
 use Rattle.std.proofs.Common.{length, take, drop, get_or, cond, sym, refl, ap, ◌∙◌, subst, arith}
-use Rattle.std.proofs.Common.{add-zero, length-drop}
+use Rattle.std.proofs.Common.{add-zero, length-append, length-drop, take-append-drop}
 use Rattle.std.proofs.Math.Numerals.{one-add}
-use Rattle.std.proofs.Math.Seq.{take-add}
+use Rattle.std.proofs.Math.Seq.{take-append-add, drop-append-add}
 use Rattle.std.specs.Prelude.{encode_utf8}
 use Rattle.std.specs.Char.{IsScalar, is_not_whitespace}
 use Rattle.std.specs.List.{prefix_len}
-use Rattle.std.specs.Str.{IsTrimStart, NoCharPasses}
+use Rattle.std.specs.Str.{IsTrimStart, NoCharPasses, EmptyOrStartsWithPassing}
 use Rattle.std.proofs.lemmas.Str.{NoCharPasses-nil, NoCharPasses-append, encode_ascii}
 use Rattle.std.proofs.lemmas.List.{drop-drop, get_or-drop}
 use Rattle.std.proofs.lemmas.List.Sums.{prefix_len_stops}
+use Rattle.std.proofs.lemmas.Bool.{cond_both}
 use Rattle.std.proofs.lemmas.Bool.Decides.{nat_tests}
 use Rattle.std.proofs.lemmas.Grind.{common_steps}
 use Rattle.cfgx_syntax.specs.Lexer.{is_blank}
@@ -36,37 +37,40 @@ one_blank c h =
 pub front-blank : (text : List ℕ)
     → NoCharPasses is_not_whitespace (take (prefix_len is_blank text) text)
 front-blank [] = NoCharPasses-nil is_not_whitespace
-front-blank (c ∷ cs) = by (is_blank c) refl (front-blank cs) where
-  by : (b : Bool) → is_blank c ≡ b
-      → NoCharPasses is_not_whitespace (take (prefix_len is_blank cs) cs)
-      → NoCharPasses is_not_whitespace (take (cond b (1 + prefix_len is_blank cs) 0) (c ∷ cs))
-  by false is rest = NoCharPasses-nil is_not_whitespace
-  by true is rest =
-      rw one-add (NoCharPasses-append is_not_whitespace (c ∷ []) (take (prefix_len is_blank cs) cs)
-      (one_blank c is) rest)
+front-blank (c ∷ cs) =
+    cond_both (is_blank c) (1 + prefix_len is_blank cs) 0
+    (λ n. NoCharPasses is_not_whitespace (take n (c ∷ cs)))
+    (λ is. rw one-add (NoCharPasses-append is_not_whitespace (c ∷ []) _ (one_blank c is)
+    (front-blank cs)))
+    (λ _. NoCharPasses-nil is_not_whitespace)
 
--- What is left of a text, whose bytes these are, when ASCII white space is off.
+-- What is left of a text when the white space in front is off.
 
--- it is all, if nothing is left or an ASCII character is next
+-- it is all, if nothing is left or another character is next
+pub IsTrimStart-here : (text more : List ℕ)
+    → EmptyOrStartsWithPassing is_not_whitespace text more → IsTrimStart text text
+IsTrimStart-here text more starts =
+    (0, refl, NoCharPasses-nil is_not_whitespace, (more, starts), omega arith)
+
 pub IsTrimStart-ascii : (rest : List ℕ) → (0 < length rest → get_or rest 0 0 < 128)
     → (0 < length rest → is_blank (get_or rest 0 0) ≡ false) → IsTrimStart rest rest
-IsTrimStart-ascii [] low stops = (
-  0,
-  refl,
-  NoCharPasses-nil is_not_whitespace,
-  ([], λ some. absurd (omega (arith, some))),
-  omega arith,
-)
+IsTrimStart-ascii [] low stops = IsTrimStart-here [] [] (λ some. absurd (omega (arith, some)))
 IsTrimStart-ascii (c ∷ cs) low stops =
     let ascii : c < 128 = low (omega arith) in
-    let begins : c ∷ cs ≡ encode_utf8 c ++ cs = sym (ap (λ e. e ++ cs) (encode_ascii c ascii)) in
-    let visible = ascii-visible c ascii (stops (omega arith)) in (
-      0,
-      refl,
-      NoCharPasses-nil is_not_whitespace,
-      (cs, λ _. (c, visible, begins, ascii-scalar c ascii)),
-      omega arith,
-    )
+    let visible = ascii-visible c ascii (stops (omega arith)) in
+    IsTrimStart-here (c ∷ cs) cs
+    (λ _. (c, visible, rw (encode_ascii c ascii) refl, ascii-scalar c ascii))
+
+-- behind white space, it is what is left of the rest
+pub IsTrimStart-past : (front text rest : List ℕ) → NoCharPasses is_not_whitespace front
+    → IsTrimStart text rest → IsTrimStart (front ++ text) rest
+IsTrimStart-past front text rest blank (n, is, white, starts, short) = (
+  length front + n,
+  is ∙ sym (drop-append-add front text n),
+  rw take-append-add (NoCharPasses-append is_not_whitespace front (take n text) blank white),
+  starts,
+  omega (arith, short, length-append front text),
+)
 
 module _ (text bytes rest : List ℕ) (n : ℕ) (len : n ≡ prefix_len is_blank bytes)
     (same : bytes ≡ text) (is : rest ≡ drop n text) where
@@ -75,17 +79,11 @@ module _ (text bytes rest : List ℕ) (n : ℕ) (len : n ≡ prefix_len is_blank
 
   pub IsTrimStart-behind : (trimmed : List ℕ) → IsTrimStart rest trimmed
       → IsTrimStart text trimmed
-  IsTrimStart-behind trimmed (m, trimmed_is, white, starts, short) =
-      let front : NoCharPasses is_not_whitespace (take n text) =
-      subst (λ k. NoCharPasses is_not_whitespace (take k text)) (sym blanks) (front-blank text) in
-      let both = NoCharPasses-append is_not_whitespace (take n text) (take m (drop n text)) front
-      (subst (λ l. NoCharPasses is_not_whitespace (take m l)) is white) in (
-        n + m,
-        trimmed_is ∙ ap (drop m) is ∙ drop-drop m n text,
-        subst (NoCharPasses is_not_whitespace) (sym (take-add n m text)) both,
-        starts,
-        omega (arith, short, ap length is, length-drop n text),
-      )
+  IsTrimStart-behind trimmed left =
+      let front : NoCharPasses is_not_whitespace (take n text) = rw blanks (front-blank text) in
+      let whole = IsTrimStart-past (take n text) (drop n text) trimmed front
+      (subst (λ l. IsTrimStart l trimmed) is left) in
+      subst (λ l. IsTrimStart l trimmed) (take-append-drop n text) whole
 
   pub IsTrimStart-blanks : (0 < length rest → get_or rest 0 0 < 128) → IsTrimStart text rest
   IsTrimStart-blanks low =

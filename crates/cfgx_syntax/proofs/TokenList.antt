@@ -13,11 +13,9 @@ use Rattle.cfgx_syntax.specs.Items.{Item, Stands, Ending, EndsAs, ItemsFrom, IsB
 use Rattle.cfgx_syntax.proofs.FirstChar.{IsFirst, IsFirst-same, IsFirst-not_blank}
 use Rattle.cfgx_syntax.proofs.Fronts.{IsFront, IsFront-first, unclosed_len, token_len}
 use Rattle.cfgx_syntax.proofs.Fronts.{token_len_is, token_by, token_by_is}
+use Rattle.cfgx_syntax.proofs.Scanning.{starts_token-ascii}
 
--- what begins a token is ASCII, and no white space
-starts_token-low : (c : ℕ) → starts_token c ≡ true → c < 128
-starts_token-low c h = grind (arith, nat_tests, common_steps)
-
+-- what begins a token is no white space
 starts_token-visible : (c : ℕ) → starts_token c ≡ true → is_not_whitespace c ≡ true
 starts_token-visible c h = grind (arith, nat_tests, common_steps)
 
@@ -72,7 +70,7 @@ record IsNext (text : List ℕ) (from : ℕ) (next : Item ⊎ Ending) : Type 0 w
 first_char : (rest : List ℕ) → starts_token (get_or rest 0 0) ≡ true
     → rest ≡ encode_utf8 (get_or rest 0 0) ++ drop 1 rest
 first_char [] starts = absurd (false≢true starts)
-first_char (c ∷ more) starts = rw (encode_ascii c (starts_token-low c starts)) refl
+first_char (c ∷ more) starts = rw (encode_ascii c (starts_token-ascii c starts)) refl
 
 -- a byte that begins a token is the first character behind white space
 first_of : (text : List ℕ) (from place : ℕ) → from ≤ place → IsBlank (slice_range text from place)
