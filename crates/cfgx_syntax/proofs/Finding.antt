@@ -23,7 +23,7 @@ use Rattle.cfgx_syntax.proofs.Blanks.{IsTrimStart-here, IsTrimStart-past}
 use Rattle.cfgx_syntax.proofs.Scanning.{IsBehind, Stands-found, IsStuck-found, IsUnclosed-found}
 use Rattle.cfgx_syntax.proofs.Scanning.{rest_is, CanBeCut-found}
 use Rattle.cfgx_syntax.proofs.Values.{BeginsWith-value, HasNoQuote-from}
-use Rattle.cfgx_syntax.proofs.Words.{BeginsWith-byte, BeginsWith-word, IsWord-front}
+use Rattle.cfgx_syntax.proofs.Words.{BeginsWith-byte, BeginsWith-word, word_front}
 use Rattle.cfgx_syntax.proofs.TokenList.{ItemsFrom-same}
 
 -- what is left of a text behind the white space in front is a text
@@ -98,12 +98,11 @@ begins_quote more utf8 =
     (λ late. Begins.unclosed (more, refl, subst HasNoQuote (take_all n more late) none))
     (cases_lt n (length more))
 
-begins_word : (rest : List ℕ) → IsUtf8 rest → 0 < length rest
-    → starts_word (get_or rest 0 0) ≡ true → Begins rest
-begins_word rest utf8 some starts =
+begins_word : (rest : List ℕ) → IsUtf8 rest → starts_word (get_or rest 0 0) ≡ true → Begins rest
+begins_word rest utf8 starts =
     let len = prefix_len continues_word rest in
-    let found = word_spells (take len rest) (IsWord-front rest some starts) in
-    Begins.token found.0 len (BeginsWith-word rest found.0 utf8 some starts found.1)
+    let found = word_spells (take len rest) (word_front rest starts).0 in
+    Begins.token found.0 len (BeginsWith-word rest found.0 utf8 starts found.1)
 
 -- what begins a token, and is neither of a word nor a quote, is one of four marks
 last_mark : (byte : ℕ) → starts_token byte ≡ true → starts_word byte ≡ false
@@ -130,7 +129,7 @@ begins : (rest : List ℕ) → IsUtf8 rest → 0 < length rest → Begins rest
 begins [] utf8 some = absurd (omega arith)
 begins (byte ∷ more) utf8 some =
     ⊎_elim (λ starts.
-    ⊎_elim (λ word. begins_word (byte ∷ more) utf8 some word) (λ other.
+    ⊎_elim (λ word. begins_word (byte ∷ more) utf8 word) (λ other.
     ⊎_elim (λ quote.
     let is = quote_is byte quote in
     rw is (begins_quote more (rw is at utf8)))

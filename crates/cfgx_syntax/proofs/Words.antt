@@ -1,16 +1,13 @@
 -- Where a word and a token of one byte end.
-use Rattle.std.proofs.Common.{add-zero, length-take, length-drop, ◌≡◌, ℕ, zero, suc, ◌+◌, ◌-◌, ◌<◌}
-use Rattle.std.proofs.Common.{◌≤◌}
-use Rattle.std.proofs.Common.{Bool, true, false, List, [], ◌∷◌, length, take, drop, get_or}
-use Rattle.std.proofs.Common.{sym, refl, ap, ◌∙◌, subst, arith}
+use Rattle.std.proofs.Common.{◌≡◌, ℕ, zero, suc, ◌+◌, ◌-◌, ◌<◌, ◌≤◌, Bool, true, false, List, []}
+use Rattle.std.proofs.Common.{◌∷◌, length, take, drop, get_or, sym, refl, ap, ◌∙◌, arith, add-one}
 use Rattle.std.proofs.Math.Numerals.{one-add}
 use Rattle.std.specs.Prelude.{slice_range}
 use Rattle.std.specs.List.{list_all, prefix_len}
 use Rattle.std.specs.Str.{IsUtf8, IsCharBoundary}
-use Rattle.std.proofs.lemmas.List.{get_or-take, get_or-drop}
-use Rattle.std.proofs.lemmas.List.Sums.{prefix_len-le-length, prefix_len_passes, prefix_len_stops}
-use Rattle.std.proofs.lemmas.List.Sums.{list_all-from_AllPass}
+use Rattle.std.proofs.lemmas.List.Sums.{prefix_len-le-length, prefix_len_passes}
 use Rattle.std.proofs.lemmas.Str.{IsCharBoundary-after_ascii, IsCharBoundary-start}
+use Rattle.std.proofs.lemmas.Bool.{cond_both, false≢true}
 use Rattle.std.proofs.lemmas.Bool.Decides.{nat_tests}
 use Rattle.std.proofs.lemmas.Grind.{common_steps}
 use Rattle.cfgx_syntax.specs.Cut.{IsCut, IsValueCut}
@@ -26,40 +23,26 @@ continues_word-ascii byte h = grind (arith, nat_tests, common_steps)
 pub starts_word-continues : (byte : ℕ) → starts_word byte ≡ true → continues_word byte ≡ true
 starts_word-continues byte h = grind (arith, nat_tests, common_steps)
 
-pub passing_front : (p : ℕ → Bool) (xs : List ℕ)
-    → list_all p (take (prefix_len p xs) xs) ≡ true
-passing_front p xs =
-    list_all-from_AllPass p (take (prefix_len p xs) xs)
-    (λ k d lt. let in_front : k < prefix_len p xs = omega (arith, simp length-take at lt) in
-    rw get_or-take (prefix_len_passes p xs k d in_front))
+passing_front : (p : ℕ → Bool) (xs : List ℕ) → list_all p (take (prefix_len p xs) xs) ≡ true
+passing_front p [] = refl
+passing_front p (x ∷ xs) =
+    cond_both (p x) (1 + prefix_len p xs) 0 (λ n. list_all p (take n (x ∷ xs)) ≡ true)
+    (λ passes. rw (one-add, passes) (passing_front p xs)) (λ _. refl)
 
-pub EndsWord-from : (rest : List ℕ) → (0 < length rest → continues_word (get_or rest 0 0) ≡ false)
-    → EndsWord rest
-EndsWord-from [] h = refl
-EndsWord-from (byte ∷ rest) h = h (omega arith)
+EndsWord-behind : (xs : List ℕ) → EndsWord (drop (prefix_len continues_word xs) xs)
+EndsWord-behind [] = refl
+EndsWord-behind (x ∷ xs) =
+    cond_both (continues_word x) (1 + prefix_len continues_word xs) 0
+    (λ n. EndsWord (drop n (x ∷ xs))) (λ _. rw one-add (EndsWord-behind xs)) (λ stops. stops)
 
-pub EndsWord-behind : (xs : List ℕ) → EndsWord (drop (prefix_len continues_word xs) xs)
-EndsWord-behind xs =
-    let n = prefix_len continues_word xs in
-    EndsWord-from (drop n xs) (λ some.
-    let inside : n < length xs = omega (arith, simp length-drop at some) in
-    rw (get_or-drop, add-zero) (prefix_len_stops continues_word xs 0 inside))
-
--- the word in front of a text that starts with one: it is not empty, and the text may be cut behind
-pub prefix_len_some : (text : List ℕ) → 0 < length text → starts_word (get_or text 0 0) ≡ true
-    → 0 < prefix_len continues_word text
-prefix_len_some [] some starts = absurd (omega arith)
-prefix_len_some (byte ∷ rest) some starts =
-    let goes : continues_word byte ≡ true = starts_word-continues byte starts in
-    rw goes (omega arith)
-
--- its first byte, and those that continue it
-pub prefix_len-first : (text : List ℕ) → 0 < length text → starts_word (get_or text 0 0) ≡ true
-    → prefix_len continues_word (drop 1 text) + 1 ≡ prefix_len continues_word text
-prefix_len-first [] some starts = absurd (omega arith)
-prefix_len-first (byte ∷ rest) some starts =
-    let goes : continues_word byte ≡ true = starts_word-continues byte starts in
-    rw goes (omega arith)
+-- the word in front of a text that starts with one: its first byte, and those that continue it
+pub word_front : (text : List ℕ) → starts_word (get_or text 0 0) ≡ true
+    → IsWord (take (prefix_len continues_word text) text)
+    × (prefix_len continues_word (drop 1 text) + 1 ≡ prefix_len continues_word text)
+word_front [] starts = absurd (false≢true starts)
+word_front (byte ∷ rest) starts =
+    rw (starts_word-continues byte starts, one-add)
+    ((starts, passing_front continues_word rest), omega arith)
 
 -- behind bytes that pass a test which only ASCII passes
 pub IsCharBoundary-behind : (p : ℕ → Bool) → ((c : ℕ) → p c ≡ true → c < 128) → (text : List ℕ)
@@ -68,20 +51,11 @@ IsCharBoundary-behind p low text utf8 = by (prefix_len p text) refl where
   by : (n : ℕ) → n ≡ prefix_len p text → IsCharBoundary text n
   by zero is = IsCharBoundary-start text utf8
   by (suc n) is =
-      let inside : prefix_len p text ≤ length text = prefix_len-le-length p text in
-      let last = prefix_len_passes p text n 0 (omega (arith, is)) in
-      let cut = IsCharBoundary-after_ascii text n utf8 (omega (arith, is, inside))
-      (low (get_or text n 0) last) in
-      subst (IsCharBoundary text) (omega arith) cut
+      let inside = prefix_len-le-length p text in
+      let last = low (get_or text n 0) (prefix_len_passes p text n 0 (omega (arith, is))) in
+      rw add-one at (IsCharBoundary-after_ascii text n utf8 (omega (arith, is, inside)) last)
 
-pub IsWord-front : (text : List ℕ) → 0 < length text → starts_word (get_or text 0 0) ≡ true
-    → IsWord (take (prefix_len continues_word text) text)
-IsWord-front [] some starts = absurd (omega arith)
-IsWord-front (byte ∷ rest) some starts =
-    let goes : continues_word byte ≡ true = starts_word-continues byte starts in
-    rw (goes, one-add) (starts, passing_front continues_word rest)
-
-pub IsWhole-word : (rest : List ℕ) (token : Token) → EndsWord rest → IsWhole token rest
+IsWhole-word : (rest : List ℕ) (token : Token) → EndsWord rest → IsWhole token rest
 IsWhole-word rest (Token.key word) ends = ends
 IsWhole-word rest Token.all ends = ends
 IsWhole-word rest Token.any ends = ends
@@ -104,44 +78,41 @@ pub BeginsWith-byte : (text : List ℕ) (token : Token) (byte : ℕ) → IsUtf8 
     → IsValueCut text token 0 1 → BeginsWith text token 1
 BeginsWith-byte [] token byte utf8 some is low spelled whole value = absurd (omega arith)
 BeginsWith-byte (first ∷ rest) token byte utf8 some is low spelled whole value =
-    let closes : IsCharBoundary (first ∷ rest) 1 =
-    IsCharBoundary-after_ascii (first ∷ rest) 0 utf8 (omega arith) (omega arith) in
-    let cut : IsCut (first ∷ rest) 0 1 = IsCut-front (first ∷ rest) 1 utf8 (omega arith) closes in
+    let text : List ℕ = first ∷ rest in
+    let closes = IsCharBoundary-after_ascii text 0 utf8 some (omega arith) in
     record {
-      spelled = subst (λ b. Spells (b ∷ []) token) (sym is) spelled;
+      spelled = rw is spelled;
       some = omega arith;
-      inside = omega arith;
+      inside = some;
       whole = whole;
-      cut = record { spelling = cut; value = value };
+      cut = record { spelling = IsCut-front text 1 utf8 some closes; value = value };
     }
 
 -- a word spells no value, and so there is no value to cut
-pub IsValueCut-word : (text word : List ℕ) (token : Token) (start end : ℕ) → IsWord word
+IsValueCut-word : (text word : List ℕ) (token : Token) (start end : ℕ) → IsWord word
     → Spells word token → IsValueCut text token start end
 IsValueCut-word text word (Token.value inside) start end is spelled =
-    let quoted : IsWord (in_quotes inside) = subst IsWord spelled.0 is in
-    let wrong : false ≡ true = quoted.0 in
-    cc
+    absurd (false≢true (rw spelled.0 at is).0)
 IsValueCut-word text word _ start end is spelled = tt
 
 -- a text begins with the token that its first word spells
-pub BeginsWith-word : (text : List ℕ) (token : Token) → IsUtf8 text → 0 < length text
+pub BeginsWith-word : (text : List ℕ) (token : Token) → IsUtf8 text
     → starts_word (get_or text 0 0) ≡ true
     → Spells (take (prefix_len continues_word text) text) token
     → BeginsWith text token (prefix_len continues_word text)
-BeginsWith-word text token utf8 some starts spelled =
+BeginsWith-word text token utf8 starts spelled =
     let n = prefix_len continues_word text in
-    let inside : n ≤ length text = prefix_len-le-length continues_word text in
+    let inside = prefix_len-le-length continues_word text in
     let closes = IsCharBoundary-behind continues_word continues_word-ascii text utf8 in
-    let word = IsWord-front text some starts in
+    let word = word_front text starts in
     record {
       spelled = spelled;
-      some = prefix_len_some text some starts;
+      some = omega (arith, word.1);
       inside = inside;
       whole = IsWhole-word (drop n text) token (EndsWord-behind text);
       cut = record {
         spelling = IsCut-front text n utf8 inside closes;
-        value = IsValueCut-word text (take n text) token 0 n word spelled;
+        value = IsValueCut-word text (take n text) token 0 n word.0 spelled;
       };
     }
 

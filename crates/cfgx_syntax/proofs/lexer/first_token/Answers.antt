@@ -1,12 +1,12 @@
 -- One byte is a token by itself, and a word runs as far as it can.
 use Rattle.std.proofs.Common.{◌≡◌, ◌<◌, List, [], ◌∷◌, ℕ, length, drop, get_or, ap, ◌∙◌, sym, subst}
-use Rattle.std.proofs.Common.{rules}
+use Rattle.std.proofs.Common.{rules, true}
 use Rattle.std.specs.Str.{IsUtf8}
 use Rattle.cfgx_syntax.specs.Cut.{IsValueCut}
-use Rattle.cfgx_syntax.specs.Token.{Token, IsWhole, IsWord, Spells, continues_word}
+use Rattle.cfgx_syntax.specs.Token.{Token, IsWhole, IsWord, Spells, starts_word, continues_word}
 use Rattle.cfgx_syntax.specs.Lexer.{BeginsWith, token_of}
-use Rattle.cfgx_syntax.proofs.Words.{BeginsWith-byte, BeginsWith-word, IsWord-front}
-use Rattle.cfgx_syntax.proofs.Words.{IsCharBoundary-behind, continues_word-ascii, starts_text}
+use Rattle.cfgx_syntax.proofs.Words.{BeginsWith-byte, BeginsWith-word, word_front}
+use Rattle.cfgx_syntax.proofs.Words.{IsCharBoundary-behind, continues_word-ascii}
 use Rattle.cfgx_syntax.proofs.Words.{front_is}
 use Rattle.cfgx_syntax.proofs.lexer.first_token.Goals as goal
 
@@ -38,21 +38,16 @@ range-requires-clause-end_boundary c =
 pub word_token-requires : goal.word_token-requires
 word_token-requires c =
     let text = c.args.text.now in
-    let starts = starts_text text c.as_bytes.result.now c.starts_word.result
-    c.as_bytes.ensures.value c.starts_word.ensures c.if-starts_word.true in
+    let starts : starts_word (get_or text 0 0) ≡ true = cc in
     let cut = front_is text c.range.result.now c.word_len-len.result _
     c.range.ensures.value c.word_len-len.ensures in
-    subst IsWord (sym cut) (IsWord-front text c.requires starts)
+    rw cut (word_front text starts).0
 
 pub returns-in_default : goal.returns-in_default
 returns-in_default c =
     let text = c.args.text.now in
-    let token = token_of c.word_token.result in
-    let starts = starts_text text c.as_bytes.result.now c.starts_word.result
-    c.as_bytes.ensures.value c.starts_word.ensures c.if-starts_word.true in
+    let starts : starts_word (get_or text 0 0) ≡ true = cc in
     let cut = front_is text c.range.result.now c.word_len-len.result _
     c.range.ensures.value c.word_len-len.ensures in
-    let spelled = subst (λ bytes. Spells bytes (token_of c.word_token.result)) cut
-    c.word_token.ensures in
-    let begins = BeginsWith-word text token c.utf8.text c.requires starts spelled in
-    subst (BeginsWith text token) (sym c.word_len-len.ensures) begins
+    rw c.word_len-len.ensures (BeginsWith-word text (token_of c.word_token.result) c.utf8.text starts
+    (rw cut at c.word_token.ensures))
