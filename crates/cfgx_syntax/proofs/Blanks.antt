@@ -5,7 +5,7 @@ use Rattle.std.proofs.Common.{add-zero, length-append, length-drop, take-append-
 use Rattle.std.proofs.Math.Numerals.{one-add}
 use Rattle.std.proofs.Math.Seq.{take-append-add, drop-append-add}
 use Rattle.std.specs.Prelude.{encode_utf8}
-use Rattle.std.specs.Char.{IsScalar, is_not_whitespace}
+use Rattle.std.specs.Char.{IsScalar, is_not_whitespace, is_ascii_graphic}
 use Rattle.std.specs.List.{prefix_len}
 use Rattle.std.specs.Str.{IsTrimStart, NoCharPasses, EmptyOrStartsWithPassing}
 use Rattle.std.proofs.lemmas.Str.{NoCharPasses-nil, NoCharPasses-append, encode_ascii}
@@ -77,18 +77,30 @@ module _ (text bytes rest : List ℕ) (n : ℕ) (len : n ≡ prefix_len is_blank
   blanks : n ≡ prefix_len is_blank text
   blanks = len ∙ ap (prefix_len is_blank) same
 
-  pub IsTrimStart-behind : (trimmed : List ℕ) → IsTrimStart rest trimmed
+  pub trim_behind : (trimmed : List ℕ) → IsTrimStart rest trimmed
       → IsTrimStart text trimmed
-  IsTrimStart-behind trimmed left =
+  trim_behind trimmed left =
       let front : NoCharPasses is_not_whitespace (take n text) = rw blanks (front-blank text) in
       let whole = IsTrimStart-past (take n text) (drop n text) trimmed front
       (subst (λ l. IsTrimStart l trimmed) is left) in
       subst (λ l. IsTrimStart l trimmed) (take-append-drop n text) whole
 
-  pub IsTrimStart-blanks : (0 < length rest → get_or rest 0 0 < 128) → IsTrimStart text rest
-  IsTrimStart-blanks low =
+  pub trim_blanks : (0 < length rest → get_or rest 0 0 < 128) → IsTrimStart text rest
+  trim_blanks low =
       let stops : 0 < length rest → is_blank (get_or rest 0 0) ≡ false = λ some.
       let inside : prefix_len is_blank text < length text =
       omega (arith, some, ap length is, length-drop n text, blanks) in
       rw (is, blanks, get_or-drop, add-zero) (prefix_len_stops is_blank text 0 inside) in
-      IsTrimStart-behind rest (IsTrimStart-ascii rest low stops)
+      trim_behind rest (IsTrimStart-ascii rest low stops)
+
+graphic-ascii : (c : ℕ) → is_ascii_graphic c ≡ true → c < 128
+graphic-ascii c h = grind (arith, nat_tests, common_steps)
+
+graphic-no_blank : (c : ℕ) → is_ascii_graphic c ≡ true → is_blank c ≡ false
+graphic-no_blank c h = grind (arith, nat_tests, common_steps)
+
+-- an ASCII character that is printed is no white space
+pub trim_graphic : (text : List ℕ) → is_ascii_graphic (get_or text 0 0) ≡ true
+    → IsTrimStart text text
+trim_graphic text h = IsTrimStart-ascii text (λ _. graphic-ascii (get_or text 0 0) h)
+    (λ _. graphic-no_blank (get_or text 0 0) h)

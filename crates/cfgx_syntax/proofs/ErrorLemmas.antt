@@ -68,3 +68,5 @@ fault_eq-Decides one other =
     (Decides-and _ _
     (Decides-eqb one.span.start other.span.start) (Decides-eqb one.span.end other.span.end))
     (reason_eq-Decides one.reason other.reason)))
+
+pub ruleset equalities = (reason_eq-Decides, fault_eq-Decides)

@@ -8,7 +8,6 @@ pub mod Lanes
 pub mod Repeated
 pub mod Scanning
 pub mod Sizes
-pub mod Tables
 pub mod TokenList
 pub mod Values
 pub mod Words

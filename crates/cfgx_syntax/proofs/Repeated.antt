@@ -25,15 +25,15 @@ module _ (xs : List ℕ) where
       ∙ repeat-append many (times * many) ∙ ap (λ k. repeat k xs) all
 
   -- in pieces of 64
-  pub repeat-pieces : (many : List ℕ) (times : ℕ) → many ≡ repeat 64 xs
+  pub repeat_pieces : (many : List ℕ) (times : ℕ) → many ≡ repeat 64 xs
       → repeat (times / 64) many ++ repeat (times % 64) xs ≡ repeat times xs
-  repeat-pieces many times is =
+  repeat_pieces many times is =
       let all : times / 64 * 64 + times % 64 ≡ times = omega arith in
       ap (λ l. repeat (times / 64) l ++ repeat (times % 64) xs) is
       ∙ ap (λ l. l ++ repeat (times % 64) xs) (repeat-repeat 64 (times / 64))
       ∙ repeat-append (times / 64 * 64) (times % 64) ∙ ap (λ k. repeat k xs) all
 
 -- of one byte
-pub repeat-one : (byte times : ℕ) → repeat times (byte ∷ []) ≡ replicate times byte
-repeat-one byte zero = refl
-repeat-one byte (suc times) = ap (λ l. byte ∷ l) (repeat-one byte times)
+pub repeat_one : (byte times : ℕ) → repeat times (byte ∷ []) ≡ replicate times byte
+repeat_one byte zero = refl
+repeat_one byte (suc times) = ap (λ l. byte ∷ l) (repeat_one byte times)

@@ -116,15 +116,5 @@ BeginsWith-word text token utf8 starts spelled =
       };
     }
 
--- what the code's test of the first byte says of the text
-pub starts_text : (text bytes : List ℕ) (b : Bool) → bytes ≡ text
-    → b ≡ starts_word (get_or bytes 0 0) → b ≡ true → starts_word (get_or text 0 0) ≡ true
-starts_text text bytes b same is holds =
-    ap (λ l. starts_word (get_or l 0 0)) (sym same) ∙ sym is ∙ holds
-
--- the first bytes of a text, as the code cuts them
-pub front_is : (text cut : List ℕ) (n m : ℕ) → cut ≡ slice_range text 0 n → n ≡ m
-    → cut ≡ take m text
-front_is text cut n m is same =
-    let whole : n - 0 ≡ m = omega arith in
-    is ∙ ap (λ k. take k text) whole
+-- no more bytes pass than there are
+pub ruleset lengths = (prefix_len-le-length)

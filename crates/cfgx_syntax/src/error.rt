@@ -251,6 +251,7 @@ fn write_times<W: fmt::Write>(
 }
 
 // A space for each byte in front of a span.
+#[tactic(auto, using(crate::proofs::Repeated::repeat_one))]
 fn write_spaces<W: fmt::Write>(f: &mut fmt::Formatter<W>, times: usize) -> fmt::Result
     ensures { DisplaysOnOk W.write_str_gives f.old result
         (Some (replicate times (byte_of (codes " ")))) f.new }
@@ -259,6 +260,7 @@ fn write_spaces<W: fmt::Write>(f: &mut fmt::Formatter<W>, times: usize) -> fmt::
 }
 
 // A caret for each byte of a span.
+#[tactic(auto, using(crate::proofs::Repeated::repeat_one))]
 fn write_carets<W: fmt::Write>(f: &mut fmt::Formatter<W>, times: usize) -> fmt::Result
     ensures { DisplaysOnOk W.write_str_gives f.old result
         (Some (replicate times (byte_of (codes "^")))) f.new }

@@ -64,6 +64,7 @@ fn is_blank(byte: u8) -> bool
 }
 
 /// How many of the first bytes are ASCII white space.
+#[tactic(auto, using(crate::proofs::Words::lengths))]
 fn blank_len(bytes: &[u8]) -> usize
     ensures len { result ≡ prefix_len is_blank bytes.now }
     ensures few { result ≤ length bytes.now }
@@ -72,6 +73,7 @@ fn blank_len(bytes: &[u8]) -> usize
 }
 
 /// The text without the white space in front of it, where ASCII white space stands in most cases.
+#[tactic(auto, using(crate::proofs::Blanks::trim_blanks))]
 fn behind_blanks(text: &str) -> &str
     ensures { IsTrimStart text.now result.now }
 {
@@ -84,6 +86,7 @@ fn behind_blanks(text: &str) -> &str
 }
 
 /// The text without the white space in front of it.
+#[tactic(auto, using(crate::proofs::Blanks::trim_graphic))]
 fn trimmed(text: &str) -> &str
     ensures { IsTrimStart text.now result.now }
 {
@@ -110,6 +113,7 @@ fn continues_word(byte: u8) -> bool
 }
 
 /// How many of the first bytes may stand in a word.
+#[tactic(auto, using(crate::proofs::Words::lengths))]
 fn continued_len(bytes: &[u8]) -> usize
     ensures len { result ≡ prefix_len continues_word bytes.now }
     ensures few { result ≤ length bytes.now }

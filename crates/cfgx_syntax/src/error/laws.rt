@@ -7,6 +7,7 @@ use super::{ParseError, Reason};
 use std::alloc::Allocator;
 
 // Equal reasons have the same variant, number and texts; no address counts.
+#[tactic(auto, using(crate::proofs::ErrorLemmas::equalities))]
 fn are_same_reasons(one: &Reason, other: &Reason) -> bool
     ensures { IsTrue result ↔ (cause_of one.now ≡ cause_of other.now) }
 {
@@ -14,6 +15,7 @@ fn are_same_reasons(one: &Reason, other: &Reason) -> bool
 }
 
 // Equal faults have the same text, span and reason; the allocator does not count.
+#[tactic(auto, using(crate::proofs::ErrorLemmas::equalities))]
 fn are_same_faults<A: Allocator>(one: &ParseError<A>, other: &ParseError<A>) -> bool
     ensures { IsTrue result ↔ (fault_of one.now ≡ fault_of other.now) }
 {

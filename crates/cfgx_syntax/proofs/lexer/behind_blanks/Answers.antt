@@ -1,6 +1,6 @@
 -- White space goes on behind ASCII white space only if a longer character is next.
 use Rattle.std.proofs.Common.{rules}
-use Rattle.cfgx_syntax.proofs.Blanks.{blank-ascii, IsTrimStart-behind, IsTrimStart-blanks}
+use Rattle.cfgx_syntax.proofs.Blanks.{blank-ascii, trim_behind, trim_blanks}
 use Rattle.cfgx_syntax.proofs.Words.{IsCharBoundary-behind}
 use Rattle.cfgx_syntax.specs.Lexer.{is_blank}
 use Rattle.cfgx_syntax.proofs.lexer.behind_blanks.Goals as goal
@@ -10,10 +10,7 @@ range_from-rest-requires c = λ some. rw (c.blank_len.ensures.len, c.as_bytes.en
     (IsCharBoundary-behind is_blank blank-ascii c.args.text.now c.utf8.text)
 
 pub returns-in-Some : goal.returns-in-Some
-returns-in-Some c = search (rules, IsTrimStart-behind)
+returns-in-Some c = search (rules, trim_behind)
 
 pub returns-in_default : goal.returns-in_default
-returns-in_default c = search (rules, IsTrimStart-blanks)
-
-pub returns-in_default-2 : goal.returns-in_default-2
-returns-in_default-2 c = search (rules, IsTrimStart-blanks)
+returns-in_default c = search (rules, trim_blanks)

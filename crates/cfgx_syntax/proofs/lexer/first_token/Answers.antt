@@ -5,9 +5,9 @@ use Rattle.std.specs.Str.{IsUtf8}
 use Rattle.cfgx_syntax.specs.Cut.{IsValueCut}
 use Rattle.cfgx_syntax.specs.Token.{Token, IsWhole, IsWord, Spells, starts_word, continues_word}
 use Rattle.cfgx_syntax.specs.Lexer.{BeginsWith, token_of}
+use Rattle.std.proofs.Math.Nat.{sub-zero}
 use Rattle.cfgx_syntax.proofs.Words.{BeginsWith-byte, BeginsWith-word, word_front}
 use Rattle.cfgx_syntax.proofs.Words.{IsCharBoundary-behind, continues_word-ascii}
-use Rattle.cfgx_syntax.proofs.Words.{front_is}
 use Rattle.cfgx_syntax.proofs.lexer.first_token.Goals as goal
 
 -- a token of one byte, which stands first in the bytes of the text
@@ -31,23 +31,18 @@ returns-in-61 c = search (rules, one_byte)
 
 pub range-requires-clause-end_boundary : goal.range-requires-clause-end_boundary
 range-requires-clause-end_boundary c =
-    let cut = IsCharBoundary-behind continues_word continues_word-ascii c.args.text.now
-    c.utf8.text in
-    rw c.word_len-len.ensures cut
+    rw c.word_len-len.ensures
+    (IsCharBoundary-behind continues_word continues_word-ascii c.args.text.now c.utf8.text)
 
 pub word_token-requires : goal.word_token-requires
 word_token-requires c =
     let text = c.args.text.now in
     let starts : starts_word (get_or text 0 0) ≡ true = cc in
-    let cut = front_is text c.range.result.now c.word_len-len.result _
-    c.range.ensures.value c.word_len-len.ensures in
-    rw cut (word_front text starts).0
+    rw (c.range.ensures.value, sub-zero, c.word_len-len.ensures) (word_front text starts).0
 
 pub returns-in_default : goal.returns-in_default
 returns-in_default c =
     let text = c.args.text.now in
     let starts : starts_word (get_or text 0 0) ≡ true = cc in
-    let cut = front_is text c.range.result.now c.word_len-len.result _
-    c.range.ensures.value c.word_len-len.ensures in
     rw c.word_len-len.ensures (BeginsWith-word text (token_of c.word_token.result) c.utf8.text starts
-    (rw cut at c.word_token.ensures))
+    (rw (c.range.ensures.value, sub-zero, c.word_len-len.ensures) at c.word_token.ensures))

@@ -1,6 +1,0 @@
-use Rattle.std.proofs.Common.{rules, sym}
-use Rattle.cfgx_syntax.proofs.Repeated.{repeat-one}
-use Rattle.cfgx_syntax.proofs.error.write_carets.Goals as goal
-
-pub returns : goal.returns
-returns g c plain ok = rw (sym (repeat-one 94 c.args.times)) (search (plain, ok, rules))
