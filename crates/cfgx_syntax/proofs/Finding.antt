@@ -1,7 +1,7 @@
 -- Each text has a token list.
-use Rattle.std.proofs.Common.{◌≡◌, ℕ, suc, zero, ◌+◌, ◌-◌, ◌<◌, ◌≤◌, Bool, true, false, List, []}
-use Rattle.std.proofs.Common.{◌∷◌, ◌++◌, length, take, drop, get_or, refl, ap, ◌∙◌, subst, ◌≢◌}
-use Rattle.std.proofs.Common.{◌⊎◌, inl, inr, arith, ⊎_elim, lit<, append-nil, length-drop, length-take}
+use Rattle.std.proofs.Common.{◌≡◌, ℕ, suc, zero, ◌+◌, ◌-◌, ◌<◌, ◌≤◌, true, false, List, [], ◌∷◌}
+use Rattle.std.proofs.Common.{◌++◌, length, take, drop, get_or, refl, ap, ◌∙◌, subst, ◌≢◌, ◌⊎◌, inl}
+use Rattle.std.proofs.Common.{inr, arith, ⊎_elim, lit<, append-nil, length-drop, length-take}
 use Rattle.std.specs.Prelude.{codes, encode_utf8}
 use Rattle.std.specs.Char.{is_not_whitespace}
 use Rattle.std.specs.List.{AllByRecursion, position_or_len, before_first, after_first, prefix_len}
@@ -13,12 +13,12 @@ use Rattle.std.proofs.lemmas.Slice.Eq.{bytes_eq-Decides}
 use Rattle.std.proofs.lemmas.Bool.{and_parts, both_ways, cases_Bool, cases_eq, cases_lt}
 use Rattle.std.proofs.lemmas.Bool.Decides.{nat_tests, not_from_Decides}
 use Rattle.std.proofs.lemmas.Grind.{common_steps}
-use Rattle.cfgx_syntax.specs.Items.{Item, Ending, ItemsFrom, IsBlank}
-use Rattle.cfgx_syntax.specs.Items.{HasOneTokenList, OpensNoValue, starts_token}
+use Rattle.cfgx_syntax.specs.Items.{Item, Ending, ItemsFrom, IsBlank, HasOneTokenList, OpensNoValue}
+use Rattle.cfgx_syntax.specs.Items.{starts_token}
 use Rattle.cfgx_syntax.specs.Lexer.{BeginsWith}
 use Rattle.cfgx_syntax.specs.Token.{Token, starts_word, continues_word, is_quote, IsWord, Spells}
-use Rattle.cfgx_syntax.specs.Cut.{IsValueCut, CanBeCut}
 use Rattle.cfgx_syntax.specs.Token.{HasNoQuote, IsWhole}
+use Rattle.cfgx_syntax.specs.Cut.{IsValueCut, CanBeCut}
 use Rattle.cfgx_syntax.proofs.Blanks.{IsTrimStart-here, IsTrimStart-past}
 use Rattle.cfgx_syntax.proofs.Scanning.{IsBehind, Stands-found, IsStuck-found, IsUnclosed-found}
 use Rattle.cfgx_syntax.proofs.Scanning.{rest_is, CanBeCut-found}
@@ -52,7 +52,8 @@ trimmed text utf8 = subst Trimmed utf8.1.1 (trimmed_chars utf8.0 utf8.1.0)
 cases_text : (xs ys : List ℕ) → (xs ≡ ys) ⊎ (xs ≢ ys)
 cases_text xs ys =
     let test = bytes_eq-Decides xs ys in
-    ⊎_elim (λ t. inl (test.0 t)) (λ f. inr (not_from_Decides _ test f)) (cases_Bool (bytes_eq xs ys))
+    ⊎_elim (λ t. inl (test.0 t)) (λ f. inr (not_from_Decides _ test f))
+    (cases_Bool (bytes_eq xs ys))
 
 -- each word spells a token
 word_spells : (word : List ℕ) → IsWord word → (token : Token) × Spells word token
@@ -62,8 +63,8 @@ word_spells word is =
     ⊎_elim (λ not. (Token.not, not)) (λ not_not. (
       Token.key word,
       (refl, record { spelled = is; not_all = not_all; not_any = not_any; not_not = not_not }),
-    ))
-    (cases_text word (codes "not"))) (cases_text word (codes "any"))) (cases_text word (codes "all"))
+    )) (cases_text word (codes "not"))) (cases_text word (codes "any")))
+    (cases_text word (codes "all"))
 
 -- what the rest of a text begins with
 data Begins (rest : List ℕ) : Type 0 where
@@ -168,7 +169,8 @@ found_behind text rest from utf8 behind next some (Begins.token kind len front) 
     ap (drop len) (rest_is text rest from behind) ∙ drop-drop len s text in
     let text_behind : IsUtf8 (drop (s + len) text) =
     subst IsUtf8 past (IsUtf8-drop rest len utf8 front.cut.spelling.closes) in
-    let more = next (s + len) (omega (arith, stands.behind, front.some)) stands.inside text_behind in
+    let past_from : from < s + len = omega (arith, stands.behind, front.some) in
+    let more = next (s + len) past_from stands.inside text_behind in
     record {
       items = record { token = kind; start = s; end = s + len } ∷ more.items;
       ending = more.ending;

@@ -1,8 +1,7 @@
 -- The token in front of a text, and its length, are determined by the text.
-use Rattle.std.proofs.Common.{◌≡◌, ℕ, ◌+◌, ◌-◌, ◌<◌, ◌≤◌, ◌≢◌, true, false, List, []}
-use Rattle.std.proofs.Common.{◌∷◌, ◌++◌, length, take, drop, get_or, sym, refl, ◌∙◌, arith, ap, cond}
+use Rattle.std.proofs.Common.{◌≡◌, ℕ, ◌+◌, ◌-◌, ◌<◌, ◌≤◌, ◌≢◌, true, false, List, [], ◌∷◌, ◌++◌}
+use Rattle.std.proofs.Common.{length, take, drop, get_or, sym, refl, ◌∙◌, arith, ap, cond}
 use Rattle.std.proofs.Common.{append_assoc, append-nil, length-append, length-take, length-take-le}
-use Rattle.std.proofs.Math.Numerals.{one-add}
 use Rattle.std.specs.Prelude.{codes}
 use Rattle.std.specs.List.{list_all, list_any, prefix_len, position_or_len}
 use Rattle.std.specs.Str.{bytes_eq}
@@ -12,7 +11,7 @@ use Rattle.std.proofs.lemmas.Bool.Decides.{nat_tests}
 use Rattle.std.proofs.lemmas.Grind.{common_steps}
 use Rattle.std.proofs.lemmas.Slice.Eq.{bytes_eq-Decides}
 use Rattle.cfgx_syntax.specs.Token.{Token, starts_word, continues_word, is_quote, IsWord}
-use Rattle.cfgx_syntax.specs.Token.{HasNoQuote, in_quotes, Spells, IsWhole, EndsWord}
+use Rattle.cfgx_syntax.specs.Token.{HasNoQuote, Spells, IsWhole, EndsWord}
 use Rattle.cfgx_syntax.specs.Items.{OpensNoValue, starts_token}
 use Rattle.cfgx_syntax.proofs.Words.{starts_word-continues}
 
@@ -80,7 +79,8 @@ quote_after (byte ∷ bytes) after none =
 -- the length of a token in front of a text
 spelled_len : (bytes after : List ℕ) (token : Token) → Spells bytes token → IsWhole token after
     → token_len (bytes ++ after) ≡ length bytes
-spelled_len bytes after (Token.key word) (is, key) ends = rw is (word_len word after key.spelled ends)
+spelled_len bytes after (Token.key word) (is, key) ends =
+    rw is (word_len word after key.spelled ends)
 spelled_len bytes after (Token.value inside) (is, none) ends =
     rw (is, append_assoc inside (codes "\"") after, quote_after inside (codes "\"" ++ after) none)
     (omega (arith, length-append inside (codes "\"")))

@@ -1,10 +1,8 @@
 -- What the lexer finds behind white space stands in the whole text.
-use Rattle.std.proofs.Common.{◌≡◌, ℕ, ◌+◌, ◌-◌, ◌<◌, ◌≤◌, min, true, false, List, length, take}
-use Rattle.std.proofs.Common.{Some, inl, inr, ◌⊎◌, refl}
-use Rattle.std.proofs.Common.{drop, get_or, sym, ap, ◌∙◌, subst, ⊎_elim, arith, length-drop}
+use Rattle.std.proofs.Common.{◌≡◌, ℕ, ◌+◌, ◌-◌, ◌<◌, ◌≤◌, min, true, false, List, length, inl, inr}
+use Rattle.std.proofs.Common.{◌⊎◌, refl, drop, get_or, ap, subst, arith, length-drop}
 use Rattle.std.specs.Prelude.{slice_range}
-use Rattle.std.specs.Char.{is_not_whitespace}
-use Rattle.std.specs.Str.{IsTrimStart, NoCharPasses}
+use Rattle.std.specs.Str.{IsTrimStart}
 use Rattle.std.proofs.lemmas.List.{take_min, drop_min, drop-drop}
 use Rattle.std.proofs.lemmas.Str.{byte_from_char}
 use Rattle.std.proofs.lemmas.Bool.{both_ways, false_from_ne_true}
@@ -12,11 +10,10 @@ use Rattle.std.proofs.lemmas.Bool.Decides.{nat_tests}
 use Rattle.std.proofs.lemmas.Grind.{common_steps}
 use Rattle.cfgx_syntax.specs.Cut.{CanBeCut}
 use Rattle.cfgx_syntax.specs.Items.{IsBlank, Stands, IsStuck, IsUnclosed, OpensNoValue}
-use Rattle.cfgx_syntax.specs.Items.{StartsNoToken, starts_token, expects_token, lexical, EndsAs}
-use Rattle.cfgx_syntax.specs.Items.{Ending}
+use Rattle.cfgx_syntax.specs.Items.{StartsNoToken, starts_token, expects_token, Ending}
 use Rattle.cfgx_syntax.specs.Error.{Cause, Refusal, FailsWith, fault_in}
 use Rattle.cfgx_syntax.specs.declared.error.Failure.{Failure}
-use Rattle.cfgx_syntax.specs.Token.{Token, Spells, IsWhole}
+use Rattle.cfgx_syntax.specs.Token.{Token}
 use Rattle.cfgx_syntax.specs.Lexer.{BeginsWith, BeginsNone, BeginsUnclosed, GivesFault}
 use Rattle.cfgx_syntax.specs.LexerState.{LexerState, at_end}
 use Rattle.cfgx_syntax.proofs.Cutting.{CanBeCut-from_rest}
@@ -132,7 +129,8 @@ module _ (text rest : List ℕ) (place : ℕ) (behind : IsBehind text rest place
       }
   GivesFault-found failure new cause len some (inr unclosed) fails over =
       let s : ℕ = length text - length rest in
-      let all : s + len ≡ length text = omega (arith, ap length rest_is, length-drop s text, unclosed.all) in
+      let all : s + len ≡ length text =
+      omega (arith, ap length rest_is, length-drop s text, unclosed.all) in
       record {
         ending = Ending.unclosed_quotes s;
         ends = IsUnclosed-found unclosed.unclosed;

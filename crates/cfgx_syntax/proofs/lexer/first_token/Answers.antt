@@ -1,9 +1,9 @@
 -- One byte is a token by itself, and a word runs as far as it can.
-use Rattle.std.proofs.Common.{◌≡◌, ◌<◌, List, [], ◌∷◌, ℕ, length, drop, get_or, ap, ◌∙◌, sym, subst}
-use Rattle.std.proofs.Common.{rules, true}
+use Rattle.std.proofs.Common.{◌≡◌, ◌<◌, List, [], ◌∷◌, ℕ, length, drop, get_or, ap, ◌∙◌, sym, rules}
+use Rattle.std.proofs.Common.{true}
 use Rattle.std.specs.Str.{IsUtf8}
 use Rattle.cfgx_syntax.specs.Cut.{IsValueCut}
-use Rattle.cfgx_syntax.specs.Token.{Token, IsWhole, IsWord, Spells, starts_word, continues_word}
+use Rattle.cfgx_syntax.specs.Token.{Token, IsWhole, Spells, starts_word, continues_word}
 use Rattle.cfgx_syntax.specs.Lexer.{BeginsWith, token_of}
 use Rattle.std.proofs.Math.Nat.{sub-zero}
 use Rattle.cfgx_syntax.proofs.Words.{BeginsWith-byte, BeginsWith-word, word_front}
@@ -44,5 +44,6 @@ pub returns-in_default : goal.returns-in_default
 returns-in_default c =
     let text = c.args.text.now in
     let starts : starts_word (get_or text 0 0) ≡ true = cc in
-    rw c.word_len-len.ensures (BeginsWith-word text (token_of c.word_token.result) c.utf8.text starts
+    rw c.word_len-len.ensures
+    (BeginsWith-word text (token_of c.word_token.result) c.utf8.text starts
     (rw (c.range.ensures.value, sub-zero, c.word_len-len.ensures) at c.word_token.ensures))

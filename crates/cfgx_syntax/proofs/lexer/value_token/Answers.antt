@@ -11,37 +11,27 @@ use Rattle.cfgx_syntax.proofs.lexer.value_token.Goals as goal
 -- the text is its first byte and what the code cuts off behind it
 behind_first : (text rest : List ℕ) (byte : ℕ) → 0 < length text → get_or text 0 0 ≡ byte
     → rest ≡ drop 1 text → text ≡ byte ∷ rest
-behind_first text rest byte some first is =
-    drop_more text 0 0 some ∙ ap (λ b. b ∷ drop 1 text) first ∙ ap (λ l. byte ∷ l) (sym is)
+behind_first text rest byte some first is = rw (first, ← is) at (drop_more text 0 0 some)
 
 pub range_from-requires : goal.range_from-requires
 range_from-requires c = λ _.
-    let text = c.args.text.now in
-    let first : get_or text 0 0 ≡ 34 = c.requires.quote in
-    IsCharBoundary-after_ascii text 0 c.utf8.text c.requires.some (omega arith)
+    IsCharBoundary-after_ascii c.args.text.now 0 c.utf8.text c.requires.some (omega arith)
 
 pub returns-in-Some : goal.returns-in-Some
 returns-in-Some c =
-    let text = c.args.text.now in
     let rest = c.range_from.result.now in
-    let parts = split_parts 34 rest (Some (c.in-Some.inside, c.in-Some.field-0-1))
-    c.in-Some.ensures.cases (lit< tt) in
-    let whole : text ≡ codes "\"" ++ rest =
-    behind_first text rest 34 c.requires.some c.requires.quote c.range_from.ensures.value in
-    let inside = c.in-Some.inside.now in
-    let none = HasNoQuote-from inside parts.1 in
-    BeginsWith-value text inside c.in-Some.field-0-1.now c.utf8.text none
-    (whole ∙ ap (λ l. codes "\"" ++ l) parts.0)
+    let inside = c.in-Some.inside in
+    let behind = c.in-Some.field-0-1 in
+    let parts = split_parts 34 rest (Some (inside, behind)) c.in-Some.ensures.cases (lit< tt) in
+    let whole =
+    behind_first c.args.text.now rest 34 c.requires.some c.requires.quote c.range_from.ensures.value in
+    BeginsWith-value c.args.text.now inside.now behind.now c.utf8.text
+    (HasNoQuote-from inside.now parts.1) (rw parts.0 at whole)
 
 pub returns-in-None : goal.returns-in-None
 returns-in-None c =
-    let text = c.args.text.now in
     let rest = c.range_from.result.now in
     let none = split_parts 34 rest None c.in-None.ensures.cases (lit< tt) in
-    let whole : text ≡ codes "\"" ++ rest =
-    behind_first text rest 34 c.requires.some c.requires.quote c.range_from.ensures.value in
-    inr (record {
-      unclosed = (rest, whole, HasNoQuote-from rest none);
-      why = refl;
-      all = refl;
-    })
+    let whole =
+    behind_first c.args.text.now rest 34 c.requires.some c.requires.quote c.range_from.ensures.value in
+    inr (record { unclosed = (rest, whole, HasNoQuote-from rest none); why = refl; all = refl })
