@@ -15,12 +15,6 @@ use Rattle.cfgx_syntax.specs.Token.{HasNoQuote, Spells, IsWhole, EndsWord}
 use Rattle.cfgx_syntax.specs.Items.{OpensNoValue, starts_token}
 use Rattle.cfgx_syntax.proofs.Words.{starts_word-continues}
 
--- the token is what so many bytes in front of the text spell
-pub record IsFront (rest : List ℕ) (token : Token) (len : ℕ) : Type 0 where
-  pub spelled : Spells (take len rest) token
-  pub inside : len ≤ length rest
-  pub whole : IsWhole token (drop len rest)
-
 -- how many bytes the token in front of a text takes, by its first byte
 abbrev pub token_len : List ℕ → ℕ
 token_len rest =
@@ -89,12 +83,12 @@ spelled_len bytes after Token.any is ends = rw is (word_len (codes "any") after 
 spelled_len bytes after Token.not is ends = rw is (word_len (codes "not") after (refl, refl) ends)
 spelled_len bytes after _ is ends = rw is refl
 
-pub token_len_is : (rest : List ℕ) (token : Token) (len : ℕ) → IsFront rest token len
-    → token_len rest ≡ len
-token_len_is rest token len front =
+pub token_len_is : (rest : List ℕ) (token : Token) (len : ℕ) → Spells (take len rest) token
+    → len ≤ length rest → IsWhole token (drop len rest) → token_len rest ≡ len
+token_len_is rest token len spelled inside whole =
     ap token_len (sym (take-append-drop len rest))
-    ∙ spelled_len (take len rest) (drop len rest) token front.spelled front.whole
-    ∙ length-take-le len rest front.inside
+    ∙ spelled_len (take len rest) (drop len rest) token spelled whole
+    ∙ length-take-le len rest inside
 
 -- the test of two texts that are not equal
 refuses : (xs ys : List ℕ) → xs ≢ ys → bytes_eq xs ys ≡ false
@@ -130,12 +124,12 @@ byte_some (byte ∷ bytes) starts = omega arith
 pub Spells-some : (bytes : List ℕ) (token : Token) → Spells bytes token → 1 ≤ length bytes
 Spells-some bytes token spells = byte_some bytes (Spells-first bytes token spells)
 
-pub IsFront-first : (rest : List ℕ) (token : Token) (len : ℕ) → IsFront rest token len
+pub front_starts : (rest : List ℕ) (token : Token) (len : ℕ) → Spells (take len rest) token
     → starts_token (get_or rest 0 0) ≡ true
-IsFront-first rest token len front =
-    let some = Spells-some (take len rest) token front.spelled in
+front_starts rest token len spelled =
+    let some = Spells-some (take len rest) token spelled in
     let long : 0 < len = omega (arith, some, length-take len rest) in
-    rw get_or-take at (Spells-first (take len rest) token front.spelled)
+    rw get_or-take at (Spells-first (take len rest) token spelled)
 
 -- where a quote is never closed, a token would not end in the text
 pub unclosed_len : (rest : List ℕ) → OpensNoValue rest → length rest < token_len rest

@@ -11,42 +11,13 @@ use Rattle.std.proofs.lemmas.Bool.Decides.{nat_tests}
 use Rattle.std.proofs.lemmas.Grind.{common_steps}
 use Rattle.cfgx_syntax.specs.Items.{Item, Stands, Ending, EndsAs, ItemsFrom, IsBlank, starts_token}
 use Rattle.cfgx_syntax.proofs.FirstChar.{IsFirst, IsFirst-same, IsFirst-not_blank}
-use Rattle.cfgx_syntax.proofs.Fronts.{IsFront, IsFront-first, unclosed_len, token_len, token_len_is}
+use Rattle.cfgx_syntax.proofs.Fronts.{front_starts, unclosed_len, token_len, token_len_is}
 use Rattle.cfgx_syntax.proofs.Fronts.{token_by, token_by_is}
 use Rattle.cfgx_syntax.proofs.Scanning.{starts_token-ascii}
 
 -- what begins a token is no white space
 starts_token-visible : (c : ℕ) → starts_token c ≡ true → is_not_whitespace c ≡ true
 starts_token-visible c h = grind (arith, nat_tests, common_steps)
-
--- an item stands in front of what is behind its start
-front_of : (text : List ℕ) (from : ℕ) (item : Item) → Stands text from item
-    → IsFront (drop item.start text) item.token (item.end - item.start)
-front_of text from item stands =
-    let end : item.start + (item.end - item.start) ≡ item.end = omega (arith, stands.ordered) in
-    record {
-      spelled = stands.spelled;
-      inside = omega (arith, stands.ordered, stands.inside, length-drop item.start text);
-      whole = rw (drop-drop, end) stands.whole;
-    }
-
--- the item that stands at a place, by the text alone
-abbrev item_at : List ℕ → ℕ → Item
-item_at text start = record {
-  token = token_by (take (token_len (drop start text)) (drop start text));
-  start = start;
-  end = start + token_len (drop start text);
-}
-
-Stands-item_at : (text : List ℕ) (from : ℕ) (item : Item) → Stands text from item
-    → item ≡ item_at text item.start
-Stands-item_at text from item stands =
-    let rest = drop item.start text in
-    let len = token_len_is rest item.token _ (front_of text from item stands) in
-    let end : item.end ≡ item.start + token_len rest = omega (arith, stands.ordered, len) in
-    let token : item.token ≡ token_by (take (token_len rest) rest) =
-    rw len (sym (token_by_is _ item.token stands.spelled)) in
-    λ i. record { token = token i; start = item.start; end = end i }
 
 -- what comes next is an item, or the text ends
 abbrev Comes : List ℕ → ℕ → Item ⊎ Ending → Type 0
@@ -56,16 +27,17 @@ Comes text from (inr ending) = EndsAs text from ending
 -- what comes at a place where a character stands that is no white space, by the text alone
 abbrev next_at : List ℕ → ℕ → ℕ → Item ⊎ Ending
 next_at text place c =
-    cond (starts_token c)
-    (cond (ltb (length (drop place text)) (token_len (drop place text)))
-    (inr (Ending.unclosed_quotes place)) (inl (item_at text place)))
+    let rest = drop place text in
+    let len = token_len rest in
+    cond (starts_token c) (cond (ltb (length rest) len) (inr (Ending.unclosed_quotes place))
+    (inl (record { token = token_by (take len rest); start = place; end = place + len })))
     (inr (Ending.no_token place))
 
-record IsNext (text : List ℕ) (from : ℕ) (next : Item ⊎ Ending) : Type 0 where
-  pub place : ℕ
-  pub char : ℕ
-  pub first : IsFirst text from place char
-  pub is : next ≡ next_at text place char
+-- white space alone comes to the end of the text, or something comes at its first other character
+data Next (text : List ℕ) (from : ℕ) (next : Item ⊎ Ending) : Type 0 where
+  ends : IsBlank (drop from text) → next ≡ inr Ending.blank → Next text from next
+  begins : (place c : ℕ) → IsFirst text from place c → next ≡ next_at text place c
+      → Next text from next
 
 first_char : (rest : List ℕ) → starts_token (get_or rest 0 0) ≡ true
     → rest ≡ encode_utf8 (get_or rest 0 0) ++ drop 1 rest
@@ -86,22 +58,21 @@ first_of text from place behind gap starts =
       visible = starts_token-visible (get_or rest 0 0) starts;
     }
 
--- white space alone comes to the end of the text, or something comes at its first other character
 next_of : (text : List ℕ) (from : ℕ) (next : Item ⊎ Ending) → Comes text from next
-    → (IsBlank (drop from text) × (next ≡ inr Ending.blank)) ⊎ IsNext text from next
-next_of text from (inl item) stands =
+    → Next text from next
+next_of text from (inl item) at =
     let rest = drop item.start text in
-    let front = front_of text from item stands in
-    let starts = IsFront-first rest item.token _ front in
-    let fits : token_len rest ≤ length rest =
-    rw (token_len_is rest item.token _ front) front.inside in
-    inr (record {
-      place = item.start;
-      char = get_or rest 0 0;
-      first = first_of text from item.start stands.behind stands.gap starts;
-      is = rw (starts, le-ltb _ _ fits) (ap inl (Stands-item_at text from item stands));
-    })
-next_of text from (inr Ending.blank) blank = inl (blank, refl)
+    let len = item.end - item.start in
+    let starts = front_starts rest item.token len at.spelled in
+    let end : item.start + len ≡ item.end = omega (arith, at.ordered) in
+    let inside : len ≤ length rest =
+    omega (arith, at.ordered, at.inside, length-drop item.start text) in
+    let long : token_len rest ≡ len =
+    token_len_is rest item.token len at.spelled inside (rw (drop-drop, end) at.whole) in
+    let fits = le-ltb (length rest) (token_len rest) (rw long inside) in
+    Next.begins item.start (get_or rest 0 0) (first_of text from item.start at.behind at.gap starts)
+    (rw (starts, fits, long, end, token_by_is (take len rest) item.token at.spelled) refl)
+next_of text from (inr Ending.blank) blank = Next.ends blank refl
 next_of text from (inr (Ending.no_token place)) at =
     let first : IsFirst text from place at.stuck.0 = record {
       behind = at.behind;
@@ -110,36 +81,29 @@ next_of text from (inr (Ending.no_token place)) at =
       stands = at.stuck.3;
       visible = at.stuck.4;
     } in
-    inr (record { place = place; char = at.stuck.0; first = first; is = rw at.stuck.5 refl })
+    Next.begins place at.stuck.0 first (rw at.stuck.5 refl)
 next_of text from (inr (Ending.unclosed_quotes place)) at =
     let rest = drop place text in
-    let starts : starts_token (get_or rest 0 0) ≡ true =
-    ap (λ l. starts_token (get_or l 0 0)) at.unclosed.1 in
-    inr (record {
-      place = place;
-      char = get_or rest 0 0;
-      first = first_of text from place at.behind at.gap starts;
-      is = rw (starts, lt-ltb _ _ (unclosed_len rest at.unclosed)) refl;
-    })
+    let starts : starts_token (get_or rest 0 0) ≡ true = rw at.unclosed.1 refl in
+    Next.begins place (get_or rest 0 0) (first_of text from place at.behind at.gap starts)
+    (rw (starts, lt-ltb _ _ (unclosed_len rest at.unclosed)) refl)
+
+same_next : (text : List ℕ) (from : ℕ) (one other : Item ⊎ Ending) → Next text from one
+    → Next text from other → one ≡ other
+same_next text from one other (Next.ends blank e) (Next.ends white f) = e ∙ sym f
+same_next text from one other (Next.ends blank e) (Next.begins q d first f) =
+    absurd (IsFirst-not_blank text from q d first blank)
+same_next text from one other (Next.begins p c first e) (Next.ends blank f) =
+    absurd (IsFirst-not_blank text from p c first blank)
+same_next text from one other (Next.begins p c first e) (Next.begins q d second f) =
+    let same = IsFirst-same text from p q c d first second in
+    e ∙ (λ i. next_at text (same.0 i) (same.1 i)) ∙ sym f
 
 -- one thing comes next
 Comes-same : (text : List ℕ) (from : ℕ) (one other : Item ⊎ Ending) → Comes text from one
     → Comes text from other → one ≡ other
 Comes-same text from one other here there =
-    by (next_of text from one here) (next_of text from other there)
-  where
-    by : (IsBlank (drop from text) × (one ≡ inr Ending.blank)) ⊎ IsNext text from one
-        → (IsBlank (drop from text) × (other ≡ inr Ending.blank)) ⊎ IsNext text from other
-        → one ≡ other
-    by (inl blank) (inl white) = blank.1 ∙ sym white.1
-    by (inl blank) (inr next) =
-        absurd (IsFirst-not_blank text from next.place next.char next.first blank.0)
-    by (inr next) (inl blank) =
-        absurd (IsFirst-not_blank text from next.place next.char next.first blank.0)
-    by (inr next) (inr then) =
-        let same = IsFirst-same text from next.place then.place next.char then.char
-        next.first then.first in
-        next.is ∙ (λ i. next_at text (same.0 i) (same.1 i)) ∙ sym then.is
+    same_next text from one other (next_of text from one here) (next_of text from other there)
 
 -- what stands next is the first of the items
 pub record Follows (text : List ℕ) (item : Item) (items : List Item)
