@@ -1,5 +1,5 @@
 -- Where the text of a token can be cut out.
-use Rattle.std.proofs.Common.{◌≡◌, ℕ, ◌+◌, ◌-◌, ◌<◌, ◌≤◌, List, length, drop, arith, add-zero}
+use Rattle.std.proofs.Common.{rules, ◌≡◌, ℕ, ◌+◌, ◌-◌, ◌<◌, ◌≤◌, List, length, drop, arith, add-zero}
 use Rattle.std.proofs.Common.{length-drop}
 use Rattle.std.proofs.lemmas.Str.{IsCharBoundary-from_rest}
 use Rattle.cfgx_syntax.specs.Cut.{IsCut, IsValueCut, CanBeCut}
@@ -9,12 +9,7 @@ module _ (text : List ℕ) (place : ℕ) (within : place ≤ length text) where
   -- a cut of the rest of a text is one of the text
   IsCut-from_rest : (start end : ℕ) → IsCut (drop place text) start end
       → IsCut text (place + start) (place + end)
-  IsCut-from_rest start end cut = record {
-    ordered = omega arith;
-    inside = omega (arith, cut.inside, length-drop place text);
-    opens = IsCharBoundary-from_rest text place start within cut.opens;
-    closes = IsCharBoundary-from_rest text place end within cut.closes;
-  }
+  IsCut-from_rest start end cut = search (rules, length-drop, IsCharBoundary-from_rest)
 
   IsValueCut-from_rest : (token : Token) (len : ℕ) → 0 < len
       → IsValueCut (drop place text) token 0 len → IsValueCut text token place (place + len)

@@ -1,5 +1,5 @@
 -- What the lexer finds behind white space stands in the whole text.
-use Rattle.std.proofs.Common.{◌≡◌, ℕ, ◌+◌, ◌-◌, ◌<◌, ◌≤◌, min, true, false, List, length, inl, inr}
+use Rattle.std.proofs.Common.{rules, ◌≡◌, ℕ, ◌+◌, ◌-◌, ◌<◌, ◌≤◌, min, true, false, List, length, inl, inr}
 use Rattle.std.proofs.Common.{◌⊎◌, refl, drop, get_or, ap, subst, arith, length-drop}
 use Rattle.std.specs.Prelude.{slice_range}
 use Rattle.std.specs.Str.{IsTrimStart}
@@ -105,11 +105,9 @@ module _ (text rest : List ℕ) (place : ℕ) (behind : IsBehind text rest place
 
   pub IsUnclosed-found : OpensNoValue rest
       → IsUnclosed text place (length text - length rest)
-  IsUnclosed-found opens = record {
-    behind = place_le_start;
-    gap = gap_is_blank;
-    unclosed = subst OpensNoValue rest_is opens;
-  }
+  IsUnclosed-found opens =
+      let unclosed = subst OpensNoValue rest_is opens in
+      search (rules, place_le_start, gap_is_blank)
 
   -- a refusal from here on, by why no token begins and how many bytes are at fault
   pub GivesFault-found : {A : Type 0} (failure : Failure A) (new : LexerState) (cause : Cause)

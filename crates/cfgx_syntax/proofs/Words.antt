@@ -1,5 +1,5 @@
 -- Where a word and a token of one byte end.
-use Rattle.std.proofs.Common.{◌≡◌, ℕ, zero, suc, ◌+◌, ◌<◌, ◌≤◌, Bool, true, List, [], ◌∷◌, length}
+use Rattle.std.proofs.Common.{rules, ◌≡◌, ℕ, zero, suc, ◌+◌, ◌<◌, ◌≤◌, Bool, true, List, [], ◌∷◌, length}
 use Rattle.std.proofs.Common.{take, drop, get_or, refl, arith, add-one}
 use Rattle.std.proofs.Math.Numerals.{one-add}
 use Rattle.std.specs.List.{list_all, prefix_len}
@@ -64,12 +64,7 @@ IsWhole-word rest _ ends = refl
 -- the front of a text up to a place where it can be cut
 pub IsCut-front : (text : List ℕ) (len : ℕ) → IsUtf8 text → len ≤ length text
     → IsCharBoundary text len → IsCut text 0 len
-IsCut-front text len utf8 inside closes = record {
-  ordered = omega arith;
-  inside = inside;
-  opens = IsCharBoundary-start text utf8;
-  closes = closes;
-}
+IsCut-front text len utf8 inside closes = search (rules, IsCharBoundary-start)
 
 -- a text begins with a token of one byte
 pub BeginsWith-byte : (text : List ℕ) (token : Token) (byte : ℕ) → IsUtf8 text → 0 < length text
