@@ -1,5 +1,5 @@
 -- What the lexer finds behind white space stands in the whole text.
-use Rattle.std.proofs.Common.{rules, ◌≡◌, ℕ, ◌+◌, ◌-◌, ◌<◌, ◌≤◌, min, true, false, List, length, inl, inr}
+use Rattle.std.proofs.Common.{◌∙◌, rules, ◌≡◌, ℕ, ◌+◌, ◌-◌, ◌<◌, ◌≤◌, min, true, false, List, length, inl, inr}
 use Rattle.std.proofs.Common.{◌⊎◌, refl, drop, get_or, ap, subst, arith, length-drop}
 use Rattle.std.specs.Prelude.{slice_range}
 use Rattle.std.specs.Str.{IsTrimStart}
@@ -13,7 +13,7 @@ use Rattle.cfgx_syntax.specs.Items.{IsBlank, Stands, IsStuck, IsUnclosed, OpensN
 use Rattle.cfgx_syntax.specs.Items.{StartsNoToken, starts_token, expects_token, Ending}
 use Rattle.cfgx_syntax.specs.Error.{Cause, Refusal, FailsWith, fault_in}
 use Rattle.cfgx_syntax.specs.declared.error.Failure.{Failure}
-use Rattle.cfgx_syntax.specs.Token.{Token}
+use Rattle.cfgx_syntax.specs.Token.{Token, Spells, IsWhole}
 use Rattle.cfgx_syntax.specs.Lexer.{BeginsWith, BeginsNone, BeginsUnclosed, GivesFault}
 use Rattle.cfgx_syntax.specs.LexerState.{LexerState, at_end}
 use Rattle.cfgx_syntax.proofs.Cutting.{CanBeCut-from_rest}
@@ -73,14 +73,12 @@ module _ (text rest : List ℕ) (place : ℕ) (behind : IsBehind text rest place
   Stands-found token len begins =
       let s : ℕ = length text - length rest in
       let wide : s + len - s ≡ len = omega arith in
-      record {
-        behind = place_le_start;
-        gap = gap_is_blank;
-        spelled = rw (wide, ← rest_is) begins.spelled;
-        ordered = omega arith;
-        inside = omega (arith, begins.inside, start_is, ap length rest_is, length-drop s text);
-        whole = rw (← drop-drop len s text, ← rest_is) begins.whole;
-      }
+      let long = ap length rest_is ∙ length-drop s text in
+      let spelled : Spells (slice_range text s (s + len)) token =
+      rw (wide, ← rest_is) begins.spelled in
+      let whole : IsWhole token (drop (s + len) text) =
+      rw (← drop-drop len s text, ← rest_is) begins.whole in
+      search (rules, place_le_start, gap_is_blank)
 
   pub CanBeCut-found : (token : Token) (len : ℕ) → BeginsWith rest token len
       → CanBeCut text token (length text - length rest) (length text - length rest + len)
@@ -96,12 +94,9 @@ module _ (text rest : List ℕ) (place : ℕ) (behind : IsBehind text rest place
       false_from_ne_true (starts_token first.0) (λ t.
       let same = byte_from_char rest behind.trimmed.3.0 first.0 first.2 (starts_token-ascii _ t) in
       both_ways _ (rw same at none) t) in
-      record {
-        behind = place_le_start;
-        gap = gap_is_blank;
-        stuck = subst StartsNoToken rest_is
-            (first.0, behind.trimmed.3.0, first.3, first.2, first.1, other);
-      }
+      let stuck : StartsNoToken rest = search rules in
+      let there = subst StartsNoToken rest_is stuck in
+      search (rules, place_le_start, gap_is_blank)
 
   pub IsUnclosed-found : OpensNoValue rest
       → IsUnclosed text place (length text - length rest)

@@ -1,5 +1,5 @@
 -- A text has one token list.
-use Rattle.std.proofs.Common.{◌≡◌, ℕ, ◌+◌, ◌-◌, ◌≤◌, true, List, [], length, get_or, ◌∷◌, ◌++◌}
+use Rattle.std.proofs.Common.{rules, ◌≡◌, ℕ, ◌+◌, ◌-◌, ◌≤◌, true, List, [], length, get_or, ◌∷◌, ◌++◌}
 use Rattle.std.proofs.Common.{take, drop, sym, refl, ap, ◌∙◌, subst, arith, cond, ltb, ◌⊎◌, inl}
 use Rattle.std.proofs.Common.{inr, length-drop}
 use Rattle.std.specs.Prelude.{encode_utf8, slice_range}
@@ -49,14 +49,7 @@ first_of : (text : List ℕ) (from place : ℕ) → from ≤ place → IsBlank (
     → starts_token (get_or (drop place text) 0 0) ≡ true
     → IsFirst text from place (get_or (drop place text) 0 0)
 first_of text from place behind gap starts =
-    let rest = drop place text in
-    record {
-      behind = behind;
-      gap = gap;
-      more = drop 1 rest;
-      stands = first_char rest starts;
-      visible = starts_token-visible (get_or rest 0 0) starts;
-    }
+    search (rules, first_char, starts_token-visible)
 
 next_of : (text : List ℕ) (from : ℕ) (next : Item ⊎ Ending) → Comes text from next
     → Next text from next
@@ -74,14 +67,7 @@ next_of text from (inl item) at =
     (rw (starts, fits, long, end, token_by_is (take len rest) item.token at.spelled) refl)
 next_of text from (inr Ending.blank) blank = Next.ends blank refl
 next_of text from (inr (Ending.no_token place)) at =
-    let first : IsFirst text from place at.stuck.0 = record {
-      behind = at.behind;
-      gap = at.gap;
-      more = at.stuck.1;
-      stands = at.stuck.3;
-      visible = at.stuck.4;
-    } in
-    Next.begins place at.stuck.0 first (rw at.stuck.5 refl)
+    Next.begins place at.stuck.0 (search rules) (rw at.stuck.5 refl)
 next_of text from (inr (Ending.unclosed_quotes place)) at =
     let rest = drop place text in
     let starts : starts_token (get_or rest 0 0) ≡ true = rw at.unclosed.1 refl in

@@ -74,13 +74,8 @@ BeginsWith-byte [] token byte utf8 some is low spelled whole value = absurd (ome
 BeginsWith-byte (first ∷ rest) token byte utf8 some is low spelled whole value =
     let text : List ℕ = first ∷ rest in
     let closes = IsCharBoundary-after_ascii text 0 utf8 some (omega arith) in
-    record {
-      spelled = rw is spelled;
-      some = omega arith;
-      inside = some;
-      whole = whole;
-      cut = record { spelling = IsCut-front text 1 utf8 some closes; value = value };
-    }
+    let here : Spells (first ∷ []) token = rw is spelled in
+    search (rules, IsCut-front)
 
 -- a word spells no value, and so there is no value to cut
 IsValueCut-word : (text word : List ℕ) (token : Token) (start end : ℕ) → IsWord word
@@ -99,16 +94,9 @@ BeginsWith-word text token utf8 starts spelled =
     let inside = prefix_len-le-length continues_word text in
     let closes = IsCharBoundary-behind continues_word continues_word-ascii text utf8 in
     let word = word_front text starts in
-    record {
-      spelled = spelled;
-      some = omega (arith, word.1);
-      inside = inside;
-      whole = IsWhole-word (drop n text) token (EndsWord-behind text);
-      cut = record {
-        spelling = IsCut-front text n utf8 inside closes;
-        value = IsValueCut-word text (take n text) token 0 n word.0 spelled;
-      };
-    }
+    let whole = IsWhole-word (drop n text) token (EndsWord-behind text) in
+    let value = IsValueCut-word text (take n text) token 0 n word.0 spelled in
+    search (rules, IsCut-front)
 
 -- no more bytes pass than there are
 pub ruleset lengths = (prefix_len-le-length)
