@@ -1,5 +1,5 @@
 -- Where a value ends: at the first quote behind the one that opens it.
-use Rattle.std.proofs.Common.{◌≡◌, ℕ, suc, ◌+◌, ◌-◌, ◌<◌, ◌≤◌, ◌≢◌, false, List, [], ◌∷◌, ◌++◌}
+use Rattle.std.proofs.Common.{rules, ◌≡◌, ℕ, suc, ◌+◌, ◌-◌, ◌<◌, ◌≤◌, ◌≢◌, false, List, [], ◌∷◌, ◌++◌}
 use Rattle.std.proofs.Common.{length, take, drop, get_or, sym, refl, ap, ◌∙◌, arith, length-append}
 use Rattle.std.proofs.Common.{append_assoc, length-take, length-drop}
 use Rattle.std.specs.Prelude.{codes, slice_range}
@@ -58,20 +58,5 @@ BeginsWith-value text inside behind utf8 none is =
     let opens = IsCharBoundary-after_ascii text 0 utf8 (omega arith) (omega arith) in
     let closes = IsCharBoundary-before_ascii text (n + 1) (omega arith) (omega arith) in
     let ends = IsCharBoundary-after_ascii text (n + 1) utf8 (omega arith) (omega arith) in
-    let two : n + 1 + 1 ≡ n + 2 = omega arith in
-    let less : n + 2 - 1 ≡ n + 1 = omega arith in
-    record {
-      spelled = (rw whole (take_at quoted behind (n + 2) wide), none);
-      some = omega arith;
-      inside = long;
-      whole = refl;
-      cut = record {
-        spelling = IsCut-front text (n + 2) utf8 long (rw two at ends);
-        value = record {
-          ordered = omega arith;
-          inside = omega arith;
-          opens = opens;
-          closes = rw less closes;
-        };
-      };
-    }
+    let spelled : take (n + 2) text ≡ quoted = rw whole (take_at quoted behind (n + 2) wide) in
+    search (rules, IsCut-front)
