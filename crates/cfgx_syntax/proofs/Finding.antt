@@ -14,14 +14,15 @@ use Rattle.std.proofs.lemmas.Bool.{and_parts, both_ways, cases_Bool, cases_eq, c
 use Rattle.std.proofs.lemmas.Bool.Decides.{nat_tests, not_from_Decides}
 use Rattle.std.proofs.lemmas.Grind.{common_steps}
 use Rattle.cfgx_syntax.specs.Items.{Item, Ending, ItemsFrom, IsBlank, HasOneTokenList, OpensNoValue}
-use Rattle.cfgx_syntax.specs.Items.{starts_token}
-use Rattle.cfgx_syntax.specs.Lexer.{BeginsWith}
+use Rattle.cfgx_syntax.specs.Items.{starts_token, expects_token}
+use Rattle.cfgx_syntax.specs.Lexer.{BeginsWith, BeginsNone, BeginsUnclosed}
 use Rattle.cfgx_syntax.specs.Token.{Token, starts_word, continues_word, is_quote, IsWord, Spells}
 use Rattle.cfgx_syntax.specs.Token.{HasNoQuote, IsWhole}
+use Rattle.cfgx_syntax.specs.Error.{Cause}
 use Rattle.cfgx_syntax.specs.Cut.{IsValueCut, CanBeCut}
 use Rattle.cfgx_syntax.proofs.Blanks.{IsTrimStart-here, IsTrimStart-past}
-use Rattle.cfgx_syntax.proofs.Scanning.{IsBehind, Stands-found, IsStuck-found, IsUnclosed-found}
-use Rattle.cfgx_syntax.proofs.Scanning.{rest_is, CanBeCut-found}
+use Rattle.cfgx_syntax.proofs.Scanning.{IsBehind, Stands-found, Ending-found, rest_is}
+use Rattle.cfgx_syntax.proofs.Scanning.{CanBeCut-found}
 use Rattle.cfgx_syntax.proofs.Values.{BeginsWith-value, HasNoQuote-from}
 use Rattle.cfgx_syntax.proofs.Words.{BeginsWith-byte, BeginsWith-word, word_front}
 use Rattle.cfgx_syntax.proofs.TokenList.{ItemsFrom-same}
@@ -69,8 +70,8 @@ word_spells word is =
 -- what the rest of a text begins with
 data Begins (rest : List ℕ) : Type 0 where
   token : (kind : Token) (len : ℕ) → BeginsWith rest kind len → Begins rest
-  none : starts_token (get_or rest 0 0) ≡ false → Begins rest
-  unclosed : OpensNoValue rest → Begins rest
+  fault : (cause : Cause) (len : ℕ) → BeginsNone rest cause len ⊎ BeginsUnclosed rest cause len
+      → Begins rest
 
 quote_is : (byte : ℕ) → is_quote byte ≡ true → byte ≡ 34
 quote_is byte h = grind (arith, nat_tests, common_steps)
@@ -96,7 +97,11 @@ begins_quote more utf8 =
     split_at_first is_quote more 0 lt ∙ ap (λ b. inside ++ (b ∷ behind)) closing in
     Begins.token (Token.value inside) (length inside + 2)
     (BeginsWith-value (34 ∷ more) inside behind utf8 none (ap (λ l. 34 ∷ l) split)))
-    (λ late. Begins.unclosed (more, refl, subst HasNoQuote (take_all n more late) none))
+    (λ late. Begins.fault Cause.unclosed_quotes (length (34 ∷ more)) (inr (record {
+      unclosed = (more, refl, subst HasNoQuote (take_all n more late) none);
+      why = refl;
+      all = refl;
+    })))
     (cases_lt n (length more))
 
 begins_word : (rest : List ℕ) → IsUtf8 rest → starts_word (get_or rest 0 0) ≡ true → Begins rest
@@ -136,7 +141,9 @@ begins (byte ∷ more) utf8 some =
     rw is (begins_quote more (rw is at utf8)))
     (λ plain. begins_mark (byte ∷ more) utf8 some starts other plain)
     (cases_Bool (is_quote byte))) (cases_Bool (starts_word byte)))
-    (λ none. Begins.none none) (cases_Bool (starts_token byte))
+    (λ none.
+    Begins.fault expects_token 1 (inl (record { none = none; why = refl; one = refl })))
+    (cases_Bool (starts_token byte))
 
 -- from a place on, the text is some items and an ending
 record Found (text : List ℕ) (from : ℕ) : Type 0 where
@@ -150,18 +157,9 @@ found_behind : (text rest : List ℕ) (from : ℕ) → IsUtf8 rest → IsBehind 
     → ((place : ℕ) → from < place → place ≤ length text → IsUtf8 (drop place text)
     → Found text place)
     → 0 < length rest → Begins rest → Found text from
-found_behind text rest from utf8 behind next some (Begins.none other) = record {
-  items = [];
-  ending = Ending.no_token (length text - length rest);
-  are = IsStuck-found text rest from behind some other;
-  cuts = tt;
-}
-found_behind text rest from utf8 behind next some (Begins.unclosed opening) = record {
-  items = [];
-  ending = Ending.unclosed_quotes (length text - length rest);
-  are = IsUnclosed-found text rest from behind opening;
-  cuts = tt;
-}
+found_behind text rest from utf8 behind next some (Begins.fault cause len wrong) =
+    let end = Ending-found text rest from behind cause len some wrong in
+    record { items = []; ending = end.0; are = end.1; cuts = tt }
 found_behind text rest from utf8 behind next some (Begins.token kind len front) =
     let s : ℕ = length text - length rest in
     let stands = Stands-found text rest from behind kind len front in

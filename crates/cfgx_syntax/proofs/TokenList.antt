@@ -1,7 +1,7 @@
 -- A text has one token list.
-use Rattle.std.proofs.Common.{rules, ◌≡◌, ℕ, ◌+◌, ◌-◌, ◌≤◌, true, List, [], length, get_or, ◌∷◌, ◌++◌}
-use Rattle.std.proofs.Common.{take, drop, sym, refl, ap, ◌∙◌, subst, arith, cond, ltb, ◌⊎◌, inl}
-use Rattle.std.proofs.Common.{inr, length-drop}
+use Rattle.std.proofs.Common.{rules, ◌≡◌, ℕ, ◌+◌, ◌-◌, ◌≤◌, true, List, [], length, get_or, ◌∷◌}
+use Rattle.std.proofs.Common.{◌++◌, take, drop, sym, refl, ap, ◌∙◌, subst, arith, cond, ltb, ◌⊎◌}
+use Rattle.std.proofs.Common.{inl, inr, length-drop}
 use Rattle.std.specs.Prelude.{encode_utf8, slice_range}
 use Rattle.std.specs.Char.{is_not_whitespace}
 use Rattle.std.proofs.lemmas.List.{drop-drop}
@@ -11,8 +11,8 @@ use Rattle.std.proofs.lemmas.Bool.Decides.{nat_tests}
 use Rattle.std.proofs.lemmas.Grind.{common_steps}
 use Rattle.cfgx_syntax.specs.Items.{Item, Stands, Ending, EndsAs, ItemsFrom, IsBlank, starts_token}
 use Rattle.cfgx_syntax.proofs.FirstChar.{IsFirst, IsFirst-same, IsFirst-not_blank}
-use Rattle.cfgx_syntax.proofs.Fronts.{front_starts, unclosed_len, token_len, token_len_is}
-use Rattle.cfgx_syntax.proofs.Fronts.{token_by, token_by_is}
+use Rattle.cfgx_syntax.proofs.Fronts.{front_starts, unclosed_len, token_len, token_len_is, token_by}
+use Rattle.cfgx_syntax.proofs.Fronts.{token_by_is}
 use Rattle.cfgx_syntax.proofs.Scanning.{starts_token-ascii}
 
 -- what begins a token is no white space

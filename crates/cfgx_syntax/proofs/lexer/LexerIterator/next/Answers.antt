@@ -3,7 +3,7 @@ use Rattle.std.proofs.Common.{arith, rules}
 use Rattle.cfgx_syntax.specs.Error.{cause_of}
 use Rattle.cfgx_syntax.specs.Lexer.{token_of}
 use Rattle.cfgx_syntax.proofs.Scanning.{IsBehind-trimmed, Stands-found, CanBeCut-found}
-use Rattle.cfgx_syntax.proofs.Scanning.{GivesFault-found, state_at}
+use Rattle.cfgx_syntax.proofs.Scanning.{Ending-found, state_at}
 use Rattle.cfgx_syntax.proofs.lexer.LexerIterator.next.Goals as goal
 
 pub returns-in-Ok-clause-steps : goal.returns-in-Ok-clause-steps
@@ -22,7 +22,13 @@ returns-in-Ok-clause-steps g c =
 pub returns-in-Some-clause-steps : goal.returns-in-Some-clause-steps
 returns-in-Some-clause-steps g c =
     let behind = IsBehind-trimmed _ _ _ c.self.invariant.0 c.trimmed-rest.ensures in
-    rw (← c.self.view_is) (
-    GivesFault-found _ _ _ behind c.of.result _ (cause_of c.in-Err.reason) c.in-Err.len
-    (search rules) c.in-Err.ensures c.of.ensures (state_at _ _ _ (omega arith))
-    )
+    let found =
+    Ending-found _ _ _ behind (cause_of c.in-Err.reason) c.in-Err.len (search rules) c.in-Err.ensures in
+    rw (← c.self.view_is) (record {
+      ending = found.0;
+      ends = found.1;
+      refusal = _;
+      refused = found.2;
+      fails = c.of.ensures;
+      is_over = state_at _ _ _ (omega arith);
+    })
