@@ -11,13 +11,11 @@ use Rattle.std.proofs.lemmas.Bool.Decides.{nat_tests}
 use Rattle.std.proofs.lemmas.Grind.{common_steps}
 use Rattle.cfgx_syntax.specs.Cut.{CanBeCut}
 use Rattle.cfgx_syntax.specs.Items.{EndsAs, lexical, IsBlank, Stands, IsStuck, IsUnclosed}
-use Rattle.cfgx_syntax.specs.Items.{OpensNoValue, StartsNoToken, starts_token, expects_token}
-use Rattle.cfgx_syntax.specs.Items.{Ending}
-use Rattle.cfgx_syntax.specs.Error.{Cause, Refusal, FailsWith, fault_in}
-use Rattle.cfgx_syntax.specs.declared.error.Failure.{Failure}
+use Rattle.cfgx_syntax.specs.Items.{OpensNoValue, StartsNoToken, starts_token, Ending}
+use Rattle.cfgx_syntax.specs.Error.{Cause}
 use Rattle.cfgx_syntax.specs.Token.{Token, Spells, IsWhole}
-use Rattle.cfgx_syntax.specs.Lexer.{BeginsWith, BeginsNone, BeginsUnclosed, GivesFault}
-use Rattle.cfgx_syntax.specs.LexerState.{LexerState, at_end}
+use Rattle.cfgx_syntax.specs.Lexer.{BeginsWith, BeginsNone, BeginsUnclosed}
+use Rattle.cfgx_syntax.specs.LexerState.{LexerState}
 use Rattle.cfgx_syntax.proofs.Cutting.{CanBeCut-from_rest}
 
 -- what begins a token is ASCII

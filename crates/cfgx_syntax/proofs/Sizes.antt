@@ -2,7 +2,7 @@
 use Rattle.std.proofs.Common.{ℕ, ◌+◌, ◌-◌, ◌≤◌, List, [], ◌∷◌, drop, length, arith}
 use Rattle.std.specs.Prelude.{slice_range}
 use Rattle.std.proofs.lemmas.List.{length-take}
-use Rattle.cfgx_syntax.specs.Items.{Item, Ending, ItemsFrom, Stands}
+use Rattle.cfgx_syntax.specs.Items.{Item, Ending, ItemsFrom}
 use Rattle.cfgx_syntax.proofs.Fronts.{Spells-some}
 
 pub items-bytes : (text : List ℕ) (from : ℕ) (items : List Item) (ending : Ending)

@@ -1,7 +1,6 @@
 -- A value runs to the first quote behind the one in front, and without such a quote it is unclosed.
-use Rattle.std.proofs.Common.{◌≡◌, ℕ, ◌<◌, List, ◌∷◌, ◌++◌, length, drop, get_or, Some, None, sym}
-use Rattle.std.proofs.Common.{ap, ◌∙◌, arith, refl, lit<, inr}
-use Rattle.std.specs.Prelude.{codes}
+use Rattle.std.proofs.Common.{◌≡◌, ℕ, ◌<◌, List, ◌∷◌, length, drop, get_or, Some, None, arith, refl}
+use Rattle.std.proofs.Common.{lit<, inr}
 use Rattle.std.proofs.lemmas.List.{drop_more}
 use Rattle.std.proofs.lemmas.Str.{IsCharBoundary-after_ascii}
 use Rattle.std.proofs.lemmas.Str.Pattern.{split_parts}
