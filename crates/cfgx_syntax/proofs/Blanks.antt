@@ -18,9 +18,6 @@ use Rattle.cfgx_syntax.specs.Lexer.{is_blank}
 pub blank-ascii : (c : ℕ) → is_blank c ≡ true → c < 128
 blank-ascii c h = grind (arith, nat_tests, common_steps)
 
-blank-white : (c : ℕ) → is_blank c ≡ true → is_not_whitespace c ≡ false
-blank-white c h = grind (arith, nat_tests, common_steps)
-
 ascii-visible : (c : ℕ) → c < 128 → is_blank c ≡ false → is_not_whitespace c ≡ true
 ascii-visible c low h = grind (arith, nat_tests, common_steps)
 
@@ -29,11 +26,11 @@ ascii-scalar c low = grind (arith, nat_tests, common_steps)
 
 one_blank : (c : ℕ) → is_blank c ≡ true → NoCharPasses is_not_whitespace (c ∷ [])
 one_blank c h =
-    let is = ap (λ e. e ++ []) (encode_ascii c (blank-ascii c h)) in
-    (c ∷ [], is, (blank-white c h, tt))
+    let white : is_not_whitespace c ≡ false = grind (arith, nat_tests, common_steps) in
+    (c ∷ [], rw (encode_ascii c (blank-ascii c h)) refl, (white, tt))
 
 -- the bytes in front that are ASCII white space are no other characters
-pub front-blank : (text : List ℕ)
+front-blank : (text : List ℕ)
     → NoCharPasses is_not_whitespace (take (prefix_len is_blank text) text)
 front-blank [] = NoCharPasses-nil is_not_whitespace
 front-blank (c ∷ cs) =
@@ -76,8 +73,7 @@ module _ (text bytes rest : List ℕ) (n : ℕ) (len : n ≡ prefix_len is_blank
   blanks : n ≡ prefix_len is_blank text
   blanks = len ∙ ap (prefix_len is_blank) same
 
-  pub trim_behind : (trimmed : List ℕ) → IsTrimStart rest trimmed
-      → IsTrimStart text trimmed
+  pub trim_behind : (trimmed : List ℕ) → IsTrimStart rest trimmed → IsTrimStart text trimmed
   trim_behind trimmed left =
       let front : NoCharPasses is_not_whitespace (take n text) = rw blanks (front-blank text) in
       let whole = IsTrimStart-past (take n text) (drop n text) trimmed front
@@ -92,14 +88,9 @@ module _ (text bytes rest : List ℕ) (n : ℕ) (len : n ≡ prefix_len is_blank
       rw (is, blanks, get_or-drop, add-zero) (prefix_len_stops is_blank text 0 inside) in
       trim_behind rest (IsTrimStart-ascii rest low stops)
 
-graphic-ascii : (c : ℕ) → is_ascii_graphic c ≡ true → c < 128
-graphic-ascii c h = grind (arith, nat_tests, common_steps)
-
-graphic-no_blank : (c : ℕ) → is_ascii_graphic c ≡ true → is_blank c ≡ false
-graphic-no_blank c h = grind (arith, nat_tests, common_steps)
-
 -- an ASCII character that is printed is no white space
 pub trim_graphic : (text : List ℕ) → is_ascii_graphic (get_or text 0 0) ≡ true
     → IsTrimStart text text
-trim_graphic text h = IsTrimStart-ascii text (λ _. graphic-ascii (get_or text 0 0) h)
-    (λ _. graphic-no_blank (get_or text 0 0) h)
+trim_graphic text h =
+    IsTrimStart-ascii text (λ _. grind (arith, nat_tests, common_steps))
+    (λ _. grind (arith, nat_tests, common_steps))

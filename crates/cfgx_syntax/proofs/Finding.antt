@@ -1,5 +1,5 @@
 -- Each text has a token list.
-use Rattle.std.proofs.Common.{◌≡◌, ℕ, suc, zero, ◌+◌, ◌-◌, ◌<◌, ◌≤◌, true, false, List, [], ◌∷◌}
+use Rattle.std.proofs.Common.{rules, ◌≡◌, ℕ, suc, zero, ◌+◌, ◌-◌, ◌<◌, ◌≤◌, true, false, List, [], ◌∷◌}
 use Rattle.std.proofs.Common.{◌++◌, length, take, drop, get_or, refl, ap, ◌∙◌, subst, ◌≢◌, ◌⊎◌, inl}
 use Rattle.std.proofs.Common.{inr, arith, ⊎_elim, lit<, append-nil, length-drop, length-take}
 use Rattle.std.specs.Prelude.{codes, encode_utf8}
@@ -111,10 +111,6 @@ begins_word rest utf8 starts =
     Begins.token found.0 len (BeginsWith-word rest found.0 utf8 starts found.1)
 
 -- what begins a token, and is neither of a word nor a quote, is one of four marks
-last_mark : (byte : ℕ) → starts_token byte ≡ true → starts_word byte ≡ false
-    → is_quote byte ≡ false → byte ≢ 40 → byte ≢ 41 → byte ≢ 44 → byte ≡ 61
-last_mark byte starts other plain one two three = grind (arith, nat_tests, common_steps)
-
 begins_mark : (rest : List ℕ) → IsUtf8 rest → 0 < length rest
     → starts_token (get_or rest 0 0) ≡ true → starts_word (get_or rest 0 0) ≡ false
     → is_quote (get_or rest 0 0) ≡ false → Begins rest
@@ -123,7 +119,8 @@ begins_mark rest utf8 some starts other plain =
     ⊎_elim (λ e. by Token.open_paren 40 (lit< tt) e refl refl tt) (λ one.
     ⊎_elim (λ e. by Token.close_paren 41 (lit< tt) e refl refl tt) (λ two.
     ⊎_elim (λ e. by Token.comma 44 (lit< tt) e refl refl tt) (λ three.
-    by Token.equals 61 (lit< tt) (last_mark byte starts other plain one two three) refl refl tt)
+    let last : byte ≡ 61 = grind (arith, nat_tests, common_steps) in
+    by Token.equals 61 (lit< tt) last refl refl tt)
     (cases_eq byte 44)) (cases_eq byte 41)) (cases_eq byte 40)
   where
     by : (mark : Token) (n : ℕ) → n < 128 → get_or rest 0 0 ≡ n → Spells (n ∷ []) mark
@@ -198,10 +195,4 @@ found (suc fuel) text from enough within utf8 =
 pub HasOneTokenList-of : (text : List ℕ) → IsUtf8 text → HasOneTokenList text
 HasOneTokenList-of text utf8 =
     let all = found (suc (length text)) text 0 (omega arith) (omega arith) utf8 in
-    record {
-      items = all.items;
-      ending = all.ending;
-      are = all.are;
-      cuts = all.cuts;
-      only = λ others end are. ItemsFrom-same text 0 all.items others all.ending end all.are are;
-    }
+    search (rules, ItemsFrom-same)
