@@ -18,21 +18,19 @@ same_terms xs ys = pointwise (λ x y. pointwise nat_eq x.now y.now) xs ys
 
 terms_eq-Decides : (xs ys : List (Bor (List ℕ)))
     → Decides (same_terms xs ys) (map (λ t. t.now) xs ≡ map (λ t. t.now) ys)
-terms_eq-Decides [] [] = (λ _. refl, λ _. refl)
-terms_eq-Decides [] (y ∷ ys) = (λ e. cc, λ e. cc)
-terms_eq-Decides (x ∷ xs) [] = (λ e. cc, λ e. cc)
 terms_eq-Decides (x ∷ xs) (y ∷ ys) =
     Decides-like _ (λ both. cc) (λ same. (cc, cc))
     (Decides-and _ _ (bytes_eq-Decides x.now y.now) (terms_eq-Decides xs ys))
+terms_eq-Decides xs [] = (λ e. cc, λ e. cc)
+terms_eq-Decides xs ys = (λ e. cc, λ e. cc)
 
 -- the derived `==` of two reasons decides whether their causes are equal
 pub reason_eq-Decides : (one other : Reason)
     → Decides ((reason_eq.ghosts).eq one other) (cause_of one ≡ cause_of other)
 reason_eq-Decides (reason.InvalidNot m) (reason.InvalidNot n) =
-    (λ e. ap invalid_not ((Decides-eqb m n).0 e), λ e. (Decides-eqb m n).1 (cc))
+    Decides-like _ (ap invalid_not) (λ e. cc) (Decides-eqb m n)
 reason_eq-Decides (reason.Unexpected xs) (reason.Unexpected ys) =
-    let terms = terms_eq-Decides xs.now ys.now in
-    (λ e. ap unexpected (terms.0 e), λ e. terms.1 (cc))
+    Decides-like _ (ap unexpected) (λ e. cc) (terms_eq-Decides xs.now ys.now)
 reason_eq-Decides one reason.Empty = (λ e. cc, λ e. cc)
 reason_eq-Decides one other = (λ e. cc, λ e. cc)
 
@@ -44,19 +42,8 @@ pub fault_eq-Decides : {A : Type 0} (one other : ParseError A)
     (fault_of one ≡ fault_of other)
 fault_eq-Decides one other =
     Decides-like _
-    (λ p i. record {
-      original = p.0 i;
-      start = p.1.0.0 i;
-      end = p.1.0.1 i;
-      cause = p.1.1 i;
-    })
-    (λ e. (
-      ap (λ (f : Fault). f.original) e,
-      (
-        (ap (λ (f : Fault). f.start) e, ap (λ (f : Fault). f.end) e),
-        ap (λ (f : Fault). f.cause) e,
-      ),
-    ))
+    (λ p i. record { original = p.0 i; start = p.1.0.0 i; end = p.1.0.1 i; cause = p.1.1 i })
+    (λ e. (λ i. (e i).original, ((λ i. (e i).start, λ i. (e i).end), λ i. (e i).cause)))
     (Decides-and _ _
     (bytes_eq-Decides (string_bytes one.original) (string_bytes other.original))
     (Decides-and _ _

@@ -1,7 +1,7 @@
 -- Each text has a token list.
-use Rattle.std.proofs.Common.{rules, ◌≡◌, ℕ, suc, zero, ◌+◌, ◌-◌, ◌<◌, ◌≤◌, true, false, List, [], ◌∷◌}
-use Rattle.std.proofs.Common.{◌++◌, length, take, drop, get_or, refl, ap, ◌∙◌, subst, ◌≢◌, ◌⊎◌, inl}
-use Rattle.std.proofs.Common.{inr, arith, ⊎_elim, lit<, append-nil, length-drop, length-take}
+use Rattle.std.proofs.Common.{rules, ◌≡◌, ℕ, suc, zero, ◌+◌, ◌-◌, ◌<◌, ◌≤◌, true, false, List, []}
+use Rattle.std.proofs.Common.{◌∷◌, ◌++◌, length, take, drop, get_or, refl, ap, ◌∙◌, subst, ◌≢◌, ◌⊎◌}
+use Rattle.std.proofs.Common.{inl, inr, arith, ⊎_elim, lit<, append-nil, length-drop, length-take}
 use Rattle.std.specs.Prelude.{codes, encode_utf8}
 use Rattle.std.specs.Char.{is_not_whitespace}
 use Rattle.std.specs.List.{AllByRecursion, position_or_len, before_first, after_first, prefix_len}

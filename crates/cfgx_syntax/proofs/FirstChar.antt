@@ -5,7 +5,7 @@ use Rattle.std.specs.Prelude.{encode_utf8, slice_range}
 use Rattle.std.specs.Char.{is_not_whitespace}
 use Rattle.std.specs.Str.{NonePass, encode_utf8_all}
 use Rattle.std.proofs.lemmas.List.Folds.{drop_split}
-use Rattle.std.proofs.lemmas.Str.{encode_same, length-encode, len_utf8_bounds}
+use Rattle.std.proofs.lemmas.Str.{cons_from_encodes, encode_same, length-encode, len_utf8_bounds}
 use Rattle.std.proofs.lemmas.Bool.{both_ways}
 use Rattle.cfgx_syntax.specs.Items.{IsBlank}
 
@@ -18,7 +18,7 @@ pub record IsFirst (text : List ℕ) (from place c : ℕ) : Type 0 where
   pub visible : is_not_whitespace c ≡ true
 
 -- a character takes a byte at least
-pub char_some : (c : ℕ) (more : List ℕ) → 0 < length (encode_utf8 c ++ more)
+char_some : (c : ℕ) (more : List ℕ) → 0 < length (encode_utf8 c ++ more)
 char_some c more =
     let bounds = len_utf8_bounds c in
     omega (arith, length-append (encode_utf8 c) more, length-encode c, bounds.0)
@@ -43,18 +43,11 @@ same_behind (w ∷ ws) (v ∷ vs) c d r t white light seen shown e =
 none_behind : (ws cs : List ℕ) (c : ℕ) (r : List ℕ) → NonePass is_not_whitespace ws
     → NonePass is_not_whitespace cs → is_not_whitespace c ≡ true
     → encode_utf8_all ws ++ (encode_utf8 c ++ r) ≡ encode_utf8_all cs → ⊥
-none_behind ws [] c r white light seen e =
-    omega (
-      arith,
-      char_some c r,
-      ap length e,
-      length-append (encode_utf8_all ws) (encode_utf8 c ++ r),
-    )
-none_behind [] (v ∷ vs) c r white light seen e =
-    both_ways _ light.0 (rw (encode_same c v _ _ e).0 at seen)
-none_behind (w ∷ ws) (v ∷ vs) c r white light seen e =
-    let same = encode_same w v _ _ (rw append_assoc at e) in
-    none_behind ws vs c r white.1 light.1 seen same.1
+none_behind [] cs c r white light seen e =
+    let same = cons_from_encodes cs r c (sym e) in both_ways _ (rw same.1 at light).0 seen
+none_behind (w ∷ ws) cs c r white light seen e =
+    let same = cons_from_encodes cs _ w (sym (rw append_assoc at e)) in
+    none_behind ws same.0 c r white.1 (rw same.1 at light).1 seen (sym same.2)
 
 -- what follows `from`: the white space, and the character
 from_first : (text : List ℕ) (from place c : ℕ) (first : IsFirst text from place c)

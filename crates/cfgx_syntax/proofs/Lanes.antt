@@ -70,13 +70,6 @@ pub EachLane-bottom : EachLane planes_bottom (λ _. Some false)
 EachLane-bottom i below = rw (bit_at-zero i, bit_at_ones 64 i below) refl
 
 -- what each operation on two planes keeps and does
-pub ruleset lanes = (
-  AreApart-and,
-  AreApart-or,
-  AreApart-not,
-  EachLane-and,
-  EachLane-or,
-  EachLane-not,
-  EachLane-top,
-  EachLane-bottom,
-)
+pub ruleset keeping = (AreApart-and, AreApart-or, AreApart-not)
+pub ruleset doing = (EachLane-and, EachLane-or, EachLane-not, EachLane-top, EachLane-bottom)
+pub ruleset lanes = (keeping, doing)
