@@ -72,7 +72,8 @@ module _ (text rest : List ℕ) (place : ℕ) (behind : IsBehind text rest place
       (subst (λ l. CanBeCut l token 0 len) rest_is begins.cut)
 
   -- the first character behind white space is a byte if it begins a token
-  IsStuck-found : 0 < length rest → starts_token (get_or rest 0 0) ≡ false → IsStuck text place start
+  IsStuck-found : 0 < length rest → starts_token (get_or rest 0 0) ≡ false
+      → IsStuck text place start
   IsStuck-found some none =
       let first = behind.trimmed.3.1 some in
       let other : starts_token first.0 ≡ false =

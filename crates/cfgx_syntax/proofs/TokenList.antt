@@ -98,19 +98,14 @@ pub record Follows (text : List ℕ) (item : Item) (items : List Item)
   pub items_are : items ≡ item ∷ rest
   pub come : ItemsFrom text item.end rest ending
 
-pub Follows-stands : (text : List ℕ) (place : ℕ) (item : Item) (items : List Item)
-    (ending : Ending) → Stands text place item
-    → ItemsFrom text place items ending → Follows text item items ending
+pub Follows-stands : (text : List ℕ) (place : ℕ) (item : Item) (items : List Item) (ending : Ending)
+    → Stands text place item → ItemsFrom text place items ending → Follows text item items ending
 Follows-stands text place item [] ending stands come =
     absurd (let wrong = Comes-same text place (inl item) (inr ending) stands come in cc)
 Follows-stands text place item (other ∷ others) ending stands come =
     let both = Comes-same text place (inl other) (inl item) come.0 stands in
-    let same : other ≡ item = cc in
-    record {
-      rest = others;
-      items_are = ap (λ i. i ∷ others) same;
-      come = subst (λ (i : Item). ItemsFrom text i.end others ending) same come.1;
-    }
+    let same : item ≡ other = cc in
+    rw same (record { rest = others; items_are = refl; come = come.1 })
 
 -- from a place on, the items and the ending are determined
 pub ItemsFrom-same : (text : List ℕ) (from : ℕ) (items others : List Item) (ending end : Ending)
@@ -125,7 +120,6 @@ ItemsFrom-same text from (item ∷ items) others ending end here there =
     let rest = ItemsFrom-same text item.end items first.rest ending end here.1 first.come in
     (first.items_are ∙ ap (λ l. item ∷ l) rest.0, rest.1)
 
-pub no_more_items : (text : List ℕ) (place : ℕ) (items : List Item)
-    (ending end : Ending) → EndsAs text place end → ItemsFrom text place items ending
-    → (items ≡ []) × (ending ≡ end)
+pub no_more_items : (text : List ℕ) (place : ℕ) (items : List Item) (ending end : Ending)
+    → EndsAs text place end → ItemsFrom text place items ending → (items ≡ []) × (ending ≡ end)
 no_more_items text place items ending end = ItemsFrom-same text place [] items end ending

@@ -7,10 +7,10 @@ use Rattle.std.proofs.lemmas.Str.Pattern.{split_parts}
 use Rattle.cfgx_syntax.proofs.Values.{BeginsWith-value, HasNoQuote-from}
 use Rattle.cfgx_syntax.proofs.lexer.value_token.Goals as goal
 
--- the text is its first byte and what the code cuts off behind it
-behind_first : (text rest : List ℕ) (byte : ℕ) → 0 < length text → get_or text 0 0 ≡ byte
-    → rest ≡ drop 1 text → text ≡ byte ∷ rest
-behind_first text rest byte some first is = rw (first, ← is) at (drop_more text 0 0 some)
+-- the text is a quote and what the code cuts off behind it
+behind_quote : (text rest : List ℕ) → 0 < length text → get_or text 0 0 ≡ 34 → rest ≡ drop 1 text
+    → text ≡ 34 ∷ rest
+behind_quote text rest some first is = rw (first, ← is) at (drop_more text 0 0 some)
 
 pub range_from-requires : goal.range_from-requires
 range_from-requires c = λ _.
@@ -23,7 +23,7 @@ returns-in-Some c =
     let behind = c.in-Some.field-0-1 in
     let parts = split_parts 34 rest (Some (inside, behind)) c.in-Some.ensures.cases (lit< tt) in
     let whole =
-    behind_first c.args.text.now rest 34 c.requires.some c.requires.quote c.range_from.ensures.value in
+    behind_quote c.args.text.now rest c.requires.some c.requires.quote c.range_from.ensures.value in
     BeginsWith-value c.args.text.now inside.now behind.now c.utf8.text
     (HasNoQuote-from inside.now parts.1) (rw parts.0 at whole)
 
@@ -32,5 +32,5 @@ returns-in-None c =
     let rest = c.range_from.result.now in
     let none = split_parts 34 rest None c.in-None.ensures.cases (lit< tt) in
     let whole =
-    behind_first c.args.text.now rest 34 c.requires.some c.requires.quote c.range_from.ensures.value in
+    behind_quote c.args.text.now rest c.requires.some c.requires.quote c.range_from.ensures.value in
     inr (record { unclosed = (rest, whole, HasNoQuote-from rest none); why = refl; all = refl })

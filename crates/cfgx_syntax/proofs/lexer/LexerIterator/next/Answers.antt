@@ -22,8 +22,8 @@ returns-in-Ok-clause-steps g c =
 pub returns-in-Some-clause-steps : goal.returns-in-Some-clause-steps
 returns-in-Some-clause-steps g c =
     let behind = IsBehind-trimmed _ _ _ c.self.invariant.0 c.trimmed-rest.ensures in
-    let found =
-    Ending-found _ _ _ behind (cause_of c.in-Err.reason) c.in-Err.len (search rules) c.in-Err.ensures in
+    let cause = cause_of c.in-Err.reason in
+    let found = Ending-found _ _ _ behind cause c.in-Err.len (search rules) c.in-Err.ensures in
     rw (← c.self.view_is) (record {
       ending = found.0;
       ends = found.1;
