@@ -1,5 +1,5 @@
 -- Equality of reasons and of faults is that of variants, numbers and texts.
-use Rattle.std.proofs.Common.{◌≡◌, ℕ, Bool, List, [], ◌∷◌, ◌&&◌, Bor, map, nat_eq, refl, ap}
+use Rattle.std.proofs.Common.{◌≡◌, ℕ, Bool, List, [], ◌∷◌, ◌&&◌, Bor, map, nat_eq, ap}
 use Rattle.std.proofs.lemmas.Bool.Decides.{Decides-eqb, Decides-and, Decides-like}
 use Rattle.std.proofs.lemmas.Slice.Eq.{bytes_eq-Decides}
 use Rattle.std.specs.Bool.{Decides, ◌==◌}
@@ -10,7 +10,7 @@ use Rattle.cfgx_syntax.specs.declared.error.ParseError.{ParseError}
 use Rattle.cfgx_syntax.specs.declared.error.Reason.{Reason}
 use Rattle.cfgx_syntax.specs.declared.error.Reason.TheVariants as reason
 use Rattle.cfgx_syntax.specs.contracts.error.ReasonPartialEq.TheImpl as reason_eq
-use Rattle.cfgx_syntax.specs.Error.{Fault, cause_of, fault_of, invalid_not, unexpected}
+use Rattle.cfgx_syntax.specs.Error.{cause_of, fault_of, invalid_not, unexpected}
 
 -- whether two lists of texts have the same bytes, text by text
 abbrev same_terms : List (Bor (List ℕ)) → List (Bor (List ℕ)) → Bool

@@ -1,7 +1,7 @@
 -- A text has one token list.
 use Rattle.std.proofs.Common.{rules, ◌≡◌, ℕ, ◌+◌, ◌-◌, ◌≤◌, true, List, [], length, get_or, ◌∷◌}
-use Rattle.std.proofs.Common.{◌++◌, take, drop, sym, refl, ap, ◌∙◌, subst, arith, cond, ltb, ◌⊎◌}
-use Rattle.std.proofs.Common.{inl, inr, length-drop}
+use Rattle.std.proofs.Common.{◌++◌, take, drop, sym, refl, ap, ◌∙◌, arith, cond, ltb, ◌⊎◌, inl, inr}
+use Rattle.std.proofs.Common.{length-drop}
 use Rattle.std.specs.Prelude.{encode_utf8, slice_range}
 use Rattle.std.specs.Char.{is_not_whitespace}
 use Rattle.std.proofs.lemmas.List.{drop-drop}

@@ -66,15 +66,17 @@ pub IsCut-front : (text : List ℕ) (len : ℕ) → IsUtf8 text → len ≤ leng
     → IsCharBoundary text len → IsCut text 0 len
 IsCut-front text len utf8 inside closes = search (rules, IsCharBoundary-start)
 
--- a text begins with a token of one byte
-pub BeginsWith-byte : (text : List ℕ) (token : Token) (byte : ℕ) → IsUtf8 text → 0 < length text
-    → get_or text 0 0 ≡ byte → byte < 128 → Spells (byte ∷ []) token → IsWhole token (drop 1 text)
-    → IsValueCut text token 0 1 → BeginsWith text token 1
-BeginsWith-byte [] token byte utf8 some is low spelled whole value = absurd (omega arith)
-BeginsWith-byte (first ∷ rest) token byte utf8 some is low spelled whole value =
-    let text : List ℕ = first ∷ rest in
-    let closes = IsCharBoundary-after_ascii text 0 utf8 some (omega arith) in
-    let here : Spells (first ∷ []) token = rw is spelled in
+-- a text, whose bytes these are, begins with a token of one byte
+pub BeginsWith-byte : (text bytes : List ℕ) (token : Token) (byte : ℕ) → IsUtf8 text
+    → 0 < length text → bytes ≡ text → get_or bytes 0 0 ≡ byte → byte < 128
+    → Spells (byte ∷ []) token → IsWhole token (drop 1 text) → IsValueCut text token 0 1
+    → BeginsWith text token 1
+BeginsWith-byte [] bytes token byte utf8 some same is low spelled whole value =
+    absurd (omega arith)
+BeginsWith-byte (first ∷ rest) bytes token byte utf8 some same is low spelled whole value =
+    let at : first ≡ byte = rw same at is in
+    let closes = IsCharBoundary-after_ascii (first ∷ rest) 0 utf8 some (omega arith) in
+    let here : Spells (first ∷ []) token = rw at spelled in
     search (rules, IsCut-front)
 
 -- a word spells no value, and so there is no value to cut

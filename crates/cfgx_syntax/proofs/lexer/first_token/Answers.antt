@@ -1,33 +1,23 @@
 -- One byte is a token by itself, and a word runs as far as it can.
-use Rattle.std.proofs.Common.{◌≡◌, ◌<◌, List, [], ◌∷◌, ℕ, length, drop, get_or, ap, ◌∙◌, sym, rules}
-use Rattle.std.proofs.Common.{true}
-use Rattle.std.specs.Str.{IsUtf8}
-use Rattle.cfgx_syntax.specs.Cut.{IsValueCut}
-use Rattle.cfgx_syntax.specs.Token.{Token, IsWhole, Spells, starts_word, continues_word}
-use Rattle.cfgx_syntax.specs.Lexer.{BeginsWith, token_of}
+use Rattle.std.proofs.Common.{◌≡◌, get_or, rules, true}
+use Rattle.cfgx_syntax.specs.Token.{starts_word, continues_word}
+use Rattle.cfgx_syntax.specs.Lexer.{token_of}
 use Rattle.std.proofs.Math.Nat.{sub-zero}
 use Rattle.cfgx_syntax.proofs.Words.{BeginsWith-byte, BeginsWith-word, word_front}
 use Rattle.cfgx_syntax.proofs.Words.{IsCharBoundary-behind, continues_word-ascii}
 use Rattle.cfgx_syntax.proofs.lexer.first_token.Goals as goal
 
--- a token of one byte, which stands first in the bytes of the text
-one_byte : (text bytes : List ℕ) (token : Token) (byte : ℕ) → IsUtf8 text → 0 < length text
-    → bytes ≡ text → get_or bytes 0 0 ≡ byte → byte < 128 → Spells (byte ∷ []) token
-    → IsWhole token (drop 1 text) → IsValueCut text token 0 1 → BeginsWith text token 1
-one_byte text bytes token byte utf8 some same is =
-    BeginsWith-byte text token byte utf8 some (ap (λ l. get_or l 0 0) (sym same) ∙ is)
-
 pub returns-in-40 : goal.returns-in-40
-returns-in-40 c = search (rules, one_byte)
+returns-in-40 c = search (rules, BeginsWith-byte)
 
 pub returns-in-41 : goal.returns-in-41
-returns-in-41 c = search (rules, one_byte)
+returns-in-41 c = search (rules, BeginsWith-byte)
 
 pub returns-in-44 : goal.returns-in-44
-returns-in-44 c = search (rules, one_byte)
+returns-in-44 c = search (rules, BeginsWith-byte)
 
 pub returns-in-61 : goal.returns-in-61
-returns-in-61 c = search (rules, one_byte)
+returns-in-61 c = search (rules, BeginsWith-byte)
 
 pub range-requires-clause-end_boundary : goal.range-requires-clause-end_boundary
 range-requires-clause-end_boundary c =
