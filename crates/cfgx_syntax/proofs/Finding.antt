@@ -126,7 +126,8 @@ begins_mark rest utf8 some starts other plain =
     by : (mark : Token) (n : ℕ) → n < 128 → get_or rest 0 0 ≡ n → Spells (n ∷ []) mark
         → IsWhole mark (drop 1 rest) → IsValueCut rest mark 0 1 → Begins rest
     by mark n low is spelled whole value =
-        Begins.token mark 1 (BeginsWith-byte rest rest mark n utf8 some refl is low spelled whole value)
+        Begins.token mark 1
+        (BeginsWith-byte rest rest mark n utf8 some refl is low spelled whole value)
 
 begins : (rest : List ℕ) → IsUtf8 rest → 0 < length rest → Begins rest
 begins [] utf8 some = absurd (omega arith)
