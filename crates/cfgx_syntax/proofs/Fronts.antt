@@ -55,12 +55,8 @@ word_len : (word after : List ℕ) → IsWord word → EndsWord after
     → token_len (word ++ after) ≡ length word
 word_len [] after is ends = absurd (false≢true is)
 word_len (first ∷ others) after is ends =
-    rw (
-      starts_word-no_quote first is.0,
-      is.0,
-      starts_word-continues first is.0,
-      goes_on others after is.1 ends,
-    ) (omega arith)
+    let long = goes_on others after is.1 ends in
+    rw (starts_word-no_quote first is.0, is.0, starts_word-continues first is.0, long) (omega arith)
 
 -- the first quote is not among bytes that have none
 quote_after : (bytes after : List ℕ) → HasNoQuote bytes
@@ -97,13 +93,10 @@ refuses xs ys other = false_from_ne_true _ (λ same. other ((bytes_eq-Decides xs
 -- the token that bytes spell is one
 pub token_by_is : (bytes : List ℕ) (token : Token) → Spells bytes token → token_by bytes ≡ token
 token_by_is bytes (Token.key word) (is, key) =
-    rw (
-      is,
-      word_starts word key.spelled,
-      refuses word (codes "all") key.not_all,
-      refuses word (codes "any") key.not_any,
-      refuses word (codes "not") key.not_not,
-    ) refl
+    let all = refuses word (codes "all") key.not_all in
+    let any = refuses word (codes "any") key.not_any in
+    let not = refuses word (codes "not") key.not_not in
+    rw (is, word_starts word key.spelled, all, any, not) refl
 token_by_is bytes (Token.value inside) (is, none) =
     let wide = length-append inside (codes "\"") in
     rw is (ap Token.value (take_at inside (codes "\"") _ (omega arith)))
@@ -117,12 +110,9 @@ Spells-first bytes (Token.key word) (is, key) =
 Spells-first bytes (Token.value inside) (is, none) = rw is refl
 Spells-first bytes _ is = rw is refl
 
-byte_some : (bytes : List ℕ) → starts_token (get_or bytes 0 0) ≡ true → 1 ≤ length bytes
-byte_some [] starts = absurd (false≢true starts)
-byte_some (byte ∷ bytes) starts = omega arith
-
 pub Spells-some : (bytes : List ℕ) (token : Token) → Spells bytes token → 1 ≤ length bytes
-Spells-some bytes token spells = byte_some bytes (Spells-first bytes token spells)
+Spells-some [] token spells = absurd (false≢true (Spells-first [] token spells))
+Spells-some (byte ∷ bytes) token spells = omega arith
 
 pub front_starts : (rest : List ℕ) (token : Token) (len : ℕ) → Spells (take len rest) token
     → starts_token (get_or rest 0 0) ≡ true
