@@ -197,3 +197,5 @@ pub HasOneTokenList-of : (text : List ℕ) → IsUtf8 text → HasOneTokenList t
 HasOneTokenList-of text utf8 =
     let all = found (suc (length text)) text 0 (omega arith) (omega arith) utf8 in
     search (rules, ItemsFrom-same)
+
+pub ruleset one_list = (HasOneTokenList-of)

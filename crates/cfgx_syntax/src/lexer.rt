@@ -213,6 +213,7 @@ impl<'a, A: Allocator> Model for Lexer<'a, A> {
 
 impl<'a, A: Allocator> Lexer<'a, A> {
     /// A lexer of what `strip` keeps of the text. It takes no memory.
+    #[tactic(auto, using(crate::proofs::Finding::one_list))]
     pub fn new(alloc: A, text: &'a str) -> Self
         ensures starts { result ≡ starting (strip text.now) }
         ensures one { HasOneTokenList (strip text.now) }
