@@ -4,6 +4,7 @@ use Rattle.std.proofs.Common.{length, take, drop, get_or, refl, arith, add-one}
 use Rattle.std.proofs.Math.Numerals.{one-add}
 use Rattle.std.specs.List.{list_all, prefix_len}
 use Rattle.std.specs.Str.{IsUtf8, IsCharBoundary}
+use Rattle.std.proofs.lemmas.List.{take_rest}
 use Rattle.std.proofs.lemmas.List.Sums.{prefix_len-le-length, prefix_len_passes}
 use Rattle.std.proofs.lemmas.Str.{IsCharBoundary-after_ascii, IsCharBoundary-start}
 use Rattle.std.proofs.lemmas.Bool.{cond_both, false≢true}
@@ -100,5 +101,5 @@ BeginsWith-word text token utf8 starts spelled =
     let value = IsValueCut-word text (take n text) token 0 n word.0 spelled in
     search (rules, IsCut-front)
 
--- no more bytes pass than there are
-pub ruleset lengths = (prefix_len-le-length)
+-- no more bytes pass than there are, and the first of a word is one that passes
+pub ruleset lengths = (prefix_len-le-length, word_front, take_rest)

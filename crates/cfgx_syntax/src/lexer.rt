@@ -125,6 +125,7 @@ fn continued_len(bytes: &[u8]) -> usize
 }
 
 /// How many bytes spell the word that the text begins with.
+#[tactic(auto, using(crate::proofs::Words::lengths))]
 fn word_len(text: &str) -> usize
     requires some { 0 < length text.now }
     requires starts { starts_word (get_or text.now 0 0) ≡ true }
