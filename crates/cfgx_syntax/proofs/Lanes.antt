@@ -71,5 +71,7 @@ EachLane-bottom i below = rw (bit_at-zero i, bit_at_ones 64 i below) refl
 
 -- what each operation on two planes keeps and does
 pub ruleset keeping = (AreApart-and, AreApart-or, AreApart-not)
+
 pub ruleset doing = (EachLane-and, EachLane-or, EachLane-not, EachLane-top, EachLane-bottom)
+
 pub ruleset lanes = (keeping, doing)
