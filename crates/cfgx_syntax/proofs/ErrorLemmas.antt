@@ -44,11 +44,8 @@ fault_eq-Decides one other =
     Decides-like _
     (λ p i. record { original = p.0 i; start = p.1.0.0 i; end = p.1.0.1 i; cause = p.1.1 i })
     (λ e. (λ i. (e i).original, ((λ i. (e i).start, λ i. (e i).end), λ i. (e i).cause)))
-    (Decides-and _ _
-    (bytes_eq-Decides (string_bytes one.original) (string_bytes other.original))
-    (Decides-and _ _
-    (Decides-and _ _
-    (Decides-eqb one.span.start other.span.start) (Decides-eqb one.span.end other.span.end))
-    (reason_eq-Decides one.reason other.reason)))
+    (Decides-and _ _ (bytes_eq-Decides (string_bytes one.original) (string_bytes other.original))
+    (Decides-and _ _ (Decides-and _ _ (Decides-eqb one.span.start other.span.start)
+    (Decides-eqb one.span.end other.span.end)) (reason_eq-Decides one.reason other.reason)))
 
 pub ruleset equalities = (reason_eq-Decides, fault_eq-Decides)

@@ -135,8 +135,7 @@ begins (byte ∷ more) utf8 some =
     ⊎_elim (λ starts.
     ⊎_elim (λ word. begins_word (byte ∷ more) utf8 word) (λ other.
     ⊎_elim (λ quote.
-    let is = quote_is byte quote in
-    rw is (begins_quote more (rw is at utf8)))
+    let is = quote_is byte quote in rw is (begins_quote more (rw is at utf8)))
     (λ plain. begins_mark (byte ∷ more) utf8 some starts other plain)
     (cases_Bool (is_quote byte))) (cases_Bool (starts_word byte)))
     (λ none.

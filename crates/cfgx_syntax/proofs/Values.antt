@@ -20,9 +20,8 @@ pub HasNoQuote-from : (bytes : List ℕ) → ((i : ℕ) → i < length bytes →
     → HasNoQuote bytes
 HasNoQuote-from [] none = refl
 HasNoQuote-from (byte ∷ bytes) none =
-    let first : is_quote byte ≡ false = is_quote-other byte (none 0 (omega arith)) in
-    let others : HasNoQuote bytes = HasNoQuote-from bytes (λ i lt. none (suc i) (omega arith)) in
-    rw first others
+    rw (is_quote-other byte (none 0 (omega arith)))
+    (HasNoQuote-from bytes (λ i lt. none (suc i) (omega arith)))
 
 -- what a value holds, cut out of the text one byte in from both ends of its spelling
 pub value_inside : (text inside : List ℕ) (start end : ℕ) → end ≤ length text
