@@ -1,6 +1,6 @@
 -- How far a source was read.
-use Rattle.std.proofs.Common.{◌≡◌, ◌+◌, ◌≤◌, ◌++◌, ℕ, List, length, take, sym, ap}
-use Rattle.std.proofs.Common.{◌∙◌, append_assoc, Option, Some, None, arith, subst, take_at}
+use Rattle.std.proofs.Common.{◌≡◌, ◌+◌, ◌≤◌, ◌++◌, ℕ, List, length, take, sym, ap, ◌∙◌}
+use Rattle.std.proofs.Common.{append_assoc, Option, Some, None, arith, subst, take_at}
 use Rattle.std.proofs.Math.Seq.{take-add}
 use Rattle.std.specs.Io.KnownBytes.{Consumes}
 use Rattle.cfgx_engine.specs.Input.{ReadsMore, input_limit}
