@@ -1,7 +1,7 @@
 -- The flags of words, one word after another.
 use Rattle.std.proofs.Common.{◌≡◌, ◌≢◌, ℕ, List, [], ◌∷◌, ◌++◌, None, Err, codes, map, refl, ap}
-use Rattle.std.proofs.Common.{◌∙◌, ◌<◌, ◌+◌, zero, suc, Bor, Option, inl, inr, bytes_eq, filter_map}
-use Rattle.std.proofs.Common.{length, get_or, take, arith}
+use Rattle.std.proofs.Common.{◌<◌, ◌+◌, zero, suc, Bor, inl, inr, bytes_eq, length, get_or, take}
+use Rattle.std.proofs.Common.{arith}
 use Rattle.std.specs.List.{AllByRecursion}
 use Rattle.std.proofs.lemmas.Bool.{false_from_ne_true}
 use Rattle.std.proofs.lemmas.List.{map-append, take_more}
@@ -13,7 +13,7 @@ use Rattle.cfgx_syntax.specs.declared.error.Failure.{Failure}
 use Rattle.cfgx_syntax.specs.declared.error.Failure.TheVariants as failure
 use Rattle.cfgx_grammar.specs.Answer.{Answers, HasOneTree}
 use Rattle.cfgx_engine.specs.Answer.{AddsFlag, AreFlags, BlamesFirst}
-use Rattle.cfgx_engine.specs.Flags.{flag_text, known_text, unknown_text}
+use Rattle.cfgx_engine.specs.Flags.{flag_text, unknown_text}
 use Rattle.cfgx_engine.specs.Output.{fault_output}
 use Rattle.cfgx_engine.specs.Request.{texts}
 use Rattle.cfgx_engine.specs.declared.engine.flags.Flags.{Flags}
@@ -42,14 +42,11 @@ module _ {A : Type 0} where
       let HasTree = λ (flag : List ℕ). HasOneTree (strip (flag_text flag)) in
       let front = texts (take i words) in
       let word = (get_or words i d).now in
-      let kept = λ (text_of : List ℕ → Option (List ℕ)).
-      ap (map strip) (filter_map-append text_of front (word ∷ []))
-      ∙ map-append strip (filter_map text_of front) (filter_map text_of (word ∷ [])) in
       rw (take_more words i d below, map-append) (record {
         each = recursion_from_All HasTree _
             (All-push HasTree front word (All-from_recursion HasTree front are.each) adds.one);
-        known_are = cc (adds.known_are, are.known_are, kept known_text);
-        unknown_are = cc (adds.unknown_are, are.unknown_are, kept unknown_text);
+        known_are = rw (filter_map-append, map-append, ← are.known_are) adds.known_are;
+        unknown_are = rw (filter_map-append, map-append, ← are.unknown_are) adds.unknown_are;
       })
 
   -- what blames a word blames it behind words that have a tree each

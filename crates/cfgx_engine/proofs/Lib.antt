@@ -1,5 +1,4 @@
 pub mod FlagLemmas
-pub mod InputLemmas
 pub mod OneOutput
 pub mod OutputLemmas
 pub mod PickLemmas

@@ -38,58 +38,57 @@ decided shown low one other this that =
     (this ∙ sym that, omega (arith, ap (λ (o : Output). o.status) this))
 
 -- one that is made of the one thing that fits
-made : {X : Type 0} (Fits : X → Type 0) (make : X → Output) → IsSingle Fits
+decided-made : {X : Type 0} {Fits : X → Type 0} (make : X → Output) → IsSingle Fits
     → ((x : X) → (make x).status < 3) → IsDecided (λ output. (x : X) × Fits x × (output ≡ make x))
-made Fits make single low one other this that = (
+decided-made make single low one other this that = (
   this.2 ∙ ap make (single this.0 that.0 this.1 that.1) ∙ sym that.2,
   omega (arith, low this.0, ap (λ (o : Output). o.status) this.2),
 )
 
 -- one of two kinds that exclude each other
-either : (This That : Output → Type 0) → IsDecided This → IsDecided That
+decided-either : {This That : Output → Type 0} → IsDecided This → IsDecided That
     → ((one other : Output) → This one → That other → ⊥)
     → IsDecided (λ output. This output ⊎ That output)
-either This That this that apart one other (inl here) (inl there) = this one other here there
-either This That this that apart one other (inr here) (inr there) = that one other here there
-either This That this that apart one other (inl here) (inr there) =
+decided-either this that apart one other (inl here) (inl there) = this one other here there
+decided-either this that apart one other (inr here) (inr there) = that one other here there
+decided-either this that apart one other (inl here) (inr there) =
     absurd (apart one other here there)
-either This That this that apart one other (inr here) (inl there) =
+decided-either this that apart one other (inr here) (inl there) =
     absurd (apart other one there here)
 
 -- one that is chosen by a test, or by the row of a target
-by_test : (test : Bool) (On Off : Output → Type 0) → IsDecided On → IsDecided Off
+decided-test : {On Off : Output → Type 0} (test : Bool) → IsDecided On → IsDecided Off
     → IsDecided (λ output. MatchBool test (On output) (Off output))
-by_test true On Off on off = on
-by_test false On Off on off = off
+decided-test true on off = on
+decided-test false on off = off
 
-by_row : (found : Option (TargetInfo Global)) (On : TargetInfo Global → Output → Type 0)
+decided-row : {On : TargetInfo Global → Output → Type 0} (found : Option (TargetInfo Global))
     → ((row : TargetInfo Global) → IsDecided (On row))
     → IsDecided (λ output. MatchOption found (output ≡ unknown_triple) (λ row. On row output))
-by_row None On each = decided unknown_triple (omega arith)
-by_row (Some row) On each = each row
+decided-row None on = decided unknown_triple (omega arith)
+decided-row (Some row) on = on row
 
 -- lists whose items fit one by one
-each_single : {X Y : Type 0} (R : X → Y → Type 0) → ((x : X) → IsSingle (R x)) → (xs : List X)
+AllZip-single : {X Y : Type 0} {R : X → Y → Type 0} → ((x : X) → IsSingle (R x)) → (xs : List X)
     → IsSingle (AllZip R xs)
-each_single R each [] [] [] this that = refl
-each_single R each (x ∷ xs) (y ∷ ys) (z ∷ zs) this that =
+AllZip-single each [] [] [] this that = refl
+AllZip-single each (x ∷ xs) (y ∷ ys) (z ∷ zs) this that =
     let first = each x y z this.0 that.0 in
-    let others = each_single R each xs ys zs this.1 that.1 in cc
-each_single R each _ _ _ this that = absurd (search rules)
+    let others = AllZip-single each xs ys zs this.1 that.1 in cc
+AllZip-single each _ _ _ this that = absurd (search rules)
 
 -- the first fault of a text, and of the first text that has no tree
-one_fault : (text : List ℕ) → IsSingle (IsRefused text)
-one_fault text one other this that = sym (this.1.only other that.1.has_fault)
+IsRefused-single : (text : List ℕ) → IsSingle (IsRefused text)
+IsRefused-single text one other this that = sym (this.1.only other that.1.has_fault)
 
-refused : (text : List ℕ) → IsDecided (Refuses text)
-refused text = made (IsRefused (strip text)) (λ fault. fault_output (fault_in (strip text) fault))
-    (one_fault (strip text)) (λ fault. omega arith)
+Refuses-decided : (text : List ℕ) → IsDecided (Refuses text)
+Refuses-decided text = decided-made (λ fault. fault_output (fault_in (strip text) fault))
+    (IsRefused-single (strip text)) (λ fault. omega arith)
 
-refused_first : (texts : List (List ℕ)) → IsDecided (RefusesFirst texts)
-refused_first [] = λ one other this that. absurd this
-refused_first (text ∷ texts) = either (Refuses text)
-    (λ output. HasOneTree (strip text) × RefusesFirst texts output) (refused text)
-    (λ one other this that. refused_first texts one other this.1 that.1)
+RefusesFirst-decided : (texts : List (List ℕ)) → IsDecided (RefusesFirst texts)
+RefusesFirst-decided [] = λ one other this that. absurd this
+RefusesFirst-decided (text ∷ texts) = decided-either (Refuses-decided text)
+    (λ one other this that. RefusesFirst-decided texts one other this.1 that.1)
     (λ one other this later. absurd (this.1.0 later.0.tree later.0.has_tree))
 
 none_refused : (flags : List (List ℕ)) (shown : Output)
@@ -100,49 +99,51 @@ none_refused (flag ∷ flags) shown each (inl told) = told.1.0 each.0.tree each.
 none_refused (flag ∷ flags) shown each (inr later) = none_refused flags shown each.1 later.1
 
 -- the predicates of a text
-listed : (text : List ℕ) → IsDecided (Lists text)
-listed text one other this that =
+Lists-decided : (text : List ℕ) → IsDecided (Lists text)
+Lists-decided text one other this that =
     let same = that.0.only this.0.tree this.0.has_tree in
     (cc, omega (arith, ap (λ (o : Output). o.status) this.1))
 
 -- a value by the answers of the flags, or by those of a target
-one_answer : (known unknown : List (List ℕ)) (question : Question)
+IsAnswer-single : (known unknown : List (List ℕ)) (question : Question)
     → IsSingle (IsAnswer known unknown question)
-one_answer known unknown question (Some true) (Some true) this that = refl
-one_answer known unknown question (Some false) (Some false) this that = refl
-one_answer known unknown question None None this that = refl
-one_answer known unknown question (Some true) _ this that = absurd (that.0 this)
-one_answer known unknown question _ (Some true) this that = absurd (this.0 that)
-one_answer known unknown question (Some false) None this that = absurd (this.1 that.1)
-one_answer known unknown question None (Some false) this that = absurd (that.1 this.1)
+IsAnswer-single known unknown question (Some true) (Some true) this that = refl
+IsAnswer-single known unknown question (Some false) (Some false) this that = refl
+IsAnswer-single known unknown question None None this that = refl
+IsAnswer-single known unknown question (Some true) _ this that = absurd (that.0 this)
+IsAnswer-single known unknown question _ (Some true) this that = absurd (this.0 that)
+IsAnswer-single known unknown question (Some false) None this that = absurd (this.1 that.1)
+IsAnswer-single known unknown question None (Some false) this that = absurd (that.1 this.1)
 
-one_value : (text : List ℕ) (flags : List (List ℕ)) → IsSingle (HasValue text flags)
-one_value text flags one other this that =
+HasValue-single : (text : List ℕ) (flags : List (List ℕ)) → IsSingle (HasValue text flags)
+HasValue-single text flags one other this that =
     let same = that.one.only this.one.tree this.one.has_tree in
-    let answers = each_single _ (one_answer (known_texts flags) (unknown_texts flags))
+    let answers = AllZip-single (IsAnswer-single (known_texts flags) (unknown_texts flags))
     (asked that.one.tree) this.answers that.answers (rw same at this.are_answers)
     that.are_answers in cc
 
-one_value_on : {A : Type 0} (row : TargetInfo A) (text : List ℕ) → IsSingle (HasValueOn row text)
-one_value_on row text one other this that =
+HasValueOn-single : {A : Type 0} (row : TargetInfo A) (text : List ℕ)
+    → IsSingle (HasValueOn row text)
+HasValueOn-single row text one other this that =
     let same = that.0.only this.0.tree this.0.has_tree in cc
 
-shown : (IsValue : Option Bool → Type 0) → IsSingle IsValue → IsDecided (Shows IsValue)
-shown IsValue single = made IsValue value_output single (λ value. omega arith)
+Shows-decided : {IsValue : Option Bool → Type 0} → IsSingle IsValue → IsDecided (Shows IsValue)
+Shows-decided single = decided-made value_output single (λ value. omega arith)
 
 -- what the lines of sections print
-one_line : {A : Type 0} (row : TargetInfo A) (line : Line) → IsSingle (PrintsLine row line)
-one_line row Line.empty one other this that = this ∙ sym that
-one_line row Line.undivided one other this that = absurd this
-one_line row (Line.section name condition) one other this that =
+PrintsLine-single : {A : Type 0} (row : TargetInfo A) (line : Line)
+    → IsSingle (PrintsLine row line)
+PrintsLine-single row Line.empty one other this that = this ∙ sym that
+PrintsLine-single row Line.undivided one other this that = absurd this
+PrintsLine-single row (Line.section name condition) one other this that =
     let same = that.0.only this.0.tree this.0.has_tree in cc
 
-told : (number : ℕ) (line : Line) → IsDecided (TellsFault number line)
-told number Line.empty = λ one other this that. absurd this
-told number Line.undivided = decided _ (omega arith)
-told number (Line.section name condition) = made (IsRefused (strip condition))
-    (λ fault. line_fault number (fault_in (strip condition) fault)) (one_fault (strip condition))
-    (λ fault. omega arith)
+TellsFault-decided : (number : ℕ) (line : Line) → IsDecided (TellsFault number line)
+TellsFault-decided number Line.empty = λ one other this that. absurd this
+TellsFault-decided number Line.undivided = decided _ (omega arith)
+TellsFault-decided number (Line.section name condition) =
+    decided-made (λ fault. line_fault number (fault_in (strip condition) fault))
+    (IsRefused-single (strip condition)) (λ fault. omega arith)
 
 told_alone : (number : ℕ) (line : Line) (shown : Output) → TellsFault number line shown
     → IsWell line → ⊥
@@ -151,11 +152,10 @@ told_alone number Line.undivided shown told well = well
 told_alone number (Line.section name condition) shown told well =
     told.1.0 well.tree well.has_tree
 
-told_first : (number : ℕ) (lines : List Line) → IsDecided (TellsFirst number lines)
-told_first number [] = λ one other this that. absurd this
-told_first number (line ∷ lines) = either (TellsFault number line)
-    (λ output. IsWell line × TellsFirst (number + 1) lines output) (told number line)
-    (λ one other this that. told_first (number + 1) lines one other this.1 that.1)
+TellsFirst-decided : (number : ℕ) (lines : List Line) → IsDecided (TellsFirst number lines)
+TellsFirst-decided number [] = λ one other this that. absurd this
+TellsFirst-decided number (line ∷ lines) = decided-either (TellsFault-decided number line)
+    (λ one other this that. TellsFirst-decided (number + 1) lines one other this.1 that.1)
     (λ one other this later. told_alone number line one this later.0)
 
 module _ {A : Type 0} (row : TargetInfo A) where
@@ -168,36 +168,33 @@ module _ {A : Type 0} (row : TargetInfo A) where
   none_told number (line ∷ lines) (text ∷ written) shown each (inr later) =
       none_told (number + 1) lines written shown each.1 later.1
 
-  printed : (lines : List Line) → IsDecided (PrintsLines row lines)
-  printed lines = either _ (TellsFirst 1 lines)
-      (made (AllZip (PrintsLine row) lines)
-      (λ written. record { bytes = concat written; status = 0 })
-      (each_single (PrintsLine row) (one_line row) lines) (λ written. omega arith))
-      (told_first 1 lines) (λ one other all told. none_told 1 lines all.0 other all.1 told)
+  PrintsLines-decided : (lines : List Line) → IsDecided (PrintsLines row lines)
+  PrintsLines-decided lines = decided-either
+      (decided-made (λ written. record { bytes = concat written; status = 0 })
+      (AllZip-single (PrintsLine-single row) lines) (λ written. omega arith))
+      (TellsFirst-decided 1 lines)
+      (λ one other all told. none_told 1 lines all.0 other all.1 told)
 
-  picked : (input : List ℕ) → IsDecided (Picks row input)
-  picked input = by_test (nat_lt input_limit (length input)) _ _ (decided too_long (omega arith))
-      (by_test (is_utf8 input) _ _ (printed (map line_of (lines_of input)))
-      (decided not_utf8 (omega arith)))
+  Picks-decided : (input : List ℕ) → IsDecided (Picks row input)
+  Picks-decided input = decided-test (nat_lt input_limit (length input))
+      (decided too_long (omega arith)) (decided-test (is_utf8 input)
+      (PrintsLines-decided (map line_of (lines_of input))) (decided not_utf8 (omega arith)))
 
 -- a request has one output on an input
 pub Prints-decided : (request : Request) (input : List ℕ) → IsDecided (Prints request input)
-Prints-decided (Request.parse text) input = either (Lists text) (Refuses text) (listed text)
-    (refused text) (λ one other this told. told.1.0 this.0.tree this.0.has_tree)
+Prints-decided (Request.parse text) input =
+    decided-either (Lists-decided text) (Refuses-decided text)
+    (λ one other this told. told.1.0 this.0.tree this.0.has_tree)
 Prints-decided (Request.eval text flags) input =
-    let texts = text ∷ map flag_text flags in
-    either (Shows (HasValue text flags)) (RefusesFirst texts)
-    (shown (HasValue text flags) (one_value text flags)) (refused_first texts)
+    decided-either (Shows-decided (HasValue-single text flags))
+    (RefusesFirst-decided (text ∷ map flag_text flags))
     (λ one other this told. none_refused flags other this.1.each_flag (
     ⊎_elim (λ first. absurd (first.1.0 this.1.one.tree this.1.one.has_tree)) (λ later. later.1)
     told))
 Prints-decided (Request.target triple text) input =
-    by_row (row_with {A = Global} triple builtin_rows)
-    (λ row output. Shows (HasValueOn row text) output ⊎ Refuses text output)
-    (λ row. either (Shows (HasValueOn row text)) (Refuses text)
-    (shown (HasValueOn row text) (one_value_on row text)) (refused text)
+    decided-row (row_with {A = Global} triple builtin_rows)
+    (λ row. decided-either (Shows-decided (HasValueOn-single row text)) (Refuses-decided text)
     (λ one other this told. told.1.0 this.1.0.tree this.1.0.has_tree))
 Prints-decided (Request.pick triple) input =
-    by_row (row_with {A = Global} triple builtin_rows) (λ row. Picks row input)
-    (λ row. picked row input)
+    decided-row (row_with {A = Global} triple builtin_rows) (λ row. Picks-decided row input)
 Prints-decided Request.wrong_use input = decided usage (omega arith)

@@ -1,6 +1,6 @@
 -- Rows of targets, whatever allocator their texts would be owned in.
-use Rattle.std.proofs.Common.{◌≡◌, ℕ, Bool, true, false, List, [], ◌∷◌, ◌++◌, Option, Some, map}
-use Rattle.std.proofs.Common.{find, option_map, bytes_eq, if◌then◌else◌, refl, ap, sym, ◌∙◌}
+use Rattle.std.proofs.Common.{◌≡◌, arith, ℕ, Bool, List, [], ◌∷◌, ◌++◌, Option, map, find}
+use Rattle.std.proofs.Common.{option_map, bytes_eq, refl, ap, sym, ◌∙◌}
 use Rattle.std.proofs.Math.Path.{fun_ext}
 use Rattle.std.specs.declared.alloc.Global.{Global}
 use Rattle.cfgx_syntax.specs.Stripping.{strip}
@@ -32,24 +32,18 @@ same_row row = record {
 }
 
 -- what is found in a mapped list
-map_if : {X Y : Type 0} (f : X → Y) (test : Bool) (x : X) (rest : Option X)
-    → (if test then Some (f x) else option_map f rest)
-    ≡ option_map f (if test then Some x else rest)
-map_if f true x rest = refl
-map_if f false x rest = refl
-
 find-map : {X Y : Type 0} (f : X → Y) (test : Y → Bool) (xs : List X)
     → find test (map f xs) ≡ option_map f (find (λ x. test (f x)) xs)
 find-map f test [] = refl
-find-map f test (x ∷ xs) = rw (find-map f test xs) (map_if f (test (f x)) x _)
+find-map f test (x ∷ xs) = let rest = find-map f test xs in grind arith
 
 -- it is found by the same triple among the built-in rows, whose texts no allocator owns
 pub builtin-same : {A : Type 0} (triple : List ℕ) (found : Option (TargetInfo A))
-    → found ≡ row_with triple builtin_rows
+    {rows : List (TargetInfo A)} → rows ≡ builtin_rows → found ≡ row_with triple rows
     → row_with {A = Global} triple builtin_rows ≡ option_map (same_row {A = A}) found
-builtin-same {A} triple found is =
+builtin-same {A} triple found are is =
     find-map (same_row {A = A}) (λ row. bytes_eq row.triple triple) builtin_rows
-    ∙ ap (option_map (same_row {A = A})) (sym is)
+    ∙ ap (option_map (same_row {A = A})) (sym (is ∙ ap (row_with triple) are))
 
 -- it answers the same
 meets-same : {A : Type 0} (row : TargetInfo A) (question : TargetQuestion)

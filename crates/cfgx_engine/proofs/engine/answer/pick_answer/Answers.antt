@@ -1,5 +1,4 @@
-use Rattle.std.proofs.Common.{◌∙◌, Some, None, ap, refl}
-use Rattle.cfgx_targets.specs.Table.{row_with}
+use Rattle.std.proofs.Common.{refl}
 use Rattle.cfgx_engine.specs.Request.{Request}
 use Rattle.cfgx_engine.proofs.PickLemmas.{PrintsInput-any}
 use Rattle.cfgx_engine.proofs.RowLemmas.{PrintsLine-same, builtin-same}
@@ -9,21 +8,18 @@ use Rattle.cfgx_engine.proofs.engine.answer.pick_answer.Goals as goal
 pub returns-in-Some-clause-right : goal.returns-in-Some-clause-right
 returns-in-Some-clause-right g c =
     rw (
-      builtin-same {A = g.row.A.Denot} c.args.triple.now (Some c.in-Some.row.now)
-          (c.in-Some.ensures
-          ∙ ap (row_with {A = g.row.A.Denot} c.args.triple.now) c.in_ok-table.ensures),
+      builtin-same {A = g.row.A.Denot} c.args.triple.now _ c.in_ok-table.ensures
+          c.in-Some.ensures,
       ← PrintsLine-same {A = g.row.A.Denot} c.in-Some.row.now,
-    ) c.read_answer.ensures.right
+    )
+    c.read_answer.ensures.right
 
 pub returns-in-Some-clause-others : goal.returns-in-Some-clause-others
-returns-in-Some-clause-others g c = λ none. absurd (none
-    (rw (builtin-same {A = g.row.A.Denot} c.args.triple.now (Some c.in-Some.row.now)
-    (c.in-Some.ensures
-    ∙ ap (row_with {A = g.row.A.Denot} c.args.triple.now) c.in_ok-table.ensures)) refl))
+returns-in-Some-clause-others g c = λ none. absurd (none (rw (builtin-same
+    {A = g.row.A.Denot} c.args.triple.now _ c.in_ok-table.ensures c.in-Some.ensures)))
 
 pub returns-clause-right : goal.returns-clause-right
 returns-clause-right g c =
     PrintsInput-any (Request.pick c.args.triple.now) _ _ refl
-    (λ input. rw (builtin-same {A = g.row.A.Denot} c.args.triple.now None (c.in-None.ensures
-    ∙ ap (row_with {A = g.row.A.Denot} c.args.triple.now) c.in_ok-table.ensures))
-    c.constant.ensures)
+    (λ input. rw (builtin-same {A = g.row.A.Denot} c.args.triple.now _ c.in_ok-table.ensures
+    c.in-None.ensures) c.constant.ensures)

@@ -1,6 +1,5 @@
-use Rattle.std.proofs.Common.{◌∙◌, ◌⊎◌, ◌∷◌, [], Some, None, ap}
+use Rattle.std.proofs.Common.{◌⊎◌, ◌∷◌, []}
 use Rattle.std.proofs.lemmas.Result.{IfOk-weaker}
-use Rattle.cfgx_targets.specs.Table.{row_with}
 use Rattle.cfgx_engine.specs.Answer.{output_of, ShowsResult}
 use Rattle.cfgx_engine.specs.Output.{HasValueOn, Refuses, Shows}
 use Rattle.cfgx_engine.specs.declared.engine.answer.Answer.{Answer}
@@ -14,15 +13,14 @@ returns-in-Some g c =
     let text = c.args.text.now in
     let row = c.in-Some.row.now in
     let IsValue = HasValueOn {A = g.row.A.Denot} row text in
-    let found = builtin-same {A = g.row.A.Denot} c.args.triple.now (Some row) (c.in-Some.ensures
-    ∙ ap (row_with {A = g.row.A.Denot} c.args.triple.now) c.in_ok-table.ensures) in
-    rw (found, ← answer_on-same {A = g.row.A.Denot} row) (IfOk-weaker c.value_answer.result
+    let built_in = builtin-same {A = g.row.A.Denot} c.args.triple.now _ c.in_ok-table.ensures
+    c.in-Some.ensures in
+    rw (built_in, ← answer_on-same {A = g.row.A.Denot} row) (IfOk-weaker c.value_answer.result
     (λ (a : Answer g.row.A.Denot). ShowsResult {A = g.row.A.Denot} c.value_on.result (output_of a))
     (λ (a : Answer g.row.A.Denot). Shows IsValue (output_of a) ⊎ Refuses text (output_of a))
     (λ a shows. Shows-one text (output_of a) (Shows-result {A = g.row.A.Denot} IsValue (text ∷ [])
     c.value_on.result (output_of a) c.value_on.ensures shows)) c.value_answer.ensures)
 
 pub returns : goal.returns
-returns g c = rw (builtin-same {A = g.row.A.Denot} c.args.triple.now None (c.in-None.ensures
-    ∙ ap (row_with {A = g.row.A.Denot} c.args.triple.now) c.in_ok-table.ensures))
-    c.constant.ensures
+returns g c = rw (builtin-same {A = g.row.A.Denot} c.args.triple.now _ c.in_ok-table.ensures
+    c.in-None.ensures) c.constant.ensures

@@ -6,16 +6,10 @@ use Rattle.cfgx_engine.specs.Flags.{Names}
 use Rattle.cfgx_engine.proofs.engine.flags.is_named.Goals as goal
 
 pub returns-then-names : goal.returns-then-names
-returns-then-names g c = (
-  λ is. (
-    c.loop-flag.flag-index,
-    c.flag-item.result,
-    c.loop-flag-test.true,
-    sym c.flag-item.is,
-    c.names.ensures.0 c.if-names.true,
-  ),
-  λ named. refl,
-)
+returns-then-names g c =
+    let i = c.loop-flag.flag-index in
+    let names = c.names.ensures.0 c.if-names.true in
+    (λ is. (i, c.flag-item.result, c.loop-flag-test.true, sym c.flag-item.is, names), λ named. refl)
 
 pub loop-flag-preserved : goal.loop-flag-preserved
 loop-flag-preserved g c =
@@ -26,7 +20,5 @@ loop-flag-preserved g c =
 -- all the flags were passed
 pub returns : goal.returns
 returns g c =
-    let none = rw (take_all _ _ c.loop-flag-test.false) at c.loop-flag.invariant in (
-      λ is. absurd cc,
-      λ named. absurd (none named.0 named.1 named.2 (rw named.3 named.4)),
-    )
+    let none = rw (take_all _ _ c.loop-flag-test.false) at c.loop-flag.invariant in
+    (λ is. absurd cc, λ (i, text, below, is, names). absurd (none i text below (rw is names)))

@@ -3,10 +3,6 @@ use Rattle.cfgx_engine.specs.Answer.{output_of}
 use Rattle.cfgx_engine.proofs.SectionLemmas.{TellsFault-section}
 use Rattle.cfgx_engine.proofs.engine.sections.push_line.Goals as goal
 
-pub returns-in_ok-text-in-Undivided : goal.returns-in_ok-text-in-Undivided
-returns-in_ok-text-in-Undivided g c =
-    rw (c.in-Undivided.is, c.faulty.ensures, c.in_ok-text-in-Undivided.ensures.ok)
-
 pub returns-in_ok-push_section-in-Ok : goal.returns-in_ok-push_section-in-Ok
 returns-in_ok-push_section-in-Ok g c =
     let adds = rw c.in-Ok.ensures.0 at c.in_ok-push_section-in-Ok.ensures in

@@ -1,4 +1,4 @@
-use Rattle.std.proofs.Common.{[], ◌==◌, ◌+◌, ap, append-nil, arith, inl, inr, length}
+use Rattle.std.proofs.Common.{[], ℕ, ◌==◌, ◌+◌, ap, append-nil, arith, inl, inr, length}
 use Rattle.std.specs.List.{slice_split}
 use Rattle.std.proofs.lemmas.Iterator.Consumers.{YieldsList-at}
 use Rattle.std.proofs.lemmas.Iterator.Splits.{YieldsList-from_str_split}
@@ -16,22 +16,9 @@ loop-text-init g c =
       yields = YieldsList-at c.into_iter-text-iterator.ensures.into_iter_gives
           (YieldsList-from_str_split 10 text (omega arith) c.split-text-items.ensures.text
           c.split-text-items.ensures.has_more c.split-text-items.ensures.pattern);
-      few = omega (
-        arith,
-        length-slice_split (λ byte. byte == 10) text,
-        count_by-le-length (λ byte. byte == 10) text,
-        c.requires,
-      );
+      few = omega (arith, length-slice_split {X = ℕ}, count_by-le-length {X = ℕ});
       prints = λ shown rest. rw c.new-written.ensures.items at rest;
     }
-
--- a line that is counted is one of few enough
-pub overflow_add-number : goal.overflow_add-number
-overflow_add-number g c =
-    let left = c.loop-text.invariant in
-    let next = yields-some left.pieces left.yields c.in-Some.text c.next.new.self
-    c.in-Some.ensures.steps in
-    omega (arith, left.few, ap length next.1)
 
 -- the lines in front of the faulty one were well
 pub returns-in-Some-told : goal.returns-in-Some-told
