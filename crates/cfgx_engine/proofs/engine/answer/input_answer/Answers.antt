@@ -11,9 +11,6 @@ returns-in-Ok g c =
 
 pub returns-in-Bytes : goal.returns-in-Bytes
 returns-in-Bytes g c =
-    rw (
-      c.in-Bytes.is,
-      ← c.as_slice.ensures.value,
-      false_from_ne_true _ (λ utf8.
-          c.in-Err.ensures.cases.0 (IsUtf8-from_is_utf8 _ utf8)),
-    ) c.constant.ensures
+    let none = false_from_ne_true _ (λ utf8.
+    c.in-Err.ensures.cases.0 (IsUtf8-from_is_utf8 _ utf8)) in
+    rw (c.in-Bytes.is, ← c.as_slice.ensures.value, none) c.constant.ensures

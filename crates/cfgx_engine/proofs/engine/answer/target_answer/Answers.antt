@@ -13,8 +13,7 @@ returns-in-Some g c =
     let text = c.args.text.now in
     let row = c.in-Some.row.now in
     let IsValue = HasValueOn {A = g.row.A.Denot} row text in
-    let built_in = builtin-same {A = g.row.A.Denot} c.args.triple.now _ c.in_ok-table.ensures
-    c.in-Some.ensures in
+    let built_in = builtin-same _ _ c.in_ok-table.ensures c.in-Some.ensures in
     rw (built_in, ← answer_on-same {A = g.row.A.Denot} row) (IfOk-weaker c.value_answer.result
     (λ (a : Answer g.row.A.Denot). ShowsResult {A = g.row.A.Denot} c.value_on.result (output_of a))
     (λ (a : Answer g.row.A.Denot). Shows IsValue (output_of a) ⊎ Refuses text (output_of a))
@@ -22,5 +21,4 @@ returns-in-Some g c =
     c.value_on.result (output_of a) c.value_on.ensures shows)) c.value_answer.ensures)
 
 pub returns : goal.returns
-returns g c = rw (builtin-same {A = g.row.A.Denot} c.args.triple.now _ c.in_ok-table.ensures
-    c.in-None.ensures) c.constant.ensures
+returns g c = rw (builtin-same _ _ c.in_ok-table.ensures c.in-None.ensures) c.constant.ensures

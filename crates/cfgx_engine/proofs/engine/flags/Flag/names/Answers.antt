@@ -26,12 +26,6 @@ returns g c =
       λ is. absurd cc,
       λ names.
           let tree = asks.0.only names.0 (rw c.self.view_is names.1) in
-          absurd (omega (
-            arith,
-            (none.0 (rw (
-              c.into_iter-named-iterator.ensures.into_iter_gives,
-              asks.1,
-              ← tree,
-            ) names.2)).1,
-          )),
+          let among = rw (tree, ← asks.1, ← c.into_iter-named-iterator.ensures.into_iter_gives)
+          at names.2 in absurd (omega (arith, (none.0 among).1)),
     )

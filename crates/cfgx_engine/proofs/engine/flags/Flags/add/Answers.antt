@@ -8,25 +8,19 @@ use Rattle.cfgx_engine.proofs.engine.flags.Flags.add.Goals as goal
 pub returns-in_err-parse-in-Some-clause-err : goal.returns-in_err-parse-in-Some-clause-err
 returns-in_err-parse-in-Some-clause-err g c =
     let p = err_from_is_err_and c.from_residual.result c.from_residual.ensures.1 in
-    rw (
-      p.1,
-      p.2,
-      strip_prefix_char 63 c.args.word.now (Some c.in-Some.text)
-          c.in-Some.ensures.cases (omega arith),
-    ) (BlamesFirst-parse {A = g.row.A.Denot}
-    c.in-Some.text.now _ c.in_err-parse-in-Some.ensures)
+    let marked = strip_prefix_char 63 c.args.word.now (Some c.in-Some.text) c.in-Some.ensures.cases
+    (omega arith) in
+    rw (p.1, p.2, marked)
+    (BlamesFirst-parse {A = g.row.A.Denot} c.in-Some.text.now _ c.in_err-parse-in-Some.ensures)
 
 pub returns-in_err-parse-in-None-clause-err : goal.returns-in_err-parse-in-None-clause-err
 returns-in_err-parse-in-None-clause-err g c =
     let p = err_from_is_err_and c.from_residual-in_err-parse-in-None.result
     c.from_residual-in_err-parse-in-None.ensures.1 in
     let word = c.args.word.now in
-    rw (
-      p.1,
-      p.2,
-      unknown_text-unmarked word
-          (strip_prefix_char 63 word None c.in-None.ensures.cases (omega arith)),
-    )
+    let unmarked = unknown_text-unmarked word
+    (strip_prefix_char 63 word None c.in-None.ensures.cases (omega arith)) in
+    rw (p.1, p.2, unmarked)
     (BlamesFirst-parse {A = g.row.A.Denot} word _ c.in_err-parse-in-None.ensures)
 
 pub returns-clause-ok : goal.returns-clause-ok
@@ -36,10 +30,9 @@ returns-clause-ok g c =
     elim c.match-strip_prefix.branch [
       | goal.in-Some+in_ok-parse-in-Some+in_ok-push-in-Some w ↦
           let parsed = w.in_ok-parse-in-Some.ensures in
-          rw (
-            strip_prefix_char 63 word (Some w.in-Some.text) w.in-Some.ensures.cases (omega arith),
-            w.self-is,
-          ) (record {
+          let marked = strip_prefix_char 63 word (Some w.in-Some.text) w.in-Some.ensures.cases
+          (omega arith) in
+          rw (marked, w.self-is) (record {
             one = parsed.2.0;
             known_are = sym (append-nil old.known.items);
             unknown_are = rw (w.in_ok-push-in-Some.ensures.items, parsed.0);
