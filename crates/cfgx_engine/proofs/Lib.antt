@@ -1,7 +1,4 @@
 pub mod FlagLemmas
-pub mod InputLemmas
-pub mod LineLemmas
-pub mod Members
 pub mod OneOutput
 pub mod OutputLemmas
 pub mod PickLemmas

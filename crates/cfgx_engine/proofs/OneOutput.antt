@@ -1,10 +1,9 @@
--- That a request has one output.
-use Rattle.std.proofs.Common.{◌≡◌, ℕ, Bool, true, false, List, [], ◌∷◌, refl, ap, sym, subst, ◌∙◌}
-use Rattle.std.proofs.Common.{⊎_elim, Option, Some, None, map}
-use Rattle.std.specs.Prelude.{◌⊎◌, MatchOption, length, nat_lt}
-use Rattle.std.specs.Bool.{MatchBool}
+-- That a request has one output, whose status is not that of a refused run.
+use Rattle.std.proofs.Common.{◌≡◌, ◌⊎◌, ℕ, ◌+◌, ◌<◌, Bool, true, false, List, [], ◌∷◌, Option, Some}
+use Rattle.std.proofs.Common.{None, MatchBool, MatchOption, refl, ap, sym, ◌∙◌, inl, inr, arith}
+use Rattle.std.proofs.Common.{rules, map, length, nat_lt, ⊎_elim}
 use Rattle.std.specs.Str.{is_utf8}
-use Rattle.std.specs.List.{AllByRecursion, AllZip}
+use Rattle.std.specs.List.{AllByRecursion, AllZip, concat}
 use Rattle.std.specs.declared.alloc.Global.{Global}
 use Rattle.cfgx_syntax.specs.Stripping.{strip}
 use Rattle.cfgx_syntax.specs.Error.{fault_in}
@@ -12,159 +11,190 @@ use Rattle.cfgx_targets.specs.Builtins.{builtin_rows}
 use Rattle.cfgx_targets.specs.Table.{row_with}
 use Rattle.cfgx_targets.specs.declared.info.TargetInfo.{TargetInfo}
 use Rattle.cfgx_grammar.specs.Question.{Question}
-use Rattle.cfgx_grammar.specs.Tree.{Tree, asked}
-use Rattle.cfgx_grammar.specs.Answer.{HasOneTree}
-use Rattle.cfgx_grammar.specs.Filling.{three_valued}
-use Rattle.cfgx_grammar.specs.Fold.{fold}
+use Rattle.cfgx_grammar.specs.Tree.{asked}
+use Rattle.cfgx_grammar.specs.Answer.{HasOneTree, IsRefused}
 use Rattle.cfgx_engine.specs.Flags.{IsAnswer, flag_text, known_texts, unknown_texts}
-use Rattle.cfgx_engine.specs.Output.{Output, HasValue, HasValueOn, Refuses}
-use Rattle.cfgx_engine.specs.Request.{Request}
 use Rattle.cfgx_engine.specs.Input.{input_limit}
-use Rattle.cfgx_engine.specs.Prints.{Picks, Prints}
-use Rattle.cfgx_engine.specs.Sections.{line_of, lines_of}
-use Rattle.cfgx_engine.proofs.SectionLemmas.{same_lines, same_tree}
-use Rattle.cfgx_engine.specs.Output.{Lists, RefusesFirst, Shows, answer_on, fault_output, lines}
-use Rattle.cfgx_engine.specs.Output.{unknown_triple, value_output}
+use Rattle.cfgx_engine.specs.Output.{HasValue, HasValueOn, Lists, Output, Refuses, RefusesFirst}
+use Rattle.cfgx_engine.specs.Output.{Shows, fault_output, unknown_triple, usage, value_output}
+use Rattle.cfgx_engine.specs.Prints.{Picks, Prints, not_utf8, too_long}
+use Rattle.cfgx_engine.specs.Request.{Request}
+use Rattle.cfgx_engine.specs.Sections.{IsWell, Line, PrintsLine, PrintsLines, TellsFault}
+use Rattle.cfgx_engine.specs.Sections.{TellsFirst, line_fault, line_of, lines_of}
+use Rattle.cfgx_engine.proofs.SectionLemmas.{line_well}
 
--- a text that has a tree is not refused
-refused_alone : (text : List ℕ) (shown : Output) → HasOneTree (strip text) → Refuses text shown → ⊥
-refused_alone text shown one refused = refused.1.0 one.tree one.has_tree
+-- at most one thing fits
+abbrev IsSingle : {X : Type 0} → (X → Type 0) → Type 0
+IsSingle {X} Fits = (one other : X) → Fits one → Fits other → one ≡ other
 
-same_refusal : (text : List ℕ) (one other : Output) → Refuses text one → Refuses text other
-    → one ≡ other
-same_refusal text one other this that =
-    this.2 ∙ ap (λ f. fault_output (fault_in (strip text) f))
-    (sym (this.1.1.only that.0 that.1.1.has_fault)) ∙ sym that.2
+-- at most one output fits, and a run that writes it was not refused
+abbrev pub IsDecided : (Output → Type 0) → Type 0
+IsDecided Fits =
+    (one other : Output) → Fits one → Fits other → (one ≡ other) × (one.status < 3)
 
--- the first text that has no tree is one
-same_first : (texts : List (List ℕ)) (one other : Output) → RefusesFirst texts one
-    → RefusesFirst texts other → one ≡ other
-same_first [] one other this that = absurd this
-same_first (text ∷ texts) one other this that =
-    ⊎_elim (λ r. ⊎_elim (λ s. same_refusal text one other r s)
-    (λ l. absurd (refused_alone text one l.0 r)) that)
-    (λ l. ⊎_elim (λ s. absurd (refused_alone text other l.0 s))
-    (λ m. same_first texts one other l.1 m.1) that) this
+-- an output that is written out
+decided : (shown : Output) → shown.status < 3 → IsDecided (λ output. output ≡ shown)
+decided shown low one other this that =
+    (this ∙ sym that, omega (arith, ap (λ (o : Output). o.status) this))
 
-each_tree : (flags : List (List ℕ)) (shown : Output)
+-- one that is made of the one thing that fits
+decided-made : {X : Type 0} {Fits : X → Type 0} (make : X → Output) → IsSingle Fits
+    → ((x : X) → (make x).status < 3) → IsDecided (λ output. (x : X) × Fits x × (output ≡ make x))
+decided-made make single low one other this that = (
+  this.2 ∙ ap make (single this.0 that.0 this.1 that.1) ∙ sym that.2,
+  omega (arith, low this.0, ap (λ (o : Output). o.status) this.2),
+)
+
+-- one of two kinds that exclude each other
+decided-either : {This That : Output → Type 0} → IsDecided This → IsDecided That
+    → ((one other : Output) → This one → That other → ⊥)
+    → IsDecided (λ output. This output ⊎ That output)
+decided-either this that apart one other (inl here) (inl there) = this one other here there
+decided-either this that apart one other (inr here) (inr there) = that one other here there
+decided-either this that apart one other (inl here) (inr there) =
+    absurd (apart one other here there)
+decided-either this that apart one other (inr here) (inl there) =
+    absurd (apart other one there here)
+
+-- one that is chosen by a test, or by the row of a target
+decided-test : {On Off : Output → Type 0} (test : Bool) → IsDecided On → IsDecided Off
+    → IsDecided (λ output. MatchBool test (On output) (Off output))
+decided-test true on off = on
+decided-test false on off = off
+
+decided-row : {On : TargetInfo Global → Output → Type 0} (found : Option (TargetInfo Global))
+    → ((row : TargetInfo Global) → IsDecided (On row))
+    → IsDecided (λ output. MatchOption found (output ≡ unknown_triple) (λ row. On row output))
+decided-row None on = decided unknown_triple (omega arith)
+decided-row (Some row) on = on row
+
+-- lists whose items fit one by one
+AllZip-single : {X Y : Type 0} {R : X → Y → Type 0} → ((x : X) → IsSingle (R x)) → (xs : List X)
+    → IsSingle (AllZip R xs)
+AllZip-single each [] [] [] this that = refl
+AllZip-single each (x ∷ xs) (y ∷ ys) (z ∷ zs) this that =
+    let first = each x y z this.0 that.0 in
+    let others = AllZip-single each xs ys zs this.1 that.1 in cc
+AllZip-single each _ _ _ this that = absurd (search rules)
+
+-- the first fault of a text, and of the first text that has no tree
+IsRefused-single : (text : List ℕ) → IsSingle (IsRefused text)
+IsRefused-single text one other this that = sym (this.1.only other that.1.has_fault)
+
+Refuses-decided : (text : List ℕ) → IsDecided (Refuses text)
+Refuses-decided text = decided-made (λ fault. fault_output (fault_in (strip text) fault))
+    (IsRefused-single (strip text)) (λ fault. omega arith)
+
+RefusesFirst-decided : (texts : List (List ℕ)) → IsDecided (RefusesFirst texts)
+RefusesFirst-decided [] = λ one other this that. absurd this
+RefusesFirst-decided (text ∷ texts) = decided-either (Refuses-decided text)
+    (λ one other this that. RefusesFirst-decided texts one other this.1 that.1)
+    (λ one other this later. absurd (this.1.0 later.0.tree later.0.has_tree))
+
+none_refused : (flags : List (List ℕ)) (shown : Output)
     → AllByRecursion (λ flag. HasOneTree (strip (flag_text flag))) flags
     → RefusesFirst (map flag_text flags) shown → ⊥
-each_tree [] shown each refused = refused
-each_tree (flag ∷ flags) shown each refused =
-    ⊎_elim (λ r. refused_alone (flag_text flag) shown each.0 r)
-    (λ l. each_tree flags shown each.1 l.1) refused
+none_refused [] shown each told = told
+none_refused (flag ∷ flags) shown each (inl told) = told.1.0 each.0.tree each.0.has_tree
+none_refused (flag ∷ flags) shown each (inr later) = none_refused flags shown each.1 later.1
 
--- a question has one answer
-same_answer : (known unknown : List (List ℕ)) (question : Question) (one other : Option Bool)
-    → IsAnswer known unknown question one → IsAnswer known unknown question other → one ≡ other
-same_answer known unknown question (Some true) (Some true) this that = refl
-same_answer known unknown question (Some true) (Some false) this that = absurd (that.0 this)
-same_answer known unknown question (Some true) None this that = absurd (that.0 this)
-same_answer known unknown question (Some false) (Some true) this that = absurd (this.0 that)
-same_answer known unknown question (Some false) (Some false) this that = refl
-same_answer known unknown question (Some false) None this that = absurd (this.1 that.1)
-same_answer known unknown question None (Some true) this that = absurd (this.0 that)
-same_answer known unknown question None (Some false) this that = absurd (that.1 this.1)
-same_answer known unknown question None None this that = refl
+-- the predicates of a text
+Lists-decided : (text : List ℕ) → IsDecided (Lists text)
+Lists-decided text one other this that =
+    let same = that.0.only this.0.tree this.0.has_tree in
+    (cc, omega (arith, ap (λ (o : Output). o.status) this.1))
 
-same_answers : (known unknown : List (List ℕ)) (questions : List Question)
-    (one other : List (Option Bool)) → AllZip (IsAnswer known unknown) questions one
-    → AllZip (IsAnswer known unknown) questions other → one ≡ other
-same_answers known unknown [] [] [] this that = refl
-same_answers known unknown [] [] (b ∷ bs) this that = absurd that
-same_answers known unknown [] (a ∷ as') other this that = absurd this
-same_answers known unknown (q ∷ qs) [] other this that = absurd this
-same_answers known unknown (q ∷ qs) (a ∷ as') [] this that = absurd that
-same_answers known unknown (q ∷ qs) (a ∷ as') (b ∷ bs) this that =
-    let first = same_answer known unknown q a b this.0 that.0 in
-    let others = same_answers known unknown qs as' bs this.1 that.1 in cc
+-- a value by the answers of the flags, or by those of a target
+IsAnswer-single : (known unknown : List (List ℕ)) (question : Question)
+    → IsSingle (IsAnswer known unknown question)
+IsAnswer-single known unknown question (Some true) (Some true) this that = refl
+IsAnswer-single known unknown question (Some false) (Some false) this that = refl
+IsAnswer-single known unknown question None None this that = refl
+IsAnswer-single known unknown question (Some true) _ this that = absurd (that.0 this)
+IsAnswer-single known unknown question _ (Some true) this that = absurd (this.0 that)
+IsAnswer-single known unknown question (Some false) None this that = absurd (this.1 that.1)
+IsAnswer-single known unknown question None (Some false) this that = absurd (that.1 this.1)
 
--- the flags give one value
-same_value : (text : List ℕ) (flags : List (List ℕ)) (one other : Option Bool)
-    → HasValue text flags one → HasValue text flags other → one ≡ other
-same_value text flags one other this that =
-    let trees = same_tree (strip text) this.one that.one in
-    let answers = same_answers (known_texts flags) (unknown_texts flags) (asked this.one.tree)
-    this.answers that.answers this.are_answers
-    (subst (λ tree. AllZip (IsAnswer (known_texts flags) (unknown_texts flags)) (asked tree)
-    that.answers) trees that.are_answers) in
-    this.value_is ∙ ap (fold three_valued this.one.tree) answers
-    ∙ ap (λ tree. fold three_valued tree that.answers) (sym trees) ∙ sym that.value_is
+HasValue-single : (text : List ℕ) (flags : List (List ℕ)) → IsSingle (HasValue text flags)
+HasValue-single text flags one other this that =
+    let same = that.one.only this.one.tree this.one.has_tree in
+    let answers = AllZip-single (IsAnswer-single (known_texts flags) (unknown_texts flags))
+    (asked that.one.tree) this.answers that.answers (rw same at this.are_answers)
+    that.are_answers in cc
 
-same_value_on : {A : Type 0} (row : TargetInfo A) (text : List ℕ) (one other : Option Bool)
-    → HasValueOn row text one → HasValueOn row text other → one ≡ other
-same_value_on row text one other this that =
-    this.1 ∙ ap (λ tree. fold three_valued tree (map (answer_on row) (asked tree)))
-    (sym (same_tree (strip text) this.0 that.0)) ∙ sym that.1
+HasValueOn-single : {A : Type 0} (row : TargetInfo A) (text : List ℕ)
+    → IsSingle (HasValueOn row text)
+HasValueOn-single row text one other this that =
+    let same = that.0.only this.0.tree this.0.has_tree in cc
 
-same_shown : (IsValue : Option Bool → Type 0) (one other : Output)
-    → ((v w : Option Bool) → IsValue v → IsValue w → v ≡ w)
-    → Shows IsValue one → Shows IsValue other → one ≡ other
-same_shown IsValue one other same this that =
-    this.2 ∙ ap value_output (same this.0 that.0 this.1 that.1) ∙ sym that.2
+Shows-decided : {IsValue : Option Bool → Type 0} → IsSingle IsValue → IsDecided (Shows IsValue)
+Shows-decided single = decided-made value_output single (λ value. omega arith)
 
-same_value_or_fault : (text : List ℕ) (one other : Output) (row : TargetInfo Global)
-    → Shows (HasValueOn row text) one ⊎ Refuses text one
-    → Shows (HasValueOn row text) other ⊎ Refuses text other → one ≡ other
-same_value_or_fault text one other row this that =
-    ⊎_elim (λ s. ⊎_elim
-    (λ t. same_shown (HasValueOn row text) one other (same_value_on row text) s t)
-    (λ r. absurd (refused_alone text other s.1.0 r)) that)
-    (λ r. ⊎_elim (λ t. absurd (refused_alone text one t.1.0 r))
-    (λ q. same_refusal text one other r q) that) this
+-- what the lines of sections print
+PrintsLine-single : {A : Type 0} (row : TargetInfo A) (line : Line)
+    → IsSingle (PrintsLine row line)
+PrintsLine-single row Line.empty one other this that = this ∙ sym that
+PrintsLine-single row Line.undivided one other this that = absurd this
+PrintsLine-single row (Line.section name condition) one other this that =
+    let same = that.0.only this.0.tree this.0.has_tree in cc
 
-same_cases : (one other : Output) (test : Bool) (P Q P' Q' : Type 0) → (P → P' → one ≡ other)
-    → (Q → Q' → one ≡ other) → MatchBool test P Q → MatchBool test P' Q' → one ≡ other
-same_cases one other true P Q P' Q' on off this that = on this that
-same_cases one other false P Q P' Q' on off this that = off this that
+TellsFault-decided : (number : ℕ) (line : Line) → IsDecided (TellsFault number line)
+TellsFault-decided number Line.empty = λ one other this that. absurd this
+TellsFault-decided number Line.undivided = decided _ (omega arith)
+TellsFault-decided number (Line.section name condition) =
+    decided-made (λ fault. line_fault number (fault_in (strip condition) fault))
+    (IsRefused-single (strip condition)) (λ fault. omega arith)
 
-same_picks : {A : Type 0} (row : TargetInfo A) (input : List ℕ) (one other : Output)
-    → Picks row input one → Picks row input other → one ≡ other
-same_picks row input one other this that =
-    same_cases one other (nat_lt input_limit (length input)) _ _ _ _
-    (λ t u. t ∙ sym u)
-    (λ t u. same_cases one other (is_utf8 input) _ _ _ _
-    (λ l m. same_lines row (map line_of (lines_of input)) one other l m) (λ n o. n ∙ sym o) t u)
-    this that
+told_alone : (number : ℕ) (line : Line) (shown : Output) → TellsFault number line shown
+    → IsWell line → ⊥
+told_alone number Line.empty shown told well = told
+told_alone number Line.undivided shown told well = well
+told_alone number (Line.section name condition) shown told well =
+    told.1.0 well.tree well.has_tree
 
--- what is written on a target, or where there is none
-same_on : (one other : Output) (On : TargetInfo Global → Output → Type 0)
-    → ((row : TargetInfo Global) → On row one → On row other → one ≡ other)
-    → (row : Option (TargetInfo Global))
-    → MatchOption row (one ≡ unknown_triple) (λ r. On r one)
-    → MatchOption row (other ≡ unknown_triple) (λ r. On r other) → one ≡ other
-same_on one other On same None this that = this ∙ sym that
-same_on one other On same (Some row) this that = same row this that
+TellsFirst-decided : (number : ℕ) (lines : List Line) → IsDecided (TellsFirst number lines)
+TellsFirst-decided number [] = λ one other this that. absurd this
+TellsFirst-decided number (line ∷ lines) = decided-either (TellsFault-decided number line)
+    (λ one other this that. TellsFirst-decided (number + 1) lines one other this.1 that.1)
+    (λ one other this later. told_alone number line one this later.0)
 
-same_list : (text : List ℕ) (one other : Output) → Lists text one → Lists text other
-    → one ≡ other
-same_list text one other this that =
-    this.1 ∙ ap (λ (tree : Tree Question). record { bytes = lines (asked tree); status = 0 })
-    (sym (same_tree (strip text) this.0 that.0)) ∙ sym that.1
+module _ {A : Type 0} (row : TargetInfo A) where
+  none_told : (number : ℕ) (lines : List Line) (written : List (List ℕ)) (shown : Output)
+      → AllZip (PrintsLine row) lines written → TellsFirst number lines shown → ⊥
+  none_told number [] written shown each told = told
+  none_told number (_ ∷ _) [] shown each told = each
+  none_told number (line ∷ lines) (text ∷ written) shown each (inl told) =
+      told_alone number line shown told (line_well row line text each.0)
+  none_told number (line ∷ lines) (text ∷ written) shown each (inr later) =
+      none_told (number + 1) lines written shown each.1 later.1
+
+  PrintsLines-decided : (lines : List Line) → IsDecided (PrintsLines row lines)
+  PrintsLines-decided lines = decided-either
+      (decided-made (λ written. record { bytes = concat written; status = 0 })
+      (AllZip-single (PrintsLine-single row) lines) (λ written. omega arith))
+      (TellsFirst-decided 1 lines)
+      (λ one other all told. none_told 1 lines all.0 other all.1 told)
+
+  Picks-decided : (input : List ℕ) → IsDecided (Picks row input)
+  Picks-decided input = decided-test (nat_lt input_limit (length input))
+      (decided too_long (omega arith)) (decided-test (is_utf8 input)
+      (PrintsLines-decided (map line_of (lines_of input))) (decided not_utf8 (omega arith)))
 
 -- a request has one output on an input
-pub Prints-one : (request : Request) (input : List ℕ) (one other : Output)
-    → Prints request input one → Prints request input other → one ≡ other
-Prints-one (Request.parse text) input one other this that =
-    ⊎_elim (λ l. ⊎_elim (λ m. same_list text one other l m)
-    (λ r. absurd (refused_alone text other l.0 r)) that)
-    (λ r. ⊎_elim (λ m. absurd (refused_alone text one m.0 r))
-    (λ q. same_refusal text one other r q) that) this
-Prints-one (Request.eval text flags) input one other this that =
-    let alone = λ (shown : Output) (value : Option Bool) (has : HasValue text flags value)
-    (refused : RefusesFirst (text ∷ map flag_text flags) shown).
-    ⊎_elim (λ r. refused_alone text shown has.one r)
-    (λ l. each_tree flags shown has.each_flag l.1) refused in
-    ⊎_elim (λ s. ⊎_elim
-    (λ t. same_shown (HasValue text flags) one other (same_value text flags) s t)
-    (λ r. absurd (alone other s.0 s.1 r)) that)
-    (λ r. ⊎_elim (λ t. absurd (alone one t.0 t.1 r))
-    (λ q. same_first (text ∷ map flag_text flags) one other r q) that) this
-Prints-one (Request.target triple text) input one other this that =
-    same_on one other (λ row shown. Shows (HasValueOn row text) shown ⊎ Refuses text shown)
-    (same_value_or_fault text one other) (row_with {A = Global} triple builtin_rows) this that
-Prints-one (Request.pick triple) input one other this that =
-    same_on one other (λ row shown. Picks row input shown)
-    (λ row t u. same_picks row input one other t u) (row_with {A = Global} triple builtin_rows)
-    this that
-Prints-one Request.wrong_use input one other this that = this ∙ sym that
+pub Prints-decided : (request : Request) (input : List ℕ) → IsDecided (Prints request input)
+Prints-decided (Request.parse text) input =
+    decided-either (Lists-decided text) (Refuses-decided text)
+    (λ one other this told. told.1.0 this.0.tree this.0.has_tree)
+Prints-decided (Request.eval text flags) input =
+    decided-either (Shows-decided (HasValue-single text flags))
+    (RefusesFirst-decided (text ∷ map flag_text flags))
+    (λ one other this told. none_refused flags other this.1.each_flag (
+    ⊎_elim (λ first. absurd (first.1.0 this.1.one.tree this.1.one.has_tree)) (λ later. later.1)
+    told))
+Prints-decided (Request.target triple text) input =
+    decided-row (row_with {A = Global} triple builtin_rows)
+    (λ row. decided-either (Shows-decided (HasValueOn-single row text)) (Refuses-decided text)
+    (λ one other this told. told.1.0 this.1.0.tree this.1.0.has_tree))
+Prints-decided (Request.pick triple) input =
+    decided-row (row_with {A = Global} triple builtin_rows) (λ row. Picks-decided row input)
+Prints-decided Request.wrong_use input = decided usage (omega arith)

@@ -1,13 +1,17 @@
--- No call has failed, and the bytes in front of `filled` were read.
-use Rattle.std.proofs.Common.{◌+◌, ◌-◌, ◌≡◌}
-use Rattle.cfgx_engine.proofs.InputLemmas.{HasRead}
+-- No call has failed, and the bytes in front of `filled` were read; there is room for one byte more
+-- than the limit at most.
+use Rattle.std.proofs.Common.{◌+◌, ◌-◌, ◌≡◌, ◌≤◌, length, take}
+use Rattle.std.specs.Io.KnownBytes.{Consumes}
+use Rattle.cfgx_engine.specs.Input.{input_limit}
 use Rattle.cfgx_engine.proofs.engine.reading.read_input.Given as goal
 
 abbrev pub invariant-loop-filled : goal.invariant-loop-filled
 invariant-loop-filled g l = record {
   count : g.R.Source.failures l.reader ≡ g.R.Source.failures l.fn.reader;
-  read : HasRead (g.R.Source.unread l.fn.reader) (g.R.Source.unread l.reader) l.bytes.items
-      l.filled;
+  read : Consumes (g.R.Source.unread l.fn.reader) (g.R.Source.unread l.reader)
+      (take l.filled l.bytes.items);
+  inside : l.filled ≤ length l.bytes.items;
+  within : length l.bytes.items ≤ input_limit + 1;
 }
 
 abbrev pub decreases-loop-filled : goal.decreases-loop-filled

@@ -1,35 +1,25 @@
-use Rattle.std.proofs.Common.{◌∙◌, ◌++◌, ap, subst}
-use Rattle.std.specs.Prelude.{codes}
-use Rattle.cfgx_grammar.specs.Filling.{PolarFillings}
-use Rattle.cfgx_engine.specs.Sections.{filling_line}
-use Rattle.cfgx_engine.proofs.VerdictLemmas.{AddsFillings-of, PolarFillings-of}
-use Rattle.cfgx_engine.proofs.VerdictLemmas.{has_fillings}
+use Rattle.std.proofs.Common.{◌∙◌, None}
+use Rattle.std.proofs.lemmas.Option.{none-some}
+use Rattle.cfgx_engine.proofs.VerdictLemmas.{same_value}
 use Rattle.cfgx_engine.proofs.engine.sections.push_fillings.Goals as goal
 
 -- the value is unknown, so there are fillings
 pub unreachable-requires : goal.unreachable-requires
 unreachable-requires g c =
-    let row = c.args.row.now in
-    let condition = c.args.condition.now in
-    let fills = PolarFillings-of {A = g.row.A.Denot} row condition c.requires _ _
-    c.in_ok-found.found c.predicates.ensures.asked
-    (c.as_slice.ensures.value ∙ c.in_ok-answers.ensures) c.in_ok-found.ensures.fillings in
-    has_fillings {A = g.row.A.Denot} row condition c.requires g.row.A.Denot
-    (subst (PolarFillings c.requires.one.tree _) c.in_default.is fills)
+    let fills = rw c.in_default.is at c.in_ok-found.ensures.fillings in
+    let asks = c.predicates.ensures.asked in
+    let asked = c.requires.one.only asks.0.tree asks.0.has_tree in
+    let filled = c.requires.one.only fills.0.tree fills.0.has_tree in
+    let known = rw (c.as_slice.ensures.value, c.in_ok-answers.ensures, asks.1, asked, filled)
+    at fills.1.1 in none-some _ (same_value None _ c.requires.value_is ∙ known)
 
 pub returns : goal.returns
 returns g c =
-    let row = c.args.row.now in
-    let condition = c.args.condition.now in
-    let fills = PolarFillings-of {A = g.row.A.Denot} row condition c.requires _ _
-    c.in_ok-found.found c.predicates.ensures.asked
-    (c.as_slice.ensures.value ∙ c.in_ok-answers.ensures) c.in_ok-found.ensures.fillings in
-    AddsFillings-of {A = g.row.A.Denot} row condition c.requires c.in-Some.with_true
-    c.in-Some.with_false c.args.written.now.items c.push_filling.new.written.items _
-    (subst (PolarFillings c.requires.one.tree _) c.in-Some.is fills)
-    (c.in_ok-push_filling.ensures
-    ∙ ap (λ filling. c.args.written.now.items ++ filling_line (codes "\ttrue with ") filling)
-    c.as_slice-2.ensures.value)
-    (c.in_ok-push_filling-2.ensures
-    ∙ ap (λ filling. c.push_filling.new.written.items
-    ++ filling_line (codes "\tfalse with ") filling) c.as_slice-3.ensures.value)
+    let fills = rw c.in-Some.is at c.in_ok-found.ensures.fillings in
+    let asks = c.predicates.ensures.asked in
+    let tree = fills.0.only asks.0.tree asks.0.has_tree in (
+      fills.0,
+      rw (c.in_ok-push_filling-2.ensures, c.in_ok-push_filling.ensures)
+          (rw (c.as_slice-2.ensures.value, c.as_slice-3.ensures.value, fills.1.1, fills.1.2)
+          (rw (c.as_slice.ensures.value, c.in_ok-answers.ensures, asks.1, tree))),
+    )

@@ -1,25 +1,34 @@
-use Rattle.std.proofs.Common.{Some, false, subst, true}
-use Rattle.cfgx_grammar.specs.Matching.{meets}
-use Rattle.cfgx_engine.specs.Verdicts.{IsVerdict}
-use Rattle.cfgx_engine.proofs.VerdictLemmas.{AddsVerdict-by, AddsVerdict-unknown}
+use Rattle.std.proofs.Common.{◌≡◌, ◌++◌, ℕ, List, codes, Some, None, true, false, sym, ◌∙◌}
+use Rattle.std.proofs.Common.{append_assoc}
+use Rattle.cfgx_engine.proofs.VerdictLemmas.{same_value}
 use Rattle.cfgx_engine.proofs.engine.sections.push_verdict.Goals as goal
 
+-- what is added behind a text is added with it
+behind : (old text one two between new : List ℕ) → between ≡ old ++ text
+    → new ≡ between ++ one ++ two → new ≡ old ++ (text ++ one ++ two)
+behind old text one two between new first rest =
+    cc (append_assoc old text one, append_assoc old (text ++ one) two)
+
+-- the value is that of the verdict
 pub returns-in_ok-extend_from_slice-in-Yes : goal.returns-in_ok-extend_from_slice-in-Yes
 returns-in_ok-extend_from_slice-in-Yes g c =
-    AddsVerdict-by {A = g.row.A.Denot} c.args.row.now c.args.condition.now _ _ c.args.verdict
-    (Some true) c.requires c.in-Yes.is c.in_ok-extend_from_slice-in-Yes.ensures.items
+    let value = same_value (Some true) _ (sym c.in-Yes.is ∙ c.requires.value_is) in
+    (c.requires.one, rw (← value) c.in_ok-extend_from_slice-in-Yes.ensures.items)
 
 pub returns-in_ok-extend_from_slice-in-No : goal.returns-in_ok-extend_from_slice-in-No
 returns-in_ok-extend_from_slice-in-No g c =
-    AddsVerdict-by {A = g.row.A.Denot} c.args.row.now c.args.condition.now _ _ c.args.verdict
-    (Some false) c.requires c.in-No.is c.in_ok-extend_from_slice-in-No.ensures.items
+    let value = same_value (Some false) _ (sym c.in-No.is ∙ c.requires.value_is) in
+    (c.requires.one, rw (← value) c.in_ok-extend_from_slice-in-No.ensures.items)
 
 pub returns-in_ok-push_fillings-in-Unknown : goal.returns-in_ok-push_fillings-in-Unknown
 returns-in_ok-push_fillings-in-Unknown g c =
-    AddsVerdict-unknown {A = g.row.A.Denot} c.args.row.now c.args.condition.now _ _ _
-    c.args.verdict c.requires c.in-Unknown.is c.in_ok-extend_from_slice-in-Unknown.ensures.items
-    c.in_ok-push_fillings-in-Unknown.ensures
+    let adds = c.in_ok-push_fillings-in-Unknown.ensures in
+    let tree = adds.0.only c.requires.one.tree c.requires.one.has_tree in
+    let value = rw tree at (same_value None _ (sym c.in-Unknown.is ∙ c.requires.value_is)) in (
+      adds.0,
+      rw (← value) (behind c.args.written.now.items (codes "\tunknown\n") _ _ _ _
+          c.in_ok-extend_from_slice-in-Unknown.ensures.items adds.1),
+    )
 
 pub push_fillings-requires : goal.push_fillings-requires
-push_fillings-requires g c = subst (λ given.
-    IsVerdict (meets c.args.row.now) c.args.condition.now given) c.in-Unknown.is c.requires
+push_fillings-requires g c = rw c.in-Unknown.is at c.requires

@@ -1,16 +1,23 @@
-use Rattle.std.proofs.Common.{Some, None, arith, sym}
+use Rattle.std.proofs.Common.{◌≡◌, ◌≢◌, ℕ, ◌-◌, ◌+◌, ◌==◌, List, [], ◌∷◌, ◌++◌, None, length, take}
+use Rattle.std.proofs.Common.{slice_index, refl, ap, sym, ◌∙◌, arith, eqb-true}
+use Rattle.std.specs.Str.Lines.{strip_carriage_return}
+use Rattle.std.proofs.lemmas.Bool.{false_from_ne_true}
+use Rattle.std.proofs.lemmas.List.{take_all, take_more}
 use Rattle.std.proofs.lemmas.Str.Pattern.{strip_suffix_char}
-use Rattle.cfgx_engine.proofs.LineLemmas.{keep-return, strip-return}
 use Rattle.cfgx_engine.proofs.engine.sections.without_return.Goals as goal
 
-pub returns-in-Some : goal.returns-in-Some
-returns-in-Some c =
-    let text = c.args.text.now in
-    sym (strip-return text c.in-Some.text.now
-    (strip_suffix_char 13 text (Some c.in-Some.text) c.in-Some.ensures.cases (omega arith)))
+-- only a carriage return at the end is taken off
+keep-return : (text : List ℕ) → ((front : List ℕ) → text ≢ front ++ 13 ∷ [])
+    → strip_carriage_return text ≡ text
+keep-return [] lacks = refl
+keep-return (byte ∷ rest) lacks =
+    let text = byte ∷ rest in
+    let last = length text - 1 in
+    rw (false_from_ne_true (slice_index text last == 13) (λ is. lacks (take last text)
+    (sym (take_all (last + 1) text (omega arith)) ∙ take_more text last 0 (omega arith)
+    ∙ ap (λ (b : ℕ). take last text ++ b ∷ []) (eqb-true _ _ is))))
 
 pub returns-in-None : goal.returns-in-None
 returns-in-None c =
-    let text = c.args.text.now in
-    sym (keep-return text
-    (strip_suffix_char 13 text None c.in-None.ensures.cases (omega arith)))
+    sym (keep-return c.args.text.now
+    (strip_suffix_char 13 c.args.text.now None c.in-None.ensures.cases (omega arith)))

@@ -1,7 +1,8 @@
-use Rattle.cfgx_engine.proofs.OutputLemmas.{HasValueOn-verdict}
+use Rattle.std.proofs.Common.{◌∙◌}
+use Rattle.cfgx_engine.proofs.VerdictLemmas.{same_value}
 use Rattle.cfgx_engine.proofs.engine.target.value_on.Goals as goal
 
 pub returns : goal.returns
 returns g c =
-    HasValueOn-verdict {A = g.row.A.Denot} c.args.text.now _ c.args.row.now _ _
-    c.in_ok-condition.ensures.0 c.in_ok-verdict_on.ensures c.value_of.ensures
+    let decided = rw c.in_ok-condition.ensures.0 at c.in_ok-verdict_on.ensures in
+    (decided.one, same_value _ _ (c.value_of.ensures ∙ decided.value_is))

@@ -5,4 +5,4 @@ use Rattle.cfgx_engine.proofs.engine.flags.Flags.parse.Given as goal
 
 -- the flags of the words that were passed
 abbrev pub invariant-loop-word : goal.invariant-loop-word
-invariant-loop-word g l = AreFlags (take l.word-index (texts l.words)) l.flags
+invariant-loop-word g l = AreFlags (texts (take l.word-index l.words)) l.flags
