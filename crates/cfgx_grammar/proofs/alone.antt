@@ -165,12 +165,7 @@ spelt k v question is quoted says spelled = record {
 
 -- a word of more than three letters names no function
 long_key : (word : List ℕ) → IsWord word → 3 < length word → IsKey word
-long_key word is long = record {
-  spelled = is;
-  not_all = λ e. omega (arith, long, ap length e);
-  not_any = λ e. omega (arith, long, ap length e);
-  not_not = λ e. omega (arith, long, ap length e);
-}
+long_key word is long = grind arith
 
 -- digits have no quote
 no_quote_digit : (byte : ℕ) → digit_value byte < 10 → is_quote byte ≡ false

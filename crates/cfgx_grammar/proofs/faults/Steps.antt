@@ -102,49 +102,27 @@ Says _ begun key equals names = Unit {0}
 says_token : (kind : Kind) (item : Item) (before : List Item) (token : Token)
     → takes (Some token) kind ≡ true → Says kind (begun_token item before token)
     (key_token item token) (equals_token before token) (names_function token)
-says_token Kind.closing item before token may = tt
-says_token Kind.comma item before token may = tt
-says_token Kind.name item before Token.open_paren may = (refl, refl)
-says_token Kind.name item before Token.comma may = (refl, refl)
-says_token Kind.opening item before Token.all may = (refl, refl)
-says_token Kind.opening item before Token.any may = (refl, refl)
-says_token Kind.opening item before Token.not may = (refl, refl)
-says_token Kind.equals item before (Token.key _) may = (refl, refl)
-says_token Kind.value item before Token.equals may = (refl, refl)
-says_token _ item before _ may = absurd (false≢true may)
+says_token kind item before token may = grind arith
 
 pub says : (kind : Kind) (back : List Item) → takes (head_token back) kind ≡ true
     → Says kind (begun_last back) (key_last back) (equals_last back) (names_last (head_token back))
-says Kind.name [] may = (refl, refl)
-says Kind.closing [] may = tt
-says Kind.comma [] may = tt
-says _ [] may = absurd (false≢true may)
-says kind (item ∷ before) may = says_token kind item before item.token may
+says kind back may = grind arith
 
 -- a predicate that has begun has ended but behind `=`
 ended_token : (item : Item) (before : List Item) (token : Token)
     → lacks_value (Some token) ≡ false
     → begun_token item before token ≡ predicate_token item before token
-ended_token item before Token.equals whole = absurd (false≢true (sym whole))
-ended_token item before _ whole = refl
+ended_token item before token whole = grind arith
 
 ended_last : (back : List Item) → lacks_value (head_token back) ≡ false
     → begun_last back ≡ predicate_last back
-ended_last [] whole = refl
-ended_last (item ∷ before) whole = ended_token item before item.token whole
+ended_last back whole = grind arith
 
 -- in front of `)` and `,` stands what has ended, or nothing
 pub after_end : (last : Option Token)
     → (takes last Kind.closing ≡ true) ⊎ (takes last Kind.comma ≡ true)
     → (lacks_value last ≡ false) × (names_last last ≡ false)
-after_end None which = (refl, refl)
-after_end (Some (Token.key _)) which = (refl, refl)
-after_end (Some (Token.value _)) which = (refl, refl)
-after_end (Some Token.open_paren) which = (refl, refl)
-after_end (Some Token.close_paren) which = (refl, refl)
-after_end (Some Token.comma) which = (refl, refl)
-after_end _ (inl may) = absurd (false≢true may)
-after_end _ (inr may) = absurd (false≢true may)
+after_end last which = grind arith
 
 pub height_kept : {M : Type 0} (f : Open M → Open M) (stack : List (Open M))
     → length (over_top f stack) ≡ length stack
@@ -188,18 +166,12 @@ module _ {W M L : Type 0} {builder : Builder W M L} where
     pending_ends : (pending : Option Pending) → s.pending ≡ pending
         → Levels front s.roots is_named s.stack (going pending) → EndsAs (ended_by s pending)
         (option_and_then (λ p. class_fault p (class_of p)) pending)
-    pending_ends None is levels =
-        (refl, record { settled = is; height = refl; levels = levels })
-    pending_ends (Some p) is levels = class_ends p (class_of p) levels
+    pending_ends pending is levels = grind arith
 
   pub predicate_ends : (front : List Item) (s : State builder) (m : Matches front s)
       → lacks_value (last_token front) ≡ false
       → EndsAs front (names_last (last_token front)) s (predicate_ended s) (predicate_fault front)
-  predicate_ends front s m whole =
-      let is = m.pending ∙ ended_last (reverse front) whole in
-      subst (λ o. EndsAs front (names_last (last_token front)) s (predicate_ended s)
-      (option_and_then (λ p. class_fault p (class_of p)) o)) is
-      (pending_ends front (names_last (last_token front)) s s.pending refl m.levels)
+  predicate_ends front s m whole = grind arith
 
 -- Each step refuses a token with the fault that the tokens in front of it show, and the end of the
 -- text likewise.
@@ -218,16 +190,13 @@ room_fault : (function : Function) (name close : Item) (start count : ℕ)
     → name.token ≡ name_of function → name.start ≡ start
     → count_fault name count close ≡ (if has_room function count then None
     else Some (refusal (invalid_not count) start close.end))
-room_fault Function.all name close start count named starts = rw named refl
-room_fault Function.any name close start count named starts = rw named refl
-room_fault Function.not name close start count named starts = rw (named, starts) refl
+room_fault function name close start count named starts = grind arith
 
 -- the fault of a function that stays open
 unclosed_is : {M : Type 0} (len : ℕ) (name : Item) (top : Open M) (paren : Option Item)
     (parens : Option ℕ) → name.start ≡ top.start → name.end ≡ top.end → start_of paren ≡ parens
     → unclosed_fault len name paren ≡ unclosed len top parens
-unclosed_is len name top None parens starts ends is = rw (← is, starts, ends) refl
-unclosed_is len name top (Some paren) parens starts ends is = rw (← is) refl
+unclosed_is len name top paren parens starts ends is = grind arith
 
 module _ {W M L : Type 0} {builder : Builder W M L} where
   -- what a token leads to is what the tokens show
@@ -268,8 +237,7 @@ module _ {W M L : Type 0} {builder : Builder W M L} (front : List Item) (s : Sta
         omega (arith, more, deep_is)))
 
     members_are : members front level.place ≡ member_count top s.pending
-    members_are = ap (λ d. members_at front d (level.place + 1)) deep_is ∙ level.counted
-        ∙ going_counted top s.pending
+    members_are = grind arith
 
     -- it is closed
     close_fault_is : (close : Item)
@@ -376,9 +344,7 @@ module _ {W M L : Type 0} {builder : Builder W M L} (front : List Item) (s : Sta
     ended_here : (takes (last_token front) Kind.closing ≡ true)
         ⊎ (takes (last_token front) Kind.comma ≡ true)
         → EndsAs front false s (predicate_ended s) (predicate_fault front)
-    ended_here which =
-        let a = after_end (last_token front) which in
-        rw a.1 at (predicate_ends front s m a.0)
+    ended_here which = grind arith
 
     comma_ends : (r : Result (State builder) Refusal) (fault : Option Refusal)
         → EndsAs front false s r fault
