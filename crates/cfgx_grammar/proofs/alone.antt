@@ -1,4 +1,6 @@
 -- The predicates that a text asks, and the text of one alone.
+use Rattle.std.proofs.lemmas.Bool.Decides.{nat_tests}
+use Rattle.std.proofs.lemmas.Grind.{common_steps}
 use Rattle.std.proofs.Common.{◌≤◌, ◌≡◌, ℕ, Bool, true, false, List, [], ◌∷◌, ◌++◌, map, Some, None}
 use Rattle.std.proofs.Common.{subst, ◌<◌, ◌^◌, ◌||◌, ◌&&◌, nat_eq, nat_lt, length, drop, Option}
 use Rattle.std.proofs.Common.{sym, refl, ap, ◌∙◌, arith, ◌+◌, ◌-◌, append_assoc, length-append}
@@ -358,9 +360,7 @@ spelt_regular question r =
 slice_middle : (front middle rest : List ℕ)
     → slice_range (front ++ (middle ++ rest)) (length front) (length front + length middle)
     ≡ middle
-slice_middle front middle rest =
-    let width : length front + length middle - length front ≡ length middle = omega arith in
-    rw (width, drop-append_seam front) (take-append_seam middle rest)
+slice_middle front middle rest = grind (arith, nat_tests, common_steps)
 
 module _ (text before gap bytes rest : List ℕ) (token : Token) (from start end : ℕ)
     (is : text ≡ before ++ (gap ++ (bytes ++ rest))) (begins : from ≡ length before)

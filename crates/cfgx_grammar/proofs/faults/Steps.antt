@@ -1,4 +1,6 @@
 -- What the parser refuses it refuses with the first fault.
+use Rattle.std.proofs.lemmas.Bool.Decides.{nat_tests}
+use Rattle.std.proofs.lemmas.Grind.{common_steps}
 use Rattle.std.proofs.Common.{◌≡◌, ◌⊎◌, inl, inr, ℕ, ◌+◌, Bool, true, false, List, [], ◌∷◌, ◌++◌}
 use Rattle.std.proofs.Common.{length, reverse, cond, Option, Some, None, Result, Ok, Err, sym, refl}
 use Rattle.std.proofs.Common.{ap, ◌∙◌, subst, arith, suc, ◌-◌, ◌<◌, ◌==◌, option_map, take_all}
@@ -276,9 +278,7 @@ module _ {W M L : Type 0} {builder : Builder W M L} (front : List Item) (s : Sta
 
     balanced : (token : Token) (height : ℕ) → Rises token height
         → closings (more token) + height ≡ names (more token)
-    balanced token height rises =
-        let n = names_more front (at token) in
-        let c = closings_more front (at token) in omega (arith, m.balance, rises, n, c)
+    balanced token height rises = grind (arith, nat_tests, common_steps)
 
     -- what the token leaves, by what it says of its own
     matched : (token : Token) (t : State builder) (w : ℕ) → t.last ≡ Some token
@@ -286,12 +286,7 @@ module _ {W M L : Type 0} {builder : Builder W M L} (front : List Item) (s : Sta
         → Rises token (length t.stack)
         → Levels (more token) t.roots (names_function token) t.stack w
         → Matches (more token) t
-    matched token t w last pending goes rises levels = record {
-      last = last ∙ sym (last_more front (at token));
-      pending = pending ∙ sym (begun_more front (at token));
-      balance = balanced token _ rises;
-      levels = rw (last_more front (at token), goes) levels;
-    }
+    matched token t w last pending goes rises levels = grind (arith, nat_tests, common_steps)
 
     -- a token that neither opens nor closes a function and begins no member
     stays : (token : Token) (t : State builder) (w : ℕ) → t.last ≡ Some token
@@ -463,17 +458,12 @@ module _ {W M L : Type 0} {builder : Builder W M L} (front : List Item) (s : Sta
 
   roots_counted : (t : State builder) (b : Bool) (stack : List (Open M)) → t.stack ≡ stack
       → length stack ≡ 0 → Levels front t.roots b t.stack 0 → roots front ≡ t.roots
-  roots_counted t b [] is low levels =
-      subst (λ k. Levels front t.roots b k 0) is levels ∙ omega arith
-  roots_counted t b (top ∷ rest) is low levels = absurd (omega (arith, low))
+  roots_counted t b stack is low levels = grind (arith, nat_tests, common_steps)
 
   root_ends : (len : ℕ) (r : Result (State builder) Refusal) (fault : Option Refusal)
       → s.stack ≡ [] → EndsAs front named s r fault
       → EndAgrees (and_then (one_root len) r) (option_or fault (root_fault len (roots front)))
-  root_ends len (Err refusal) fault is ends = rw ends refl
-  root_ends len (Ok t) fault is (none, e) =
-      rw (none, roots_counted t named t.stack refl (e.height ∙ ap length is) e.levels)
-      (root_agrees len t (t.roots == 0) (t.roots == 1))
+  root_ends len r fault is ends = grind (arith, nat_tests, common_steps)
 
   end_stack : (len : ℕ) (stack : List (Open M)) → s.stack ≡ stack
       → lacks_value (last_token front) ≡ false
