@@ -67,9 +67,7 @@ IsSpelled (Token.value inside) = HasNoQuote inside
 IsSpelled _ = Unit {0}
 
 spelled_token : (bytes : List ℕ) (token : Token) → Spells bytes token → IsSpelled token
-spelled_token bytes (Token.key word) spells = spells.1
-spelled_token bytes (Token.value inside) spells = spells.1
-spelled_token bytes _ spells = tt
+spelled_token bytes token spells = grind arith
 
 abbrev AreSpelled : List Token → Type 0
 AreSpelled tokens = AllByRecursion IsSpelled tokens
@@ -87,12 +85,7 @@ AreRegular questions = AllByRecursion IsRegular questions
 
 regular_leaf : (tokens : List Token) (question : Question) → AreSpelled tokens
     → IsMember tokens (Tree.leaf question) → IsRegular question
-regular_leaf tokens question spelled (key, None, is, says) =
-    let all = subst AreSpelled is spelled in
-    record { key = key; value = None; is_key = all.0; can_be_quoted = tt; says = says }
-regular_leaf tokens question spelled (key, Some v, is, says) =
-    let all = subst AreSpelled is spelled in
-    record { key = key; value = Some v; is_key = all.0; can_be_quoted = all.1.1.0; says = says }
+regular_leaf tokens question spelled a3 = grind arith
 
 -- the tokens of the members of a call
 spelled_inner : (name : Token) (tokens inner : List Token)
@@ -233,8 +226,7 @@ module _ (key : List ℕ) (value : Option (List ℕ)) (is_key : IsKey key)
       → class key value ≡ predicate question → IsSpelt question
 
   good_is : (asked : Question) → IsSpelt asked → Good (predicate asked)
-  good_is asked spelt question is says =
-      let same : asked ≡ question = cc in subst IsSpelt same spelt
+  good_is asked spelt question is says = grind arith
 
   good_refused : (cause : Cause) (part : Part) → Good (Class.refused cause part)
   good_refused cause part question is says = absurd (cc)
