@@ -1,4 +1,5 @@
 -- Trees of one shape and with the same literals, whose other leaves stand in a relation one by one.
+use Rattle.std.proofs.Common.{arith}
 use Rattle.std.proofs.Common.{◌≡◌, ℕ, suc, zero, Bool, true, false, List, [], ◌∷◌, ◌++◌, length}
 use Rattle.std.proofs.Common.{drop, refl}
 use Rattle.std.specs.Prelude.{if◌then◌else◌}
@@ -99,9 +100,7 @@ module _ {T U : Type 0} (R : T → U → Type 0) where
 module _ {T U : Type 0} (R : T → U → Type 0) (one : T) (other : U) (related : R one other) where
   first-alike : (xs : List T) (ys : List U) → AllZip R xs ys
       → R (first_or one xs) (first_or other ys)
-  first-alike [] [] zipped = related
-  first-alike (x ∷ xs) (y ∷ ys) zipped = zipped.0
-  first-alike _ _ zipped = absurd zipped
+  first-alike xs ys zipped = grind arith
 
   mutual
     pub answered-alike : {X : Type 0} (tree : Tree X) (xs : List T) (ys : List U) → AllZip R xs ys

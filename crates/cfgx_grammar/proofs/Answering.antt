@@ -1,4 +1,7 @@
 -- What the parser answers for the one token list of a text, the grammar answers for the text.
+use Rattle.std.proofs.Common.{arith}
+use Rattle.std.proofs.lemmas.Bool.Decides.{nat_tests}
+use Rattle.std.proofs.lemmas.Grind.{common_steps}
 use Rattle.std.proofs.Common.{◌≡◌, ◌⊎◌, inl, inr, ℕ, List, length, Some, Result, Ok, Err, sym, refl}
 use Rattle.std.proofs.Common.{ap, ◌∙◌, subst}
 use Rattle.cfgx_syntax.specs.Items.{Ending, AreItems, HasOneTokenList, lexical}
@@ -59,9 +62,7 @@ module _ {W M L : Type 0} {builder : Builder W M L} (text : List ℕ)
   ended_blank : (ending : Ending) (s u : State builder)
       → ended_as text (lexical text ending) s ≡ Ok u
       → (ending ≡ Ending.blank) × (conclude (length text) s ≡ Ok u)
-  ended_blank Ending.blank s u e = (refl, e)
-  ended_blank (Ending.no_token place) s u is = absurd (cc)
-  ended_blank (Ending.unclosed_quotes place) s u is = absurd (cc)
+  ended_blank ending s u e = grind (arith, nat_tests, common_steps)
 
   pub tree_of : (u : State builder) → answer ≡ Ok u → (tree : Tree Question) × HasTree text tree
   tree_of u e =
@@ -102,10 +103,7 @@ module _ (text : List ℕ) (one : HasOneTokenList text) where
   -- the first fault of the text is what the parser answers
   fault_shown : (fault : Refusal) → HasFault text fault
       → first_fault text one.items one.ending ≡ Some fault
-  fault_shown fault has =
-      let same = one.only has.items has.ending has.are_items in
-      ap (λ l. first_fault text l one.ending) (sym same.0)
-      ∙ ap (first_fault text has.items) (sym same.1) ∙ has.shown
+  fault_shown fault has = grind (arith, nat_tests, common_steps)
 
 module _ {W M L : Type 0} {builder : Builder W M L} (text : List ℕ)
     (one : HasOneTokenList text) where

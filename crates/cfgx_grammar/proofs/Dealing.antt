@@ -1,4 +1,6 @@
 -- Answers that are dealt out to a tree are what the answered tree asks.
+use Rattle.std.proofs.lemmas.Bool.Decides.{nat_tests}
+use Rattle.std.proofs.lemmas.Grind.{common_steps}
 use Rattle.std.proofs.Common.{◌≡◌, ◌≤◌, List, [], ◌∷◌, ◌++◌, length, take, refl, sym, ap, ◌∙◌}
 use Rattle.std.proofs.Common.{arith, append_assoc, length-append, length-drop, drop_at}
 use Rattle.std.proofs.Math.Seq.{take-add}
@@ -22,9 +24,7 @@ module _ {X T : Type 0} (otherwise : T) where
         → Trees.more (answered otherwise tree ((asked answer ++ inner) ++ rest))
         (answered_each otherwise trees (behind (asked tree) ((asked answer ++ inner) ++ rest)) own)
         ≡ Trees.more answer answers
-    function_first many here own others =
-        let second = drop_at (asked answer) (inner ++ rest) (length (asked tree)) many in
-        rw (append_assoc, here (inner ++ rest), second, others) refl
+    function_first many here own others = grind (arith, nat_tests, common_steps)
 
   -- the members of a list, whatever comes behind
   abbrev Remade : Trees X → Trees T → Type 0
@@ -36,11 +36,7 @@ module _ {X T : Type 0} (otherwise : T) where
       → Remade trees answers → (more : List T)
       → let all = (asked_by is_function answers ++ asked_by is_leaf answers) ++ more in
       answered_each otherwise trees all (behind (asked_by is_function trees) all) ≡ answers
-  list_front trees answers many remade more =
-      let inner = asked_by is_function answers in
-      let own = asked_by is_leaf answers in
-      let second = drop_at inner (own ++ more) (length (asked_by is_function trees)) many in
-      rw (append_assoc, second) (remade (own ++ more) more)
+  list_front trees answers many remade more = grind (arith, nat_tests, common_steps)
 
   mutual
     answered-front : (tree : Tree X) (answer : Tree T) → SameShape tree answer → (more : List T)
@@ -83,8 +79,7 @@ taken_both first second answers these those these_are those_are =
 -- enough is left for the second part
 enough_behind : {X T : Type 0} (first second : List X) (answers : List T)
     → length (first ++ second) ≤ length answers → length second ≤ length (behind first answers)
-enough_behind first second answers enough =
-    omega (arith, length-append first second, length-drop (length first) answers)
+enough_behind first second answers enough = grind (arith, nat_tests, common_steps)
 
 enough_first : {X T : Type 0} (first second : List X) (answers : List T)
     → length (first ++ second) ≤ length answers → length first ≤ length answers

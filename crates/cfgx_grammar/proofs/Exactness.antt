@@ -1,4 +1,5 @@
 -- Three values are exact: a value is known exactly where every filling leads to it.
+use Rattle.std.proofs.lemmas.Grind.{common_steps}
 use Rattle.std.proofs.Common.{◌≡◌, Bool, true, false, not, ◌&&◌, ◌||◌, List, [], ◌∷◌, ◌++◌, arith}
 use Rattle.std.proofs.Common.{length, Option, Some, None, sym, refl, ap, ◌∙◌, subst}
 use Rattle.std.proofs.lemmas.List.{map-append}
@@ -76,30 +77,14 @@ module _ {T U : Type 0} (one : Operations T) (other : Operations U) (R : T → U
 
 agrees_and : (x y : Option Bool) (u v : Bool) → Agrees x u → Agrees y v
     → Agrees (kleene_and x y) (u && v)
-agrees_and (Some true) None u v p q = tt
-agrees_and (Some true) (Some true) u v p q = cc
-agrees_and (Some false) (Some true) u v p q = cc
-agrees_and None (Some true) u v p q = tt
-agrees_and None (Some false) true v p q = q
-agrees_and None None u v p q = tt
-agrees_and (Some _) _ u v p q = cc
-agrees_and None (Some false) false v p q = refl
+agrees_and x y u v p q = grind (arith, common_steps)
 
 agrees_or : (x y : Option Bool) (u v : Bool) → Agrees x u → Agrees y v
     → Agrees (kleene_or x y) (u || v)
-agrees_or (Some false) None u v p q = tt
-agrees_or (Some true) (Some true) u v p q = cc
-agrees_or (Some false) (Some true) u v p q = cc
-agrees_or None (Some true) false v p q = q
-agrees_or None (Some false) u v p q = tt
-agrees_or None None u v p q = tt
-agrees_or (Some _) _ u v p q = cc
-agrees_or None (Some true) true v p q = refl
+agrees_or x y u v p q = grind (arith, common_steps)
 
 agrees_not : (x : Option Bool) (u : Bool) → Agrees x u → Agrees (kleene_not x) (not u)
-agrees_not (Some true) u p = cc
-agrees_not (Some false) u p = cc
-agrees_not None u p = tt
+agrees_not x u p = grind (arith, common_steps)
 
 agreement : Preserve three_valued two_valued Agrees
 agreement =

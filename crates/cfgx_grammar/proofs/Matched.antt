@@ -1,4 +1,7 @@
 -- That the tests by which a target is matched decide whether values are the same.
+use Rattle.std.proofs.Common.{arith}
+use Rattle.std.proofs.lemmas.Bool.Decides.{nat_tests}
+use Rattle.std.proofs.lemmas.Grind.{common_steps}
 use Rattle.std.proofs.Common.{◌≡◌, refl, ap}
 use Rattle.std.specs.Bool.{Decides}
 use Rattle.std.proofs.lemmas.Bool.Decides.{Decides-eqb}
@@ -8,9 +11,4 @@ use Rattle.cfgx_grammar.specs.Matching.{is_same_width}
 
 pub is_same_width-Decides : (one other : HasAtomic)
     → Decides (is_same_width one other) (one ≡ other)
-is_same_width-Decides (IntegerSize bits) (IntegerSize others) =
-    let same = Decides-eqb bits others in
-    (λ h. ap IntegerSize (same.0 h), λ h. let equal : bits ≡ others = cc in same.1 equal)
-is_same_width-Decides (IntegerSize bits) Pointer = (λ h. cc, λ h. cc)
-is_same_width-Decides Pointer (IntegerSize others) = (λ h. cc, λ h. cc)
-is_same_width-Decides Pointer Pointer = (λ _. refl, λ _. refl)
+is_same_width-Decides one other = grind (arith, nat_tests, common_steps)

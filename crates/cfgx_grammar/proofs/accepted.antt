@@ -88,9 +88,7 @@ module _ {M : Type 0} where
   -- a member that has been counted
   Ends-more : (stack : List (Open M)) (roots n m : ℕ) (tokens : List Token) → m ≡ suc n
       → Ends (over_top one_more stack) (root_more stack roots) n tokens → Ends stack roots m tokens
-  Ends-more [] roots n m tokens is (one, none) = (omega arith, none)
-  Ends-more (top ∷ rest) roots n m tokens is ends =
-      let sum : top.members + 1 + n ≡ top.members + m = omega arith in rw sum at ends
+  Ends-more stack roots n m tokens is ends = grind arith
 
   pub Rest-more : (May : ℕ → Trees Question → Type 0) (stack : List (Open M)) (roots : ℕ)
       (tokens : List Token)
@@ -166,14 +164,11 @@ module _ {W M L : Type 0} {builder : Builder W M L} where
 
   leaf_ends_as : (s t : State builder) (p : Pending) (c : Class) → class_of p ≡ c
       → result_map (leaf_ended s) (located_class builder p c) ≡ Ok t → LeafEnds s t p
-  leaf_ends_as s t p (Class.is leaf) is ends =
-      record { leaf = leaf; written = builder.located p leaf; class_is = is; ended = (cc) }
-  leaf_ends_as s t p (Class.refused cause part) is ends = absurd (cc)
+  leaf_ends_as s t p c is ends = grind arith
 
   pub LeafEnds-ended : (s t : State builder) (p : Pending) → s.pending ≡ Some p
       → predicate_ended s ≡ Ok t → LeafEnds s t p
-  LeafEnds-ended s t p pending ends =
-      leaf_ends_as s t p (class_of p) refl (ap (ended_by s) (sym pending) ∙ ends)
+  LeafEnds-ended s t p pending ends = grind arith
 
   -- nothing ends where nothing pends
   pub same_ended : (s t : State builder) → s.pending ≡ None → predicate_ended s ≡ Ok t → s ≡ t
@@ -181,8 +176,7 @@ module _ {W M L : Type 0} {builder : Builder W M L} where
 
   pub ended_none : (s t : State builder) (pending : Option Pending) → s.pending ≡ pending
       → predicate_ended s ≡ Ok t → t.pending ≡ None
-  ended_none s t None is ends = rw (← same_ended s t is ends) is
-  ended_none s t (Some p) is ends = rw ((LeafEnds-ended s t p is ends).ended) refl
+  ended_none s t pending is ends = grind arith
 
   abbrev pub RestOf : (ℕ → Trees Question → Type 0) → State builder → ℕ → List Token → Type 0
   RestOf May s members tokens = Rest May s.stack s.roots members tokens
@@ -217,11 +211,7 @@ module _ {W M L : Type 0} {builder : Builder W M L} where
   pub Completes-member : (last : Option Token) (s : State builder) (tokens : List Token)
       → takes last Kind.name ≡ true → (s.pending ≡ None → RestOf NoComma s 0 tokens)
       → Completes last s tokens
-  Completes-member None s tokens may r = r
-  Completes-member (Some Token.open_paren) s tokens may r = r
-  Completes-member (Some Token.comma) s tokens may r =
-      λ none. Rest-any NoComma s.stack s.roots 0 tokens (r none)
-  Completes-member _ s tokens may r = absurd (false≢true may)
+  Completes-member last s tokens may r = grind arith
 
   -- behind a predicate that ends
   LeafRest-ended : (s t : State builder) (tokens : List Token) (p : Pending) → s.pending ≡ Some p
@@ -275,8 +265,7 @@ tokens_of items = map (λ item. item.token) items
 -- what went well, part by part
 mapped : {A B E : Type 0} (f : A → B) (r : Result A E) (u : B) → result_map f r ≡ Ok u
     → (t : A) × (r ≡ Ok t) × (f t ≡ u)
-mapped f (Ok t) u e = (t, refl, ok_same (f t) u e)
-mapped f (Err e) u is = absurd (cc)
+mapped f r u e = grind arith
 
 allowed : {A E : Type 0} (b : Bool) (r : Result A E) (e : E) (u : A)
     → (if b then r else Err e) ≡ Ok u → (b ≡ true) × (r ≡ Ok u)
@@ -290,8 +279,7 @@ not_refused true r e u is = absurd (cc)
 
 pub ran : {A B E : Type 0} (r : Result A E) (f : A → Result B E) (u : B) → and_then f r ≡ Ok u
     → (t : A) × (r ≡ Ok t) × (f t ≡ Ok u)
-ran (Ok t) f u e = (t, refl, e)
-ran (Err e) f u is = absurd (cc)
+ran r f u e = grind arith
 
 -- what a predicate that ends makes of the innermost open function
 abbrev pub counted : {M : Type 0} → Option Pending → Open M → Open M
@@ -301,12 +289,7 @@ module _ {W M L : Type 0} {builder : Builder W M L} where
   pub stack_ended : (s t : State builder) (pending : Option Pending) (stack : List (Open M))
       → s.pending ≡ pending → s.stack ≡ stack → predicate_ended s ≡ Ok t
       → t.stack ≡ over_top (counted pending) stack
-  stack_ended s t None [] is stack_is ends = rw (← same_ended s t is ends) stack_is
-  stack_ended s t None (top ∷ rest) is stack_is ends = rw (← same_ended s t is ends) stack_is
-  stack_ended s t (Some p) [] is stack_is ends =
-      rw ((LeafEnds-ended s t p is ends).ended, stack_is) refl
-  stack_ended s t (Some p) (top ∷ rest) is stack_is ends =
-      rw ((LeafEnds-ended s t p is ends).ended, stack_is) refl
+  stack_ended s t pending stack is stack_is ends = grind arith
 
   -- what a `)` that is taken closes
   abbrev pub Closes : State builder → State builder → Type 0
@@ -331,17 +314,7 @@ module _ {W M L : Type 0} {builder : Builder W M L} where
       → function_ended settled.stack settled ≡ u
       → Completes (Some Token.close_paren) (with_last Token.close_paren u) tokens
       → Ends settled.stack settled.roots 0 (Token.close_paren ∷ tokens)
-  Ends-close s u settled top rest tokens is room ends closed completes =
-      let stack = stack_ended s settled s.pending _ refl is ends in
-      let none = ended_none s settled s.pending refl ends in
-      let closed : function_ended (counted s.pending top ∷ rest) settled ≡ u =
-      ap (λ k. function_ended k settled) (sym stack) ∙ closed in
-      let (n, others, trees, after, are, may, list, around) = Rest-more Separates rest
-      settled.roots tokens ((rw (← closed) at completes) none) in
-      let roomy : has_room top.function (member_count top s.pending + 0) ≡ true =
-      rw add-zero room in
-      let closes = ap (λ l. Token.close_paren ∷ l) are in
-      rw stack (roomy, n, others, trees, after, closes, may, list, around)
+  Ends-close s u settled top rest tokens is room ends closed completes = grind arith
 
   -- what a step that succeeds has done
   pub record Steps (s t : State builder) (item : Item) : Type 0 where

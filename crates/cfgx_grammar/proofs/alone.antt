@@ -1,4 +1,6 @@
 -- The predicates that a text asks, and the text of one alone.
+use Rattle.std.proofs.lemmas.Bool.Decides.{nat_tests}
+use Rattle.std.proofs.lemmas.Grind.{common_steps}
 use Rattle.std.proofs.Common.{◌≤◌, ◌≡◌, ℕ, Bool, true, false, List, [], ◌∷◌, ◌++◌, map, Some, None}
 use Rattle.std.proofs.Common.{subst, ◌<◌, ◌^◌, ◌||◌, ◌&&◌, nat_eq, nat_lt, length, drop, Option}
 use Rattle.std.proofs.Common.{sym, refl, ap, ◌∙◌, arith, ◌+◌, ◌-◌, append_assoc, length-append}
@@ -65,9 +67,7 @@ IsSpelled (Token.value inside) = HasNoQuote inside
 IsSpelled _ = Unit {0}
 
 spelled_token : (bytes : List ℕ) (token : Token) → Spells bytes token → IsSpelled token
-spelled_token bytes (Token.key word) spells = spells.1
-spelled_token bytes (Token.value inside) spells = spells.1
-spelled_token bytes _ spells = tt
+spelled_token bytes token spells = grind arith
 
 abbrev AreSpelled : List Token → Type 0
 AreSpelled tokens = AllByRecursion IsSpelled tokens
@@ -85,12 +85,7 @@ AreRegular questions = AllByRecursion IsRegular questions
 
 regular_leaf : (tokens : List Token) (question : Question) → AreSpelled tokens
     → IsMember tokens (Tree.leaf question) → IsRegular question
-regular_leaf tokens question spelled (key, None, is, says) =
-    let all = subst AreSpelled is spelled in
-    record { key = key; value = None; is_key = all.0; can_be_quoted = tt; says = says }
-regular_leaf tokens question spelled (key, Some v, is, says) =
-    let all = subst AreSpelled is spelled in
-    record { key = key; value = Some v; is_key = all.0; can_be_quoted = all.1.1.0; says = says }
+regular_leaf tokens question spelled a3 = grind arith
 
 -- the tokens of the members of a call
 spelled_inner : (name : Token) (tokens inner : List Token)
@@ -165,12 +160,7 @@ spelt k v question is quoted says spelled = record {
 
 -- a word of more than three letters names no function
 long_key : (word : List ℕ) → IsWord word → 3 < length word → IsKey word
-long_key word is long = record {
-  spelled = is;
-  not_all = λ e. omega (arith, long, ap length e);
-  not_any = λ e. omega (arith, long, ap length e);
-  not_not = λ e. omega (arith, long, ap length e);
-}
+long_key word is long = grind arith
 
 -- digits have no quote
 no_quote_digit : (byte : ℕ) → digit_value byte < 10 → is_quote byte ≡ false
@@ -236,8 +226,7 @@ module _ (key : List ℕ) (value : Option (List ℕ)) (is_key : IsKey key)
       → class key value ≡ predicate question → IsSpelt question
 
   good_is : (asked : Question) → IsSpelt asked → Good (predicate asked)
-  good_is asked spelt question is says =
-      let same : asked ≡ question = cc in subst IsSpelt same spelt
+  good_is asked spelt question is says = grind arith
 
   good_refused : (cause : Cause) (part : Part) → Good (Class.refused cause part)
   good_refused cause part question is says = absurd (cc)
@@ -363,9 +352,7 @@ spelt_regular question r =
 slice_middle : (front middle rest : List ℕ)
     → slice_range (front ++ (middle ++ rest)) (length front) (length front + length middle)
     ≡ middle
-slice_middle front middle rest =
-    let width : length front + length middle - length front ≡ length middle = omega arith in
-    rw (width, drop-append_seam front) (take-append_seam middle rest)
+slice_middle front middle rest = grind (arith, nat_tests, common_steps)
 
 module _ (text before gap bytes rest : List ℕ) (token : Token) (from start end : ℕ)
     (is : text ≡ before ++ (gap ++ (bytes ++ rest))) (begins : from ≡ length before)

@@ -114,16 +114,7 @@ module _ {W M L : Type 0} {builder : Builder W M L} where
       (rest stack : List (Open M)) → after.stack ≡ stack → predicate_ended after ≡ Ok settled
       → settled.stack ≡ top ∷ rest → has_room top.function top.members ≡ true
       → closed_by after item stack ≡ Ok (function_ended (top ∷ rest) settled)
-  closes_by after settled item top rest [] is ends stack room =
-      let none : settled.stack ≡ [] = stack_ended after settled after.pending [] refl is ends in
-      absurd (cc)
-  closes_by after settled item top rest (t ∷ others) is ends stack room =
-      let same : counted after.pending t ∷ others ≡ top ∷ rest =
-      sym (stack_ended after settled after.pending _ refl is ends) ∙ stack in
-      let one : counted after.pending t ≡ top = cc in
-      let roomy : has_room t.function (member_count t after.pending) ≡ true =
-      ap (λ (f : Open M). has_room f.function f.members) one ∙ room in
-      rw (roomy, ends) (ap (λ l. Ok (function_ended l settled)) stack)
+  closes_by after settled item top rest stack is ends stack' room = grind arith
 
   -- the state in front of a function's members
   abbrev pub inside : State builder → Function → Item → Item → State builder
@@ -137,9 +128,7 @@ module _ {W M L : Type 0} {builder : Builder W M L} where
       → takes s.last Kind.name ≡ true → head.token ≡ name_of function
       → opening.token ≡ Token.open_paren
       → step_each s (head ∷ opening ∷ rest) ≡ step_each (inside s function head opening) rest
-  opens s Function.all head opening rest may named is = rw (named, may, is) refl
-  opens s Function.any head opening rest may named is = rw (named, may, is) refl
-  opens s Function.not head opening rest may named is = rw (named, may, is) refl
+  opens s function head opening rest may named is = grind arith
 
 module _ {W M L : Type 0} {builder : Builder W M L} (laws : Laws builder) where
   -- The state when a member and `n` commas behind it have been taken from the front of some items;
@@ -442,15 +431,12 @@ module _ {W M L : Type 0} {builder : Builder W M L} where
   -- nothing was open where nothing is open once the predicate has ended
   none_open : (s t : State builder) (stack : List (Open M)) → s.stack ≡ stack
       → predicate_ended s ≡ Ok t → t.stack ≡ [] → s.stack ≡ []
-  none_open s t [] is ends none = is
-  none_open s t (top ∷ rest) is ends none =
-      absurd (cc (sym (stack_ended s t s.pending _ refl is ends) ∙ none))
+  none_open s t stack is ends none = grind arith
 
   concludes_one : (len : ℕ) (s t : State builder) → lacks_value s.last ≡ false → s.stack ≡ []
       → predicate_ended s ≡ Ok t → t.roots ≡ 1
       → conclude len s ≡ Ok (record t { written = builder.root_ended t.written })
-  concludes_one len s t whole none ends one =
-      rw whole (ap (concluded_by len s) none ∙ rw (ends, one) refl)
+  concludes_one len s t whole none ends one = grind arith
 
 module _ {W M L : Type 0} {builder : Builder W M L} (laws : Laws builder) where
   -- the tokens are taken, and the tree is built of the first of them: commas may follow

@@ -30,8 +30,7 @@ AreMarked-more (top ∷ rest) n m k l p q marks =
 AreMarked-top : (stack : List OpenFunction) (n k : ℕ) (f : OpenFunction → OpenFunction)
     → ((top : OpenFunction) → (f top).mark ≡ top.mark) → AreMarked stack n k
     → AreMarked (over_top f stack) n k
-AreMarked-top [] n k f same marks = tt
-AreMarked-top (top ∷ rest) n k f same marks = rw same marks
+AreMarked-top stack n k f same marks = grind arith
 
 IsHeld-leaf : (s : ParserState) (leaf : ExprNode) → IsHeld s → IsHeld (leaf_ended s leaf)
 IsHeld-leaf s leaf h =

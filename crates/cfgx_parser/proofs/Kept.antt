@@ -2,14 +2,14 @@
 use Rattle.std.proofs.Common.{◌≡◌, ℕ, List, [], ◌∷◌, ◌++◌, map, length, Ok, sym, refl, ap, ◌∙◌}
 use Rattle.std.proofs.Common.{subst, arith}
 use Rattle.std.proofs.lemmas.List.{length-map, append-nil}
-use Rattle.std.specs.Prelude.{if◌then◌else◌, slice_range, ◌≤◌}
+use Rattle.std.specs.Prelude.{slice_range, ◌≤◌}
 use Rattle.std.specs.List.{AllByRecursion}
 use Rattle.cfgx_syntax.specs.Cut.{CanBeCut}
 use Rattle.cfgx_syntax.specs.Items.{Item, ItemsFrom, HasOneTokenList}
 use Rattle.cfgx_syntax.specs.Token.{Token, Spells}
 use Rattle.cfgx_syntax.proofs.Values.{value_inside}
 use Rattle.cfgx_grammar.specs.Question.{Question}
-use Rattle.cfgx_grammar.specs.Tree.{Tree, is_function, is_leaf}
+use Rattle.cfgx_grammar.specs.Tree.{Tree}
 use Rattle.cfgx_grammar.proofs.Answering.{answer, tree_of, FindsTree-tree, HasOneTree-tree}
 use Rattle.cfgx_grammar.proofs.alone.{all_of_first}
 use Rattle.cfgx_parser.specs.nodes.Keeps.{KeepsTree, KeepsOneTree}
@@ -19,7 +19,7 @@ use Rattle.cfgx_parser.specs.nodes.Writes.{NodeHasCut, IsPlaced, ArePlaced, Writ
 use Rattle.cfgx_parser.specs.parsing.State.{ParserState}
 use Rattle.cfgx_parser.specs.declared.nodes.ExprNode.{ExprNode}
 use Rattle.cfgx_parser.proofs.Sizes.{nodes-bytes}
-use Rattle.cfgx_parser.proofs.spelled.Laws.{node_laws, laws_written}
+use Rattle.cfgx_parser.proofs.spelled.Laws.{own, inner, node_laws, laws_written}
 
 -- the text of a key or of a value stands at its place
 placed_at : (text : List ℕ) (token : Token) (start end : ℕ)
@@ -33,8 +33,7 @@ placed_at text _ start end spelled inside cut = tt
 
 -- the predicate at the root is the last that is asked
 KeepsTree-writes : (text : List ℕ) (w : Written) (tree : Tree Question)
-    → WritesNodes text nothing w (prefix tree) (if is_leaf tree then places 0 tree else [])
-    (if is_function tree then places 0 tree else [])
+    → WritesNodes text nothing w (prefix tree) (own 0 tree) (inner 0 tree)
     → KeepsTree text w.nodes (with_list_ended 0 w).asked tree
 KeepsTree-writes text w tree a = record {
   nodes_are = ap (map (node_at text)) a.nodes_are ∙ a.shown_are;
@@ -42,8 +41,7 @@ KeepsTree-writes text w tree a = record {
   asked_are = rw (a.asked_are, a.leaves_are) (last tree);
 }
   where
-    last : (tree : Tree Question) → (if is_function tree then places 0 tree else [])
-        ++ (if is_leaf tree then places 0 tree else []) ≡ places 0 tree
+    last : (tree : Tree Question) → inner 0 tree ++ own 0 tree ≡ places 0 tree
     last (Tree.leaf question) = refl
     last (Tree.literal truth) = refl
     last tree = append-nil (places 0 tree)

@@ -30,8 +30,7 @@ Answer = Result ParserState Refusal
 module _ (last : Option Token) where
   ended-after : (s : ParserState) (pending : Option Pending)
       → ended_by (after_token last s) pending ≡ result_map (after_token last) (ended_by s pending)
-  ended-after s None = refl
-  ended-after s (Some p) = grind arith
+  ended-after s pending = grind arith
 
   function-after : (stack : List OpenFunction) (s : ParserState)
       → function_ended stack (after_token last s) ≡ after_token last (function_ended stack s)
@@ -40,37 +39,22 @@ module _ (last : Option Token) where
   closed-after : (s : ParserState) (item : Item) (stack : List OpenFunction)
       → closed_by (after_token last s) item stack
       ≡ result_map (after_token last) (closed_by s item stack)
-  closed-after s item [] = refl
-  closed-after s item (top ∷ rest) =
-      let ended = ended-after s s.pending in
-      grind (arith, function-after, ended)
+  closed-after s item stack = grind arith
 
   pub apply-after : (s : ParserState) (item : Item) (token : Token)
       → apply (after_token last s) item token ≡ result_map (after_token last) (apply s item token)
-  apply-after s item Token.close_paren = closed-after s item s.stack
-  apply-after s item Token.comma = ended-after s s.pending
   apply-after s item token = grind arith
 
   pub concluded-after : (len : ℕ) (s : ParserState) (stack : List OpenFunction)
       → concluded_by len (after_token last s) stack
       ≡ result_map (after_token last) (concluded_by len s stack)
-  concluded-after len s (top ∷ rest) = refl
-  concluded-after len s [] =
-      let ended = ended-after s s.pending in
-      grind (arith, nat_tests, ended)
+  concluded-after len s stack = grind arith
 
 -- what a step gives of a state without its last token, it gives of the state with a token
 pub GivesAt-after : {A : Type 0} (last : Option Token) (result : Result (Unit {0}) Halt)
     (new : Parser A) (answer whole : Answer) → Gives {A = A} result new answer
     → whole ≡ result_map (after_token last) answer → GivesAt {A = A} last result new whole
-GivesAt-after last (Ok done) new answer whole gives is = (
-  _,
-  is ∙ ap (result_map (after_token last)) gives.1,
-  record { is = ap (after_token last) gives.2.is; fits = gives.2.fits },
-)
-GivesAt-after last (Err halt.Fault) new answer whole gives is =
-    (gives.0, gives.1, is ∙ ap (result_map (after_token last)) gives.2)
-GivesAt-after last (Err halt.Memory) new answer whole gives is = tt
+GivesAt-after last result new answer whole gives is = grind arith
 
 -- What may follow a token, the parser tells by what it keeps of it.
 

@@ -1,5 +1,6 @@
 -- What the rest of a text answers, the whole answers: one token after another, as the lexer gives
 -- them.
+use Rattle.std.proofs.Common.{arith}
 use Rattle.std.proofs.Common.{◌≡◌, ℕ, List, length, drop, Option, Some, Result, Ok, Err, sym, refl}
 use Rattle.std.proofs.Common.{ap, ◌∙◌, subst}
 use Rattle.cfgx_syntax.specs.Items.{Item, Ending, ItemsFrom, IsBlank, Stands, EndsAs, lexical}
@@ -43,8 +44,7 @@ pub record LeadsTo {A : Type 0} (lexer now : LexerState) (old : Parser A) (last 
 HaltsAs-more : {A : Type 0} (h : Halt) (parser : Parser A) (part whole : Result ParserState Refusal)
     → ((refusal : Refusal) → part ≡ Err refusal → whole ≡ Err refusal)
     → HaltsAs {A = A} h parser part → HaltsAs {A = A} h parser whole
-HaltsAs-more halt.Fault parser part whole more halts = (halts.0, halts.1, more _ halts.2)
-HaltsAs-more halt.Memory parser part whole more halts = tt
+HaltsAs-more h parser part whole more halts = grind arith
 
 pub FailsAs-with : {A : Type 0} (text : List ℕ) (failure : Failure A)
     (refusal : Refusal) → FailsWith (fault_in text refusal) failure

@@ -13,8 +13,7 @@ use Rattle.cfgx_parser.specs.nodes.Prefix.{prefix, prefix_each}
 -- a node takes a token at least
 leaf-tokens : (key : List ℕ) (value : Option (List ℕ))
     → 1 ≤ length (leaf_tokens key value)
-leaf-tokens key None = omega arith
-leaf-tokens key (Some value) = omega arith
+leaf-tokens key value = grind arith
 
 call-tokens : (name : Token) (tokens inner : List Token) → IsCall name tokens inner
     → length tokens ≡ length inner + 3

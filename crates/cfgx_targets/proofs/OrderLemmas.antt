@@ -1,31 +1,27 @@
 -- Lists in order: when a list is one, what a search by halves finds in it, and that a sorted
 -- rearrangement is the only one.
 use Rattle.std.proofs.Common.{inl, inr, Bor, ◌≡◌, ◌↔◌, refl, sym, ap, subst, ◌∙◌, ℕ, zero, suc}
-use Rattle.std.proofs.Common.{◌+◌, ◌<◌, ◌≤◌, Bool, true, false, not, ◌&&◌, List, [], ◌∷◌, length}
+use Rattle.std.proofs.Common.{◌+◌, ◌<◌, ◌≤◌, Bool, true, false, not, List, [], ◌∷◌, length}
 use Rattle.std.proofs.Common.{get_or, arith}
 use Rattle.std.specs.Prelude.{Option, Result, Ok, Err, IsTrue, IsPermutation, IsSorted, Contains}
 use Rattle.std.specs.Prelude.{cond, is_ok, ⊤}
 use Rattle.std.specs.declared.cmp.Ordering.{Ordering}
 use Rattle.std.specs.declared.cmp.Ordering.TheVariants.{Less, Equal, Greater}
 use Rattle.std.specs.Bool.{Decides}
-use Rattle.std.specs.Cmp.{IsTotalOrder, Agrees, Equal-is, first_so, second_so}
+use Rattle.std.specs.Cmp.{IsTotalOrder, Agrees, Equal-is}
 use Rattle.std.specs.Cmp.Lexicographic.{pointwise, pointwise_decides}
 use Rattle.std.specs.Fn.{Called, ComputesKey, Mut}
 use Rattle.std.specs.List.{IsAllAdjacentAnswer, count_by}
 use Rattle.std.specs.List.Sorted.{IsBinarySearchResult, IsSearchInRange}
 use Rattle.std.specs.Ordering.{is_lt, is_le, is_eq, is_some_and, partial_le, ordering_reverse}
 use Rattle.std.specs.Ordering.{eq_by_cmp}
-use Rattle.std.proofs.lemmas.Bool.{cases_lt}
+use Rattle.std.proofs.lemmas.Bool.{cases_lt, not-true}
 use Rattle.std.proofs.lemmas.Cmp.{tied_itself, alike_right}
 use Rattle.std.proofs.lemmas.List.Sums.{sum_by-cons}
 use Rattle.std.proofs.lemmas.Fn.{always_returns_same}
 use Rattle.std.proofs.lemmas.List.Sorted.{searchable_from_sorted, IsPermutation-sym}
 use Rattle.std.proofs.lemmas.List.Sorted.{IsPermutation-trans, sum_by-IsPermutation}
 use Rattle.cfgx_targets.specs.SortedList.{IsSortedFrom}
-
-not-true : (b : Bool) → not b ≡ true → b ≡ false
-not-true true e = sym e
-not-true false e = refl
 
 module _ {X : Type 0} {R : X → X → Ordering} (o : IsTotalOrder R) where
   -- not above is the same as: the other one is not below
@@ -94,7 +90,7 @@ abbrev count_equal : {X : Type 0} → (X → X → Ordering) → X → List X �
 count_equal R q xs = count_by (λ y. is_eq (R q y)) xs
 
 -- none is below the one before it
-abbrev Rises : {X : Type 0} → (X → X → Ordering) → List X → Type 0
+abbrev pub Rises : {X : Type 0} → (X → X → Ordering) → List X → Type 0
 Rises R [] = ⊤
 Rises R (x ∷ []) = ⊤
 Rises R (x ∷ y ∷ ys) = (is_lt (R y x) ≡ false) × Rises R (y ∷ ys)
@@ -105,6 +101,14 @@ IsSorted-tail R x xs s k d _ lt =
     let next = s (suc k) d (omega arith) (omega arith) in
     let shift : suc k + 1 ≡ suc (k + 1) = omega arith in
     rw shift at next
+
+pub IsSorted-from : {X : Type 0} (R : X → X → Ordering) (xs : List X) → Rises R xs → IsSorted R xs
+IsSorted-from R [] rises k d _ lt = absurd (omega (arith, lt))
+IsSorted-from R (x ∷ []) rises k d _ lt = absurd (omega (arith, lt))
+IsSorted-from R (x ∷ y ∷ ys) rises zero d _ lt = rises.0
+IsSorted-from R (x ∷ y ∷ ys) rises (suc k) d _ lt =
+    let shift : suc k + 1 ≡ suc (k + 1) = omega arith in
+    rw shift (IsSorted-from R (y ∷ ys) rises.1 k d (omega arith) (omega (arith, lt)))
 
 Rises-from : {X : Type 0} (R : X → X → Ordering) (xs : List X) → IsSorted R xs → Rises R xs
 Rises-from R [] s = tt
@@ -141,22 +145,11 @@ module _ {X : Type 0} {R : X → X → Ordering} (o : IsTotalOrder R) where
   count_equal-first x xs =
       rw (sum_by-cons (λ w. cond (is_eq (R x w)) 1 0) x xs, tied_itself o x) (omega arith)
 
-  -- two lists in order with as many of each begin alike
-  firsts-same : (same : (x y : X) → R x y ≡ Equal → x ≡ y)
-      → (x : X) (xs : List X) (y : X) (ys : List X)
-      → Rises R (x ∷ xs) → Rises R (y ∷ ys)
-      → ((q : X) → count_equal R q (x ∷ xs) ≡ count_equal R q (y ∷ ys)) → x ≡ y
-  firsts-same same x xs y ys s t h = by_cases (R x y) refl
-    where
-      by_cases : (r : Ordering) → R x y ≡ r → x ≡ y
-      by_cases Less e =
-          let none = count_equal-below x y ys e t in
-          absurd (omega (arith, none, h x, count_equal-first x xs))
-      by_cases Equal e = same x y e
-      by_cases Greater e =
-          let flipped : R y x ≡ Less = o.antisymm y x ∙ ap ordering_reverse e in
-          let none = count_equal-below y x xs flipped s in
-          absurd (omega (arith, none, h y, count_equal-first y ys))
+  -- of two lists in order with as many of each, none begins below the other
+  not-below : (x y : X) (xs ys : List X) → Rises R (y ∷ ys)
+      → ((q : X) → count_equal R q (x ∷ xs) ≡ count_equal R q (y ∷ ys)) → R x y ≡ Less → ⊥
+  not-below x y xs ys t h less =
+      omega (arith, count_equal-below x y ys less t, h x, count_equal-first x xs)
 
   -- and are the same
   rises-same : (same : (x y : X) → R x y ≡ Equal → x ≡ y) (xs ys : List X) → Rises R xs → Rises R ys
@@ -165,13 +158,19 @@ module _ {X : Type 0} {R : X → X → Ordering} (o : IsTotalOrder R) where
   rises-same same [] (y ∷ ys) s t h = absurd (omega (arith, h y, count_equal-first y ys))
   rises-same same (x ∷ xs) [] s t h = absurd (omega (arith, h x, count_equal-first x xs))
   rises-same same (x ∷ xs) (y ∷ ys) s t h =
-      let first : x ≡ y = firsts-same same x xs y ys s t h in
+      let first : x ≡ y = by_cases (R x y) refl in
       let rest = rises-same same xs ys (Rises-tail R x xs s) (Rises-tail R y ys t) (λ q.
       let counts = λ (z : X) (zs : List X). sum_by-cons (λ w. cond (is_eq (R q w)) 1 0) z zs in
       let one_if = λ (z : X). count_equal R q (z ∷ []) in
       let alike : one_if x ≡ one_if y = ap one_if first in
       omega (arith, h q, counts x xs, counts y ys, counts x [], counts y [], alike)) in
       cc
+    where
+      by_cases : (r : Ordering) → R x y ≡ r → x ≡ y
+      by_cases Less e = absurd (not-below x y xs ys t h e)
+      by_cases Equal e = same x y e
+      by_cases Greater e = absurd (not-below y x ys xs s (λ q. sym (h q))
+          (o.antisymm y x ∙ ap ordering_reverse e))
 
   -- the members that items give in order are fixed by the items, in any arrangement of them
   pub sorted-same : (same : (x y : X) → R x y ≡ Equal → x ≡ y) (xs ys : List X)
@@ -208,20 +207,3 @@ module _ {X : Type 0} {R : X → X → Ordering} (o : IsTotalOrder R) where
               (IsPermutation-trans items others ys h t.rearranged) in
               (lists-same xs ys).1 (sorted-same same xs ys there s.sorted t.sorted),
         )
-
--- the test of a list that is written out
-abbrev pub rises : {X : Type 0} → (X → X → Ordering) → List X → Bool
-rises R [] = true
-rises R (x ∷ []) = true
-rises R (x ∷ y ∷ ys) = not (is_lt (R y x)) && rises R (y ∷ ys)
-
-pub IsSorted-from_test : {X : Type 0} (R : X → X → Ordering) (xs : List X) → rises R xs ≡ true
-    → IsSorted R xs
-IsSorted-from_test R [] h k d _ lt = absurd (omega (arith, lt))
-IsSorted-from_test R (x ∷ []) h k d _ lt = absurd (omega (arith, lt))
-IsSorted-from_test R (x ∷ y ∷ ys) h zero d _ lt =
-    not-true (is_lt (R y x)) (first_so (not (is_lt (R y x))) (rises R (y ∷ ys)) h)
-IsSorted-from_test R (x ∷ y ∷ ys) h (suc k) d z lt =
-    let rest = second_so (not (is_lt (R y x))) (rises R (y ∷ ys)) h in
-    let shift : suc k + 1 ≡ suc (k + 1) = omega arith in
-    rw shift (IsSorted-from_test R (y ∷ ys) rest k d (omega arith) (omega (arith, lt)))

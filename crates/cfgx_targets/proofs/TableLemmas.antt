@@ -44,35 +44,35 @@ module _ {A : Type 0} (rows : List (TargetInfo A)) where
   not_ge Equal h = cc
   not_ge Greater h = cc
 
-  -- a row that is not above the one before it
-  pub first-not_above : (place : ℕ) (before row : TargetInfo A) → 0 < place → place < length rows
-      → AllAdjacentBelow IsBelow rows place → before ≡ get_or rows (place - 1) before
-      → row ≡ get_or rows place row → is_ge (slice_cmp nat_cmp before.triple row.triple) ≡ true
-      → IsFirstNotAbove rows place
-  first-not_above place before row behind inside rising is_before is_row ge = record {
-    behind_first = behind;
-    inside = inside;
-    rising = rising;
-    not_above = λ d less.
-        let one = get_or_read rows (place - 1) before (omega arith) is_before d in
-        let next = get_or_read rows place row inside is_row d in
-        let order = λ (x y : TargetInfo A). slice_cmp nat_cmp x.triple y.triple in
-        let same : order before row ≡ Less = (λ i. order (one i) (next i)) ∙ less in
-        let falls : is_ge Less ≡ true = ap is_ge (sym same) ∙ ge in
-        cc;
-  }
+  abbrev order : TargetInfo A → TargetInfo A → Ordering
+  order one other = slice_cmp nat_cmp one.triple other.triple
 
-  -- one more row that is above the one before it
-  pub below-more : (place : ℕ) (before row : TargetInfo A) → 0 < place → place < length rows
-      → AllAdjacentBelow IsBelow rows place → before ≡ get_or rows (place - 1) before
-      → row ≡ get_or rows place row → is_ge (slice_cmp nat_cmp before.triple row.triple) ≡ false
-      → AllAdjacentBelow IsBelow rows (place + 1)
-  below-more place before row behind inside rising is_before is_row lt =
-      all_adjacent_more rows IsBelow place behind rising (λ d.
-      let one = get_or_read rows (place - 1) before (omega arith) is_before d in
-      let next = get_or_read rows place row inside is_row d in
-      let order = λ (x y : TargetInfo A). slice_cmp nat_cmp x.triple y.triple in
-      (λ i. order (sym one i) (sym next i)) ∙ not_ge (order before row) lt)
+  -- a row and the one before it
+  module _ (place : ℕ) (before row : TargetInfo A) (behind : 0 < place)
+      (inside : place < length rows) (rising : AllAdjacentBelow IsBelow rows place)
+      (is_before : before ≡ get_or rows (place - 1) before) (is_row : row ≡ get_or rows place row)
+    where
+      neighbours : (d : TargetInfo A)
+          → order (get_or rows (place - 1) d) (get_or rows place d) ≡ order before row
+      neighbours d =
+          let one = get_or_read rows (place - 1) before (omega arith) is_before d in
+          let next = get_or_read rows place row inside is_row d in
+          λ i. order (sym one i) (sym next i)
+
+      -- that is not above it
+      pub first-not_above : is_ge (order before row) ≡ true → IsFirstNotAbove rows place
+      first-not_above ge = record {
+        behind_first = behind;
+        inside = inside;
+        rising = rising;
+        not_above = λ d less.
+            let falls : is_ge Less ≡ true = ap is_ge (sym less ∙ neighbours d) ∙ ge in cc;
+      }
+
+      -- that is
+      pub below-more : is_ge (order before row) ≡ false → AllAdjacentBelow IsBelow rows (place + 1)
+      below-more lt = all_adjacent_more rows IsBelow place behind rising
+          (λ d. neighbours d ∙ not_ge (order before row) lt)
 
   module _ (up : AreIncreasing rows) where
     increasing-far : (i j : ℕ) (d : TargetInfo A) → i < j → j < length rows

@@ -47,32 +47,6 @@ targets-decide one other a b c d e f g h i j k =
         has_atomics = s.1.1.1.1.1.1.1.1.1.0 n;
         panic = s.1.1.1.1.1.1.1.1.1.1 n;
       },
-      λ p. all.1 (
-        ap (λ t. t.triple) p,
-        (
-          ap (λ t. t.os) p,
-          (
-            ap (λ t. t.abi) p,
-            (
-              ap (λ t. t.arch) p,
-              (
-                ap (λ t. t.env) p,
-                (
-                  ap (λ t. t.vendor) p,
-                  (
-                    ap (λ t. t.families) p,
-                    (
-                      ap (λ t. t.pointer_width) p,
-                      (
-                        ap (λ t. t.endian) p,
-                        (ap (λ t. t.has_atomics) p, ap (λ t. t.panic) p),
-                      ),
-                    ),
-                  ),
-                ),
-              ),
-            ),
-          ),
-        ),
-      ),
+      λ p. all.1 (rw (← p)
+          (refl, (refl, (refl, (refl, (refl, (refl, (refl, (refl, (refl, (refl, refl))))))))))),
     )

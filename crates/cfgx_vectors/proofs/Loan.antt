@@ -1,14 +1,14 @@
--- The calls that a walk makes with a `&` to a `Refusing`. Assumes `Logic`.     Loan
--- the `&`, with its two lifetimes and a share of the token of each     Request           the type
--- that a block is for, with the two words that give its layout in the code     lent, alive
--- what the `&` holds, and those shares     Countdown, countdown_at, Inner, inner_at      the
--- contracts of `ends_countdown` and `inner`, and how code names the two One step walks a whole call
--- statement. `alive` is there before it and after it, and what else it takes comes first.
--- counts_down       from `lent` to a `bool`. `lent` stays     reaches_inner     from `lent` to a
--- pointer, and what a `&` to the inner allocator holds     allocates         from that to an
--- answer, and what comes with it. No case is told apart     deallocates       from that and a block
--- to nothing An answer's value, and what a contract wants to see owned of it.     answer_of,
--- answer_owned, answer_made
+-- The calls that a walk makes with a `&` to a `Refusing`. Assumes `Logic`.
+-- `Loan` is the `&`, with its two lifetimes and a share of the token of each, and `Request` the
+-- type that a block is for, with the two words that give its layout in the code. `lent` and `alive`
+-- are what the `&` holds, and those shares; `Countdown`, `countdown_at`, `Inner` and `inner_at` the
+-- contracts of `ends_countdown` and `inner`, and how code names the two.
+-- One step walks a whole call statement. `alive` is there before it and after it, and what else it
+-- takes comes first: `counts_down` goes from `lent` to a `bool`, and `lent` stays; `reaches_inner`
+-- from `lent` to a pointer, and what a `&` to the inner allocator holds; `allocates` from that to an
+-- answer, and what comes with it, where no case is told apart; `deallocates` from that and a block
+-- to nothing. `answer_of`, `answer_owned` and `answer_made` are an answer's value, and what a
+-- contract wants to see owned of it.
 use Rattle.std.proofs.Common.{◌≡◌, ℕ, ◌^◌, ◌<◌, Bool, true, false, List, [], ◌∷◌, Ok, Err, refl, ap}
 use Rattle.std.proofs.Common.{w64, Bor}
 use seplogic.Ra.Ura.{Ura}

@@ -1,4 +1,5 @@
 -- A closure that is asked one question after another.
+use Rattle.std.proofs.Common.{arith}
 use Rattle.std.proofs.Common.{◌≡◌, ℕ, List, [], ◌∷◌, ◌++◌, refl, sym, ◌∙◌, ap, append_assoc}
 use Rattle.std.proofs.lemmas.List.{append-nil}
 use Rattle.cfgx_grammar.specs.Question.{Question}
@@ -22,9 +23,7 @@ module _ {F T : Type 0} {asker : Asker F T} {start now : F} {questions rest : Li
     (asking : Asking asker start questions at initial now rest left slots) where
   pub Asking-may : {question : Question} {others : List Question} → rest ≡ question ∷ others
       → MayAskEach asker start questions → MayAsk asker now question
-  Asking-may {question} {others} is may =
-      may.at asking.before question others asking.given now
-      (asking.all ∙ ap (λ l. asking.before ++ l) is) asking.calls
+  Asking-may {question} {others} is may = grind arith
 
   pub Asking-next : {question : Question} {others : List Question} {answer : T} {after : F}
       {next : List ℕ} {new : List (Member T)} → rest ≡ question ∷ others

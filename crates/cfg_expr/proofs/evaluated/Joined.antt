@@ -37,8 +37,7 @@ joined-twice logic connective members =
 from_last-cons : {T : Type 0} (join : T → T → T) (begin : T) (value : Option T) (values : List T)
     → join_value join (from_last join begin values) value
     ≡ from_last join begin (cons_option value values)
-from_last-cons join begin None values = refl
-from_last-cons join begin (Some value) values = refl
+from_last-cons join begin value values = grind arith
 
 -- One pass, from the last member back to the place: the value so far, and the members.
 abbrev pub Joins : {T : Type 0} → (T → T → T) → Bool → T → List (Member T) → T → Bool → ℕ

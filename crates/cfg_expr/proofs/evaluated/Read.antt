@@ -48,8 +48,7 @@ module _ {T : Type 0} (logic : Operations T) where
   -- on top it is the value of the tree
   pub value-entry : (tree : Tree T) (rest : List (Member T))
       → top_value logic (entry tree ∷ rest) ≡ value_of logic tree
-  value-entry (Tree.leaf answer) rest = refl
-  value-entry tree rest = refl
+  value-entry tree rest = grind arith
 
   -- the nodes in front of these read onto what these leave
   abbrev Reads : List (Node T) → List (Member T) → Type 0

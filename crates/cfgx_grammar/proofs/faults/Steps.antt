@@ -1,4 +1,6 @@
 -- What the parser refuses it refuses with the first fault.
+use Rattle.std.proofs.lemmas.Bool.Decides.{nat_tests}
+use Rattle.std.proofs.lemmas.Grind.{common_steps}
 use Rattle.std.proofs.Common.{◌≡◌, ◌⊎◌, inl, inr, ℕ, ◌+◌, Bool, true, false, List, [], ◌∷◌, ◌++◌}
 use Rattle.std.proofs.Common.{length, reverse, cond, Option, Some, None, Result, Ok, Err, sym, refl}
 use Rattle.std.proofs.Common.{ap, ◌∙◌, subst, arith, suc, ◌-◌, ◌<◌, ◌==◌, option_map, take_all}
@@ -102,49 +104,27 @@ Says _ begun key equals names = Unit {0}
 says_token : (kind : Kind) (item : Item) (before : List Item) (token : Token)
     → takes (Some token) kind ≡ true → Says kind (begun_token item before token)
     (key_token item token) (equals_token before token) (names_function token)
-says_token Kind.closing item before token may = tt
-says_token Kind.comma item before token may = tt
-says_token Kind.name item before Token.open_paren may = (refl, refl)
-says_token Kind.name item before Token.comma may = (refl, refl)
-says_token Kind.opening item before Token.all may = (refl, refl)
-says_token Kind.opening item before Token.any may = (refl, refl)
-says_token Kind.opening item before Token.not may = (refl, refl)
-says_token Kind.equals item before (Token.key _) may = (refl, refl)
-says_token Kind.value item before Token.equals may = (refl, refl)
-says_token _ item before _ may = absurd (false≢true may)
+says_token kind item before token may = grind arith
 
 pub says : (kind : Kind) (back : List Item) → takes (head_token back) kind ≡ true
     → Says kind (begun_last back) (key_last back) (equals_last back) (names_last (head_token back))
-says Kind.name [] may = (refl, refl)
-says Kind.closing [] may = tt
-says Kind.comma [] may = tt
-says _ [] may = absurd (false≢true may)
-says kind (item ∷ before) may = says_token kind item before item.token may
+says kind back may = grind arith
 
 -- a predicate that has begun has ended but behind `=`
 ended_token : (item : Item) (before : List Item) (token : Token)
     → lacks_value (Some token) ≡ false
     → begun_token item before token ≡ predicate_token item before token
-ended_token item before Token.equals whole = absurd (false≢true (sym whole))
-ended_token item before _ whole = refl
+ended_token item before token whole = grind arith
 
 ended_last : (back : List Item) → lacks_value (head_token back) ≡ false
     → begun_last back ≡ predicate_last back
-ended_last [] whole = refl
-ended_last (item ∷ before) whole = ended_token item before item.token whole
+ended_last back whole = grind arith
 
 -- in front of `)` and `,` stands what has ended, or nothing
 pub after_end : (last : Option Token)
     → (takes last Kind.closing ≡ true) ⊎ (takes last Kind.comma ≡ true)
     → (lacks_value last ≡ false) × (names_last last ≡ false)
-after_end None which = (refl, refl)
-after_end (Some (Token.key _)) which = (refl, refl)
-after_end (Some (Token.value _)) which = (refl, refl)
-after_end (Some Token.open_paren) which = (refl, refl)
-after_end (Some Token.close_paren) which = (refl, refl)
-after_end (Some Token.comma) which = (refl, refl)
-after_end _ (inl may) = absurd (false≢true may)
-after_end _ (inr may) = absurd (false≢true may)
+after_end last which = grind arith
 
 pub height_kept : {M : Type 0} (f : Open M → Open M) (stack : List (Open M))
     → length (over_top f stack) ≡ length stack
@@ -188,18 +168,12 @@ module _ {W M L : Type 0} {builder : Builder W M L} where
     pending_ends : (pending : Option Pending) → s.pending ≡ pending
         → Levels front s.roots is_named s.stack (going pending) → EndsAs (ended_by s pending)
         (option_and_then (λ p. class_fault p (class_of p)) pending)
-    pending_ends None is levels =
-        (refl, record { settled = is; height = refl; levels = levels })
-    pending_ends (Some p) is levels = class_ends p (class_of p) levels
+    pending_ends pending is levels = grind arith
 
   pub predicate_ends : (front : List Item) (s : State builder) (m : Matches front s)
       → lacks_value (last_token front) ≡ false
       → EndsAs front (names_last (last_token front)) s (predicate_ended s) (predicate_fault front)
-  predicate_ends front s m whole =
-      let is = m.pending ∙ ended_last (reverse front) whole in
-      subst (λ o. EndsAs front (names_last (last_token front)) s (predicate_ended s)
-      (option_and_then (λ p. class_fault p (class_of p)) o)) is
-      (pending_ends front (names_last (last_token front)) s s.pending refl m.levels)
+  predicate_ends front s m whole = grind arith
 
 -- Each step refuses a token with the fault that the tokens in front of it show, and the end of the
 -- text likewise.
@@ -218,16 +192,13 @@ room_fault : (function : Function) (name close : Item) (start count : ℕ)
     → name.token ≡ name_of function → name.start ≡ start
     → count_fault name count close ≡ (if has_room function count then None
     else Some (refusal (invalid_not count) start close.end))
-room_fault Function.all name close start count named starts = rw named refl
-room_fault Function.any name close start count named starts = rw named refl
-room_fault Function.not name close start count named starts = rw (named, starts) refl
+room_fault function name close start count named starts = grind arith
 
 -- the fault of a function that stays open
 unclosed_is : {M : Type 0} (len : ℕ) (name : Item) (top : Open M) (paren : Option Item)
     (parens : Option ℕ) → name.start ≡ top.start → name.end ≡ top.end → start_of paren ≡ parens
     → unclosed_fault len name paren ≡ unclosed len top parens
-unclosed_is len name top None parens starts ends is = rw (← is, starts, ends) refl
-unclosed_is len name top (Some paren) parens starts ends is = rw (← is) refl
+unclosed_is len name top paren parens starts ends is = grind arith
 
 module _ {W M L : Type 0} {builder : Builder W M L} where
   -- what a token leads to is what the tokens show
@@ -268,8 +239,7 @@ module _ {W M L : Type 0} {builder : Builder W M L} (front : List Item) (s : Sta
         omega (arith, more, deep_is)))
 
     members_are : members front level.place ≡ member_count top s.pending
-    members_are = ap (λ d. members_at front d (level.place + 1)) deep_is ∙ level.counted
-        ∙ going_counted top s.pending
+    members_are = grind arith
 
     -- it is closed
     close_fault_is : (close : Item)
@@ -308,9 +278,7 @@ module _ {W M L : Type 0} {builder : Builder W M L} (front : List Item) (s : Sta
 
     balanced : (token : Token) (height : ℕ) → Rises token height
         → closings (more token) + height ≡ names (more token)
-    balanced token height rises =
-        let n = names_more front (at token) in
-        let c = closings_more front (at token) in omega (arith, m.balance, rises, n, c)
+    balanced token height rises = grind (arith, nat_tests, common_steps)
 
     -- what the token leaves, by what it says of its own
     matched : (token : Token) (t : State builder) (w : ℕ) → t.last ≡ Some token
@@ -318,12 +286,7 @@ module _ {W M L : Type 0} {builder : Builder W M L} (front : List Item) (s : Sta
         → Rises token (length t.stack)
         → Levels (more token) t.roots (names_function token) t.stack w
         → Matches (more token) t
-    matched token t w last pending goes rises levels = record {
-      last = last ∙ sym (last_more front (at token));
-      pending = pending ∙ sym (begun_more front (at token));
-      balance = balanced token _ rises;
-      levels = rw (last_more front (at token), goes) levels;
-    }
+    matched token t w last pending goes rises levels = grind (arith, nat_tests, common_steps)
 
     -- a token that neither opens nor closes a function and begins no member
     stays : (token : Token) (t : State builder) (w : ℕ) → t.last ≡ Some token
@@ -376,9 +339,7 @@ module _ {W M L : Type 0} {builder : Builder W M L} (front : List Item) (s : Sta
     ended_here : (takes (last_token front) Kind.closing ≡ true)
         ⊎ (takes (last_token front) Kind.comma ≡ true)
         → EndsAs front false s (predicate_ended s) (predicate_fault front)
-    ended_here which =
-        let a = after_end (last_token front) which in
-        rw a.1 at (predicate_ends front s m a.0)
+    ended_here which = grind arith
 
     comma_ends : (r : Result (State builder) Refusal) (fault : Option Refusal)
         → EndsAs front false s r fault
@@ -497,17 +458,12 @@ module _ {W M L : Type 0} {builder : Builder W M L} (front : List Item) (s : Sta
 
   roots_counted : (t : State builder) (b : Bool) (stack : List (Open M)) → t.stack ≡ stack
       → length stack ≡ 0 → Levels front t.roots b t.stack 0 → roots front ≡ t.roots
-  roots_counted t b [] is low levels =
-      subst (λ k. Levels front t.roots b k 0) is levels ∙ omega arith
-  roots_counted t b (top ∷ rest) is low levels = absurd (omega (arith, low))
+  roots_counted t b stack is low levels = grind (arith, nat_tests, common_steps)
 
   root_ends : (len : ℕ) (r : Result (State builder) Refusal) (fault : Option Refusal)
       → s.stack ≡ [] → EndsAs front named s r fault
       → EndAgrees (and_then (one_root len) r) (option_or fault (root_fault len (roots front)))
-  root_ends len (Err refusal) fault is ends = rw ends refl
-  root_ends len (Ok t) fault is (none, e) =
-      rw (none, roots_counted t named t.stack refl (e.height ∙ ap length is) e.levels)
-      (root_agrees len t (t.roots == 0) (t.roots == 1))
+  root_ends len r fault is ends = grind (arith, nat_tests, common_steps)
 
   end_stack : (len : ℕ) (stack : List (Open M)) → s.stack ≡ stack
       → lacks_value (last_token front) ≡ false

@@ -12,6 +12,7 @@ use Rattle.cfgx_grammar.specs.parsing.State.{Function}
 use Rattle.cfgx_parser.specs.nodes.Located.{located}
 use Rattle.cfgx_parser.specs.nodes.Node.{Written, with_leaf}
 use Rattle.cfgx_parser.specs.nodes.Prefix.{Node, headed, prefix, prefix_each, places, places_by}
+use Rattle.cfgx_parser.specs.nodes.Prefix.{with_places}
 use Rattle.cfgx_parser.specs.nodes.Writes.{IsPlaced, ArePlaced, WritesNodes}
 use Rattle.cfgx_parser.specs.parsing.State.{counted, node_builder}
 use Rattle.cfgx_parser.specs.declared.function.Func.TheVariants.{Not}
@@ -23,13 +24,20 @@ use Rattle.cfgx_parser.proofs.spelled.Located.{Stands, NamesClass, NamesClass-cl
 use Rattle.cfgx_parser.proofs.spelled.Written.{WritesNodes-none, WritesNodes-then}
 use Rattle.cfgx_parser.proofs.spelled.Written.{WritesNodes-leaf, WritesNodes-function, length-nodes}
 
+-- the places of what is asked with its list, and of what is asked before
+abbrev pub own : ℕ → Tree Question → List ℕ
+own place tree = if is_leaf (with_places place tree) then places place tree else []
+
+abbrev pub inner : ℕ → Tree Question → List ℕ
+inner place tree = if is_function (with_places place tree) then places place tree else []
+
 -- a function's tree, by its kind and its members
 record Called (function : Function) (tree : Tree Question) (trees : Trees Question) : Type 0 where
   pub prefix_is : prefix tree ≡ headed (counted function (count trees)) (prefix_each trees)
   pub places_are : (place : ℕ) → places place tree ≡ places_by is_function (place + 1) trees
       ++ places_by is_leaf (place + 1) trees
-  pub is_no_leaf : is_leaf tree ≡ false
-  pub is_one : is_function tree ≡ true
+  pub is_no_leaf : (place : ℕ) → is_leaf (with_places place tree) ≡ false
+  pub is_one : (place : ℕ) → is_function (with_places place tree) ≡ true
 
 -- the two ways of writing the one member of a `not`
 places_one : (place : ℕ) (tree : Tree Question) → let one = Trees.more tree Trees.none in
@@ -40,28 +48,27 @@ places_one place tree = sym (append-nil (places place tree ++ []) ∙ append-nil
 
 Called-all : (trees : Trees Question) → Called Function.all (Tree.all trees) trees
 Called-all trees =
-    record { prefix_is = refl; places_are = λ place. refl; is_no_leaf = refl; is_one = refl }
+    record { prefix_is = refl; places_are = λ _. refl; is_no_leaf = λ _. refl; is_one = λ _. refl }
 
 Called-any : (trees : Trees Question) → Called Function.any (Tree.any trees) trees
 Called-any trees =
-    record { prefix_is = refl; places_are = λ place. refl; is_no_leaf = refl; is_one = refl }
+    record { prefix_is = refl; places_are = λ _. refl; is_no_leaf = λ _. refl; is_one = λ _. refl }
 
 Called-not : (tree : Tree Question)
     → Called Function.not (Tree.not tree) (Trees.more tree Trees.none)
 Called-not tree = record {
   prefix_is = ap (headed Not) (sym (append-nil (prefix tree)));
   places_are = λ place. places_one (place + 1) tree;
-  is_no_leaf = refl;
-  is_one = refl;
+  is_no_leaf = λ place. refl;
+  is_one = λ place. refl;
 }
 
 module _ (text : List ℕ) where
   -- for a tree whose items stand at their places, and for a list
   abbrev pub MemberWrites : List Item → Written → Written → Tree Question → Type 0
   MemberWrites items w v tree = ArePlaced text items
-      → WritesNodes text w v (prefix tree)
-      (if is_leaf tree then places (length w.nodes) tree else [])
-      (if is_function tree then places (length w.nodes) tree else [])
+      → WritesNodes text w v (prefix tree) (own (length w.nodes) tree)
+      (inner (length w.nodes) tree)
 
   abbrev ListWrites : List Item → Written → Written → Trees Question → Type 0
   ListWrites items w v trees = ArePlaced text items
@@ -72,8 +79,7 @@ module _ (text : List ℕ) where
       (value : Option (List ℕ)) (leaf : Leaf) → Stands text key_span span key value
       → class key value ≡ Class.is leaf → let tree = leaf_tree leaf in
       WritesNodes text w (with_leaf (located key_span span leaf) w) (prefix tree)
-      (if is_leaf tree then places (length w.nodes) tree else [])
-      (if is_function tree then places (length w.nodes) tree else [])
+      (own (length w.nodes) tree) (inner (length w.nodes) tree)
   leaf_writes w key_span span key value (Leaf.predicate question) stands classed =
       let named : NamesClass text key_span span (Class.is (Leaf.predicate question)) =
       subst (NamesClass text key_span span) classed

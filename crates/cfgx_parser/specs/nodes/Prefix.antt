@@ -1,7 +1,7 @@
 -- A tree as nodes in source order, and where its predicates stand among them.
-use Rattle.std.specs.Prelude.{ℕ, ◌+◌, Bool, List, [], ◌∷◌, ◌++◌, length, if◌then◌else◌}
+use Rattle.std.specs.Prelude.{ℕ, ◌+◌, Bool, List, [], ◌∷◌, ◌++◌, length}
 use Rattle.cfgx_grammar.specs.Question.{Question}
-use Rattle.cfgx_grammar.specs.Tree.{Tree, Trees, is_function, is_leaf, count}
+use Rattle.cfgx_grammar.specs.Tree.{Tree, Trees, asked, asked_by, count}
 use Rattle.cfgx_parser.specs.nodes.Located.{question_at}
 use Rattle.cfgx_parser.specs.declared.function.Func.{Func}
 use Rattle.cfgx_parser.specs.declared.function.Func.TheVariants.{Not, All, Any}
@@ -36,20 +36,23 @@ abbrev mutual
   prefix_each (Trees.more tree trees) = prefix tree ++ prefix_each trees
 
 abbrev mutual
-  -- where the predicates of a tree stand, in the order in which they are asked, when the tree
-  -- stands at the place
-  pub places : {X : Type 0} → ℕ → Tree X → List ℕ
-  places place (Tree.leaf x) = place ∷ []
-  places place (Tree.literal truth) = []
-  places place (Tree.all trees) = places_by is_function (place + 1) trees
-      ++ places_by is_leaf (place + 1) trees
-  places place (Tree.any trees) = places_by is_function (place + 1) trees
-      ++ places_by is_leaf (place + 1) trees
-  places place (Tree.not tree) = places (place + 1) tree
+  -- the tree with the place of each predicate's node in its stead, when the tree stands at the place
+  pub with_places : {X : Type 0} → ℕ → Tree X → Tree ℕ
+  with_places place (Tree.leaf x) = Tree.leaf place
+  with_places place (Tree.literal truth) = Tree.literal truth
+  with_places place (Tree.all trees) = Tree.all (with_places_each (place + 1) trees)
+  with_places place (Tree.any trees) = Tree.any (with_places_each (place + 1) trees)
+  with_places place (Tree.not tree) = Tree.not (with_places (place + 1) tree)
 
-  -- where those of the trees of a list stand that pass the test, when the first tree stands at the
-  -- place
-  pub places_by : {X : Type 0} → (Tree X → Bool) → ℕ → Trees X → List ℕ
-  places_by test place Trees.none = []
-  places_by test place (Trees.more tree trees) = (if test tree then places place tree else [])
-      ++ places_by test (place + length (prefix tree)) trees
+  pub with_places_each : {X : Type 0} → ℕ → Trees X → Trees ℕ
+  with_places_each place Trees.none = Trees.none
+  with_places_each place (Trees.more tree trees) = Trees.more (with_places place tree)
+      (with_places_each (place + length (prefix tree)) trees)
+
+-- where the predicates of a tree stand, in the order in which they are asked
+abbrev pub places : {X : Type 0} → ℕ → Tree X → List ℕ
+places place tree = asked (with_places place tree)
+
+-- and those of the trees of a list that pass the test
+abbrev pub places_by : {X : Type 0} → (Tree ℕ → Bool) → ℕ → Trees X → List ℕ
+places_by test place trees = asked_by test (with_places_each place trees)
