@@ -1,6 +1,7 @@
 -- That the numbers which Rust's `parse` reads are those of `read_below`.
-use Rattle.std.proofs.Common.{◌≡◌, refl, ap, ℕ, ◌^◌, ◌<◌, Bool, true, false, List, [], ◌∷◌, arith}
-use Rattle.std.specs.Prelude.{Some, None, Result, Ok, Err, nat_lt, cond}
+use Rattle.std.proofs.lemmas.Grind.{common_steps}
+use Rattle.std.proofs.Common.{◌≡◌, ℕ, ◌^◌, ◌<◌, Bool, true, List, [], ◌∷◌, arith}
+use Rattle.std.specs.Prelude.{Some, None, Result, nat_lt, cond}
 use Rattle.std.specs.Bool.{Decides}
 use Rattle.std.specs.Result.{OkIff, result_ok}
 use Rattle.std.specs.Fmt.{decimal}
@@ -25,9 +26,7 @@ Decides-is_numeral (d ∷ ds) =
 -- a result that is `Ok` of the value exactly where the test passes, as an option
 result_ok-OkIff : {E P : Type 0} (b : Bool) (v : ℕ) (r : Result ℕ E) → Decides b P → OkIff r P v
     → result_ok r ≡ cond b (Some v) None
-result_ok-OkIff b v (Ok n) d h = rw (d.1 h.0) (ap Some h.1)
-result_ok-OkIff true v (Err e) d h = absurd (h (d.0 refl))
-result_ok-OkIff false v (Err e) d h = refl
+result_ok-OkIff b v r d h = grind (arith, common_steps)
 
 -- what `parse` reads at an unsigned type of k bits
 pub result_ok-parse : {E : Type 0} (k : ℕ) (bs : List ℕ) (r : Result ℕ E) → ParsesUnsigned k 10 bs r

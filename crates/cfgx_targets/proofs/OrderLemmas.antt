@@ -1,5 +1,6 @@
 -- Lists in order: when a list is one, what a search by halves finds in it, and that a sorted
 -- rearrangement is the only one.
+use Rattle.std.proofs.lemmas.Grind.{common_steps}
 use Rattle.std.proofs.Common.{inl, inr, Bor, ◌≡◌, ◌↔◌, refl, sym, ap, subst, ◌∙◌, ℕ, zero, suc}
 use Rattle.std.proofs.Common.{◌+◌, ◌<◌, ◌≤◌, Bool, true, false, not, List, [], ◌∷◌, length}
 use Rattle.std.proofs.Common.{get_or, arith}
@@ -8,7 +9,7 @@ use Rattle.std.specs.Prelude.{cond, is_ok, ⊤}
 use Rattle.std.specs.declared.cmp.Ordering.{Ordering}
 use Rattle.std.specs.declared.cmp.Ordering.TheVariants.{Less, Equal, Greater}
 use Rattle.std.specs.Bool.{Decides}
-use Rattle.std.specs.Cmp.{IsTotalOrder, Agrees, Equal-is}
+use Rattle.std.specs.Cmp.{IsTotalOrder, Agrees}
 use Rattle.std.specs.Cmp.Lexicographic.{pointwise, pointwise_decides}
 use Rattle.std.specs.Fn.{Called, ComputesKey, Mut}
 use Rattle.std.specs.List.{IsAllAdjacentAnswer, count_by}
@@ -16,7 +17,7 @@ use Rattle.std.specs.List.Sorted.{IsBinarySearchResult, IsSearchInRange}
 use Rattle.std.specs.Ordering.{is_lt, is_le, is_eq, is_some_and, partial_le, ordering_reverse}
 use Rattle.std.specs.Ordering.{eq_by_cmp}
 use Rattle.std.proofs.lemmas.Bool.{cases_lt, not-true}
-use Rattle.std.proofs.lemmas.Cmp.{tied_itself, alike_right}
+use Rattle.std.proofs.lemmas.Cmp.{tied_itself}
 use Rattle.std.proofs.lemmas.List.Sums.{sum_by-cons}
 use Rattle.std.proofs.lemmas.Fn.{always_returns_same}
 use Rattle.std.proofs.lemmas.List.Sorted.{searchable_from_sorted, IsPermutation-sym}
@@ -29,9 +30,7 @@ module _ {X : Type 0} {R : X → X → Ordering} (o : IsTotalOrder R) where
   le-lt x y = rw (o.antisymm x y) (by_cases (R y x))
     where
       by_cases : (r : Ordering) → is_le (ordering_reverse r) ≡ not (is_lt r)
-      by_cases Less = refl
-      by_cases Equal = refl
-      by_cases Greater = refl
+      by_cases r = grind (arith, common_steps)
 
   module _ {C : X → X → Option Ordering} (a : Agrees C R) where
     neighbors : (x y : X) → partial_le C x y ≡ not (is_lt (R y x))
@@ -118,8 +117,7 @@ Rises-from R (x ∷ y ∷ ys) s =
 
 Rises-tail : {X : Type 0} (R : X → X → Ordering) (x : X) (xs : List X) → Rises R (x ∷ xs)
     → Rises R xs
-Rises-tail R x [] s = tt
-Rises-tail R x (y ∷ ys) s = s.1
+Rises-tail a0 x xs s = grind (arith, common_steps)
 
 module _ {X : Type 0} {R : X → X → Ordering} (o : IsTotalOrder R) where
   -- what is below the first is below what is not below the first
@@ -127,11 +125,7 @@ module _ {X : Type 0} {R : X → X → Ordering} (o : IsTotalOrder R) where
   below-chain x y z h up = by_cases (R y z) refl
     where
       by_cases : (r : Ordering) → R y z ≡ r → R x z ≡ Less
-      by_cases Less e = o.trans x y z h e
-      by_cases Equal e = rw (← alike_right o y z x e) h
-      by_cases Greater e =
-          let flipped : R z y ≡ Less = o.antisymm z y ∙ ap ordering_reverse e in
-          absurd (let lt = ap is_lt flipped in cc)
+      by_cases r e = grind (arith, common_steps)
 
   -- a list that begins above q has none equal to q
   count_equal-below : (q y : X) (ys : List X) → R q y ≡ Less → Rises R (y ∷ ys)
@@ -142,8 +136,7 @@ module _ {X : Type 0} {R : X → X → Ordering} (o : IsTotalOrder R) where
       rw (sum_by-cons (λ w. cond (is_eq (R q w)) 1 0) y (z ∷ zs), h, rest) refl
 
   count_equal-first : (x : X) (xs : List X) → 0 < count_equal R x (x ∷ xs)
-  count_equal-first x xs =
-      rw (sum_by-cons (λ w. cond (is_eq (R x w)) 1 0) x xs, tied_itself o x) (omega arith)
+  count_equal-first x xs = grind (arith, common_steps)
 
   -- of two lists in order with as many of each, none begins below the other
   not-below : (x y : X) (xs ys : List X) → Rises R (y ∷ ys)
@@ -182,10 +175,7 @@ module _ {X : Type 0} {R : X → X → Ordering} (o : IsTotalOrder R) where
   module _ {E : X → X → Bool} (same : (x y : X) → R x y ≡ Equal → x ≡ y)
       (e : (x y : X) → E x y ≡ eq_by_cmp R x y) where
     decides-same : (x y : X) → Decides (E x y) (x ≡ y)
-    decides-same x y = (
-      λ h. same x y ((Equal-is (R x y)).0 (sym (e x y) ∙ h)),
-      λ h. e x y ∙ ap is_eq (subst (λ z. R x z ≡ Equal) h (tied_itself o x)),
-    )
+    decides-same x y = grind (arith, common_steps)
 
     -- the test of two lists member by member
     pub lists-same : (xs ys : List X) → IsTrue (pointwise E xs ys) ↔ (xs ≡ ys)

@@ -1,4 +1,5 @@
 -- Rows in the order of their triples: the first that is not, and what a search by halves finds.
+use Rattle.std.proofs.lemmas.Grind.{common_steps}
 use Rattle.std.proofs.Common.{◌≡◌, refl, sym, ap, subst, ◌∙◌, inl, inr, ℕ, zero, suc, ◌+◌, ◌-◌}
 use Rattle.std.proofs.Common.{◌<◌, Bool, true, false, List, [], ◌∷◌, length, get_or, arith}
 use Rattle.std.proofs.Common.{add-one, nat_cmp}
@@ -12,8 +13,7 @@ use Rattle.std.specs.Ordering.{is_lt, is_ge, is_eq, ordering_reverse}
 use Rattle.std.specs.Str.{bytes_eq}
 use Rattle.std.proofs.lemmas.Bool.{cases_lt}
 use Rattle.std.proofs.lemmas.Cmp.{alike_right}
-use Rattle.std.proofs.lemmas.List.{get_or_read}
-use Rattle.std.proofs.lemmas.List.Sorted.{all_adjacent_more, searchable_from_sorted}
+use Rattle.std.proofs.lemmas.List.Sorted.{searchable_from_sorted}
 use Rattle.cfgx_targets.specs.Builtins.{builtin_rows}
 use Rattle.cfgx_targets.specs.Table.{IsBelow, AreIncreasing, IsFirstNotAbove, row_with}
 use Rattle.cfgx_targets.specs.declared.info.TargetInfo.{TargetInfo}
@@ -40,9 +40,7 @@ find-none p (y ∷ ys) fails =
 
 module _ {A : Type 0} (rows : List (TargetInfo A)) where
   not_ge : (r : Ordering) → is_ge r ≡ false → r ≡ Less
-  not_ge Less h = refl
-  not_ge Equal h = cc
-  not_ge Greater h = cc
+  not_ge r h = grind (arith, common_steps)
 
   abbrev order : TargetInfo A → TargetInfo A → Ordering
   order one other = slice_cmp nat_cmp one.triple other.triple
@@ -54,25 +52,15 @@ module _ {A : Type 0} (rows : List (TargetInfo A)) where
     where
       neighbours : (d : TargetInfo A)
           → order (get_or rows (place - 1) d) (get_or rows place d) ≡ order before row
-      neighbours d =
-          let one = get_or_read rows (place - 1) before (omega arith) is_before d in
-          let next = get_or_read rows place row inside is_row d in
-          λ i. order (sym one i) (sym next i)
+      neighbours d = grind (arith, common_steps)
 
       -- that is not above it
       pub first-not_above : is_ge (order before row) ≡ true → IsFirstNotAbove rows place
-      first-not_above ge = record {
-        behind_first = behind;
-        inside = inside;
-        rising = rising;
-        not_above = λ d less.
-            let falls : is_ge Less ≡ true = ap is_ge (sym less ∙ neighbours d) ∙ ge in cc;
-      }
+      first-not_above ge = grind (arith, common_steps)
 
       -- that is
       pub below-more : is_ge (order before row) ≡ false → AllAdjacentBelow IsBelow rows (place + 1)
-      below-more lt = all_adjacent_more rows IsBelow place behind rising
-          (λ d. neighbours d ∙ not_ge (order before row) lt)
+      below-more lt = grind (arith, common_steps)
 
   module _ (up : AreIncreasing rows) where
     increasing-far : (i j : ℕ) (d : TargetInfo A) → i < j → j < length rows
