@@ -1,7 +1,6 @@
 -- What a token and the end of a text do depends on no token in front of them, and keeps that one.
-use Rattle.std.proofs.Common.{◌≡◌, ℕ, true, false, List, [], ◌∷◌, Option, Some, None, Result, Ok}
-use Rattle.std.proofs.Common.{Err, sym, refl, ap, ◌∙◌, arith}
-use Rattle.std.proofs.lemmas.Bool.Decides.{nat_tests}
+use Rattle.std.proofs.Common.{◌≡◌, ℕ, true, false, List, Option, Some, Result}
+use Rattle.std.proofs.Common.{sym, ap, ◌∙◌, arith}
 use Rattle.cfgx_syntax.specs.Token.{Token}
 use Rattle.cfgx_syntax.specs.Items.{Item}
 use Rattle.cfgx_syntax.specs.Error.{Refusal}
@@ -16,7 +15,6 @@ use Rattle.cfgx_parser.specs.parsing.Fields.{last_of, token_like}
 use Rattle.cfgx_parser.specs.parsing.Parser.{state_of, Gives, GivesAt, Reads, Finishes, concluded}
 use Rattle.cfgx_parser.specs.parsing.State.{OpenFunction, ParserState}
 use Rattle.cfgx_parser.specs.declared.parser.Halt.{Halt}
-use Rattle.cfgx_parser.specs.declared.parser.Halt.TheVariants as halt
 use Rattle.cfgx_parser.specs.declared.parser.LastToken.{LastToken}
 use Rattle.cfgx_parser.specs.declared.parser.Parser.{Parser}
 

@@ -21,7 +21,6 @@ use Rattle.cfgx_parser.specs.parsing.Parser.{ReadsAll, Says}
 use Rattle.cfgx_parser.specs.parsing.Fields.{last_of}
 use Rattle.cfgx_parser.specs.declared.parser.LastToken.{LastToken}
 use Rattle.cfgx_parser.specs.declared.parser.Halt.{Halt}
-use Rattle.cfgx_parser.specs.declared.parser.Halt.TheVariants as halt
 use Rattle.cfgx_parser.specs.declared.parser.Parser.{Parser}
 use Rattle.cfgx_parser.proofs.Bounded.{IsHeld-step}
 

@@ -1,5 +1,5 @@
 -- How many nodes the tree of so many tokens has, and that of so many bytes.
-use Rattle.std.proofs.Common.{◌≡◌, ℕ, ◌+◌, ◌≤◌, List, [], ◌∷◌, ◌++◌, length, Option, Some, None, ap}
+use Rattle.std.proofs.Common.{◌≡◌, ℕ, ◌+◌, ◌≤◌, List, [], ◌∷◌, ◌++◌, length, Option, ap}
 use Rattle.std.proofs.Common.{◌∙◌, arith, length-append}
 use Rattle.cfgx_syntax.specs.Token.{Token}
 use Rattle.cfgx_grammar.specs.Grammar.{leaf_tokens, IsCall, IsMember, IsList, commas, HasTree}

@@ -1,5 +1,6 @@
 -- The nodes of a tree are written for its items: the laws of the builder of nodes.
 use Rattle.std.proofs.Common.{◌≡◌, ℕ, ◌+◌, true, false, List, [], ◌∷◌, ◌++◌, length, Option}
+use Rattle.std.proofs.Common.{option_map}
 use Rattle.std.proofs.Common.{Some, None, sym, refl, ap, ◌∙◌, subst}
 use Rattle.std.specs.Prelude.{if◌then◌else◌}
 use Rattle.std.proofs.lemmas.List.{append-nil, length_push}
@@ -9,7 +10,7 @@ use Rattle.cfgx_grammar.specs.Question.{Leaf, Question}
 use Rattle.cfgx_grammar.specs.Classification.{Class, class}
 use Rattle.cfgx_grammar.specs.Tree.{Tree, Trees, is_function, is_leaf, count}
 use Rattle.cfgx_grammar.specs.parsing.State.{Function}
-use Rattle.cfgx_parser.specs.nodes.Located.{located}
+use Rattle.cfgx_parser.specs.nodes.Located.{located, at, IsSpan, ValueHasCut}
 use Rattle.cfgx_parser.specs.nodes.Node.{Written, with_leaf}
 use Rattle.cfgx_parser.specs.nodes.Prefix.{Node, headed, prefix, prefix_each, places, places_by}
 use Rattle.cfgx_parser.specs.nodes.Prefix.{with_places}
@@ -20,7 +21,7 @@ use Rattle.cfgx_parser.specs.declared.nodes.ExprNode.TheVariants as node
 use Rattle.cfgx_grammar.proofs.alone.{all_of_first, all_of_second}
 use Rattle.cfgx_grammar.proofs.accepted.{leaf_tree}
 use Rattle.cfgx_grammar.proofs.spelled.{Calls, Laws}
-use Rattle.cfgx_parser.proofs.spelled.Located.{Stands, NamesClass, NamesClass-class}
+use Rattle.cfgx_parser.proofs.spelled.Located.{NamesClass, NamesClass-class}
 use Rattle.cfgx_parser.proofs.spelled.Written.{WritesNodes-none, WritesNodes-then}
 use Rattle.cfgx_parser.proofs.spelled.Written.{WritesNodes-leaf, WritesNodes-function, length-nodes}
 
@@ -75,17 +76,17 @@ module _ (text : List ℕ) where
       → WritesNodes text w v (prefix_each trees) (places_by is_leaf (length w.nodes) trees)
       (places_by is_function (length w.nodes) trees)
 
-  leaf_writes : (w : Written) (key_span : Range ℕ) (span : Option (Range ℕ)) (key : List ℕ)
-      (value : Option (List ℕ)) (leaf : Leaf) → Stands text key_span span key value
-      → class key value ≡ Class.is leaf → let tree = leaf_tree leaf in
+  leaf_writes : (w : Written) (key_span : Range ℕ) (span : Option (Range ℕ)) (leaf : Leaf)
+      → IsSpan text key_span → ValueHasCut text span
+      → class (at text key_span) (option_map (at text) span) ≡ Class.is leaf
+      → let tree = leaf_tree leaf in
       WritesNodes text w (with_leaf (located key_span span leaf) w) (prefix tree)
       (own (length w.nodes) tree) (inner (length w.nodes) tree)
-  leaf_writes w key_span span key value (Leaf.predicate question) stands classed =
-      let named : NamesClass text key_span span (Class.is (Leaf.predicate question)) =
-      subst (NamesClass text key_span span) classed
-      (NamesClass-class text key_span span key value stands) in
+  leaf_writes w key_span span (Leaf.predicate question) key_cut cut classed =
+      let named = subst (NamesClass text key_span span) classed
+      (NamesClass-class text key_span span key_cut cut) in
       WritesNodes-leaf text w _ (Node.leaf question) (ap Node.leaf named.0) named.1
-  leaf_writes w key_span span key value (Leaf.literal truth) stands classed =
+  leaf_writes w key_span span (Leaf.literal truth) key_cut cut classed =
       WritesNodes-leaf text w (node.Literal truth) _ refl tt
 
   list_writes : (xs ys zs : List Item) (tree : Tree Question) (trees : Trees Question)
@@ -116,11 +117,12 @@ module _ (text : List ℕ) where
   node_laws = record {
     MemberBuilds = MemberWrites;
     ListBuilds = ListWrites;
-    key = λ x key leaf w is classed placed.
-        leaf_writes w _ None key None leaf (subst (IsPlaced text x) is placed.0, tt) classed;
+    key = λ x key leaf w is classed placed. let word = subst (IsPlaced text x) is placed.0 in
+        leaf_writes w _ None leaf word.1 tt (rw word.0 classed);
     value = λ x y z key value leaf w x_is z_is classed placed.
-        leaf_writes w _ (Some _) key (Some value) leaf
-        (subst (IsPlaced text x) x_is placed.0, subst (IsPlaced text z) z_is placed.1.1.0) classed;
+        let word = subst (IsPlaced text x) x_is placed.0 in
+        let other = subst (IsPlaced text z) z_is placed.1.1.0 in
+        leaf_writes w _ (Some _) leaf word.1 other.1 (rw (word.0, other.0) classed);
     none = λ w placed. WritesNodes-none text w;
     more = list_writes;
     all = λ trees. call_writes Function.all (Tree.all trees) trees (Called-all trees);
