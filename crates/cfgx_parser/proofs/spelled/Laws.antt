@@ -1,6 +1,6 @@
 -- The nodes of a tree are written for its items: the laws of the builder of nodes.
 use Rattle.std.proofs.Common.{◌≡◌, ℕ, ◌+◌, true, false, List, [], ◌∷◌, ◌++◌, length, Option}
-use Rattle.std.proofs.Common.{option_map}
+use Rattle.std.proofs.Common.{option_map, rules}
 use Rattle.std.proofs.Common.{Some, None, sym, refl, ap, ◌∙◌, subst}
 use Rattle.std.specs.Prelude.{if◌then◌else◌}
 use Rattle.std.proofs.lemmas.List.{append-nil, length_push}
@@ -16,7 +16,6 @@ use Rattle.cfgx_parser.specs.nodes.Prefix.{Node, headed, prefix, prefix_each, pl
 use Rattle.cfgx_parser.specs.nodes.Prefix.{with_places}
 use Rattle.cfgx_parser.specs.nodes.Writes.{IsPlaced, ArePlaced, WritesNodes}
 use Rattle.cfgx_parser.specs.parsing.State.{counted, node_builder}
-use Rattle.cfgx_parser.specs.declared.function.Func.TheVariants.{Not}
 use Rattle.cfgx_parser.specs.declared.nodes.ExprNode.TheVariants as node
 use Rattle.cfgx_grammar.proofs.alone.{all_of_first, all_of_second}
 use Rattle.cfgx_grammar.proofs.accepted.{leaf_tree}
@@ -46,23 +45,6 @@ places_one : (place : ℕ) (tree : Tree Question) → let one = Trees.more tree 
 places_one place (Tree.leaf question) = refl
 places_one place (Tree.literal truth) = refl
 places_one place tree = sym (append-nil (places place tree ++ []) ∙ append-nil (places place tree))
-
-Called-all : (trees : Trees Question) → Called Function.all (Tree.all trees) trees
-Called-all trees =
-    record { prefix_is = refl; places_are = λ _. refl; is_no_leaf = λ _. refl; is_one = λ _. refl }
-
-Called-any : (trees : Trees Question) → Called Function.any (Tree.any trees) trees
-Called-any trees =
-    record { prefix_is = refl; places_are = λ _. refl; is_no_leaf = λ _. refl; is_one = λ _. refl }
-
-Called-not : (tree : Tree Question)
-    → Called Function.not (Tree.not tree) (Trees.more tree Trees.none)
-Called-not tree = record {
-  prefix_is = ap (headed Not) (sym (append-nil (prefix tree)));
-  places_are = λ place. places_one (place + 1) tree;
-  is_no_leaf = λ place. refl;
-  is_one = λ place. refl;
-}
 
 module _ (text : List ℕ) where
   -- for a tree whose items stand at their places, and for a list
@@ -94,24 +76,18 @@ module _ (text : List ℕ) where
       → MemberWrites xs w v tree → ListWrites zs v u trees
       → ListWrites (xs ++ (ys ++ zs)) w u (Trees.more tree trees)
   list_writes xs ys zs tree trees w v u writes more placed =
-      let P = λ (item : Item). IsPlaced text item item.token in
-      let first = writes (all_of_first P xs (ys ++ zs) placed) in
-      let others = more (all_of_second P ys zs (all_of_second P xs (ys ++ zs) placed)) in
-      let at = subst (λ k. WritesNodes text v u (prefix_each trees) (places_by is_leaf k trees)
-      (places_by is_function k trees)) (length-nodes text w v (prefix tree) _ _ first) others in
-      WritesNodes-then text w v u _ _ _ _ _ _ first at
+      let first = writes (all_of_first _ xs (ys ++ zs) placed) in
+      let others = more (all_of_second _ ys zs (all_of_second _ xs (ys ++ zs) placed)) in
+      WritesNodes-then first (rw (length-nodes first) at others)
 
   call_writes : (function : Function) (tree : Tree Question) (trees : Trees Question)
       → Called function tree trees
       → Calls node_builder MemberWrites ListWrites function tree trees
   call_writes function tree trees called head opening closing members w v writes placed =
-      let P = λ (item : Item). IsPlaced text item item.token in
-      let written = writes (all_of_first P members (closing ∷ []) placed.1.1) in
+      let written = writes (all_of_first _ members (closing ∷ []) placed.1.1) in
       let place = length_push w.nodes (node.Fn (counted function 0) 0) in
-      let whole =
-      WritesNodes-function text w v (counted function 0) (counted function (count trees))
-      _ _ _ written in
-      rw (called.prefix_is, called.is_no_leaf, called.is_one, called.places_are, ← place) whole
+      rw (called.prefix_is, called.is_no_leaf, called.is_one, called.places_are, ← place)
+      (WritesNodes-function (counted function 0) (counted function (count trees)) written)
 
   pub node_laws : Laws node_builder
   node_laws = record {
@@ -125,10 +101,10 @@ module _ (text : List ℕ) where
         leaf_writes w _ (Some _) leaf word.1 other.1 (rw (word.0, other.0) classed);
     none = λ w placed. WritesNodes-none text w;
     more = list_writes;
-    all = λ trees. call_writes Function.all (Tree.all trees) trees (Called-all trees);
-    any = λ trees. call_writes Function.any (Tree.any trees) trees (Called-any trees);
+    all = λ trees. call_writes Function.all (Tree.all trees) trees (search rules);
+    any = λ trees. call_writes Function.any (Tree.any trees) trees (search rules);
     not = λ tree. call_writes Function.not (Tree.not tree) (Trees.more tree Trees.none)
-        (Called-not tree);
+        (search (rules, append-nil, places_one));
   }
 
   pub laws_written : (items : List Item) (w v : Written) (tree : Tree Question)

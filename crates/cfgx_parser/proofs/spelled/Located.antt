@@ -1,6 +1,6 @@
 -- A predicate that is read from its key and value is the one that its node names in the text.
 use Rattle.std.proofs.Common.{◌≡◌, ℕ, List, [], ◌∷◌, Option, Some, None, option_map}
-use Rattle.std.proofs.Common.{arith, rules, refl, ap}
+use Rattle.std.proofs.Common.{arith, rules, refl}
 use Rattle.std.specs.List.{AllByRecursion}
 use Rattle.std.specs.declared.ops.Range.{Range}
 use Rattle.std.proofs.lemmas.Slice.Eq.{bytes_eq-Decides}
@@ -36,13 +36,11 @@ module _ (text : List ℕ) (key_span : Range ℕ) where
   names_read : {X : Type 0} (span : Range ℕ) (ask : X → TargetQuestion) (cause : Cause)
       (x : Option X) → ((y : X) → Names (Some span) (Question.target (ask y)))
       → NamesClass (Some span) (if_read ask cause x)
-  names_read span ask cause None names = tt
-  names_read span ask cause (Some x) names = names x
+  names_read span ask cause x names = grind arith
 
   names_feature : (span : Range ℕ) (value : List ℕ) → at text span ≡ value → IsSpan text span
       → NamesClass (Some span) (target_feature value)
-  names_feature span [] is cut = tt
-  names_feature span (byte ∷ bytes) is cut = (ap Question.target_feature is, cut)
+  names_feature span value is cut = grind arith
 
   names_target : (span : Range ℕ) (name : List ℕ) → IsSpan text span
       → NamesClass (Some span) (target_class name (at text span))
