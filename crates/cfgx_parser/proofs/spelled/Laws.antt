@@ -1,7 +1,7 @@
 -- The nodes of a tree are written for its items: the laws of the builder of nodes.
 use Rattle.std.proofs.Common.{◌≡◌, ℕ, ◌+◌, true, false, List, [], ◌∷◌, ◌++◌, length, Option}
-use Rattle.std.proofs.Common.{option_map, rules}
-use Rattle.std.proofs.Common.{Some, None, sym, refl, ap, ◌∙◌, subst}
+use Rattle.std.proofs.Common.{option_map, rules, arith}
+use Rattle.std.proofs.Common.{Some, None, refl, ap, subst}
 use Rattle.std.specs.Prelude.{if◌then◌else◌}
 use Rattle.std.proofs.lemmas.List.{append-nil, length_push}
 use Rattle.std.specs.declared.ops.Range.{Range}
@@ -42,9 +42,7 @@ record Called (function : Function) (tree : Tree Question) (trees : Trees Questi
 -- the two ways of writing the one member of a `not`
 places_one : (place : ℕ) (tree : Tree Question) → let one = Trees.more tree Trees.none in
     places place tree ≡ places_by is_function place one ++ places_by is_leaf place one
-places_one place (Tree.leaf question) = refl
-places_one place (Tree.literal truth) = refl
-places_one place tree = sym (append-nil (places place tree ++ []) ∙ append-nil (places place tree))
+places_one place tree = grind (arith, append-nil)
 
 module _ (text : List ℕ) where
   -- for a tree whose items stand at their places, and for a list
