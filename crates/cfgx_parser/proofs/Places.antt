@@ -35,8 +35,7 @@ found-behind (first ∷ front) back x = found-behind front back x
 
 Lies-found : {X : Type 0} (all : List X) (place : ℕ) (x : X) → Lies all place (x ∷ [])
     → slice_get all place ≡ Some x
-Lies-found all place x l = ap (slice_get all) (sym l.at)
-    ∙ ap (λ a. slice_get a (length l.front)) l.is ∙ found-behind l.front l.back x
+Lies-found all place x l = rw (← l.at, l.is) (found-behind l.front l.back x)
 
 module _ {X Y : Type 0} (all : List (Node X)) (read : ℕ → Y) (of : X → Y)
     (each : (place : ℕ) (x : X) → slice_get all place ≡ Some (Node.leaf x) → read place ≡ of x)

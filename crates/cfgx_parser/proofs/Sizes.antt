@@ -1,5 +1,5 @@
 -- How many nodes the tree of so many tokens has, and that of so many bytes.
-use Rattle.std.proofs.Common.{◌≡◌, ℕ, ◌+◌, ◌≤◌, List, [], ◌∷◌, ◌++◌, length, Option, ap}
+use Rattle.std.proofs.Common.{◌≡◌, ℕ, ◌+◌, ◌≤◌, List, ◌++◌, length, Option, ap}
 use Rattle.std.proofs.Common.{◌∙◌, arith, length-append}
 use Rattle.cfgx_syntax.specs.Token.{Token}
 use Rattle.cfgx_grammar.specs.Grammar.{leaf_tokens, IsCall, IsMember, IsList, commas, HasTree}
@@ -17,8 +17,7 @@ leaf-tokens key value = grind arith
 
 call-tokens : (name : Token) (tokens inner : List Token) → IsCall name tokens inner
     → length tokens ≡ length inner + 3
-call-tokens name tokens inner is =
-    omega (arith, ap length is, length-append inner (Token.close_paren ∷ []))
+call-tokens name tokens inner is = rw is (omega (arith, length-append {A = Token}))
 
 mutual
   pub tree-tokens : (tree : Tree Question) (tokens : List Token) → IsMember tokens tree
