@@ -2,8 +2,7 @@
 use Rattle.std.proofs.Common.{ap, ◌∙◌}
 use Rattle.std.proofs.lemmas.Result.{err_from_is_err_and}
 use Rattle.cfgx_syntax.specs.Stripping.{strip}
-use Rattle.cfgx_parser.proofs.Whole.{Begins, Answers-fails, Answers-memory, KeepsOneTree-reads}
-use Rattle.cfgx_parser.proofs.Whole.{IsAccepted-reads}
+use Rattle.cfgx_parser.proofs.Whole.{Begins, Answers-fails, Answers-memory, Accepted}
 use Rattle.cfgx_parser.proofs.parsed.parse.Given.{Over}
 use Rattle.cfgx_parser.proofs.parsed.parse.Goals.{After-read_all}
 use Rattle.cfgx_parser.proofs.parsed.parse.Goals as goal
@@ -34,15 +33,15 @@ invariant_of-result g c =
     let same = c.in_ok-original.ensures.ok ∙ c.original-text.ensures
     ∙ ap (λ l. l.text) begun.lexer_is in
     rw (same, c.into_parts-nodes.ensures.nodes, c.into_parts-nodes.ensures.asked)
-    (KeepsOneTree-reads c.read_all.new.self begun c.in_ok-read_all.ensures)
+    (Accepted c.read_all.new.self begun c.in_ok-read_all.ensures).0
 
 pub returns : goal.returns
 returns g c =
     let begun = begins g (goal.at.returns g c).After-read_all in
-    let found = IsAccepted-reads c.read_all.new.self begun c.in_ok-read_all.ensures in
     let same = c.in_ok-original.ensures.ok ∙ c.original-text.ensures
     ∙ ap (λ l. l.text) begun.lexer_is in
-    (same, found.0, found.1)
+    let accepted = Accepted c.read_all.new.self begun c.in_ok-read_all.ensures in
+    (same, accepted.1, accepted.2)
 
 pub returns-in_err-parser : goal.returns-in_err-parser
 returns-in_err-parser g c = Answers-memory (strip c.args.original.now) c.new-lexer.ensures.one _
