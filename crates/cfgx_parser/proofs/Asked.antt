@@ -1,7 +1,8 @@
 -- The predicates at a tree's places are what the tree asks, in this order.
 use Rattle.std.proofs.Common.{◌≡◌, ℕ, zero, suc, List, [], ◌∷◌}
-use Rattle.std.proofs.Common.{length, map, Option, Some, None, option_map, refl, ap, arith, rules}
+use Rattle.std.proofs.Common.{length, map, Option, Some, option_map, refl, ap, arith, rules}
 use Rattle.std.specs.List.{AllByRecursion, slice_get, filter_map}
+use Rattle.std.proofs.lemmas.Option.{slice_get-map}
 use Rattle.cfgx_grammar.specs.Question.{Question}
 use Rattle.cfgx_grammar.specs.Tree.{Tree, asked}
 use Rattle.cfgx_parser.specs.nodes.Located.{question_at}
@@ -13,22 +14,14 @@ use Rattle.cfgx_parser.specs.declared.nodes.ExprNode.{ExprNode}
 use Rattle.cfgx_parser.specs.declared.nodes.ExprNode.TheVariants as node
 use Rattle.cfgx_parser.proofs.Places.{read-places}
 
--- the question of a node that is a predicate
-abbrev question_of_node : Node Question → Option Question
-question_of_node (Node.leaf question) = Some question
-question_of_node (Node.literal truth) = None
-question_of_node (Node.function func len) = None
-
 -- what is asked at a place
 abbrev question_in : List ℕ → List ExprNode → ℕ → Option Question
 question_in text nodes place = option_map (question_at text) (predicate_at nodes place)
 
-shown_same : (text : List ℕ) (nodes : List ExprNode) (place : ℕ) (x : Node Question)
-    → slice_get (map (node_at text) nodes) place ≡ Some x
-    → question_in text nodes place ≡ question_of_node x
-shown_same text [] place x is = absurd (cc)
-shown_same text (first ∷ nodes) zero x is = grind arith
-shown_same text (first ∷ nodes) (suc place) x is = shown_same text nodes place x is
+shown_same : (text : List ℕ) (nodes : List ExprNode) (place : ℕ) (question : Question)
+    → slice_get (map (node_at text) nodes) place ≡ Some (Node.leaf question)
+    → question_in text nodes place ≡ Some question
+shown_same text nodes place question is = grind (arith, slice_get-map (node_at text) nodes place)
 
 filtered : {X Y : Type 0} (h : X → Option Y) (xs : List X)
     (ys : List Y) → map h xs ≡ map (λ (y : Y). Some y) ys → filter_map h xs ≡ ys
@@ -73,7 +66,7 @@ module _ {text : List ℕ} {nodes : List ExprNode} {asks : List ℕ} {tree : Tre
   asks_kept : map (question_in text nodes) asks ≡ map (λ (q : Question). Some q) (asked tree)
   asks_kept = rw k.asked_are (read-places tree (question_in text nodes) (λ (q : Question). Some q)
       (λ place question is. shown_same text nodes place
-      (Node.leaf question) (rw k.nodes_are is)))
+      question (rw k.nodes_are is)))
 
   pub questions_at-kept : questions_at text nodes asks ≡ asked tree
   questions_at-kept = filtered (question_in text nodes) asks (asked tree) asks_kept
