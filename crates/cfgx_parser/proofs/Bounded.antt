@@ -1,20 +1,23 @@
 -- What was counted was written: each step keeps it.
 use Rattle.std.proofs.Common.{◌≡◌, ℕ, suc, ◌+◌, ◌-◌, ◌≤◌, List, [], ◌∷◌, length, Option, Some, None}
-use Rattle.std.proofs.Common.{Ok, refl, subst, arith, length-take, length-append}
+use Rattle.std.proofs.Common.{Ok, refl, arith, length-take, length-append}
+use Rattle.std.specs.Prelude.{Result, Err, Bool, true, IfOk, if◌then◌else◌}
+use Rattle.std.proofs.lemmas.Result.{IfOk-at_ok}
 use Rattle.std.proofs.lemmas.List.{length_push, length-set}
 use Rattle.cfgx_syntax.specs.Token.{Token}
 use Rattle.cfgx_syntax.specs.Items.{Item}
 use Rattle.cfgx_grammar.specs.parsing.State.{Function, Pending}
-use Rattle.cfgx_parser.specs.parsing.State.{OpenFunction, ParserState, counted}
+use Rattle.cfgx_parser.specs.parsing.State.{OpenFunction, ParserState, counted, classified}
 use Rattle.cfgx_grammar.specs.parsing.Step.{over_top, one_more, root_more, leaf_ended}
 use Rattle.cfgx_grammar.specs.parsing.Step.{predicate_ended, opened, function_ended, with_parens}
-use Rattle.cfgx_grammar.specs.parsing.Step.{apply, step}
+use Rattle.cfgx_grammar.specs.parsing.Step.{apply, step, ended_by, closed_by, with_last, result_map}
+use Rattle.cfgx_grammar.specs.FirstFault.{refusal}
+use Rattle.cfgx_grammar.specs.Neighbours.{next, expected}
+use Rattle.cfgx_syntax.specs.Error.{Refusal, unexpected}
 use Rattle.cfgx_parser.specs.parsing.Bounded.{counted_in, AreMarked, IsHeld}
 use Rattle.cfgx_parser.specs.nodes.Node.{asked_at}
 use Rattle.cfgx_parser.specs.declared.nodes.ExprNode.{ExprNode}
 use Rattle.cfgx_parser.specs.declared.nodes.ExprNode.TheVariants as node
-use Rattle.cfgx_grammar.proofs.accepted.{ok_same, LeafEnds-ended, same_ended}
-use Rattle.cfgx_grammar.proofs.accepted.{Closes-stack, Steps-step}
 
 -- one more member, wherever it is counted
 counted-with_member : (stack : List OpenFunction) (roots : ℕ)
@@ -28,8 +31,10 @@ AreMarked-more [] n m k l f same p q marks = tt
 AreMarked-more (top ∷ rest) n m k l f same p q marks =
     rw (same top) (omega (arith, marks.0), omega (arith, marks.1), marks.2)
 
-IsHeld-leaf : (s : ParserState) (leaf : ExprNode) → IsHeld s → IsHeld (leaf_ended s leaf)
-IsHeld-leaf s leaf h =
+-- a predicate or a literal that ends well
+IsHeld-written : (s : ParserState) (leaf : Result ExprNode Refusal) → IsHeld s
+    → IfOk (result_map (leaf_ended s) leaf) IsHeld
+IsHeld-written s (Ok leaf) h =
     let nodes = length_push s.written.nodes leaf in
     let leaves = length-append s.written.leaves (asked_at leaf (length s.written.nodes)) in
     record {
@@ -37,13 +42,12 @@ IsHeld-leaf s leaf h =
       marks = AreMarked-more s.stack _ _ _ _ one_more (λ top. refl) (omega arith) (omega arith)
           h.marks;
     }
+IsHeld-written s (Err refusal) h = tt
 
-pub IsHeld-ended : (s t : ParserState) (pending : Option Pending) → s.pending ≡ pending
-    → predicate_ended s ≡ Ok t → IsHeld s → IsHeld t
-IsHeld-ended s t None none ends h = rw (← same_ended s t none ends) h
-IsHeld-ended s t (Some p) pending ends h =
-    let leaf = LeafEnds-ended s t p pending ends in
-    rw leaf.ended (IsHeld-leaf s leaf.written h)
+IsHeld-ended : (s : ParserState) (pending : Option Pending) → IsHeld s
+    → IfOk (ended_by s pending) IsHeld
+IsHeld-ended s None h = h
+IsHeld-ended s (Some p) h = IsHeld-written s (classified p) h
 
 IsHeld-opened : (s : ParserState) (function : Function) (item : Item) → IsHeld s
     → IsHeld (opened s function item)
@@ -78,30 +82,34 @@ IsHeld-parens s place h = record {
       (omega arith) h.marks;
 }
 
-IsHeld-applied : (s u : ParserState) (item : Item) (token : Token) → apply s item token ≡ Ok u
-    → IsHeld s
-    → IsHeld u
-IsHeld-applied s u item (Token.key text) does h =
-    rw (← ok_same _ u does) (record { counts = h.counts; marks = h.marks })
-IsHeld-applied s u item (Token.value text) does h =
-    rw (← ok_same _ u does) (record { counts = h.counts; marks = h.marks })
-IsHeld-applied s u item Token.equals does h = rw (← ok_same s u does) h
-IsHeld-applied s u item Token.all does h = rw (← ok_same _ u does)
-    (IsHeld-opened s Function.all item h)
-IsHeld-applied s u item Token.any does h = rw (← ok_same _ u does)
-    (IsHeld-opened s Function.any item h)
-IsHeld-applied s u item Token.not does h = rw (← ok_same _ u does)
-    (IsHeld-opened s Function.not item h)
-IsHeld-applied s u item Token.open_paren does h = rw (← ok_same _ u does)
-    (IsHeld-parens s item.start h)
-IsHeld-applied s u item Token.close_paren does h =
-    let (top, rest, settled, is, room, ends, closed) = Closes-stack s u item s.stack refl does in
-    rw (← closed) (IsHeld-closed settled settled.stack refl
-    (IsHeld-ended s settled s.pending refl ends h))
-IsHeld-applied s u item Token.comma does h = IsHeld-ended s u s.pending refl does h
+-- what is kept where a step may be taken
+IfOk-taken : {A E : Type 0} (P Q : A → Type 0) (f : A → A) (may : Bool) (r : Result A E) (e : E)
+    → ((a : A) → P a → Q (f a)) → IfOk r P → IfOk (if may then result_map f r else Err e) Q
+IfOk-taken P Q f true (Ok a) e keeps holds = keeps a holds
+IfOk-taken P Q f _ _ e keeps holds = tt
+
+IsHeld-close : (s : ParserState) (item : Item) (stack : List OpenFunction) → IsHeld s
+    → IfOk (closed_by s item stack) IsHeld
+IsHeld-close s item [] h = tt
+IsHeld-close s item (top ∷ rest) h =
+    IfOk-taken IsHeld IsHeld _ _ (predicate_ended s) _ (λ t. IsHeld-closed t t.stack refl)
+    (IsHeld-ended s s.pending h)
+
+IsHeld-applied : (s : ParserState) (item : Item) (token : Token) → IsHeld s
+    → IfOk (apply s item token) IsHeld
+IsHeld-applied s item (Token.key text) h = record { counts = h.counts; marks = h.marks }
+IsHeld-applied s item (Token.value text) h = record { counts = h.counts; marks = h.marks }
+IsHeld-applied s item Token.equals h = h
+IsHeld-applied s item Token.all h = IsHeld-opened s Function.all item h
+IsHeld-applied s item Token.any h = IsHeld-opened s Function.any item h
+IsHeld-applied s item Token.not h = IsHeld-opened s Function.not item h
+IsHeld-applied s item Token.open_paren h = IsHeld-parens s item.start h
+IsHeld-applied s item Token.close_paren h = IsHeld-close s item s.stack h
+IsHeld-applied s item Token.comma h = IsHeld-ended s s.pending h
 
 pub IsHeld-step : (s t : ParserState) (item : Item) → step s item ≡ Ok t → IsHeld s → IsHeld t
 IsHeld-step s t item steps h =
-    let d = Steps-step s t item steps in
-    let applied = IsHeld-applied s d.applied item item.token d.does h in
-    subst IsHeld d.after (record { counts = applied.counts; marks = applied.marks })
+    let held = IfOk-taken IsHeld IsHeld (with_last item.token) (next s.last item.token)
+    (apply s item item.token) (refusal (unexpected (expected s.last)) item.start item.end)
+    (λ u k. record { counts = k.counts; marks = k.marks }) (IsHeld-applied s item item.token h) in
+    IfOk-at_ok IsHeld steps held
