@@ -12,8 +12,7 @@ use Rattle.cfgx_grammar.specs.parsing.Step.{over_top, one_more, root_more, leaf_
 use Rattle.cfgx_grammar.specs.parsing.Step.{predicate_ended, opened, function_ended, with_parens}
 use Rattle.cfgx_grammar.specs.parsing.Step.{apply, step, ended_by, closed_by, with_last, result_map}
 use Rattle.cfgx_grammar.specs.FirstFault.{refusal}
-use Rattle.cfgx_grammar.specs.Neighbours.{next, expected}
-use Rattle.cfgx_syntax.specs.Error.{Refusal, unexpected}
+use Rattle.cfgx_syntax.specs.Error.{Refusal}
 use Rattle.cfgx_parser.specs.parsing.Bounded.{counted_in, AreMarked, IsHeld}
 use Rattle.cfgx_parser.specs.nodes.Node.{asked_at}
 use Rattle.cfgx_parser.specs.declared.nodes.ExprNode.{ExprNode}
@@ -108,8 +107,6 @@ IsHeld-applied s item Token.close_paren h = IsHeld-close s item s.stack h
 IsHeld-applied s item Token.comma h = IsHeld-ended s s.pending h
 
 pub IsHeld-step : (s t : ParserState) (item : Item) → step s item ≡ Ok t → IsHeld s → IsHeld t
-IsHeld-step s t item steps h =
-    let held = IfOk-taken IsHeld IsHeld (with_last item.token) (next s.last item.token)
-    (apply s item item.token) (refusal (unexpected (expected s.last)) item.start item.end)
-    (λ u k. record { counts = k.counts; marks = k.marks }) (IsHeld-applied s item item.token h) in
-    IfOk-at_ok IsHeld steps held
+IsHeld-step s t item steps h = IfOk-at_ok IsHeld steps (IfOk-taken IsHeld IsHeld
+    (with_last item.token) _ (apply s item item.token) _
+    (λ u k. record { counts = k.counts; marks = k.marks }) (IsHeld-applied s item item.token h))
