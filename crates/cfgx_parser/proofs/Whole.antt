@@ -10,7 +10,7 @@ use Rattle.cfgx_syntax.specs.declared.error.Failure.TheVariants as failure
 use Rattle.cfgx_grammar.specs.Answer.{Answers, IsAccepted}
 use Rattle.cfgx_parser.specs.nodes.Keeps.{KeepsOneTree}
 use Rattle.cfgx_grammar.specs.parsing.State.{initial}
-use Rattle.cfgx_parser.specs.parsing.Parser.{state_of, FailsAs, Ends, ReadsAll}
+use Rattle.cfgx_parser.specs.parsing.Parser.{state_of, Ends, ReadsAll}
 use Rattle.cfgx_parser.specs.declared.parser.Parser.{Parser}
 use Rattle.cfgx_grammar.proofs.Answering.{answer, tree_of, IsAccepted-accepted, IsRefused-refused}
 use Rattle.cfgx_grammar.proofs.Answering.{accepted_or_refused}
@@ -23,12 +23,6 @@ pub record Begins {A : Type 0} (text : List ℕ) (lexer : LexerState)
   pub one : HasOneTokenList text
   pub lexer_is : lexer ≡ starting text
   pub state_is : state_of {A = A} parser ≡ initial
-
-fails_as : {A : Type 0} (text : List ℕ) (one : HasOneTokenList text)
-    (f : Failure A) → FailsAs text f (answer text one) → Answers text (Err f)
-fails_as text one (failure.Parse error) fails =
-    (fails.0, fails.2, IsRefused-refused text one fails.0 fails.1)
-fails_as text one (failure.Memory error) fails = accepted_or_refused text one
 
 -- where memory runs out
 pub Answers-memory : {A : Type 0} (text : List ℕ) → HasOneTokenList text → (error : _)
@@ -47,7 +41,10 @@ module _ {A : Type 0} {text : List ℕ} {lexer : LexerState} {old : Parser A} (n
 
   pub Answers-fails : (f : Failure A) → Begins {A = A} text lexer old
       → ReadsAll {A = A} lexer old new (Err f) → Answers text (Err f)
-  Answers-fails f b reads = fails_as text b.one f (given (Err f) b reads)
+  Answers-fails (failure.Parse error) b reads =
+      let (refusal, refused, same) = given (Err (failure.Parse error)) b reads in
+      (refusal, same, IsRefused-refused text b.one refusal refused)
+  Answers-fails (failure.Memory error) b reads = accepted_or_refused text b.one
 
   -- what is accepted
   pub Accepted : Begins {A = A} text lexer old → ReadsAll {A = A} lexer old new (Ok tt)

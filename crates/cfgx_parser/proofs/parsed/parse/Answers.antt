@@ -1,5 +1,5 @@
 -- The text is read from its start, and what is read is what the grammar answers.
-use Rattle.std.proofs.Common.{ap, ◌∙◌}
+use Rattle.std.proofs.Common.{rules, ap, ◌∙◌}
 use Rattle.std.proofs.lemmas.Result.{err_from_is_err_and}
 use Rattle.cfgx_syntax.specs.Stripping.{strip}
 use Rattle.cfgx_parser.proofs.Whole.{Begins, Answers-fails, Answers-memory, Accepted}
@@ -10,11 +10,7 @@ use Rattle.cfgx_parser.proofs.parsed.parse.Goals as goal
 -- the parser starts at the text's start
 begins : (g : Over) (c : After-read_all g) → Begins {A = g.row.A.Denot} (strip c.args.original.now)
     c.new-lexer.result c.in_ok-parser.parser
-begins g c = record {
-  one = c.new-lexer.ensures.one;
-  lexer_is = c.new-lexer.ensures.starts;
-  state_is = c.in_ok-parser.ensures;
-}
+begins g c = search rules
 
 pub returns-in_err-read_all : goal.returns-in_err-read_all
 returns-in_err-read_all g c =
