@@ -1,6 +1,5 @@
 -- What a token and the end of a text do depends on no token in front of them, and keeps that one.
-use Rattle.std.proofs.Common.{◌≡◌, ℕ, true, false, Option, Result}
-use Rattle.std.proofs.Common.{arith}
+use Rattle.std.proofs.Common.{◌≡◌, ℕ, true, false, Option, Result, arith}
 use Rattle.cfgx_syntax.specs.Token.{Token}
 use Rattle.cfgx_syntax.specs.Items.{Item}
 use Rattle.cfgx_syntax.specs.Error.{Refusal}
@@ -8,8 +7,7 @@ use Rattle.cfgx_syntax.specs.Lexer.{token_of, item_of}
 use Rattle.cfgx_syntax.specs.declared.lexer.LexerToken.{LexerToken}
 use Rattle.cfgx_grammar.specs.FirstFault.{lacks_value}
 use Rattle.cfgx_grammar.specs.Neighbours.{next}
-use Rattle.cfgx_grammar.specs.parsing.Step.{result_map, apply}
-use Rattle.cfgx_grammar.specs.parsing.Step.{concluded_by, with_last, conclude}
+use Rattle.cfgx_grammar.specs.parsing.Step.{result_map, apply, concluded_by, with_last, conclude}
 use Rattle.cfgx_parser.specs.parsing.Fields.{last_of, token_like}
 use Rattle.cfgx_parser.specs.parsing.Parser.{state_of, Gives, GivesAt, Reads, Finishes, concluded}
 use Rattle.cfgx_parser.specs.parsing.State.{ParserState}

@@ -1,7 +1,6 @@
 -- The nodes of a tree are written for its items: the laws of the builder of nodes.
 use Rattle.std.proofs.Common.{◌≡◌, ℕ, ◌+◌, true, false, List, [], ◌∷◌, ◌++◌, length, Option}
-use Rattle.std.proofs.Common.{option_map, rules, arith}
-use Rattle.std.proofs.Common.{Some, None, refl, ap, subst}
+use Rattle.std.proofs.Common.{option_map, rules, arith, Some, None, refl, ap, subst}
 use Rattle.std.specs.Prelude.{if◌then◌else◌}
 use Rattle.std.proofs.lemmas.List.{append-nil, length_push}
 use Rattle.std.specs.declared.ops.Range.{Range}
@@ -21,8 +20,8 @@ use Rattle.cfgx_grammar.proofs.alone.{all_of_first, all_of_second}
 use Rattle.cfgx_grammar.proofs.accepted.{leaf_tree}
 use Rattle.cfgx_grammar.proofs.spelled.{Calls, Laws}
 use Rattle.cfgx_parser.proofs.spelled.Located.{NamesClass, NamesClass-class}
-use Rattle.cfgx_parser.proofs.spelled.Written.{WritesNodes-none, WritesNodes-then}
-use Rattle.cfgx_parser.proofs.spelled.Written.{WritesNodes-leaf, WritesNodes-function, length-nodes}
+use Rattle.cfgx_parser.proofs.spelled.Written.{WritesNodes-none, WritesNodes-then, WritesNodes-leaf}
+use Rattle.cfgx_parser.proofs.spelled.Written.{WritesNodes-function, length-nodes}
 
 -- the places of what is asked with its list, and of what is asked before
 abbrev pub own : ℕ → Tree Question → List ℕ
