@@ -68,13 +68,9 @@ module _ {T : Type 0} {answer : T → Bool} {rows left : List T} {is_true is_fal
       → Added answer rows left is_true is_false → (is_true < 2 ^ 63) × (is_false < 2 ^ 63)
   Added-fit before row left_is few added =
       let given = map answer added.done in
-      let below : length given ≤ 63 = omega (
-        arith,
-        ap length added.rows_are,
-        ap length left_is,
-        length-append {A = T},
-        length-map added.done answer,
-      ) in
+      let all = ap length added.rows_are ∙ length-append left added.done in
+      let last = ap length left_is ∙ length-append before (row ∷ []) in
+      let below : length given ≤ 63 = omega (arith, all, last, length-map added.done answer) in
       let opposite : length (map not given) ≤ 63 = omega (arith, length-map given not, below) in (
         omega (arith, added.true_is, bits-lt given, pow_mono below),
         omega (arith, added.false_is, bits-lt (map not given), pow_mono opposite),

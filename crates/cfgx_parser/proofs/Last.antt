@@ -47,7 +47,8 @@ lacks_value-like : (before : Option Token)
     → lacks_value (token_like (last_of before)) ≡ lacks_value before
 lacks_value-like before = grind arith
 
-module _ {A : Type 0} (last : LastToken) (result : Result (Unit {0}) Halt) (old new : Parser A) where
+module _ {A : Type 0} (last : LastToken) (result : Result (Unit {0}) Halt)
+    (old new : Parser A) where
   -- a token that may follow
   pub Reads-follows : (lexed : LexerToken) → next (token_like last) (token_of lexed.token) ≡ true
       → Gives {A = A} result new

@@ -20,7 +20,7 @@ use Rattle.cfgx_parser.specs.declared.parser.LastToken.{LastToken}
 use Rattle.cfgx_parser.specs.declared.parser.Parser.{Parser}
 use Rattle.cfgx_parser.proofs.Bounded.{IsHeld-step}
 
--- where the reader stands in the text; the parser keeps of the last token what tells what may follow
+-- where the reader stands; the parser keeps of the last token what tells what may follow it
 pub record LeadsTo {A : Type 0} (lexer now : LexerState) (old : Parser A) (last : LastToken)
     (parser : Parser A) : Type 0 where
   pub token : Option spelled.Token
@@ -31,7 +31,8 @@ pub record LeadsTo {A : Type 0} (lexer now : LexerState) (old : Parser A) (last 
       (state_at {A = A} token parser)
 
 -- a fault of the rest is the fault of the whole
-FailsAs-more : {A : Type 0} (text : List ℕ) (f : Failure A) (part whole : Result ParserState Refusal)
+FailsAs-more : {A : Type 0} (text : List ℕ) (f : Failure A)
+    (part whole : Result ParserState Refusal)
     → ((refusal : Refusal) → part ≡ Err refusal → whole ≡ Err refusal)
     → FailsAs text f part → FailsAs text f whole
 FailsAs-more text f part whole more fails = grind arith
@@ -62,8 +63,8 @@ module _ {A : Type 0} {lexer now : LexerState} {old before : Parser A} {last : L
           fits = reaches.fits;
         };
         text = l.text;
-        continues = Continues-step lexer.text lexer.place now.place (state_of {A = A} old) from _ item
-            l.continues (rw l.text at gives.stands) goes;
+        continues = Continues-step lexer.text lexer.place now.place (state_of {A = A} old) from _
+            item l.continues (rw l.text at gives.stands) goes;
       })
 
   -- a token that is refused

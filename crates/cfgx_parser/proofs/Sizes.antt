@@ -36,12 +36,9 @@ mutual
       → length (prefix_each trees) ≤ length tokens
   trees-tokens Trees.none tokens is = omega arith
   trees-tokens (Trees.more tree trees) tokens is =
-      rw (is.3, length-append (prefix tree) (prefix_each trees)) (omega (
-        arith,
-        length-append {A = Token},
-        tree-tokens tree is.0 is.5,
-        trees-tokens trees is.2 is.6,
-      ))
+      let all = simp length-append at (ap length is.3) in
+      let nodes = length-append (prefix tree) (prefix_each trees) in
+      omega (arith, all, nodes, tree-tokens tree is.0 is.5, trees-tokens trees is.2 is.6)
 
 -- and a text has no more nodes than bytes
 pub nodes-bytes : (text : List ℕ) (tree : Tree Question) → HasTree text tree

@@ -14,8 +14,8 @@ new-requires g c =
 pub returns-clause-asked : goal.returns-clause-asked
 returns-clause-asked g c =
     let keeps = rw c.self.view_is at c.self.invariant in
-    let same = rw (c.as_str.ensures.value, c.as_slice.ensures, c.as_slice-2.ensures) at c.new.ensures
-    in
+    let same =
+    rw (c.as_str.ensures.value, c.as_slice.ensures, c.as_slice-2.ensures) at c.new.ensures in
     (keeps.one, same ∙ rw c.self.view_is (questions_at-kept keeps.keeps))
 
 -- what a text asks can stand in a text

@@ -23,8 +23,8 @@ returns-in-Err g c =
     let gives = rw c.in_ok-lexed.was at c.in-Some.ensures.steps in
     let before = c.loop-lexed.invariant in
     let fails = c.failure.ensures _ (c.in-Err.ensures before.token before.kept) in
-    ReadsAll-read {A = g.row.A.Denot} before c.read.new.self c.next.new.self _ c.failure.result gives
-    (rw c.original-text.ensures at fails)
+    ReadsAll-read {A = g.row.A.Denot} before c.read.new.self c.next.new.self _ c.failure.result
+    gives (rw c.original-text.ensures at fails)
 
 pub returns-in-Ok : goal.returns-in-Ok
 returns-in-Ok g c =
