@@ -1,4 +1,5 @@
 -- What a map between two logics makes of a value is the value of what it makes of the answers.
+use Rattle.std.proofs.Common.{arith}
 use Rattle.std.proofs.Common.{◌≡◌, ℕ, ◌<◌, List, [], ◌∷◌, map, refl}
 use Rattle.std.specs.Prelude.{bit_and}
 use Rattle.std.specs.List.{AllByRecursion, AllZip}
@@ -51,13 +52,7 @@ IsMap-lane i below = record {
 IsMap-same : {T U : Type 0} {one : Operations T} {other : Operations U} {Holds Same : T → Type 0}
     {to : T → U} → ((x : T) → Holds x → Same x) → ((x : T) → Same x → Holds x)
     → IsMap one other Holds to → IsMap one other Same to
-IsMap-same there back is = record {
-  top = (there _ is.top.0, is.top.1);
-  bottom = (there _ is.bottom.0, is.bottom.1);
-  and = λ x y p q. let both = is.and x y (back x p) (back y q) in (there _ both.0, both.1);
-  or = λ x y p q. let both = is.or x y (back x p) (back y q) in (there _ both.0, both.1);
-  not = λ x p. let opposite = is.not x (back x p) in (there _ opposite.0, opposite.1);
-}
+IsMap-same there back is = grind arith
 
 pub IsMap-lane_passes : (i : ℕ) → i < 64
     → IsMap lane_valued three_valued (Passes is_apart) (lane i)

@@ -38,24 +38,10 @@ module _ (text rest : List ℕ) (is : text ≡ codes "cfg(" ++ rest) where
   long = ap length is ∙ omega (arith, length-append (codes "cfg(") rest)
 
   Stands-word : Stands text 0 word
-  Stands-word = record {
-    behind = omega arith;
-    gap = NoCharPasses-nil _;
-    spelled = rw is (refl, is_key);
-    ordered = omega arith;
-    inside = omega (arith, long);
-    whole = rw is refl;
-  }
+  Stands-word = grind arith
 
   Stands-opening : Stands text 3 opening
-  Stands-opening = record {
-    behind = omega arith;
-    gap = NoCharPasses-nil _;
-    spelled = rw is refl;
-    ordered = omega arith;
-    inside = omega (arith, long);
-    whole = refl;
-  }
+  Stands-opening = grind arith
 
   -- such a text has no tree
   no_tree : (tree : Tree Question) → HasTree text tree → ⊥

@@ -33,8 +33,7 @@ leaf_tree (Leaf.literal truth) = Tree.literal truth
 -- it is the member that its tokens spell
 pub IsMember-leaf : (tokens : List Token) (leaf : Leaf) → IsLeaf tokens leaf
     → IsMember tokens (leaf_tree leaf)
-IsMember-leaf tokens (Leaf.predicate question) is = is
-IsMember-leaf tokens (Leaf.literal truth) is = is
+IsMember-leaf tokens leaf is = grind arith
 
 -- What completes the open lists of the parser, as it is read from the end of a text: one member in
 -- front of another.
@@ -56,8 +55,7 @@ one_tree tokens (Trees.more tree Trees.none) one (member, n, rest, are, some, sp
 one_tree tokens (Trees.more tree (Trees.more second trees)) one list = absurd (omega arith)
 
 separated : (n : ℕ) (trees : Trees Question) → Separates (suc n) trees
-separated n Trees.none = tt
-separated n (Trees.more tree trees) = omega arith
+separated n trees = grind arith
 
 module _ {M : Type 0} where
   -- The tokens close the open functions, the innermost of which has so many more members: behind
@@ -82,8 +80,7 @@ module _ {M : Type 0} where
   pub Rest-any : (May : ℕ → Trees Question → Type 0) (stack : List (Open M)) (roots members : ℕ)
       (tokens : List Token) → Rest May stack roots members tokens
       → Rest AnyCommas stack roots members tokens
-  Rest-any May stack roots members tokens (n, others, trees, after, are, may, list, ends) =
-      (n, others, trees, after, are, tt, list, ends)
+  Rest-any a0 stack roots members tokens a5 = grind arith
 
   -- a member that has been counted
   Ends-more : (stack : List (Open M)) (roots n m : ℕ) (tokens : List Token) → m ≡ suc n
@@ -94,8 +91,7 @@ module _ {M : Type 0} where
       (tokens : List Token)
       → Rest May (over_top one_more stack) (root_more stack roots) 0 tokens
       → Rest May stack roots 1 tokens
-  Rest-more May stack roots tokens (n, others, trees, after, are, may, list, ends) =
-      (n, others, trees, after, are, may, list, Ends-more stack roots _ _ after (omega arith) ends)
+  Rest-more a0 stack roots tokens a4 = grind arith
 
   -- no member is left
   pub Rest-none : (May : ℕ → Trees Question → Type 0) (stack : List (Open M)) (roots members : ℕ)

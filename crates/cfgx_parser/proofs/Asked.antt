@@ -1,45 +1,34 @@
 -- The predicates at a tree's places are what the tree asks, in this order.
 use Rattle.std.proofs.Common.{◌≡◌, ℕ, zero, suc, List, [], ◌∷◌}
-use Rattle.std.proofs.Common.{length, map, Option, Some, None, option_map, refl, ap, ◌∙◌, arith}
-use Rattle.std.specs.Prelude.{option_and_then}
+use Rattle.std.proofs.Common.{length, map, Option, Some, option_map, refl, ap, arith, rules}
 use Rattle.std.specs.List.{AllByRecursion, slice_get, filter_map}
+use Rattle.std.proofs.lemmas.Option.{slice_get-map}
 use Rattle.cfgx_grammar.specs.Question.{Question}
 use Rattle.cfgx_grammar.specs.Tree.{Tree, asked}
 use Rattle.cfgx_parser.specs.nodes.Located.{question_at}
 use Rattle.cfgx_parser.specs.nodes.Prefix.{Node, node_at}
 use Rattle.cfgx_parser.specs.nodes.Writes.{NodeHasCut}
-use Rattle.cfgx_parser.specs.nodes.Keeps.{KeepsTree, predicate_of, predicate_at, questions_at}
+use Rattle.cfgx_parser.specs.nodes.Keeps.{KeepsTree, predicate_at, questions_at}
 use Rattle.cfgx_parser.specs.nodes.Keeps.{NamesPredicate, NamePredicates}
 use Rattle.cfgx_parser.specs.declared.nodes.ExprNode.{ExprNode}
 use Rattle.cfgx_parser.specs.declared.nodes.ExprNode.TheVariants as node
 use Rattle.cfgx_parser.proofs.Places.{read-places}
 
--- the question of a node that is a predicate
-abbrev question_of_node : Node Question → Option Question
-question_of_node (Node.leaf question) = Some question
-question_of_node (Node.literal truth) = None
-question_of_node (Node.function func len) = None
-
 -- what is asked at a place
 abbrev question_in : List ℕ → List ExprNode → ℕ → Option Question
 question_in text nodes place = option_map (question_at text) (predicate_at nodes place)
 
-shown_same : (text : List ℕ) (nodes : List ExprNode) (place : ℕ) (x : Node Question)
-    → slice_get (map (node_at text) nodes) place ≡ Some x
-    → question_in text nodes place ≡ question_of_node x
-shown_same text [] place x is = absurd (cc)
-shown_same text (node.Fn func len ∷ nodes) zero x is = grind arith
-shown_same text (node.Predicate predicate ∷ nodes) zero x is = grind arith
-shown_same text (node.Literal truth ∷ nodes) zero x is = grind arith
-shown_same text (first ∷ nodes) (suc place) x is = shown_same text nodes place x is
+shown_same : (text : List ℕ) (nodes : List ExprNode) (place : ℕ) (question : Question)
+    → slice_get (map (node_at text) nodes) place ≡ Some (Node.leaf question)
+    → question_in text nodes place ≡ Some question
+shown_same text nodes place question is = grind (arith, slice_get-map (node_at text) nodes place)
 
 filtered : {X Y : Type 0} (h : X → Option Y) (xs : List X)
     (ys : List Y) → map h xs ≡ map (λ (y : Y). Some y) ys → filter_map h xs ≡ ys
 filtered h [] [] e = refl
 filtered h (x ∷ xs) (y ∷ ys) e =
     let first : h x ≡ Some y = cc in
-    let rest : map h xs ≡ map (λ (y : _). Some y) ys = cc in
-    rw first (ap (λ l. y ∷ l) (filtered h xs ys rest))
+    rw first (ap (λ l. y ∷ l) (filtered h xs ys (cc)))
 filtered h xs ys e = absurd (cc)
 
 -- where a predicate is found
@@ -51,8 +40,7 @@ NamesPredicate-found : (text : List ℕ) (nodes : List ExprNode) (place : ℕ)
 NamesPredicate-found text (node.Predicate predicate ∷ nodes) zero question cuts e =
     record { predicate = predicate; stands = refl; cut = cuts.0 }
 NamesPredicate-found text (x ∷ nodes) (suc place) question cuts e =
-    let n = NamesPredicate-found text nodes place question cuts.1 e in
-    record { predicate = n.predicate; stands = n.stands; cut = n.cut }
+    search (rules, NamesPredicate-found text nodes place question cuts.1 e)
 NamesPredicate-found text nodes place question cuts e = absurd (cc)
 
 NamePredicates-asks : (text : List ℕ) (nodes : List ExprNode) (asks : List ℕ)
@@ -60,30 +48,25 @@ NamePredicates-asks : (text : List ℕ) (nodes : List ExprNode) (asks : List ℕ
     → map (question_in text nodes) asks ≡ map (λ (q : Question). Some q) questions
     → NamePredicates text nodes asks
 NamePredicates-asks text nodes [] questions cuts e = tt
+NamePredicates-asks text nodes (place ∷ asks) (question ∷ questions) cuts e =
+    let rest = NamePredicates-asks text nodes asks questions cuts (cc) in
+    (NamesPredicate-found text nodes place question cuts (cc), rest)
 NamePredicates-asks text nodes (place ∷ asks) [] cuts e = absurd (cc)
-NamePredicates-asks text nodes (place ∷ asks) (question ∷ questions) cuts e = (
-  NamesPredicate-found text nodes place question cuts (cc),
-  NamePredicates-asks text nodes asks questions cuts (cc),
-)
 
 -- one question for each place
 pub length-questions_at : (text : List ℕ) (nodes : List ExprNode) (asks : List ℕ)
     → NamePredicates text nodes asks → length (questions_at text nodes asks) ≡ length asks
 length-questions_at text nodes [] names = refl
 length-questions_at text nodes (place ∷ asks) names =
-    let found : predicate_at nodes place ≡ Some names.0.predicate =
-    ap (option_and_then predicate_of) names.0.stands in
-    rw found (ap suc (length-questions_at text nodes asks names.1))
+    rw names.0.stands (ap suc (length-questions_at text nodes asks names.1))
 
 module _ {text : List ℕ} {nodes : List ExprNode} {asks : List ℕ} {tree : Tree Question}
     (k : KeepsTree text nodes asks tree) where
   -- the predicates at a tree's places are what it asks
   asks_kept : map (question_in text nodes) asks ≡ map (λ (q : Question). Some q) (asked tree)
-  asks_kept =
-      ap (map (question_in text nodes)) k.asked_are
-      ∙ read-places tree (question_in text nodes) (λ (q : Question). Some q)
-      (λ place question is. shown_same text nodes place (Node.leaf question)
-      (ap (λ l. slice_get l place) k.nodes_are ∙ is))
+  asks_kept = rw k.asked_are (read-places tree (question_in text nodes) (λ (q : Question). Some q)
+      (λ place question is. shown_same text nodes place
+      question (rw k.nodes_are is)))
 
   pub questions_at-kept : questions_at text nodes asks ≡ asked tree
   questions_at-kept = filtered (question_in text nodes) asks (asked tree) asks_kept

@@ -1,64 +1,58 @@
 -- What was counted was written: each step keeps it.
 use Rattle.std.proofs.Common.{◌≡◌, ℕ, suc, ◌+◌, ◌-◌, ◌≤◌, List, [], ◌∷◌, length, Option, Some, None}
-use Rattle.std.proofs.Common.{Ok, sym, refl, subst, arith, length-take, length-append}
+use Rattle.std.proofs.Common.{Ok, refl, arith, length-take, length-append}
+use Rattle.std.specs.Prelude.{Result, Err, Bool, true, IfOk, if◌then◌else◌}
+use Rattle.std.proofs.lemmas.Result.{IfOk-at_ok}
 use Rattle.std.proofs.lemmas.List.{length_push, length-set}
 use Rattle.cfgx_syntax.specs.Token.{Token}
 use Rattle.cfgx_syntax.specs.Items.{Item}
 use Rattle.cfgx_grammar.specs.parsing.State.{Function, Pending}
-use Rattle.cfgx_parser.specs.parsing.State.{OpenFunction, ParserState, counted}
+use Rattle.cfgx_parser.specs.parsing.State.{OpenFunction, ParserState, counted, classified}
 use Rattle.cfgx_grammar.specs.parsing.Step.{over_top, one_more, root_more, leaf_ended}
 use Rattle.cfgx_grammar.specs.parsing.Step.{predicate_ended, opened, function_ended, with_parens}
-use Rattle.cfgx_grammar.specs.parsing.Step.{apply, step}
+use Rattle.cfgx_grammar.specs.parsing.Step.{apply, step, ended_by, closed_by, with_last, result_map}
+use Rattle.cfgx_grammar.specs.FirstFault.{refusal}
+use Rattle.cfgx_syntax.specs.Error.{Refusal}
 use Rattle.cfgx_parser.specs.parsing.Bounded.{counted_in, AreMarked, IsHeld}
 use Rattle.cfgx_parser.specs.nodes.Node.{asked_at}
 use Rattle.cfgx_parser.specs.declared.nodes.ExprNode.{ExprNode}
 use Rattle.cfgx_parser.specs.declared.nodes.ExprNode.TheVariants as node
-use Rattle.cfgx_grammar.proofs.accepted.{ok_same, LeafEnds-ended, same_ended}
-use Rattle.cfgx_grammar.proofs.accepted.{Closes-stack, Steps-step}
 
 -- one more member, wherever it is counted
 counted-with_member : (stack : List OpenFunction) (roots : ℕ)
     → root_more stack roots + counted_in (over_top one_more stack) ≡ suc (roots + counted_in stack)
 counted-with_member stack roots = grind arith
 
-AreMarked-more : (stack : List OpenFunction) (n m k l : ℕ) → n ≤ m → k ≤ l → AreMarked stack n k
-    → AreMarked stack m l
-AreMarked-more [] n m k l p q marks = tt
-AreMarked-more (top ∷ rest) n m k l p q marks =
-    (omega (arith, marks.0), omega (arith, marks.1), marks.2)
+AreMarked-more : (stack : List OpenFunction) (n m k l : ℕ) (f : OpenFunction → OpenFunction)
+    → ((top : OpenFunction) → (f top).mark ≡ top.mark) → n ≤ m → k ≤ l → AreMarked stack n k
+    → AreMarked (over_top f stack) m l
+AreMarked-more [] n m k l f same p q marks = tt
+AreMarked-more (top ∷ rest) n m k l f same p q marks =
+    rw (same top) (omega (arith, marks.0), omega (arith, marks.1), marks.2)
 
-AreMarked-top : (stack : List OpenFunction) (n k : ℕ) (f : OpenFunction → OpenFunction)
-    → ((top : OpenFunction) → (f top).mark ≡ top.mark) → AreMarked stack n k
-    → AreMarked (over_top f stack) n k
-AreMarked-top stack n k f same marks = grind arith
-
-IsHeld-leaf : (s : ParserState) (leaf : ExprNode) → IsHeld s → IsHeld (leaf_ended s leaf)
-IsHeld-leaf s leaf h =
+-- a predicate or a literal that ends well
+IsHeld-written : (s : ParserState) (leaf : Result ExprNode Refusal) → IsHeld s
+    → IfOk (result_map (leaf_ended s) leaf) IsHeld
+IsHeld-written s (Ok leaf) h =
     let nodes = length_push s.written.nodes leaf in
     let leaves = length-append s.written.leaves (asked_at leaf (length s.written.nodes)) in
     record {
-      counts = omega (arith, counted-with_member s.stack s.roots, nodes, h.counts);
-      marks = AreMarked-more (over_top one_more s.stack)
-          (length s.written.nodes) _ (length s.written.leaves) _ (omega (arith, nodes))
-          (omega (arith, leaves))
-          (AreMarked-top s.stack _ _ one_more (λ top. refl) h.marks);
+      counts = omega (arith, counted-with_member s.stack s.roots, h.counts);
+      marks = AreMarked-more s.stack _ _ _ _ one_more (λ top. refl) (omega arith) (omega arith)
+          h.marks;
     }
+IsHeld-written s (Err refusal) h = tt
 
-pub IsHeld-ended : (s t : ParserState) (pending : Option Pending) → s.pending ≡ pending
-    → predicate_ended s ≡ Ok t → IsHeld s → IsHeld t
-IsHeld-ended s t None none ends h = subst IsHeld (same_ended s t none ends) h
-IsHeld-ended s t (Some p) pending ends h =
-    let leaf = LeafEnds-ended s t p pending ends in
-    subst IsHeld (sym leaf.ended) (IsHeld-leaf s leaf.written h)
+IsHeld-ended : (s : ParserState) (pending : Option Pending) → IsHeld s
+    → IfOk (ended_by s pending) IsHeld
+IsHeld-ended s None h = h
+IsHeld-ended s (Some p) h = IsHeld-written s (classified p) h
 
 IsHeld-opened : (s : ParserState) (function : Function) (item : Item) → IsHeld s
     → IsHeld (opened s function item)
 IsHeld-opened s function item h =
     let nodes = length_push s.written.nodes (node.Fn (counted function 0) 0) in
-    record {
-      counts = omega (arith, nodes, h.counts);
-      marks = (omega (arith, nodes), omega arith, h.marks);
-    }
+    record { counts = omega arith; marks = (omega arith, omega arith, h.marks) }
 
 IsHeld-closed : (t : ParserState) (stack : List OpenFunction) → t.stack ≡ stack → IsHeld t
     → IsHeld (function_ended stack t)
@@ -71,9 +65,8 @@ IsHeld-closed t (top ∷ rest) is h =
     let leaves = length-take top.mark.leaves t.written.leaves in
     record {
       counts = omega (arith, counted-with_member rest t.roots, nodes, counts);
-      marks = AreMarked-more (over_top one_more rest) top.mark.node _ top.mark.leaves _
-          (omega (arith, nodes, marks.0)) (omega (arith, leaves, marks.1))
-          (AreMarked-top rest _ _ one_more (λ f. refl) marks.2);
+      marks = AreMarked-more rest _ _ _ _ one_more (λ f. refl) (omega (arith, nodes, marks.0))
+          (omega (arith, leaves, marks.1)) marks.2;
     }
 
 counted-parens : (place : ℕ) (stack : List OpenFunction)
@@ -84,33 +77,36 @@ IsHeld-parens : (s : ParserState) (place : ℕ) → IsHeld s
     → IsHeld (record s { stack = over_top (with_parens place) s.stack })
 IsHeld-parens s place h = record {
   counts = omega (arith, counted-parens place s.stack, h.counts);
-  marks = AreMarked-top s.stack _ _ (with_parens place) (λ top. refl) h.marks;
+  marks = AreMarked-more s.stack _ _ _ _ (with_parens place) (λ top. refl) (omega arith)
+      (omega arith) h.marks;
 }
 
-IsHeld-applied : (s u : ParserState) (item : Item) (token : Token) → apply s item token ≡ Ok u
-    → IsHeld s
-    → IsHeld u
-IsHeld-applied s u item (Token.key text) does h =
-    subst IsHeld (ok_same _ u does) (record { counts = h.counts; marks = h.marks })
-IsHeld-applied s u item (Token.value text) does h =
-    subst IsHeld (ok_same _ u does) (record { counts = h.counts; marks = h.marks })
-IsHeld-applied s u item Token.equals does h = subst IsHeld (ok_same s u does) h
-IsHeld-applied s u item Token.all does h = subst IsHeld (ok_same _ u does)
-    (IsHeld-opened s Function.all item h)
-IsHeld-applied s u item Token.any does h = subst IsHeld (ok_same _ u does)
-    (IsHeld-opened s Function.any item h)
-IsHeld-applied s u item Token.not does h = subst IsHeld (ok_same _ u does)
-    (IsHeld-opened s Function.not item h)
-IsHeld-applied s u item Token.open_paren does h = subst IsHeld (ok_same _ u does)
-    (IsHeld-parens s item.start h)
-IsHeld-applied s u item Token.close_paren does h =
-    let (top, rest, settled, is, room, ends, closed) = Closes-stack s u item s.stack refl does in
-    subst IsHeld closed (IsHeld-closed settled settled.stack refl
-    (IsHeld-ended s settled s.pending refl ends h))
-IsHeld-applied s u item Token.comma does h = IsHeld-ended s u s.pending refl does h
+-- what is kept where a step may be taken
+IfOk-taken : {A E : Type 0} (P Q : A → Type 0) (f : A → A) (may : Bool) (r : Result A E) (e : E)
+    → ((a : A) → P a → Q (f a)) → IfOk r P → IfOk (if may then result_map f r else Err e) Q
+IfOk-taken P Q f true (Ok a) e keeps holds = keeps a holds
+IfOk-taken P Q f _ _ e keeps holds = tt
+
+IsHeld-close : (s : ParserState) (item : Item) (stack : List OpenFunction) → IsHeld s
+    → IfOk (closed_by s item stack) IsHeld
+IsHeld-close s item [] h = tt
+IsHeld-close s item (top ∷ rest) h =
+    IfOk-taken IsHeld IsHeld _ _ (predicate_ended s) _ (λ t. IsHeld-closed t t.stack refl)
+    (IsHeld-ended s s.pending h)
+
+IsHeld-applied : (s : ParserState) (item : Item) (token : Token) → IsHeld s
+    → IfOk (apply s item token) IsHeld
+IsHeld-applied s item (Token.key text) h = record { counts = h.counts; marks = h.marks }
+IsHeld-applied s item (Token.value text) h = record { counts = h.counts; marks = h.marks }
+IsHeld-applied s item Token.equals h = h
+IsHeld-applied s item Token.all h = IsHeld-opened s Function.all item h
+IsHeld-applied s item Token.any h = IsHeld-opened s Function.any item h
+IsHeld-applied s item Token.not h = IsHeld-opened s Function.not item h
+IsHeld-applied s item Token.open_paren h = IsHeld-parens s item.start h
+IsHeld-applied s item Token.close_paren h = IsHeld-close s item s.stack h
+IsHeld-applied s item Token.comma h = IsHeld-ended s s.pending h
 
 pub IsHeld-step : (s t : ParserState) (item : Item) → step s item ≡ Ok t → IsHeld s → IsHeld t
-IsHeld-step s t item steps h =
-    let d = Steps-step s t item steps in
-    let applied = IsHeld-applied s d.applied item item.token d.does h in
-    subst IsHeld d.after (record { counts = applied.counts; marks = applied.marks })
+IsHeld-step s t item steps h = IfOk-at_ok IsHeld steps (IfOk-taken IsHeld IsHeld
+    (with_last item.token) _ (apply s item item.token) _
+    (λ u k. record { counts = k.counts; marks = k.marks }) (IsHeld-applied s item item.token h))

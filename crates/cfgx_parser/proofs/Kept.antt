@@ -1,6 +1,5 @@
 -- What is kept of a text that is accepted: the nodes of its tree.
-use Rattle.std.proofs.Common.{◌≡◌, ℕ, List, [], ◌∷◌, ◌++◌, map, length, Ok, sym, refl, ap, ◌∙◌}
-use Rattle.std.proofs.Common.{subst, arith}
+use Rattle.std.proofs.Common.{◌≡◌, ℕ, List, [], ◌∷◌, ◌++◌, length, Ok, sym, ◌∙◌, arith}
 use Rattle.std.proofs.lemmas.List.{length-map, append-nil}
 use Rattle.std.specs.Prelude.{slice_range, ◌≤◌}
 use Rattle.std.specs.List.{AllByRecursion}
@@ -15,7 +14,7 @@ use Rattle.cfgx_grammar.proofs.alone.{all_of_first}
 use Rattle.cfgx_parser.specs.nodes.Keeps.{KeepsTree, KeepsOneTree}
 use Rattle.cfgx_parser.specs.nodes.Node.{Written, nothing, with_list_ended}
 use Rattle.cfgx_parser.specs.nodes.Prefix.{node_at, prefix, places}
-use Rattle.cfgx_parser.specs.nodes.Writes.{NodeHasCut, IsPlaced, ArePlaced, WritesNodes}
+use Rattle.cfgx_parser.specs.nodes.Writes.{IsPlaced, ArePlaced, WritesNodes}
 use Rattle.cfgx_parser.specs.parsing.State.{ParserState}
 use Rattle.cfgx_parser.specs.declared.nodes.ExprNode.{ExprNode}
 use Rattle.cfgx_parser.proofs.Sizes.{nodes-bytes}
@@ -26,25 +25,21 @@ placed_at : (text : List ℕ) (token : Token) (start end : ℕ)
     → Spells (slice_range text start end) token → end ≤ length text
     → CanBeCut text token start end
     → IsPlaced text (record { token = token; start = start; end = end }) token
-placed_at text (Token.key word) start end spelled inside cut = (spelled.0, cut.spelling)
-placed_at text (Token.value word) start end spelled inside cut =
-    (value_inside text word start end inside spelled.0, cut.value)
-placed_at text _ start end spelled inside cut = tt
+placed_at text token start end spelled inside cut = grind (arith, value_inside)
+
+-- what is asked of a tree at the root, with its list or before
+asked_root : (tree : Tree Question) → inner 0 tree ++ own 0 tree ≡ places 0 tree
+asked_root tree = grind (arith, append-nil)
 
 -- the predicate at the root is the last that is asked
-KeepsTree-writes : (text : List ℕ) (w : Written) (tree : Tree Question)
+KeepsTree-writes : (text : List ℕ) (w v : Written) (tree : Tree Question) → with_list_ended 0 w ≡ v
     → WritesNodes text nothing w (prefix tree) (own 0 tree) (inner 0 tree)
-    → KeepsTree text w.nodes (with_list_ended 0 w).asked tree
-KeepsTree-writes text w tree a = record {
-  nodes_are = ap (map (node_at text)) a.nodes_are ∙ a.shown_are;
-  cuts = subst (AllByRecursion (NodeHasCut text)) (sym a.nodes_are) a.cuts;
-  asked_are = rw (a.asked_are, a.leaves_are) (last tree);
-}
-  where
-    last : (tree : Tree Question) → inner 0 tree ++ own 0 tree ≡ places 0 tree
-    last (Tree.leaf question) = refl
-    last (Tree.literal truth) = refl
-    last tree = append-nil (places 0 tree)
+    → KeepsTree text v.nodes v.asked tree
+KeepsTree-writes text w v tree is a = rw (← is) (record {
+  nodes_are = rw a.nodes_are a.shown_are;
+  cuts = rw a.nodes_are a.cuts;
+  asked_are = rw (a.asked_are, a.leaves_are) (asked_root tree);
+})
 
 module _ (text : List ℕ) (one : HasOneTokenList text) where
   -- keys and values stand at their places
@@ -62,31 +57,20 @@ module _ (text : List ℕ) (one : HasOneTokenList text) where
   pub KeepsOneTree-accepted : (u : ParserState) → answer text one ≡ Ok u
       → KeepsOneTree text u.written.nodes u.written.asked
   KeepsOneTree-accepted u e =
-      let t = tree_of text one u e in
-      let f = FindsTree-tree text one (node_laws text) t.0 t.1 in
+      let (tree, has) = tree_of text one u e in
+      let f = FindsTree-tree text one (node_laws text) tree has in
+      let whole = HasOneTree-tree text one tree has in
       let same : Ok f.found.whole ≡ Ok u = sym f.answers ∙ e in
       let written : with_list_ended 0 f.found.written ≡ u.written =
       sym f.found.whole_is ∙ cc in
-      let writes = laws_written text f.found.first nothing f.found.written t.0 f.found.builds
-      (all_of_first (λ (item : Item). IsPlaced text item item.token) f.found.first f.found.rest
-      (subst (ArePlaced text) f.found.items_are placed)) in
-      let keeps : KeepsTree text u.written.nodes u.written.asked t.0 =
-      subst (λ (w : Written). KeepsTree text w.nodes w.asked t.0) written
-      (KeepsTree-writes text f.found.written t.0 writes) in
-      let whole = HasOneTree-tree text one t.0 t.1 in
-      record {
-        one = whole;
-        keeps = subst (KeepsTree text u.written.nodes u.written.asked) (whole.only t.0 t.1) keeps;
-      }
-
--- what is kept of a text is kept of it under another name
-pub KeepsOneTree-seen : {text seen : List ℕ} {nodes : List ExprNode} {asks : List ℕ} → text ≡ seen
-    → KeepsOneTree text nodes asks → KeepsOneTree seen nodes asks
-KeepsOneTree-seen {nodes} {asks} is = subst (λ (bytes : List ℕ). KeepsOneTree bytes nodes asks) is
+      let writes = laws_written text f.found.first nothing f.found.written tree f.found.builds
+      (all_of_first _ f.found.first f.found.rest (rw f.found.items_are at placed)) in
+      let keeps = KeepsTree-writes text f.found.written u.written tree written writes in
+      record { one = whole; keeps = rw (← whole.only tree has) keeps }
 
 pub few-nodes : {text : List ℕ} {nodes : List ExprNode} {asks : List ℕ}
     → KeepsOneTree text nodes asks
     → length nodes ≤ length text
 few-nodes {text} {nodes} keeps =
-    let few = nodes-bytes text keeps.one.tree keeps.one.has_tree in
-    omega (arith, few, length-map nodes (node_at text), ap length keeps.keeps.nodes_are)
+    rw (← length-map nodes (node_at text), keeps.keeps.nodes_are)
+    (nodes-bytes text keeps.one.tree keeps.one.has_tree)

@@ -27,39 +27,31 @@ bit_at-next true n i = bit_at-suc (1 + 2 * n) i ∙ ap (λ m. bit_at m i) (omega
 bit_at-next false n i = bit_at-suc (0 + 2 * n) i ∙ ap (λ m. bit_at m i) (omega arith)
 
 digit-opposite : (b : Bool) → digit b + digit (not b) ≡ 1
-digit-opposite true = refl
-digit-opposite false = refl
+digit-opposite b = grind arith
 
 answer-digit : (b : Bool) → answer_of (digit b) (digit (not b)) ≡ slice_get (b ∷ []) 0
-answer-digit true = refl
-answer-digit false = refl
+answer-digit b = grind arith
 
 -- at most one of both planes has a bit
 bits-apart : (bs : List Bool) (i : ℕ) → bit_at (bits bs) i + bit_at (bits (map not bs)) i ≤ 1
 bits-apart [] i = omega (arith, bit_at-zero i)
-bits-apart (b ∷ bs) zero =
-    let other = bit_at-first (not b) (bits (map not bs)) in
-    omega (arith, bit_at-first b (bits bs), other, digit-opposite b)
+bits-apart (b ∷ bs) zero = omega (arith, bit_at-first, digit-opposite b)
 bits-apart (b ∷ bs) (suc i) =
-    let other = bit_at-next (not b) (bits (map not bs)) i in
-    omega (arith, bit_at-next b (bits bs) i, other, bits-apart bs i)
+    rw (bit_at-next b (bits bs) i, bit_at-next (not b) (bits (map not bs)) i) (bits-apart bs i)
 
 -- the lanes are the answers, and unknown past them
 lane-bits : (bs : List Bool) (i : ℕ)
     → answer_of (bit_at (bits bs) i) (bit_at (bits (map not bs)) i) ≡ slice_get bs i
-lane-bits [] i = λ j. answer_of (bit_at-zero i j) (bit_at-zero i j)
+lane-bits [] i = rw bit_at-zero refl
 lane-bits (b ∷ bs) zero =
-    (λ j. answer_of (bit_at-first b (bits bs) j) (bit_at-first (not b) (bits (map not bs)) j))
-    ∙ answer-digit b
+    rw (bit_at-first b (bits bs), bit_at-first (not b) (bits (map not bs))) (answer-digit b)
 lane-bits (b ∷ bs) (suc i) =
-    (λ j. answer_of (bit_at-next b (bits bs) i j) (bit_at-next (not b) (bits (map not bs)) i j))
-    ∙ lane-bits bs i
+    rw (bit_at-next b (bits bs) i, bit_at-next (not b) (bits (map not bs)) i) (lane-bits bs i)
 
 -- so many answers need so many bits
 bits-lt : (bs : List Bool) → bits bs < 2 ^ length bs
 bits-lt [] = omega arith
-bits-lt (true ∷ bs) = omega (arith, bits-lt bs, pow-succ' 2 (length bs))
-bits-lt (false ∷ bs) = omega (arith, bits-lt bs, pow-succ' 2 (length bs))
+bits-lt (b ∷ bs) = grind (arith, bits-lt bs, pow-succ' 2 (length bs))
 
 -- What two planes hold, while answers are added from the last row to the first: those of the rows
 -- that come after the ones that are left.
@@ -89,8 +81,7 @@ module _ {T : Type 0} {answer : T → Bool} {rows left : List T} {is_true is_fal
       → AreApart is_true is_false
       × EachLane (record { is_true = is_true; is_false = is_false }) (slice_get (map answer rows))
   Added-end none added =
-      let all : rows ≡ added.done = added.rows_are
-      ∙ ap (λ l. l ++ added.done) (nil_from_length left none) in
+      let all : rows ≡ added.done = rw (added.rows_are, nil_from_length left none) refl in
       rw (added.true_is, added.false_is, all) (
         AreApart-from _ _ (bits-apart (map answer added.done)),
         λ i below. lane-bits (map answer added.done) i,

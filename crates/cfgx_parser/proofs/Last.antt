@@ -1,7 +1,5 @@
 -- What a token and the end of a text do depends on no token in front of them, and keeps that one.
-use Rattle.std.proofs.Common.{◌≡◌, ℕ, true, false, List, [], ◌∷◌, Option, Some, None, Result, Ok}
-use Rattle.std.proofs.Common.{Err, sym, refl, ap, ◌∙◌, arith}
-use Rattle.std.proofs.lemmas.Bool.Decides.{nat_tests}
+use Rattle.std.proofs.Common.{◌≡◌, ℕ, true, false, Option, Result, arith}
 use Rattle.cfgx_syntax.specs.Token.{Token}
 use Rattle.cfgx_syntax.specs.Items.{Item}
 use Rattle.cfgx_syntax.specs.Error.{Refusal}
@@ -9,14 +7,11 @@ use Rattle.cfgx_syntax.specs.Lexer.{token_of, item_of}
 use Rattle.cfgx_syntax.specs.declared.lexer.LexerToken.{LexerToken}
 use Rattle.cfgx_grammar.specs.FirstFault.{lacks_value}
 use Rattle.cfgx_grammar.specs.Neighbours.{next}
-use Rattle.cfgx_grammar.specs.parsing.State.{Pending}
-use Rattle.cfgx_grammar.specs.parsing.Step.{result_map, ended_by, function_ended, closed_by, apply}
-use Rattle.cfgx_grammar.specs.parsing.Step.{concluded_by, with_last}
+use Rattle.cfgx_grammar.specs.parsing.Step.{result_map, apply, concluded_by, with_last, conclude}
 use Rattle.cfgx_parser.specs.parsing.Fields.{last_of, token_like}
 use Rattle.cfgx_parser.specs.parsing.Parser.{state_of, Gives, GivesAt, Reads, Finishes, concluded}
-use Rattle.cfgx_parser.specs.parsing.State.{OpenFunction, ParserState}
+use Rattle.cfgx_parser.specs.parsing.State.{ParserState}
 use Rattle.cfgx_parser.specs.declared.parser.Halt.{Halt}
-use Rattle.cfgx_parser.specs.declared.parser.Halt.TheVariants as halt
 use Rattle.cfgx_parser.specs.declared.parser.LastToken.{LastToken}
 use Rattle.cfgx_parser.specs.declared.parser.Parser.{Parser}
 
@@ -24,36 +19,22 @@ use Rattle.cfgx_parser.specs.declared.parser.Parser.{Parser}
 abbrev pub after_token : Option Token → ParserState → ParserState
 after_token last s = record s { last = last }
 
-abbrev Answer : Type 0
-Answer = Result ParserState Refusal
+-- nothing depends on it
+apply-after : (before : Option Token) (s : ParserState) (item : Item) (token : Token)
+    → result_map (with_last token) (apply (after_token before s) item token)
+    ≡ result_map (with_last token) (apply s item token)
+apply-after before s item token = grind arith
 
-module _ (last : Option Token) where
-  ended-after : (s : ParserState) (pending : Option Pending)
-      → ended_by (after_token last s) pending ≡ result_map (after_token last) (ended_by s pending)
-  ended-after s pending = grind arith
-
-  function-after : (stack : List OpenFunction) (s : ParserState)
-      → function_ended stack (after_token last s) ≡ after_token last (function_ended stack s)
-  function-after stack s = grind arith
-
-  closed-after : (s : ParserState) (item : Item) (stack : List OpenFunction)
-      → closed_by (after_token last s) item stack
-      ≡ result_map (after_token last) (closed_by s item stack)
-  closed-after s item stack = grind arith
-
-  pub apply-after : (s : ParserState) (item : Item) (token : Token)
-      → apply (after_token last s) item token ≡ result_map (after_token last) (apply s item token)
-  apply-after s item token = grind arith
-
-  pub concluded-after : (len : ℕ) (s : ParserState) (stack : List OpenFunction)
-      → concluded_by len (after_token last s) stack
-      ≡ result_map (after_token last) (concluded_by len s stack)
-  concluded-after len s stack = grind arith
+conclude-after : (before : Option Token) (len : ℕ) (s : ParserState) → lacks_value before ≡ false
+    → conclude len (after_token before s)
+    ≡ result_map (after_token before) (concluded_by len s s.stack)
+conclude-after before len s lacks = grind arith
 
 -- what a step gives of a state without its last token, it gives of the state with a token
-pub GivesAt-after : {A : Type 0} (last : Option Token) (result : Result (Unit {0}) Halt)
-    (new : Parser A) (answer whole : Answer) → Gives {A = A} result new answer
-    → whole ≡ result_map (after_token last) answer → GivesAt {A = A} last result new whole
+GivesAt-after : {A : Type 0} (last : Option Token) (result : Result (Unit {0}) Halt)
+    (new : Parser A) (answer whole : Result ParserState Refusal)
+    → Gives {A = A} result new answer → whole ≡ result_map (after_token last) answer
+    → GivesAt {A = A} last result new whole
 GivesAt-after last result new answer whole gives is = grind arith
 
 -- What may follow a token, the parser tells by what it keeps of it.
@@ -66,30 +47,23 @@ lacks_value-like : (before : Option Token)
     → lacks_value (token_like (last_of before)) ≡ lacks_value before
 lacks_value-like before = grind arith
 
-module _ {A : Type 0} (last : LastToken) (lexed : LexerToken) (result : Result (Unit {0}) Halt)
+module _ {A : Type 0} (last : LastToken) (result : Result (Unit {0}) Halt)
     (old new : Parser A) where
   -- a token that may follow
-  pub Reads-follows : next (token_like last) (token_of lexed.token) ≡ true
+  pub Reads-follows : (lexed : LexerToken) → next (token_like last) (token_of lexed.token) ≡ true
       → Gives {A = A} result new
       (apply (state_of {A = A} old) (item_of lexed) (token_of lexed.token))
       → Reads {A = A} last lexed old new result
-  Reads-follows follows gives before is =
-      let token = token_of lexed.token in
-      let may : next before token ≡ true =
-      sym (next-like before token) ∙ ap (λ l. next (token_like l) token) is ∙ follows in
-      GivesAt-after {A = A} (Some token) result new _ _ gives (rw may
-      (ap (result_map (with_last token)) (apply-after before (state_of {A = A} old)
-      (item_of lexed) token)
-      ∙ grind arith))
+  Reads-follows lexed follows gives before is =
+      let may = rw (← is, next-like before (token_of lexed.token)) at follows in
+      GivesAt-after {A = A} _ result new _ _ gives
+      (rw may (apply-after before (state_of {A = A} old) (item_of lexed) (token_of lexed.token)))
 
-module _ {A : Type 0} (last : LastToken) (len : ℕ) (result : Result (Unit {0}) Halt)
-    (old new : Parser A) where
   -- the end behind a token that needs no value
-  pub Finishes-ended : lacks_value (token_like last) ≡ false
+  pub Finishes-ended : (len : ℕ) → lacks_value (token_like last) ≡ false
       → Gives {A = A} result new (concluded (state_of {A = A} old) len)
       → Finishes {A = A} last len old new result
-  Finishes-ended lacks gives before is =
-      let none : lacks_value before ≡ false =
-      sym (lacks_value-like before) ∙ ap (λ l. lacks_value (token_like l)) is ∙ lacks in
-      GivesAt-after {A = A} before result new _ _ gives (rw none
-      (concluded-after before len (state_of {A = A} old) (state_of {A = A} old).stack))
+  Finishes-ended len lacks gives before is =
+      let none = rw (← is, lacks_value-like before) at lacks in
+      GivesAt-after {A = A} before result new _ _ gives
+      (conclude-after before len (state_of {A = A} old) none)

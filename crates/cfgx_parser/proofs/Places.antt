@@ -1,68 +1,54 @@
 -- What stands at the places of a tree's predicates.
-use Rattle.std.proofs.Common.{◌≡◌, ℕ, ◌+◌, List, [], ◌∷◌, ◌++◌, length, map, Some, sym, refl, ap}
-use Rattle.std.proofs.Common.{◌∙◌, arith, append_assoc, length-append}
+use Rattle.std.proofs.Common.{◌≡◌, ℕ, zero, suc, ◌+◌, List, [], ◌∷◌, ◌++◌, length, map, Some, sym}
+use Rattle.std.proofs.Common.{refl, ap, arith}
 use Rattle.std.specs.List.{AllZip, slice_get}
-use Rattle.std.proofs.lemmas.List.{append-nil}
 use Rattle.cfgx_grammar.specs.Tree.{Tree, Trees, asked}
 use Rattle.cfgx_grammar.proofs.Alike.{Alike, AlikeEach, asked-alike, length-asked}
 use Rattle.cfgx_parser.specs.nodes.Prefix.{Node, prefix, prefix_each, with_places}
 use Rattle.cfgx_parser.specs.nodes.Prefix.{with_places_each, places}
 
--- a part of a list, which begins at a place
-record Lies {X : Type 0} (all : List X) (place : ℕ) (part : List X) : Type 0 where
-  front : List X
-  back : List X
-  is : all ≡ front ++ (part ++ back)
-  at : length front ≡ place
+found-first : {X : Type 0} (xs ys : List X) (i : ℕ) (x : X) → slice_get xs i ≡ Some x
+    → slice_get (xs ++ ys) i ≡ Some x
+found-first [] ys i x is = absurd (cc)
+found-first (first ∷ xs) ys zero x is = is
+found-first (first ∷ xs) ys (suc i) x is = found-first xs ys i x is
 
-Lies-parts : {X : Type 0} {all : List X} {place : ℕ} (xs ys : List X) (n : ℕ) → length xs ≡ n
-    → Lies all place (xs ++ ys) → Lies all place xs × Lies all (place + n) ys
-Lies-parts {place} xs ys n many l =
-    let first = l.is ∙ ap (λ r. l.front ++ r) (append_assoc xs ys l.back) in (
-      record { front = l.front; back = ys ++ l.back; is = first; at = l.at },
-      record {
-        front = l.front ++ xs;
-        back = l.back;
-        is = first ∙ sym (append_assoc l.front xs (ys ++ l.back));
-        at = omega (arith, l.at, many, length-append l.front xs);
-      },
-    )
+found-later : {X : Type 0} (xs ys : List X) (i n : ℕ) → n ≡ length xs + i
+    → slice_get (xs ++ ys) n ≡ slice_get ys i
+found-later [] ys i n at = ap (slice_get ys) (omega arith)
+found-later (x ∷ xs) ys i zero at = absurd (omega arith)
+found-later (x ∷ xs) ys i (suc n) at = found-later xs ys i n (omega arith)
 
-found-behind : {X : Type 0} (front back : List X) (x : X)
-    → slice_get (front ++ x ∷ back) (length front) ≡ Some x
-found-behind [] back x = refl
-found-behind (first ∷ front) back x = found-behind front back x
-
-Lies-found : {X : Type 0} (all : List X) (place : ℕ) (x : X) → Lies all place (x ∷ [])
-    → slice_get all place ≡ Some x
-Lies-found all place x l = ap (slice_get all) (sym l.at)
-    ∙ ap (λ a. slice_get a (length l.front)) l.is ∙ found-behind l.front l.back x
-
-module _ {X Y : Type 0} (all : List (Node X)) (read : ℕ → Y) (of : X → Y)
-    (each : (place : ℕ) (x : X) → slice_get all place ≡ Some (Node.leaf x) → read place ≡ of x)
-    where
+module _ {X Y : Type 0} (read : ℕ → Y) (of : X → Y) where
   -- what is read at the place of a predicate
   abbrev Reads : ℕ → X → Type 0
   Reads place x = read place ≡ of x
 
-  mutual
-    reads-tree : (tree : Tree X) (place : ℕ) → Lies all place (prefix tree)
-        → Alike Reads (with_places place tree) tree
-    reads-tree (Tree.leaf x) place l = Alike.leaf _ _ (each place x (Lies-found all place _ l))
-    reads-tree (Tree.literal truth) place l = Alike.literal truth
-    reads-tree (Tree.all trees) place l =
-        Alike.all _ _ (reads-trees trees _ (Lies-parts (_ ∷ []) _ 1 refl l).1)
-    reads-tree (Tree.any trees) place l =
-        Alike.any _ _ (reads-trees trees _ (Lies-parts (_ ∷ []) _ 1 refl l).1)
-    reads-tree (Tree.not tree) place l =
-        Alike.not _ _ (reads-tree tree _ (Lies-parts (_ ∷ []) _ 1 refl l).1)
+  -- at the places of those among the nodes that begin at a place
+  abbrev ReadsEach : ℕ → List (Node X) → Type 0
+  ReadsEach place nodes = (i n : ℕ) (x : X) → n ≡ place + i
+      → slice_get nodes i ≡ Some (Node.leaf x) → Reads n x
 
-    reads-trees : (trees : Trees X) (place : ℕ) → Lies all place (prefix_each trees)
+  mutual
+    reads-tree : (tree : Tree X) (place : ℕ) → ReadsEach place (prefix tree)
+        → Alike Reads (with_places place tree) tree
+    reads-tree (Tree.leaf x) place each = Alike.leaf _ _ (each 0 place x (omega arith) refl)
+    reads-tree (Tree.literal truth) place each = Alike.literal truth
+    reads-tree (Tree.all trees) place each =
+        Alike.all _ _ (reads-trees trees _ (λ i n x at is. each (suc i) n x (omega arith) is))
+    reads-tree (Tree.any trees) place each =
+        Alike.any _ _ (reads-trees trees _ (λ i n x at is. each (suc i) n x (omega arith) is))
+    reads-tree (Tree.not tree) place each =
+        Alike.not _ _ (reads-tree tree _ (λ i n x at is. each (suc i) n x (omega arith) is))
+
+    reads-trees : (trees : Trees X) (place : ℕ) → ReadsEach place (prefix_each trees)
         → AlikeEach Reads (with_places_each place trees) trees
-    reads-trees Trees.none place l = AlikeEach.none
-    reads-trees (Trees.more tree trees) place l =
-        let parts = Lies-parts (prefix tree) (prefix_each trees) _ refl l in
-        AlikeEach.more _ _ _ _ (reads-tree tree place parts.0) (reads-trees trees _ parts.1)
+    reads-trees Trees.none place each = AlikeEach.none
+    reads-trees (Trees.more tree trees) place each =
+        AlikeEach.more _ _ _ _ (reads-tree tree place (λ i n x at is. each i n x at
+        (found-first (prefix tree) (prefix_each trees) i _ is)))
+        (reads-trees trees _ (λ i n x at is. each (length (prefix tree) + i) n x (omega arith)
+        (rw (found-later (prefix tree) (prefix_each trees) i _ refl) is)))
 
   read-asked : (ps : List ℕ) (xs : List X) → AllZip Reads ps xs → map read ps ≡ map of xs
   read-asked [] [] zipped = refl
@@ -70,17 +56,14 @@ module _ {X Y : Type 0} (all : List (Node X)) (read : ℕ → Y) (of : X → Y)
   read-asked _ _ zipped = absurd zipped
 
 module _ {X : Type 0} (tree : Tree X) where
-  whole : Lies (prefix tree) 0 (prefix tree)
-  whole = record { front = []; back = []; is = sym (append-nil (prefix tree)); at = refl }
-
   pub read-places : {Y : Type 0} (read : ℕ → Y) (of : X → Y)
       → ((place : ℕ) (x : X) → slice_get (prefix tree) place ≡ Some (Node.leaf x)
       → read place ≡ of x) → map read (places 0 tree) ≡ map of (asked tree)
-  read-places read of each = read-asked (prefix tree) read of each (places 0 tree) (asked tree)
-      (asked-alike _ _ tree (reads-tree (prefix tree) read of each tree 0 whole))
+  read-places read of each = read-asked read of (places 0 tree) (asked tree)
+      (asked-alike _ _ tree (reads-tree read of tree 0 (λ i n x at is.
+      let same : n ≡ i = omega arith in each n x (rw same is))))
 
   -- there is one for each predicate
   pub length-places : length (places 0 tree) ≡ length (asked tree)
-  length-places =
-      let reads = reads-tree {Y = ℕ} (prefix tree) (λ _. 0) (λ _. 0) (λ _ _ _. refl) in
-      sym (length-asked _ (with_places 0 tree) tree (reads tree 0 whole))
+  length-places = sym (length-asked _ (with_places 0 tree) tree
+      (reads-tree {Y = ℕ} (λ _. 0) (λ _. 0) tree 0 (λ _ _ _ _ _. refl)))

@@ -1,6 +1,6 @@
 -- How many nodes the tree of so many tokens has, and that of so many bytes.
-use Rattle.std.proofs.Common.{◌≡◌, ℕ, ◌+◌, ◌≤◌, List, [], ◌∷◌, ◌++◌, length, Option, Some, None, ap}
-use Rattle.std.proofs.Common.{◌∙◌, arith, length-append}
+use Rattle.std.proofs.Common.{◌≡◌, ℕ, ◌+◌, ◌≤◌, List, ◌++◌, length, Option, ap}
+use Rattle.std.proofs.Common.{arith, length-append}
 use Rattle.cfgx_syntax.specs.Token.{Token}
 use Rattle.cfgx_grammar.specs.Grammar.{leaf_tokens, IsCall, IsMember, IsList, commas, HasTree}
 use Rattle.cfgx_syntax.specs.Items.{Item, Ending}
@@ -17,23 +17,20 @@ leaf-tokens key value = grind arith
 
 call-tokens : (name : Token) (tokens inner : List Token) → IsCall name tokens inner
     → length tokens ≡ length inner + 3
-call-tokens name tokens inner is =
-    omega (arith, ap length is, length-append inner (Token.close_paren ∷ []))
+call-tokens name tokens inner is = rw is (omega (arith, length-append {A = Token}))
 
 mutual
   pub tree-tokens : (tree : Tree Question) (tokens : List Token) → IsMember tokens tree
       → length (prefix tree) ≤ length tokens
-  tree-tokens (Tree.leaf question) tokens is =
-      omega (arith, leaf-tokens is.0 is.1, ap length is.2)
-  tree-tokens (Tree.literal truth) tokens is =
-      omega (arith, leaf-tokens is.0 is.1, ap length is.2)
+  tree-tokens (Tree.leaf question) tokens is = grind (arith, leaf-tokens)
+  tree-tokens (Tree.literal truth) tokens is = grind (arith, leaf-tokens)
   tree-tokens (Tree.all trees) tokens is =
       omega (arith, call-tokens Token.all tokens is.0 is.1, trees-tokens trees is.0 is.2)
   tree-tokens (Tree.any trees) tokens is =
       omega (arith, call-tokens Token.any tokens is.0 is.1, trees-tokens trees is.0 is.2)
   tree-tokens (Tree.not tree) tokens is =
       let call = call-tokens Token.not tokens (is.0 ++ commas is.1) is.2 in
-      omega (arith, call, tree-tokens tree is.0 is.3, length-append is.0 (commas is.1))
+      omega (arith, call, tree-tokens tree is.0 is.3, length-append {A = Token})
 
   trees-tokens : (trees : Trees Question) (tokens : List Token) → IsList tokens trees
       → length (prefix_each trees) ≤ length tokens
@@ -50,5 +47,4 @@ nodes-bytes text tree has =
     let is = has.spelled in
     let bytes = items-bytes text 0 has.items Ending.blank (omega arith) has.are_items in
     let tokens = length-map has.items (λ (item : Item). item.token) in
-    let parts = ap length is.2 ∙ length-append is.0 (commas is.1) in
-    omega (arith, tree-tokens tree is.0 is.3, tokens, parts, bytes)
+    omega (arith, tree-tokens tree is.0 is.3, tokens, ap length is.2, length-append {A = Token})

@@ -113,17 +113,7 @@ module _ {M : Type 0} where
   pub Levels-ended : (front : List Item) (roots : ℕ) (is_named : Bool) (stack : List (Open M))
       → Levels front roots is_named stack 1
       → Levels front (root_more stack roots) is_named (over_top one_more stack) 0
-  Levels-ended front roots is_named [] levels = levels ∙ omega arith
-  Levels-ended front roots is_named (top ∷ rest) (l, levels) = (
-    record {
-      place = l.place;
-      opened = l.opened;
-      named_last = l.named_last;
-      parens = l.parens;
-      counted = l.counted ∙ omega arith;
-    },
-    levels,
-  )
+  Levels-ended front roots is_named stack levels = grind arith
 
 -- One more token at the end.
 

@@ -160,10 +160,7 @@ module _ {W M L : Type 0} {builder : Builder W M L} where
 
     class_ends : (p : Pending) (class : Class) → Levels front s.roots is_named s.stack 1
         → EndsAs (result_map (leaf_ended s) (located_class builder p class)) (class_fault p class)
-    class_ends p (Class.is leaf) levels =
-        let ended = Levels-ended front s.roots is_named s.stack levels in
-        (refl, record { settled = refl; height = height_kept one_more s.stack; levels = ended })
-    class_ends p (Class.refused cause part) levels = refl
+    class_ends p class levels = grind arith
 
     pending_ends : (pending : Option Pending) → s.pending ≡ pending
         → Levels front s.roots is_named s.stack (going pending) → EndsAs (ended_by s pending)

@@ -1,6 +1,6 @@
 -- The nodes of a tree are written for its items: the laws of the builder of nodes.
 use Rattle.std.proofs.Common.{◌≡◌, ℕ, ◌+◌, true, false, List, [], ◌∷◌, ◌++◌, length, Option}
-use Rattle.std.proofs.Common.{Some, None, sym, refl, ap, ◌∙◌, subst}
+use Rattle.std.proofs.Common.{option_map, rules, arith, Some, None, refl, ap, subst}
 use Rattle.std.specs.Prelude.{if◌then◌else◌}
 use Rattle.std.proofs.lemmas.List.{append-nil, length_push}
 use Rattle.std.specs.declared.ops.Range.{Range}
@@ -9,20 +9,19 @@ use Rattle.cfgx_grammar.specs.Question.{Leaf, Question}
 use Rattle.cfgx_grammar.specs.Classification.{Class, class}
 use Rattle.cfgx_grammar.specs.Tree.{Tree, Trees, is_function, is_leaf, count}
 use Rattle.cfgx_grammar.specs.parsing.State.{Function}
-use Rattle.cfgx_parser.specs.nodes.Located.{located}
+use Rattle.cfgx_parser.specs.nodes.Located.{located, at, IsSpan, ValueHasCut}
 use Rattle.cfgx_parser.specs.nodes.Node.{Written, with_leaf}
 use Rattle.cfgx_parser.specs.nodes.Prefix.{Node, headed, prefix, prefix_each, places, places_by}
 use Rattle.cfgx_parser.specs.nodes.Prefix.{with_places}
 use Rattle.cfgx_parser.specs.nodes.Writes.{IsPlaced, ArePlaced, WritesNodes}
 use Rattle.cfgx_parser.specs.parsing.State.{counted, node_builder}
-use Rattle.cfgx_parser.specs.declared.function.Func.TheVariants.{Not}
 use Rattle.cfgx_parser.specs.declared.nodes.ExprNode.TheVariants as node
 use Rattle.cfgx_grammar.proofs.alone.{all_of_first, all_of_second}
 use Rattle.cfgx_grammar.proofs.accepted.{leaf_tree}
 use Rattle.cfgx_grammar.proofs.spelled.{Calls, Laws}
-use Rattle.cfgx_parser.proofs.spelled.Located.{Stands, NamesClass, NamesClass-class}
-use Rattle.cfgx_parser.proofs.spelled.Written.{WritesNodes-none, WritesNodes-then}
-use Rattle.cfgx_parser.proofs.spelled.Written.{WritesNodes-leaf, WritesNodes-function, length-nodes}
+use Rattle.cfgx_parser.proofs.spelled.Located.{NamesClass, NamesClass-class}
+use Rattle.cfgx_parser.proofs.spelled.Written.{WritesNodes-none, WritesNodes-then, WritesNodes-leaf}
+use Rattle.cfgx_parser.proofs.spelled.Written.{WritesNodes-function, length-nodes}
 
 -- the places of what is asked with its list, and of what is asked before
 abbrev pub own : ℕ → Tree Question → List ℕ
@@ -42,26 +41,7 @@ record Called (function : Function) (tree : Tree Question) (trees : Trees Questi
 -- the two ways of writing the one member of a `not`
 places_one : (place : ℕ) (tree : Tree Question) → let one = Trees.more tree Trees.none in
     places place tree ≡ places_by is_function place one ++ places_by is_leaf place one
-places_one place (Tree.leaf question) = refl
-places_one place (Tree.literal truth) = refl
-places_one place tree = sym (append-nil (places place tree ++ []) ∙ append-nil (places place tree))
-
-Called-all : (trees : Trees Question) → Called Function.all (Tree.all trees) trees
-Called-all trees =
-    record { prefix_is = refl; places_are = λ _. refl; is_no_leaf = λ _. refl; is_one = λ _. refl }
-
-Called-any : (trees : Trees Question) → Called Function.any (Tree.any trees) trees
-Called-any trees =
-    record { prefix_is = refl; places_are = λ _. refl; is_no_leaf = λ _. refl; is_one = λ _. refl }
-
-Called-not : (tree : Tree Question)
-    → Called Function.not (Tree.not tree) (Trees.more tree Trees.none)
-Called-not tree = record {
-  prefix_is = ap (headed Not) (sym (append-nil (prefix tree)));
-  places_are = λ place. places_one (place + 1) tree;
-  is_no_leaf = λ place. refl;
-  is_one = λ place. refl;
-}
+places_one place tree = grind (arith, append-nil)
 
 module _ (text : List ℕ) where
   -- for a tree whose items stand at their places, and for a list
@@ -75,17 +55,17 @@ module _ (text : List ℕ) where
       → WritesNodes text w v (prefix_each trees) (places_by is_leaf (length w.nodes) trees)
       (places_by is_function (length w.nodes) trees)
 
-  leaf_writes : (w : Written) (key_span : Range ℕ) (span : Option (Range ℕ)) (key : List ℕ)
-      (value : Option (List ℕ)) (leaf : Leaf) → Stands text key_span span key value
-      → class key value ≡ Class.is leaf → let tree = leaf_tree leaf in
+  leaf_writes : (w : Written) (key_span : Range ℕ) (span : Option (Range ℕ)) (leaf : Leaf)
+      → IsSpan text key_span → ValueHasCut text span
+      → class (at text key_span) (option_map (at text) span) ≡ Class.is leaf
+      → let tree = leaf_tree leaf in
       WritesNodes text w (with_leaf (located key_span span leaf) w) (prefix tree)
       (own (length w.nodes) tree) (inner (length w.nodes) tree)
-  leaf_writes w key_span span key value (Leaf.predicate question) stands classed =
-      let named : NamesClass text key_span span (Class.is (Leaf.predicate question)) =
-      subst (NamesClass text key_span span) classed
-      (NamesClass-class text key_span span key value stands) in
+  leaf_writes w key_span span (Leaf.predicate question) key_cut cut classed =
+      let named = subst (NamesClass text key_span span) classed
+      (NamesClass-class text key_span span key_cut cut) in
       WritesNodes-leaf text w _ (Node.leaf question) (ap Node.leaf named.0) named.1
-  leaf_writes w key_span span key value (Leaf.literal truth) stands classed =
+  leaf_writes w key_span span (Leaf.literal truth) key_cut cut classed =
       WritesNodes-leaf text w (node.Literal truth) _ refl tt
 
   list_writes : (xs ys zs : List Item) (tree : Tree Question) (trees : Trees Question)
@@ -93,40 +73,35 @@ module _ (text : List ℕ) where
       → MemberWrites xs w v tree → ListWrites zs v u trees
       → ListWrites (xs ++ (ys ++ zs)) w u (Trees.more tree trees)
   list_writes xs ys zs tree trees w v u writes more placed =
-      let P = λ (item : Item). IsPlaced text item item.token in
-      let first = writes (all_of_first P xs (ys ++ zs) placed) in
-      let others = more (all_of_second P ys zs (all_of_second P xs (ys ++ zs) placed)) in
-      let at = subst (λ k. WritesNodes text v u (prefix_each trees) (places_by is_leaf k trees)
-      (places_by is_function k trees)) (length-nodes text w v (prefix tree) _ _ first) others in
-      WritesNodes-then text w v u _ _ _ _ _ _ first at
+      let first = writes (all_of_first _ xs (ys ++ zs) placed) in
+      let others = more (all_of_second _ ys zs (all_of_second _ xs (ys ++ zs) placed)) in
+      WritesNodes-then first (rw (length-nodes first) at others)
 
   call_writes : (function : Function) (tree : Tree Question) (trees : Trees Question)
       → Called function tree trees
       → Calls node_builder MemberWrites ListWrites function tree trees
   call_writes function tree trees called head opening closing members w v writes placed =
-      let P = λ (item : Item). IsPlaced text item item.token in
-      let written = writes (all_of_first P members (closing ∷ []) placed.1.1) in
+      let written = writes (all_of_first _ members (closing ∷ []) placed.1.1) in
       let place = length_push w.nodes (node.Fn (counted function 0) 0) in
-      let whole =
-      WritesNodes-function text w v (counted function 0) (counted function (count trees))
-      _ _ _ written in
-      rw (called.prefix_is, called.is_no_leaf, called.is_one, called.places_are, ← place) whole
+      rw (called.prefix_is, called.is_no_leaf, called.is_one, called.places_are, ← place)
+      (WritesNodes-function (counted function 0) (counted function (count trees)) written)
 
   pub node_laws : Laws node_builder
   node_laws = record {
     MemberBuilds = MemberWrites;
     ListBuilds = ListWrites;
-    key = λ x key leaf w is classed placed.
-        leaf_writes w _ None key None leaf (subst (IsPlaced text x) is placed.0, tt) classed;
+    key = λ x key leaf w is classed placed. let word = subst (IsPlaced text x) is placed.0 in
+        leaf_writes w _ None leaf word.1 tt (rw word.0 classed);
     value = λ x y z key value leaf w x_is z_is classed placed.
-        leaf_writes w _ (Some _) key (Some value) leaf
-        (subst (IsPlaced text x) x_is placed.0, subst (IsPlaced text z) z_is placed.1.1.0) classed;
+        let word = subst (IsPlaced text x) x_is placed.0 in
+        let other = subst (IsPlaced text z) z_is placed.1.1.0 in
+        leaf_writes w _ (Some _) leaf word.1 other.1 (rw (word.0, other.0) classed);
     none = λ w placed. WritesNodes-none text w;
     more = list_writes;
-    all = λ trees. call_writes Function.all (Tree.all trees) trees (Called-all trees);
-    any = λ trees. call_writes Function.any (Tree.any trees) trees (Called-any trees);
+    all = λ trees. call_writes Function.all (Tree.all trees) trees (search rules);
+    any = λ trees. call_writes Function.any (Tree.any trees) trees (search rules);
     not = λ tree. call_writes Function.not (Tree.not tree) (Trees.more tree Trees.none)
-        (Called-not tree);
+        (search (rules, append-nil, places_one));
   }
 
   pub laws_written : (items : List Item) (w v : Written) (tree : Tree Question)

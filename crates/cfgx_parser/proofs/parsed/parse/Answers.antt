@@ -1,9 +1,8 @@
 -- The text is read from its start, and what is read is what the grammar answers.
-use Rattle.std.proofs.Common.{ap, ◌∙◌}
+use Rattle.std.proofs.Common.{rules, ap, ◌∙◌}
 use Rattle.std.proofs.lemmas.Result.{err_from_is_err_and}
 use Rattle.cfgx_syntax.specs.Stripping.{strip}
-use Rattle.cfgx_parser.proofs.Whole.{Begins, Answers-fails, Answers-memory, KeepsOneTree-reads}
-use Rattle.cfgx_parser.proofs.Whole.{IsAccepted-reads}
+use Rattle.cfgx_parser.proofs.Whole.{Begins, Answers-fails, Answers-memory, Accepted}
 use Rattle.cfgx_parser.proofs.parsed.parse.Given.{Over}
 use Rattle.cfgx_parser.proofs.parsed.parse.Goals.{After-read_all}
 use Rattle.cfgx_parser.proofs.parsed.parse.Goals as goal
@@ -11,11 +10,7 @@ use Rattle.cfgx_parser.proofs.parsed.parse.Goals as goal
 -- the parser starts at the text's start
 begins : (g : Over) (c : After-read_all g) → Begins {A = g.row.A.Denot} (strip c.args.original.now)
     c.new-lexer.result c.in_ok-parser.parser
-begins g c = record {
-  one = c.new-lexer.ensures.one;
-  lexer_is = c.new-lexer.ensures.starts;
-  state_is = c.in_ok-parser.ensures;
-}
+begins g c = search rules
 
 pub returns-in_err-read_all : goal.returns-in_err-read_all
 returns-in_err-read_all g c =
@@ -34,15 +29,15 @@ invariant_of-result g c =
     let same = c.in_ok-original.ensures.ok ∙ c.original-text.ensures
     ∙ ap (λ l. l.text) begun.lexer_is in
     rw (same, c.into_parts-nodes.ensures.nodes, c.into_parts-nodes.ensures.asked)
-    (KeepsOneTree-reads c.read_all.new.self begun c.in_ok-read_all.ensures)
+    (Accepted c.read_all.new.self begun c.in_ok-read_all.ensures).0
 
 pub returns : goal.returns
 returns g c =
     let begun = begins g (goal.at.returns g c).After-read_all in
-    let found = IsAccepted-reads c.read_all.new.self begun c.in_ok-read_all.ensures in
     let same = c.in_ok-original.ensures.ok ∙ c.original-text.ensures
     ∙ ap (λ l. l.text) begun.lexer_is in
-    (same, found.0, found.1)
+    let accepted = Accepted c.read_all.new.self begun c.in_ok-read_all.ensures in
+    (same, accepted.1, accepted.2)
 
 pub returns-in_err-parser : goal.returns-in_err-parser
 returns-in_err-parser g c = Answers-memory (strip c.args.original.now) c.new-lexer.ensures.one _

@@ -1,9 +1,8 @@
 -- The places are those of the predicates of the text's one tree.
 use Rattle.std.proofs.Common.{◌∙◌}
-use Rattle.cfgx_parser.proofs.Kept.{KeepsOneTree-seen}
 use Rattle.cfgx_parser.proofs.parsed.Parsed.places.Goals as goal
 
 pub returns : goal.returns
 returns g c =
-    let keeps = KeepsOneTree-seen c.self.view_is c.self.invariant in
+    let keeps = rw c.self.view_is at c.self.invariant in
     (keeps.one, c.as_slice.ensures ∙ keeps.keeps.asked_are)

@@ -4,7 +4,6 @@ use Rattle.std.specs.List.{AllByRecursion}
 use Rattle.cfgx_grammar.specs.Regular.{IsRegular}
 use Rattle.cfgx_grammar.proofs.alone.{regular_tree}
 use Rattle.cfgx_parser.proofs.Asked.{NamePredicates-kept, questions_at-kept}
-use Rattle.cfgx_parser.proofs.Kept.{KeepsOneTree-seen}
 use Rattle.cfgx_parser.proofs.parsed.Parsed.predicates.Goals as goal
 
 pub new-requires : goal.new-requires
@@ -14,12 +13,10 @@ new-requires g c =
 
 pub returns-clause-asked : goal.returns-clause-asked
 returns-clause-asked g c =
-    let keeps = KeepsOneTree-seen c.self.view_is c.self.invariant in
-    let text = c.as_str.ensures.value ∙ c.self.view_is in (
-      keeps.one,
-      c.new.ensures
-          ∙ rw (text, c.as_slice.ensures, c.as_slice-2.ensures) (questions_at-kept keeps.keeps),
-    )
+    let keeps = rw c.self.view_is at c.self.invariant in
+    let same =
+    rw (c.as_str.ensures.value, c.as_slice.ensures, c.as_slice-2.ensures) at c.new.ensures in
+    (keeps.one, same ∙ rw c.self.view_is (questions_at-kept keeps.keeps))
 
 -- what a text asks can stand in a text
 pub returns-clause-regular : goal.returns-clause-regular

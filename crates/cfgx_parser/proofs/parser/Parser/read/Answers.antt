@@ -4,5 +4,5 @@ use Rattle.cfgx_parser.proofs.parser.Parser.read.Goals as goal
 
 pub returns : goal.returns
 returns g c =
-    Reads-follows {A = g.row.A.Denot} c.args.last c.args.lexed c.apply.result c.args.self.now
-    c.apply.new.self (cc) c.apply.ensures
+    Reads-follows {A = g.row.A.Denot} c.args.last c.apply.result c.args.self.now c.apply.new.self
+    c.args.lexed (cc) c.apply.ensures

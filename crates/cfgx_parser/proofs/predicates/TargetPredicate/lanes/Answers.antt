@@ -6,13 +6,11 @@ use Rattle.cfgx_parser.proofs.predicates.TargetPredicate.lanes.Goals as goal
 
 pub with_lowest-is_true-requires : goal.with_lowest-is_true-requires
 with_lowest-is_true-requires g c =
-    (Added-fit c.in-Some.before.now c.in-Some.row.now c.in-Some.ensures.cases.0 c.requires
-    c.loop-row.invariant).0
+    (Added-fit _ _ c.in-Some.ensures.cases.0 c.requires c.loop-row.invariant).0
 
 pub with_lowest-is_false-requires : goal.with_lowest-is_false-requires
 with_lowest-is_false-requires g c =
-    (Added-fit c.in-Some.before.now c.in-Some.row.now c.in-Some.ensures.cases.0 c.requires
-    c.loop-row.invariant).1
+    (Added-fit _ _ c.in-Some.ensures.cases.0 c.requires c.loop-row.invariant).1
 
 pub new-requires : goal.new-requires
 new-requires g c = (Added-end c.in_default.ensures.cases c.loop-row.invariant).0
