@@ -4,7 +4,8 @@ use Rattle.std.proofs.lemmas.Grind.{common_steps}
 use Rattle.std.proofs.Common.{◌≤◌, ◌≡◌, ℕ, Bool, true, false, List, [], ◌∷◌, ◌++◌, map, Some, None}
 use Rattle.std.proofs.Common.{subst, ◌<◌, ◌^◌, ◌||◌, ◌&&◌, nat_eq, nat_lt, length, drop, Option}
 use Rattle.std.proofs.Common.{sym, refl, ap, ◌∙◌, arith, ◌+◌, ◌-◌, append_assoc, length-append}
-use Rattle.std.proofs.Common.{drop_at, drop_of_length-le}
+use Rattle.std.proofs.Common.{drop_at, drop_of_length-le, ◌⊎◌, inl, inr, ⊎_elim}
+use Rattle.std.proofs.lemmas.Bool.{ltb-true}
 use Rattle.std.specs.Prelude.{slice_range, if◌then◌else◌, codes, option_map}
 use Rattle.std.specs.List.{AllByRecursion, list_any, starts_with}
 use Rattle.cfgx_syntax.specs.Token.{Token, IsKey, HasNoQuote, Spells, IsWord, is_quote, in_quotes}
@@ -95,10 +96,10 @@ spelled_inner name tokens inner is spelled =
     let all = subst AreSpelled is spelled in
     all_of_first IsSpelled inner (Token.close_paren ∷ []) all.1.1
 
-regular_if : (b : Bool) (questions : List Question) → AreRegular questions
-    → AreRegular (if b then questions else [])
-regular_if true questions regular = regular
-regular_if false questions regular = tt
+-- one of two
+kept_if : {A : Type 0} (P : A → Type 0) (b : Bool) (x y : A) → P x → P y → P (if b then x else y)
+kept_if P true x y here there = here
+kept_if P false x y here there = there
 
 mutual
   regular_member : (tokens : List Token) (tree : Tree Question) → AreSpelled tokens
@@ -127,7 +128,7 @@ mutual
       let all = subst AreSpelled is spelled in
       let behind = all_of_second IsSpelled member (commas n ++ rest) all in
       let here = regular_member member tree (all_of_first IsSpelled member _ all) one in
-      all_of_both IsRegular _ _ (regular_if (test tree) (asked tree) here)
+      all_of_both IsRegular _ _ (kept_if AreRegular (test tree) _ [] here tt)
       (regular_list test rest trees (all_of_second IsSpelled (commas n) rest behind) more)
 
 pub regular_tree : (text : List ℕ) (tree : Tree Question) → HasTree text tree
@@ -206,144 +207,113 @@ no_quote_endian little = refl
 
 -- Each line of the tables.
 
-spelt_word : (word : List ℕ) (value : Option (List ℕ)) (question : Question) → IsWord word
-    → 3 < length word → CanBeQuoted value → class word value ≡ predicate question
-    → spelling question ≡ text_of word value → IsSpelt question
-spelt_word word value question is long quoted says spelled =
-    spelt word value question (long_key word is long) quoted says spelled
+spelt_word : (word : List ℕ) (value : Option (List ℕ)) (question : Question) → CanBeQuoted value
+    → IsWord word × (nat_lt 3 (length word) ≡ true) × (class word value ≡ predicate question)
+    × (spelling question ≡ text_of word value) → IsSpelt question
+spelt_word word value question quoted (is, long, says, spelled) =
+    spelt word value question (long_key word is (ltb-true 3 (length word) long)) quoted says spelled
 
 spelt_family : (name : List ℕ) → HasNoQuote name
     → IsSpelt (Question.target (TargetQuestion.family name))
 unfolding class
 spelt_family name quoted =
-    spelt_word (codes "target_family") (Some name) _ (refl, refl) (omega arith) quoted refl refl
+    spelt_word (codes "target_family") (Some name) _ quoted ((refl, refl), refl, refl, refl)
 
-module _ (key : List ℕ) (value : Option (List ℕ)) (is_key : IsKey key)
-    (quoted : CanBeQuoted value) where
-  -- what the line makes of the value is spelt
+module _ (key : List ℕ) (value : Option (List ℕ)) where
+  -- a predicate of this class is spelt, or its spelling is that of the key and the value
   abbrev Good : Class → Type 0
-  Good c = (question : Question) → c ≡ predicate question
-      → class key value ≡ predicate question → IsSpelt question
+  Good (Class.is (Leaf.predicate question)) =
+      IsSpelt question ⊎ (spelling question ≡ text_of key value)
+  Good _ = Unit {0}
 
-  good_is : (asked : Question) → IsSpelt asked → Good (predicate asked)
-  good_is asked spelt question is says = grind arith
+  -- the goal, once each line of a table is good
+  abbrev Each : {V : Type 0} → V → List (Line V) → Type 0 → Type 0
+  Each v [] goal = goal
+  Each v (first ∷ rest) goal = Good (first.read v) → Each v rest goal
 
-  good_refused : (cause : Cause) (part : Part) → Good (Class.refused cause part)
-  good_refused cause part question is says = absurd (cc)
-
-  good_if : (b : Bool) (one other : Class) → Good one → Good other
-      → Good (if b then one else other)
-  good_if true one other here others = here
-  good_if false one other here others = others
-
-  good_by_name : {V : Type 0} (lines : List (Line V)) (name : List ℕ) (v : V) (otherwise : Class)
-      → AllByRecursion (λ line. Good (line.read v)) lines → Good otherwise
-      → Good (by_name lines name v otherwise)
-  good_by_name [] name v otherwise lines last = last
-  good_by_name (first ∷ rest) name v otherwise lines last =
-      good_if (bytes_eq name first.name) (first.read v) _ lines.0
-      (good_by_name rest name v otherwise lines.1 last)
+  -- then the table is
+  good_by_name : {V : Type 0} (name : List ℕ) (v : V) (otherwise : Class) (goal : Type 0)
+      → Good otherwise → (lines : List (Line V))
+      → (Good (by_name lines name v otherwise) → goal) → Each v lines goal
+  good_by_name name v otherwise goal last [] whole = whole last
+  good_by_name name v otherwise goal last (first ∷ rest) whole = λ good.
+      good_by_name name v otherwise goal last rest (λ others. whole (kept_if Good
+      (bytes_eq name first.name) (first.read v) _ good others))
 
   good_bare : (leaf : Leaf) → Good (Class.is leaf) → (v : Option (List ℕ)) → Good (bare leaf v)
   good_bare leaf good None = good
-  good_bare leaf good (Some v) = good_refused (unexpected []) Part.of_value
-
-  good_predicate : (asked : Question) → IsSpelt asked → (v : Option (List ℕ))
-      → Good (bare (Leaf.predicate asked) v)
-  good_predicate asked spelt v = good_bare (Leaf.predicate asked) (good_is asked spelt) v
-
-  -- a literal is no predicate
-  good_literal : (truth : Bool) (v : Option (List ℕ)) → Good (bare (Leaf.literal truth) v)
-  good_literal truth v = good_bare (Leaf.literal truth) (λ question is says. absurd (cc)) v
+  good_bare leaf good (Some v) = tt
 
   good_valued : (with : List ℕ → Class) (missing : List ℕ)
       → ((v : List ℕ) → HasNoQuote v → Good (with v)) → (v : Option (List ℕ)) → CanBeQuoted v
       → Good (valued with missing v)
-  good_valued with missing each None quotes = good_refused (unexpected (missing ∷ [])) Part.of_key
+  good_valued with missing each None quotes = tt
   good_valued with missing each (Some v) quotes = each v quotes
 
   good_feature : (v : List ℕ) → HasNoQuote v → Good (target_feature v)
   unfolding class
-  good_feature [] quotes = good_refused (unexpected (codes "<feature>" ∷ [])) Part.of_value
-  good_feature (byte ∷ bytes) quotes = good_is _
-      (spelt_word (codes "target_feature") (Some (byte ∷ bytes)) _ (refl, refl) (omega arith)
-      quotes refl refl)
+  good_feature [] quotes = tt
+  good_feature (byte ∷ bytes) quotes = inl (spelt_word (codes "target_feature")
+      (Some (byte ∷ bytes)) _ quotes ((refl, refl), refl, refl, refl))
 
   good_read : {X : Type 0} (ask : X → TargetQuestion) (cause : Cause) (read : Option X)
       → ((x : X) → read ≡ Some x → IsSpelt (Question.target (ask x)))
       → Good (if_read ask cause read)
-  good_read ask cause None each = good_refused cause Part.of_value
-  good_read ask cause (Some x) each = good_is _ (each x refl)
+  good_read ask cause None each = tt
+  good_read ask cause (Some x) each = inl (each x refl)
 
   good_target : (name v : List ℕ) → HasNoQuote v → Good (target_class name v)
   unfolding class
   good_target name v q =
-      let line = λ (word : List ℕ) (question : Question). spelt_word word (Some v) question in
-      let abi = good_is _ (line (codes "target_abi") _ (refl, refl) (omega arith) q refl refl) in
-      let arch = good_is _ (line (codes "target_arch") _ (refl, refl) (omega arith) q refl refl) in
-      let os = good_is _ (line (codes "target_os") _ (refl, refl) (omega arith) q refl refl) in
-      let families = good_is _ (spelt_family v q) in
-      let env = good_is _ (line (codes "target_env") _ (refl, refl) (omega arith) q refl refl) in
-      let vendor = good_is _ (line (codes "target_vendor") _ (refl, refl) (omega arith) q refl
-      refl) in
       let endian = good_read TargetQuestion.endian invalid_integer (endian_named v) (λ e is.
-      spelt_word (codes "target_endian") (Some (endian_text e)) _ (refl, refl) (omega arith)
-      (no_quote_endian e) (rw (endian_named-text e) refl) refl) in
+      spelt_word (codes "target_endian") (Some (endian_text e)) _ (no_quote_endian e)
+      ((refl, refl), refl, rw (endian_named-text e) refl, refl)) in
       let atomic = good_read TargetQuestion.has_atomic invalid_has_atomic (atomic_named v) (λ a is.
       let small = named_small v a is in
-      spelt_word (codes "target_has_atomic") (Some (atomic_text a)) _ (refl, refl) (omega arith)
-      (no_quote_atomic a small) (rw (atomic_named-text a small) refl) refl) in
+      spelt_word (codes "target_has_atomic") (Some (atomic_text a)) _ (no_quote_atomic a small)
+      ((refl, refl), refl, rw (atomic_named-text a small) refl, refl)) in
       let width = good_read TargetQuestion.pointer_width invalid_integer (read_below (2 ^ 8) v)
       (λ n is. let small = read_small (2 ^ 8) n v is in
       let fits : n < 2 ^ 64 = omega (arith, small) in
-      spelt_word (codes "target_pointer_width") (Some (decimal n)) _ (refl, refl) (omega arith)
-      (no_quote_decimal n fits) (rw (read_below-decimal (2 ^ 8) n small fits) refl) refl) in
-      let feature = good_feature v q in
-      good_by_name target_lines name v _
-      (abi, (arch, (os, (families, (env, (vendor, (feature, (endian, (atomic, (width, tt))))))))))
-      (good_refused (unexpected target_names) Part.of_key)
+      spelt_word (codes "target_pointer_width") (Some (decimal n)) _ (no_quote_decimal n fits)
+      ((refl, refl), refl, rw (read_below-decimal (2 ^ 8) n small fits) refl, refl)) in
+      good_by_name name v _ _ tt target_lines (λ good. good)
+      (inl (spelt_word (codes "target_abi") (Some v) _ q ((refl, refl), refl, refl, refl)))
+      (inl (spelt_word (codes "target_arch") (Some v) _ q ((refl, refl), refl, refl, refl)))
+      (inl (spelt_word (codes "target_os") (Some v) _ q ((refl, refl), refl, refl, refl)))
+      (inl (spelt_family v q))
+      (inl (spelt_word (codes "target_env") (Some v) _ q ((refl, refl), refl, refl, refl)))
+      (inl (spelt_word (codes "target_vendor") (Some v) _ q ((refl, refl), refl, refl, refl)))
+      (good_feature v q) endian atomic width
 
-  good_plain : (v : Option (List ℕ)) → value ≡ v → CanBeQuoted v → Good (plain key v)
-  good_plain None is quotes question same says = good_is _ (spelt key None _ is_key tt
-      (ap (class key) (sym is) ∙ says ∙ sym same) refl) question same says
-  good_plain (Some v) is quotes question same says = good_is _ (spelt key (Some v) _ is_key quotes
-      (ap (class key) (sym is) ∙ says ∙ sym same) refl) question same says
+  good_plain : (v : Option (List ℕ)) → value ≡ v → Good (plain key v)
+  good_plain None is = inr (rw is refl)
+  good_plain (Some v) is = inr (rw is refl)
 
-  good_other : Good (other_class key value)
-  good_other = good_if (starts_with nat_eq key (codes "target_")) _ (plain key value)
-      (good_valued (target_class (drop 7 key)) (codes "= \"<target_cfg_value>\"")
-      (good_target (drop 7 key)) value quoted) (good_plain value refl quoted)
-
-  good_class : Good (class key value)
+  good_class : CanBeQuoted value → Good (class key value)
   unfolding class
-  good_class =
-      let unix = good_predicate _ (spelt_family (codes "unix") refl) value in
-      let windows = good_predicate _ (spelt_family (codes "windows") refl) value in
-      let test = good_predicate _ (spelt_word (codes "test") None _ (refl, refl) (omega arith) tt
-      refl refl) value in
-      let debug = good_predicate _ (spelt_word (codes "debug_assertions") None _ (refl, refl)
-      (omega arith) tt refl refl) value in
-      let macros = good_predicate _ (spelt_word (codes "proc_macro") None _ (refl, refl)
-      (omega arith) tt refl refl) value in
-      let feature = good_valued (λ v. predicate (Question.feature v)) (codes "= \"<feature_name>\"")
-      (λ v q. good_is _
-      (spelt_word (codes "feature") (Some v) _ (refl, refl) (omega arith) q refl refl)) value
-      quoted in
-      let panic = good_valued (λ v. asks (TargetQuestion.panic v)) (codes "= \"<panic_strategy>\"")
-      (λ v q. good_is _
-      (spelt_word (codes "panic") (Some v) _ (refl, refl) (omega arith) q refl refl)) value
-      quoted in
-      good_by_name key_lines key value _ (
-        good_literal true value,
-        (
-          good_literal false value,
-          (unix, (windows, (test, (debug, (macros, (feature, (panic, tt))))))),
-        ),
-      ) good_other
+  good_class quoted = good_by_name key value _ _ (kept_if Good
+      (starts_with nat_eq key (codes "target_")) _ (plain key value)
+      (good_valued _ _ (good_target (drop 7 key)) value quoted) (good_plain value refl))
+      key_lines (λ good. good)
+      (good_bare (Leaf.literal true) tt value)
+      (good_bare (Leaf.literal false) tt value)
+      (good_bare _ (inl (spelt_family (codes "unix") refl)) value)
+      (good_bare _ (inl (spelt_family (codes "windows") refl)) value)
+      (good_bare _ (inl (spelt_word (codes "test") None _ tt
+      ((refl, refl), refl, refl, refl))) value)
+      (good_bare _ (inl (spelt_word (codes "debug_assertions") None _ tt
+      ((refl, refl), refl, refl, refl))) value)
+      (good_bare _ (inl (spelt_word (codes "proc_macro") None _ tt
+      ((refl, refl), refl, refl, refl))) value)
+      (good_valued _ _ (λ v q. inl (spelt_word (codes "feature") (Some v) _ q
+      ((refl, refl), refl, refl, refl))) value quoted)
+      (good_valued _ _ (λ v q. inl (spelt_word (codes "panic") (Some v) _ q
+      ((refl, refl), refl, refl, refl))) value quoted)
 
 pub spelt_regular : (question : Question) → IsRegular question → IsSpelt question
-spelt_regular question r =
-    good_class r.key r.value r.is_key r.can_be_quoted question r.says r.says
+spelt_regular question r = ⊎_elim (λ spelt. spelt) (λ is. record { regular = r; spelled = is })
+    (rw r.says at (good_class r.key r.value r.can_be_quoted))
 
 -- The text of a key, and perhaps a value, has the one tree that is their predicate.
 
