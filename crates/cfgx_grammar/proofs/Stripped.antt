@@ -6,7 +6,6 @@ use Rattle.std.specs.Prelude.{codes}
 use Rattle.std.specs.List.{starts_with}
 use Rattle.std.proofs.lemmas.Slice.Eq.{starts_is}
 use Rattle.std.proofs.lemmas.Bool.Decides.{Decides-eqb}
-use Rattle.std.proofs.lemmas.Str.{NoCharPasses-nil}
 use Rattle.cfgx_syntax.specs.Stripping.{strip}
 use Rattle.cfgx_syntax.specs.Token.{Token, IsKey}
 use Rattle.cfgx_syntax.specs.Items.{Item, Ending, Stands}

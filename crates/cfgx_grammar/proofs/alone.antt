@@ -3,7 +3,7 @@ use Rattle.std.proofs.lemmas.Bool.Decides.{nat_tests}
 use Rattle.std.proofs.lemmas.Grind.{common_steps}
 use Rattle.std.proofs.Common.{◌≤◌, ◌≡◌, ℕ, Bool, true, false, List, [], ◌∷◌, ◌++◌, map, Some, None}
 use Rattle.std.proofs.Common.{subst, ◌<◌, ◌^◌, ◌||◌, ◌&&◌, nat_eq, nat_lt, length, drop, Option}
-use Rattle.std.proofs.Common.{sym, refl, ap, ◌∙◌, arith, ◌+◌, ◌-◌, append_assoc, length-append}
+use Rattle.std.proofs.Common.{sym, refl, ap, ◌∙◌, arith, ◌+◌, append_assoc, length-append}
 use Rattle.std.proofs.Common.{drop_at, drop_of_length-le, ◌⊎◌, inl, inr, ⊎_elim}
 use Rattle.std.proofs.lemmas.Bool.{ltb-true}
 use Rattle.std.specs.Prelude.{slice_range, if◌then◌else◌, codes, option_map}
@@ -21,7 +21,7 @@ use Rattle.std.specs.Str.{bytes_eq}
 use Rattle.std.specs.Str.Parse.{AllDigits}
 use Rattle.std.specs.Char.{digit_value}
 use Rattle.std.proofs.lemmas.Fmt.{decimal_is_IsNumeral}
-use Rattle.cfgx_syntax.specs.Error.{Cause, unexpected, invalid_integer, invalid_has_atomic}
+use Rattle.cfgx_syntax.specs.Error.{Cause, invalid_integer, invalid_has_atomic}
 use Rattle.cfgx_targets.specs.Endian.{endian_text, endian_named}
 use Rattle.cfgx_targets.specs.HasAtomic.{IsWidth, atomic_text, atomic_named, pointer_named}
 use Rattle.cfgx_targets.specs.Number.{read_below}
@@ -31,13 +31,11 @@ use Rattle.cfgx_targets.specs.declared.atomic.HasAtomic.{HasAtomic}
 use Rattle.cfgx_targets.specs.declared.atomic.HasAtomic.TheVariants.{IntegerSize, Pointer}
 use Rattle.cfgx_targets.proofs.AtomicLemmas.{endian_named-text, atomic_named-text}
 use Rattle.cfgx_targets.proofs.NumberLemmas.{read_below-decimal}
-use Rattle.cfgx_grammar.specs.Classification.{asks, predicate, Class, Part, class, bare, valued}
+use Rattle.cfgx_grammar.specs.Classification.{predicate, Class, class, bare, valued}
 use Rattle.cfgx_grammar.specs.Classification.{if_read, target_feature, Line, by_name, key_lines}
-use Rattle.cfgx_grammar.specs.Classification.{target_lines, target_class, plain, other_class}
-use Rattle.cfgx_grammar.specs.Classification.{target_names}
+use Rattle.cfgx_grammar.specs.Classification.{target_lines, target_class, plain}
 use Rattle.cfgx_grammar.specs.Spelling.{key_and_value, spelling}
 use Rattle.std.proofs.lemmas.List.{append-nil}
-use Rattle.std.proofs.Math.Seq.{drop-append_seam, take-append_seam}
 use Rattle.std.proofs.lemmas.Str.{NoCharPasses-nil}
 use Rattle.cfgx_grammar.proofs.Answering.{same_tree}
 use Rattle.cfgx_grammar.proofs.Stripped.{strip-tree}

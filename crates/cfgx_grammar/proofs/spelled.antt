@@ -16,10 +16,10 @@ use Rattle.cfgx_grammar.specs.Neighbours.{Kind, takes}
 use Rattle.cfgx_grammar.specs.parsing.State.{Function, Pending, Builder, Open, State, name_of}
 use Rattle.cfgx_grammar.specs.parsing.State.{initial}
 use Rattle.cfgx_grammar.specs.parsing.Step.{with_member, one_more, ended_by, predicate_ended}
-use Rattle.cfgx_grammar.specs.parsing.Step.{new_open, member_count, has_room, function_ended}
+use Rattle.cfgx_grammar.specs.parsing.Step.{new_open, has_room, function_ended}
 use Rattle.cfgx_grammar.specs.parsing.Step.{closed_by, with_parens, with_last, step_each}
-use Rattle.cfgx_grammar.specs.parsing.Step.{concluded_by, conclude}
-use Rattle.cfgx_grammar.proofs.accepted.{leaf_tree, tokens_of, counted, stack_ended}
+use Rattle.cfgx_grammar.specs.parsing.Step.{conclude}
+use Rattle.cfgx_grammar.proofs.accepted.{leaf_tree, tokens_of}
 use Rattle.std.proofs.lemmas.List.{append-nil}
 use Rattle.std.proofs.Math.Seq.{take-append_seam, drop-append_seam}
 

@@ -3,10 +3,10 @@ use Rattle.std.proofs.lemmas.Bool.Decides.{nat_tests}
 use Rattle.std.proofs.lemmas.Grind.{common_steps}
 use Rattle.std.proofs.Common.{◌≡◌, ◌⊎◌, inl, inr, ℕ, ◌+◌, Bool, true, false, List, [], ◌∷◌, ◌++◌}
 use Rattle.std.proofs.Common.{length, reverse, cond, Option, Some, None, Result, Ok, Err, sym, refl}
-use Rattle.std.proofs.Common.{ap, ◌∙◌, subst, arith, suc, ◌-◌, ◌<◌, ◌==◌, option_map, take_all}
+use Rattle.std.proofs.Common.{ap, ◌∙◌, subst, arith, suc, ◌-◌, ◌<◌, option_map, take_all}
 use Rattle.std.proofs.Common.{⊎_elim, ◌≤◌, append_assoc, length-append}
 use Rattle.std.specs.Prelude.{count_by, option_and_then, if◌then◌else◌, codes}
-use Rattle.std.proofs.lemmas.Bool.{false≢true, lt-ltb, le-ltb, eq-eqb, ne_eqb, cases_lt}
+use Rattle.std.proofs.lemmas.Bool.{lt-ltb, le-ltb, eq-eqb, ne_eqb, cases_lt}
 use Rattle.std.proofs.Math.Seq.{take-append_seam}
 use Rattle.std.proofs.lemmas.List.{reverse-append, append-nil}
 use Rattle.std.proofs.lemmas.List.Sums.{sum_by_push}
@@ -17,7 +17,7 @@ use Rattle.cfgx_syntax.specs.Error.{multiple_root_predicates}
 use Rattle.cfgx_grammar.specs.Classification.{Class}
 use Rattle.cfgx_grammar.specs.Neighbours.{Kind, takes, kind_of, is_kind, next, expected}
 use Rattle.cfgx_grammar.specs.Depth.{names_function, is_closing, depth, depth_at, innermost}
-use Rattle.cfgx_grammar.specs.Depth.{members, roots, members_at, first_below}
+use Rattle.cfgx_grammar.specs.Depth.{members, roots, first_below}
 use Rattle.cfgx_grammar.specs.LastPredicate.{key_token, key_last, equals_token, equals_last}
 use Rattle.cfgx_grammar.specs.LastPredicate.{predicate_token, predicate_last, class_of, Word}
 use Rattle.cfgx_grammar.specs.LastPredicate.{word_of, with_value}
