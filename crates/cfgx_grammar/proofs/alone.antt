@@ -13,7 +13,7 @@ use Rattle.cfgx_syntax.specs.Token.{IsWhole}
 use Rattle.cfgx_syntax.specs.Items.{Item, Ending, ItemsFrom, IsBlank, Stands, AreItems}
 use Rattle.cfgx_grammar.specs.Question.{Question, Leaf, TargetQuestion}
 use Rattle.cfgx_grammar.specs.Tree.{Tree, Trees, is_function, is_leaf, asked, asked_by}
-use Rattle.cfgx_grammar.specs.Grammar.{commas, IsMember, IsList, HasTree, leaf_tokens}
+use Rattle.cfgx_grammar.specs.Grammar.{commas, IsCall, IsMember, IsList, HasTree, leaf_tokens}
 use Rattle.cfgx_grammar.specs.Regular.{IsRegular, CanBeQuoted, IsAlone}
 use Rattle.std.specs.Option.{option_or}
 use Rattle.std.specs.Fmt.{decimal}
@@ -38,6 +38,7 @@ use Rattle.cfgx_grammar.specs.Spelling.{key_and_value, spelling}
 use Rattle.std.proofs.lemmas.List.{append-nil}
 use Rattle.std.proofs.lemmas.Str.{NoCharPasses-nil}
 use Rattle.cfgx_grammar.proofs.Answering.{same_tree}
+use Rattle.cfgx_grammar.proofs.accepted.{tokens_of}
 use Rattle.cfgx_grammar.proofs.Stripped.{strip-tree}
 
 -- What a text asks can stand in a text.
@@ -86,44 +87,39 @@ regular_leaf : (tokens : List Token) (question : Question) → AreSpelled tokens
     → IsMember tokens (Tree.leaf question) → IsRegular question
 regular_leaf tokens question spelled a3 = grind arith
 
--- the tokens of the members of a call
-spelled_inner : (name : Token) (tokens inner : List Token)
-    → tokens ≡ name ∷ Token.open_paren ∷ (inner ++ Token.close_paren ∷ []) → AreSpelled tokens
-    → AreSpelled inner
-spelled_inner name tokens inner is spelled =
-    let all = subst AreSpelled is spelled in
-    all_of_first IsSpelled inner (Token.close_paren ∷ []) all.1.1
-
 -- one of two
 kept_if : {A : Type 0} (P : A → Type 0) (b : Bool) (x y : A) → P x → P y → P (if b then x else y)
 kept_if P true x y here there = here
 kept_if P false x y here there = there
 
+-- what the members of a call ask
+regular_call : (name : Token) (tokens : List Token) (trees : Trees Question) → AreSpelled tokens
+    → (inner : List Token) × IsCall name tokens inner × IsList inner trees
+    → ((test : Tree Question → Bool) (inner : List Token) → AreSpelled inner → IsList inner trees
+    → AreRegular (asked_by test trees))
+    → AreRegular (asked_by is_function trees ++ asked_by is_leaf trees)
+regular_call name tokens trees spelled (inner, is, list) each =
+    let all = all_of_first IsSpelled inner _ (rw is at spelled).1.1 in
+    all_of_both IsRegular _ _ (each is_function inner all list) (each is_leaf inner all list)
+
 mutual
   regular_member : (tokens : List Token) (tree : Tree Question) → AreSpelled tokens
-      → IsMember tokens tree
-      → AreRegular (asked tree)
+      → IsMember tokens tree → AreRegular (asked tree)
   regular_member tokens (Tree.leaf question) spelled member =
       (regular_leaf tokens question spelled member, tt)
   regular_member tokens (Tree.literal truth) spelled member = tt
-  regular_member tokens (Tree.all trees) spelled (inner, is, list) =
-      let each = spelled_inner Token.all tokens inner is spelled in
-      all_of_both IsRegular _ _ (regular_list is_function inner trees each list)
-      (regular_list is_leaf inner trees each list)
-  regular_member tokens (Tree.any trees) spelled (inner, is, list) =
-      let each = spelled_inner Token.any tokens inner is spelled in
-      all_of_both IsRegular _ _ (regular_list is_function inner trees each list)
-      (regular_list is_leaf inner trees each list)
-  regular_member tokens (Tree.not tree) spelled (member, n, is, one) =
-      let each = spelled_inner Token.not tokens (member ++ commas n) is spelled in
-      regular_member member tree (all_of_first IsSpelled member (commas n) each) one
+  regular_member tokens (Tree.all trees) spelled call =
+      regular_call Token.all tokens trees spelled call (λ test inner. regular_list test inner trees)
+  regular_member tokens (Tree.any trees) spelled call =
+      regular_call Token.any tokens trees spelled call (λ test inner. regular_list test inner trees)
+  regular_member tokens (Tree.not tree) spelled (member, n, is, one) = regular_member member tree
+      (all_of_first IsSpelled member _ (all_of_first IsSpelled _ _ (rw is at spelled).1.1)) one
 
   regular_list : (test : Tree Question → Bool) (tokens : List Token) (trees : Trees Question)
-      → AreSpelled tokens
-      → IsList tokens trees → AreRegular (asked_by test trees)
+      → AreSpelled tokens → IsList tokens trees → AreRegular (asked_by test trees)
   regular_list test tokens Trees.none spelled list = tt
   regular_list test tokens (Trees.more tree trees) spelled (member, n, rest, is, apart, one, more) =
-      let all = subst AreSpelled is spelled in
+      let all = rw is at spelled in
       let behind = all_of_second IsSpelled member (commas n ++ rest) all in
       let here = regular_member member tree (all_of_first IsSpelled member _ all) one in
       all_of_both IsRegular _ _ (kept_if AreRegular (test tree) _ [] here tt)
@@ -134,8 +130,7 @@ pub regular_tree : (text : List ℕ) (tree : Tree Question) → HasTree text tre
 regular_tree text tree has =
     let all = spelled_items text 0 has.items Ending.blank has.are_items in
     let (member, n, is, one) = has.spelled in
-    regular_member member tree
-    (all_of_first IsSpelled member (commas n) (subst AreSpelled is all)) one
+    regular_member member tree (all_of_first IsSpelled member (commas n) (rw is at all)) one
 
 -- The spelling of a predicate that can stand in a text is a text of this predicate alone.
 
@@ -360,16 +355,16 @@ space_blank : IsBlank (32 ∷ [])
 unfolding lib.Utf8.encode
 space_blank = (32 ∷ [], refl, (refl, tt))
 
-key_alone : (key : List ℕ) → IsKey key → AreItems key (items_of key None) Ending.blank
-key_alone key is_key = (
+-- the text has these items, which are the tokens of a leaf
+items_alone : (key : List ℕ) (value : Option (List ℕ)) → IsKey key → CanBeQuoted value
+    → AreItems (text_of key value) (items_of key value) Ending.blank
+    × (tokens_of (items_of key value) ≡ leaf_tokens key value)
+items_alone key None is_key quoted = ((
   stands_between key [] [] key [] (Token.key key) 0 0 (length key) (sym (append-nil key)) refl refl
       (omega arith) (NoCharPasses-nil _) (refl, is_key) refl,
   subst IsBlank (sym (drop_of_length-le key (omega arith))) (NoCharPasses-nil _),
-)
-
-value_alone : (key value : List ℕ) → IsKey key → HasNoQuote value
-    → AreItems (key_and_value key value) (items_of key (Some value)) Ending.blank
-value_alone key value is_key quoted =
+), refl)
+items_alone key (Some value) is_key quoted =
     let n = length key in
     let text = key_and_value key value in
     let quotes = in_quotes value in
@@ -382,49 +377,24 @@ value_alone key value is_key quoted =
     (Token.value value) (n + 2) (n + 3) (n + 3 + length quotes) (rw append-nil (simp append_assoc))
     (omega (arith, front)) (omega (arith, front)) refl space_blank (refl, quoted) refl in
     let long : length text ≤ n + 3 + length quotes =
-    omega (arith, length-append key (codes " = " ++ quotes)) in (
-      key_stands,
-      (
-        equals_stands,
-        (
-          value_stands,
-          subst IsBlank (sym (drop_of_length-le text long)) (NoCharPasses-nil _),
-        ),
-      ),
-    )
+    omega (arith, length-append key (codes " = " ++ quotes)) in
+    ((key_stands, (equals_stands, (value_stands, subst IsBlank
+    (sym (drop_of_length-le text long)) (NoCharPasses-nil _)))), refl)
 
--- Its one tree.
-
-is_alone : (text : List ℕ) (items : List Item) (key : List ℕ) (value : Option (List ℕ))
-    (question : Question) → AreItems text items Ending.blank
-    → map (λ item. item.token) items ≡ leaf_tokens key value
-    → class key value ≡ predicate question → IsAlone text question
-is_alone text items key value question are tokens says =
-    let has : HasTree text (Tree.leaf question) = record {
-      items = items;
-      are_items = are;
-      spelled = (_, 0, tokens ∙ sym (append-nil _), (key, value, refl, says));
-    } in
-    record {
-      stripped = strip-tree text (Tree.leaf question) has;
-      one = record { tree = _; has_tree = has; only = λ other its. same_tree text _ other has its };
-      is = refl;
-    }
-
-alone_text : (key : List ℕ) (value : Option (List ℕ)) (question : Question) → IsKey key
-    → CanBeQuoted value → class key value ≡ predicate question
-    → IsAlone (text_of key value) question
-alone_text key None question is_key quoted says =
-    is_alone key (items_of key None) key None question (key_alone key is_key) refl says
-alone_text key (Some value) question is_key quoted says =
-    is_alone (key_and_value key value) (items_of key (Some value)) key (Some value) question
-    (value_alone key value is_key quoted) refl says
-
--- the spelling of a predicate that can stand in a text is a text of it alone
+-- Its one tree: the spelling of a predicate that can stand in a text is a text of it alone.
 pub spelling_alone : (question : Question) → IsRegular question
     → IsAlone (spelling question) question
 spelling_alone question regular =
     let s = spelt_regular question regular in
     let r = s.regular in
-    subst (λ t. IsAlone t question) (sym s.spelled)
-    (alone_text r.key r.value question r.is_key r.can_be_quoted r.says)
+    let (are, tokens) = items_alone r.key r.value r.is_key r.can_be_quoted in
+    let has : HasTree (spelling question) (Tree.leaf question) = rw s.spelled (record {
+      items = items_of r.key r.value;
+      are_items = are;
+      spelled = (_, 0, tokens ∙ sym (append-nil _), (r.key, r.value, refl, r.says));
+    }) in
+    record {
+      stripped = strip-tree _ _ has;
+      one = record { tree = _; has_tree = has; only = λ other its. same_tree _ _ other has its };
+      is = refl;
+    }
