@@ -158,10 +158,6 @@ module _ {W M L : Type 0} {builder : Builder W M L} where
     pub class_is : class_of p ≡ Class.is leaf
     pub ended : t ≡ leaf_ended s written
 
-  leaf_ends_as : (s t : State builder) (p : Pending) (c : Class) → class_of p ≡ c
-      → result_map (leaf_ended s) (located_class builder p c) ≡ Ok t → LeafEnds s t p
-  leaf_ends_as s t p c is ends = grind arith
-
   pub LeafEnds-ended : (s t : State builder) (p : Pending) → s.pending ≡ Some p
       → predicate_ended s ≡ Ok t → LeafEnds s t p
   LeafEnds-ended s t p pending ends = grind arith

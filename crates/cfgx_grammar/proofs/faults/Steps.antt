@@ -72,23 +72,6 @@ names front = count_by (λ item. names_function item.token) front
 abbrev pub closings : List Item → ℕ
 closings front = count_by (λ item. is_closing item.token) front
 
--- one more token
-
-module _ (front : List Item) (item : Item) where
-  pub last_more : last_token (front ++ item ∷ []) ≡ Some item.token
-  last_more = ap head_token (reverse-append front (item ∷ []))
-
-  pub begun_more : begun_last (reverse (front ++ item ∷ []))
-      ≡ begun_token item (reverse front) item.token
-  begun_more = ap begun_last (reverse-append front (item ∷ []))
-
-  pub names_more : names (front ++ item ∷ []) ≡ names front + cond (names_function item.token) 1 0
-  names_more = sum_by_push (λ (i : Item). cond (names_function i.token) 1 0) front item
-
-  pub closings_more : closings (front ++ item ∷ [])
-      ≡ closings front + cond (is_closing item.token) 1 0
-  closings_more = sum_by_push (λ (i : Item). cond (is_closing i.token) 1 0) front item
-
 -- What may stand behind the last token says which it is.
 
 -- What a token of this kind says of those in front of it. In front of a name no predicate has
@@ -101,30 +84,9 @@ Says Kind.equals begun key equals names = (begun ≡ key) × (names ≡ false)
 Says Kind.value begun key equals names = (begun ≡ equals) × (names ≡ false)
 Says _ begun key equals names = Unit {0}
 
-says_token : (kind : Kind) (item : Item) (before : List Item) (token : Token)
-    → takes (Some token) kind ≡ true → Says kind (begun_token item before token)
-    (key_token item token) (equals_token before token) (names_function token)
-says_token kind item before token may = grind arith
-
 pub says : (kind : Kind) (back : List Item) → takes (head_token back) kind ≡ true
     → Says kind (begun_last back) (key_last back) (equals_last back) (names_last (head_token back))
 says kind back may = grind arith
-
--- a predicate that has begun has ended but behind `=`
-ended_token : (item : Item) (before : List Item) (token : Token)
-    → lacks_value (Some token) ≡ false
-    → begun_token item before token ≡ predicate_token item before token
-ended_token item before token whole = grind arith
-
-ended_last : (back : List Item) → lacks_value (head_token back) ≡ false
-    → begun_last back ≡ predicate_last back
-ended_last back whole = grind arith
-
--- in front of `)` and `,` stands what has ended, or nothing
-pub after_end : (last : Option Token)
-    → (takes last Kind.closing ≡ true) ⊎ (takes last Kind.comma ≡ true)
-    → (lacks_value last ≡ false) × (names_last last ≡ false)
-after_end last which = grind arith
 
 pub height_kept : {M : Type 0} (f : Open M → Open M) (stack : List (Open M))
     → length (over_top f stack) ≡ length stack
@@ -158,15 +120,6 @@ module _ {W M L : Type 0} {builder : Builder W M L} where
     EndsAs (Ok t) fault = (fault ≡ None) × Ended t
     EndsAs (Err refusal) fault = fault ≡ Some refusal
 
-    class_ends : (p : Pending) (class : Class) → Levels front s.roots is_named s.stack 1
-        → EndsAs (result_map (leaf_ended s) (located_class builder p class)) (class_fault p class)
-    class_ends p class levels = grind arith
-
-    pending_ends : (pending : Option Pending) → s.pending ≡ pending
-        → Levels front s.roots is_named s.stack (going pending) → EndsAs (ended_by s pending)
-        (option_and_then (λ p. class_fault p (class_of p)) pending)
-    pending_ends pending is levels = grind arith
-
   pub predicate_ends : (front : List Item) (s : State builder) (m : Matches front s)
       → lacks_value (last_token front) ≡ false
       → EndsAs front (names_last (last_token front)) s (predicate_ended s) (predicate_fault front)
@@ -174,11 +127,6 @@ module _ {W M L : Type 0} {builder : Builder W M L} where
 
 -- Each step refuses a token with the fault that the tokens in front of it show, and the end of the
 -- text likewise.
-
--- the members that have ended and the one that goes on
-going_counted : {M : Type 0} (top : Open M) (pending : Option Pending)
-    → top.members + going pending ≡ member_count top pending
-going_counted top pending = grind arith
 
 going_value : (value : Word) (pending : Option Pending)
     → going (option_map (with_value value) pending) ≡ going pending
@@ -443,20 +391,6 @@ module _ {W M L : Type 0} {builder : Builder W M L} (front : List Item) (s : Sta
         by false may = refl
 
   -- the end of the text
-  root_agrees : (len : ℕ) (t : State builder) (none one : Bool)
-      → EndAgrees (if none then Err (refusal empty 0 len) else if one
-      then Ok (record t { written = builder.root_ended t.written })
-      else Err (refusal multiple_root_predicates 0 len))
-      (if none then Some (refusal empty 0 len) else if one then None
-      else Some (refusal multiple_root_predicates 0 len))
-  root_agrees len t true one = refl
-  root_agrees len t false true = refl
-  root_agrees len t false false = refl
-
-  roots_counted : (t : State builder) (b : Bool) (stack : List (Open M)) → t.stack ≡ stack
-      → length stack ≡ 0 → Levels front t.roots b t.stack 0 → roots front ≡ t.roots
-  roots_counted t b stack is low levels = grind (arith, nat_tests, common_steps)
-
   root_ends : (len : ℕ) (r : Result (State builder) Refusal) (fault : Option Refusal)
       → s.stack ≡ [] → EndsAs front named s r fault
       → EndAgrees (and_then (one_root len) r) (option_or fault (root_fault len (roots front)))
