@@ -5,7 +5,7 @@ use Rattle.std.proofs.Common.{◌≡◌, ◌⊎◌, inl, inr, ℕ, ◌+◌, Bool
 use Rattle.std.proofs.Common.{length, reverse, cond, Option, Some, None, Result, Ok, Err, sym, refl}
 use Rattle.std.proofs.Common.{ap, ◌∙◌, subst, arith, suc, ◌-◌, ◌<◌, option_map, take_all}
 use Rattle.std.proofs.Common.{⊎_elim, ◌≤◌, append_assoc, length-append}
-use Rattle.std.specs.Prelude.{count_by, option_and_then, if◌then◌else◌, codes}
+use Rattle.std.specs.Prelude.{◌==◌, count_by, option_and_then, if◌then◌else◌, codes}
 use Rattle.std.proofs.lemmas.Bool.{lt-ltb, le-ltb, eq-eqb, ne_eqb, cases_lt}
 use Rattle.std.proofs.Math.Seq.{take-append_seam}
 use Rattle.std.proofs.lemmas.List.{reverse-append, append-nil}
@@ -36,8 +36,7 @@ use Rattle.cfgx_grammar.specs.parsing.Step.{ended_as, answer_from}
 use Rattle.cfgx_grammar.proofs.faults.Levels.{Levels, Levels-ended, IsLevel, start_of, Levels-same}
 use Rattle.cfgx_grammar.proofs.faults.Levels.{Levels-member, Levels-open, slice_get_next}
 use Rattle.cfgx_grammar.proofs.faults.Levels.{members_at_other, length_more, last_below-found}
-use Rattle.cfgx_grammar.proofs.faults.Levels.{members_at_end, depth_at_end, first_below-none}
-use Rattle.cfgx_grammar.proofs.faults.Levels.{first_below-found}
+use Rattle.cfgx_grammar.proofs.faults.Levels.{members_at_end, depth_at_end}
 use Rattle.std.specs.Option.{option_or}
 use Rattle.std.proofs.lemmas.Option.{slice_get_within, slice_get_past}
 
@@ -88,6 +87,40 @@ pub says : (kind : Kind) (back : List Item) → takes (head_token back) kind ≡
     → Says kind (begun_last back) (key_last back) (equals_last back) (names_last (head_token back))
 says kind back may = grind arith
 
+-- What comes of the tokens and what is shown of them: no fault, and something that this holds of, or
+-- a fault on both sides.
+abbrev pub Meets : {A : Type 0} → (A → Type 0) → Result A Refusal → Option Refusal → Type 0
+Meets P (Ok t) fault = (fault ≡ None) × P t
+Meets P (Err refusal) fault = fault ≡ Some refusal
+
+module _ {A B : Type 0} (P : A → Type 0) (Q : B → Type 0) where
+  meets_map : (f : A → B) (r : Result A Refusal) (fault : Option Refusal) → Meets P r fault
+      → ((t : A) → P t → Q (f t)) → Meets Q (result_map f r) fault
+  meets_map f (Ok t) fault (none, holds) each = (none, each t holds)
+  meets_map f (Err refusal) fault meets each = meets
+
+  meets_then : (f : A → Result B Refusal) (r : Result A Refusal) (fault next : Option Refusal)
+      → Meets P r fault → ((t : A) → P t → Meets Q (f t) next)
+      → Meets Q (and_then f r) (option_or fault next)
+  meets_then f (Ok t) fault next (none, holds) each = rw none (each t holds)
+  meets_then f (Err refusal) fault next meets each = rw meets refl
+
+meets_each : {A : Type 0} (P Q : A → Type 0) (r : Result A Refusal) (fault : Option Refusal)
+    → Meets P r fault → ((t : A) → P t → Q t) → Meets Q r fault
+meets_each P Q (Ok t) fault (none, holds) each = (none, each t holds)
+meets_each P Q (Err refusal) fault meets each = meets
+
+abbrev pub EndAgrees : {A : Type 0} → Result A Refusal → Option Refusal → Type 0
+EndAgrees r fault = Meets (λ _. Unit {0}) r fault
+
+-- a test on both sides
+meets_if : {A : Type 0} (P : A → Type 0) (b : Bool) (r other : Result A Refusal)
+    (fault shown : Option Refusal) → (b ≡ true → Meets P r fault)
+    → (b ≡ false → Meets P other shown) → Meets P (if b then r else other)
+    (if b then fault else shown)
+meets_if P true r other fault shown pass fail = pass refl
+meets_if P false r other fault shown pass fail = fail refl
+
 pub height_kept : {M : Type 0} (f : Open M → Open M) (stack : List (Open M))
     → length (over_top f stack) ≡ length stack
 height_kept f stack = grind arith
@@ -115,14 +148,10 @@ module _ {W M L : Type 0} {builder : Builder W M L} where
       pub height : length t.stack ≡ length s.stack
       pub levels : Levels front t.roots is_named t.stack 0
 
-    -- it ends well where the tokens show no fault of it, and otherwise with that fault
-    abbrev pub EndsAs : Result (State builder) Refusal → Option Refusal → Type 0
-    EndsAs (Ok t) fault = (fault ≡ None) × Ended t
-    EndsAs (Err refusal) fault = fault ≡ Some refusal
-
   pub predicate_ends : (front : List Item) (s : State builder) (m : Matches front s)
       → lacks_value (last_token front) ≡ false
-      → EndsAs front (names_last (last_token front)) s (predicate_ended s) (predicate_fault front)
+      → Meets (Ended front (names_last (last_token front)) s) (predicate_ended s)
+      (predicate_fault front)
   predicate_ends front s m whole = grind arith
 
 -- Each step refuses a token with the fault that the tokens in front of it show, and the end of the
@@ -133,28 +162,17 @@ going_value : (value : Word) (pending : Option Pending)
 going_value value pending = grind arith
 
 -- the fault of a function that is closed
-room_fault : (function : Function) (name close : Item) (start count : ℕ)
+room_fault : (function : Function) (name close : Item) (start count : ℕ) (other : Option Refusal)
     → name.token ≡ name_of function → name.start ≡ start
-    → count_fault name count close ≡ (if has_room function count then None
+    → option_or (count_fault name count close) other ≡ (if has_room function count then other
     else Some (refusal (invalid_not count) start close.end))
-room_fault function name close start count named starts = grind arith
+room_fault function name close start count other named starts = grind arith
 
 -- the fault of a function that stays open
 unclosed_is : {M : Type 0} (len : ℕ) (name : Item) (top : Open M) (paren : Option Item)
     (parens : Option ℕ) → name.start ≡ top.start → name.end ≡ top.end → start_of paren ≡ parens
     → unclosed_fault len name paren ≡ unclosed len top parens
 unclosed_is len name top paren parens starts ends is = grind arith
-
-module _ {W M L : Type 0} {builder : Builder W M L} where
-  -- what a token leads to is what the tokens show
-  abbrev pub Agrees : List Item → Result (State builder) Refusal → Option Refusal → Type 0
-  Agrees front (Ok t) fault = (fault ≡ None) × Matches front t
-  Agrees front (Err refusal) fault = fault ≡ Some refusal
-
-  -- and what the end leads to is what it shows
-  abbrev pub EndAgrees : Result (State builder) Refusal → Option Refusal → Type 0
-  EndAgrees (Ok t) fault = fault ≡ None
-  EndAgrees (Err refusal) fault = fault ≡ Some refusal
 
 module _ {W M L : Type 0} {builder : Builder W M L} (front : List Item) (s : State builder)
     (m : Matches front s) where
@@ -164,7 +182,7 @@ module _ {W M L : Type 0} {builder : Builder W M L} (front : List Item) (s : Sta
   -- the innermost function
   module _ (top : Open M) (rest : List (Open M)) (is : s.stack ≡ top ∷ rest) where
     levels_are : Levels front s.roots named (top ∷ rest) (going s.pending)
-    levels_are = subst (λ k. Levels front s.roots named k (going s.pending)) is m.levels
+    levels_are = rw is at m.levels
 
     abbrev level : IsLevel front named (length rest) top (going s.pending)
     level = levels_are.0
@@ -187,13 +205,12 @@ module _ {W M L : Type 0} {builder : Builder W M L} (front : List Item) (s : Sta
     members_are = grind arith
 
     -- it is closed
-    close_fault_is : (close : Item)
-        → option_and_then (not_fault front close) (innermost front)
-        ≡ (if has_room top.function (member_count top s.pending) then None
+    close_fault_is : (close : Item) (other : Option Refusal)
+        → option_or (option_and_then (not_fault front close) (innermost front)) other
+        ≡ (if has_room top.function (member_count top s.pending) then other
         else Some (refusal (invalid_not (member_count top s.pending)) top.start close.end))
-    close_fault_is close = rw (innermost_is, level.opened.stands, members_are)
-        (room_fault top.function level.opened.name close top.start
-        (member_count top s.pending) level.opened.named level.opened.starts)
+    close_fault_is close other = rw (innermost_is, level.opened.stands, members_are)
+        (room_fault top.function level.opened.name close _ _ other level.opened.named level.opened.starts)
 
     -- it stays open
     open_fault_is : (len : ℕ) → option_and_then (open_fault len front) (innermost front)
@@ -204,7 +221,7 @@ module _ {W M L : Type 0} {builder : Builder W M L} (front : List Item) (s : Sta
 
   -- the levels, by whether a name is the last token
   levels_of : (b : Bool) → named ≡ b → Levels front s.roots b s.stack (going s.pending)
-  levels_of b is = subst (λ c. Levels front s.roots c s.stack (going s.pending)) is m.levels
+  levels_of b is = rw is at m.levels
 
   plain_levels : (b : Bool) → s.pending ≡ None → named ≡ b → Levels front s.roots b s.stack 0
   plain_levels b none is = rw none at (levels_of b is)
@@ -244,13 +261,16 @@ module _ {W M L : Type 0} {builder : Builder W M L} (front : List Item) (s : Sta
         t.roots w t.stack (omega (arith, balanced token _ rises))
         (λ level from le. members_at_other front (at token) level from other) levels))
 
+    -- what a token leads to is what the tokens show
+    abbrev Agrees : Token → Result (State builder) Refusal → Option Refusal → Type 0
+    Agrees token r fault = Meets (λ t. Matches (more token) (with_last token t)) r fault
+
     -- the name of a function
     name_step : (function : Function) → takes (last_token front) Kind.name ≡ true
         → names_function (name_of function) ≡ true → is_closing (name_of function) ≡ false
         → is_kind Kind.name (kind_of (name_of function)) ≡ true
         → begun_token (at (name_of function)) (reverse front) (name_of function) ≡ None
-        → Agrees (more (name_of function)) (Ok (with_last (name_of function)
-        (opened s function (at (name_of function))))) None
+        → Agrees (name_of function) (Ok (opened s function (at (name_of function)))) None
     name_step function may is_name no_close begins none =
         let token = name_of function in
         let item = at token in
@@ -283,18 +303,8 @@ module _ {W M L : Type 0} {builder : Builder W M L} (front : List Item) (s : Sta
     -- `,` and `)`, in front of which a predicate ends
     ended_here : (takes (last_token front) Kind.closing ≡ true)
         ⊎ (takes (last_token front) Kind.comma ≡ true)
-        → EndsAs front false s (predicate_ended s) (predicate_fault front)
+        → Meets (Ended front false s) (predicate_ended s) (predicate_fault front)
     ended_here which = grind arith
-
-    comma_ends : (r : Result (State builder) Refusal) (fault : Option Refusal)
-        → EndsAs front false s r fault
-        → Agrees (more Token.comma) (result_map (with_last Token.comma) r) fault
-    comma_ends (Err refusal) fault ends = ends
-    comma_ends (Ok t) fault (none, e) = (
-      none,
-      stays Token.comma _ 0 refl refl refl (ap (λ n. n + 0) e.height) e.settled (ap going e.settled)
-          e.levels,
-    )
 
     function_closes : (t : State builder) (stack : List (Open M)) → t.stack ≡ stack
         → Ended front false s t → 0 < length s.stack
@@ -311,43 +321,28 @@ module _ {W M L : Type 0} {builder : Builder W M L} (front : List Item) (s : Sta
         matched token _ 0 refl e.settled (ap going e.settled)
         (ap (λ k. k + 1) (height_kept one_more rest) ∙ rises) levels
 
-    close_ends : (r : Result (State builder) Refusal) (fault : Option Refusal)
-        → EndsAs front false s r fault → 0 < length s.stack → Agrees (more Token.close_paren)
-        (result_map (with_last Token.close_paren) (result_map (λ t. function_ended t.stack t) r))
-        fault
-    close_ends (Err refusal) fault ends some = ends
-    close_ends (Ok t) fault ends some = (ends.0, function_closes t t.stack refl ends.1 some)
-
-    close_room : (top : Open M) (n : ℕ) (room : Bool)
-        → EndsAs front false s (predicate_ended s) (predicate_fault front) → 0 < length s.stack
-        → Agrees (more Token.close_paren) (result_map (with_last Token.close_paren)
-        (if room then result_map (λ t. function_ended t.stack t) (predicate_ended s)
-        else Err (refusal (invalid_not n) top.start end)))
-        (option_or (if room then None else Some (refusal (invalid_not n) top.start end))
-        (predicate_fault front))
-    close_room top n false ends some = refl
-    close_room top n true ends some =
-        close_ends (predicate_ended s) (predicate_fault front) ends some
+    abbrev Closed : State builder → Type 0
+    Closed t = Matches (more Token.close_paren) (with_last Token.close_paren t)
 
     close_step : (stack : List (Open M)) → s.stack ≡ stack
-        → EndsAs front false s (predicate_ended s) (predicate_fault front)
-        → Agrees (more Token.close_paren) (result_map (with_last Token.close_paren)
-        (closed_by s (at Token.close_paren) stack))
+        → Meets (Ended front false s) (predicate_ended s) (predicate_fault front)
+        → Agrees Token.close_paren (closed_by s (at Token.close_paren) stack)
         (fault_by front (at Token.close_paren) Token.close_paren)
     close_step [] is ends =
         rw (eq-eqb (depth front) 0 (depth_is front s m ∙ ap length is)) refl
     close_step (top ∷ rest) is ends =
-        let n = member_count top s.pending in
         let some : 0 < length s.stack = omega (arith, ap length is) in
-        let inside = ne_eqb (depth front) 0
-        (λ zero. omega (arith, zero, deep_is top rest is)) in
-        rw (inside, close_fault_is top rest is (at Token.close_paren))
-        (close_room top n (has_room top.function n) ends some)
+        let inside = ne_eqb (depth front) 0 (λ zero. omega (arith, zero, deep_is top rest is)) in
+        let closes = meets_map (Ended front false s) Closed (λ t. function_ended t.stack t)
+        (predicate_ended s) (predicate_fault front) ends
+        (λ t e. function_closes t t.stack refl e some) in
+        rw (inside, close_fault_is top rest is (at Token.close_paren) (predicate_fault front))
+        (meets_if Closed (has_room top.function (member_count top s.pending)) _ _ _ _
+        (λ room. closes) (λ full. refl))
 
     -- one token where it may stand
     token_step : (token : Token) → next (last_token front) token ≡ true
-        → Agrees (more token) (result_map (with_last token) (apply s (at token) token))
-        (fault_by front (at token) token)
+        → Agrees token (apply s (at token) token) (fault_by front (at token) token)
     token_step (Token.key text) may = let token = Token.key text in
         let a = says Kind.name (reverse front) may in
         let levels = Levels-member front (at token) s.roots s.stack
@@ -375,93 +370,62 @@ module _ {W M L : Type 0} {builder : Builder W M L} (front : List Item) (s : Sta
         let rises = ap (λ n. n + 0) (height_kept (with_parens start) s.stack) in
         (refl, matched token _ _ refl (m.pending ∙ a.0) refl rises levels)
     token_step Token.close_paren may = close_step s.stack refl (ended_here (inl may))
-    token_step Token.comma may =
-        comma_ends (predicate_ended s) (predicate_fault front) (ended_here (inr may))
+    token_step Token.comma may = meets_each (Ended front false s) _ _ _ (ended_here (inr may)) (λ t e.
+        stays Token.comma _ 0 refl refl refl (ap (λ n. n + 0) e.height) e.settled
+        (ap going e.settled) e.levels)
 
     pub step_agrees : (token : Token)
-        → Agrees (more token) (step s (at token)) (fault_behind front (at token))
-    step_agrees token = rw m.last (by _ refl)
-      where
-        by : (b : Bool) → next (last_token front) token ≡ b → Agrees (more token)
-            (if b then result_map (with_last token) (apply s (at token) token)
-            else Err (refusal (unexpected (expected (last_token front))) start end))
-            (if b then fault_by front (at token) token
-            else Some (refusal (unexpected (expected (last_token front))) start end))
-        by true may = token_step token may
-        by false may = refl
+        → Meets (Matches (more token)) (step s (at token)) (fault_behind front (at token))
+    step_agrees token = rw m.last (meets_if _ _ _ _ _ _
+        (λ may. meets_map _ _ _ _ _ (token_step token may) (λ t matches. matches)) (λ no. refl))
 
   -- the end of the text
   root_ends : (len : ℕ) (r : Result (State builder) Refusal) (fault : Option Refusal)
-      → s.stack ≡ [] → EndsAs front named s r fault
+      → s.stack ≡ [] → Meets (Ended front named s) r fault
       → EndAgrees (and_then (one_root len) r) (option_or fault (root_fault len (roots front)))
   root_ends len r fault is ends = grind (arith, nat_tests, common_steps)
 
   end_stack : (len : ℕ) (stack : List (Open M)) → s.stack ≡ stack
       → lacks_value (last_token front) ≡ false
-      → EndAgrees (concluded_by len s stack) (end_fault len front)
-  end_stack len [] is whole =
-      rw (whole, eq-eqb (depth front) 0 (depth_is front s m ∙ ap length is))
-      (root_ends len (predicate_ended s) (predicate_fault front) is
-      (predicate_ends front s m whole))
+      → EndAgrees (concluded_by len s stack) (if depth front == 0
+      then option_or (predicate_fault front) (root_fault len (roots front))
+      else option_and_then (open_fault len front) (innermost front))
+  end_stack len [] is whole = rw (eq-eqb (depth front) 0 (depth_is front s m ∙ ap length is))
+      (root_ends len _ _ is (predicate_ends front s m whole))
   end_stack len (top ∷ rest) is whole =
-      rw (whole, ne_eqb (depth front) 0 (λ zero. omega (arith, zero, deep_is top rest is)))
+      rw (ne_eqb (depth front) 0 (λ zero. omega (arith, zero, deep_is top rest is)))
       (open_fault_is top rest is len)
 
   pub end_agrees : (len : ℕ) → EndAgrees (conclude len s) (end_fault len front)
-  end_agrees len = by _ refl
-    where
-      by : (b : Bool) → lacks_value s.last ≡ b → EndAgrees
-          (if b then Err (refusal (unexpected (codes "\"<value>\"" ∷ [])) len len)
-          else concluded_by len s s.stack) (end_fault len front)
-      by true lacks = rw (ap lacks_value (sym m.last) ∙ lacks) refl
-      by false lacks = end_stack len s.stack refl (ap lacks_value (sym m.last) ∙ lacks)
+  end_agrees len = rw (← m.last) (meets_if _ _ _ _ _ _ (λ lacks. refl)
+      (λ whole. end_stack len s.stack refl (ap lacks_value (sym m.last) ∙ whole)))
 
 -- What the steps answer for all tokens of a text is its first fault, or none.
 
--- the tokens lead on where none shows a fault, and otherwise to the first fault
-abbrev Scanned : {W M L : Type 0} {builder : Builder W M L} → List Item
-    → Result (State builder) Refusal → Type 0
-Scanned all (Ok t) = (first_below (fault_at all) (length all) ≡ None) × Matches all t
-Scanned all (Err refusal) = first_below (fault_at all) (length all) ≡ Some refusal
+-- the first fault of some tokens behind others
+abbrev first_behind : List Item → List Item → Option Refusal
+first_behind front [] = None
+first_behind front (item ∷ items) =
+    option_or (fault_behind front item) (first_behind (front ++ item ∷ []) items)
 
--- no token of these shows a fault
-abbrev HasNone : List Item → ℕ → Type 0
-HasNone all n = (k : ℕ) → k < n → fault_at all k ≡ None
+first_is : (items all front : List Item) → all ≡ front ++ items
+    → first_below (fault_at all) (length all)
+    ≡ option_or (first_below (fault_at all) (length front)) (first_behind front items)
+first_is [] all front is = let same : all ≡ front = is ∙ append-nil front in
+    rw (ap length same) (grind arith)
+first_is (item ∷ items) all front is =
+    let here : fault_at all (length front) ≡ fault_behind front item =
+    rw (is, take-append_seam, slice_get_next) refl in
+    rw (first_is items all (front ++ item ∷ []) (is ∙ sym (append_assoc front (item ∷ []) items)),
+    length_more front item, here) (grind arith)
 
-module _ (all front : List Item) (item : Item) (items : List Item)
-    (is : all ≡ front ++ item ∷ items) where
-  fault_next : fault_at all (length front) ≡ fault_behind front item
-  fault_next = rw (is, take-append_seam, slice_get_next) refl
-
-  next_inside : length front < length all
-  next_inside = omega (arith, ap length is, length-append front (item ∷ items))
-
-  none_more : HasNone all (length front) → fault_behind front item ≡ None
-      → HasNone all (length (front ++ item ∷ []))
-  none_more none here k lt = ⊎_elim (none k) (λ (past : length front ≤ k).
-      let same : k ≡ length front = omega (arith, lt, past, length_more front item) in
-      ap (fault_at all) same ∙ fault_next ∙ here) (cases_lt k (length front))
-
-  scan_next : {W M L : Type 0} {builder : Builder W M L} (r : Result (State builder) Refusal)
-      → HasNone all (length front) → Agrees (front ++ item ∷ []) r (fault_behind front item)
-      → ((t : State builder) → Matches (front ++ item ∷ []) t → fault_behind front item ≡ None
-      → Scanned all (step_each t items)) → Scanned all (and_then (λ t. step_each t items) r)
-  scan_next (Err refusal) none agrees go = first_below-found (fault_at all) (length front)
-      (length all) refusal next_inside none (fault_next ∙ agrees)
-  scan_next (Ok t) none agrees go = go t agrees.1 agrees.0
-
-scan : {W M L : Type 0} {builder : Builder W M L} (items all front : List Item)
-    (s : State builder) → all ≡ front ++ items → Matches front s → HasNone all (length front)
-    → Scanned all (step_each s items)
-scan [] all front s is m none =
-    let same : all ≡ front = is ∙ append-nil front in
-    (first_below-none (fault_at all) (length all) (rw (← same) at none), rw (← same) at m)
-scan (item ∷ items) all front s is m none =
-    scan_next all front item items is (step s item) none
+scan : {W M L : Type 0} {builder : Builder W M L} (items front : List Item) (s : State builder)
+    → Matches front s
+    → Meets (Matches (front ++ items)) (step_each s items) (first_behind front items)
+scan [] front s m = (refl, rw append-nil m)
+scan (item ∷ items) front s m = meets_then _ _ _ _ _ _
     (step_agrees front s m item.start item.end item.token)
-    (λ t more here. scan items all (front ++ item ∷ []) t
-    (is ∙ sym (append_assoc front (item ∷ []) items)) more
-    (none_more all front item items is none here))
+    (λ t more. rw append_assoc at (scan items (front ++ item ∷ []) t more))
 
 module _ {W M L : Type 0} (builder : Builder W M L) (text : List ℕ) (items : List Item)
     (ending : Ending) where
@@ -470,13 +434,7 @@ module _ {W M L : Type 0} (builder : Builder W M L) (text : List ℕ) (items : L
   at_end (Some refusal) t m = refl
   at_end None t m = end_agrees items t m (length text)
 
-  whole_by : (r : Result (State builder) Refusal) → Scanned items r
-      → EndAgrees (and_then (ended_as text (lexical text ending)) r)
-      (first_fault text items ending)
-  whole_by (Err refusal) scanned = rw scanned refl
-  whole_by (Ok t) scanned = rw scanned.0 (at_end (lexical text ending) t scanned.1)
-
   pub whole_agrees : EndAgrees (answer_from (initial {builder = builder}) text items ending)
       (first_fault text items ending)
-  whole_agrees = whole_by (step_each initial items)
-      (scan items items [] initial refl Matches-initial (λ k lt. absurd (omega (arith, lt))))
+  whole_agrees = rw (first_is items items [] refl) (meets_then _ _ _ _ _ _
+      (scan items [] initial Matches-initial) (at_end (lexical text ending)))
