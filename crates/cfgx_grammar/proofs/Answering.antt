@@ -11,7 +11,7 @@ use Rattle.cfgx_grammar.specs.Question.{Question}
 use Rattle.cfgx_grammar.specs.Tree.{Tree}
 use Rattle.cfgx_grammar.specs.Grammar.{IsTree, HasTree}
 use Rattle.cfgx_grammar.specs.FirstFault.{HasFault, first_fault}
-use Rattle.cfgx_grammar.specs.Answer.{HasOneTree, HasNoTree, HasOneFault, HasNoFault, IsAccepted}
+use Rattle.cfgx_grammar.specs.Answer.{HasOneTree, IsAccepted}
 use Rattle.cfgx_grammar.specs.Answer.{IsRefused}
 use Rattle.cfgx_grammar.specs.parsing.State.{Builder, State, initial}
 use Rattle.cfgx_grammar.specs.parsing.Step.{and_then, step_each, conclude, ended_as, answer_from}

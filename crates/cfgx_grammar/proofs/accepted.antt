@@ -12,7 +12,7 @@ use Rattle.cfgx_grammar.specs.Grammar.{IsLeaf}
 use Rattle.cfgx_grammar.specs.parsing.State.{Function, Open, name_of, Word, Pending, Builder, State}
 use Rattle.cfgx_grammar.specs.parsing.State.{initial}
 use Rattle.cfgx_grammar.specs.parsing.Step.{has_room, over_top, one_more, root_more, result_map}
-use Rattle.cfgx_grammar.specs.parsing.Step.{located_class, leaf_ended, ended_by, predicate_ended}
+use Rattle.cfgx_grammar.specs.parsing.Step.{leaf_ended, ended_by, predicate_ended}
 use Rattle.cfgx_grammar.specs.parsing.Step.{new_open, and_then, opened, member_count}
 use Rattle.cfgx_grammar.specs.parsing.Step.{function_ended, closed_by, with_last, apply, step}
 use Rattle.cfgx_grammar.specs.parsing.Step.{step_each, one_root, concluded_by, conclude}

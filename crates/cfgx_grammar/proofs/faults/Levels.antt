@@ -2,14 +2,14 @@
 -- less deep than what stands inside it, and its members are those that begin at that depth behind
 -- it.
 use Rattle.std.proofs.Common.{◌≡◌, ⊎_elim, ℕ, zero, suc, ◌+◌, ◌<◌, ◌≤◌, ◌&&◌, ◌==◌, Bool, true}
-use Rattle.std.proofs.Common.{false, List, [], ◌∷◌, ◌++◌, length, Option, Some, None, sym, refl, ap}
+use Rattle.std.proofs.Common.{false, List, [], ◌∷◌, ◌++◌, length, Option, Some, sym, refl, ap}
 use Rattle.std.proofs.Common.{◌∙◌, arith, take_at, option_map, take_all}
 use Rattle.std.specs.Prelude.{if◌then◌else◌, nat_le, slice_get}
 use Rattle.std.proofs.lemmas.Bool.{cases_lt}
 use Rattle.std.proofs.lemmas.List.{take-append-le, length_push}
 use Rattle.cfgx_syntax.specs.Items.{Item}
 use Rattle.cfgx_grammar.specs.Neighbours.{Kind, kind_of, is_kind}
-use Rattle.cfgx_grammar.specs.Depth.{count_below, last_below, first_below, begins_member, depth}
+use Rattle.cfgx_grammar.specs.Depth.{count_below, last_below, begins_member, depth}
 use Rattle.cfgx_grammar.specs.Depth.{depth_at, members_at}
 use Rattle.std.proofs.lemmas.Option.{slice_get_within}
 use Rattle.cfgx_grammar.specs.parsing.State.{Function, Open, name_of}
@@ -28,22 +28,6 @@ module _ {X : Type 0} where
       → slice_get (xs ++ y ∷ ys) (length xs) ≡ Some y
   slice_get_next [] y ys = refl
   slice_get_next (x ∷ xs) y ys = slice_get_next xs y ys
-
-  pub first_below-none : (answer : ℕ → Option X) (n : ℕ)
-      → ((k : ℕ) → k < n → answer k ≡ None) → first_below answer n ≡ None
-  first_below-none answer zero none = refl
-  first_below-none answer (suc n) none =
-      rw (first_below-none answer n (λ k lt. none k (omega (arith, lt)))) (none n (omega arith))
-
-  pub first_below-found : (answer : ℕ → Option X) (place n : ℕ) (x : X) → place < n
-      → ((k : ℕ) → k < place → answer k ≡ None) → answer place ≡ Some x
-      → first_below answer n ≡ Some x
-  first_below-found answer place zero x lt none here = absurd (omega (arith, lt))
-  first_below-found answer place (suc n) x lt none here = ⊎_elim
-      (λ (less : place < n). rw (first_below-found answer place n x less none here) refl)
-      (λ (most : n ≤ place). let same : place ≡ n = omega (arith, lt, most) in
-      rw (first_below-none answer n (λ k below. none k (omega (arith, below, same))))
-      (ap answer (sym same) ∙ here)) (cases_lt place n)
 
 pub last_below-found : (test : ℕ → Bool) (place n : ℕ) → place < n → test place ≡ true
     → ((k : ℕ) → place < k → k < n → test k ≡ false) → last_below test n ≡ Some place

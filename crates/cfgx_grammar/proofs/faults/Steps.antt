@@ -3,31 +3,28 @@ use Rattle.std.proofs.lemmas.Bool.Decides.{nat_tests}
 use Rattle.std.proofs.lemmas.Grind.{common_steps}
 use Rattle.std.proofs.Common.{◌≡◌, ◌⊎◌, inl, inr, ℕ, ◌+◌, Bool, true, false, List, [], ◌∷◌, ◌++◌}
 use Rattle.std.proofs.Common.{length, reverse, cond, Option, Some, None, Result, Ok, Err, sym, refl}
-use Rattle.std.proofs.Common.{ap, ◌∙◌, subst, arith, suc, ◌-◌, ◌<◌, option_map, take_all}
-use Rattle.std.proofs.Common.{⊎_elim, ◌≤◌, append_assoc, length-append}
-use Rattle.std.specs.Prelude.{◌==◌, count_by, option_and_then, if◌then◌else◌, codes}
-use Rattle.std.proofs.lemmas.Bool.{lt-ltb, le-ltb, eq-eqb, ne_eqb, cases_lt}
+use Rattle.std.proofs.Common.{ap, ◌∙◌, arith, suc, ◌-◌, ◌<◌, option_map, take_all}
+use Rattle.std.proofs.Common.{append_assoc}
+use Rattle.std.specs.Prelude.{◌==◌, count_by, option_and_then, if◌then◌else◌}
+use Rattle.std.proofs.lemmas.Bool.{lt-ltb, le-ltb, eq-eqb, ne_eqb}
 use Rattle.std.proofs.Math.Seq.{take-append_seam}
-use Rattle.std.proofs.lemmas.List.{reverse-append, append-nil}
-use Rattle.std.proofs.lemmas.List.Sums.{sum_by_push}
+use Rattle.std.proofs.lemmas.List.{append-nil}
 use Rattle.cfgx_syntax.specs.Token.{Token}
 use Rattle.cfgx_syntax.specs.Items.{Item, Ending, lexical}
-use Rattle.cfgx_syntax.specs.Error.{Refusal, unexpected, invalid_not, empty}
-use Rattle.cfgx_syntax.specs.Error.{multiple_root_predicates}
-use Rattle.cfgx_grammar.specs.Classification.{Class}
-use Rattle.cfgx_grammar.specs.Neighbours.{Kind, takes, kind_of, is_kind, next, expected}
+use Rattle.cfgx_syntax.specs.Error.{Refusal, invalid_not}
+use Rattle.cfgx_grammar.specs.Neighbours.{Kind, takes, kind_of, is_kind, next}
 use Rattle.cfgx_grammar.specs.Depth.{names_function, is_closing, depth, depth_at, innermost}
 use Rattle.cfgx_grammar.specs.Depth.{members, roots, first_below}
-use Rattle.cfgx_grammar.specs.LastPredicate.{key_token, key_last, equals_token, equals_last}
-use Rattle.cfgx_grammar.specs.LastPredicate.{predicate_token, predicate_last, class_of, Word}
+use Rattle.cfgx_grammar.specs.LastPredicate.{key_token, key_last, equals_last}
+use Rattle.cfgx_grammar.specs.LastPredicate.{predicate_token, Word}
 use Rattle.cfgx_grammar.specs.LastPredicate.{word_of, with_value}
-use Rattle.cfgx_grammar.specs.FirstFault.{predicate_fault, class_fault, head_token, last_token}
+use Rattle.cfgx_grammar.specs.FirstFault.{predicate_fault, head_token, last_token}
 use Rattle.cfgx_grammar.specs.FirstFault.{lacks_value, count_fault, not_fault, fault_by}
 use Rattle.cfgx_grammar.specs.FirstFault.{fault_behind, unclosed_fault, open_fault, root_fault}
 use Rattle.cfgx_grammar.specs.FirstFault.{end_fault, refusal, fault_at, first_fault}
 use Rattle.cfgx_grammar.specs.parsing.State.{Pending, Builder, Open, State, initial, Function}
 use Rattle.cfgx_grammar.specs.parsing.State.{name_of}
-use Rattle.cfgx_grammar.specs.parsing.Step.{result_map, located_class, leaf_ended, ended_by}
+use Rattle.cfgx_grammar.specs.parsing.Step.{result_map}
 use Rattle.cfgx_grammar.specs.parsing.Step.{predicate_ended, over_top, one_more, and_then}
 use Rattle.cfgx_grammar.specs.parsing.Step.{member_count, has_room, function_ended, new_open}
 use Rattle.cfgx_grammar.specs.parsing.Step.{closed_by, opened, with_last, with_parens, apply, step}
