@@ -1,9 +1,8 @@
 -- What the parser answers for the one token list of a text, the grammar answers for the text.
-use Rattle.std.proofs.Common.{arith}
+use Rattle.std.proofs.Common.{arith, ◌≡◌, ◌⊎◌, inl, inr, ℕ, List, length, Some, Result, Ok, Err}
+use Rattle.std.proofs.Common.{sym, refl, ap, ◌∙◌, subst}
 use Rattle.std.proofs.lemmas.Bool.Decides.{nat_tests}
 use Rattle.std.proofs.lemmas.Grind.{common_steps}
-use Rattle.std.proofs.Common.{◌≡◌, ◌⊎◌, inl, inr, ℕ, List, length, Some, Result, Ok, Err, sym, refl}
-use Rattle.std.proofs.Common.{ap, ◌∙◌, subst}
 use Rattle.cfgx_syntax.specs.Items.{Ending, AreItems, HasOneTokenList, lexical}
 use Rattle.cfgx_syntax.specs.Error.{Refusal}
 use Rattle.cfgx_syntax.proofs.TokenList.{ItemsFrom-same}
@@ -11,8 +10,7 @@ use Rattle.cfgx_grammar.specs.Question.{Question}
 use Rattle.cfgx_grammar.specs.Tree.{Tree}
 use Rattle.cfgx_grammar.specs.Grammar.{IsTree, HasTree}
 use Rattle.cfgx_grammar.specs.FirstFault.{HasFault, first_fault}
-use Rattle.cfgx_grammar.specs.Answer.{HasOneTree, IsAccepted}
-use Rattle.cfgx_grammar.specs.Answer.{IsRefused}
+use Rattle.cfgx_grammar.specs.Answer.{HasOneTree, IsAccepted, IsRefused}
 use Rattle.cfgx_grammar.specs.parsing.State.{Builder, State, initial}
 use Rattle.cfgx_grammar.specs.parsing.Step.{and_then, step_each, conclude, ended_as, answer_from}
 use Rattle.cfgx_grammar.proofs.accepted.{tokens_of, ran, IsTree-accepted}

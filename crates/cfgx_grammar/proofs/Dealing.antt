@@ -2,9 +2,7 @@
 use Rattle.std.proofs.lemmas.Bool.Decides.{nat_tests}
 use Rattle.std.proofs.lemmas.Grind.{common_steps}
 use Rattle.std.proofs.Common.{◌≡◌, ◌≤◌, List, [], ◌∷◌, ◌++◌, length, take, refl, sym, ap, ◌∙◌}
-use Rattle.std.proofs.Common.{arith, length-append}
-use Rattle.std.proofs.Math.Seq.{take-add}
-use Rattle.std.proofs.lemmas.List.{append-nil, take_all}
+use Rattle.std.proofs.Common.{arith, length-append, take-add, append-nil, take_all}
 use Rattle.cfgx_grammar.specs.Tree.{Tree, Trees, is_function, is_leaf, asked, asked_by}
 use Rattle.cfgx_grammar.specs.Fold.{behind, answered, answered_each}
 use Rattle.cfgx_grammar.proofs.Alike.{Alike, AlikeEach, SameShape, SameShapes, length-asked}

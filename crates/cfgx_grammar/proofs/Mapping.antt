@@ -1,7 +1,5 @@
 -- What a map between two logics makes of a value is the value of what it makes of the answers.
-use Rattle.std.proofs.Common.{arith}
-use Rattle.std.proofs.Common.{◌≡◌, ℕ, ◌<◌, List, [], ◌∷◌, map, refl}
-use Rattle.std.specs.Prelude.{bit_and}
+use Rattle.std.proofs.Common.{arith, ◌≡◌, ℕ, ◌<◌, List, [], ◌∷◌, map, refl, bit_and}
 use Rattle.std.specs.List.{AllByRecursion, AllZip}
 use Rattle.std.proofs.lemmas.Bool.Decides.{Decides-eqb}
 use Rattle.cfgx_syntax.specs.Kleene.{Planes, IsApart, lane}

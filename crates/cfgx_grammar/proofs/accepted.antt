@@ -2,8 +2,8 @@
 use Rattle.std.proofs.Common.{◌≡◌, ℕ, suc, ◌+◌, true, List, [], ◌∷◌, ◌++◌, refl, ap, ◌∙◌, arith}
 use Rattle.std.proofs.Common.{subst, add-zero, append_assoc, ◌⊎◌, inl, inr, Option, Some, None}
 use Rattle.std.proofs.Common.{option_map, Result, Ok, sym, false, ◌==◌, Bool, map, Err, ◌-◌}
+use Rattle.std.proofs.Common.{append-nil, if◌then◌else◌}
 use Rattle.std.proofs.lemmas.Bool.Decides.{Decides-eqb}
-use Rattle.std.proofs.lemmas.List.{append-nil}
 use Rattle.cfgx_syntax.specs.Token.{Token}
 use Rattle.cfgx_grammar.specs.Question.{Question, Leaf}
 use Rattle.cfgx_grammar.specs.Tree.{Tree, Trees, count}
@@ -12,16 +12,15 @@ use Rattle.cfgx_grammar.specs.Grammar.{IsLeaf}
 use Rattle.cfgx_grammar.specs.parsing.State.{Function, Open, name_of, Word, Pending, Builder, State}
 use Rattle.cfgx_grammar.specs.parsing.State.{initial}
 use Rattle.cfgx_grammar.specs.parsing.Step.{has_room, over_top, one_more, root_more, result_map}
-use Rattle.cfgx_grammar.specs.parsing.Step.{leaf_ended, ended_by, predicate_ended}
-use Rattle.cfgx_grammar.specs.parsing.Step.{new_open, and_then, opened, member_count}
-use Rattle.cfgx_grammar.specs.parsing.Step.{function_ended, closed_by, with_last, apply, step}
-use Rattle.cfgx_grammar.specs.parsing.Step.{step_each, one_root, concluded_by, conclude}
+use Rattle.cfgx_grammar.specs.parsing.Step.{leaf_ended, ended_by, predicate_ended, new_open}
+use Rattle.cfgx_grammar.specs.parsing.Step.{and_then, opened, member_count, function_ended}
+use Rattle.cfgx_grammar.specs.parsing.Step.{closed_by, with_last, apply, step, step_each, one_root}
+use Rattle.cfgx_grammar.specs.parsing.Step.{concluded_by, conclude}
 use Rattle.std.proofs.lemmas.Bool.{false≢true}
 use Rattle.cfgx_grammar.specs.Classification.{Class, class}
 use Rattle.cfgx_grammar.specs.FirstFault.{lacks_value}
 use Rattle.cfgx_grammar.specs.LastPredicate.{class_of, word_of, with_value}
 use Rattle.cfgx_grammar.specs.Neighbours.{Kind, takes, kind_of}
-use Rattle.std.specs.Prelude.{if◌then◌else◌}
 use Rattle.cfgx_syntax.specs.Items.{Item}
 use Rattle.cfgx_syntax.specs.Error.{Refusal}
 

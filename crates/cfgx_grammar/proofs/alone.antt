@@ -3,10 +3,9 @@ use Rattle.std.proofs.lemmas.Bool.Decides.{nat_tests}
 use Rattle.std.proofs.lemmas.Grind.{common_steps}
 use Rattle.std.proofs.Common.{◌≤◌, ◌≡◌, ℕ, Bool, true, false, List, [], ◌∷◌, ◌++◌, map, Some, None}
 use Rattle.std.proofs.Common.{subst, ◌<◌, ◌^◌, ◌||◌, ◌&&◌, nat_eq, nat_lt, length, drop, Option}
-use Rattle.std.proofs.Common.{sym, refl, ap, ◌∙◌, arith, ◌+◌, append_assoc, length-append}
-use Rattle.std.proofs.Common.{drop_at, drop_of_length-le, ◌⊎◌, inl, inr, ⊎_elim}
-use Rattle.std.proofs.lemmas.Bool.{ltb-true}
-use Rattle.std.specs.Prelude.{slice_range, if◌then◌else◌, codes, option_map}
+use Rattle.std.proofs.Common.{sym, refl, ap, ◌∙◌, arith, ◌+◌, append_assoc, length-append, drop_at}
+use Rattle.std.proofs.Common.{drop_of_length-le, ◌⊎◌, inl, inr, ⊎_elim, ltb-true, slice_range}
+use Rattle.std.proofs.Common.{if◌then◌else◌, codes, option_map, decimal, bytes_eq, append-nil}
 use Rattle.std.specs.List.{AllByRecursion, list_any, starts_with}
 use Rattle.cfgx_syntax.specs.Token.{Token, IsKey, HasNoQuote, Spells, IsWord, is_quote, in_quotes}
 use Rattle.cfgx_syntax.specs.Token.{IsWhole}
@@ -16,8 +15,6 @@ use Rattle.cfgx_grammar.specs.Tree.{Tree, Trees, is_function, is_leaf, asked, as
 use Rattle.cfgx_grammar.specs.Grammar.{commas, IsCall, IsMember, IsList, HasTree, leaf_tokens}
 use Rattle.cfgx_grammar.specs.Regular.{IsRegular, CanBeQuoted, IsAlone}
 use Rattle.std.specs.Option.{option_or}
-use Rattle.std.specs.Fmt.{decimal}
-use Rattle.std.specs.Str.{bytes_eq}
 use Rattle.std.specs.Str.Parse.{AllDigits}
 use Rattle.std.specs.Char.{digit_value}
 use Rattle.std.proofs.lemmas.Fmt.{decimal_is_IsNumeral}
@@ -31,11 +28,10 @@ use Rattle.cfgx_targets.specs.declared.atomic.HasAtomic.{HasAtomic}
 use Rattle.cfgx_targets.specs.declared.atomic.HasAtomic.TheVariants.{IntegerSize, Pointer}
 use Rattle.cfgx_targets.proofs.AtomicLemmas.{endian_named-text, atomic_named-text}
 use Rattle.cfgx_targets.proofs.NumberLemmas.{read_below-decimal}
-use Rattle.cfgx_grammar.specs.Classification.{predicate, Class, class, bare, valued}
-use Rattle.cfgx_grammar.specs.Classification.{if_read, target_feature, Line, by_name, key_lines}
+use Rattle.cfgx_grammar.specs.Classification.{predicate, Class, class, bare, valued, if_read}
+use Rattle.cfgx_grammar.specs.Classification.{target_feature, Line, by_name, key_lines}
 use Rattle.cfgx_grammar.specs.Classification.{target_lines, target_class, plain}
 use Rattle.cfgx_grammar.specs.Spelling.{key_and_value, spelling}
-use Rattle.std.proofs.lemmas.List.{append-nil}
 use Rattle.std.proofs.lemmas.Str.{NoCharPasses-nil}
 use Rattle.cfgx_grammar.proofs.Answering.{same_tree}
 use Rattle.cfgx_grammar.proofs.accepted.{tokens_of}

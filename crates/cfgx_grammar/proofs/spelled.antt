@@ -1,7 +1,7 @@
 -- What is spelled by a tree is accepted, and what is built keeps the laws of the builder.
 use Rattle.std.proofs.Common.{◌≡◌, ℕ, zero, suc, ◌+◌, ◌-◌, ◌<◌, true, false, List, [], ◌∷◌, ◌++◌}
 use Rattle.std.proofs.Common.{Option, Some, None, Ok, sym, refl, ap, ◌∙◌, arith, add-zero}
-use Rattle.std.proofs.Common.{append_assoc, length, take, drop}
+use Rattle.std.proofs.Common.{append_assoc, length, take, drop, append-nil}
 use Rattle.cfgx_syntax.specs.Token.{Token}
 use Rattle.cfgx_syntax.specs.Items.{Item}
 use Rattle.cfgx_grammar.specs.Question.{Leaf, Question}
@@ -15,11 +15,9 @@ use Rattle.cfgx_grammar.specs.Neighbours.{Kind, takes}
 use Rattle.cfgx_grammar.specs.parsing.State.{Function, Pending, Builder, Open, State, name_of}
 use Rattle.cfgx_grammar.specs.parsing.State.{initial}
 use Rattle.cfgx_grammar.specs.parsing.Step.{with_member, one_more, ended_by, predicate_ended}
-use Rattle.cfgx_grammar.specs.parsing.Step.{new_open, has_room, function_ended}
-use Rattle.cfgx_grammar.specs.parsing.Step.{closed_by, with_parens, with_last, step_each}
-use Rattle.cfgx_grammar.specs.parsing.Step.{conclude, step}
+use Rattle.cfgx_grammar.specs.parsing.Step.{new_open, has_room, function_ended, closed_by}
+use Rattle.cfgx_grammar.specs.parsing.Step.{with_parens, with_last, step_each, conclude, step}
 use Rattle.cfgx_grammar.proofs.accepted.{leaf_tree, tokens_of, ok_same, ran}
-use Rattle.std.proofs.lemmas.List.{append-nil}
 use Rattle.std.proofs.Math.Seq.{take-append_seam, drop-append_seam}
 
 -- The tokens of a tree are taken, from any state in which a member may come, and what is built

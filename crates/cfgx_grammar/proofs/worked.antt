@@ -1,8 +1,7 @@
 -- The definitions, computed on rows whose answers are known from outside.
-use Rattle.std.specs.Prelude.{◌≡◌, ℕ, suc, ◌-◌, ◌==◌, ◌||◌, Bool, true, false, not, List, [], ◌∷◌}
-use Rattle.std.specs.Prelude.{◌++◌, length, codes, map, reverse, Option, Some, if◌then◌else◌, take}
-use Rattle.std.specs.Prelude.{None, Result}
-use Rattle.std.specs.Str.{bytes_eq}
+use Rattle.std.proofs.Common.{◌≡◌, ℕ, suc, ◌-◌, ◌==◌, ◌||◌, Bool, true, false, not, List, [], ◌∷◌}
+use Rattle.std.proofs.Common.{◌++◌, length, codes, map, reverse, Option, Some, if◌then◌else◌, take}
+use Rattle.std.proofs.Common.{None, Result, bytes_eq, refl, Err, sym, ap, ◌∙◌, arith, rules}
 use Rattle.cfgx_syntax.specs.Error.{Cause, Refusal, unexpected, invalid_integer, invalid_has_atomic}
 use Rattle.cfgx_syntax.specs.Error.{invalid_not, empty, unclosed_parens, unopened_parens}
 use Rattle.cfgx_syntax.specs.Error.{unclosed_quotes, multiple_root_predicates}
@@ -14,10 +13,6 @@ use Rattle.cfgx_grammar.specs.Fold.{Operations, fold}
 use Rattle.cfgx_grammar.specs.Neighbours.{expected, next}
 use Rattle.cfgx_grammar.specs.Question.{Question, Leaf, TargetQuestion}
 use Rattle.cfgx_grammar.specs.Tree.{Tree, Trees, asked}
-use Rattle.std.proofs.Common.{◌≡◌, refl, ℕ, Bool, List, [], ◌∷◌, true, false, Option, Some, None}
-use Rattle.std.proofs.Common.{Err, sym, ap, ◌∙◌, arith, rules}
-use Rattle.cfgx_syntax.specs.contracts.logic.BoolLogic.TheImpl as bool_logic
-use Rattle.cfgx_syntax.specs.contracts.logic.OptionBoolLogic.TheImpl as kleene_logic
 use Rattle.cfgx_grammar.specs.Filling.{polar}
 use Rattle.std.specs.Fmt.{digits}
 use Rattle.cfgx_targets.specs.Endian.{endian_named}
@@ -34,6 +29,8 @@ use Rattle.cfgx_grammar.specs.parsing.State.{State, initial}
 use Rattle.cfgx_grammar.specs.parsing.Step.{step_each, answer_from}
 use Rattle.cfgx_grammar.proofs.accepted.{tokens_of}
 use Rattle.cfgx_grammar.proofs.spelled.{tree_builder, tree_laws, Finds-tree}
+use Rattle.cfgx_syntax.specs.contracts.logic.BoolLogic.TheImpl as bool_logic
+use Rattle.cfgx_syntax.specs.contracts.logic.OptionBoolLogic.TheImpl as kleene_logic
 
 -- Worked examples: trees, texts, and a logic that writes its terms down.
 

@@ -3,33 +3,29 @@ use Rattle.std.proofs.lemmas.Bool.Decides.{nat_tests}
 use Rattle.std.proofs.lemmas.Grind.{common_steps}
 use Rattle.std.proofs.Common.{◌≡◌, ◌⊎◌, inl, inr, ℕ, ◌+◌, Bool, true, false, List, [], ◌∷◌, ◌++◌}
 use Rattle.std.proofs.Common.{length, reverse, cond, Option, Some, None, Result, Ok, Err, sym, refl}
-use Rattle.std.proofs.Common.{ap, ◌∙◌, arith, suc, ◌-◌, ◌<◌, option_map, take_all}
-use Rattle.std.proofs.Common.{append_assoc}
-use Rattle.std.specs.Prelude.{◌==◌, count_by, option_and_then, if◌then◌else◌}
-use Rattle.std.proofs.lemmas.Bool.{lt-ltb, le-ltb, eq-eqb, ne_eqb}
+use Rattle.std.proofs.Common.{ap, ◌∙◌, arith, suc, ◌-◌, ◌<◌, option_map, take_all, append_assoc}
+use Rattle.std.proofs.Common.{◌==◌, count_by, option_and_then, if◌then◌else◌, lt-ltb, le-ltb}
+use Rattle.std.proofs.Common.{eq-eqb, ne_eqb, append-nil}
 use Rattle.std.proofs.Math.Seq.{take-append_seam}
-use Rattle.std.proofs.lemmas.List.{append-nil}
 use Rattle.cfgx_syntax.specs.Token.{Token}
 use Rattle.cfgx_syntax.specs.Items.{Item, Ending, lexical}
 use Rattle.cfgx_syntax.specs.Error.{Refusal, invalid_not}
 use Rattle.cfgx_grammar.specs.Neighbours.{Kind, takes, kind_of, is_kind, next}
 use Rattle.cfgx_grammar.specs.Depth.{names_function, is_closing, depth, depth_at, innermost}
 use Rattle.cfgx_grammar.specs.Depth.{members, roots, first_below}
-use Rattle.cfgx_grammar.specs.LastPredicate.{key_token, key_last, equals_last}
-use Rattle.cfgx_grammar.specs.LastPredicate.{predicate_token, Word}
-use Rattle.cfgx_grammar.specs.LastPredicate.{word_of, with_value}
-use Rattle.cfgx_grammar.specs.FirstFault.{predicate_fault, head_token, last_token}
-use Rattle.cfgx_grammar.specs.FirstFault.{lacks_value, count_fault, not_fault, fault_by}
-use Rattle.cfgx_grammar.specs.FirstFault.{fault_behind, unclosed_fault, open_fault, root_fault}
-use Rattle.cfgx_grammar.specs.FirstFault.{end_fault, refusal, fault_at, first_fault}
+use Rattle.cfgx_grammar.specs.LastPredicate.{key_token, key_last, equals_last, predicate_token}
+use Rattle.cfgx_grammar.specs.LastPredicate.{Word, word_of, with_value}
+use Rattle.cfgx_grammar.specs.FirstFault.{predicate_fault, head_token, last_token, lacks_value}
+use Rattle.cfgx_grammar.specs.FirstFault.{count_fault, not_fault, fault_by, fault_behind}
+use Rattle.cfgx_grammar.specs.FirstFault.{unclosed_fault, open_fault, root_fault, end_fault}
+use Rattle.cfgx_grammar.specs.FirstFault.{refusal, fault_at, first_fault}
 use Rattle.cfgx_grammar.specs.parsing.State.{Pending, Builder, Open, State, initial, Function}
 use Rattle.cfgx_grammar.specs.parsing.State.{name_of}
-use Rattle.cfgx_grammar.specs.parsing.Step.{result_map}
-use Rattle.cfgx_grammar.specs.parsing.Step.{predicate_ended, over_top, one_more, and_then}
-use Rattle.cfgx_grammar.specs.parsing.Step.{member_count, has_room, function_ended, new_open}
-use Rattle.cfgx_grammar.specs.parsing.Step.{closed_by, opened, with_last, with_parens, apply, step}
-use Rattle.cfgx_grammar.specs.parsing.Step.{unclosed, one_root, concluded_by, conclude, step_each}
-use Rattle.cfgx_grammar.specs.parsing.Step.{ended_as, answer_from}
+use Rattle.cfgx_grammar.specs.parsing.Step.{result_map, predicate_ended, over_top, one_more}
+use Rattle.cfgx_grammar.specs.parsing.Step.{and_then, member_count, has_room, function_ended}
+use Rattle.cfgx_grammar.specs.parsing.Step.{new_open, closed_by, opened, with_last, with_parens}
+use Rattle.cfgx_grammar.specs.parsing.Step.{apply, step, unclosed, one_root, concluded_by, conclude}
+use Rattle.cfgx_grammar.specs.parsing.Step.{step_each, ended_as, answer_from}
 use Rattle.cfgx_grammar.proofs.faults.Levels.{Levels, Levels-ended, IsLevel, start_of, Levels-same}
 use Rattle.cfgx_grammar.proofs.faults.Levels.{Levels-member, Levels-open, slice_get_next}
 use Rattle.cfgx_grammar.proofs.faults.Levels.{members_at_other, length_more, last_below-found}
