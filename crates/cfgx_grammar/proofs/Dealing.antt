@@ -68,8 +68,7 @@ module _ {X T : Type 0} (otherwise : T) where
 
 -- two parts of what is asked, one after another
 taken_both : {X T : Type 0} (first second : List X) (answers these those : List T)
-    → these ≡ take (length first) answers
-    → those ≡ take (length second) (behind first answers)
+    → these ≡ take (length first) answers → those ≡ take (length second) (behind first answers)
     → these ++ those ≡ take (length (first ++ second)) answers
 taken_both first second answers these those these_are those_are =
     rw (these_are, those_are, length-append first second, take-add (length first)) refl

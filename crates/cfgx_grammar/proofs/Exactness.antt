@@ -28,8 +28,7 @@ pub record Preserve {T U : Type 0} (one : Operations T) (other : Operations U)
 
 module _ {T U : Type 0} (one : Operations T) (other : Operations U) (R : T → U → Type 0)
     (preserve : Preserve one other R) where
-  from_last_kept : (join : T → T → T) (joined : U → U → U) (begin : T) (begun : U)
-      → R begin begun
+  from_last_kept : (join : T → T → T) (joined : U → U → U) (begin : T) (begun : U) → R begin begun
       → ((x y : T) (u v : U) → R x u → R y v → R (join x y) (joined u v))
       → (xs : List T) (ys : List U) → AllZip R xs ys
       → R (from_last join begin xs) (from_last joined begun ys)
@@ -41,8 +40,7 @@ module _ {T U : Type 0} (one : Operations T) (other : Operations U) (R : T → U
 
   mutual
     -- leaves that are related make related values
-    pub value_kept : (x : Tree T) (y : Tree U) → Alike R x y
-        → R (value_of one x) (value_of other y)
+    pub value_kept : (x : Tree T) (y : Tree U) → Alike R x y → R (value_of one x) (value_of other y)
     value_kept _ _ (Alike.leaf x y related) = related
     value_kept _ _ (Alike.literal true) = preserve.top
     value_kept _ _ (Alike.literal false) = preserve.bottom
@@ -91,9 +89,8 @@ agreement =
     record { top = refl; bottom = refl; and = agrees_and; or = agrees_or; not = agrees_not }
 
 -- what is known holds under every filling
-pub known_filled : {X : Type 0} (tree : Tree X) (answers : List (Option Bool))
-    (filling : List Bool) (value : Bool)
-    → fold three_valued tree answers ≡ Some value → IsFilling answers filling
+pub known_filled : {X : Type 0} (tree : Tree X) (answers : List (Option Bool)) (filling : List Bool)
+    (value : Bool) → fold three_valued tree answers ≡ Some value → IsFilling answers filling
     → fold two_valued tree filling ≡ value
 known_filled tree answers filling value is fills =
     subst (λ v. Agrees v (fold two_valued tree filling)) is
@@ -194,9 +191,8 @@ module _ {X : Type 0} where
     filled-shape fill _ _ (Alike.any xs ys each) = Alike.any _ _ (filled_each-shape fill xs ys each)
     filled-shape fill _ _ (Alike.not x y alike) = Alike.not _ _ (filled-shape (not fill) x y alike)
 
-    filled_each-shape : (fill : Bool) (trees : Trees X)
-        (answers : Trees (Option Bool)) → SameShapes trees answers
-        → SameShapes trees (filled_each fill answers)
+    filled_each-shape : (fill : Bool) (trees : Trees X) (answers : Trees (Option Bool))
+        → SameShapes trees answers → SameShapes trees (filled_each fill answers)
     filled_each-shape fill _ _ AlikeEach.none = AlikeEach.none
     filled_each-shape fill _ _ (AlikeEach.more x y xs ys first rest) = AlikeEach.more _ _ _ _
         (filled-shape fill x y first) (filled_each-shape fill xs ys rest)

@@ -87,8 +87,7 @@ module _ {M : Type 0} where
   Ends-more stack roots n m tokens is ends = grind arith
 
   pub Rest-more : (May : ℕ → Trees Question → Type 0) (stack : List (Open M)) (roots : ℕ)
-      (tokens : List Token)
-      → Rest May (over_top one_more stack) (root_more stack roots) 0 tokens
+      (tokens : List Token) → Rest May (over_top one_more stack) (root_more stack roots) 0 tokens
       → Rest May stack roots 1 tokens
   Rest-more a0 stack roots tokens a4 = grind arith
 
@@ -133,8 +132,7 @@ module _ {M : Type 0} where
       (m, others, left, after, refl, may, rest, ends))
     where
       called : (function : Function) (list : List Token) (trees : Trees Question)
-          → has_room function (count trees) ≡ true → IsList list trees
-          → (tree : Tree Question)
+          → has_room function (count trees) ≡ true → IsList list trees → (tree : Tree Question)
           × IsMember (name_of function ∷ Token.open_paren ∷ (list ++ Token.close_paren ∷ [])) tree
       called Function.all list trees room is = (Tree.all trees, (list, refl, is))
       called Function.any list trees room is = (Tree.any trees, (list, refl, is))

@@ -309,8 +309,7 @@ spelt_regular question r = ⊎_elim (λ spelt. spelt) (λ is. record { regular =
 -- A token between two parts of a text.
 
 slice_middle : (front middle rest : List ℕ)
-    → slice_range (front ++ (middle ++ rest)) (length front) (length front + length middle)
-    ≡ middle
+    → slice_range (front ++ (middle ++ rest)) (length front) (length front + length middle) ≡ middle
 slice_middle front middle rest = grind (arith, nat_tests, common_steps)
 
 module _ (text before gap bytes rest : List ℕ) (token : Token) (from start end : ℕ)

@@ -152,8 +152,7 @@ module _ (front : List Item) (item : Item) where
   members_at_deeper level from deeper = members_at_more level from false (grind arith)
 
   IsOpenAt-more : (level : ℕ) (function : Function) (start end place : ℕ) → level < depth more
-      → IsOpenAt front level function start end place
-      → IsOpenAt more level function start end place
+      → IsOpenAt front level function start end place → IsOpenAt more level function start end place
   IsOpenAt-more level function start end place deep is =
       let at = slice_get_within front place is.name is.stands in
       record {

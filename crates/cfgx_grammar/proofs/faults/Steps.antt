@@ -239,16 +239,14 @@ module _ {W M L : Type 0} {builder : Builder W M L} (front : List Item) (s : Sta
     matched : (token : Token) (t : State builder) (w : ℕ) → t.last ≡ Some token
         → t.pending ≡ begun_token (at token) (reverse front) token → going t.pending ≡ w
         → Rises token (length t.stack)
-        → Levels (more token) t.roots (names_function token) t.stack w
-        → Matches (more token) t
+        → Levels (more token) t.roots (names_function token) t.stack w → Matches (more token) t
     matched token t w last pending goes rises levels = grind (arith, nat_tests, common_steps)
 
     -- a token that neither opens nor closes a function and begins no member
     stays : (token : Token) (t : State builder) (w : ℕ) → t.last ≡ Some token
-        → names_function token ≡ false
-        → is_kind Kind.name (kind_of token) ≡ false → Rises token (length t.stack)
-        → t.pending ≡ begun_token (at token) (reverse front) token → going t.pending ≡ w
-        → Levels front t.roots false t.stack w → Matches (more token) t
+        → names_function token ≡ false → is_kind Kind.name (kind_of token) ≡ false
+        → Rises token (length t.stack) → t.pending ≡ begun_token (at token) (reverse front) token
+        → going t.pending ≡ w → Levels front t.roots false t.stack w → Matches (more token) t
     stays token t w last no_name other rises pending goes levels =
         matched token t w last pending goes rises (rw no_name (Levels-same front (at token)
         t.roots w t.stack (omega (arith, balanced token _ rises))
