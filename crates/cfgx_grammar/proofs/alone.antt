@@ -3,7 +3,7 @@ use Rattle.std.proofs.lemmas.Bool.Decides.{nat_tests}
 use Rattle.std.proofs.lemmas.Grind.{common_steps}
 use Rattle.std.proofs.Common.{◌≤◌, ◌≡◌, ℕ, Bool, true, false, List, [], ◌∷◌, ◌++◌, map, Some, None}
 use Rattle.std.proofs.Common.{subst, ◌<◌, ◌^◌, ◌||◌, ◌&&◌, nat_eq, nat_lt, length, drop, Option}
-use Rattle.std.proofs.Common.{sym, refl, ap, ◌∙◌, arith, ◌+◌, append_assoc, length-append, drop_at}
+use Rattle.std.proofs.Common.{sym, refl, ap, ◌∙◌, arith, rules, ◌+◌, append_assoc, length-append, drop_at}
 use Rattle.std.proofs.Common.{drop_of_length-le, ◌⊎◌, inl, inr, ⊎_elim, ltb-true, slice_range}
 use Rattle.std.proofs.Common.{if◌then◌else◌, codes, option_map, decimal, bytes_eq, append-nil}
 use Rattle.std.specs.List.{AllByRecursion, list_any, starts_with}
@@ -140,14 +140,6 @@ pub record IsSpelt (question : Question) : Type 0 where
   pub regular : IsRegular question
   pub spelled : spelling question ≡ text_of regular.key regular.value
 
-spelt : (key : List ℕ) (value : Option (List ℕ)) (question : Question) → IsKey key
-    → CanBeQuoted value → class key value ≡ predicate question
-    → spelling question ≡ text_of key value → IsSpelt question
-spelt k v question is quoted says spelled = record {
-  regular = record { key = k; value = v; is_key = is; can_be_quoted = quoted; says = says };
-  spelled = spelled;
-}
-
 -- a word of more than three letters names no function
 long_key : (word : List ℕ) → IsWord word → 3 < length word → IsKey word
 long_key word is long = grind arith
@@ -200,7 +192,12 @@ spelt_word : (word : List ℕ) (value : Option (List ℕ)) (question : Question)
     → IsWord word × (nat_lt 3 (length word) ≡ true) × (class word value ≡ predicate question)
     × (spelling question ≡ text_of word value) → IsSpelt question
 spelt_word word value question quoted (is, long, says, spelled) =
-    spelt word value question (long_key word is (ltb-true 3 (length word) long)) quoted says spelled
+    let is_key = long_key word is (ltb-true 3 (length word) long) in record {
+      regular = record {
+        key = word; value = value; is_key = is_key; can_be_quoted = quoted; says = says;
+      };
+      spelled = spelled;
+    }
 
 spelt_family : (name : List ℕ) → HasNoQuote name
     → IsSpelt (Question.target (TargetQuestion.family name))
@@ -289,12 +286,9 @@ module _ (key : List ℕ) (value : Option (List ℕ)) where
       (good_bare (Leaf.literal false) tt value)
       (good_bare _ (inl (spelt_family (codes "unix") refl)) value)
       (good_bare _ (inl (spelt_family (codes "windows") refl)) value)
-      (good_bare _ (inl (spelt_word (codes "test") None _ tt
-      ((refl, refl), refl, refl, refl))) value)
-      (good_bare _ (inl (spelt_word (codes "debug_assertions") None _ tt
-      ((refl, refl), refl, refl, refl))) value)
-      (good_bare _ (inl (spelt_word (codes "proc_macro") None _ tt
-      ((refl, refl), refl, refl, refl))) value)
+      (good_bare _ (inl (spelt_word (codes "test") None _ tt (search rules))) value)
+      (good_bare _ (inl (spelt_word (codes "debug_assertions") None _ tt (search rules))) value)
+      (good_bare _ (inl (spelt_word (codes "proc_macro") None _ tt (search rules))) value)
       (good_valued _ _ (λ v q. inl (spelt_word (codes "feature") (Some v) _ q
       ((refl, refl), refl, refl, refl))) value quoted)
       (good_valued _ _ (λ v q. inl (spelt_word (codes "panic") (Some v) _ q

@@ -384,8 +384,7 @@ trees_listed (Trees.more tree trees) = ap (Trees.more tree) (trees_listed trees)
 calls : (function : Function) (tree : Tree Question) (trees : Trees Question)
     → called function (list_of trees) ≡ tree → Calls tree_builder (λ items w v t. v ≡ w ++ t ∷ [])
     (λ items w v ts. v ≡ w ++ list_of ts) function tree trees
-calls function tree trees is head opening closing members w v built =
-    rw (built, take-append_seam, drop-append_seam, is) refl
+calls function tree trees is head opening closing members w v built = grind (arith, take-append_seam, drop-append_seam)
 
 pub tree_laws : Laws tree_builder
 tree_laws = record {

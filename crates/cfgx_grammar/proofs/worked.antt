@@ -279,8 +279,8 @@ spelled = refl
 -- First faults of texts, computed; worked out by hand from the rules.
 
 -- Faults of a token.
-abbrev of_tokens : List (List ℕ × Option Refusal)
-of_tokens = (codes "all(a b)", refused_behind (Some (key (codes "a"))) 6 7)
+pub tokens_show : Lines shown (
+    (codes "all(a b)", refused_behind (Some (key (codes "a"))) 6 7)
     ∷ (codes ")", refused_behind None 0 1)
     ∷ (codes "a,)", fault unopened_parens 2 3)
     ∷ (codes "not(not(), feature)", fault (invalid_not 0) 4 9)
@@ -289,53 +289,43 @@ of_tokens = (codes "all(a b)", refused_behind (Some (key (codes "a"))) 6 7)
     ∷ (codes "any(not(not(key_one, key_two)))", fault (invalid_not 2) 8 29)
     ∷ (codes "not(a, feature)", fault (invalid_not 2) 0 15)
     ∷ (codes "not(feature, x)", fault (unexpected (codes "= \"<feature_name>\"" ∷ [])) 4 11)
-    ∷ (codes "feature)", fault unopened_parens 7 8) ∷ []
-
-pub tokens_show : Lines shown of_tokens
+    ∷ (codes "feature)", fault unopened_parens 7 8) ∷ [])
 unfolding class
 tokens_show = refl
 
 -- Those that the end of the text shows, and the place where no token can start.
-abbrev of_ends : List (List ℕ × Option Refusal)
-of_ends = (codes "all(key =", fault (unexpected (codes "\"<value>\"" ∷ [])) 9 9)
+pub ends_show : Lines shown (
+    (codes "all(key =", fault (unexpected (codes "\"<value>\"" ∷ [])) 9 9)
     ∷ (codes "all(any", fault (unexpected (codes "(" ∷ [])) 4 7)
     ∷ (codes "all(feature", fault unclosed_parens 3 11)
     ∷ (codes "all(any(a)", fault unclosed_parens 3 10)
     ∷ (codes "not", fault (unexpected (codes "(" ∷ [])) 0 3)
     ∷ (codes "a, target_os", fault (unexpected (codes "= \"<target_cfg_value>\"" ∷ [])) 3 12)
     ∷ (codes "all(), any()", fault multiple_root_predicates 0 12)
-    ∷ (codes "   ", fault empty 0 3) ∷ []
-
-pub ends_show : Lines shown of_ends
+    ∷ (codes "   ", fault empty 0 3) ∷ [])
 unfolding class
 ends_show = refl
 
-pub no_token : first_fault (codes "feature 8") (lexed (codes "feature")) (Ending.no_token 8)
-    ≡ refused_behind None 8 9
+-- a text, the front of it that has tokens, and how it ends
+abbrev stopped : List ℕ × List ℕ × Ending → Option Refusal
+stopped row = first_fault row.0 (lexed row.1) row.2
+
+pub no_token : Lines stopped (
+    ((codes "feature 8", codes "feature", Ending.no_token 8), refused_behind None 8 9)
+    ∷ ((codes "key \"abc", codes "key", Ending.unclosed_quotes 4), fault unclosed_quotes 4 8)
+    ∷ ((codes "all(key = \"value), key = \"value\"", codes "all(key = \"value), key = \"value",
+    Ending.unclosed_quotes 31), refused_behind (Some (Token.value [])) 26 31) ∷ [])
 unfolding class
 no_token = refl
 
-pub quotes : first_fault (codes "key \"abc") (lexed (codes "key")) (Ending.unclosed_quotes 4)
-    ≡ fault unclosed_quotes 4 8
-unfolding class
-quotes = refl
-
-pub key_before_quote : let text = codes "all(key = \"value), key = \"value\"" in
-    first_fault text (lexed (take 31 text)) (Ending.unclosed_quotes 31)
-    ≡ refused_behind (Some (Token.value [])) 26 31
-unfolding class
-key_before_quote = refl
-
 -- Literals are members and roots, and have no value; values that are refused; and a condition.
-abbrev of_values : List (List ℕ × Option Refusal)
-of_values = (codes "not(true, false)", fault (invalid_not 2) 0 16)
+pub values_show : Lines shown (
+    (codes "not(true, false)", fault (invalid_not 2) 0 16)
     ∷ (codes "true = \"x\"", fault (unexpected []) 8 9)
     ∷ (codes "true, a", fault multiple_root_predicates 0 7)
     ∷ (codes "target_feature = \"\"", fault (unexpected (codes "<feature>" ∷ [])) 18 18)
     ∷ (codes "target_pointer_width = \"256\"", fault invalid_integer 24 27)
-    ∷ (codes "all(a,,)", None) ∷ []
-
-pub values_show : Lines shown of_values
+    ∷ (codes "all(a,,)", None) ∷ [])
 unfolding class read_below
 values_show = refl
 

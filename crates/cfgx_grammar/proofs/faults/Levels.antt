@@ -53,8 +53,7 @@ count_below-none test (suc n) none = rw (none n (omega arith))
 -- behind the last token no member begins
 pub members_at_end : (items : List Item) (level from : ℕ) → length items ≤ from
     → members_at items level from ≡ 0
-members_at_end items level from past = count_below-none _ (length items)
-    (λ k lt. grind arith)
+members_at_end items level from past = count_below-none _ (length items) (λ k lt. grind arith)
 
 -- The levels.
 
@@ -215,8 +214,7 @@ module _ (front : List Item) (item : Item) where
       → length stack ≤ depth more → is_kind Kind.name (kind_of item.token) ≡ false
       → Levels front roots true stack going
       → Levels more roots false (over_top (with_parens item.start) stack) going
-  Levels-open roots going [] deep other levels =
-      members_at_other 0 0 other ∙ levels
+  Levels-open roots going [] deep other levels = members_at_other 0 0 other ∙ levels
   Levels-open roots going (top ∷ rest) deep other (l, levels) = (
     record {
       place = l.place;

@@ -40,8 +40,7 @@ use Rattle.std.proofs.lemmas.Option.{slice_get_within, slice_get_past}
 -- the predicate that has begun
 abbrev pub begun_token : Item → List Item → Token → Option Pending
 begun_token item before (Token.key text) = key_token item (Token.key text)
-begun_token item before (Token.value text) =
-    predicate_token item before (Token.value text)
+begun_token item before (Token.value text) = predicate_token item before (Token.value text)
 begun_token item before Token.equals = key_last before
 begun_token item before _ = None
 
@@ -125,21 +124,15 @@ module _ {W M L : Type 0} {builder : Builder W M L} where
     pub balance : closings front + length s.stack ≡ names front
     pub levels : Levels front s.roots (names_last (last_token front)) s.stack (going s.pending)
 
-  pub Matches-initial : Matches [] (initial {builder = builder})
-  Matches-initial = record { last = refl; pending = refl; balance = refl; levels = refl }
-
   pub depth_is : (front : List Item) (s : State builder) → Matches front s
       → depth front ≡ length s.stack
   depth_is front s m = omega (arith, m.balance)
 
-  -- The predicate that ends.
-
-  module _ (front : List Item) (is_named : Bool) (s : State builder) where
-    -- the state in which it has ended
-    pub record Ended (t : State builder) : Type 0 where
-      pub settled : t.pending ≡ None
-      pub height : length t.stack ≡ length s.stack
-      pub levels : Levels front t.roots is_named t.stack 0
+  -- the state in which the predicate has ended
+  pub record Ended (front : List Item) (is_named : Bool) (s t : State builder) : Type 0 where
+    pub settled : t.pending ≡ None
+    pub height : length t.stack ≡ length s.stack
+    pub levels : Levels front t.roots is_named t.stack 0
 
   pub predicate_ends : (front : List Item) (s : State builder) (m : Matches front s)
       → lacks_value (last_token front) ≡ false
@@ -149,10 +142,6 @@ module _ {W M L : Type 0} {builder : Builder W M L} where
 
 -- Each step refuses a token with the fault that the tokens in front of it show, and the end of the
 -- text likewise.
-
-going_value : (value : Word) (pending : Option Pending)
-    → going (option_map (with_value value) pending) ≡ going pending
-going_value value pending = grind arith
 
 -- the fault of a function that is closed
 room_fault : (function : Function) (name close : Item) (start count : ℕ) (other : Option Refusal)
@@ -183,11 +172,9 @@ module _ {W M L : Type 0} {builder : Builder W M L} (front : List Item) (s : Sta
     deep_is : depth front ≡ length rest + 1
     deep_is = depth_is front s m ∙ ap length is ∙ omega arith
 
-    within : level.place < length front
-    within = slice_get_within front level.place level.opened.name level.opened.stands
-
     innermost_is : innermost front ≡ Some level.place
-    innermost_is = last_below-found _ level.place (length front) within
+    innermost_is = last_below-found _ level.place (length front)
+        (slice_get_within front level.place _ level.opened.stands)
         (lt-ltb (depth_at front level.place) (depth front)
         (omega (arith, level.opened.before, deep_is)))
         (λ k above below. le-ltb (depth_at front k) (depth front)
@@ -203,14 +190,14 @@ module _ {W M L : Type 0} {builder : Builder W M L} (front : List Item) (s : Sta
         ≡ (if has_room top.function (member_count top s.pending) then other
         else Some (refusal (invalid_not (member_count top s.pending)) top.start close.end))
     close_fault_is close other = rw (innermost_is, level.opened.stands, members_are)
-        (room_fault top.function level.opened.name close _ _ other level.opened.named level.opened.starts)
+        (room_fault top.function level.opened.name close _ _ other level.opened.named
+        level.opened.starts)
 
     -- it stays open
     open_fault_is : (len : ℕ) → option_and_then (open_fault len front) (innermost front)
         ≡ Some (unclosed len top top.parens)
     open_fault_is len = rw (innermost_is, level.opened.stands)
-        (ap Some (unclosed_is len level.opened.name top _ _ level.opened.starts level.opened.ends
-        level.parens))
+        (grind (arith, level.opened.starts, level.opened.ends, level.parens))
 
   -- the levels, by whether a name is the last token
   levels_of : (b : Bool) → named ≡ b → Levels front s.roots b s.stack (going s.pending)
@@ -319,8 +306,7 @@ module _ {W M L : Type 0} {builder : Builder W M L} (front : List Item) (s : Sta
         → Meets (Ended front false s) (predicate_ended s) (predicate_fault front)
         → Agrees Token.close_paren (closed_by s (at Token.close_paren) stack)
         (fault_by front (at Token.close_paren) Token.close_paren)
-    close_step [] is ends =
-        rw (eq-eqb (depth front) 0 (depth_is front s m ∙ ap length is)) refl
+    close_step [] is ends = rw (eq-eqb (depth front) 0 (depth_is front s m ∙ ap length is)) refl
     close_step (top ∷ rest) is ends =
         let some : 0 < length s.stack = omega (arith, ap length is) in
         let inside = ne_eqb (depth front) 0 (λ zero. omega (arith, zero, deep_is top rest is)) in
@@ -341,16 +327,11 @@ module _ {W M L : Type 0} {builder : Builder W M L} (front : List Item) (s : Sta
         (plain_levels false (m.pending ∙ a.0) a.1) in
         (refl, matched token _ 1 refl refl refl refl levels)
     token_step (Token.value text) may = let value = word_of text (start + 1) (end - 1) in
-        let a = says Kind.value (reverse front) may in (
-          refl,
-          stays (Token.value text) _ _ refl refl refl refl
-              (ap (option_map (with_value value)) (m.pending ∙ a.0))
-              (going_value value s.pending) (levels_of false a.1),
-        )
-    token_step Token.equals may = let a = says Kind.equals (reverse front) may in (
-      refl,
-      stays Token.equals _ _ refl refl refl refl (m.pending ∙ a.0) refl (levels_of false a.1),
-    )
+        let a = says Kind.value (reverse front) may in
+        (refl, stays (Token.value text) _ (going s.pending) refl refl refl refl
+        (ap (option_map (with_value value)) (m.pending ∙ a.0)) (grind arith) (levels_of false a.1))
+    token_step Token.equals may = let a = says Kind.equals (reverse front) may in
+        (refl, stays Token.equals _ _ refl refl refl refl (m.pending ∙ a.0) refl (levels_of false a.1))
     token_step Token.all may = name_step Function.all may refl refl refl refl
     token_step Token.any may = name_step Function.any may refl refl refl refl
     token_step Token.not may = name_step Function.not may refl refl refl refl
@@ -361,8 +342,8 @@ module _ {W M L : Type 0} {builder : Builder W M L} (front : List Item) (s : Sta
         let rises = ap (λ n. n + 0) (height_kept (with_parens start) s.stack) in
         (refl, matched token _ _ refl (m.pending ∙ a.0) refl rises levels)
     token_step Token.close_paren may = close_step s.stack refl (ended_here (inl may))
-    token_step Token.comma may = meets_each (Ended front false s) _ _ _ (ended_here (inr may)) (λ t e.
-        stays Token.comma _ 0 refl refl refl (ap (λ n. n + 0) e.height) e.settled
+    token_step Token.comma may = meets_each (Ended front false s) _ _ _ (ended_here (inr may))
+        (λ t e. stays Token.comma _ 0 refl refl refl (ap (λ n. n + 0) e.height) e.settled
         (ap going e.settled) e.levels)
 
     pub step_agrees : (token : Token)
@@ -428,4 +409,5 @@ module _ {W M L : Type 0} (builder : Builder W M L) (text : List ℕ) (items : L
   pub whole_agrees : EndAgrees (answer_from (initial {builder = builder}) text items ending)
       (first_fault text items ending)
   whole_agrees = rw (first_is items items [] refl) (meets_then _ _ _ _ _ _
-      (scan items [] initial Matches-initial) (at_end (lexical text ending)))
+      (scan items [] initial (record { last = refl; pending = refl; balance = refl; levels = refl }))
+      (at_end (lexical text ending)))
