@@ -73,20 +73,14 @@ module _ {T U : Type 0} (one : Operations T) (other : Operations U) (R : T → U
 
 -- a filling makes a known value
 
-agrees_and : (x y : Option Bool) (u v : Bool) → Agrees x u → Agrees y v
-    → Agrees (kleene_and x y) (u && v)
-agrees_and x y u v p q = grind (arith, common_steps)
-
-agrees_or : (x y : Option Bool) (u v : Bool) → Agrees x u → Agrees y v
-    → Agrees (kleene_or x y) (u || v)
-agrees_or x y u v p q = grind (arith, common_steps)
-
-agrees_not : (x : Option Bool) (u : Bool) → Agrees x u → Agrees (kleene_not x) (not u)
-agrees_not x u p = grind (arith, common_steps)
-
 agreement : Preserve three_valued two_valued Agrees
-agreement =
-    record { top = refl; bottom = refl; and = agrees_and; or = agrees_or; not = agrees_not }
+agreement = record {
+  top = refl;
+  bottom = refl;
+  and = λ x y u v p q. grind (arith, common_steps);
+  or = λ x y u v p q. grind (arith, common_steps);
+  not = λ x u p. grind (arith, common_steps);
+}
 
 -- what is known holds under every filling
 pub known_filled : {X : Type 0} (tree : Tree X) (answers : List (Option Bool)) (filling : List Bool)
@@ -100,14 +94,6 @@ known_filled tree answers filling value is fills =
 
 abbrev side : Bool → Option Bool → Bool
 side fill value = unwrap_or value fill
-
-side_joined : (fill : Bool) (x y : Option Bool)
-    → ((side fill x && side fill y) ≡ side fill (kleene_and x y))
-    × ((side fill x || side fill y) ≡ side fill (kleene_or x y))
-side_joined fill x y = (grind arith, grind arith)
-
-side_not : (fill : Bool) (x : Option Bool) → not (side (not fill) x) ≡ side fill (kleene_not x)
-side_not fill x = grind arith
 
 -- both sides tell whether a value is known
 known_sides : (x : Option Bool) (value : Bool) → side true x ≡ value → side false x ≡ value
@@ -127,19 +113,6 @@ module _ (join : Bool → Bool → Bool) (joined : Option Bool → Option Bool �
       ≡ side fill (from_last joined (Some begin) values)
   from_last-sides [] = refl
   from_last-sides (value ∷ values) = rw (from_last-sides values) (each _ value)
-
-  list-sides : (inner own : List Bool) (these those : List (Option Bool))
-      → inner ≡ sides fill these → own ≡ sides fill those → from_last join begin (inner ++ own)
-      ≡ side fill (from_last joined (Some begin) (these ++ those))
-  list-sides inner own these those inner_are own_are =
-      rw (inner_are, own_are, ← map-append) (from_last-sides (these ++ those))
-
--- the members that pass a test are filled as the test says of the list before
-values-if : (fill b : Bool) (value : Bool) (known : Option Bool) (values : List Bool)
-    (others : List (Option Bool)) → value ≡ side fill known → values ≡ sides fill others
-    → (if b then value ∷ values else values) ≡ sides fill (if b then known ∷ others else others)
-values-if fill true value known values others first rest = rw (first, rest) refl
-values-if fill false value known values others first rest = rest
 
 mutual
   -- known answers stay, and a filling is of the tree's shape
@@ -164,22 +137,24 @@ mutual
   value-filled fill (Tree.literal true) = refl
   value-filled fill (Tree.literal false) = refl
   value-filled fill (Tree.all trees) =
-      list-sides _ _ true fill (λ x y. (side_joined fill x y).0) _ _ _ _
-      (values-filled is_function is_function (same_functions Agrees) fill trees)
-      (values-filled is_leaf is_leaf (same_leaves Agrees) fill trees)
+      rw (values-filled is_function is_function (same_functions Agrees) fill trees,
+      values-filled is_leaf is_leaf (same_leaves Agrees) fill trees, ← map-append)
+      (from_last-sides ◌&&◌ kleene_and true fill (λ x y. grind arith)
+      (values_by three_valued is_function trees ++ values_by three_valued is_leaf trees))
   value-filled fill (Tree.any trees) =
-      list-sides _ _ false fill (λ x y. (side_joined fill x y).1) _ _ _ _
-      (values-filled is_function is_function (same_functions Agrees) fill trees)
-      (values-filled is_leaf is_leaf (same_leaves Agrees) fill trees)
-  value-filled fill (Tree.not tree) =
-      ap not (value-filled (not fill) tree) ∙ side_not fill (value_of three_valued tree)
+      rw (values-filled is_function is_function (same_functions Agrees) fill trees,
+      values-filled is_leaf is_leaf (same_leaves Agrees) fill trees, ← map-append)
+      (from_last-sides ◌||◌ kleene_or false fill (λ x y. grind arith)
+      (values_by three_valued is_function trees ++ values_by three_valued is_leaf trees))
+  value-filled fill (Tree.not tree) = rw (value-filled (not fill) tree) (grind arith)
 
   values-filled : (f : Tree (Option Bool) → Bool) (g : Tree Bool → Bool) → SameTests Agrees f g
       → (fill : Bool) (trees : Trees (Option Bool)) → values_by two_valued g
       (filled_each fill trees) ≡ sides fill (values_by three_valued f trees)
   values-filled f g same fill Trees.none = refl
-  values-filled f g same fill (Trees.more tree trees) = rw (← same tree _ (filled-agrees fill tree))
-      (values-if fill (f tree) _ _ _ _ (value-filled fill tree) (values-filled f g same fill trees))
+  values-filled f g same fill (Trees.more tree trees) =
+      rw (← same tree _ (filled-agrees fill tree), value-filled fill tree,
+      values-filled f g same fill trees) (grind arith)
 
 module _ {X : Type 0} where
   mutual

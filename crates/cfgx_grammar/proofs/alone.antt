@@ -158,13 +158,9 @@ no_quote_decimal : (n : ℕ) → n < 2 ^ 64 → HasNoQuote (decimal n)
 no_quote_decimal n small = no_quote_digits (decimal n) (decimal_is_IsNumeral n small).0.1
 
 -- a number that was read is below its limit
-below_of : (limit value n : ℕ) (one : Bool)
-    → (if one && nat_lt value limit then Some value else None) ≡ Some n → n < limit
-below_of limit value n one e = grind arith
-
 read_small : (limit n : ℕ) (text : List ℕ) → read_below limit text ≡ Some n → n < limit
 unfolding read_below
-read_small limit n text is = below_of limit _ n _ is
+read_small limit n text is = grind (arith, nat_tests)
 
 width_small : (text : List ℕ) (bits : ℕ) (read : Option ℕ)
     → option_or (option_map IntegerSize read) (pointer_named text) ≡ Some (IntegerSize bits)

@@ -143,19 +143,6 @@ module _ {W M L : Type 0} {builder : Builder W M L} where
 -- Each step refuses a token with the fault that the tokens in front of it show, and the end of the
 -- text likewise.
 
--- the fault of a function that is closed
-room_fault : (function : Function) (name close : Item) (start count : ℕ) (other : Option Refusal)
-    → name.token ≡ name_of function → name.start ≡ start
-    → option_or (count_fault name count close) other ≡ (if has_room function count then other
-    else Some (refusal (invalid_not count) start close.end))
-room_fault function name close start count other named starts = grind arith
-
--- the fault of a function that stays open
-unclosed_is : {M : Type 0} (len : ℕ) (name : Item) (top : Open M) (paren : Option Item)
-    (parens : Option ℕ) → name.start ≡ top.start → name.end ≡ top.end → start_of paren ≡ parens
-    → unclosed_fault len name paren ≡ unclosed len top parens
-unclosed_is len name top paren parens starts ends is = grind arith
-
 module _ {W M L : Type 0} {builder : Builder W M L} (front : List Item) (s : State builder)
     (m : Matches front s) where
   abbrev named : Bool
@@ -190,8 +177,7 @@ module _ {W M L : Type 0} {builder : Builder W M L} (front : List Item) (s : Sta
         ≡ (if has_room top.function (member_count top s.pending) then other
         else Some (refusal (invalid_not (member_count top s.pending)) top.start close.end))
     close_fault_is close other = rw (innermost_is, level.opened.stands, members_are)
-        (room_fault top.function level.opened.name close _ _ other level.opened.named
-        level.opened.starts)
+        (grind (arith, level.opened.named, level.opened.starts))
 
     -- it stays open
     open_fault_is : (len : ℕ) → option_and_then (open_fault len front) (innermost front)
