@@ -115,62 +115,57 @@ module _ (join : Bool → Bool → Bool) (joined : Option Bool → Option Bool �
   from_last-sides (value ∷ values) = rw (from_last-sides values) (each _ value)
 
 mutual
-  -- known answers stay, and a filling is of the tree's shape
-  filled-agrees : (fill : Bool) (tree : Tree (Option Bool)) → Alike Agrees tree (filled fill tree)
-  filled-agrees fill (Tree.leaf (Some answer)) = Alike.leaf _ _ refl
-  filled-agrees fill (Tree.leaf None) = Alike.leaf _ _ tt
-  filled-agrees fill (Tree.literal truth) = Alike.literal truth
-  filled-agrees fill (Tree.all trees) = Alike.all _ _ (filled_each-agrees fill trees)
-  filled-agrees fill (Tree.any trees) = Alike.any _ _ (filled_each-agrees fill trees)
-  filled-agrees fill (Tree.not tree) = Alike.not _ _ (filled-agrees (not fill) tree)
-
-  filled_each-agrees : (fill : Bool) (trees : Trees (Option Bool))
-      → AlikeEach Agrees trees (filled_each fill trees)
-  filled_each-agrees fill Trees.none = AlikeEach.none
-  filled_each-agrees fill (Trees.more tree trees) =
-      AlikeEach.more _ _ _ _ (filled-agrees fill tree) (filled_each-agrees fill trees)
-
-mutual
   value-filled : (fill : Bool) (tree : Tree (Option Bool))
       → value_of two_valued (filled fill tree) ≡ side fill (value_of three_valued tree)
   value-filled fill (Tree.leaf answer) = refl
   value-filled fill (Tree.literal true) = refl
   value-filled fill (Tree.literal false) = refl
   value-filled fill (Tree.all trees) =
-      rw (values-filled is_function is_function (same_functions Agrees) fill trees,
-      values-filled is_leaf is_leaf (same_leaves Agrees) fill trees, ← map-append)
+      rw (values-filled is_function is_function (λ filling tree. grind arith) fill trees,
+      values-filled is_leaf is_leaf (λ filling tree. grind arith) fill trees, ← map-append)
       (from_last-sides ◌&&◌ kleene_and true fill (λ x y. grind arith)
       (values_by three_valued is_function trees ++ values_by three_valued is_leaf trees))
   value-filled fill (Tree.any trees) =
-      rw (values-filled is_function is_function (same_functions Agrees) fill trees,
-      values-filled is_leaf is_leaf (same_leaves Agrees) fill trees, ← map-append)
+      rw (values-filled is_function is_function (λ filling tree. grind arith) fill trees,
+      values-filled is_leaf is_leaf (λ filling tree. grind arith) fill trees, ← map-append)
       (from_last-sides ◌||◌ kleene_or false fill (λ x y. grind arith)
       (values_by three_valued is_function trees ++ values_by three_valued is_leaf trees))
   value-filled fill (Tree.not tree) = rw (value-filled (not fill) tree) (grind arith)
 
-  values-filled : (f : Tree (Option Bool) → Bool) (g : Tree Bool → Bool) → SameTests Agrees f g
+  values-filled : (f : Tree (Option Bool) → Bool) (g : Tree Bool → Bool)
+      → ((fill : Bool) (tree : Tree (Option Bool)) → g (filled fill tree) ≡ f tree)
       → (fill : Bool) (trees : Trees (Option Bool)) → values_by two_valued g
       (filled_each fill trees) ≡ sides fill (values_by three_valued f trees)
   values-filled f g same fill Trees.none = refl
   values-filled f g same fill (Trees.more tree trees) =
-      rw (← same tree _ (filled-agrees fill tree), value-filled fill tree,
+      rw (same fill tree, value-filled fill tree,
       values-filled f g same fill trees) (grind arith)
 
-module _ {X : Type 0} where
+-- A filling is like the answers in what it keeps of each.
+module _ {X : Type 0} (R : X → Option Bool → Type 0) (S : X → Bool → Type 0)
+    (each : (fill : Bool) (x : X) (answer : Option Bool) → R x answer → S x (side fill answer)) where
   mutual
-    filled-shape : (fill : Bool) (tree : Tree X) (answers : Tree (Option Bool))
-        → SameShape tree answers → SameShape tree (filled fill answers)
-    filled-shape fill _ _ (Alike.leaf x y related) = Alike.leaf _ _ tt
-    filled-shape fill _ _ (Alike.literal truth) = Alike.literal truth
-    filled-shape fill _ _ (Alike.all xs ys each) = Alike.all _ _ (filled_each-shape fill xs ys each)
-    filled-shape fill _ _ (Alike.any xs ys each) = Alike.any _ _ (filled_each-shape fill xs ys each)
-    filled-shape fill _ _ (Alike.not x y alike) = Alike.not _ _ (filled-shape (not fill) x y alike)
+    filled-alike : (fill : Bool) (tree : Tree X) (answers : Tree (Option Bool))
+        → Alike R tree answers → Alike S tree (filled fill answers)
+    filled-alike fill _ _ (Alike.leaf x y related) = Alike.leaf _ _ (each fill x y related)
+    filled-alike fill _ _ (Alike.literal truth) = Alike.literal truth
+    filled-alike fill _ _ (Alike.all xs ys all) = Alike.all _ _ (filled_each-alike fill xs ys all)
+    filled-alike fill _ _ (Alike.any xs ys all) = Alike.any _ _ (filled_each-alike fill xs ys all)
+    filled-alike fill _ _ (Alike.not x y alike) = Alike.not _ _ (filled-alike (not fill) x y alike)
 
-    filled_each-shape : (fill : Bool) (trees : Trees X) (answers : Trees (Option Bool))
-        → SameShapes trees answers → SameShapes trees (filled_each fill answers)
-    filled_each-shape fill _ _ AlikeEach.none = AlikeEach.none
-    filled_each-shape fill _ _ (AlikeEach.more x y xs ys first rest) = AlikeEach.more _ _ _ _
-        (filled-shape fill x y first) (filled_each-shape fill xs ys rest)
+    filled_each-alike : (fill : Bool) (trees : Trees X) (answers : Trees (Option Bool))
+        → AlikeEach R trees answers → AlikeEach S trees (filled_each fill answers)
+    filled_each-alike fill _ _ AlikeEach.none = AlikeEach.none
+    filled_each-alike fill _ _ (AlikeEach.more x y xs ys first rest) = AlikeEach.more _ _ _ _
+        (filled-alike fill x y first) (filled_each-alike fill xs ys rest)
+
+AllZip-same : {A : Type 0} (xs : List A) → AllZip ◌≡◌ xs xs
+AllZip-same [] = tt
+AllZip-same (x ∷ xs) = (refl, AllZip-same xs)
+
+-- known answers stay
+agrees_filled : (fill : Bool) (x answer : Option Bool) → x ≡ answer → Agrees x (side fill answer)
+agrees_filled fill x answer same = grind arith
 
 -- Both directions.
 
@@ -183,13 +178,15 @@ module _ {X : Type 0} (tree : Tree X) (answers : List (Option Bool))
       ≡ side fill (fold three_valued tree answers)
   polar_value fill =
       ap (value_of two_valued) (answered-asked two_valued.top tree (filled fill given)
-      (filled-shape fill tree given (answered-shape three_valued.top tree answers)))
+      (filled-alike _ _ (λ filling x answer any. tt) fill tree given
+      (answered-shape three_valued.top tree answers)))
       ∙ value-filled fill given
 
   polar_filling : (fill : Bool) → IsFilling answers (polar tree answers fill)
   polar_filling fill =
       rw (asked-answered three_valued.top tree answers all)
-      at (asked-alike Agrees given (filled fill given) (filled-agrees fill given))
+      at (asked-alike Agrees given (filled fill given) (filled-alike ◌≡◌ Agrees agrees_filled fill
+      given given (answered-alike ◌≡◌ _ _ refl tree answers answers (AllZip-same answers))))
 
   pub IsExact-fold : IsExact tree answers
   IsExact-fold = record {

@@ -81,11 +81,6 @@ module _ {M : Type 0} where
       → Rest AnyCommas stack roots members tokens
   Rest-any a0 stack roots members tokens a5 = grind arith
 
-  -- a member that has been counted
-  Ends-more : (stack : List (Open M)) (roots n m : ℕ) (tokens : List Token) → m ≡ suc n
-      → Ends (over_top one_more stack) (root_more stack roots) n tokens → Ends stack roots m tokens
-  Ends-more stack roots n m tokens is ends = grind arith
-
   pub Rest-more : (May : ℕ → Trees Question → Type 0) (stack : List (Open M)) (roots : ℕ)
       (tokens : List Token) → Rest May (over_top one_more stack) (root_more stack roots) 0 tokens
       → Rest May stack roots 1 tokens
