@@ -121,13 +121,15 @@ mutual
   value-filled fill (Tree.literal true) = refl
   value-filled fill (Tree.literal false) = refl
   value-filled fill (Tree.all trees) =
-      rw (values-filled is_function is_function (λ filling tree. grind arith) fill trees,
-      values-filled is_leaf is_leaf (λ filling tree. grind arith) fill trees, ← map-append)
+      let inner = values-filled is_function is_function (λ filling tree. grind arith) fill trees in
+      let own = values-filled is_leaf is_leaf (λ filling tree. grind arith) fill trees in
+      rw (inner, own, ← map-append)
       (from_last-sides ◌&&◌ kleene_and true fill (λ x y. grind arith)
       (values_by three_valued is_function trees ++ values_by three_valued is_leaf trees))
   value-filled fill (Tree.any trees) =
-      rw (values-filled is_function is_function (λ filling tree. grind arith) fill trees,
-      values-filled is_leaf is_leaf (λ filling tree. grind arith) fill trees, ← map-append)
+      let inner = values-filled is_function is_function (λ filling tree. grind arith) fill trees in
+      let own = values-filled is_leaf is_leaf (λ filling tree. grind arith) fill trees in
+      rw (inner, own, ← map-append)
       (from_last-sides ◌||◌ kleene_or false fill (λ x y. grind arith)
       (values_by three_valued is_function trees ++ values_by three_valued is_leaf trees))
   value-filled fill (Tree.not tree) = rw (value-filled (not fill) tree) (grind arith)
@@ -138,8 +140,8 @@ mutual
       (filled_each fill trees) ≡ sides fill (values_by three_valued f trees)
   values-filled f g same fill Trees.none = refl
   values-filled f g same fill (Trees.more tree trees) =
-      rw (same fill tree, value-filled fill tree,
-      values-filled f g same fill trees) (grind arith)
+      let rest = values-filled f g same fill trees in
+      rw (same fill tree, value-filled fill tree, rest) (grind arith)
 
 -- A filling is like the answers in what it keeps of each.
 module _ {X : Type 0} (R : X → Option Bool → Type 0) (S : X → Bool → Type 0)

@@ -53,9 +53,6 @@ one_tree tokens (Trees.more tree Trees.none) one (member, n, rest, are, some, sp
     (tree, (member, n, rw (are, end, append-nil (commas n)) refl, spelled))
 one_tree tokens (Trees.more tree (Trees.more second trees)) one list = absurd (omega arith)
 
-separated : (n : ℕ) (trees : Trees Question) → Separates (suc n) trees
-separated n trees = grind arith
-
 module _ {M : Type 0} where
   -- The tokens close the open functions, the innermost of which has so many more members: behind
   -- each `)` come commas and the members that are left of the list around it. At the root stands
@@ -98,7 +95,7 @@ module _ {M : Type 0} where
       → Rest AnyCommas stack roots members tokens
       → Rest Separates stack roots members (Token.comma ∷ tokens)
   Rest-comma stack roots members tokens (n, others, trees, after, are, any, list, ends) =
-      (suc n, others, trees, after, ap (λ l. Token.comma ∷ l) are, separated n trees, list, ends)
+      (suc n, others, trees, after, ap (λ l. Token.comma ∷ l) are, (grind arith), list, ends)
 
   pub Rest-member : (stack : List (Open M)) (roots : ℕ) (member tokens : List Token)
       (tree : Tree Question) → IsMember member tree → Rest Separates stack roots 1 tokens
@@ -285,10 +282,8 @@ module _ {W M L : Type 0} {builder : Builder W M L} where
       → closed_by s item stack ≡ Ok u → Closes s u
   Closes-stack s u item [] is does = absurd (cc)
   Closes-stack s u item (top ∷ rest) is does =
-      let (room, closes) = allowed (has_room top.function (member_count top s.pending))
-      (result_map (λ t. function_ended t.stack t) (predicate_ended s)) _ u does in
-      let (settled, ends, closed) = mapped (λ t. function_ended t.stack t) (predicate_ended s) u
-      closes in
+      let (room, closes) = allowed _ _ _ u does in
+      let (settled, ends, closed) = mapped _ (predicate_ended s) u closes in
       (top, rest, settled, is, room, ends, closed)
 
   -- `)` stands in front of what completes the function around
@@ -309,10 +304,8 @@ module _ {W M L : Type 0} {builder : Builder W M L} where
 
   pub Steps-step : (s t : State builder) (item : Item) → step s item ≡ Ok t → Steps s t item
   Steps-step s t item steps =
-      let (may, taken) = allowed (takes s.last (kind_of item.token))
-      (result_map (with_last item.token) (apply s item item.token)) _ t steps in
-      let (applied, does, after) = mapped (with_last item.token) (apply s item item.token) t taken
-      in
+      let (may, taken) = allowed _ _ _ t steps in
+      let (applied, does, after) = mapped _ (apply s item item.token) t taken in
       record { may = may; applied = applied; does = does; after = after }
 
   -- a function's name in front of its members
@@ -383,7 +376,7 @@ module _ {W M L : Type 0} {builder : Builder W M L} where
       → lacks_value s.last ≡ false → concluded_by len s stack ≡ Ok u → Concludes s
   Concludes-stack len s u (top ∷ rest) is whole e = absurd (cc)
   Concludes-stack len s u [] is whole e =
-      let (settled, ends, rooted) = ran (predicate_ended s) (one_root len) u e in
+      let (settled, ends, rooted) = ran _ (one_root len) u e in
       let (some, found) = not_refused (settled.roots == 0) _ _ u rooted in
       let (one, done) = allowed (settled.roots == 1) _ _ u found in
       (settled, is, ends, whole, (Decides-eqb settled.roots 1).0 one)

@@ -188,12 +188,10 @@ spelt_word : (word : List ℕ) (value : Option (List ℕ)) (question : Question)
     → IsWord word × (nat_lt 3 (length word) ≡ true) × (class word value ≡ predicate question)
     × (spelling question ≡ text_of word value) → IsSpelt question
 spelt_word word value question quoted (is, long, says, spelled) =
-    let is_key = long_key word is (ltb-true 3 (length word) long) in record {
-      regular = record {
-        key = word; value = value; is_key = is_key; can_be_quoted = quoted; says = says;
-      };
-      spelled = spelled;
-    }
+    let is_key = long_key word is (ltb-true 3 (length word) long) in
+    let regular : IsRegular question =
+    record { key = word; value = value; is_key = is_key; can_be_quoted = quoted; says = says } in
+    record { regular = regular; spelled = spelled }
 
 spelt_family : (name : List ℕ) → HasNoQuote name
     → IsSpelt (Question.target (TargetQuestion.family name))
@@ -344,11 +342,11 @@ space_blank = (32 ∷ [], refl, (refl, tt))
 items_alone : (key : List ℕ) (value : Option (List ℕ)) → IsKey key → CanBeQuoted value
     → AreItems (text_of key value) (items_of key value) Ending.blank
     × (tokens_of (items_of key value) ≡ leaf_tokens key value)
-items_alone key None is_key quoted = ((
-  stands_between key [] [] key [] (Token.key key) 0 0 (length key) (sym (append-nil key)) refl refl
-      (omega arith) (NoCharPasses-nil _) (refl, is_key) refl,
-  subst IsBlank (sym (drop_of_length-le key (omega arith))) (NoCharPasses-nil _),
-), refl)
+items_alone key None is_key quoted =
+    let stands = stands_between key [] [] key [] (Token.key key) 0 0 (length key)
+    (sym (append-nil key)) refl refl (omega arith) (NoCharPasses-nil _) (refl, is_key) refl in
+    let past = subst IsBlank (sym (drop_of_length-le key (omega arith))) (NoCharPasses-nil _) in
+    ((stands, past), refl)
 items_alone key (Some value) is_key quoted =
     let n = length key in
     let text = key_and_value key value in
@@ -363,8 +361,8 @@ items_alone key (Some value) is_key quoted =
     (omega (arith, front)) (omega (arith, front)) refl space_blank (refl, quoted) refl in
     let long : length text ≤ n + 3 + length quotes =
     omega (arith, length-append key (codes " = " ++ quotes)) in
-    ((key_stands, (equals_stands, (value_stands, subst IsBlank
-    (sym (drop_of_length-le text long)) (NoCharPasses-nil _)))), refl)
+    let past = subst IsBlank (sym (drop_of_length-le text long)) (NoCharPasses-nil _) in
+    ((key_stands, (equals_stands, (value_stands, past))), refl)
 
 -- Its one tree: the spelling of a predicate that can stand in a text is a text of it alone.
 pub spelling_alone : (question : Question) → IsRegular question

@@ -314,8 +314,9 @@ module _ {W M L : Type 0} {builder : Builder W M L} (front : List Item) (s : Sta
         (refl, matched token _ 1 refl refl refl refl levels)
     token_step (Token.value text) may = let value = word_of text (start + 1) (end - 1) in
         let a = says Kind.value (reverse front) may in
-        (refl, stays (Token.value text) _ (going s.pending) refl refl refl refl
-        (ap (option_map (with_value value)) (m.pending ∙ a.0)) (grind arith) (levels_of false a.1))
+        let pending = ap (option_map (with_value value)) (m.pending ∙ a.0) in
+        let left = stays (Token.value text) _ (going s.pending) refl refl refl refl pending
+        (grind arith) (levels_of false a.1) in (refl, left)
     token_step Token.equals may = let a = says Kind.equals (reverse front) may in
         (refl, stays Token.equals _ _ refl refl refl refl (m.pending ∙ a.0) refl (levels_of false a.1))
     token_step Token.all may = name_step Function.all may refl refl refl refl
@@ -374,8 +375,8 @@ first_is [] all front is = let same : all ≡ front = is ∙ append-nil front in
 first_is (item ∷ items) all front is =
     let here : fault_at all (length front) ≡ fault_behind front item =
     rw (is, take-append_seam, slice_get_next) refl in
-    rw (first_is items all (front ++ item ∷ []) (is ∙ sym (append_assoc front (item ∷ []) items)),
-    length_more front item, here) (grind arith)
+    let rest = first_is items all _ (is ∙ sym (append_assoc front (item ∷ []) items)) in
+    rw (rest, length_more front item, here) (grind arith)
 
 scan : {W M L : Type 0} {builder : Builder W M L} (items front : List Item) (s : State builder)
     → Matches front s
