@@ -2,7 +2,7 @@
 use Rattle.std.proofs.lemmas.Bool.Decides.{nat_tests}
 use Rattle.std.proofs.lemmas.Grind.{common_steps}
 use Rattle.std.proofs.Common.{◌≡◌, ◌≤◌, List, [], ◌∷◌, ◌++◌, length, take, refl, sym, ap, ◌∙◌}
-use Rattle.std.proofs.Common.{arith, length-append, take-add, append-nil, take_all}
+use Rattle.std.proofs.Common.{arith, length-append, length-drop, take-add, append-nil, take_all}
 use Rattle.cfgx_grammar.specs.Tree.{Tree, Trees, is_function, is_leaf, asked, asked_by}
 use Rattle.cfgx_grammar.specs.Fold.{behind, answered, answered_each}
 use Rattle.cfgx_grammar.proofs.Alike.{Alike, AlikeEach, SameShape, SameShapes, length-asked}
@@ -73,15 +73,6 @@ taken_both : {X T : Type 0} (first second : List X) (answers these those : List 
 taken_both first second answers these those these_are those_are =
     rw (these_are, those_are, length-append first second, take-add (length first)) refl
 
--- enough is left for the second part
-enough_behind : {X T : Type 0} (first second : List X) (answers : List T)
-    → length (first ++ second) ≤ length answers → length second ≤ length (behind first answers)
-enough_behind first second answers enough = grind (arith, nat_tests, common_steps)
-
-enough_first : {X T : Type 0} (first second : List X) (answers : List T)
-    → length (first ++ second) ≤ length answers → length first ≤ length answers
-enough_first first second answers enough = omega (arith, length-append first second)
-
 module _ {X T : Type 0} (otherwise : T) where
   -- what the members of a list ask that are functions, and those that are leaves
   abbrev Takes : Trees X → List T → List T → Type 0
@@ -101,8 +92,10 @@ module _ {X T : Type 0} (otherwise : T) where
   list_taken trees answers takes enough =
       let inner = asked_by is_function trees in
       let own = asked_by is_leaf trees in
-      let taken = takes answers (behind inner answers) (enough_first inner own answers enough)
-      (enough_behind inner own answers enough) in
+      let many = length-append inner own in
+      let left = length-drop (length inner) answers in
+      let taken = takes answers (behind inner answers) (omega (arith, many))
+      (omega (arith, many, left)) in
       taken_both inner own answers _ _ taken.0 taken.1
 
   mutual
@@ -125,9 +118,11 @@ module _ {X T : Type 0} (otherwise : T) where
         (others.0, ap (λ l. answer ∷ l) others.1)
     asked_each-taken (Trees.more tree trees) inner own enough some =
         let rest = asked_by is_function trees in
+        let many = length-append (asked tree) rest in
+        let left = length-drop (length (asked tree)) inner in
         let others = asked_each-taken trees (behind (asked tree) inner) own
-        (enough_behind (asked tree) rest inner enough) some in
-        let first = asked-taken tree inner (enough_first (asked tree) rest inner enough) in
+        (omega (arith, many, left)) some in
+        let first = asked-taken tree inner (omega (arith, many)) in
         (taken_both (asked tree) rest inner _ _ first others.0, others.1)
 
   pub asked-answered : (tree : Tree X) (answers : List T)

@@ -300,28 +300,26 @@ slice_middle : (front middle rest : List ℕ)
     → slice_range (front ++ (middle ++ rest)) (length front) (length front + length middle) ≡ middle
 slice_middle front middle rest = grind (arith, nat_tests, common_steps)
 
-module _ (text before gap bytes rest : List ℕ) (token : Token) (from start end : ℕ)
-    (is : text ≡ before ++ (gap ++ (bytes ++ rest))) (begins : from ≡ length before)
-    (starts : start ≡ length before + length gap) (ends : end ≡ start + length bytes) where
-  later : text ≡ (before ++ gap) ++ (bytes ++ rest)
-  later = is ∙ sym (append_assoc before gap (bytes ++ rest))
-
-  front_long : length (before ++ gap) ≡ start
-  front_long = length-append before gap ∙ sym starts
-
-  stands_between : IsBlank gap → Spells bytes token → IsWhole token rest
-      → Stands text from (record { token = token; start = start; end = end })
-  stands_between blank spelled whole = record {
-    behind = omega (arith, begins, starts);
-    gap = rw (is, begins, starts, slice_middle before gap (bytes ++ rest)) blank;
-    spelled = rw (later, ends, ← front_long, slice_middle (before ++ gap) bytes rest) spelled;
-    ordered = omega (arith, ends);
-    inside = omega (arith, ap length later, length-append {A = ℕ}, front_long, ends);
+stands_between : (text before gap bytes rest : List ℕ) (token : Token) (from start end : ℕ)
+    → text ≡ before ++ (gap ++ (bytes ++ rest)) → from ≡ length before
+    → start ≡ length before + length gap → end ≡ start + length bytes → IsBlank gap
+    → Spells bytes token → IsWhole token rest
+    → Stands text from (record { token = token; start = start; end = end })
+stands_between text before gap bytes rest token from start end is begins starts ends blank spelled
     whole =
-        let long : length ((before ++ gap) ++ bytes) ≡ end =
-        omega (arith, length-append {A = ℕ}, front_long, ends) in
-        rw (later, ← append_assoc (before ++ gap) bytes rest, drop_at _ rest end long) whole;
-  }
+    let later : text ≡ (before ++ gap) ++ (bytes ++ rest) =
+    is ∙ sym (append_assoc before gap (bytes ++ rest)) in
+    let front : length (before ++ gap) ≡ start = length-append before gap ∙ sym starts in
+    let long : length ((before ++ gap) ++ bytes) ≡ end =
+    omega (arith, length-append (before ++ gap) bytes) in
+    record {
+      behind = omega arith;
+      gap = rw (is, begins, starts, slice_middle before gap (bytes ++ rest)) blank;
+      spelled = rw (later, ends, ← front, slice_middle (before ++ gap) bytes rest) spelled;
+      ordered = omega arith;
+      inside = omega (arith, ap length later, length-append {A = ℕ});
+      whole = rw (later, ← append_assoc (before ++ gap) bytes rest, drop_at _ rest end long) whole;
+    }
 
 -- The items of the text.
 
