@@ -106,13 +106,13 @@ unknown_sides x one other = grind arith
 abbrev sides : Bool → List (Option Bool) → List Bool
 sides fill values = map (side fill) values
 
-module _ (join : Bool → Bool → Bool) (joined : Option Bool → Option Bool → Option Bool)
-    (begin : Bool) (fill : Bool) (each : (x y : Option Bool)
-    → join (side fill x) (side fill y) ≡ side fill (joined x y)) where
-  from_last-sides : (values : List (Option Bool)) → from_last join begin (sides fill values)
-      ≡ side fill (from_last joined (Some begin) values)
-  from_last-sides [] = refl
-  from_last-sides (value ∷ values) = rw (from_last-sides values) (each _ value)
+from_last-sides : (join : Bool → Bool → Bool) (joined : Option Bool → Option Bool → Option Bool)
+    (begin fill : Bool) (values : List (Option Bool))
+    → ((x y : Option Bool) → join (side fill x) (side fill y) ≡ side fill (joined x y))
+    → from_last join begin (sides fill values) ≡ side fill (from_last joined (Some begin) values)
+from_last-sides join joined begin fill [] each = refl
+from_last-sides join joined begin fill (value ∷ values) each =
+    rw (from_last-sides join joined begin fill values each) (each _ value)
 
 mutual
   value-filled : (fill : Bool) (tree : Tree (Option Bool))
@@ -124,14 +124,16 @@ mutual
       let inner = values-filled is_function is_function (λ filling tree. grind arith) fill trees in
       let own = values-filled is_leaf is_leaf (λ filling tree. grind arith) fill trees in
       rw (inner, own, ← map-append)
-      (from_last-sides ◌&&◌ kleene_and true fill (λ x y. grind arith)
-      (values_by three_valued is_function trees ++ values_by three_valued is_leaf trees))
+      (from_last-sides ◌&&◌ kleene_and true fill
+      (values_by three_valued is_function trees ++ values_by three_valued is_leaf trees)
+      (λ x y. grind arith))
   value-filled fill (Tree.any trees) =
       let inner = values-filled is_function is_function (λ filling tree. grind arith) fill trees in
       let own = values-filled is_leaf is_leaf (λ filling tree. grind arith) fill trees in
       rw (inner, own, ← map-append)
-      (from_last-sides ◌||◌ kleene_or false fill (λ x y. grind arith)
-      (values_by three_valued is_function trees ++ values_by three_valued is_leaf trees))
+      (from_last-sides ◌||◌ kleene_or false fill
+      (values_by three_valued is_function trees ++ values_by three_valued is_leaf trees)
+      (λ x y. grind arith))
   value-filled fill (Tree.not tree) = rw (value-filled (not fill) tree) (grind arith)
 
   values-filled : (f : Tree (Option Bool) → Bool) (g : Tree Bool → Bool)

@@ -328,14 +328,10 @@ module _ {W M L : Type 0} {builder : Builder W M L} (laws : Laws builder) where
     ListEnds-list : (trees : Trees Question) (s : State builder) (items : List Item)
         → takes s.last Kind.name ≡ true → takes s.last Kind.closing ≡ true → s.pending ≡ None
         → IsList (tokens_of items) trees → ListEnds s items trees
-    ListEnds-list Trees.none s items named closing none list = rw (no_items items list) (record {
-      after = s;
-      written = s.written;
-      runs = refl;
-      closes = closing;
-      ends = ap (ended_by s) none ∙ (λ i. Ok (record s { pending = none i }));
-      builds = laws.none s.written;
-    })
+    ListEnds-list Trees.none s items named closing none list =
+        let ends = ap (ended_by s) none ∙ (λ i. Ok (record s { pending = none i })) in
+        let builds = laws.none s.written in rw (no_items items list)
+        (record { after = s; written = _; runs = refl; closes = closing; ends = ends; builds = builds })
     ListEnds-list (Trees.more tree trees) s items named closing none
         (front, n, others, are, some, spelled, list) =
         let (xs, rest, both, xs_are, rest_are) = split_items items front (commas n ++ others) are in

@@ -185,13 +185,6 @@ module _ {W M L : Type 0} {builder : Builder W M L} (front : List Item) (s : Sta
     open_fault_is len = rw (innermost_is, level.opened.stands)
         (grind (arith, level.opened.starts, level.opened.ends, level.parens))
 
-  -- the levels, by whether a name is the last token
-  levels_of : (b : Bool) → named ≡ b → Levels front s.roots b s.stack (going s.pending)
-  levels_of b is = rw is at m.levels
-
-  plain_levels : (b : Bool) → s.pending ≡ None → named ≡ b → Levels front s.roots b s.stack 0
-  plain_levels b none is = rw none at (levels_of b is)
-
   module _ (start end : ℕ) where
     abbrev at : Token → Item
     at token = record { token = token; start = start; end = end }
@@ -244,7 +237,7 @@ module _ {W M L : Type 0} {builder : Builder W M L} (front : List Item) (s : Sta
         let long = length_more front item in
         let deep : length s.stack < depth (more token) = omega (arith, balanced token _ rises) in
         let outer = Levels-member front item s.roots s.stack (omega (arith, deep))
-        (depth_is front s m) begins (plain_levels false pending a.1) in
+        (depth_is front s m) begins (rw (pending, a.1) at m.levels) in
         let here : IsLevel (more token) true (length s.stack) (new_open s function item)
         (going s.pending) = record {
           place = length front;
@@ -310,22 +303,22 @@ module _ {W M L : Type 0} {builder : Builder W M L} (front : List Item) (s : Sta
         let a = says Kind.name (reverse front) may in
         let levels = Levels-member front (at token) s.roots s.stack
         (omega (arith, balanced token (length s.stack) refl)) (depth_is front s m) refl
-        (plain_levels false (m.pending ∙ a.0) a.1) in
+        (rw (m.pending ∙ a.0, a.1) at m.levels) in
         (refl, matched token _ 1 refl refl refl refl levels)
     token_step (Token.value text) may = let value = word_of text (start + 1) (end - 1) in
         let a = says Kind.value (reverse front) may in
         let pending = ap (option_map (with_value value)) (m.pending ∙ a.0) in
         let left = stays (Token.value text) _ (going s.pending) refl refl refl refl pending
-        (grind arith) (levels_of false a.1) in (refl, left)
+        (grind arith) (rw a.1 at m.levels) in (refl, left)
     token_step Token.equals may = let a = says Kind.equals (reverse front) may in
-        (refl, stays Token.equals _ _ refl refl refl refl (m.pending ∙ a.0) refl (levels_of false a.1))
+        (refl, stays Token.equals _ _ refl refl refl refl (m.pending ∙ a.0) refl (rw a.1 at m.levels))
     token_step Token.all may = name_step Function.all may refl refl refl refl
     token_step Token.any may = name_step Function.any may refl refl refl refl
     token_step Token.not may = name_step Function.not may refl refl refl refl
     token_step Token.open_paren may = let token = Token.open_paren in
         let a = says Kind.opening (reverse front) may in
         let levels = Levels-open front (at token) s.roots (going s.pending) s.stack
-        (omega (arith, balanced token (length s.stack) refl)) refl (levels_of true a.1) in
+        (omega (arith, balanced token (length s.stack) refl)) refl (rw a.1 at m.levels) in
         let rises = ap (λ n. n + 0) (height_kept (with_parens start) s.stack) in
         (refl, matched token _ _ refl (m.pending ∙ a.0) refl rises levels)
     token_step Token.close_paren may = close_step s.stack refl (ended_here (inl may))
