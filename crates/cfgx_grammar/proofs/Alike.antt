@@ -123,25 +123,21 @@ module _ {T U : Type 0} (R : T → U → Type 0) (one : T) (other : U) (related 
         (answered_each-alike trees _ others _ further
         (AllZip-drop R (length (asked tree)) xs ys inner) own)
 
-mutual
-  -- a tree keeps its shape when it is answered
-  pub answered-shape : {X T : Type 0} (otherwise : T) (tree : Tree X) (answers : List T)
-      → SameShape tree (answered otherwise tree answers)
-  answered-shape otherwise (Tree.leaf x) answers = Alike.leaf _ _ tt
-  answered-shape otherwise (Tree.literal truth) answers = Alike.literal truth
-  answered-shape otherwise (Tree.all trees) answers =
-      Alike.all _ _ (answered_each-shape otherwise trees _ _)
-  answered-shape otherwise (Tree.any trees) answers =
-      Alike.any _ _ (answered_each-shape otherwise trees _ _)
-  answered-shape otherwise (Tree.not tree) answers =
-      Alike.not _ _ (answered-shape otherwise tree answers)
+module _ {X T : Type 0} (otherwise : T) where
+  mutual
+    -- a tree keeps its shape when it is answered
+    pub answered-shape : (tree : Tree X) (answers : List T)
+        → SameShape tree (answered otherwise tree answers)
+    answered-shape (Tree.leaf x) answers = Alike.leaf _ _ tt
+    answered-shape (Tree.literal truth) answers = Alike.literal truth
+    answered-shape (Tree.all trees) answers = Alike.all _ _ (answered_each-shape trees _ _)
+    answered-shape (Tree.any trees) answers = Alike.any _ _ (answered_each-shape trees _ _)
+    answered-shape (Tree.not tree) answers = Alike.not _ _ (answered-shape tree answers)
 
-  answered_each-shape : {X T : Type 0} (otherwise : T) (trees : Trees X) (inner own : List T)
-      → SameShapes trees (answered_each otherwise trees inner own)
-  answered_each-shape otherwise Trees.none inner own = AlikeEach.none
-  answered_each-shape otherwise (Trees.more (Tree.leaf x) trees) inner own =
-      AlikeEach.more _ _ _ _ (answered-shape otherwise (Tree.leaf x) own)
-      (answered_each-shape otherwise trees _ _)
-  answered_each-shape otherwise (Trees.more tree trees) inner own =
-      AlikeEach.more _ _ _ _ (answered-shape otherwise tree inner)
-      (answered_each-shape otherwise trees _ _)
+    answered_each-shape : (trees : Trees X) (inner own : List T)
+        → SameShapes trees (answered_each otherwise trees inner own)
+    answered_each-shape Trees.none inner own = AlikeEach.none
+    answered_each-shape (Trees.more (Tree.leaf x) trees) inner own = AlikeEach.more _ _ _ _
+        (answered-shape (Tree.leaf x) own) (answered_each-shape trees _ _)
+    answered_each-shape (Trees.more tree trees) inner own =
+        AlikeEach.more _ _ _ _ (answered-shape tree inner) (answered_each-shape trees _ _)

@@ -82,26 +82,10 @@ agreement = record {
   not = λ x u p. grind (arith, common_steps);
 }
 
--- what is known holds under every filling
-pub known_filled : {X : Type 0} (tree : Tree X) (answers : List (Option Bool)) (filling : List Bool)
-    (value : Bool) → fold three_valued tree answers ≡ Some value → IsFilling answers filling
-    → fold two_valued tree filling ≡ value
-known_filled tree answers filling value is fills =
-    subst (λ v. Agrees v (fold two_valued tree filling)) is
-    (fold_kept three_valued two_valued Agrees agreement tree answers filling fills)
-
 -- A polar filling leads to the value, with its own side in the place of an unknown one.
 
 abbrev side : Bool → Option Bool → Bool
 side fill value = unwrap_or value fill
-
--- both sides tell whether a value is known
-known_sides : (x : Option Bool) (value : Bool) → side true x ≡ value → side false x ≡ value
-    → x ≡ Some value
-known_sides x value one other = grind arith
-
-unknown_sides : (x : Option Bool) → side true x ≡ true → side false x ≡ false → x ≡ None
-unknown_sides x one other = grind arith
 
 abbrev sides : Bool → List (Option Bool) → List Bool
 sides fill values = map (side fill) values
@@ -193,16 +177,19 @@ module _ {X : Type 0} (tree : Tree X) (answers : List (Option Bool))
       given given (answered-alike ◌≡◌ _ _ refl tree answers answers (AllZip-same answers))))
 
   pub IsExact-fold : IsExact tree answers
-  IsExact-fold = record {
-    known = λ value. (
-      λ is filling fills. known_filled tree answers filling value is fills,
-      λ every. known_sides (fold three_valued tree answers) value
-          (sym (polar_value true) ∙ every _ (polar_filling true))
-          (sym (polar_value false) ∙ every _ (polar_filling false)),
-    );
-    unknown = (
-      λ is. (polar_value true ∙ ap (side true) is, polar_value false ∙ ap (side false) is),
-      λ both. unknown_sides (fold three_valued tree answers) (sym (polar_value true) ∙ both.0)
-          (sym (polar_value false) ∙ both.1),
-    );
-  }
+  IsExact-fold =
+      let upper = polar_value true in
+      let lower = polar_value false in
+      record {
+        -- what is known holds under every filling, and both polar ones tell it
+        known = λ value. (
+          λ is filling fills. rw is at (fold_kept three_valued two_valued Agrees agreement tree
+              answers filling fills),
+          λ every. grind (arith, upper, lower, every _ (polar_filling true),
+              every _ (polar_filling false)),
+        );
+        unknown = (
+          λ is. (upper ∙ ap (side true) is, lower ∙ ap (side false) is),
+          λ both. grind (arith, upper, lower, both.0, both.1),
+        );
+      }

@@ -341,10 +341,8 @@ module _ {W M L : Type 0} {builder : Builder W M L} where
     Completes-applied (Some Token.equals) (Token.value text) may does completes =
         λ key is. subst (After (Token.value text)) (sym (ok_same _ u does)) completes key
         (word_of text (start + 1) (end - 1)) (ap (option_map (with_value _)) is)
-    Completes-applied _ (Token.value text) may does completes = absurd (false≢true may)
     Completes-applied (Some (Token.key _)) Token.equals may does completes =
         subst (After Token.equals) (sym (ok_same s u does)) completes
-    Completes-applied _ Token.equals may does completes = absurd (false≢true may)
     Completes-applied last Token.all may does completes =
         Completes-member last s _ may (Rest-name Function.all s u (at Token.all) _ does completes)
     Completes-applied last Token.any may does completes =
@@ -357,7 +355,6 @@ module _ {W M L : Type 0} {builder : Builder W M L} where
         Completes-open does completes
     Completes-applied (Some Token.not) Token.open_paren may does completes =
         Completes-open does completes
-    Completes-applied _ Token.open_paren may does completes = absurd (false≢true may)
     Completes-applied last Token.close_paren may does completes =
         let (top, rest, settled, is, room, ends, closed) = Closes-stack s u (at Token.close_paren)
         s.stack refl does in
@@ -366,6 +363,7 @@ module _ {W M L : Type 0} {builder : Builder W M L} where
     Completes-applied last Token.comma may does completes =
         Completes-ended last s u _ may does (Rest-comma u.stack u.roots 0 tokens
         (completes (ended_none s u s.pending refl does)))
+    Completes-applied _ _ may does completes = absurd (false≢true may)
 
   -- the end of the text finds one member at the root, where no function is open
   abbrev Concludes : State builder → Type 0
