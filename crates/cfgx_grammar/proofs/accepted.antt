@@ -287,13 +287,10 @@ module _ {W M L : Type 0} {builder : Builder W M L} where
       (top, rest, settled, is, room, ends, closed)
 
   -- `)` stands in front of what completes the function around
-  Ends-close : (s u settled : State builder) (top : Open M) (rest : List (Open M))
-      (tokens : List Token) → s.stack ≡ top ∷ rest
-      → has_room top.function (member_count top s.pending) ≡ true → predicate_ended s ≡ Ok settled
-      → function_ended settled.stack settled ≡ u
+  Ends-close : (s u : State builder) (tokens : List Token) (c : Closes s u)
       → Completes (Some Token.close_paren) (with_last Token.close_paren u) tokens
-      → Ends settled.stack settled.roots 0 (Token.close_paren ∷ tokens)
-  Ends-close s u settled top rest tokens is room ends closed completes = grind arith
+      → Ends c.2.stack c.2.roots 0 (Token.close_paren ∷ tokens)
+  Ends-close s u tokens (top, rest, settled, is, room, ends, closed) completes = grind arith
 
   -- what a step that succeeds has done
   pub record Steps (s t : State builder) (item : Item) : Type 0 where
@@ -356,10 +353,8 @@ module _ {W M L : Type 0} {builder : Builder W M L} where
     Completes-applied (Some Token.not) Token.open_paren may does completes =
         Completes-open does completes
     Completes-applied last Token.close_paren may does completes =
-        let (top, rest, settled, is, room, ends, closed) = Closes-stack s u (at Token.close_paren)
-        s.stack refl does in
-        Completes-none last s settled _ (inl may) ends
-        (Ends-close s u settled top rest tokens is room ends closed completes)
+        let c = Closes-stack s u (at Token.close_paren) s.stack refl does in
+        Completes-none last s c.2 _ (inl may) c.5 (Ends-close s u tokens c completes)
     Completes-applied last Token.comma may does completes =
         Completes-ended last s u _ may does (Rest-comma u.stack u.roots 0 tokens
         (completes (ended_none s u s.pending refl does)))

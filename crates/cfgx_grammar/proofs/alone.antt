@@ -151,8 +151,7 @@ no_quote_digit byte small = grind arith
 no_quote_digits : (digits : List ℕ) → AllDigits 10 digits → HasNoQuote digits
 no_quote_digits [] all = refl
 no_quote_digits (byte ∷ bytes) all =
-    ap (λ b. b || list_any is_quote bytes) (no_quote_digit byte all.0)
-    ∙ no_quote_digits bytes all.1
+    rw (no_quote_digit byte all.0) (no_quote_digits bytes all.1)
 
 no_quote_decimal : (n : ℕ) → n < 2 ^ 64 → HasNoQuote (decimal n)
 no_quote_decimal n small = no_quote_digits (decimal n) (decimal_is_IsNumeral n small).0.1
@@ -162,16 +161,11 @@ read_small : (limit n : ℕ) (text : List ℕ) → read_below limit text ≡ Som
 unfolding read_below
 read_small limit n text is = grind (arith, nat_tests)
 
-width_small : (text : List ℕ) (bits : ℕ) (read : Option ℕ)
-    → option_or (option_map IntegerSize read) (pointer_named text) ≡ Some (IntegerSize bits)
-    → read ≡ Some bits
-width_small text bits read is = grind arith
-
 named_small : (text : List ℕ) (atomic : HasAtomic) → atomic_named text ≡ Some atomic
     → IsWidth atomic
 unfolding atomic_named
 named_small text (IntegerSize bits) is =
-    read_small (2 ^ 16) bits text (width_small text bits (read_below (2 ^ 16) text) is)
+    read_small (2 ^ 16) bits text (grind arith)
 named_small text Pointer is = tt
 
 no_quote_atomic : (atomic : HasAtomic) → IsWidth atomic → HasNoQuote (atomic_text atomic)
