@@ -1,7 +1,7 @@
 -- Answers that are dealt out to a tree are what the answered tree asks.
 use Rattle.std.proofs.lemmas.Bool.Decides.{nat_tests}
 use Rattle.std.proofs.lemmas.Grind.{common_steps}
-use Rattle.std.proofs.Common.{◌≡◌, ◌≤◌, List, [], ◌∷◌, ◌++◌, length, take, refl, sym, ap, ◌∙◌}
+use Rattle.std.proofs.Common.{append_assoc, drop_at, ◌≡◌, ◌≤◌, List, [], ◌∷◌, ◌++◌, length, take, refl, sym, ap, ◌∙◌}
 use Rattle.std.proofs.Common.{arith, length-append, length-drop, take-add, append-nil, take_all}
 use Rattle.cfgx_grammar.specs.Tree.{Tree, Trees, is_function, is_leaf, asked, asked_by}
 use Rattle.cfgx_grammar.specs.Fold.{behind, answered, answered_each}
@@ -12,17 +12,6 @@ use Rattle.cfgx_grammar.proofs.Alike.{length-asked_by}
 module _ {X T : Type 0} (otherwise : T) where
   abbrev Any : X → T → Type 0
   Any x y = Unit {0}
-
-  -- the first of some members is a function
-  module _ (tree : Tree X) (answer : Tree T) (trees : Trees X) (answers : Trees T)
-      (inner rest : List T) where
-    function_first : length (asked answer) ≡ length (asked tree)
-        → ((more : List T) → answered otherwise tree (asked answer ++ more) ≡ answer)
-        → (own : List T) → answered_each otherwise trees (inner ++ rest) own ≡ answers
-        → Trees.more (answered otherwise tree ((asked answer ++ inner) ++ rest))
-        (answered_each otherwise trees (behind (asked tree) ((asked answer ++ inner) ++ rest)) own)
-        ≡ Trees.more answer answers
-    function_first many here own others = grind (arith, nat_tests, common_steps)
 
   -- the members of a list, whatever comes behind
   abbrev Remade : Trees X → Trees T → Type 0
@@ -54,9 +43,12 @@ module _ {X T : Type 0} (otherwise : T) where
     answered_each-front _ _ AlikeEach.none inner own = refl
     answered_each-front _ _ (AlikeEach.more _ _ xs ys (Alike.leaf x y related) rest) inner own =
         ap (Trees.more (Tree.leaf y)) (answered_each-front xs ys rest inner own)
+    answered_each-front _ _ (AlikeEach.more _ _ xs ys (Alike.literal truth) rest) inner own =
+        ap (Trees.more (Tree.literal truth)) (answered_each-front xs ys rest inner own)
     answered_each-front _ _ (AlikeEach.more x y xs ys alike rest) inner own =
-        function_first x y xs ys _ inner (length-asked Any x y alike) (answered-front x y alike) _
-        (answered_each-front xs ys rest inner own)
+        let many = length-asked Any x y alike in
+        rw (append_assoc (asked y), answered-front x y alike _, drop_at (asked y) _ _ many)
+        (ap (Trees.more y) (answered_each-front xs ys rest inner own))
 
   pub answered-asked : (tree : Tree X) (answer : Tree T) → SameShape tree answer
       → answered otherwise tree (asked answer) ≡ answer

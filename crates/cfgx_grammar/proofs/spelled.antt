@@ -403,17 +403,6 @@ tree_built items built tree is = is
 
 -- A text whose tokens a tree spells is accepted.
 
-module _ {W M L : Type 0} {builder : Builder W M L} where
-  -- nothing was open where nothing is open once the predicate has ended
-  none_open : (s t : State builder) (stack : List (Open M)) → s.stack ≡ stack
-      → predicate_ended s ≡ Ok t → t.stack ≡ [] → s.stack ≡ []
-  none_open s t stack is ends none = grind arith
-
-  concludes_one : (len : ℕ) (s t : State builder) → lacks_value s.last ≡ false → s.stack ≡ []
-      → predicate_ended s ≡ Ok t → t.roots ≡ 1
-      → conclude len s ≡ Ok (record t { written = builder.root_ended t.written })
-  concludes_one len s t whole none ends one = grind arith
-
 module _ {W M L : Type 0} {builder : Builder W M L} (laws : Laws builder) where
   -- the tokens are taken, and the tree is built of the first of them: commas may follow
   pub record Finds (len : ℕ) (items : List Item) (tree : Tree Question) : Type 0 where
@@ -444,7 +433,6 @@ module _ {W M L : Type 0} {builder : Builder W M L} (laws : Laws builder) where
         written = i.written;
         builds = i.builds;
         whole = record settled { written = builder.root_ended i.written };
-        concludes = concludes_one len i.after settled i.is_end.2
-            (none_open i.after settled i.after.stack refl i.ends refl) i.ends refl;
+        concludes = grind (arith, i.is_end.2, i.ends);
         whole_is = refl;
       }
