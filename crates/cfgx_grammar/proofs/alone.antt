@@ -79,10 +79,6 @@ spelled_items text from (item ∷ items) ending come = (
 abbrev AreRegular : List Question → Type 0
 AreRegular questions = AllByRecursion IsRegular questions
 
-regular_leaf : (tokens : List Token) (question : Question) → AreSpelled tokens
-    → IsMember tokens (Tree.leaf question) → IsRegular question
-regular_leaf tokens question spelled a3 = grind arith
-
 -- one of two
 kept_if : {A : Type 0} (P : A → Type 0) (b : Bool) (x y : A) → P x → P y → P (if b then x else y)
 kept_if P true x y here there = here
@@ -101,8 +97,7 @@ regular_call name tokens trees spelled (inner, is, list) each =
 mutual
   regular_member : (tokens : List Token) (tree : Tree Question) → AreSpelled tokens
       → IsMember tokens tree → AreRegular (asked tree)
-  regular_member tokens (Tree.leaf question) spelled member =
-      (regular_leaf tokens question spelled member, tt)
+  regular_member tokens (Tree.leaf question) spelled member = (grind arith, tt)
   regular_member tokens (Tree.literal truth) spelled member = tt
   regular_member tokens (Tree.all trees) spelled call =
       regular_call Token.all tokens trees spelled call (λ test inner. regular_list test inner trees)
@@ -139,10 +134,6 @@ text_of key (Some value) = key_and_value key value
 pub record IsSpelt (question : Question) : Type 0 where
   pub regular : IsRegular question
   pub spelled : spelling question ≡ text_of regular.key regular.value
-
--- a word of more than three letters names no function
-long_key : (word : List ℕ) → IsWord word → 3 < length word → IsKey word
-long_key word is long = grind arith
 
 -- digits have no quote
 no_quote_digit : (byte : ℕ) → digit_value byte < 10 → is_quote byte ≡ false
@@ -182,7 +173,7 @@ spelt_word : (word : List ℕ) (value : Option (List ℕ)) (question : Question)
     → IsWord word × (nat_lt 3 (length word) ≡ true) × (class word value ≡ predicate question)
     × (spelling question ≡ text_of word value) → IsSpelt question
 spelt_word word value question quoted (is, long, says, spelled) =
-    let is_key = long_key word is (ltb-true 3 (length word) long) in
+    let is_key : IsKey word = grind (arith, nat_tests) in
     let regular : IsRegular question =
     record { key = word; value = value; is_key = is_key; can_be_quoted = quoted; says = says } in
     record { regular = regular; spelled = spelled }

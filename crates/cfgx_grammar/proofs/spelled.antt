@@ -117,13 +117,6 @@ module _ {W M L : Type 0} {builder : Builder W M L} where
       grown_top n s (one_more top) rest
       ∙ ap (λ m. record s { stack = record top { members = m } ∷ rest }) count
 
-  -- a `)` behind what has ended
-  closes_by : (after settled : State builder) (item : Item) (top : Open M)
-      (rest stack : List (Open M)) → after.stack ≡ stack → predicate_ended after ≡ Ok settled
-      → settled.stack ≡ top ∷ rest → has_room top.function top.members ≡ true
-      → closed_by after item stack ≡ Ok (function_ended (top ∷ rest) settled)
-  closes_by after settled item top rest stack is ends stack' room = grind arith
-
   -- the state in front of a function's members
   abbrev pub inside : State builder → Function → Item → Item → State builder
   inside s function head opening = record s {
@@ -287,8 +280,9 @@ module _ {W M L : Type 0} {builder : Builder W M L} (laws : Laws builder) where
         stack = top ∷ s.stack;
       } in
       let members : 0 + count trees ≡ count trees = omega arith in
-      let closed = closes_by l.after full z top s.stack l.after.stack refl
-      (l.ends ∙ ap Ok (grown_top (count trees) full _ s.stack)) refl (rw members room) in
+      let ends = l.ends ∙ ap Ok (grown_top (count trees) full _ s.stack) in
+      let closed : closed_by l.after z l.after.stack ≡ Ok (function_ended (top ∷ s.stack) full) =
+      grind (arith, ends, room) in
       rw (are, one) (record {
         after = with_last Token.close_paren (function_ended (top ∷ s.stack) full);
         written = builder.function_ended (builder.mark_of s.written) function (0 + count trees)

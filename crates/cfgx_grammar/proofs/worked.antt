@@ -343,29 +343,27 @@ is_a : IsKey (codes "a")
 is_a =
     record { spelled = (refl, refl); not_all = λ e. cc; not_any = λ e. cc; not_not = λ e. cc }
 
-is_flag_a : IsMember (key (codes "a") ∷ []) (flag (codes "a"))
-unfolding class
-is_flag_a = (codes "a", None, refl, refl)
-
-is_flag_b : IsMember (key (codes "b") ∷ []) (flag (codes "b"))
-unfolding class
-is_flag_b = (codes "b", None, refl, refl)
+is_flag : (word : List ℕ) → class word None ≡ predicate (Question.flag word)
+    → IsMember (key word ∷ []) (flag word)
+is_flag word says = (word, None, refl, says)
 
 -- Two commas may stand between members; none behind a `(`, and `not` has a member.
 pub is_listed : IsTree (tokens_of (lexed (codes "all(a,,b)"))) listed
+unfolding class
 is_listed =
     let last : IsList (key (codes "b") ∷ []) (one (flag (codes "b"))) =
-    (_ ∷ [], 0, [], refl, tt, is_flag_b, refl) in
+    (_ ∷ [], 0, [], refl, tt, is_flag (codes "b") refl, refl) in
     let each : IsList (key (codes "a") ∷ Token.comma ∷ Token.comma ∷ key (codes "b") ∷ [])
     (Trees.more (flag (codes "a")) (one (flag (codes "b")))) =
-    (_ ∷ [], 2, _ ∷ [], refl, omega arith, is_flag_a, last) in
+    (_ ∷ [], 2, _ ∷ [], refl, omega arith, is_flag (codes "a") refl, last) in
     (_, 0, refl, (_, refl, each))
 
 pub single_has : HasTree (codes "all(a)") single
+unfolding class
 single_has = record {
   items = lexed (codes "all(a)");
   are_items = search (rules, is_a, NoCharPasses-nil);
-  spelled = (_, 0, refl, (_ ∷ [], refl, (_ ∷ [], 0, [], refl, tt, is_flag_a, refl)));
+  spelled = (_, 0, refl, (_ ∷ [], refl, (_ ∷ [], 0, [], refl, tt, is_flag (codes "a") refl, refl)));
 }
 
 pub lone_comma_has_none : HasNoTree (codes "any(,)")
