@@ -96,14 +96,10 @@ module _ {T U : Type 0} (R : T → U → Type 0) where
 
 -- Answers that are alike, dealt out to one tree, make trees that are alike.
 module _ {T U : Type 0} (R : T → U → Type 0) (one : T) (other : U) (related : R one other) where
-  first-alike : (xs : List T) (ys : List U) → AllZip R xs ys
-      → R (first_or one xs) (first_or other ys)
-  first-alike xs ys zipped = grind arith
-
   mutual
     pub answered-alike : {X : Type 0} (tree : Tree X) (xs : List T) (ys : List U) → AllZip R xs ys
         → Alike R (answered one tree xs) (answered other tree ys)
-    answered-alike (Tree.leaf x) xs ys zipped = Alike.leaf _ _ (first-alike xs ys zipped)
+    answered-alike (Tree.leaf x) xs ys zipped = Alike.leaf _ _ (grind arith)
     answered-alike (Tree.literal truth) xs ys zipped = Alike.literal truth
     answered-alike (Tree.all trees) xs ys zipped = Alike.all _ _ (answered_each-alike trees _ _ _ _
         zipped (AllZip-drop R (length (asked_by is_function trees)) xs ys zipped))

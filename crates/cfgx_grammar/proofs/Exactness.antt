@@ -151,10 +151,6 @@ AllZip-same : {A : Type 0} (xs : List A) → AllZip ◌≡◌ xs xs
 AllZip-same [] = tt
 AllZip-same (x ∷ xs) = (refl, AllZip-same xs)
 
--- known answers stay
-agrees_filled : (fill : Bool) (x answer : Option Bool) → x ≡ answer → Agrees x (side fill answer)
-agrees_filled fill x answer same = grind arith
-
 -- Both directions.
 
 module _ {X : Type 0} (tree : Tree X) (answers : List (Option Bool))
@@ -172,9 +168,10 @@ module _ {X : Type 0} (tree : Tree X) (answers : List (Option Bool))
 
   polar_filling : (fill : Bool) → IsFilling answers (polar tree answers fill)
   polar_filling fill =
+      let same = answered-alike ◌≡◌ _ _ refl tree answers answers (AllZip-same answers) in
       rw (asked-answered three_valued.top tree answers all)
-      at (asked-alike Agrees given (filled fill given) (filled-alike ◌≡◌ Agrees agrees_filled fill
-      given given (answered-alike ◌≡◌ _ _ refl tree answers answers (AllZip-same answers))))
+      at (asked-alike Agrees given (filled fill given) (filled-alike ◌≡◌ Agrees
+      (λ filling x answer same. grind arith) fill given given same))
 
   pub IsExact-fold : IsExact tree answers
   IsExact-fold =

@@ -155,10 +155,6 @@ module _ {W M L : Type 0} {builder : Builder W M L} where
   pub same_ended : (s t : State builder) → s.pending ≡ None → predicate_ended s ≡ Ok t → s ≡ t
   same_ended s t none ends = ok_same s t (ap (ended_by s) (sym none) ∙ ends)
 
-  pub ended_none : (s t : State builder) (pending : Option Pending) → s.pending ≡ pending
-      → predicate_ended s ≡ Ok t → t.pending ≡ None
-  ended_none s t pending is ends = grind arith
-
   abbrev pub RestOf : (ℕ → Trees Question → Type 0) → State builder → ℕ → List Token → Type 0
   RestOf May s members tokens = Rest May s.stack s.roots members tokens
 
@@ -262,16 +258,7 @@ pub ran : {A B E : Type 0} (r : Result A E) (f : A → Result B E) (u : B) → a
     → (t : A) × (r ≡ Ok t) × (f t ≡ Ok u)
 ran r f u e = grind arith
 
--- what a predicate that ends makes of the innermost open function
-abbrev pub counted : {M : Type 0} → Option Pending → Open M → Open M
-counted pending top = record top { members = member_count top pending }
-
 module _ {W M L : Type 0} {builder : Builder W M L} where
-  pub stack_ended : (s t : State builder) (pending : Option Pending) (stack : List (Open M))
-      → s.pending ≡ pending → s.stack ≡ stack → predicate_ended s ≡ Ok t
-      → t.stack ≡ over_top (counted pending) stack
-  stack_ended s t pending stack is stack_is ends = grind arith
-
   -- what a `)` that is taken closes
   abbrev pub Closes : State builder → State builder → Type 0
   Closes s u = (top : Open M) × (rest : List (Open M)) × (settled : State builder)
@@ -357,7 +344,7 @@ module _ {W M L : Type 0} {builder : Builder W M L} where
         Completes-none last s c.2 _ (inl may) c.5 (Ends-close s u tokens c completes)
     Completes-applied last Token.comma may does completes =
         Completes-ended last s u _ may does (Rest-comma u.stack u.roots 0 tokens
-        (completes (ended_none s u s.pending refl does)))
+        (completes (grind (arith, does))))
     Completes-applied _ _ may does completes = absurd (false≢true may)
 
   -- the end of the text finds one member at the root, where no function is open
@@ -384,8 +371,9 @@ module _ {W M L : Type 0} {builder : Builder W M L} where
   Completes-run [] s t u len runs ends =
       let (settled, closed, ended, whole, one) = Concludes-conclude len s u
       (ap (conclude len) (ok_same s t runs) ∙ ends) in
+      let none : settled.stack ≡ [] = grind (arith, closed, ended) in
       Completes-none s.last s settled [] (inr (whole, closed)) ended
-      (rw (stack_ended s settled s.pending [] refl closed ended) (omega (arith, one), refl))
+      (rw none (omega (arith, one), refl))
   Completes-run (item ∷ items) s t u len runs ends =
       let r = ran (step s item) (λ u. step_each u items) t runs in
       let d = Steps-step s r.0 item r.1 in

@@ -62,19 +62,14 @@ IsSpelled (Token.key word) = IsKey word
 IsSpelled (Token.value inside) = HasNoQuote inside
 IsSpelled _ = Unit {0}
 
-spelled_token : (bytes : List ℕ) (token : Token) → Spells bytes token → IsSpelled token
-spelled_token bytes token spells = grind arith
-
 abbrev AreSpelled : List Token → Type 0
 AreSpelled tokens = AllByRecursion IsSpelled tokens
 
 spelled_items : (text : List ℕ) (from : ℕ) (items : List Item) (ending : Ending)
     → ItemsFrom text from items ending → AreSpelled (map (λ item. item.token) items)
 spelled_items text from [] ending come = tt
-spelled_items text from (item ∷ items) ending come = (
-  spelled_token (slice_range text item.start item.end) item.token come.0.spelled,
-  spelled_items text item.end items ending come.1,
-)
+spelled_items text from (item ∷ items) ending come =
+    (grind (arith, come.0.spelled), spelled_items text item.end items ending come.1)
 
 abbrev AreRegular : List Question → Type 0
 AreRegular questions = AllByRecursion IsRegular questions
@@ -164,8 +159,7 @@ no_quote_atomic (IntegerSize bits) small = no_quote_decimal bits (omega (arith, 
 no_quote_atomic Pointer small = refl
 
 no_quote_endian : (endian : Endian) → HasNoQuote (endian_text endian)
-no_quote_endian big = refl
-no_quote_endian little = refl
+no_quote_endian endian = grind arith
 
 -- Each line of the tables.
 
