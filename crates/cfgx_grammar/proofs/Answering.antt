@@ -43,18 +43,14 @@ module _ {W M L : Type 0} {builder : Builder W M L} (text : List ℕ)
       }
 
   -- what is accepted has a tree
-  ended_blank : (ending : Ending) (s u : State builder)
-      → ended_as text (lexical text ending) s ≡ Ok u
-      → (ending ≡ Ending.blank) × (conclude (length text) s ≡ Ok u)
-  ended_blank ending s u e = grind (arith, nat_tests, common_steps)
-
   pub tree_of : (u : State builder) → answer ≡ Ok u → (tree : Tree Question) × HasTree text tree
   tree_of u e =
       let r = ran (step_each initial one.items) (ended_as text (lexical text one.ending)) u e in
-      let ended = ended_blank one.ending r.0 u r.2 in
-      let found = IsTree-accepted one.items r.0 u (length text) r.1 ended.1 in
+      let blank : one.ending ≡ Ending.blank = grind (arith, r.2) in
+      let ended : conclude (length text) r.0 ≡ Ok u = grind (arith, blank, r.2) in
+      let found = IsTree-accepted one.items r.0 u (length text) r.1 ended in
       let are : AreItems text one.items Ending.blank =
-      subst (AreItems text one.items) ended.0 one.are in
+      subst (AreItems text one.items) blank one.are in
       (found.0, record { items = one.items; are_items = are; spelled = found.1 })
 
   answered : (r : Result (State builder) Refusal) → answer ≡ r

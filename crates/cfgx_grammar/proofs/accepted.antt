@@ -73,16 +73,6 @@ module _ {M : Type 0} where
       × (tokens ≡ commas n ++ (others ++ after)) × May n trees × IsList others trees
       × Ends stack roots (members + count trees) after
 
-  pub Rest-any : (May : ℕ → Trees Question → Type 0) (stack : List (Open M)) (roots members : ℕ)
-      (tokens : List Token) → Rest May stack roots members tokens
-      → Rest AnyCommas stack roots members tokens
-  Rest-any a0 stack roots members tokens a5 = grind arith
-
-  pub Rest-more : (May : ℕ → Trees Question → Type 0) (stack : List (Open M)) (roots : ℕ)
-      (tokens : List Token) → Rest May (over_top one_more stack) (root_more stack roots) 0 tokens
-      → Rest May stack roots 1 tokens
-  Rest-more a0 stack roots tokens a4 = grind arith
-
   -- no member is left
   pub Rest-none : (May : ℕ → Trees Question → Type 0) (stack : List (Open M)) (roots members : ℕ)
       (tokens : List Token) → May 0 Trees.none → Ends stack roots members tokens
@@ -196,7 +186,8 @@ module _ {W M L : Type 0} {builder : Builder W M L} where
       (leaf_tokens p.key.text (option_map (λ v. v.text) p.value) ++ tokens)
   LeafRest-ended s t tokens p is ends r =
       let e = LeafEnds-ended s t p is ends in
-      let rest = Rest-more Separates s.stack s.roots tokens (rw e.ended at r) in
+      let left = rw e.ended at r in
+      let rest : RestOf Separates s 1 tokens = grind (arith, left) in
       (_, e.leaf, tokens, refl, e.class_is, rest)
 
   -- where a comma may come, what stands in front of it ends
@@ -204,7 +195,7 @@ module _ {W M L : Type 0} {builder : Builder W M L} where
       → takes last Kind.comma ≡ true → predicate_ended s ≡ Ok t → RestOf Separates t 0 tokens
       → Completes last s tokens
   Completes-ended (Some Token.comma) s t tokens may ends r = λ none.
-      rw (same_ended s t none ends) (Rest-any Separates t.stack t.roots 0 tokens r)
+      rw (same_ended s t none ends) (grind (arith, r))
   Completes-ended (Some Token.close_paren) s t tokens may ends r = λ none.
       rw (same_ended s t none ends) r
   Completes-ended (Some (Token.key _)) s t tokens may ends r = λ key is.

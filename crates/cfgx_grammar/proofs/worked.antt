@@ -340,8 +340,7 @@ none_read text fault are refuses tree has =
     absurd (cc (ap (step_each initial) (sym same.0) ∙ found.runs))
 
 is_a : IsKey (codes "a")
-is_a =
-    record { spelled = (refl, refl); not_all = λ e. cc; not_any = λ e. cc; not_not = λ e. cc }
+is_a = grind arith
 
 is_flag : (word : List ℕ) → class word None ≡ predicate (Question.flag word)
     → IsMember (key word ∷ []) (flag word)

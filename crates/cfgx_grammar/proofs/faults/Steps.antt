@@ -113,10 +113,6 @@ meets_if : {A : Type 0} (P : A → Type 0) (b : Bool) (r other : Result A Refusa
 meets_if P true r other fault shown pass fail = pass refl
 meets_if P false r other fault shown pass fail = fail refl
 
-pub height_kept : {M : Type 0} (f : Open M → Open M) (stack : List (Open M))
-    → length (over_top f stack) ≡ length stack
-height_kept f stack = grind arith
-
 module _ {W M L : Type 0} {builder : Builder W M L} where
   pub record Matches (front : List Item) (s : State builder) : Type 0 where
     pub last : s.last ≡ last_token front
@@ -275,8 +271,8 @@ module _ {W M L : Type 0} {builder : Builder W M L} (front : List Item) (s : Sta
         let levels = Levels-ended (more token) t.roots false rest (Levels-same front (at token)
         t.roots 1 rest (omega (arith, balanced token _ rises))
         (λ level from le. members_at_other front (at token) level from refl) old.1) in
-        matched token _ 0 refl e.settled (ap going e.settled)
-        (ap (λ k. k + 1) (height_kept one_more rest) ∙ rises) levels
+        let height : length (over_top one_more rest) + 1 ≡ length s.stack + 0 = grind arith in
+        matched token _ 0 refl e.settled (ap going e.settled) height levels
 
     abbrev Closed : State builder → Type 0
     Closed t = Matches (more Token.close_paren) (with_last Token.close_paren t)
@@ -319,7 +315,7 @@ module _ {W M L : Type 0} {builder : Builder W M L} (front : List Item) (s : Sta
         let a = says Kind.opening (reverse front) may in
         let levels = Levels-open front (at token) s.roots (going s.pending) s.stack
         (omega (arith, balanced token (length s.stack) refl)) refl (rw a.1 at m.levels) in
-        let rises = ap (λ n. n + 0) (height_kept (with_parens start) s.stack) in
+        let rises : Rises token (length (over_top (with_parens start) s.stack)) = grind arith in
         (refl, matched token _ _ refl (m.pending ∙ a.0) refl rises levels)
     token_step Token.close_paren may = close_step s.stack refl (ended_here (inl may))
     token_step Token.comma may = meets_each (Ended front false s) _ _ _ (ended_here (inr may))
