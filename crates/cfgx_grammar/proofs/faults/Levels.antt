@@ -92,12 +92,6 @@ module _ {M : Type 0} where
   Levels front roots is_named (top ∷ rest) going =
       IsLevel front is_named (length rest) top going × Levels front roots false rest 1
 
-  -- what goes on ends, and is counted
-  pub Levels-ended : (front : List Item) (roots : ℕ) (is_named : Bool) (stack : List (Open M))
-      → Levels front roots is_named stack 1
-      → Levels front (root_more stack roots) is_named (over_top one_more stack) 0
-  Levels-ended front roots is_named stack levels = grind arith
-
 -- One more token at the end.
 
 module _ (front : List Item) (item : Item) where

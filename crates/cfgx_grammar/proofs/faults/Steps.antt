@@ -25,8 +25,8 @@ use Rattle.cfgx_grammar.specs.parsing.Step.{result_map, predicate_ended, over_to
 use Rattle.cfgx_grammar.specs.parsing.Step.{and_then, member_count, has_room, function_ended}
 use Rattle.cfgx_grammar.specs.parsing.Step.{new_open, closed_by, opened, with_last, with_parens}
 use Rattle.cfgx_grammar.specs.parsing.Step.{apply, step, unclosed, one_root, concluded_by, conclude}
-use Rattle.cfgx_grammar.specs.parsing.Step.{step_each, ended_as, answer_from}
-use Rattle.cfgx_grammar.proofs.faults.Levels.{Levels, Levels-ended, IsLevel, start_of, Levels-same}
+use Rattle.cfgx_grammar.specs.parsing.Step.{step_each, ended_as, answer_from, root_more}
+use Rattle.cfgx_grammar.proofs.faults.Levels.{Levels, IsLevel, start_of, Levels-same}
 use Rattle.cfgx_grammar.proofs.faults.Levels.{Levels-member, Levels-open, slice_get_next}
 use Rattle.cfgx_grammar.proofs.faults.Levels.{members_at_other, length_more, last_below-found}
 use Rattle.cfgx_grammar.proofs.faults.Levels.{members_at_end, depth_at_end}
@@ -129,12 +129,6 @@ module _ {W M L : Type 0} {builder : Builder W M L} where
     pub settled : t.pending ≡ None
     pub height : length t.stack ≡ length s.stack
     pub levels : Levels front t.roots is_named t.stack 0
-
-  pub predicate_ends : (front : List Item) (s : State builder) (m : Matches front s)
-      → lacks_value (last_token front) ≡ false
-      → Meets (Ended front (names_last (last_token front)) s) (predicate_ended s)
-      (predicate_fault front)
-  predicate_ends front s m whole = grind arith
 
 -- Each step refuses a token with the fault that the tokens in front of it show, and the end of the
 -- text likewise.
@@ -268,9 +262,10 @@ module _ {W M L : Type 0} {builder : Builder W M L} (front : List Item) (s : Sta
         let heights : length s.stack ≡ suc (length rest) = sym e.height ∙ ap length is in
         let rises : Rises token (length rest) = omega (arith, heights) in
         let old = rw is at e.levels in
-        let levels = Levels-ended (more token) t.roots false rest (Levels-same front (at token)
-        t.roots 1 rest (omega (arith, balanced token _ rises))
-        (λ level from le. members_at_other front (at token) level from refl) old.1) in
+        let kept = Levels-same front (at token) t.roots 1 rest (omega (arith, balanced token _ rises))
+        (λ level from le. members_at_other front (at token) level from refl) old.1 in
+        let levels : Levels (more token) (root_more rest t.roots) false (over_top one_more rest) 0 =
+        grind (arith, kept) in
         let height : length (over_top one_more rest) + 1 ≡ length s.stack + 0 = grind arith in
         matched token _ 0 refl e.settled (ap going e.settled) height levels
 
@@ -339,7 +334,7 @@ module _ {W M L : Type 0} {builder : Builder W M L} (front : List Item) (s : Sta
       then option_or (predicate_fault front) (root_fault len (roots front))
       else option_and_then (open_fault len front) (innermost front))
   end_stack len [] is whole = rw (eq-eqb (depth front) 0 (depth_is front s m ∙ ap length is))
-      (root_ends len _ _ is (predicate_ends front s m whole))
+      (root_ends len (predicate_ended s) (predicate_fault front) is (grind arith))
   end_stack len (top ∷ rest) is whole =
       rw (ne_eqb (depth front) 0 (λ zero. omega (arith, zero, deep_is top rest is)))
       (open_fault_is top rest is len)
