@@ -4,7 +4,7 @@ use Rattle.std.proofs.Common.{length, drop, refl, if◌then◌else◌}
 use Rattle.std.specs.List.{AllZip}
 use Rattle.std.proofs.lemmas.Slice.Zip.{AllZip-long}
 use Rattle.cfgx_grammar.specs.Tree.{Tree, Trees, is_function, is_leaf, asked, asked_by}
-use Rattle.cfgx_grammar.specs.Fold.{first_or, answered, answered_each}
+use Rattle.cfgx_grammar.specs.Fold.{answered, answered_each}
 
 -- Lists whose items stand in a relation.
 

@@ -1,9 +1,8 @@
 -- The questions of a function are those of its arranged members.
-use Rattle.std.proofs.Common.{◌≡◌, Bool, true, false, List, [], ◌++◌, refl, ap, append_assoc, arith}
-use Rattle.std.proofs.Common.{if◌then◌else◌}
+use Rattle.std.proofs.Common.{◌≡◌, Bool, ◌++◌, refl, append_assoc, arith}
 use Rattle.cfgx_grammar.specs.Question.{Question}
 use Rattle.cfgx_grammar.specs.Tree.{Tree, Trees, is_function, is_leaf, only, followed_by, arranged}
-use Rattle.cfgx_grammar.specs.Tree.{asked, asked_by, asked_each}
+use Rattle.cfgx_grammar.specs.Tree.{asked_by, asked_each}
 
 asked_each-followed_by : (trees others : Trees Question) → asked_each (followed_by trees others) ≡
     asked_each trees ++ asked_each others

@@ -1,18 +1,17 @@
 -- Three values are exact: a value is known exactly where every filling leads to it.
 use Rattle.std.proofs.lemmas.Grind.{common_steps}
 use Rattle.std.proofs.Common.{◌≡◌, Bool, true, false, not, ◌&&◌, ◌||◌, List, [], ◌∷◌, ◌++◌, arith}
-use Rattle.std.proofs.Common.{length, Option, Some, None, sym, refl, ap, ◌∙◌, subst, map, unwrap_or}
-use Rattle.std.proofs.Common.{if◌then◌else◌}
+use Rattle.std.proofs.Common.{length, Option, Some, refl, ap, ◌∙◌, map, unwrap_or}
 use Rattle.std.proofs.lemmas.List.{map-append}
 use Rattle.std.specs.List.{AllZip}
-use Rattle.cfgx_syntax.specs.Logic.{kleene_and, kleene_or, kleene_not}
+use Rattle.cfgx_syntax.specs.Logic.{kleene_and, kleene_or}
 use Rattle.cfgx_grammar.specs.Tree.{Tree, Trees, is_function, is_leaf, asked}
 use Rattle.cfgx_grammar.specs.Fold.{Operations, from_last, value_of, values_by, answered, fold}
 use Rattle.cfgx_grammar.specs.Filling.{two_valued, three_valued, Agrees, IsFilling, IsExact, filled}
 use Rattle.cfgx_grammar.specs.Filling.{filled_each, polar}
-use Rattle.cfgx_grammar.proofs.Alike.{Alike, AlikeEach, SameShape, SameShapes, SameTests}
-use Rattle.cfgx_grammar.proofs.Alike.{AllZip-append, AllZip-if, same_functions, same_leaves}
-use Rattle.cfgx_grammar.proofs.Alike.{asked-alike, answered-alike, answered-shape}
+use Rattle.cfgx_grammar.proofs.Alike.{Alike, AlikeEach, SameTests, AllZip-append, AllZip-if}
+use Rattle.cfgx_grammar.proofs.Alike.{same_functions, same_leaves, asked-alike, answered-alike}
+use Rattle.cfgx_grammar.proofs.Alike.{answered-shape}
 use Rattle.cfgx_grammar.proofs.Dealing.{answered-asked, asked-answered}
 
 -- Values of two logics that are related stay so.
@@ -87,13 +86,10 @@ agreement = record {
 abbrev side : Bool → Option Bool → Bool
 side fill value = unwrap_or value fill
 
-abbrev sides : Bool → List (Option Bool) → List Bool
-sides fill values = map (side fill) values
-
 from_last-sides : (join : Bool → Bool → Bool) (joined : Option Bool → Option Bool → Option Bool)
     (begin fill : Bool) (values : List (Option Bool))
     → ((x y : Option Bool) → join (side fill x) (side fill y) ≡ side fill (joined x y))
-    → from_last join begin (sides fill values) ≡ side fill (from_last joined (Some begin) values)
+    → from_last join begin (map (side fill) values) ≡ side fill (from_last joined (Some begin) values)
 from_last-sides join joined begin fill [] each = refl
 from_last-sides join joined begin fill (value ∷ values) each =
     rw (from_last-sides join joined begin fill values each) (each _ value)
@@ -123,7 +119,7 @@ mutual
   values-filled : (f : Tree (Option Bool) → Bool) (g : Tree Bool → Bool)
       → ((fill : Bool) (tree : Tree (Option Bool)) → g (filled fill tree) ≡ f tree)
       → (fill : Bool) (trees : Trees (Option Bool)) → values_by two_valued g
-      (filled_each fill trees) ≡ sides fill (values_by three_valued f trees)
+      (filled_each fill trees) ≡ map (side fill) (values_by three_valued f trees)
   values-filled f g same fill Trees.none = refl
   values-filled f g same fill (Trees.more tree trees) =
       let rest = values-filled f g same fill trees in

@@ -1,6 +1,6 @@
 -- How writes one after another add up.
-use Rattle.std.proofs.Common.{ℕ, List, ◌++◌, Option, None, Some, Result, Ok, Err, ap, sym, ◌∙◌, refl}
-use Rattle.std.proofs.Common.{append_assoc}
+use Rattle.std.proofs.Common.{ℕ, List, ◌++◌, Option, None, Some, Result, Ok, Err, ap, sym, ◌∙◌}
+use Rattle.std.proofs.Common.{refl, append_assoc}
 use Rattle.std.specs.Io.KnownBytes.{Appends}
 use Rattle.cfgx_grammar.specs.Writing.{Takes, TakesFront, Writes}
 

@@ -2,11 +2,11 @@
 use Rattle.std.proofs.lemmas.Bool.Decides.{nat_tests}
 use Rattle.std.proofs.lemmas.Grind.{common_steps}
 use Rattle.std.proofs.Common.{◌≤◌, ◌≡◌, ℕ, Bool, true, false, List, [], ◌∷◌, ◌++◌, map, Some, None}
-use Rattle.std.proofs.Common.{subst, ◌<◌, ◌^◌, ◌||◌, ◌&&◌, nat_eq, nat_lt, length, drop, Option}
-use Rattle.std.proofs.Common.{sym, refl, ap, ◌∙◌, arith, rules, ◌+◌, append_assoc, length-append, drop_at}
-use Rattle.std.proofs.Common.{drop_of_length-le, ◌⊎◌, inl, inr, ⊎_elim, ltb-true, slice_range}
-use Rattle.std.proofs.Common.{if◌then◌else◌, codes, option_map, decimal, bytes_eq, append-nil}
-use Rattle.std.specs.List.{AllByRecursion, list_any, starts_with}
+use Rattle.std.proofs.Common.{subst, ◌<◌, ◌^◌, nat_eq, nat_lt, length, drop, Option, sym, refl, ap}
+use Rattle.std.proofs.Common.{◌∙◌, arith, rules, ◌+◌, append_assoc, length-append, drop_at}
+use Rattle.std.proofs.Common.{drop_of_length-le, ◌⊎◌, inl, inr, ⊎_elim, slice_range, if◌then◌else◌}
+use Rattle.std.proofs.Common.{codes, decimal, bytes_eq, append-nil}
+use Rattle.std.specs.List.{AllByRecursion, starts_with}
 use Rattle.cfgx_syntax.specs.Token.{Token, IsKey, HasNoQuote, Spells, IsWord, is_quote, in_quotes}
 use Rattle.cfgx_syntax.specs.Token.{IsWhole}
 use Rattle.cfgx_syntax.specs.Items.{Item, Ending, ItemsFrom, IsBlank, Stands, AreItems}
@@ -14,16 +14,13 @@ use Rattle.cfgx_grammar.specs.Question.{Question, Leaf, TargetQuestion}
 use Rattle.cfgx_grammar.specs.Tree.{Tree, Trees, is_function, is_leaf, asked, asked_by}
 use Rattle.cfgx_grammar.specs.Grammar.{commas, IsCall, IsMember, IsList, HasTree, leaf_tokens}
 use Rattle.cfgx_grammar.specs.Regular.{IsRegular, CanBeQuoted, IsAlone}
-use Rattle.std.specs.Option.{option_or}
 use Rattle.std.specs.Str.Parse.{AllDigits}
-use Rattle.std.specs.Char.{digit_value}
 use Rattle.std.proofs.lemmas.Fmt.{decimal_is_IsNumeral}
 use Rattle.cfgx_syntax.specs.Error.{Cause, invalid_integer, invalid_has_atomic}
 use Rattle.cfgx_targets.specs.Endian.{endian_text, endian_named}
-use Rattle.cfgx_targets.specs.HasAtomic.{IsWidth, atomic_text, atomic_named, pointer_named}
+use Rattle.cfgx_targets.specs.HasAtomic.{IsWidth, atomic_text, atomic_named}
 use Rattle.cfgx_targets.specs.Number.{read_below}
 use Rattle.cfgx_targets.specs.declared.endian.Endian.{Endian}
-use Rattle.cfgx_targets.specs.declared.endian.Endian.TheVariants.{big, little}
 use Rattle.cfgx_targets.specs.declared.atomic.HasAtomic.{HasAtomic}
 use Rattle.cfgx_targets.specs.declared.atomic.HasAtomic.TheVariants.{IntegerSize, Pointer}
 use Rattle.cfgx_targets.proofs.AtomicLemmas.{endian_named-text, atomic_named-text}
@@ -242,15 +239,11 @@ module _ (key : List ℕ) (value : Option (List ℕ)) where
       (inl (spelt_word (codes "target_vendor") (Some v) _ q ((refl, refl), refl, refl, refl)))
       (good_feature v q) endian atomic width
 
-  good_plain : (v : Option (List ℕ)) → value ≡ v → Good (plain key v)
-  good_plain None is = inr (rw is refl)
-  good_plain (Some v) is = inr (rw is refl)
-
   good_class : CanBeQuoted value → Good (class key value)
   unfolding class
   good_class quoted = good_by_name key value _ _ (kept_if Good
       (starts_with nat_eq key (codes "target_")) _ (plain key value)
-      (good_valued _ _ (good_target (drop 7 key)) value quoted) (good_plain value refl))
+      (good_valued _ _ (good_target (drop 7 key)) value quoted) (grind arith))
       key_lines (λ good. good)
       (good_bare (Leaf.literal true) tt value)
       (good_bare (Leaf.literal false) tt value)

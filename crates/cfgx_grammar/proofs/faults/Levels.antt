@@ -13,7 +13,7 @@ use Rattle.cfgx_grammar.specs.Depth.{count_below, last_below, begins_member, dep
 use Rattle.cfgx_grammar.specs.Depth.{members_at}
 use Rattle.std.proofs.lemmas.Option.{slice_get_within}
 use Rattle.cfgx_grammar.specs.parsing.State.{Function, Open, name_of}
-use Rattle.cfgx_grammar.specs.parsing.Step.{over_top, one_more, root_more, with_parens}
+use Rattle.cfgx_grammar.specs.parsing.Step.{over_top, with_parens}
 
 -- Counting and searching the places of a list that grows at its end.
 

@@ -14,11 +14,10 @@ use Rattle.cfgx_grammar.specs.Neighbours.{Kind, takes, kind_of, is_kind, next}
 use Rattle.cfgx_grammar.specs.Depth.{names_function, is_closing, depth, depth_at, innermost}
 use Rattle.cfgx_grammar.specs.Depth.{members, roots, first_below}
 use Rattle.cfgx_grammar.specs.LastPredicate.{key_token, key_last, equals_last, predicate_token}
-use Rattle.cfgx_grammar.specs.LastPredicate.{Word, word_of, with_value}
+use Rattle.cfgx_grammar.specs.LastPredicate.{word_of, with_value}
 use Rattle.cfgx_grammar.specs.FirstFault.{predicate_fault, head_token, last_token, lacks_value}
-use Rattle.cfgx_grammar.specs.FirstFault.{count_fault, not_fault, fault_by, fault_behind}
-use Rattle.cfgx_grammar.specs.FirstFault.{unclosed_fault, open_fault, root_fault, end_fault}
-use Rattle.cfgx_grammar.specs.FirstFault.{refusal, fault_at, first_fault}
+use Rattle.cfgx_grammar.specs.FirstFault.{not_fault, fault_by, fault_behind, open_fault, root_fault}
+use Rattle.cfgx_grammar.specs.FirstFault.{end_fault, refusal, fault_at, first_fault}
 use Rattle.cfgx_grammar.specs.parsing.State.{Pending, Builder, Open, State, initial, Function}
 use Rattle.cfgx_grammar.specs.parsing.State.{name_of}
 use Rattle.cfgx_grammar.specs.parsing.Step.{result_map, predicate_ended, over_top, one_more}
@@ -26,10 +25,10 @@ use Rattle.cfgx_grammar.specs.parsing.Step.{and_then, member_count, has_room, fu
 use Rattle.cfgx_grammar.specs.parsing.Step.{new_open, closed_by, opened, with_last, with_parens}
 use Rattle.cfgx_grammar.specs.parsing.Step.{apply, step, unclosed, one_root, concluded_by, conclude}
 use Rattle.cfgx_grammar.specs.parsing.Step.{step_each, ended_as, answer_from, root_more}
-use Rattle.cfgx_grammar.proofs.faults.Levels.{Levels, IsLevel, start_of, Levels-same}
-use Rattle.cfgx_grammar.proofs.faults.Levels.{Levels-member, Levels-open, slice_get_next}
-use Rattle.cfgx_grammar.proofs.faults.Levels.{members_at_other, length_more, last_below-found}
-use Rattle.cfgx_grammar.proofs.faults.Levels.{members_at_end, depth_at_end}
+use Rattle.cfgx_grammar.proofs.faults.Levels.{Levels, IsLevel, start_of, Levels-same, Levels-member}
+use Rattle.cfgx_grammar.proofs.faults.Levels.{Levels-open, slice_get_next, members_at_other}
+use Rattle.cfgx_grammar.proofs.faults.Levels.{length_more, last_below-found, members_at_end}
+use Rattle.cfgx_grammar.proofs.faults.Levels.{depth_at_end}
 use Rattle.std.specs.Option.{option_or}
 use Rattle.std.proofs.lemmas.Option.{slice_get_within, slice_get_past}
 
@@ -208,16 +207,16 @@ module _ {W M L : Type 0} {builder : Builder W M L} (front : List Item) (s : Sta
         t.roots w t.stack (omega (arith, balanced token _ rises))
         (λ level from le. members_at_other front (at token) level from other) levels))
 
-    -- what a token leads to is what the tokens show
-    abbrev Agrees : Token → Result (State builder) Refusal → Option Refusal → Type 0
-    Agrees token r fault = Meets (λ t. Matches (more token) (with_last token t)) r fault
+    -- what the token leads to, without it as the last one
+    abbrev After : Token → State builder → Type 0
+    After token t = Matches (more token) (with_last token t)
 
     -- the name of a function
     name_step : (function : Function) → takes (last_token front) Kind.name ≡ true
         → names_function (name_of function) ≡ true → is_closing (name_of function) ≡ false
         → is_kind Kind.name (kind_of (name_of function)) ≡ true
         → begun_token (at (name_of function)) (reverse front) (name_of function) ≡ None
-        → Agrees (name_of function) (Ok (opened s function (at (name_of function)))) None
+        → Meets (After (name_of function)) (Ok (opened s function (at (name_of function)))) None
     name_step function may is_name no_close begins none =
         let token = name_of function in
         let item = at token in
@@ -269,27 +268,24 @@ module _ {W M L : Type 0} {builder : Builder W M L} (front : List Item) (s : Sta
         let height : length (over_top one_more rest) + 1 ≡ length s.stack + 0 = grind arith in
         matched token _ 0 refl e.settled (ap going e.settled) height levels
 
-    abbrev Closed : State builder → Type 0
-    Closed t = Matches (more Token.close_paren) (with_last Token.close_paren t)
-
     close_step : (stack : List (Open M)) → s.stack ≡ stack
         → Meets (Ended front false s) (predicate_ended s) (predicate_fault front)
-        → Agrees Token.close_paren (closed_by s (at Token.close_paren) stack)
+        → Meets (After Token.close_paren) (closed_by s (at Token.close_paren) stack)
         (fault_by front (at Token.close_paren) Token.close_paren)
     close_step [] is ends = rw (eq-eqb (depth front) 0 (depth_is front s m ∙ ap length is)) refl
     close_step (top ∷ rest) is ends =
         let some : 0 < length s.stack = omega (arith, ap length is) in
         let inside = ne_eqb (depth front) 0 (λ zero. omega (arith, zero, deep_is top rest is)) in
-        let closes = meets_map (Ended front false s) Closed (λ t. function_ended t.stack t)
+        let closes = meets_map (Ended front false s) (After Token.close_paren) (λ t. function_ended t.stack t)
         (predicate_ended s) (predicate_fault front) ends
         (λ t e. function_closes t t.stack refl e some) in
         rw (inside, close_fault_is top rest is (at Token.close_paren) (predicate_fault front))
-        (meets_if Closed (has_room top.function (member_count top s.pending)) _ _ _ _
+        (meets_if (After Token.close_paren) (has_room top.function (member_count top s.pending)) _ _ _ _
         (λ room. closes) (λ full. refl))
 
     -- one token where it may stand
     token_step : (token : Token) → next (last_token front) token ≡ true
-        → Agrees token (apply s (at token) token) (fault_by front (at token) token)
+        → Meets (After token) (apply s (at token) token) (fault_by front (at token) token)
     token_step (Token.key text) may = let token = Token.key text in
         let a = says Kind.name (reverse front) may in
         let levels = Levels-member front (at token) s.roots s.stack
