@@ -89,7 +89,8 @@ side fill value = unwrap_or value fill
 from_last-sides : (join : Bool → Bool → Bool) (joined : Option Bool → Option Bool → Option Bool)
     (begin fill : Bool) (values : List (Option Bool))
     → ((x y : Option Bool) → join (side fill x) (side fill y) ≡ side fill (joined x y))
-    → from_last join begin (map (side fill) values) ≡ side fill (from_last joined (Some begin) values)
+    → from_last join begin (map (side fill) values)
+    ≡ side fill (from_last joined (Some begin) values)
 from_last-sides join joined begin fill [] each = refl
 from_last-sides join joined begin fill (value ∷ values) each =
     rw (from_last-sides join joined begin fill values each) (each _ value)
@@ -127,7 +128,7 @@ mutual
 
 -- A filling is like the answers in what it keeps of each.
 module _ {X : Type 0} (R : X → Option Bool → Type 0) (S : X → Bool → Type 0)
-    (each : (fill : Bool) (x : X) (answer : Option Bool) → R x answer → S x (side fill answer)) where
+    (each : (fill : Bool) (x : X) (known : Option Bool) → R x known → S x (side fill known)) where
   mutual
     filled-alike : (fill : Bool) (tree : Tree X) (answers : Tree (Option Bool))
         → Alike R tree answers → Alike S tree (filled fill answers)
@@ -178,8 +179,8 @@ module _ {X : Type 0} (tree : Tree X) (answers : List (Option Bool))
         known = λ value. (
           λ is filling fills. rw is at (fold_kept three_valued two_valued Agrees agreement tree
               answers filling fills),
-          λ every. grind (arith, upper, lower, every _ (polar_filling true),
-              every _ (polar_filling false)),
+          λ every. let one = every _ (polar_filling true) in
+              let other = every _ (polar_filling false) in grind (arith, upper, lower, one, other),
         );
         unknown = (
           λ is. (upper ∙ ap (side true) is, lower ∙ ap (side false) is),

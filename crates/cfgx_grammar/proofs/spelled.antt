@@ -152,8 +152,8 @@ module _ {W M L : Type 0} {builder : Builder W M L} where
   commas_run _ _ s t written are may ends = absurd (cc)
 
 module _ {W M L : Type 0} {builder : Builder W M L} (laws : Laws builder) where
-  -- The state when these items have been taken, a member and `n` commas behind it; the predicate has
-  -- ended, or ends there.
+  -- The state when these items have been taken, a member and `n` commas behind it; the predicate
+  -- has ended, or ends there.
   pub record MemberEnds (s : State builder) (items member : List Item) (n : ℕ)
       (tree : Tree Question) : Type 0 where
     pub after : State builder
@@ -322,10 +322,12 @@ module _ {W M L : Type 0} {builder : Builder W M L} (laws : Laws builder) where
     ListEnds-list : (trees : Trees Question) (s : State builder) (items : List Item)
         → takes s.last Kind.name ≡ true → takes s.last Kind.closing ≡ true → s.pending ≡ None
         → IsList (tokens_of items) trees → ListEnds s items trees
-    ListEnds-list Trees.none s items named closing none list =
-        let ends = ap (ended_by s) none ∙ (λ i. Ok (record s { pending = none i })) in
-        let builds = laws.none s.written in rw (no_items items list)
-        (record { after = s; written = _; runs = refl; closes = closing; ends = ends; builds = builds })
+    ListEnds-list Trees.none s items named close none list =
+        let end = ap (ended_by s) none ∙ (λ i. Ok (record s { pending = none i })) in
+        let done = laws.none s.written in
+        let empty : ListEnds s [] Trees.none =
+        record { after = s; written = _; runs = refl; closes = close; ends = end; builds = done } in
+        rw (no_items items list) empty
     ListEnds-list (Trees.more tree trees) s items named closing none
         (front, n, others, are, some, spelled, list) =
         let (xs, rest, both, xs_are, rest_are) = split_items items front (commas n ++ others) are in
@@ -374,7 +376,8 @@ trees_listed (Trees.more tree trees) = ap (Trees.more tree) (trees_listed trees)
 calls : (function : Function) (tree : Tree Question) (trees : Trees Question)
     → called function (list_of trees) ≡ tree → Calls tree_builder (λ items w v t. v ≡ w ++ t ∷ [])
     (λ items w v ts. v ≡ w ++ list_of ts) function tree trees
-calls function tree trees is head opening closing members w v built = grind (arith, take-append_seam, drop-append_seam)
+calls function tree trees is head opening closing members w v built =
+    grind (arith, take-append_seam, drop-append_seam)
 
 pub tree_laws : Laws tree_builder
 tree_laws = record {

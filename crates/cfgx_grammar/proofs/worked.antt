@@ -310,10 +310,10 @@ ends_show = refl
 abbrev stopped : List ℕ × List ℕ × Ending → Option Refusal
 stopped row = first_fault row.0 (lexed row.1) row.2
 
-pub no_token : let text = codes "all(key = \"value), key = \"value\"" in Lines stopped (
+pub no_token : let row = codes "all(key = \"value), key = \"value\"" in Lines stopped (
     ((codes "feature 8", codes "feature", Ending.no_token 8), refused_behind None 8 9)
     ∷ ((codes "key \"abc", codes "key", Ending.unclosed_quotes 4), fault unclosed_quotes 4 8)
-    ∷ ((text, take 31 text, Ending.unclosed_quotes 31), refused_behind (Some (Token.value [])) 26 31)
+    ∷ ((row, take 31 row, Ending.unclosed_quotes 31), refused_behind (Some (Token.value [])) 26 31)
     ∷ [])
 unfolding class
 no_token = refl

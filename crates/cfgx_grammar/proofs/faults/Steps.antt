@@ -78,8 +78,8 @@ pub says : (kind : Kind) (back : List Item) → takes (head_token back) kind ≡
     → Says kind (begun_last back) (key_last back) (equals_last back) (names_last (head_token back))
 says kind back may = grind arith
 
--- What comes of the tokens and what is shown of them: no fault, and something that this holds of, or
--- a fault on both sides.
+-- What comes of the tokens and what is shown of them: no fault, and something that this holds of,
+-- or a fault on both sides.
 abbrev pub Meets : {A : Type 0} → (A → Type 0) → Result A Refusal → Option Refusal → Type 0
 Meets P (Ok t) fault = (fault ≡ None) × P t
 Meets P (Err refusal) fault = fault ≡ Some refusal
@@ -261,7 +261,8 @@ module _ {W M L : Type 0} {builder : Builder W M L} (front : List Item) (s : Sta
         let heights : length s.stack ≡ suc (length rest) = sym e.height ∙ ap length is in
         let rises : Rises token (length rest) = omega (arith, heights) in
         let old = rw is at e.levels in
-        let kept = Levels-same front (at token) t.roots 1 rest (omega (arith, balanced token _ rises))
+        let kept = Levels-same front (at token) t.roots 1 rest
+        (omega (arith, balanced token _ rises))
         (λ level from le. members_at_other front (at token) level from refl) old.1 in
         let levels : Levels (more token) (root_more rest t.roots) false (over_top one_more rest) 0 =
         grind (arith, kept) in
@@ -276,12 +277,12 @@ module _ {W M L : Type 0} {builder : Builder W M L} (front : List Item) (s : Sta
     close_step (top ∷ rest) is ends =
         let some : 0 < length s.stack = omega (arith, ap length is) in
         let inside = ne_eqb (depth front) 0 (λ zero. omega (arith, zero, deep_is top rest is)) in
-        let closes = meets_map (Ended front false s) (After Token.close_paren) (λ t. function_ended t.stack t)
-        (predicate_ended s) (predicate_fault front) ends
+        let closes = meets_map (Ended front false s) (After Token.close_paren)
+        (λ t. function_ended t.stack t) (predicate_ended s) (predicate_fault front) ends
         (λ t e. function_closes t t.stack refl e some) in
         rw (inside, close_fault_is top rest is (at Token.close_paren) (predicate_fault front))
-        (meets_if (After Token.close_paren) (has_room top.function (member_count top s.pending)) _ _ _ _
-        (λ room. closes) (λ full. refl))
+        (meets_if (After Token.close_paren) (has_room top.function (member_count top s.pending))
+        _ _ _ _ (λ room. closes) (λ full. refl))
 
     -- one token where it may stand
     token_step : (token : Token) → next (last_token front) token ≡ true
@@ -298,7 +299,8 @@ module _ {W M L : Type 0} {builder : Builder W M L} (front : List Item) (s : Sta
         let left = stays (Token.value text) _ (going s.pending) refl refl refl refl pending
         (grind arith) (rw a.1 at m.levels) in (refl, left)
     token_step Token.equals may = let a = says Kind.equals (reverse front) may in
-        (refl, stays Token.equals _ _ refl refl refl refl (m.pending ∙ a.0) refl (rw a.1 at m.levels))
+        let levels = rw a.1 at m.levels in
+        (refl, stays Token.equals _ _ refl refl refl refl (m.pending ∙ a.0) refl levels)
     token_step Token.all may = name_step Function.all may refl refl refl refl
     token_step Token.any may = name_step Function.any may refl refl refl refl
     token_step Token.not may = name_step Function.not may refl refl refl refl
@@ -375,6 +377,7 @@ module _ {W M L : Type 0} (builder : Builder W M L) (text : List ℕ) (items : L
 
   pub whole_agrees : EndAgrees (answer_from (initial {builder = builder}) text items ending)
       (first_fault text items ending)
-  whole_agrees = rw (first_is items items [] refl) (meets_then _ _ _ _ _ _
-      (scan items [] initial (record { last = refl; pending = refl; balance = refl; levels = refl }))
+  whole_agrees = let start : Matches [] (initial {builder = builder}) =
+      record { last = refl; pending = refl; balance = refl; levels = refl } in
+      rw (first_is items items [] refl) (meets_then _ _ _ _ _ _ (scan items [] initial start)
       (at_end (lexical text ending)))
