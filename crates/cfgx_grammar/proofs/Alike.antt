@@ -1,6 +1,6 @@
 -- Trees of one shape and with the same literals, whose other leaves stand in a relation one by one.
-use Rattle.std.proofs.Common.{arith, ◌≡◌, ℕ, suc, zero, Bool, true, false, List, [], ◌∷◌, ◌++◌}
-use Rattle.std.proofs.Common.{length, drop, refl, if◌then◌else◌}
+use Rattle.std.proofs.Common.{arith, ◌≡◌, ℕ, suc, zero, Bool, List, [], ◌∷◌, ◌++◌, length, drop}
+use Rattle.std.proofs.Common.{if◌then◌else◌}
 use Rattle.std.specs.List.{AllZip}
 use Rattle.std.proofs.lemmas.Slice.Zip.{AllZip-long}
 use Rattle.cfgx_grammar.specs.Tree.{Tree, Trees, is_function, is_leaf, asked, asked_by}
@@ -26,8 +26,7 @@ AllZip-append R _ others _ more zipped rest = absurd zipped
 pub AllZip-if : {T U : Type 0} (R : T → U → Type 0) (b : Bool) (xs others : List T)
     (ys more : List U) → AllZip R xs ys → AllZip R others more
     → AllZip R (if b then xs else others) (if b then ys else more)
-AllZip-if R true xs others ys more here rest = here
-AllZip-if R false xs others ys more here rest = rest
+AllZip-if R b xs others ys more here rest = grind arith
 
 module _ {T U : Type 0} (R : T → U → Type 0) where
   mutual
@@ -57,12 +56,10 @@ SameTests {T} {U} R f g = (x : Tree T) (y : Tree U) → Alike R x y → f x ≡ 
 
 module _ {T U : Type 0} (R : T → U → Type 0) where
   pub same_functions : SameTests R is_function is_function
-  same_functions _ _ (Alike.leaf x y related) = refl
-  same_functions _ _ _ = refl
+  same_functions x y alike = grind arith
 
   pub same_leaves : SameTests R is_leaf is_leaf
-  same_leaves _ _ (Alike.leaf x y related) = refl
-  same_leaves _ _ _ = refl
+  same_leaves x y alike = grind arith
 
   mutual
     -- they ask alike

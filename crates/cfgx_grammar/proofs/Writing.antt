@@ -1,17 +1,13 @@
 -- How writes one after another add up.
-use Rattle.std.proofs.Common.{ℕ, List, ◌++◌, Option, None, Some, Result, Ok, Err, ap, sym, ◌∙◌}
-use Rattle.std.proofs.Common.{refl, append_assoc}
+use Rattle.std.proofs.Common.{arith, ℕ, List, ◌++◌, Option, Result, Ok, Err, ap, sym, ◌∙◌, refl}
+use Rattle.std.proofs.Common.{append_assoc}
 use Rattle.std.specs.Io.KnownBytes.{Appends}
 use Rattle.cfgx_grammar.specs.Writing.{Takes, TakesFront, Writes}
 
 -- known bytes that grow twice
 pub appends_twice : (old mid new : Option (List ℕ)) (first second : List ℕ)
     → Appends old mid first → Appends mid new second → Appends old new (first ++ second)
-appends_twice None mid new first second a b = tt
-appends_twice (Some xs) None new first second a b = absurd a
-appends_twice (Some xs) (Some ys) None first second a b = absurd b
-appends_twice (Some xs) (Some ys) (Some zs) first second a b =
-    b ∙ ap (λ s. s ++ second) a ∙ append_assoc xs first second
+appends_twice old mid new first second a b = grind (arith, append_assoc)
 
 -- what is taken of the bytes that were left is taken of all
 pub takes_more : {old mid new : Option (List ℕ)} {bytes between left : List ℕ}

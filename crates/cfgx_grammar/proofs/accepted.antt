@@ -11,7 +11,7 @@ use Rattle.cfgx_grammar.specs.Grammar.{commas, Separates, IsMember, IsList, IsTr
 use Rattle.cfgx_grammar.specs.Grammar.{IsLeaf}
 use Rattle.cfgx_grammar.specs.parsing.State.{Function, Open, name_of, Word, Pending, Builder, State}
 use Rattle.cfgx_grammar.specs.parsing.State.{initial}
-use Rattle.cfgx_grammar.specs.parsing.Step.{has_room, over_top, one_more, root_more, result_map}
+use Rattle.cfgx_grammar.specs.parsing.Step.{has_room, result_map}
 use Rattle.cfgx_grammar.specs.parsing.Step.{leaf_ended, ended_by, predicate_ended, new_open}
 use Rattle.cfgx_grammar.specs.parsing.Step.{and_then, opened, member_count, function_ended}
 use Rattle.cfgx_grammar.specs.parsing.Step.{closed_by, with_last, apply, step, step_each, one_root}
@@ -237,13 +237,11 @@ mapped f r u e = grind arith
 
 allowed : {A E : Type 0} (b : Bool) (r : Result A E) (e : E) (u : A)
     → (if b then r else Err e) ≡ Ok u → (b ≡ true) × (r ≡ Ok u)
-allowed true r e u is = (refl, is)
-allowed false r e u is = absurd (cc)
+allowed b r e u is = grind arith
 
 not_refused : {A E : Type 0} (b : Bool) (r : Result A E) (e : E) (u : A)
     → (if b then Err e else r) ≡ Ok u → (b ≡ false) × (r ≡ Ok u)
-not_refused false r e u is = (refl, is)
-not_refused true r e u is = absurd (cc)
+not_refused b r e u is = grind arith
 
 pub ran : {A B E : Type 0} (r : Result A E) (f : A → Result B E) (u : B) → and_then f r ≡ Ok u
     → (t : A) × (r ≡ Ok t) × (f t ≡ Ok u)

@@ -4,7 +4,7 @@ use Rattle.std.proofs.lemmas.Grind.{common_steps}
 use Rattle.std.proofs.Common.{◌≤◌, ◌≡◌, ℕ, Bool, true, false, List, [], ◌∷◌, ◌++◌, map, Some, None}
 use Rattle.std.proofs.Common.{subst, ◌<◌, ◌^◌, nat_eq, nat_lt, length, drop, Option, sym, refl, ap}
 use Rattle.std.proofs.Common.{◌∙◌, arith, rules, ◌+◌, append_assoc, length-append, drop_at}
-use Rattle.std.proofs.Common.{drop_of_length-le, ◌⊎◌, inl, inr, ⊎_elim, slice_range, if◌then◌else◌}
+use Rattle.std.proofs.Common.{drop_of_length-le, ◌⊎◌, inl, ⊎_elim, slice_range, if◌then◌else◌}
 use Rattle.std.proofs.Common.{codes, decimal, bytes_eq, append-nil}
 use Rattle.std.specs.List.{AllByRecursion, starts_with}
 use Rattle.cfgx_syntax.specs.Token.{Token, IsKey, HasNoQuote, Spells, IsWord, is_quote, in_quotes}
@@ -73,8 +73,7 @@ AreRegular questions = AllByRecursion IsRegular questions
 
 -- one of two
 kept_if : {A : Type 0} (P : A → Type 0) (b : Bool) (x y : A) → P x → P y → P (if b then x else y)
-kept_if P true x y here there = here
-kept_if P false x y here there = there
+kept_if P b x y here there = grind arith
 
 -- what the members of a call ask
 regular_call : (name : Token) (tokens : List Token) (trees : Trees Question) → AreSpelled tokens
