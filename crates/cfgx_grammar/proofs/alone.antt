@@ -148,8 +148,7 @@ named_small text (IntegerSize bits) is =
 named_small text Pointer is = tt
 
 no_quote_atomic : (atomic : HasAtomic) → IsWidth atomic → HasNoQuote (atomic_text atomic)
-no_quote_atomic (IntegerSize bits) small = no_quote_decimal bits (omega (arith, small))
-no_quote_atomic Pointer small = refl
+no_quote_atomic atomic small = grind (arith, no_quote_decimal)
 
 no_quote_endian : (endian : Endian) → HasNoQuote (endian_text endian)
 no_quote_endian endian = grind arith
@@ -193,14 +192,12 @@ module _ (key : List ℕ) (value : Option (List ℕ)) where
       (bytes_eq name first.name) (first.read v) _ good others))
 
   good_bare : (leaf : Leaf) → Good (Class.is leaf) → (v : Option (List ℕ)) → Good (bare leaf v)
-  good_bare leaf good None = good
-  good_bare leaf good (Some v) = tt
+  good_bare leaf good v = grind arith
 
   good_valued : (with : List ℕ → Class) (missing : List ℕ)
       → ((v : List ℕ) → HasNoQuote v → Good (with v)) → (v : Option (List ℕ)) → CanBeQuoted v
       → Good (valued with missing v)
-  good_valued with missing each None quotes = tt
-  good_valued with missing each (Some v) quotes = each v quotes
+  good_valued with missing each v quotes = grind (arith, each)
 
   good_feature : (v : List ℕ) → HasNoQuote v → Good (target_feature v)
   unfolding class

@@ -87,19 +87,16 @@ Meets P (Err refusal) fault = fault ≡ Some refusal
 module _ {A B : Type 0} (P : A → Type 0) (Q : B → Type 0) where
   meets_map : (f : A → B) (r : Result A Refusal) (fault : Option Refusal) → Meets P r fault
       → ((t : A) → P t → Q (f t)) → Meets Q (result_map f r) fault
-  meets_map f (Ok t) fault (none, holds) each = (none, each t holds)
-  meets_map f (Err refusal) fault meets each = meets
+  meets_map f r fault meets each = grind (arith, each)
 
   meets_then : (f : A → Result B Refusal) (r : Result A Refusal) (fault next : Option Refusal)
       → Meets P r fault → ((t : A) → P t → Meets Q (f t) next)
       → Meets Q (and_then f r) (option_or fault next)
-  meets_then f (Ok t) fault next (none, holds) each = rw none (each t holds)
-  meets_then f (Err refusal) fault next meets each = rw meets refl
+  meets_then f r fault next meets each = grind (arith, each)
 
 meets_each : {A : Type 0} (P Q : A → Type 0) (r : Result A Refusal) (fault : Option Refusal)
     → Meets P r fault → ((t : A) → P t → Q t) → Meets Q r fault
-meets_each P Q (Ok t) fault (none, holds) each = (none, each t holds)
-meets_each P Q (Err refusal) fault meets each = meets
+meets_each P Q r fault meets each = grind (arith, each)
 
 abbrev pub EndAgrees : {A : Type 0} → Result A Refusal → Option Refusal → Type 0
 EndAgrees r fault = Meets (λ _. Unit {0}) r fault
@@ -109,8 +106,7 @@ meets_if : {A : Type 0} (P : A → Type 0) (b : Bool) (r other : Result A Refusa
     (fault shown : Option Refusal) → (b ≡ true → Meets P r fault)
     → (b ≡ false → Meets P other shown) → Meets P (if b then r else other)
     (if b then fault else shown)
-meets_if P true r other fault shown pass fail = pass refl
-meets_if P false r other fault shown pass fail = fail refl
+meets_if P b r other fault shown pass fail = grind arith
 
 module _ {W M L : Type 0} {builder : Builder W M L} where
   pub record Matches (front : List Item) (s : State builder) : Type 0 where
