@@ -208,8 +208,7 @@ module _ (key : List ℕ) (value : Option (List ℕ)) where
   good_read : {X : Type 0} (ask : X → TargetQuestion) (cause : Cause) (read : Option X)
       → ((x : X) → read ≡ Some x → IsSpelt (Question.target (ask x)))
       → Good (if_read ask cause read)
-  good_read ask cause None each = tt
-  good_read ask cause (Some x) each = inl (each x refl)
+  good_read ask cause read each = grind (arith, each)
 
   good_target : (name v : List ℕ) → HasNoQuote v → Good (target_class name v)
   unfolding class
@@ -252,10 +251,6 @@ module _ (key : List ℕ) (value : Option (List ℕ)) where
       ((refl, refl), refl, refl, refl))) value quoted)
       (good_valued _ _ (λ v q. inl (spelt_word (codes "panic") (Some v) _ q
       ((refl, refl), refl, refl, refl))) value quoted)
-
-pub spelt_regular : (question : Question) → IsRegular question → IsSpelt question
-spelt_regular question r = ⊎_elim (λ spelt. spelt) (λ is. record { regular = r; spelled = is })
-    (rw r.says at (good_class r.key r.value r.can_be_quoted))
 
 -- The text of a key, and perhaps a value, has the one tree that is their predicate.
 
@@ -331,7 +326,9 @@ items_alone key (Some value) is_key quoted =
 pub spelling_alone : (question : Question) → IsRegular question
     → IsAlone (spelling question) question
 spelling_alone question regular =
-    let s = spelt_regular question regular in
+    let good = rw regular.says at (good_class regular.key regular.value regular.can_be_quoted) in
+    let s : IsSpelt question =
+    ⊎_elim (λ spelt. spelt) (λ is. record { regular = regular; spelled = is }) good in
     let r = s.regular in
     let (are, tokens) = items_alone r.key r.value r.is_key r.can_be_quoted in
     let has : HasTree (spelling question) (Tree.leaf question) = rw s.spelled (record {

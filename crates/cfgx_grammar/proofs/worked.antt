@@ -70,10 +70,6 @@ either truth = Tree.any (Trees.more (Tree.literal truth) (one (flag (codes "a"))
 abbrev pub listed : Tree Question
 listed = Tree.all (Trees.more (flag (codes "a")) (one (flag (codes "b"))))
 
--- `all(a)`
-abbrev pub single : Tree Question
-single = Tree.all (one (flag (codes "a")))
-
 -- The tokens of a text of words, signs and values: `all`, `any` and `not` are names of functions,
 -- and any other word is a key.
 abbrev names : List (List ℕ × Token)
@@ -161,10 +157,8 @@ pub tree_asks : Lines asked ((shallow, flags (codes "b" ∷ codes "a" ∷ codes 
 tree_asks = refl
 
 -- Which token may stand behind which, and what is expected there.
-abbrev may_follow : Option Token × Token → Bool
-may_follow both = next both.0 both.1
-
-pub follows : Lines may_follow (((None, Token.not), true)
+pub follows : Lines (λ (both : Option Token × Token). next both.0 both.1) (
+    ((None, Token.not), true)
     ∷ ((None, Token.close_paren), false)
     ∷ ((Some Token.open_paren, Token.comma), false)
     ∷ ((Some Token.comma, Token.comma), true)
@@ -178,10 +172,7 @@ expects = refl
 
 -- The answers stand in the order of the questions: b, a, c for `all(a, any(b), c)`, and c, b, a, d
 -- for `any(a, all(b, not(c)), d)`. A literal is joined among the leaves of its list.
-abbrev value : Tree Question × List (List ℕ) → List ℕ
-value both = fold terms both.0 both.1
-
-pub values : Lines value (
+pub values : Lines (λ (both : Tree Question × List (List ℕ)). fold terms both.0 both.1) (
     ((shallow, codes "b" ∷ codes "a" ∷ codes "c" ∷ []), codes "(((T&c)&a)&(F|b))")
     ∷ ((nested, codes "c" ∷ codes "b" ∷ codes "a" ∷ codes "d" ∷ []), codes "(((F|d)|a)|((T&b)&!c))")
     ∷ ((listed, codes "a" ∷ codes "b" ∷ []), codes "((T&b)&a)")
@@ -197,10 +188,8 @@ values = refl
 pub both : fold bool_logic.ghosts listed (true ∷ false ∷ []) ≡ false
 both = refl
 
-abbrev known : Tree Question × List (Option Bool) → Option Bool
-known both = fold kleene_logic.ghosts both.0 both.1
-
-pub over_three : Lines known (((listed, Some false ∷ None ∷ []), Some false)
+pub over_three : Lines (λ (both : Tree Question × List (Option Bool)).
+    fold kleene_logic.ghosts both.0 both.1) (((listed, Some false ∷ None ∷ []), Some false)
     ∷ ((listed, Some true ∷ None ∷ []), None)
     ∷ ((either true, None ∷ []), Some true)
     ∷ ((either false, None ∷ []), None) ∷ [])
@@ -213,11 +202,9 @@ left_open = (refl, refl)
 
 -- What keys and values are, and how predicates are written, computed.
 
-abbrev said : List ℕ × Option (List ℕ) → Class
-said both = class both.0 both.1
-
 -- The literals, other keys that do not begin with `target_`, and one that does and lacks its value.
-pub plain_keys : Lines said (((codes "true", None), Class.is (Leaf.literal true))
+pub plain_keys : Lines (λ (both : List ℕ × Option (List ℕ)). class both.0 both.1) (
+    ((codes "true", None), Class.is (Leaf.literal true))
     ∷ ((codes "false", None), Class.is (Leaf.literal false))
     ∷ ((codes "true", Some (codes "x")), bad_value (unexpected []))
     ∷ ((codes "True", None), predicate (Question.flag (codes "True")))
@@ -357,7 +344,7 @@ is_listed =
     (_ ∷ [], 2, _ ∷ [], refl, omega arith, is_flag (codes "a") refl, last) in
     (_, 0, refl, (_, refl, each))
 
-pub single_has : HasTree (codes "all(a)") single
+pub single_has : HasTree (codes "all(a)") (Tree.all (one (flag (codes "a"))))
 unfolding class
 single_has = record {
   items = lexed (codes "all(a)");
