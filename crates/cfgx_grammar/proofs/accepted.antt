@@ -11,11 +11,11 @@ use Rattle.cfgx_grammar.specs.Grammar.{commas, Separates, IsMember, IsList, IsTr
 use Rattle.cfgx_grammar.specs.Grammar.{IsLeaf}
 use Rattle.cfgx_grammar.specs.parsing.State.{Function, Open, name_of, Word, Pending, Builder, State}
 use Rattle.cfgx_grammar.specs.parsing.State.{initial}
-use Rattle.cfgx_grammar.specs.parsing.Step.{has_room, result_map}
-use Rattle.cfgx_grammar.specs.parsing.Step.{leaf_ended, ended_by, predicate_ended, new_open}
-use Rattle.cfgx_grammar.specs.parsing.Step.{and_then, opened, member_count, function_ended}
-use Rattle.cfgx_grammar.specs.parsing.Step.{closed_by, with_last, apply, step, step_each, one_root}
-use Rattle.cfgx_grammar.specs.parsing.Step.{concluded_by, conclude}
+use Rattle.cfgx_grammar.specs.parsing.Step.{has_room, result_map, leaf_ended, ended_by}
+use Rattle.cfgx_grammar.specs.parsing.Step.{predicate_ended, new_open, and_then, opened}
+use Rattle.cfgx_grammar.specs.parsing.Step.{member_count, function_ended, closed_by, with_last}
+use Rattle.cfgx_grammar.specs.parsing.Step.{apply, step, step_each, one_root, concluded_by}
+use Rattle.cfgx_grammar.specs.parsing.Step.{conclude}
 use Rattle.std.proofs.lemmas.Bool.{false≢true}
 use Rattle.cfgx_grammar.specs.Classification.{Class, class}
 use Rattle.cfgx_grammar.specs.FirstFault.{lacks_value}
