@@ -11,9 +11,6 @@ use Rattle.cfgx_grammar.proofs.Alike.{length-asked_by}
 
 -- What a tree asks, dealt out to a tree of its shape, makes it again.
 module _ {X T : Type 0} (otherwise : T) where
-  abbrev Any : X → T → Type 0
-  Any x y = Unit {0}
-
   -- the members of a list, whatever comes behind
   abbrev Remade : Trees X → Trees T → Type 0
   Remade trees answers = (inner own : List T) → answered_each otherwise trees
@@ -32,10 +29,10 @@ module _ {X T : Type 0} (otherwise : T) where
     answered-front _ _ (Alike.leaf x y related) more = refl
     answered-front _ _ (Alike.literal truth) more = refl
     answered-front _ _ (Alike.all xs ys each) more =
-        ap Tree.all (list_front xs ys (length-asked_by Any xs ys each)
+        ap Tree.all (list_front xs ys (length-asked_by _ xs ys each)
         (answered_each-front xs ys each) more)
     answered-front _ _ (Alike.any xs ys each) more =
-        ap Tree.any (list_front xs ys (length-asked_by Any xs ys each)
+        ap Tree.any (list_front xs ys (length-asked_by _ xs ys each)
         (answered_each-front xs ys each) more)
     answered-front _ _ (Alike.not x y alike) more = ap Tree.not (answered-front x y alike more)
 
@@ -47,7 +44,7 @@ module _ {X T : Type 0} (otherwise : T) where
     answered_each-front _ _ (AlikeEach.more _ _ xs ys (Alike.literal truth) rest) inner own =
         ap (Trees.more (Tree.literal truth)) (answered_each-front xs ys rest inner own)
     answered_each-front _ _ (AlikeEach.more x y xs ys alike rest) inner own =
-        let many = length-asked Any x y alike in
+        let many = length-asked _ x y alike in
         rw (append_assoc (asked y), answered-front x y alike _, drop_at (asked y) _ _ many)
         (ap (Trees.more y) (answered_each-front xs ys rest inner own))
 

@@ -150,9 +150,6 @@ named_small text Pointer is = tt
 no_quote_atomic : (atomic : HasAtomic) → IsWidth atomic → HasNoQuote (atomic_text atomic)
 no_quote_atomic atomic small = grind (arith, no_quote_decimal)
 
-no_quote_endian : (endian : Endian) → HasNoQuote (endian_text endian)
-no_quote_endian endian = grind arith
-
 -- Each line of the tables.
 
 spelt_word : (word : List ℕ) (value : Option (List ℕ)) (question : Question) → CanBeQuoted value
@@ -214,7 +211,7 @@ module _ (key : List ℕ) (value : Option (List ℕ)) where
   unfolding class
   good_target name v q =
       let endian = good_read TargetQuestion.endian invalid_integer (endian_named v) (λ e is.
-      spelt_word (codes "target_endian") (Some (endian_text e)) _ (no_quote_endian e)
+      spelt_word (codes "target_endian") (Some (endian_text e)) _ (grind arith)
       ((refl, refl), refl, rw (endian_named-text e) refl, refl)) in
       let atomic = good_read TargetQuestion.has_atomic invalid_has_atomic (atomic_named v) (λ a is.
       let small = named_small v a is in

@@ -126,9 +126,6 @@ shown text = first_fault text (lexed text) Ending.blank
 abbrev pub fault : Cause → ℕ → ℕ → Option Refusal
 fault cause start end = Some (refusal cause start end)
 
-abbrev pub key : List ℕ → Token
-key text = Token.key text
-
 -- the fault of a token that is refused behind the last one
 abbrev pub refused_behind : Option Token → ℕ → ℕ → Option Refusal
 refused_behind last start end = fault (unexpected (expected last)) start end
@@ -267,7 +264,7 @@ spelled = refl
 
 -- Faults of a token.
 pub tokens_show : Lines shown (
-    (codes "all(a b)", refused_behind (Some (key (codes "a"))) 6 7)
+    (codes "all(a b)", refused_behind (Some (Token.key (codes "a"))) 6 7)
     ∷ (codes ")", refused_behind None 0 1)
     ∷ (codes "a,)", fault unopened_parens 2 3)
     ∷ (codes "not(not(), feature)", fault (invalid_not 0) 4 9)
@@ -330,17 +327,17 @@ is_a : IsKey (codes "a")
 is_a = grind arith
 
 is_flag : (word : List ℕ) → class word None ≡ predicate (Question.flag word)
-    → IsMember (key word ∷ []) (flag word)
+    → IsMember (Token.key word ∷ []) (flag word)
 is_flag word says = (word, None, refl, says)
 
 -- Two commas may stand between members; none behind a `(`, and `not` has a member.
 pub is_listed : IsTree (tokens_of (lexed (codes "all(a,,b)"))) listed
 unfolding class
 is_listed =
-    let last : IsList (key (codes "b") ∷ []) (one (flag (codes "b"))) =
+    let last : IsList (Token.key (codes "b") ∷ []) (one (flag (codes "b"))) =
     (_ ∷ [], 0, [], refl, tt, is_flag (codes "b") refl, refl) in
-    let each : IsList (key (codes "a") ∷ Token.comma ∷ Token.comma ∷ key (codes "b") ∷ [])
-    (Trees.more (flag (codes "a")) (one (flag (codes "b")))) =
+    let each : IsList (Token.key (codes "a") ∷ Token.comma ∷ Token.comma ∷ Token.key (codes "b")
+    ∷ []) (Trees.more (flag (codes "a")) (one (flag (codes "b")))) =
     (_ ∷ [], 2, _ ∷ [], refl, omega arith, is_flag (codes "a") refl, last) in
     (_, 0, refl, (_, refl, each))
 

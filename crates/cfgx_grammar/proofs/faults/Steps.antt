@@ -348,8 +348,7 @@ first_behind front (item ∷ items) =
 first_is : (items all front : List Item) → all ≡ front ++ items
     → first_below (fault_at all) (length all)
     ≡ option_or (first_below (fault_at all) (length front)) (first_behind front items)
-first_is [] all front is = let same : all ≡ front = is ∙ append-nil front in
-    rw (ap length same) (grind arith)
+first_is [] all front is = rw (ap length (is ∙ append-nil front)) (grind arith)
 first_is (item ∷ items) all front is =
     let here : fault_at all (length front) ≡ fault_behind front item =
     rw (is, take-append_seam, slice_get_next) refl in
