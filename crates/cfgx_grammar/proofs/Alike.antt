@@ -1,12 +1,10 @@
 -- Trees of one shape and with the same literals, whose other leaves stand in a relation one by one.
-use Rattle.std.proofs.Common.{arith}
-use Rattle.std.proofs.Common.{◌≡◌, ℕ, suc, zero, Bool, true, false, List, [], ◌∷◌, ◌++◌, length}
-use Rattle.std.proofs.Common.{drop, refl}
-use Rattle.std.specs.Prelude.{if◌then◌else◌}
+use Rattle.std.proofs.Common.{arith, ◌≡◌, ℕ, suc, zero, Bool, List, [], ◌∷◌, ◌++◌, length, drop}
+use Rattle.std.proofs.Common.{if◌then◌else◌}
 use Rattle.std.specs.List.{AllZip}
 use Rattle.std.proofs.lemmas.Slice.Zip.{AllZip-long}
 use Rattle.cfgx_grammar.specs.Tree.{Tree, Trees, is_function, is_leaf, asked, asked_by}
-use Rattle.cfgx_grammar.specs.Fold.{first_or, answered, answered_each}
+use Rattle.cfgx_grammar.specs.Fold.{answered, answered_each}
 
 -- Lists whose items stand in a relation.
 
@@ -28,8 +26,7 @@ AllZip-append R _ others _ more zipped rest = absurd zipped
 pub AllZip-if : {T U : Type 0} (R : T → U → Type 0) (b : Bool) (xs others : List T)
     (ys more : List U) → AllZip R xs ys → AllZip R others more
     → AllZip R (if b then xs else others) (if b then ys else more)
-AllZip-if R true xs others ys more here rest = here
-AllZip-if R false xs others ys more here rest = rest
+AllZip-if R b xs others ys more here rest = grind arith
 
 module _ {T U : Type 0} (R : T → U → Type 0) where
   mutual
@@ -59,12 +56,10 @@ SameTests {T} {U} R f g = (x : Tree T) (y : Tree U) → Alike R x y → f x ≡ 
 
 module _ {T U : Type 0} (R : T → U → Type 0) where
   pub same_functions : SameTests R is_function is_function
-  same_functions _ _ (Alike.leaf x y related) = refl
-  same_functions _ _ _ = refl
+  same_functions x y alike = grind arith
 
   pub same_leaves : SameTests R is_leaf is_leaf
-  same_leaves _ _ (Alike.leaf x y related) = refl
-  same_leaves _ _ _ = refl
+  same_leaves x y alike = grind arith
 
   mutual
     -- they ask alike
@@ -98,14 +93,10 @@ module _ {T U : Type 0} (R : T → U → Type 0) where
 
 -- Answers that are alike, dealt out to one tree, make trees that are alike.
 module _ {T U : Type 0} (R : T → U → Type 0) (one : T) (other : U) (related : R one other) where
-  first-alike : (xs : List T) (ys : List U) → AllZip R xs ys
-      → R (first_or one xs) (first_or other ys)
-  first-alike xs ys zipped = grind arith
-
   mutual
     pub answered-alike : {X : Type 0} (tree : Tree X) (xs : List T) (ys : List U) → AllZip R xs ys
         → Alike R (answered one tree xs) (answered other tree ys)
-    answered-alike (Tree.leaf x) xs ys zipped = Alike.leaf _ _ (first-alike xs ys zipped)
+    answered-alike (Tree.leaf x) xs ys zipped = Alike.leaf _ _ (grind arith)
     answered-alike (Tree.literal truth) xs ys zipped = Alike.literal truth
     answered-alike (Tree.all trees) xs ys zipped = Alike.all _ _ (answered_each-alike trees _ _ _ _
         zipped (AllZip-drop R (length (asked_by is_function trees)) xs ys zipped))
@@ -125,25 +116,21 @@ module _ {T U : Type 0} (R : T → U → Type 0) (one : T) (other : U) (related 
         (answered_each-alike trees _ others _ further
         (AllZip-drop R (length (asked tree)) xs ys inner) own)
 
-mutual
-  -- a tree keeps its shape when it is answered
-  pub answered-shape : {X T : Type 0} (otherwise : T) (tree : Tree X) (answers : List T)
-      → SameShape tree (answered otherwise tree answers)
-  answered-shape otherwise (Tree.leaf x) answers = Alike.leaf _ _ tt
-  answered-shape otherwise (Tree.literal truth) answers = Alike.literal truth
-  answered-shape otherwise (Tree.all trees) answers =
-      Alike.all _ _ (answered_each-shape otherwise trees _ _)
-  answered-shape otherwise (Tree.any trees) answers =
-      Alike.any _ _ (answered_each-shape otherwise trees _ _)
-  answered-shape otherwise (Tree.not tree) answers =
-      Alike.not _ _ (answered-shape otherwise tree answers)
+module _ {X T : Type 0} (otherwise : T) where
+  mutual
+    -- a tree keeps its shape when it is answered
+    pub answered-shape : (tree : Tree X) (answers : List T)
+        → SameShape tree (answered otherwise tree answers)
+    answered-shape (Tree.leaf x) answers = Alike.leaf _ _ tt
+    answered-shape (Tree.literal truth) answers = Alike.literal truth
+    answered-shape (Tree.all trees) answers = Alike.all _ _ (answered_each-shape trees _ _)
+    answered-shape (Tree.any trees) answers = Alike.any _ _ (answered_each-shape trees _ _)
+    answered-shape (Tree.not tree) answers = Alike.not _ _ (answered-shape tree answers)
 
-  answered_each-shape : {X T : Type 0} (otherwise : T) (trees : Trees X) (inner own : List T)
-      → SameShapes trees (answered_each otherwise trees inner own)
-  answered_each-shape otherwise Trees.none inner own = AlikeEach.none
-  answered_each-shape otherwise (Trees.more (Tree.leaf x) trees) inner own =
-      AlikeEach.more _ _ _ _ (answered-shape otherwise (Tree.leaf x) own)
-      (answered_each-shape otherwise trees _ _)
-  answered_each-shape otherwise (Trees.more tree trees) inner own =
-      AlikeEach.more _ _ _ _ (answered-shape otherwise tree inner)
-      (answered_each-shape otherwise trees _ _)
+    answered_each-shape : (trees : Trees X) (inner own : List T)
+        → SameShapes trees (answered_each otherwise trees inner own)
+    answered_each-shape Trees.none inner own = AlikeEach.none
+    answered_each-shape (Trees.more (Tree.leaf x) trees) inner own = AlikeEach.more _ _ _ _
+        (answered-shape (Tree.leaf x) own) (answered_each-shape trees _ _)
+    answered_each-shape (Trees.more tree trees) inner own =
+        AlikeEach.more _ _ _ _ (answered-shape tree inner) (answered_each-shape trees _ _)

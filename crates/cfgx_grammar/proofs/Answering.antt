@@ -1,9 +1,8 @@
 -- What the parser answers for the one token list of a text, the grammar answers for the text.
-use Rattle.std.proofs.Common.{arith}
+use Rattle.std.proofs.Common.{arith, ◌≡◌, ◌⊎◌, inl, inr, ℕ, List, length, Some, Result, Ok, Err}
+use Rattle.std.proofs.Common.{sym, refl, ap, ◌∙◌, subst}
 use Rattle.std.proofs.lemmas.Bool.Decides.{nat_tests}
 use Rattle.std.proofs.lemmas.Grind.{common_steps}
-use Rattle.std.proofs.Common.{◌≡◌, ◌⊎◌, inl, inr, ℕ, List, length, Some, Result, Ok, Err, sym, refl}
-use Rattle.std.proofs.Common.{ap, ◌∙◌, subst}
 use Rattle.cfgx_syntax.specs.Items.{Ending, AreItems, HasOneTokenList, lexical}
 use Rattle.cfgx_syntax.specs.Error.{Refusal}
 use Rattle.cfgx_syntax.proofs.TokenList.{ItemsFrom-same}
@@ -11,28 +10,13 @@ use Rattle.cfgx_grammar.specs.Question.{Question}
 use Rattle.cfgx_grammar.specs.Tree.{Tree}
 use Rattle.cfgx_grammar.specs.Grammar.{IsTree, HasTree}
 use Rattle.cfgx_grammar.specs.FirstFault.{HasFault, first_fault}
-use Rattle.cfgx_grammar.specs.Answer.{HasOneTree, HasNoTree, HasOneFault, HasNoFault, IsAccepted}
-use Rattle.cfgx_grammar.specs.Answer.{IsRefused}
+use Rattle.cfgx_grammar.specs.Answer.{HasOneTree, IsAccepted, IsRefused}
 use Rattle.cfgx_grammar.specs.parsing.State.{Builder, State, initial}
 use Rattle.cfgx_grammar.specs.parsing.Step.{and_then, step_each, conclude, ended_as, answer_from}
 use Rattle.cfgx_grammar.proofs.accepted.{tokens_of, ran, IsTree-accepted}
 use Rattle.cfgx_grammar.proofs.faults.Steps.{EndAgrees, whole_agrees}
 use Rattle.cfgx_grammar.proofs.spelled.{Laws, tree_builder, tree_laws, tree_built, Finds}
 use Rattle.cfgx_grammar.proofs.spelled.{Finds-tree}
-
--- every builder keeps these
-no_laws : {W M L : Type 0} (builder : Builder W M L) → Laws builder
-no_laws builder = record {
-  MemberBuilds = λ items w v tree. Unit {0};
-  ListBuilds = λ items w v trees. Unit {0};
-  key = λ x key leaf w is classed. tt;
-  value = λ x y z key value leaf w x_is z_is classed. tt;
-  none = λ w. tt;
-  more = λ xs ys zs tree trees w v u first others. tt;
-  all = λ trees head opening closing members w v built. tt;
-  any = λ trees head opening closing members w v built. tt;
-  not = λ tree head opening closing members w v built. tt;
-}
 
 module _ {W M L : Type 0} {builder : Builder W M L} (text : List ℕ)
     (one : HasOneTokenList text) where
@@ -59,25 +43,15 @@ module _ {W M L : Type 0} {builder : Builder W M L} (text : List ℕ)
       }
 
   -- what is accepted has a tree
-  ended_blank : (ending : Ending) (s u : State builder)
-      → ended_as text (lexical text ending) s ≡ Ok u
-      → (ending ≡ Ending.blank) × (conclude (length text) s ≡ Ok u)
-  ended_blank ending s u e = grind (arith, nat_tests, common_steps)
-
   pub tree_of : (u : State builder) → answer ≡ Ok u → (tree : Tree Question) × HasTree text tree
   tree_of u e =
       let r = ran (step_each initial one.items) (ended_as text (lexical text one.ending)) u e in
-      let ended = ended_blank one.ending r.0 u r.2 in
-      let found = IsTree-accepted one.items r.0 u (length text) r.1 ended.1 in
+      let blank : one.ending ≡ Ending.blank = grind (arith, r.2) in
+      let ended : conclude (length text) r.0 ≡ Ok u = grind (arith, blank, r.2) in
+      let found = IsTree-accepted one.items r.0 u (length text) r.1 ended in
       let are : AreItems text one.items Ending.blank =
-      subst (AreItems text one.items) ended.0 one.are in
+      subst (AreItems text one.items) blank one.are in
       (found.0, record { items = one.items; are_items = are; spelled = found.1 })
-
-  -- a text that is refused has no tree
-  HasNoTree-refused : (refusal : Refusal) → answer ≡ Err refusal → HasNoTree text
-  HasNoTree-refused refusal e tree has =
-      let f = FindsTree-tree (no_laws builder) tree has in
-      absurd (cc)
 
   answered : (r : Result (State builder) Refusal) → answer ≡ r
       → EndAgrees r (first_fault text one.items one.ending)
@@ -107,29 +81,24 @@ module _ (text : List ℕ) (one : HasOneTokenList text) where
 
 module _ {W M L : Type 0} {builder : Builder W M L} (text : List ℕ)
     (one : HasOneTokenList text) where
-  HasNoFault-accepted : (u : State builder) → answer text one ≡ Ok u → HasNoFault text
-  HasNoFault-accepted u e fault has =
-      absurd (cc (answered text one (Ok u) e, fault_shown text one fault has))
-
-  HasOneFault-refused : (refusal : Refusal) → answer {builder = builder} text one ≡ Err refusal
-      → HasOneFault text refusal
-  HasOneFault-refused refusal e =
-      let shown = answered text one (Err refusal) e in
-      record {
-        has_fault =
-            record { items = one.items; ending = one.ending; are_items = one.are; shown = shown };
-        only = λ other has. cc (fault_shown text one other has, shown);
-      }
-
   pub IsAccepted-accepted : (u : State builder) → answer text one ≡ Ok u → IsAccepted text
-  IsAccepted-accepted u e =
-      let t = tree_of text one u e in
-      (HasOneTree-tree text one t.0 t.1, HasNoFault-accepted u e)
+  IsAccepted-accepted u e = let (tree, has) = tree_of text one u e in (
+    HasOneTree-tree text one tree has,
+    λ fault shown. absurd (cc ((answered text one (Ok u) e).0, fault_shown text one fault shown)),
+  )
 
+  -- a tree would be found and show that there is no fault
   pub IsRefused-refused : (refusal : Refusal) → answer {builder = builder} text one ≡ Err refusal
       → IsRefused text refusal
-  IsRefused-refused refusal e =
-      (HasNoTree-refused text one refusal e, HasOneFault-refused refusal e)
+  IsRefused-refused refusal e = let shown = answered text one (Err refusal) e in (
+    λ tree has. let f = FindsTree-tree text one tree_laws tree has in
+        absurd (cc ((answered text one (Ok f.found.whole) f.answers).0, shown)),
+    record {
+      has_fault =
+          record { items = one.items; ending = one.ending; are_items = one.are; shown = shown };
+      only = λ other has. cc (fault_shown text one other has, shown);
+    },
+  )
 
 -- either way
 pub accepted_or_refused : (text : List ℕ) → HasOneTokenList text

@@ -1,13 +1,7 @@
 -- A key by whether it begins with `target_`.
-use Rattle.std.proofs.Common.{arith}
+use Rattle.std.proofs.Common.{arith, ◌≡◌, ℕ, List, ◌++◌, Option, codes}
 use Rattle.std.proofs.lemmas.Bool.Decides.{nat_tests}
 use Rattle.std.proofs.lemmas.Grind.{common_steps}
-use Rattle.std.proofs.Common.{◌≡◌, true, ℕ, List, ◌++◌, drop, nat_eq, Option, refl, ap, ◌∙◌}
-use Rattle.std.specs.Prelude.{codes}
-use Rattle.std.specs.List.{starts_with}
-use Rattle.std.proofs.lemmas.List.{drop_at}
-use Rattle.std.proofs.lemmas.Bool.Decides.{Decides-eqb}
-use Rattle.std.proofs.lemmas.Slice.Eq.{starts_is}
 use Rattle.cfgx_grammar.specs.Classification.{valued, target_class, other_class}
 
 pub other_class-target : (key rest : List ℕ) (value : Option (List ℕ)) → key ≡ codes "target_"

@@ -1,10 +1,9 @@
 -- Answers that are dealt out to a tree are what the answered tree asks.
 use Rattle.std.proofs.lemmas.Bool.Decides.{nat_tests}
 use Rattle.std.proofs.lemmas.Grind.{common_steps}
-use Rattle.std.proofs.Common.{◌≡◌, ◌≤◌, List, [], ◌∷◌, ◌++◌, length, take, refl, sym, ap, ◌∙◌}
-use Rattle.std.proofs.Common.{arith, append_assoc, length-append, length-drop, drop_at}
-use Rattle.std.proofs.Math.Seq.{take-add}
-use Rattle.std.proofs.lemmas.List.{append-nil, take_all}
+use Rattle.std.proofs.Common.{append_assoc, drop_at, ◌≡◌, ◌≤◌, List, [], ◌∷◌, ◌++◌, length, take}
+use Rattle.std.proofs.Common.{refl, sym, ap, ◌∙◌, arith, length-append, length-drop, take-add}
+use Rattle.std.proofs.Common.{append-nil, take_all}
 use Rattle.cfgx_grammar.specs.Tree.{Tree, Trees, is_function, is_leaf, asked, asked_by}
 use Rattle.cfgx_grammar.specs.Fold.{behind, answered, answered_each}
 use Rattle.cfgx_grammar.proofs.Alike.{Alike, AlikeEach, SameShape, SameShapes, length-asked}
@@ -12,20 +11,6 @@ use Rattle.cfgx_grammar.proofs.Alike.{length-asked_by}
 
 -- What a tree asks, dealt out to a tree of its shape, makes it again.
 module _ {X T : Type 0} (otherwise : T) where
-  abbrev Any : X → T → Type 0
-  Any x y = Unit {0}
-
-  -- the first of some members is a function
-  module _ (tree : Tree X) (answer : Tree T) (trees : Trees X) (answers : Trees T)
-      (inner rest : List T) where
-    function_first : length (asked answer) ≡ length (asked tree)
-        → ((more : List T) → answered otherwise tree (asked answer ++ more) ≡ answer)
-        → (own : List T) → answered_each otherwise trees (inner ++ rest) own ≡ answers
-        → Trees.more (answered otherwise tree ((asked answer ++ inner) ++ rest))
-        (answered_each otherwise trees (behind (asked tree) ((asked answer ++ inner) ++ rest)) own)
-        ≡ Trees.more answer answers
-    function_first many here own others = grind (arith, nat_tests, common_steps)
-
   -- the members of a list, whatever comes behind
   abbrev Remade : Trees X → Trees T → Type 0
   Remade trees answers = (inner own : List T) → answered_each otherwise trees
@@ -44,10 +29,10 @@ module _ {X T : Type 0} (otherwise : T) where
     answered-front _ _ (Alike.leaf x y related) more = refl
     answered-front _ _ (Alike.literal truth) more = refl
     answered-front _ _ (Alike.all xs ys each) more =
-        ap Tree.all (list_front xs ys (length-asked_by Any xs ys each)
+        ap Tree.all (list_front xs ys (length-asked_by _ xs ys each)
         (answered_each-front xs ys each) more)
     answered-front _ _ (Alike.any xs ys each) more =
-        ap Tree.any (list_front xs ys (length-asked_by Any xs ys each)
+        ap Tree.any (list_front xs ys (length-asked_by _ xs ys each)
         (answered_each-front xs ys each) more)
     answered-front _ _ (Alike.not x y alike) more = ap Tree.not (answered-front x y alike more)
 
@@ -56,9 +41,12 @@ module _ {X T : Type 0} (otherwise : T) where
     answered_each-front _ _ AlikeEach.none inner own = refl
     answered_each-front _ _ (AlikeEach.more _ _ xs ys (Alike.leaf x y related) rest) inner own =
         ap (Trees.more (Tree.leaf y)) (answered_each-front xs ys rest inner own)
+    answered_each-front _ _ (AlikeEach.more _ _ xs ys (Alike.literal truth) rest) inner own =
+        ap (Trees.more (Tree.literal truth)) (answered_each-front xs ys rest inner own)
     answered_each-front _ _ (AlikeEach.more x y xs ys alike rest) inner own =
-        function_first x y xs ys _ inner (length-asked Any x y alike) (answered-front x y alike) _
-        (answered_each-front xs ys rest inner own)
+        let many = length-asked _ x y alike in
+        rw (append_assoc (asked y), answered-front x y alike _, drop_at (asked y) _ _ many)
+        (ap (Trees.more y) (answered_each-front xs ys rest inner own))
 
   pub answered-asked : (tree : Tree X) (answer : Tree T) → SameShape tree answer
       → answered otherwise tree (asked answer) ≡ answer
@@ -70,20 +58,10 @@ module _ {X T : Type 0} (otherwise : T) where
 
 -- two parts of what is asked, one after another
 taken_both : {X T : Type 0} (first second : List X) (answers these those : List T)
-    → these ≡ take (length first) answers
-    → those ≡ take (length second) (behind first answers)
+    → these ≡ take (length first) answers → those ≡ take (length second) (behind first answers)
     → these ++ those ≡ take (length (first ++ second)) answers
 taken_both first second answers these those these_are those_are =
     rw (these_are, those_are, length-append first second, take-add (length first)) refl
-
--- enough is left for the second part
-enough_behind : {X T : Type 0} (first second : List X) (answers : List T)
-    → length (first ++ second) ≤ length answers → length second ≤ length (behind first answers)
-enough_behind first second answers enough = grind (arith, nat_tests, common_steps)
-
-enough_first : {X T : Type 0} (first second : List X) (answers : List T)
-    → length (first ++ second) ≤ length answers → length first ≤ length answers
-enough_first first second answers enough = omega (arith, length-append first second)
 
 module _ {X T : Type 0} (otherwise : T) where
   -- what the members of a list ask that are functions, and those that are leaves
@@ -104,8 +82,10 @@ module _ {X T : Type 0} (otherwise : T) where
   list_taken trees answers takes enough =
       let inner = asked_by is_function trees in
       let own = asked_by is_leaf trees in
-      let taken = takes answers (behind inner answers) (enough_first inner own answers enough)
-      (enough_behind inner own answers enough) in
+      let many = length-append inner own in
+      let left = length-drop (length inner) answers in
+      let taken = takes answers (behind inner answers) (omega (arith, many))
+      (omega (arith, many, left)) in
       taken_both inner own answers _ _ taken.0 taken.1
 
   mutual
@@ -128,9 +108,11 @@ module _ {X T : Type 0} (otherwise : T) where
         (others.0, ap (λ l. answer ∷ l) others.1)
     asked_each-taken (Trees.more tree trees) inner own enough some =
         let rest = asked_by is_function trees in
+        let many = length-append (asked tree) rest in
+        let left = length-drop (length (asked tree)) inner in
         let others = asked_each-taken trees (behind (asked tree) inner) own
-        (enough_behind (asked tree) rest inner enough) some in
-        let first = asked-taken tree inner (enough_first (asked tree) rest inner enough) in
+        (omega (arith, many, left)) some in
+        let first = asked-taken tree inner (omega (arith, many)) in
         (taken_both (asked tree) rest inner _ _ first others.0, others.1)
 
   pub asked-answered : (tree : Tree X) (answers : List T)

@@ -1,18 +1,17 @@
 -- Three values are exact: a value is known exactly where every filling leads to it.
 use Rattle.std.proofs.lemmas.Grind.{common_steps}
 use Rattle.std.proofs.Common.{◌≡◌, Bool, true, false, not, ◌&&◌, ◌||◌, List, [], ◌∷◌, ◌++◌, arith}
-use Rattle.std.proofs.Common.{length, Option, Some, None, sym, refl, ap, ◌∙◌, subst}
+use Rattle.std.proofs.Common.{length, Option, Some, refl, ap, ◌∙◌, map, unwrap_or}
 use Rattle.std.proofs.lemmas.List.{map-append}
-use Rattle.std.specs.Prelude.{map, unwrap_or, if◌then◌else◌}
 use Rattle.std.specs.List.{AllZip}
-use Rattle.cfgx_syntax.specs.Logic.{kleene_and, kleene_or, kleene_not}
+use Rattle.cfgx_syntax.specs.Logic.{kleene_and, kleene_or}
 use Rattle.cfgx_grammar.specs.Tree.{Tree, Trees, is_function, is_leaf, asked}
 use Rattle.cfgx_grammar.specs.Fold.{Operations, from_last, value_of, values_by, answered, fold}
 use Rattle.cfgx_grammar.specs.Filling.{two_valued, three_valued, Agrees, IsFilling, IsExact, filled}
 use Rattle.cfgx_grammar.specs.Filling.{filled_each, polar}
-use Rattle.cfgx_grammar.proofs.Alike.{Alike, AlikeEach, SameShape, SameShapes, SameTests}
-use Rattle.cfgx_grammar.proofs.Alike.{AllZip-append, AllZip-if, same_functions, same_leaves}
-use Rattle.cfgx_grammar.proofs.Alike.{asked-alike, answered-alike, answered-shape}
+use Rattle.cfgx_grammar.proofs.Alike.{Alike, AlikeEach, SameTests, AllZip-append, AllZip-if}
+use Rattle.cfgx_grammar.proofs.Alike.{same_functions, same_leaves, asked-alike, answered-alike}
+use Rattle.cfgx_grammar.proofs.Alike.{answered-shape}
 use Rattle.cfgx_grammar.proofs.Dealing.{answered-asked, asked-answered}
 
 -- Values of two logics that are related stay so.
@@ -28,8 +27,7 @@ pub record Preserve {T U : Type 0} (one : Operations T) (other : Operations U)
 
 module _ {T U : Type 0} (one : Operations T) (other : Operations U) (R : T → U → Type 0)
     (preserve : Preserve one other R) where
-  from_last_kept : (join : T → T → T) (joined : U → U → U) (begin : T) (begun : U)
-      → R begin begun
+  from_last_kept : (join : T → T → T) (joined : U → U → U) (begin : T) (begun : U) → R begin begun
       → ((x y : T) (u v : U) → R x u → R y v → R (join x y) (joined u v))
       → (xs : List T) (ys : List U) → AllZip R xs ys
       → R (from_last join begin xs) (from_last joined begun ys)
@@ -41,8 +39,7 @@ module _ {T U : Type 0} (one : Operations T) (other : Operations U) (R : T → U
 
   mutual
     -- leaves that are related make related values
-    pub value_kept : (x : Tree T) (y : Tree U) → Alike R x y
-        → R (value_of one x) (value_of other y)
+    pub value_kept : (x : Tree T) (y : Tree U) → Alike R x y → R (value_of one x) (value_of other y)
     value_kept _ _ (Alike.leaf x y related) = related
     value_kept _ _ (Alike.literal true) = preserve.top
     value_kept _ _ (Alike.literal false) = preserve.bottom
@@ -75,90 +72,28 @@ module _ {T U : Type 0} (one : Operations T) (other : Operations U) (R : T → U
 
 -- a filling makes a known value
 
-agrees_and : (x y : Option Bool) (u v : Bool) → Agrees x u → Agrees y v
-    → Agrees (kleene_and x y) (u && v)
-agrees_and x y u v p q = grind (arith, common_steps)
-
-agrees_or : (x y : Option Bool) (u v : Bool) → Agrees x u → Agrees y v
-    → Agrees (kleene_or x y) (u || v)
-agrees_or x y u v p q = grind (arith, common_steps)
-
-agrees_not : (x : Option Bool) (u : Bool) → Agrees x u → Agrees (kleene_not x) (not u)
-agrees_not x u p = grind (arith, common_steps)
-
 agreement : Preserve three_valued two_valued Agrees
-agreement =
-    record { top = refl; bottom = refl; and = agrees_and; or = agrees_or; not = agrees_not }
-
--- what is known holds under every filling
-pub known_filled : {X : Type 0} (tree : Tree X) (answers : List (Option Bool))
-    (filling : List Bool) (value : Bool)
-    → fold three_valued tree answers ≡ Some value → IsFilling answers filling
-    → fold two_valued tree filling ≡ value
-known_filled tree answers filling value is fills =
-    subst (λ v. Agrees v (fold two_valued tree filling)) is
-    (fold_kept three_valued two_valued Agrees agreement tree answers filling fills)
+agreement = record {
+  top = refl;
+  bottom = refl;
+  and = λ x y u v p q. grind (arith, common_steps);
+  or = λ x y u v p q. grind (arith, common_steps);
+  not = λ x u p. grind (arith, common_steps);
+}
 
 -- A polar filling leads to the value, with its own side in the place of an unknown one.
 
 abbrev side : Bool → Option Bool → Bool
 side fill value = unwrap_or value fill
 
-side_joined : (fill : Bool) (x y : Option Bool)
-    → ((side fill x && side fill y) ≡ side fill (kleene_and x y))
-    × ((side fill x || side fill y) ≡ side fill (kleene_or x y))
-side_joined fill x y = (grind arith, grind arith)
-
-side_not : (fill : Bool) (x : Option Bool) → not (side (not fill) x) ≡ side fill (kleene_not x)
-side_not fill x = grind arith
-
--- both sides tell whether a value is known
-known_sides : (x : Option Bool) (value : Bool) → side true x ≡ value → side false x ≡ value
-    → x ≡ Some value
-known_sides x value one other = grind arith
-
-unknown_sides : (x : Option Bool) → side true x ≡ true → side false x ≡ false → x ≡ None
-unknown_sides x one other = grind arith
-
-abbrev sides : Bool → List (Option Bool) → List Bool
-sides fill values = map (side fill) values
-
-module _ (join : Bool → Bool → Bool) (joined : Option Bool → Option Bool → Option Bool)
-    (begin : Bool) (fill : Bool) (each : (x y : Option Bool)
-    → join (side fill x) (side fill y) ≡ side fill (joined x y)) where
-  from_last-sides : (values : List (Option Bool)) → from_last join begin (sides fill values)
-      ≡ side fill (from_last joined (Some begin) values)
-  from_last-sides [] = refl
-  from_last-sides (value ∷ values) = rw (from_last-sides values) (each _ value)
-
-  list-sides : (inner own : List Bool) (these those : List (Option Bool))
-      → inner ≡ sides fill these → own ≡ sides fill those → from_last join begin (inner ++ own)
-      ≡ side fill (from_last joined (Some begin) (these ++ those))
-  list-sides inner own these those inner_are own_are =
-      rw (inner_are, own_are, ← map-append) (from_last-sides (these ++ those))
-
--- the members that pass a test are filled as the test says of the list before
-values-if : (fill b : Bool) (value : Bool) (known : Option Bool) (values : List Bool)
-    (others : List (Option Bool)) → value ≡ side fill known → values ≡ sides fill others
-    → (if b then value ∷ values else values) ≡ sides fill (if b then known ∷ others else others)
-values-if fill true value known values others first rest = rw (first, rest) refl
-values-if fill false value known values others first rest = rest
-
-mutual
-  -- known answers stay, and a filling is of the tree's shape
-  filled-agrees : (fill : Bool) (tree : Tree (Option Bool)) → Alike Agrees tree (filled fill tree)
-  filled-agrees fill (Tree.leaf (Some answer)) = Alike.leaf _ _ refl
-  filled-agrees fill (Tree.leaf None) = Alike.leaf _ _ tt
-  filled-agrees fill (Tree.literal truth) = Alike.literal truth
-  filled-agrees fill (Tree.all trees) = Alike.all _ _ (filled_each-agrees fill trees)
-  filled-agrees fill (Tree.any trees) = Alike.any _ _ (filled_each-agrees fill trees)
-  filled-agrees fill (Tree.not tree) = Alike.not _ _ (filled-agrees (not fill) tree)
-
-  filled_each-agrees : (fill : Bool) (trees : Trees (Option Bool))
-      → AlikeEach Agrees trees (filled_each fill trees)
-  filled_each-agrees fill Trees.none = AlikeEach.none
-  filled_each-agrees fill (Trees.more tree trees) =
-      AlikeEach.more _ _ _ _ (filled-agrees fill tree) (filled_each-agrees fill trees)
+from_last-sides : (join : Bool → Bool → Bool) (joined : Option Bool → Option Bool → Option Bool)
+    (begin fill : Bool) (values : List (Option Bool))
+    → ((x y : Option Bool) → join (side fill x) (side fill y) ≡ side fill (joined x y))
+    → from_last join begin (map (side fill) values)
+    ≡ side fill (from_last joined (Some begin) values)
+from_last-sides join joined begin fill [] each = refl
+from_last-sides join joined begin fill (value ∷ values) each =
+    rw (from_last-sides join joined begin fill values each) (each _ value)
 
 mutual
   value-filled : (fill : Bool) (tree : Tree (Option Bool))
@@ -167,39 +102,51 @@ mutual
   value-filled fill (Tree.literal true) = refl
   value-filled fill (Tree.literal false) = refl
   value-filled fill (Tree.all trees) =
-      list-sides _ _ true fill (λ x y. (side_joined fill x y).0) _ _ _ _
-      (values-filled is_function is_function (same_functions Agrees) fill trees)
-      (values-filled is_leaf is_leaf (same_leaves Agrees) fill trees)
+      let inner = values-filled is_function is_function (λ filling tree. grind arith) fill trees in
+      let own = values-filled is_leaf is_leaf (λ filling tree. grind arith) fill trees in
+      rw (inner, own, ← map-append)
+      (from_last-sides ◌&&◌ kleene_and true fill
+      (values_by three_valued is_function trees ++ values_by three_valued is_leaf trees)
+      (λ x y. grind arith))
   value-filled fill (Tree.any trees) =
-      list-sides _ _ false fill (λ x y. (side_joined fill x y).1) _ _ _ _
-      (values-filled is_function is_function (same_functions Agrees) fill trees)
-      (values-filled is_leaf is_leaf (same_leaves Agrees) fill trees)
-  value-filled fill (Tree.not tree) =
-      ap not (value-filled (not fill) tree) ∙ side_not fill (value_of three_valued tree)
+      let inner = values-filled is_function is_function (λ filling tree. grind arith) fill trees in
+      let own = values-filled is_leaf is_leaf (λ filling tree. grind arith) fill trees in
+      rw (inner, own, ← map-append)
+      (from_last-sides ◌||◌ kleene_or false fill
+      (values_by three_valued is_function trees ++ values_by three_valued is_leaf trees)
+      (λ x y. grind arith))
+  value-filled fill (Tree.not tree) = rw (value-filled (not fill) tree) (grind arith)
 
-  values-filled : (f : Tree (Option Bool) → Bool) (g : Tree Bool → Bool) → SameTests Agrees f g
+  values-filled : (f : Tree (Option Bool) → Bool) (g : Tree Bool → Bool)
+      → ((fill : Bool) (tree : Tree (Option Bool)) → g (filled fill tree) ≡ f tree)
       → (fill : Bool) (trees : Trees (Option Bool)) → values_by two_valued g
-      (filled_each fill trees) ≡ sides fill (values_by three_valued f trees)
+      (filled_each fill trees) ≡ map (side fill) (values_by three_valued f trees)
   values-filled f g same fill Trees.none = refl
-  values-filled f g same fill (Trees.more tree trees) = rw (← same tree _ (filled-agrees fill tree))
-      (values-if fill (f tree) _ _ _ _ (value-filled fill tree) (values-filled f g same fill trees))
+  values-filled f g same fill (Trees.more tree trees) =
+      let rest = values-filled f g same fill trees in
+      rw (same fill tree, value-filled fill tree, rest) (grind arith)
 
-module _ {X : Type 0} where
+-- A filling is like the answers in what it keeps of each.
+module _ {X : Type 0} (R : X → Option Bool → Type 0) (S : X → Bool → Type 0)
+    (each : (fill : Bool) (x : X) (known : Option Bool) → R x known → S x (side fill known)) where
   mutual
-    filled-shape : (fill : Bool) (tree : Tree X) (answers : Tree (Option Bool))
-        → SameShape tree answers → SameShape tree (filled fill answers)
-    filled-shape fill _ _ (Alike.leaf x y related) = Alike.leaf _ _ tt
-    filled-shape fill _ _ (Alike.literal truth) = Alike.literal truth
-    filled-shape fill _ _ (Alike.all xs ys each) = Alike.all _ _ (filled_each-shape fill xs ys each)
-    filled-shape fill _ _ (Alike.any xs ys each) = Alike.any _ _ (filled_each-shape fill xs ys each)
-    filled-shape fill _ _ (Alike.not x y alike) = Alike.not _ _ (filled-shape (not fill) x y alike)
+    filled-alike : (fill : Bool) (tree : Tree X) (answers : Tree (Option Bool))
+        → Alike R tree answers → Alike S tree (filled fill answers)
+    filled-alike fill _ _ (Alike.leaf x y related) = Alike.leaf _ _ (each fill x y related)
+    filled-alike fill _ _ (Alike.literal truth) = Alike.literal truth
+    filled-alike fill _ _ (Alike.all xs ys all) = Alike.all _ _ (filled_each-alike fill xs ys all)
+    filled-alike fill _ _ (Alike.any xs ys all) = Alike.any _ _ (filled_each-alike fill xs ys all)
+    filled-alike fill _ _ (Alike.not x y alike) = Alike.not _ _ (filled-alike (not fill) x y alike)
 
-    filled_each-shape : (fill : Bool) (trees : Trees X)
-        (answers : Trees (Option Bool)) → SameShapes trees answers
-        → SameShapes trees (filled_each fill answers)
-    filled_each-shape fill _ _ AlikeEach.none = AlikeEach.none
-    filled_each-shape fill _ _ (AlikeEach.more x y xs ys first rest) = AlikeEach.more _ _ _ _
-        (filled-shape fill x y first) (filled_each-shape fill xs ys rest)
+    filled_each-alike : (fill : Bool) (trees : Trees X) (answers : Trees (Option Bool))
+        → AlikeEach R trees answers → AlikeEach S trees (filled_each fill answers)
+    filled_each-alike fill _ _ AlikeEach.none = AlikeEach.none
+    filled_each-alike fill _ _ (AlikeEach.more x y xs ys first rest) = AlikeEach.more _ _ _ _
+        (filled-alike fill x y first) (filled_each-alike fill xs ys rest)
+
+AllZip-same : {A : Type 0} (xs : List A) → AllZip ◌≡◌ xs xs
+AllZip-same [] = tt
+AllZip-same (x ∷ xs) = (refl, AllZip-same xs)
 
 -- Both directions.
 
@@ -212,25 +159,31 @@ module _ {X : Type 0} (tree : Tree X) (answers : List (Option Bool))
       ≡ side fill (fold three_valued tree answers)
   polar_value fill =
       ap (value_of two_valued) (answered-asked two_valued.top tree (filled fill given)
-      (filled-shape fill tree given (answered-shape three_valued.top tree answers)))
+      (filled-alike _ _ (λ filling x answer any. tt) fill tree given
+      (answered-shape three_valued.top tree answers)))
       ∙ value-filled fill given
 
   polar_filling : (fill : Bool) → IsFilling answers (polar tree answers fill)
   polar_filling fill =
+      let same = answered-alike ◌≡◌ _ _ refl tree answers answers (AllZip-same answers) in
       rw (asked-answered three_valued.top tree answers all)
-      at (asked-alike Agrees given (filled fill given) (filled-agrees fill given))
+      at (asked-alike Agrees given (filled fill given) (filled-alike ◌≡◌ Agrees
+      (λ filling x answer same. grind arith) fill given given same))
 
   pub IsExact-fold : IsExact tree answers
-  IsExact-fold = record {
-    known = λ value. (
-      λ is filling fills. known_filled tree answers filling value is fills,
-      λ every. known_sides (fold three_valued tree answers) value
-          (sym (polar_value true) ∙ every _ (polar_filling true))
-          (sym (polar_value false) ∙ every _ (polar_filling false)),
-    );
-    unknown = (
-      λ is. (polar_value true ∙ ap (side true) is, polar_value false ∙ ap (side false) is),
-      λ both. unknown_sides (fold three_valued tree answers) (sym (polar_value true) ∙ both.0)
-          (sym (polar_value false) ∙ both.1),
-    );
-  }
+  IsExact-fold =
+      let upper = polar_value true in
+      let lower = polar_value false in
+      record {
+        -- what is known holds under every filling, and both polar ones tell it
+        known = λ value. (
+          λ is filling fills. rw is at (fold_kept three_valued two_valued Agrees agreement tree
+              answers filling fills),
+          λ every. let one = every _ (polar_filling true) in
+              let other = every _ (polar_filling false) in grind (arith, upper, lower, one, other),
+        );
+        unknown = (
+          λ is. (upper ∙ ap (side true) is, lower ∙ ap (side false) is),
+          λ both. grind (arith, upper, lower, both.0, both.1),
+        );
+      }

@@ -1,7 +1,5 @@
 -- What a map between two logics makes of a value is the value of what it makes of the answers.
-use Rattle.std.proofs.Common.{arith}
-use Rattle.std.proofs.Common.{◌≡◌, ℕ, ◌<◌, List, [], ◌∷◌, map, refl}
-use Rattle.std.specs.Prelude.{bit_and}
+use Rattle.std.proofs.Common.{arith, ◌≡◌, ℕ, ◌<◌, List, [], ◌∷◌, map, refl, bit_and}
 use Rattle.std.specs.List.{AllByRecursion, AllZip}
 use Rattle.std.proofs.lemmas.Bool.Decides.{Decides-eqb}
 use Rattle.cfgx_syntax.specs.Kleene.{Planes, IsApart, lane}
@@ -54,8 +52,7 @@ IsMap-same : {T U : Type 0} {one : Operations T} {other : Operations U} {Holds S
     → IsMap one other Holds to → IsMap one other Same to
 IsMap-same there back is = grind arith
 
-pub IsMap-lane_passes : (i : ℕ) → i < 64
-    → IsMap lane_valued three_valued (Passes is_apart) (lane i)
+pub IsMap-lane_passes : (i : ℕ) → i < 64 → IsMap lane_valued three_valued (Passes is_apart) (lane i)
 IsMap-lane_passes i below = IsMap-same
     (λ x. (Decides-eqb (bit_and x.is_true x.is_false) 0).1)
     (λ x. (Decides-eqb (bit_and x.is_true x.is_false) 0).0)

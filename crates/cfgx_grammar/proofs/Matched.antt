@@ -1,12 +1,8 @@
 -- That the tests by which a target is matched decide whether values are the same.
-use Rattle.std.proofs.Common.{arith}
+use Rattle.std.proofs.Common.{arith, ◌≡◌, Decides}
 use Rattle.std.proofs.lemmas.Bool.Decides.{nat_tests}
 use Rattle.std.proofs.lemmas.Grind.{common_steps}
-use Rattle.std.proofs.Common.{◌≡◌, refl, ap}
-use Rattle.std.specs.Bool.{Decides}
-use Rattle.std.proofs.lemmas.Bool.Decides.{Decides-eqb}
 use Rattle.cfgx_targets.specs.declared.atomic.HasAtomic.{HasAtomic}
-use Rattle.cfgx_targets.specs.declared.atomic.HasAtomic.TheVariants.{IntegerSize, Pointer}
 use Rattle.cfgx_grammar.specs.Matching.{is_same_width}
 
 pub is_same_width-Decides : (one other : HasAtomic)

@@ -1,15 +1,12 @@
 -- Nothing is stripped from a text that has a tree: behind the word `cfg` no `(` may stand.
-use Rattle.std.proofs.Common.{◌≡◌, ◌⊎◌, inl, inr, ⊎_elim, ℕ, ◌+◌, Bool, true, false, List, ◌∷◌}
-use Rattle.std.proofs.Common.{◌++◌, length, get_or, nat_eq, sym, refl, ap, ◌∙◌, arith}
-use Rattle.std.proofs.Common.{length-append}
-use Rattle.std.specs.Prelude.{codes}
+use Rattle.std.proofs.Common.{◌≡◌, ℕ, Bool, true, false, List, ◌∷◌, ◌++◌, nat_eq, sym, refl, ap}
+use Rattle.std.proofs.Common.{◌∙◌, arith, codes}
 use Rattle.std.specs.List.{starts_with}
 use Rattle.std.proofs.lemmas.Slice.Eq.{starts_is}
 use Rattle.std.proofs.lemmas.Bool.Decides.{Decides-eqb}
-use Rattle.std.proofs.lemmas.Str.{NoCharPasses-nil}
 use Rattle.cfgx_syntax.specs.Stripping.{strip}
-use Rattle.cfgx_syntax.specs.Token.{Token, IsKey}
-use Rattle.cfgx_syntax.specs.Items.{Item, Ending, Stands}
+use Rattle.cfgx_syntax.specs.Token.{Token}
+use Rattle.cfgx_syntax.specs.Items.{Item, Ending}
 use Rattle.cfgx_grammar.specs.Question.{Question}
 use Rattle.cfgx_grammar.specs.Tree.{Tree}
 use Rattle.cfgx_grammar.specs.Grammar.{HasTree}
@@ -25,42 +22,23 @@ word = record { token = Token.key (codes "cfg"); start = 0; end = 3 }
 abbrev opening : Item
 opening = record { token = Token.open_paren; start = 3; end = 4 }
 
-is_key : IsKey (codes "cfg")
-is_key = record {
-  spelled = (refl, refl);
-  not_all = λ e. omega (arith, ap (λ l. get_or l 0 0) e);
-  not_any = λ e. omega (arith, ap (λ l. get_or l 0 0) e);
-  not_not = λ e. omega (arith, ap (λ l. get_or l 0 0) e);
-}
-
 module _ (text rest : List ℕ) (is : text ≡ codes "cfg(" ++ rest) where
-  long : length text ≡ 4 + length rest
-  long = ap length is ∙ omega (arith, length-append (codes "cfg(") rest)
-
-  Stands-word : Stands text 0 word
-  Stands-word = grind arith
-
-  Stands-opening : Stands text 3 opening
-  Stands-opening = grind arith
-
   -- such a text has no tree
   no_tree : (tree : Tree Question) → HasTree text tree → ⊥
   no_tree tree has =
-      let first = Follows-stands text 0 word has.items Ending.blank Stands-word has.are_items in
-      let second = Follows-stands text 3 opening first.rest Ending.blank Stands-opening first.come
-      in
+      let first = Follows-stands text 0 word has.items Ending.blank (grind arith) has.are_items in
+      let second = Follows-stands text 3 opening first.rest Ending.blank (grind arith) first.come in
       let items : has.items ≡ word ∷ opening ∷ second.rest = first.items_are
       ∙ ap (λ l. word ∷ l) second.items_are in
       let found = Finds-tree tree_laws 0 has.items tree has.spelled in
       absurd (cc (ap (step_each initial) (sym items) ∙ found.runs))
 
-strip_by : (text : List ℕ) (b : Bool) → starts_with nat_eq text (codes "cfg(") ≡ b
-    → (strip text ≡ text) ⊎ ((rest : List ℕ) × (text ≡ codes "cfg(" ++ rest))
+strip_by : (text : List ℕ) (tree : Tree Question) → HasTree text tree → (b : Bool)
+    → starts_with nat_eq text (codes "cfg(") ≡ b → strip text ≡ text
 unfolding strip
-strip_by text true is = inr (_, (starts_is Decides-eqb text (codes "cfg(") _ refl).0 is)
-strip_by text false is = inl (rw is refl)
+strip_by text tree has true is =
+    absurd (no_tree text _ ((starts_is Decides-eqb text (codes "cfg(") _ refl).0 is) tree has)
+strip_by text tree has false is = rw is refl
 
 pub strip-tree : (text : List ℕ) (tree : Tree Question) → HasTree text tree → strip text ≡ text
-strip-tree text tree has =
-    ⊎_elim (λ same. same) (λ wrapped. absurd (no_tree text wrapped.0 wrapped.1 tree has))
-    (strip_by text _ refl)
+strip-tree text tree has = strip_by text tree has _ refl

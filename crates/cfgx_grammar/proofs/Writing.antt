@@ -1,5 +1,5 @@
 -- How writes one after another add up.
-use Rattle.std.proofs.Common.{ℕ, List, ◌++◌, Option, None, Some, Result, Ok, Err, ap, sym, ◌∙◌}
+use Rattle.std.proofs.Common.{arith, ℕ, List, ◌++◌, Option, Result, Ok, Err, ap, sym, ◌∙◌, refl}
 use Rattle.std.proofs.Common.{append_assoc}
 use Rattle.std.specs.Io.KnownBytes.{Appends}
 use Rattle.cfgx_grammar.specs.Writing.{Takes, TakesFront, Writes}
@@ -7,11 +7,7 @@ use Rattle.cfgx_grammar.specs.Writing.{Takes, TakesFront, Writes}
 -- known bytes that grow twice
 pub appends_twice : (old mid new : Option (List ℕ)) (first second : List ℕ)
     → Appends old mid first → Appends mid new second → Appends old new (first ++ second)
-appends_twice None mid new first second a b = tt
-appends_twice (Some xs) None new first second a b = absurd a
-appends_twice (Some xs) (Some ys) None first second a b = absurd b
-appends_twice (Some xs) (Some ys) (Some zs) first second a b =
-    b ∙ ap (λ s. s ++ second) a ∙ append_assoc xs first second
+appends_twice old mid new first second a b = grind (arith, append_assoc)
 
 -- what is taken of the bytes that were left is taken of all
 pub takes_more : {old mid new : Option (List ℕ)} {bytes between left : List ℕ}
@@ -25,14 +21,9 @@ takes_more {old} {mid} {new} {bytes} {between} {left} first second = record {
 -- a beginning of the first part is one of both
 pub front_of_first : {old new : Option (List ℕ)} {first : List ℕ} (second : List ℕ)
     → TakesFront old new first → TakesFront old new (first ++ second)
-front_of_first second (left, taken) = (
-  left ++ second,
-  record {
-    front = taken.front;
-    whole = sym (append_assoc taken.front left second) ∙ ap (λ s. s ++ second) taken.whole;
-    taken = taken.taken;
-  },
-)
+front_of_first second (left, taken) =
+    let whole = sym (append_assoc taken.front left second) ∙ ap (λ s. s ++ second) taken.whole in
+    (left ++ second, record { front = taken.front; whole = whole; taken = taken.taken })
 
 -- the first part whole, and then a write of the second
 pub writes_second : {E : Type 0} (old mid new : Option (List ℕ)) (result : Result (Unit {0}) E)
@@ -40,11 +31,7 @@ pub writes_second : {E : Type 0} (old mid new : Option (List ℕ)) (result : Res
     → Writes old new result (first ++ second)
 writes_second old mid new (Ok done) first second taken more =
     appends_twice old mid new first second taken more
-writes_second old mid new (Err error) first second taken (left, more) = (
-  left,
-  record {
-    front = first ++ more.front;
-    whole = append_assoc first more.front left ∙ ap (λ s. first ++ s) more.whole;
-    taken = appends_twice old mid new first more.front taken more.taken;
-  },
-)
+writes_second old mid new (Err error) first second taken (left, more) =
+    let first_taken : Takes old mid (first ++ second) second =
+    record { front = first; whole = refl; taken = taken } in
+    (left, takes_more first_taken more)

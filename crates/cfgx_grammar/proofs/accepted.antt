@@ -2,8 +2,8 @@
 use Rattle.std.proofs.Common.{◌≡◌, ℕ, suc, ◌+◌, true, List, [], ◌∷◌, ◌++◌, refl, ap, ◌∙◌, arith}
 use Rattle.std.proofs.Common.{subst, add-zero, append_assoc, ◌⊎◌, inl, inr, Option, Some, None}
 use Rattle.std.proofs.Common.{option_map, Result, Ok, sym, false, ◌==◌, Bool, map, Err, ◌-◌}
+use Rattle.std.proofs.Common.{append-nil, if◌then◌else◌}
 use Rattle.std.proofs.lemmas.Bool.Decides.{Decides-eqb}
-use Rattle.std.proofs.lemmas.List.{append-nil}
 use Rattle.cfgx_syntax.specs.Token.{Token}
 use Rattle.cfgx_grammar.specs.Question.{Question, Leaf}
 use Rattle.cfgx_grammar.specs.Tree.{Tree, Trees, count}
@@ -11,17 +11,16 @@ use Rattle.cfgx_grammar.specs.Grammar.{commas, Separates, IsMember, IsList, IsTr
 use Rattle.cfgx_grammar.specs.Grammar.{IsLeaf}
 use Rattle.cfgx_grammar.specs.parsing.State.{Function, Open, name_of, Word, Pending, Builder, State}
 use Rattle.cfgx_grammar.specs.parsing.State.{initial}
-use Rattle.cfgx_grammar.specs.parsing.Step.{has_room, over_top, one_more, root_more, result_map}
-use Rattle.cfgx_grammar.specs.parsing.Step.{located_class, leaf_ended, ended_by, predicate_ended}
-use Rattle.cfgx_grammar.specs.parsing.Step.{new_open, and_then, opened, member_count}
-use Rattle.cfgx_grammar.specs.parsing.Step.{function_ended, closed_by, with_last, apply, step}
-use Rattle.cfgx_grammar.specs.parsing.Step.{step_each, one_root, concluded_by, conclude}
+use Rattle.cfgx_grammar.specs.parsing.Step.{has_room, result_map, leaf_ended, ended_by}
+use Rattle.cfgx_grammar.specs.parsing.Step.{predicate_ended, new_open, and_then, opened}
+use Rattle.cfgx_grammar.specs.parsing.Step.{member_count, function_ended, closed_by, with_last}
+use Rattle.cfgx_grammar.specs.parsing.Step.{apply, step, step_each, one_root, concluded_by}
+use Rattle.cfgx_grammar.specs.parsing.Step.{conclude}
 use Rattle.std.proofs.lemmas.Bool.{false≢true}
 use Rattle.cfgx_grammar.specs.Classification.{Class, class}
 use Rattle.cfgx_grammar.specs.FirstFault.{lacks_value}
 use Rattle.cfgx_grammar.specs.LastPredicate.{class_of, word_of, with_value}
 use Rattle.cfgx_grammar.specs.Neighbours.{Kind, takes, kind_of}
-use Rattle.std.specs.Prelude.{if◌then◌else◌}
 use Rattle.cfgx_syntax.specs.Items.{Item}
 use Rattle.cfgx_syntax.specs.Error.{Refusal}
 
@@ -54,9 +53,6 @@ one_tree tokens (Trees.more tree Trees.none) one (member, n, rest, are, some, sp
     (tree, (member, n, rw (are, end, append-nil (commas n)) refl, spelled))
 one_tree tokens (Trees.more tree (Trees.more second trees)) one list = absurd (omega arith)
 
-separated : (n : ℕ) (trees : Trees Question) → Separates (suc n) trees
-separated n trees = grind arith
-
 module _ {M : Type 0} where
   -- The tokens close the open functions, the innermost of which has so many more members: behind
   -- each `)` come commas and the members that are left of the list around it. At the root stands
@@ -77,22 +73,6 @@ module _ {M : Type 0} where
       × (tokens ≡ commas n ++ (others ++ after)) × May n trees × IsList others trees
       × Ends stack roots (members + count trees) after
 
-  pub Rest-any : (May : ℕ → Trees Question → Type 0) (stack : List (Open M)) (roots members : ℕ)
-      (tokens : List Token) → Rest May stack roots members tokens
-      → Rest AnyCommas stack roots members tokens
-  Rest-any a0 stack roots members tokens a5 = grind arith
-
-  -- a member that has been counted
-  Ends-more : (stack : List (Open M)) (roots n m : ℕ) (tokens : List Token) → m ≡ suc n
-      → Ends (over_top one_more stack) (root_more stack roots) n tokens → Ends stack roots m tokens
-  Ends-more stack roots n m tokens is ends = grind arith
-
-  pub Rest-more : (May : ℕ → Trees Question → Type 0) (stack : List (Open M)) (roots : ℕ)
-      (tokens : List Token)
-      → Rest May (over_top one_more stack) (root_more stack roots) 0 tokens
-      → Rest May stack roots 1 tokens
-  Rest-more a0 stack roots tokens a4 = grind arith
-
   -- no member is left
   pub Rest-none : (May : ℕ → Trees Question → Type 0) (stack : List (Open M)) (roots members : ℕ)
       (tokens : List Token) → May 0 Trees.none → Ends stack roots members tokens
@@ -105,7 +85,7 @@ module _ {M : Type 0} where
       → Rest AnyCommas stack roots members tokens
       → Rest Separates stack roots members (Token.comma ∷ tokens)
   Rest-comma stack roots members tokens (n, others, trees, after, are, any, list, ends) =
-      (suc n, others, trees, after, ap (λ l. Token.comma ∷ l) are, separated n trees, list, ends)
+      (suc n, others, trees, after, ap (λ l. Token.comma ∷ l) are, (grind arith), list, ends)
 
   pub Rest-member : (stack : List (Open M)) (roots : ℕ) (member tokens : List Token)
       (tree : Tree Question) → IsMember member tree → Rest Separates stack roots 1 tokens
@@ -134,8 +114,7 @@ module _ {M : Type 0} where
       (m, others, left, after, refl, may, rest, ends))
     where
       called : (function : Function) (list : List Token) (trees : Trees Question)
-          → has_room function (count trees) ≡ true → IsList list trees
-          → (tree : Tree Question)
+          → has_room function (count trees) ≡ true → IsList list trees → (tree : Tree Question)
           × IsMember (name_of function ∷ Token.open_paren ∷ (list ++ Token.close_paren ∷ [])) tree
       called Function.all list trees room is = (Tree.all trees, (list, refl, is))
       called Function.any list trees room is = (Tree.any trees, (list, refl, is))
@@ -158,10 +137,6 @@ module _ {W M L : Type 0} {builder : Builder W M L} where
     pub class_is : class_of p ≡ Class.is leaf
     pub ended : t ≡ leaf_ended s written
 
-  leaf_ends_as : (s t : State builder) (p : Pending) (c : Class) → class_of p ≡ c
-      → result_map (leaf_ended s) (located_class builder p c) ≡ Ok t → LeafEnds s t p
-  leaf_ends_as s t p c is ends = grind arith
-
   pub LeafEnds-ended : (s t : State builder) (p : Pending) → s.pending ≡ Some p
       → predicate_ended s ≡ Ok t → LeafEnds s t p
   LeafEnds-ended s t p pending ends = grind arith
@@ -169,10 +144,6 @@ module _ {W M L : Type 0} {builder : Builder W M L} where
   -- nothing ends where nothing pends
   pub same_ended : (s t : State builder) → s.pending ≡ None → predicate_ended s ≡ Ok t → s ≡ t
   same_ended s t none ends = ok_same s t (ap (ended_by s) (sym none) ∙ ends)
-
-  pub ended_none : (s t : State builder) (pending : Option Pending) → s.pending ≡ pending
-      → predicate_ended s ≡ Ok t → t.pending ≡ None
-  ended_none s t pending is ends = grind arith
 
   abbrev pub RestOf : (ℕ → Trees Question → Type 0) → State builder → ℕ → List Token → Type 0
   RestOf May s members tokens = Rest May s.stack s.roots members tokens
@@ -215,7 +186,8 @@ module _ {W M L : Type 0} {builder : Builder W M L} where
       (leaf_tokens p.key.text (option_map (λ v. v.text) p.value) ++ tokens)
   LeafRest-ended s t tokens p is ends r =
       let e = LeafEnds-ended s t p is ends in
-      let rest = Rest-more Separates s.stack s.roots tokens (rw e.ended at r) in
+      let left = rw e.ended at r in
+      let rest : RestOf Separates s 1 tokens = grind (arith, left) in
       (_, e.leaf, tokens, refl, e.class_is, rest)
 
   -- where a comma may come, what stands in front of it ends
@@ -223,7 +195,7 @@ module _ {W M L : Type 0} {builder : Builder W M L} where
       → takes last Kind.comma ≡ true → predicate_ended s ≡ Ok t → RestOf Separates t 0 tokens
       → Completes last s tokens
   Completes-ended (Some Token.comma) s t tokens may ends r = λ none.
-      rw (same_ended s t none ends) (Rest-any Separates t.stack t.roots 0 tokens r)
+      rw (same_ended s t none ends) (grind (arith, r))
   Completes-ended (Some Token.close_paren) s t tokens may ends r = λ none.
       rw (same_ended s t none ends) r
   Completes-ended (Some (Token.key _)) s t tokens may ends r = λ key is.
@@ -265,28 +237,17 @@ mapped f r u e = grind arith
 
 allowed : {A E : Type 0} (b : Bool) (r : Result A E) (e : E) (u : A)
     → (if b then r else Err e) ≡ Ok u → (b ≡ true) × (r ≡ Ok u)
-allowed true r e u is = (refl, is)
-allowed false r e u is = absurd (cc)
+allowed b r e u is = grind arith
 
 not_refused : {A E : Type 0} (b : Bool) (r : Result A E) (e : E) (u : A)
     → (if b then Err e else r) ≡ Ok u → (b ≡ false) × (r ≡ Ok u)
-not_refused false r e u is = (refl, is)
-not_refused true r e u is = absurd (cc)
+not_refused b r e u is = grind arith
 
 pub ran : {A B E : Type 0} (r : Result A E) (f : A → Result B E) (u : B) → and_then f r ≡ Ok u
     → (t : A) × (r ≡ Ok t) × (f t ≡ Ok u)
 ran r f u e = grind arith
 
--- what a predicate that ends makes of the innermost open function
-abbrev pub counted : {M : Type 0} → Option Pending → Open M → Open M
-counted pending top = record top { members = member_count top pending }
-
 module _ {W M L : Type 0} {builder : Builder W M L} where
-  pub stack_ended : (s t : State builder) (pending : Option Pending) (stack : List (Open M))
-      → s.pending ≡ pending → s.stack ≡ stack → predicate_ended s ≡ Ok t
-      → t.stack ≡ over_top (counted pending) stack
-  stack_ended s t pending stack is stack_is ends = grind arith
-
   -- what a `)` that is taken closes
   abbrev pub Closes : State builder → State builder → Type 0
   Closes s u = (top : Open M) × (rest : List (Open M)) × (settled : State builder)
@@ -297,20 +258,15 @@ module _ {W M L : Type 0} {builder : Builder W M L} where
       → closed_by s item stack ≡ Ok u → Closes s u
   Closes-stack s u item [] is does = absurd (cc)
   Closes-stack s u item (top ∷ rest) is does =
-      let (room, closes) = allowed (has_room top.function (member_count top s.pending))
-      (result_map (λ t. function_ended t.stack t) (predicate_ended s)) _ u does in
-      let (settled, ends, closed) = mapped (λ t. function_ended t.stack t) (predicate_ended s) u
-      closes in
+      let (room, closes) = allowed _ _ _ u does in
+      let (settled, ends, closed) = mapped _ (predicate_ended s) u closes in
       (top, rest, settled, is, room, ends, closed)
 
   -- `)` stands in front of what completes the function around
-  Ends-close : (s u settled : State builder) (top : Open M) (rest : List (Open M))
-      (tokens : List Token) → s.stack ≡ top ∷ rest
-      → has_room top.function (member_count top s.pending) ≡ true → predicate_ended s ≡ Ok settled
-      → function_ended settled.stack settled ≡ u
+  Ends-close : (s u : State builder) (tokens : List Token) (c : Closes s u)
       → Completes (Some Token.close_paren) (with_last Token.close_paren u) tokens
-      → Ends settled.stack settled.roots 0 (Token.close_paren ∷ tokens)
-  Ends-close s u settled top rest tokens is room ends closed completes = grind arith
+      → Ends c.2.stack c.2.roots 0 (Token.close_paren ∷ tokens)
+  Ends-close s u tokens (top, rest, settled, is, room, ends, closed) completes = grind arith
 
   -- what a step that succeeds has done
   pub record Steps (s t : State builder) (item : Item) : Type 0 where
@@ -321,10 +277,8 @@ module _ {W M L : Type 0} {builder : Builder W M L} where
 
   pub Steps-step : (s t : State builder) (item : Item) → step s item ≡ Ok t → Steps s t item
   Steps-step s t item steps =
-      let (may, taken) = allowed (takes s.last (kind_of item.token))
-      (result_map (with_last item.token) (apply s item item.token)) _ t steps in
-      let (applied, does, after) = mapped (with_last item.token) (apply s item item.token) t taken
-      in
+      let (may, taken) = allowed _ _ _ t steps in
+      let (applied, does, after) = mapped _ (apply s item item.token) t taken in
       record { may = may; applied = applied; does = does; after = after }
 
   -- a function's name in front of its members
@@ -360,10 +314,8 @@ module _ {W M L : Type 0} {builder : Builder W M L} where
     Completes-applied (Some Token.equals) (Token.value text) may does completes =
         λ key is. subst (After (Token.value text)) (sym (ok_same _ u does)) completes key
         (word_of text (start + 1) (end - 1)) (ap (option_map (with_value _)) is)
-    Completes-applied _ (Token.value text) may does completes = absurd (false≢true may)
     Completes-applied (Some (Token.key _)) Token.equals may does completes =
         subst (After Token.equals) (sym (ok_same s u does)) completes
-    Completes-applied _ Token.equals may does completes = absurd (false≢true may)
     Completes-applied last Token.all may does completes =
         Completes-member last s _ may (Rest-name Function.all s u (at Token.all) _ does completes)
     Completes-applied last Token.any may does completes =
@@ -376,15 +328,13 @@ module _ {W M L : Type 0} {builder : Builder W M L} where
         Completes-open does completes
     Completes-applied (Some Token.not) Token.open_paren may does completes =
         Completes-open does completes
-    Completes-applied _ Token.open_paren may does completes = absurd (false≢true may)
     Completes-applied last Token.close_paren may does completes =
-        let (top, rest, settled, is, room, ends, closed) = Closes-stack s u (at Token.close_paren)
-        s.stack refl does in
-        Completes-none last s settled _ (inl may) ends
-        (Ends-close s u settled top rest tokens is room ends closed completes)
+        let c = Closes-stack s u (at Token.close_paren) s.stack refl does in
+        Completes-none last s c.2 _ (inl may) c.5 (Ends-close s u tokens c completes)
     Completes-applied last Token.comma may does completes =
         Completes-ended last s u _ may does (Rest-comma u.stack u.roots 0 tokens
-        (completes (ended_none s u s.pending refl does)))
+        (completes (grind (arith, does))))
+    Completes-applied _ _ may does completes = absurd (false≢true may)
 
   -- the end of the text finds one member at the root, where no function is open
   abbrev Concludes : State builder → Type 0
@@ -395,7 +345,7 @@ module _ {W M L : Type 0} {builder : Builder W M L} where
       → lacks_value s.last ≡ false → concluded_by len s stack ≡ Ok u → Concludes s
   Concludes-stack len s u (top ∷ rest) is whole e = absurd (cc)
   Concludes-stack len s u [] is whole e =
-      let (settled, ends, rooted) = ran (predicate_ended s) (one_root len) u e in
+      let (settled, ends, rooted) = ran _ (one_root len) u e in
       let (some, found) = not_refused (settled.roots == 0) _ _ u rooted in
       let (one, done) = allowed (settled.roots == 1) _ _ u found in
       (settled, is, ends, whole, (Decides-eqb settled.roots 1).0 one)
@@ -410,8 +360,9 @@ module _ {W M L : Type 0} {builder : Builder W M L} where
   Completes-run [] s t u len runs ends =
       let (settled, closed, ended, whole, one) = Concludes-conclude len s u
       (ap (conclude len) (ok_same s t runs) ∙ ends) in
+      let none : settled.stack ≡ [] = grind (arith, closed, ended) in
       Completes-none s.last s settled [] (inr (whole, closed)) ended
-      (rw (stack_ended s settled s.pending [] refl closed ended) (omega (arith, one), refl))
+      (rw none (omega (arith, one), refl))
   Completes-run (item ∷ items) s t u len runs ends =
       let r = ran (step s item) (λ u. step_each u items) t runs in
       let d = Steps-step s r.0 item r.1 in

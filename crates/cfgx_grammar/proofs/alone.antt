@@ -2,43 +2,36 @@
 use Rattle.std.proofs.lemmas.Bool.Decides.{nat_tests}
 use Rattle.std.proofs.lemmas.Grind.{common_steps}
 use Rattle.std.proofs.Common.{◌≤◌, ◌≡◌, ℕ, Bool, true, false, List, [], ◌∷◌, ◌++◌, map, Some, None}
-use Rattle.std.proofs.Common.{subst, ◌<◌, ◌^◌, ◌||◌, ◌&&◌, nat_eq, nat_lt, length, drop, Option}
-use Rattle.std.proofs.Common.{sym, refl, ap, ◌∙◌, arith, ◌+◌, ◌-◌, append_assoc, length-append}
-use Rattle.std.proofs.Common.{drop_at, drop_of_length-le}
-use Rattle.std.specs.Prelude.{slice_range, if◌then◌else◌, codes, option_map}
-use Rattle.std.specs.List.{AllByRecursion, list_any, starts_with}
+use Rattle.std.proofs.Common.{subst, ◌<◌, ◌^◌, nat_eq, nat_lt, length, drop, Option, sym, refl, ap}
+use Rattle.std.proofs.Common.{◌∙◌, arith, rules, ◌+◌, append_assoc, length-append, drop_at}
+use Rattle.std.proofs.Common.{drop_of_length-le, ◌⊎◌, inl, ⊎_elim, slice_range, if◌then◌else◌}
+use Rattle.std.proofs.Common.{codes, decimal, bytes_eq, append-nil}
+use Rattle.std.specs.List.{AllByRecursion, starts_with}
 use Rattle.cfgx_syntax.specs.Token.{Token, IsKey, HasNoQuote, Spells, IsWord, is_quote, in_quotes}
 use Rattle.cfgx_syntax.specs.Token.{IsWhole}
 use Rattle.cfgx_syntax.specs.Items.{Item, Ending, ItemsFrom, IsBlank, Stands, AreItems}
 use Rattle.cfgx_grammar.specs.Question.{Question, Leaf, TargetQuestion}
 use Rattle.cfgx_grammar.specs.Tree.{Tree, Trees, is_function, is_leaf, asked, asked_by}
-use Rattle.cfgx_grammar.specs.Grammar.{commas, IsMember, IsList, HasTree, leaf_tokens}
+use Rattle.cfgx_grammar.specs.Grammar.{commas, IsCall, IsMember, IsList, HasTree, leaf_tokens}
 use Rattle.cfgx_grammar.specs.Regular.{IsRegular, CanBeQuoted, IsAlone}
-use Rattle.std.specs.Option.{option_or}
-use Rattle.std.specs.Fmt.{decimal}
-use Rattle.std.specs.Str.{bytes_eq}
 use Rattle.std.specs.Str.Parse.{AllDigits}
-use Rattle.std.specs.Char.{digit_value}
 use Rattle.std.proofs.lemmas.Fmt.{decimal_is_IsNumeral}
-use Rattle.cfgx_syntax.specs.Error.{Cause, unexpected, invalid_integer, invalid_has_atomic}
+use Rattle.cfgx_syntax.specs.Error.{Cause, invalid_integer, invalid_has_atomic}
 use Rattle.cfgx_targets.specs.Endian.{endian_text, endian_named}
-use Rattle.cfgx_targets.specs.HasAtomic.{IsWidth, atomic_text, atomic_named, pointer_named}
+use Rattle.cfgx_targets.specs.HasAtomic.{IsWidth, atomic_text, atomic_named}
 use Rattle.cfgx_targets.specs.Number.{read_below}
 use Rattle.cfgx_targets.specs.declared.endian.Endian.{Endian}
-use Rattle.cfgx_targets.specs.declared.endian.Endian.TheVariants.{big, little}
 use Rattle.cfgx_targets.specs.declared.atomic.HasAtomic.{HasAtomic}
 use Rattle.cfgx_targets.specs.declared.atomic.HasAtomic.TheVariants.{IntegerSize, Pointer}
 use Rattle.cfgx_targets.proofs.AtomicLemmas.{endian_named-text, atomic_named-text}
 use Rattle.cfgx_targets.proofs.NumberLemmas.{read_below-decimal}
-use Rattle.cfgx_grammar.specs.Classification.{asks, predicate, Class, Part, class, bare, valued}
-use Rattle.cfgx_grammar.specs.Classification.{if_read, target_feature, Line, by_name, key_lines}
-use Rattle.cfgx_grammar.specs.Classification.{target_lines, target_class, plain, other_class}
-use Rattle.cfgx_grammar.specs.Classification.{target_names}
+use Rattle.cfgx_grammar.specs.Classification.{predicate, Class, class, bare, valued, if_read}
+use Rattle.cfgx_grammar.specs.Classification.{target_feature, Line, by_name, key_lines}
+use Rattle.cfgx_grammar.specs.Classification.{target_lines, target_class, plain}
 use Rattle.cfgx_grammar.specs.Spelling.{key_and_value, spelling}
-use Rattle.std.proofs.lemmas.List.{append-nil}
-use Rattle.std.proofs.Math.Seq.{drop-append_seam, take-append_seam}
 use Rattle.std.proofs.lemmas.Str.{NoCharPasses-nil}
 use Rattle.cfgx_grammar.proofs.Answering.{same_tree}
+use Rattle.cfgx_grammar.proofs.accepted.{tokens_of}
 use Rattle.cfgx_grammar.proofs.Stripped.{strip-tree}
 
 -- What a text asks can stand in a text.
@@ -66,68 +59,52 @@ IsSpelled (Token.key word) = IsKey word
 IsSpelled (Token.value inside) = HasNoQuote inside
 IsSpelled _ = Unit {0}
 
-spelled_token : (bytes : List ℕ) (token : Token) → Spells bytes token → IsSpelled token
-spelled_token bytes token spells = grind arith
-
 abbrev AreSpelled : List Token → Type 0
 AreSpelled tokens = AllByRecursion IsSpelled tokens
 
 spelled_items : (text : List ℕ) (from : ℕ) (items : List Item) (ending : Ending)
     → ItemsFrom text from items ending → AreSpelled (map (λ item. item.token) items)
 spelled_items text from [] ending come = tt
-spelled_items text from (item ∷ items) ending come = (
-  spelled_token (slice_range text item.start item.end) item.token come.0.spelled,
-  spelled_items text item.end items ending come.1,
-)
+spelled_items text from (item ∷ items) ending come =
+    (grind (arith, come.0.spelled), spelled_items text item.end items ending come.1)
 
 abbrev AreRegular : List Question → Type 0
 AreRegular questions = AllByRecursion IsRegular questions
 
-regular_leaf : (tokens : List Token) (question : Question) → AreSpelled tokens
-    → IsMember tokens (Tree.leaf question) → IsRegular question
-regular_leaf tokens question spelled a3 = grind arith
+-- one of two
+kept_if : {A : Type 0} (P : A → Type 0) (b : Bool) (x y : A) → P x → P y → P (if b then x else y)
+kept_if P b x y here there = grind arith
 
--- the tokens of the members of a call
-spelled_inner : (name : Token) (tokens inner : List Token)
-    → tokens ≡ name ∷ Token.open_paren ∷ (inner ++ Token.close_paren ∷ []) → AreSpelled tokens
-    → AreSpelled inner
-spelled_inner name tokens inner is spelled =
-    let all = subst AreSpelled is spelled in
-    all_of_first IsSpelled inner (Token.close_paren ∷ []) all.1.1
-
-regular_if : (b : Bool) (questions : List Question) → AreRegular questions
-    → AreRegular (if b then questions else [])
-regular_if true questions regular = regular
-regular_if false questions regular = tt
+-- what the members of a call ask
+regular_call : (name : Token) (tokens : List Token) (trees : Trees Question) → AreSpelled tokens
+    → (inner : List Token) × IsCall name tokens inner × IsList inner trees
+    → ((test : Tree Question → Bool) (inner : List Token) → AreSpelled inner → IsList inner trees
+    → AreRegular (asked_by test trees))
+    → AreRegular (asked_by is_function trees ++ asked_by is_leaf trees)
+regular_call name tokens trees spelled (inner, is, list) each =
+    let all = all_of_first IsSpelled inner _ (rw is at spelled).1.1 in
+    all_of_both IsRegular _ _ (each is_function inner all list) (each is_leaf inner all list)
 
 mutual
   regular_member : (tokens : List Token) (tree : Tree Question) → AreSpelled tokens
-      → IsMember tokens tree
-      → AreRegular (asked tree)
-  regular_member tokens (Tree.leaf question) spelled member =
-      (regular_leaf tokens question spelled member, tt)
+      → IsMember tokens tree → AreRegular (asked tree)
+  regular_member tokens (Tree.leaf question) spelled member = (grind arith, tt)
   regular_member tokens (Tree.literal truth) spelled member = tt
-  regular_member tokens (Tree.all trees) spelled (inner, is, list) =
-      let each = spelled_inner Token.all tokens inner is spelled in
-      all_of_both IsRegular _ _ (regular_list is_function inner trees each list)
-      (regular_list is_leaf inner trees each list)
-  regular_member tokens (Tree.any trees) spelled (inner, is, list) =
-      let each = spelled_inner Token.any tokens inner is spelled in
-      all_of_both IsRegular _ _ (regular_list is_function inner trees each list)
-      (regular_list is_leaf inner trees each list)
-  regular_member tokens (Tree.not tree) spelled (member, n, is, one) =
-      let each = spelled_inner Token.not tokens (member ++ commas n) is spelled in
-      regular_member member tree (all_of_first IsSpelled member (commas n) each) one
+  regular_member tokens (Tree.all trees) spelled call =
+      regular_call Token.all tokens trees spelled call (λ test inner. regular_list test inner trees)
+  regular_member tokens (Tree.any trees) spelled call =
+      regular_call Token.any tokens trees spelled call (λ test inner. regular_list test inner trees)
+  regular_member tokens (Tree.not tree) spelled (member, n, is, one) = regular_member member tree
+      (all_of_first IsSpelled member _ (all_of_first IsSpelled _ _ (rw is at spelled).1.1)) one
 
   regular_list : (test : Tree Question → Bool) (tokens : List Token) (trees : Trees Question)
-      → AreSpelled tokens
-      → IsList tokens trees → AreRegular (asked_by test trees)
+      → AreSpelled tokens → IsList tokens trees → AreRegular (asked_by test trees)
   regular_list test tokens Trees.none spelled list = tt
   regular_list test tokens (Trees.more tree trees) spelled (member, n, rest, is, apart, one, more) =
-      let all = subst AreSpelled is spelled in
+      let all = rw is at spelled in
       let behind = all_of_second IsSpelled member (commas n ++ rest) all in
       let here = regular_member member tree (all_of_first IsSpelled member _ all) one in
-      all_of_both IsRegular _ _ (regular_if (test tree) (asked tree) here)
+      all_of_both IsRegular _ _ (kept_if AreRegular (test tree) _ [] here tt)
       (regular_list test rest trees (all_of_second IsSpelled (commas n) rest behind) more)
 
 pub regular_tree : (text : List ℕ) (tree : Tree Question) → HasTree text tree
@@ -135,8 +112,7 @@ pub regular_tree : (text : List ℕ) (tree : Tree Question) → HasTree text tre
 regular_tree text tree has =
     let all = spelled_items text 0 has.items Ending.blank has.are_items in
     let (member, n, is, one) = has.spelled in
-    regular_member member tree
-    (all_of_first IsSpelled member (commas n) (subst AreSpelled is all)) one
+    regular_member member tree (all_of_first IsSpelled member (commas n) (rw is at all)) one
 
 -- The spelling of a predicate that can stand in a text is a text of this predicate alone.
 
@@ -150,232 +126,157 @@ pub record IsSpelt (question : Question) : Type 0 where
   pub regular : IsRegular question
   pub spelled : spelling question ≡ text_of regular.key regular.value
 
-spelt : (key : List ℕ) (value : Option (List ℕ)) (question : Question) → IsKey key
-    → CanBeQuoted value → class key value ≡ predicate question
-    → spelling question ≡ text_of key value → IsSpelt question
-spelt k v question is quoted says spelled = record {
-  regular = record { key = k; value = v; is_key = is; can_be_quoted = quoted; says = says };
-  spelled = spelled;
-}
-
--- a word of more than three letters names no function
-long_key : (word : List ℕ) → IsWord word → 3 < length word → IsKey word
-long_key word is long = grind arith
-
 -- digits have no quote
-no_quote_digit : (byte : ℕ) → digit_value byte < 10 → is_quote byte ≡ false
-no_quote_digit byte small = grind arith
-
 no_quote_digits : (digits : List ℕ) → AllDigits 10 digits → HasNoQuote digits
 no_quote_digits [] all = refl
 no_quote_digits (byte ∷ bytes) all =
-    ap (λ b. b || list_any is_quote bytes) (no_quote_digit byte all.0)
-    ∙ no_quote_digits bytes all.1
+    let here : is_quote byte ≡ false = grind (arith, all.0) in rw here (no_quote_digits bytes all.1)
 
 no_quote_decimal : (n : ℕ) → n < 2 ^ 64 → HasNoQuote (decimal n)
 no_quote_decimal n small = no_quote_digits (decimal n) (decimal_is_IsNumeral n small).0.1
 
 -- a number that was read is below its limit
-below_of : (limit value n : ℕ) (one : Bool)
-    → (if one && nat_lt value limit then Some value else None) ≡ Some n → n < limit
-below_of limit value n one e = grind arith
-
 read_small : (limit n : ℕ) (text : List ℕ) → read_below limit text ≡ Some n → n < limit
 unfolding read_below
-read_small limit n text is = below_of limit _ n _ is
-
-width_small : (text : List ℕ) (bits : ℕ) (read : Option ℕ)
-    → option_or (option_map IntegerSize read) (pointer_named text) ≡ Some (IntegerSize bits)
-    → read ≡ Some bits
-width_small text bits read is = grind arith
+read_small limit n text is = grind (arith, nat_tests)
 
 named_small : (text : List ℕ) (atomic : HasAtomic) → atomic_named text ≡ Some atomic
     → IsWidth atomic
 unfolding atomic_named
 named_small text (IntegerSize bits) is =
-    read_small (2 ^ 16) bits text (width_small text bits (read_below (2 ^ 16) text) is)
+    read_small (2 ^ 16) bits text (grind arith)
 named_small text Pointer is = tt
 
 no_quote_atomic : (atomic : HasAtomic) → IsWidth atomic → HasNoQuote (atomic_text atomic)
-no_quote_atomic (IntegerSize bits) small = no_quote_decimal bits (omega (arith, small))
-no_quote_atomic Pointer small = refl
-
-no_quote_endian : (endian : Endian) → HasNoQuote (endian_text endian)
-no_quote_endian big = refl
-no_quote_endian little = refl
+no_quote_atomic atomic small = grind (arith, no_quote_decimal)
 
 -- Each line of the tables.
 
-spelt_word : (word : List ℕ) (value : Option (List ℕ)) (question : Question) → IsWord word
-    → 3 < length word → CanBeQuoted value → class word value ≡ predicate question
-    → spelling question ≡ text_of word value → IsSpelt question
-spelt_word word value question is long quoted says spelled =
-    spelt word value question (long_key word is long) quoted says spelled
+spelt_word : (word : List ℕ) (value : Option (List ℕ)) (question : Question) → CanBeQuoted value
+    → IsWord word × (nat_lt 3 (length word) ≡ true) × (class word value ≡ predicate question)
+    × (spelling question ≡ text_of word value) → IsSpelt question
+spelt_word word value question quoted (is, long, says, spelled) =
+    let is_key : IsKey word = grind (arith, nat_tests) in
+    let regular : IsRegular question =
+    record { key = word; value = value; is_key = is_key; can_be_quoted = quoted; says = says } in
+    record { regular = regular; spelled = spelled }
 
 spelt_family : (name : List ℕ) → HasNoQuote name
     → IsSpelt (Question.target (TargetQuestion.family name))
 unfolding class
 spelt_family name quoted =
-    spelt_word (codes "target_family") (Some name) _ (refl, refl) (omega arith) quoted refl refl
+    spelt_word (codes "target_family") (Some name) _ quoted ((refl, refl), refl, refl, refl)
 
-module _ (key : List ℕ) (value : Option (List ℕ)) (is_key : IsKey key)
-    (quoted : CanBeQuoted value) where
-  -- what the line makes of the value is spelt
+module _ (key : List ℕ) (value : Option (List ℕ)) where
+  -- a predicate of this class is spelt, or its spelling is that of the key and the value
   abbrev Good : Class → Type 0
-  Good c = (question : Question) → c ≡ predicate question
-      → class key value ≡ predicate question → IsSpelt question
+  Good (Class.is (Leaf.predicate question)) =
+      IsSpelt question ⊎ (spelling question ≡ text_of key value)
+  Good _ = Unit {0}
 
-  good_is : (asked : Question) → IsSpelt asked → Good (predicate asked)
-  good_is asked spelt question is says = grind arith
+  -- the goal, once each line of a table is good
+  abbrev Each : {V : Type 0} → V → List (Line V) → Type 0 → Type 0
+  Each v [] goal = goal
+  Each v (first ∷ rest) goal = Good (first.read v) → Each v rest goal
 
-  good_refused : (cause : Cause) (part : Part) → Good (Class.refused cause part)
-  good_refused cause part question is says = absurd (cc)
-
-  good_if : (b : Bool) (one other : Class) → Good one → Good other
-      → Good (if b then one else other)
-  good_if true one other here others = here
-  good_if false one other here others = others
-
-  good_by_name : {V : Type 0} (lines : List (Line V)) (name : List ℕ) (v : V) (otherwise : Class)
-      → AllByRecursion (λ line. Good (line.read v)) lines → Good otherwise
-      → Good (by_name lines name v otherwise)
-  good_by_name [] name v otherwise lines last = last
-  good_by_name (first ∷ rest) name v otherwise lines last =
-      good_if (bytes_eq name first.name) (first.read v) _ lines.0
-      (good_by_name rest name v otherwise lines.1 last)
+  -- then the table is
+  good_by_name : {V : Type 0} (name : List ℕ) (v : V) (otherwise : Class) (goal : Type 0)
+      → Good otherwise → (lines : List (Line V))
+      → (Good (by_name lines name v otherwise) → goal) → Each v lines goal
+  good_by_name name v otherwise goal last [] whole = whole last
+  good_by_name name v otherwise goal last (first ∷ rest) whole = λ good.
+      good_by_name name v otherwise goal last rest (λ others. whole (kept_if Good
+      (bytes_eq name first.name) (first.read v) _ good others))
 
   good_bare : (leaf : Leaf) → Good (Class.is leaf) → (v : Option (List ℕ)) → Good (bare leaf v)
-  good_bare leaf good None = good
-  good_bare leaf good (Some v) = good_refused (unexpected []) Part.of_value
-
-  good_predicate : (asked : Question) → IsSpelt asked → (v : Option (List ℕ))
-      → Good (bare (Leaf.predicate asked) v)
-  good_predicate asked spelt v = good_bare (Leaf.predicate asked) (good_is asked spelt) v
-
-  -- a literal is no predicate
-  good_literal : (truth : Bool) (v : Option (List ℕ)) → Good (bare (Leaf.literal truth) v)
-  good_literal truth v = good_bare (Leaf.literal truth) (λ question is says. absurd (cc)) v
+  good_bare leaf good v = grind arith
 
   good_valued : (with : List ℕ → Class) (missing : List ℕ)
       → ((v : List ℕ) → HasNoQuote v → Good (with v)) → (v : Option (List ℕ)) → CanBeQuoted v
       → Good (valued with missing v)
-  good_valued with missing each None quotes = good_refused (unexpected (missing ∷ [])) Part.of_key
-  good_valued with missing each (Some v) quotes = each v quotes
+  good_valued with missing each v quotes = grind (arith, each)
 
   good_feature : (v : List ℕ) → HasNoQuote v → Good (target_feature v)
   unfolding class
-  good_feature [] quotes = good_refused (unexpected (codes "<feature>" ∷ [])) Part.of_value
-  good_feature (byte ∷ bytes) quotes = good_is _
-      (spelt_word (codes "target_feature") (Some (byte ∷ bytes)) _ (refl, refl) (omega arith)
-      quotes refl refl)
+  good_feature [] quotes = tt
+  good_feature (byte ∷ bytes) quotes = inl (spelt_word (codes "target_feature")
+      (Some (byte ∷ bytes)) _ quotes ((refl, refl), refl, refl, refl))
 
   good_read : {X : Type 0} (ask : X → TargetQuestion) (cause : Cause) (read : Option X)
       → ((x : X) → read ≡ Some x → IsSpelt (Question.target (ask x)))
       → Good (if_read ask cause read)
-  good_read ask cause None each = good_refused cause Part.of_value
-  good_read ask cause (Some x) each = good_is _ (each x refl)
+  good_read ask cause read each = grind (arith, each)
 
   good_target : (name v : List ℕ) → HasNoQuote v → Good (target_class name v)
   unfolding class
   good_target name v q =
-      let line = λ (word : List ℕ) (question : Question). spelt_word word (Some v) question in
-      let abi = good_is _ (line (codes "target_abi") _ (refl, refl) (omega arith) q refl refl) in
-      let arch = good_is _ (line (codes "target_arch") _ (refl, refl) (omega arith) q refl refl) in
-      let os = good_is _ (line (codes "target_os") _ (refl, refl) (omega arith) q refl refl) in
-      let families = good_is _ (spelt_family v q) in
-      let env = good_is _ (line (codes "target_env") _ (refl, refl) (omega arith) q refl refl) in
-      let vendor = good_is _ (line (codes "target_vendor") _ (refl, refl) (omega arith) q refl
-      refl) in
       let endian = good_read TargetQuestion.endian invalid_integer (endian_named v) (λ e is.
-      spelt_word (codes "target_endian") (Some (endian_text e)) _ (refl, refl) (omega arith)
-      (no_quote_endian e) (rw (endian_named-text e) refl) refl) in
+      spelt_word (codes "target_endian") (Some (endian_text e)) _ (grind arith)
+      ((refl, refl), refl, rw (endian_named-text e) refl, refl)) in
       let atomic = good_read TargetQuestion.has_atomic invalid_has_atomic (atomic_named v) (λ a is.
       let small = named_small v a is in
-      spelt_word (codes "target_has_atomic") (Some (atomic_text a)) _ (refl, refl) (omega arith)
-      (no_quote_atomic a small) (rw (atomic_named-text a small) refl) refl) in
+      spelt_word (codes "target_has_atomic") (Some (atomic_text a)) _ (no_quote_atomic a small)
+      ((refl, refl), refl, rw (atomic_named-text a small) refl, refl)) in
       let width = good_read TargetQuestion.pointer_width invalid_integer (read_below (2 ^ 8) v)
       (λ n is. let small = read_small (2 ^ 8) n v is in
       let fits : n < 2 ^ 64 = omega (arith, small) in
-      spelt_word (codes "target_pointer_width") (Some (decimal n)) _ (refl, refl) (omega arith)
-      (no_quote_decimal n fits) (rw (read_below-decimal (2 ^ 8) n small fits) refl) refl) in
-      let feature = good_feature v q in
-      good_by_name target_lines name v _
-      (abi, (arch, (os, (families, (env, (vendor, (feature, (endian, (atomic, (width, tt))))))))))
-      (good_refused (unexpected target_names) Part.of_key)
+      spelt_word (codes "target_pointer_width") (Some (decimal n)) _ (no_quote_decimal n fits)
+      ((refl, refl), refl, rw (read_below-decimal (2 ^ 8) n small fits) refl, refl)) in
+      good_by_name name v _ _ tt target_lines (λ good. good)
+      (inl (spelt_word (codes "target_abi") (Some v) _ q ((refl, refl), refl, refl, refl)))
+      (inl (spelt_word (codes "target_arch") (Some v) _ q ((refl, refl), refl, refl, refl)))
+      (inl (spelt_word (codes "target_os") (Some v) _ q ((refl, refl), refl, refl, refl)))
+      (inl (spelt_family v q))
+      (inl (spelt_word (codes "target_env") (Some v) _ q ((refl, refl), refl, refl, refl)))
+      (inl (spelt_word (codes "target_vendor") (Some v) _ q ((refl, refl), refl, refl, refl)))
+      (good_feature v q) endian atomic width
 
-  good_plain : (v : Option (List ℕ)) → value ≡ v → CanBeQuoted v → Good (plain key v)
-  good_plain None is quotes question same says = good_is _ (spelt key None _ is_key tt
-      (ap (class key) (sym is) ∙ says ∙ sym same) refl) question same says
-  good_plain (Some v) is quotes question same says = good_is _ (spelt key (Some v) _ is_key quotes
-      (ap (class key) (sym is) ∙ says ∙ sym same) refl) question same says
-
-  good_other : Good (other_class key value)
-  good_other = good_if (starts_with nat_eq key (codes "target_")) _ (plain key value)
-      (good_valued (target_class (drop 7 key)) (codes "= \"<target_cfg_value>\"")
-      (good_target (drop 7 key)) value quoted) (good_plain value refl quoted)
-
-  good_class : Good (class key value)
+  good_class : CanBeQuoted value → Good (class key value)
   unfolding class
-  good_class =
-      let unix = good_predicate _ (spelt_family (codes "unix") refl) value in
-      let windows = good_predicate _ (spelt_family (codes "windows") refl) value in
-      let test = good_predicate _ (spelt_word (codes "test") None _ (refl, refl) (omega arith) tt
-      refl refl) value in
-      let debug = good_predicate _ (spelt_word (codes "debug_assertions") None _ (refl, refl)
-      (omega arith) tt refl refl) value in
-      let macros = good_predicate _ (spelt_word (codes "proc_macro") None _ (refl, refl)
-      (omega arith) tt refl refl) value in
-      let feature = good_valued (λ v. predicate (Question.feature v)) (codes "= \"<feature_name>\"")
-      (λ v q. good_is _
-      (spelt_word (codes "feature") (Some v) _ (refl, refl) (omega arith) q refl refl)) value
-      quoted in
-      let panic = good_valued (λ v. asks (TargetQuestion.panic v)) (codes "= \"<panic_strategy>\"")
-      (λ v q. good_is _
-      (spelt_word (codes "panic") (Some v) _ (refl, refl) (omega arith) q refl refl)) value
-      quoted in
-      good_by_name key_lines key value _ (
-        good_literal true value,
-        (
-          good_literal false value,
-          (unix, (windows, (test, (debug, (macros, (feature, (panic, tt))))))),
-        ),
-      ) good_other
-
-pub spelt_regular : (question : Question) → IsRegular question → IsSpelt question
-spelt_regular question r =
-    good_class r.key r.value r.is_key r.can_be_quoted question r.says r.says
+  good_class quoted = good_by_name key value _ _ (kept_if Good
+      (starts_with nat_eq key (codes "target_")) _ (plain key value)
+      (good_valued _ _ (good_target (drop 7 key)) value quoted) (grind arith))
+      key_lines (λ good. good)
+      (good_bare (Leaf.literal true) tt value)
+      (good_bare (Leaf.literal false) tt value)
+      (good_bare _ (inl (spelt_family (codes "unix") refl)) value)
+      (good_bare _ (inl (spelt_family (codes "windows") refl)) value)
+      (good_bare _ (inl (spelt_word (codes "test") None _ tt (search rules))) value)
+      (good_bare _ (inl (spelt_word (codes "debug_assertions") None _ tt (search rules))) value)
+      (good_bare _ (inl (spelt_word (codes "proc_macro") None _ tt (search rules))) value)
+      (good_valued _ _ (λ v q. inl (spelt_word (codes "feature") (Some v) _ q
+      ((refl, refl), refl, refl, refl))) value quoted)
+      (good_valued _ _ (λ v q. inl (spelt_word (codes "panic") (Some v) _ q
+      ((refl, refl), refl, refl, refl))) value quoted)
 
 -- The text of a key, and perhaps a value, has the one tree that is their predicate.
 
 -- A token between two parts of a text.
 
 slice_middle : (front middle rest : List ℕ)
-    → slice_range (front ++ (middle ++ rest)) (length front) (length front + length middle)
-    ≡ middle
+    → slice_range (front ++ (middle ++ rest)) (length front) (length front + length middle) ≡ middle
 slice_middle front middle rest = grind (arith, nat_tests, common_steps)
 
-module _ (text before gap bytes rest : List ℕ) (token : Token) (from start end : ℕ)
-    (is : text ≡ before ++ (gap ++ (bytes ++ rest))) (begins : from ≡ length before)
-    (starts : start ≡ length before + length gap) (ends : end ≡ start + length bytes) where
-  later : text ≡ (before ++ gap) ++ (bytes ++ rest)
-  later = is ∙ sym (append_assoc before gap (bytes ++ rest))
-
-  front_long : length (before ++ gap) ≡ start
-  front_long = length-append before gap ∙ sym starts
-
-  stands_between : IsBlank gap → Spells bytes token → IsWhole token rest
-      → Stands text from (record { token = token; start = start; end = end })
-  stands_between blank spelled whole = record {
-    behind = omega (arith, begins, starts);
-    gap = rw (is, begins, starts, slice_middle before gap (bytes ++ rest)) blank;
-    spelled = rw (later, ends, ← front_long, slice_middle (before ++ gap) bytes rest) spelled;
-    ordered = omega (arith, ends);
-    inside = omega (arith, ap length later, length-append {A = ℕ}, front_long, ends);
+stands_between : (text before gap bytes rest : List ℕ) (token : Token) (from start end : ℕ)
+    → text ≡ before ++ (gap ++ (bytes ++ rest)) → from ≡ length before
+    → start ≡ length before + length gap → end ≡ start + length bytes → IsBlank gap
+    → Spells bytes token → IsWhole token rest
+    → Stands text from (record { token = token; start = start; end = end })
+stands_between text before gap bytes rest token from start end is begins starts ends blank spelled
     whole =
-        let long : length ((before ++ gap) ++ bytes) ≡ end =
-        omega (arith, length-append {A = ℕ}, front_long, ends) in
-        rw (later, ← append_assoc (before ++ gap) bytes rest, drop_at _ rest end long) whole;
-  }
+    let later : text ≡ (before ++ gap) ++ (bytes ++ rest) =
+    is ∙ sym (append_assoc before gap (bytes ++ rest)) in
+    let front : length (before ++ gap) ≡ start = length-append before gap ∙ sym starts in
+    let long : length ((before ++ gap) ++ bytes) ≡ end =
+    omega (arith, length-append (before ++ gap) bytes) in
+    record {
+      behind = omega arith;
+      gap = rw (is, begins, starts, slice_middle before gap (bytes ++ rest)) blank;
+      spelled = rw (later, ends, ← front, slice_middle (before ++ gap) bytes rest) spelled;
+      ordered = omega arith;
+      inside = omega (arith, ap length later, length-append {A = ℕ});
+      whole = rw (later, ← append_assoc (before ++ gap) bytes rest, drop_at _ rest end long) whole;
+    }
 
 -- The items of the text.
 
@@ -392,16 +293,16 @@ space_blank : IsBlank (32 ∷ [])
 unfolding lib.Utf8.encode
 space_blank = (32 ∷ [], refl, (refl, tt))
 
-key_alone : (key : List ℕ) → IsKey key → AreItems key (items_of key None) Ending.blank
-key_alone key is_key = (
-  stands_between key [] [] key [] (Token.key key) 0 0 (length key) (sym (append-nil key)) refl refl
-      (omega arith) (NoCharPasses-nil _) (refl, is_key) refl,
-  subst IsBlank (sym (drop_of_length-le key (omega arith))) (NoCharPasses-nil _),
-)
-
-value_alone : (key value : List ℕ) → IsKey key → HasNoQuote value
-    → AreItems (key_and_value key value) (items_of key (Some value)) Ending.blank
-value_alone key value is_key quoted =
+-- the text has these items, which are the tokens of a leaf
+items_alone : (key : List ℕ) (value : Option (List ℕ)) → IsKey key → CanBeQuoted value
+    → AreItems (text_of key value) (items_of key value) Ending.blank
+    × (tokens_of (items_of key value) ≡ leaf_tokens key value)
+items_alone key None is_key quoted =
+    let stands = stands_between key [] [] key [] (Token.key key) 0 0 (length key)
+    (sym (append-nil key)) refl refl (omega arith) (NoCharPasses-nil _) (refl, is_key) refl in
+    let past = subst IsBlank (sym (drop_of_length-le key (omega arith))) (NoCharPasses-nil _) in
+    ((stands, past), refl)
+items_alone key (Some value) is_key quoted =
     let n = length key in
     let text = key_and_value key value in
     let quotes = in_quotes value in
@@ -414,49 +315,26 @@ value_alone key value is_key quoted =
     (Token.value value) (n + 2) (n + 3) (n + 3 + length quotes) (rw append-nil (simp append_assoc))
     (omega (arith, front)) (omega (arith, front)) refl space_blank (refl, quoted) refl in
     let long : length text ≤ n + 3 + length quotes =
-    omega (arith, length-append key (codes " = " ++ quotes)) in (
-      key_stands,
-      (
-        equals_stands,
-        (
-          value_stands,
-          subst IsBlank (sym (drop_of_length-le text long)) (NoCharPasses-nil _),
-        ),
-      ),
-    )
+    omega (arith, length-append key (codes " = " ++ quotes)) in
+    let past = subst IsBlank (sym (drop_of_length-le text long)) (NoCharPasses-nil _) in
+    ((key_stands, (equals_stands, (value_stands, past))), refl)
 
--- Its one tree.
-
-is_alone : (text : List ℕ) (items : List Item) (key : List ℕ) (value : Option (List ℕ))
-    (question : Question) → AreItems text items Ending.blank
-    → map (λ item. item.token) items ≡ leaf_tokens key value
-    → class key value ≡ predicate question → IsAlone text question
-is_alone text items key value question are tokens says =
-    let has : HasTree text (Tree.leaf question) = record {
-      items = items;
-      are_items = are;
-      spelled = (_, 0, tokens ∙ sym (append-nil _), (key, value, refl, says));
-    } in
-    record {
-      stripped = strip-tree text (Tree.leaf question) has;
-      one = record { tree = _; has_tree = has; only = λ other its. same_tree text _ other has its };
-      is = refl;
-    }
-
-alone_text : (key : List ℕ) (value : Option (List ℕ)) (question : Question) → IsKey key
-    → CanBeQuoted value → class key value ≡ predicate question
-    → IsAlone (text_of key value) question
-alone_text key None question is_key quoted says =
-    is_alone key (items_of key None) key None question (key_alone key is_key) refl says
-alone_text key (Some value) question is_key quoted says =
-    is_alone (key_and_value key value) (items_of key (Some value)) key (Some value) question
-    (value_alone key value is_key quoted) refl says
-
--- the spelling of a predicate that can stand in a text is a text of it alone
+-- Its one tree: the spelling of a predicate that can stand in a text is a text of it alone.
 pub spelling_alone : (question : Question) → IsRegular question
     → IsAlone (spelling question) question
 spelling_alone question regular =
-    let s = spelt_regular question regular in
+    let good = rw regular.says at (good_class regular.key regular.value regular.can_be_quoted) in
+    let s : IsSpelt question =
+    ⊎_elim (λ spelt. spelt) (λ is. record { regular = regular; spelled = is }) good in
     let r = s.regular in
-    subst (λ t. IsAlone t question) (sym s.spelled)
-    (alone_text r.key r.value question r.is_key r.can_be_quoted r.says)
+    let (are, tokens) = items_alone r.key r.value r.is_key r.can_be_quoted in
+    let has : HasTree (spelling question) (Tree.leaf question) = rw s.spelled (record {
+      items = items_of r.key r.value;
+      are_items = are;
+      spelled = (_, 0, tokens ∙ sym (append-nil _), (r.key, r.value, refl, r.says));
+    }) in
+    record {
+      stripped = strip-tree _ _ has;
+      one = record { tree = _; has_tree = has; only = λ other its. same_tree _ _ other has its };
+      is = refl;
+    }

@@ -1,8 +1,7 @@
 -- What is spelled by a tree is accepted, and what is built keeps the laws of the builder.
 use Rattle.std.proofs.Common.{◌≡◌, ℕ, zero, suc, ◌+◌, ◌-◌, ◌<◌, true, false, List, [], ◌∷◌, ◌++◌}
 use Rattle.std.proofs.Common.{Option, Some, None, Ok, sym, refl, ap, ◌∙◌, arith, add-zero}
-use Rattle.std.proofs.Common.{append_assoc, length, take, drop}
-use Rattle.std.proofs.Math.Nat.{zero-add}
+use Rattle.std.proofs.Common.{append_assoc, length, take, drop, append-nil}
 use Rattle.cfgx_syntax.specs.Token.{Token}
 use Rattle.cfgx_syntax.specs.Items.{Item}
 use Rattle.cfgx_grammar.specs.Question.{Leaf, Question}
@@ -16,11 +15,9 @@ use Rattle.cfgx_grammar.specs.Neighbours.{Kind, takes}
 use Rattle.cfgx_grammar.specs.parsing.State.{Function, Pending, Builder, Open, State, name_of}
 use Rattle.cfgx_grammar.specs.parsing.State.{initial}
 use Rattle.cfgx_grammar.specs.parsing.Step.{with_member, one_more, ended_by, predicate_ended}
-use Rattle.cfgx_grammar.specs.parsing.Step.{new_open, member_count, has_room, function_ended}
-use Rattle.cfgx_grammar.specs.parsing.Step.{closed_by, with_parens, with_last, step_each}
-use Rattle.cfgx_grammar.specs.parsing.Step.{concluded_by, conclude}
-use Rattle.cfgx_grammar.proofs.accepted.{leaf_tree, tokens_of, counted, stack_ended}
-use Rattle.std.proofs.lemmas.List.{append-nil}
+use Rattle.cfgx_grammar.specs.parsing.Step.{new_open, has_room, function_ended, closed_by}
+use Rattle.cfgx_grammar.specs.parsing.Step.{with_parens, with_last, step_each, conclude, step}
+use Rattle.cfgx_grammar.proofs.accepted.{leaf_tree, tokens_of, ok_same, ran}
 use Rattle.std.proofs.Math.Seq.{take-append_seam, drop-append_seam}
 
 -- The tokens of a tree are taken, from any state in which a member may come, and what is built
@@ -70,13 +67,24 @@ pub record Laws {W M L : Type 0} (builder : Builder W M L) : Type 1 where
       → Calls builder MemberBuilds ListBuilds Function.not (Tree.not tree)
       (Trees.more tree Trees.none)
 
--- the first item of some tokens
-first_item : (items : List Item) (token : Token) (tokens : List Token)
-    → tokens_of items ≡ token ∷ tokens
-    → (x : Item) × (rest : List Item) × (items ≡ x ∷ rest) × (x.token ≡ token)
-    × (tokens_of rest ≡ tokens)
-first_item [] token tokens is = absurd (cc)
-first_item (x ∷ rest) token tokens is = (x, rest, refl, (cc), (cc))
+-- the items of two parts, and of one token
+split_items : (items : List Item) (front back : List Token) → tokens_of items ≡ front ++ back
+    → (xs : List Item) × (ys : List Item) × (items ≡ xs ++ ys) × (tokens_of xs ≡ front)
+    × (tokens_of ys ≡ back)
+split_items items [] back is = ([], items, refl, refl, is)
+split_items [] (token ∷ front) back is = absurd (cc)
+split_items (x ∷ items) (token ∷ front) back is =
+    let (xs, ys, are, xs_are, ys_are) = split_items items front back (cc) in
+    (x ∷ xs, ys, ap (λ l. x ∷ l) are, (cc), ys_are)
+
+one_item : (items : List Item) (token : Token) → tokens_of items ≡ token ∷ []
+    → (x : Item) × (items ≡ x ∷ []) × (x.token ≡ token)
+one_item (x ∷ []) token is = (x, refl, (cc))
+one_item _ token is = absurd (cc)
+
+no_items : (items : List Item) → tokens_of items ≡ [] → items ≡ []
+no_items [] is = refl
+no_items (x ∷ items) is = absurd (cc)
 
 -- behind a member, and behind the commas that follow it: `)`, `,` and the end may come
 abbrev IsEnd : Option Token → Type 0
@@ -109,13 +117,6 @@ module _ {W M L : Type 0} {builder : Builder W M L} where
       grown_top n s (one_more top) rest
       ∙ ap (λ m. record s { stack = record top { members = m } ∷ rest }) count
 
-  -- a `)` behind what has ended
-  closes_by : (after settled : State builder) (item : Item) (top : Open M)
-      (rest stack : List (Open M)) → after.stack ≡ stack → predicate_ended after ≡ Ok settled
-      → settled.stack ≡ top ∷ rest → has_room top.function top.members ≡ true
-      → closed_by after item stack ≡ Ok (function_ended (top ∷ rest) settled)
-  closes_by after settled item top rest stack is ends stack' room = grind arith
-
   -- the state in front of a function's members
   abbrev pub inside : State builder → Function → Item → Item → State builder
   inside s function head opening = record s {
@@ -130,53 +131,58 @@ module _ {W M L : Type 0} {builder : Builder W M L} where
       → step_each s (head ∷ opening ∷ rest) ≡ step_each (inside s function head opening) rest
   opens s function head opening rest may named is = grind arith
 
+  -- one part of the items, and then the other
+  steps_both : (xs ys : List Item) (s t : State builder) → step_each s xs ≡ Ok t
+      → step_each s (xs ++ ys) ≡ step_each t ys
+  steps_both [] ys s t runs = ap (λ u. step_each u ys) (ok_same s t runs)
+  steps_both (x ∷ xs) ys s t runs =
+      let (u, steps, rest) = ran (step s x) (λ v. step_each v xs) t runs in
+      rw steps (steps_both xs ys u t rest)
+
+  -- commas behind a member that ends
+  commas_run : (n : ℕ) (xs : List Item) (s t : State builder) (written : W)
+      → tokens_of xs ≡ Token.comma ∷ commas n → takes t.last Kind.comma ≡ true
+      → predicate_ended t ≡ Ok (between s t.last written)
+      → step_each t xs ≡ Ok (between s (Some Token.comma) written)
+  commas_run zero (x ∷ []) s t written are may ends =
+      let x_is : x.token ≡ Token.comma = cc in rw (x_is, may, ends) refl
+  commas_run (suc n) (x ∷ xs) s t written are may ends =
+      let x_is : x.token ≡ Token.comma = cc in
+      rw (x_is, may, ends) (commas_run n xs s _ written (cc) refl refl)
+  commas_run _ _ s t written are may ends = absurd (cc)
+
 module _ {W M L : Type 0} {builder : Builder W M L} (laws : Laws builder) where
-  -- The state when a member and `n` commas behind it have been taken from the front of some items;
-  -- the predicate has ended, or ends there.
-  pub record MemberEnds (s : State builder) (items : List Item) (back : List Token) (n : ℕ)
+  -- The state when these items have been taken, a member and `n` commas behind it; the predicate
+  -- has ended, or ends there.
+  pub record MemberEnds (s : State builder) (items member : List Item) (n : ℕ)
       (tree : Tree Question) : Type 0 where
-    pub first : List Item
-    pub commas_behind : List Item
-    pub rest : List Item
-    pub items_are : items ≡ first ++ (commas_behind ++ rest)
-    pub rest_is : tokens_of rest ≡ back
     pub after : State builder
     pub written : W
-    pub runs : step_each s items ≡ step_each after rest
+    pub runs : step_each s items ≡ Ok after
     pub is_end : IsEnd after.last
     pub ends : predicate_ended after ≡ Ok (between s after.last written)
-    pub builds : laws.MemberBuilds first s.written written tree
+    pub builds : laws.MemberBuilds member s.written written tree
     pub members_come : 0 < n → after ≡ between s (Some Token.comma) written
 
   -- the state when a list has been taken
-  pub record ListEnds (s : State builder) (items : List Item) (back : List Token)
-      (trees : Trees Question) : Type 0 where
-    pub first : List Item
-    pub rest : List Item
-    pub items_are : items ≡ first ++ rest
-    pub rest_is : tokens_of rest ≡ back
+  pub record ListEnds (s : State builder) (items : List Item) (trees : Trees Question)
+      : Type 0 where
     pub after : State builder
     pub written : W
-    pub runs : step_each s items ≡ step_each after rest
+    pub runs : step_each s items ≡ Ok after
     pub closes : takes after.last Kind.closing ≡ true
     pub ends : predicate_ended after ≡ Ok (grown (count trees) (settled s after.last written))
-    pub builds : laws.ListBuilds first s.written written trees
+    pub builds : laws.ListBuilds items s.written written trees
 
   -- a predicate or a literal, whose tokens have been taken
-  MemberEnds-pending : (s : State builder) (first rest : List Item) (back : List Token)
-      (pending : Pending) (last : Token) (leaf : Leaf) → tokens_of rest ≡ back
-      → step_each s (first ++ rest)
-      ≡ step_each (record s { pending = Some pending; last = Some last }) rest
+  MemberEnds-pending : (s : State builder) (items : List Item) (pending : Pending) (last : Token)
+      (leaf : Leaf)
+      → step_each s items ≡ Ok (record s { pending = Some pending; last = Some last })
       → IsEnd (Some last) → class_of pending ≡ Class.is leaf
-      → laws.MemberBuilds first s.written
+      → laws.MemberBuilds items s.written
       (builder.leaf (builder.located pending leaf) s.written) (leaf_tree leaf)
-      → MemberEnds s (first ++ rest) back 0 (leaf_tree leaf)
-  MemberEnds-pending s first rest back pending last leaf rest_is runs is_end says builds = record {
-    first = first;
-    commas_behind = [];
-    rest = rest;
-    items_are = refl;
-    rest_is = rest_is;
+      → MemberEnds s items items 0 (leaf_tree leaf)
+  MemberEnds-pending s items pending last leaf runs is_end says builds = record {
     after = record s { pending = Some pending; last = Some last };
     written = _;
     runs = runs;
@@ -187,84 +193,70 @@ module _ {W M L : Type 0} {builder : Builder W M L} (laws : Laws builder) where
   }
 
   MemberEnds-leaf : (s : State builder) (items : List Item) (leaf : Leaf) (key : List ℕ)
-      (value : Option (List ℕ)) (back : List Token) → takes s.last Kind.name ≡ true
-      → tokens_of items ≡ leaf_tokens key value ++ back → class key value ≡ Class.is leaf
-      → MemberEnds s items back 0 (leaf_tree leaf)
-  MemberEnds-leaf s (x ∷ rest) leaf key None back may is classed =
+      (value : Option (List ℕ)) → takes s.last Kind.name ≡ true
+      → tokens_of items ≡ leaf_tokens key value → class key value ≡ Class.is leaf
+      → MemberEnds s items items 0 (leaf_tree leaf)
+  MemberEnds-leaf s (x ∷ []) leaf key None may is classed =
       let x_is : x.token ≡ Token.key key = cc in
-      MemberEnds-pending s (x ∷ []) rest back (key_at x key) (Token.key key) leaf (cc)
-      (rw (x_is, may) refl) (refl, refl, refl) classed (laws.key x key leaf s.written x_is classed)
-  MemberEnds-leaf s (x ∷ y ∷ z ∷ rest) leaf key (Some value) back may is classed =
+      MemberEnds-pending s _ (key_at x key) (Token.key key) leaf (rw (x_is, may) refl)
+      (refl, refl, refl) classed (laws.key x key leaf s.written x_is classed)
+  MemberEnds-leaf s (x ∷ y ∷ z ∷ []) leaf key (Some value) may is classed =
       let x_is : x.token ≡ Token.key key = cc in
       let y_is : y.token ≡ Token.equals = cc in
       let z_is : z.token ≡ Token.value value = cc in
-      MemberEnds-pending s (x ∷ y ∷ z ∷ []) rest back (value_at x key z value) (Token.value value)
-      leaf (cc) (rw (x_is, may, y_is, z_is) refl) (refl, refl, refl) classed
+      MemberEnds-pending s _ (value_at x key z value) (Token.value value) leaf
+      (rw (x_is, may, y_is, z_is) refl) (refl, refl, refl) classed
       (laws.value x y z key value leaf s.written x_is z_is classed)
-  MemberEnds-leaf s _ leaf key None back may is classed = absurd (cc)
-  MemberEnds-leaf s _ leaf key (Some value) back may is classed = absurd (cc)
+  MemberEnds-leaf s _ leaf key None may is classed = absurd (cc)
+  MemberEnds-leaf s _ leaf key (Some value) may is classed = absurd (cc)
 
   -- commas behind a member
-  pub MemberEnds-commas : (n m : ℕ) (s : State builder) (items : List Item) (back : List Token)
-      (tree : Tree Question) → MemberEnds s items (commas n ++ back) m tree
-      → MemberEnds s items back (n + m) tree
-  MemberEnds-commas zero m s items back tree i = rw zero-add i
-  MemberEnds-commas (suc n) m s items back tree i =
-      let (x, rest, are, x_is, rest_is) = first_item i.rest Token.comma (commas n ++ back) i.rest_is
-      in
-      let sum : n + suc m ≡ suc n + m = omega arith in
-      rw (← sum) (MemberEnds-commas n (suc m) s items back tree (record {
-        first = i.first;
-        commas_behind = i.commas_behind ++ x ∷ [];
-        rest = rest;
-        items_are = i.items_are ∙ ap (λ l. i.first ++ (i.commas_behind ++ l)) are
-            ∙ simp append_assoc;
-        rest_is = rest_is;
-        after = between s (Some Token.comma) i.written;
-        written = i.written;
-        runs = i.runs ∙ ap (step_each i.after) are ∙ rw (x_is, i.is_end.1, i.ends) refl;
-        is_end = (refl, refl, refl);
-        ends = refl;
-        builds = i.builds;
-        members_come = λ some. refl;
-      }))
+  pub MemberEnds-commas : (n : ℕ) (s : State builder) (member behind : List Item)
+      (tree : Tree Question) → tokens_of behind ≡ commas n → MemberEnds s member member 0 tree
+      → MemberEnds s (member ++ behind) member n tree
+  MemberEnds-commas zero s member behind tree are i =
+      rw (no_items behind are, append-nil member) i
+  MemberEnds-commas (suc n) s member behind tree are i = record {
+    after = between s (Some Token.comma) i.written;
+    written = i.written;
+    runs = steps_both member behind s i.after i.runs
+        ∙ commas_run n behind s i.after i.written are i.is_end.1 i.ends;
+    is_end = (refl, refl, refl);
+    ends = refl;
+    builds = i.builds;
+    members_come = λ some. refl;
+  }
 
   -- the last member, and a member in front of others
-  ListEnds-one : (s : State builder) (items : List Item) (back : List Token) (n : ℕ)
-      (tree : Tree Question) → MemberEnds s items back n tree
-      → ListEnds s items back (Trees.more tree Trees.none)
-  ListEnds-one s items back n tree i = record {
-    first = i.first ++ (i.commas_behind ++ []);
-    rest = i.rest;
-    items_are = i.items_are ∙ simp append_assoc;
-    rest_is = i.rest_is;
+  ListEnds-one : (s : State builder) (member behind : List Item) (n : ℕ) (tree : Tree Question)
+      → MemberEnds s (member ++ behind) member n tree
+      → ListEnds s (member ++ behind) (Trees.more tree Trees.none)
+  ListEnds-one s member behind n tree i = record {
     after = i.after;
     written = i.written;
     runs = i.runs;
     closes = i.is_end.0;
     ends = i.ends;
-    builds = laws.more _ _ _ tree Trees.none _ _ _ i.builds (laws.none i.written);
+    builds = rw append-nil at
+        (laws.more member behind [] tree Trees.none _ _ _ i.builds (laws.none i.written));
   }
 
-  ListEnds-more : (s : State builder) (items : List Item) (others back : List Token) (n : ℕ)
-      (tree : Tree Question) (trees : Trees Question) → MemberEnds s items (others ++ back) n tree
-      → Separates n trees → IsList others trees
-      → ((t : State builder) (rest : List Item) → takes t.last Kind.name ≡ true
-      → takes t.last Kind.closing ≡ true → t.pending ≡ None → tokens_of rest ≡ others ++ back
-      → ListEnds t rest back trees) → ListEnds s items back (Trees.more tree trees)
-  ListEnds-more s items others back n tree Trees.none i some list go_on =
-      ListEnds-one s items back n tree (rw list at i)
-  ListEnds-more s items others back n tree (Trees.more second trees) i some list go_on =
-      let l = go_on (between s (Some Token.comma) i.written) i.rest refl refl refl i.rest_is in
+  ListEnds-more : (s : State builder) (member behind others : List Item) (n : ℕ)
+      (tree : Tree Question) (trees : Trees Question)
+      → MemberEnds s (member ++ behind) member n tree → Separates n trees
+      → IsList (tokens_of others) trees → ((t : State builder) → takes t.last Kind.name ≡ true
+      → takes t.last Kind.closing ≡ true → t.pending ≡ None → ListEnds t others trees)
+      → ListEnds s (member ++ (behind ++ others)) (Trees.more tree trees)
+  ListEnds-more s member behind others n tree Trees.none i some list go_on =
+      rw (no_items others list, append-nil behind) (ListEnds-one s member behind n tree i)
+  ListEnds-more s member behind others n tree (Trees.more second trees) i some list go_on =
+      let t = between s (Some Token.comma) i.written in
+      let l = go_on t refl refl refl in
       record {
-        first = i.first ++ (i.commas_behind ++ l.first);
-        rest = l.rest;
-        items_are = i.items_are ∙ ap (λ k. i.first ++ (i.commas_behind ++ k)) l.items_are
-            ∙ simp append_assoc;
-        rest_is = l.rest_is;
         after = l.after;
         written = l.written;
-        runs = i.runs ∙ ap (λ u. step_each u i.rest) (i.members_come some) ∙ l.runs;
+        runs = rw (← append_assoc member behind others) (steps_both (member ++ behind) others s t
+            (i.runs ∙ ap Ok (i.members_come some)) ∙ l.runs);
         closes = l.closes;
         ends = l.ends;
         builds = laws.more _ _ _ tree (Trees.more second trees) _ _ _ i.builds l.builds;
@@ -272,93 +264,78 @@ module _ {W M L : Type 0} {builder : Builder W M L} (laws : Laws builder) where
 
   -- a call, by its members
   MemberEnds-call : (s : State builder) (items : List Item) (function : Function)
-      (tokens inner back : List Token) (tree : Tree Question) (trees : Trees Question)
-      → takes s.last Kind.name ≡ true → tokens_of items ≡ tokens ++ back
-      → IsCall (name_of function) tokens inner → has_room function (count trees) ≡ true
+      (inner : List Token) (tree : Tree Question) (trees : Trees Question)
+      → takes s.last Kind.name ≡ true → IsCall (name_of function) (tokens_of items) inner
+      → has_room function (count trees) ≡ true
       → Calls builder laws.MemberBuilds laws.ListBuilds function tree trees
       → ((start : State builder) (members : List Item) → takes start.last Kind.name ≡ true
       → takes start.last Kind.closing ≡ true → start.pending ≡ s.pending
-      → tokens_of members ≡ inner ++ Token.close_paren ∷ back
-      → ListEnds start members (Token.close_paren ∷ back) trees)
-      → MemberEnds s items back 0 tree
-  MemberEnds-call s (x ∷ y ∷ items) name tokens inner back tree trees may is call room calls list =
-      let all : tokens_of (x ∷ y ∷ items)
-      ≡ name_of name ∷ Token.open_paren ∷ (inner ++ Token.close_paren ∷ back) =
-      is ∙ rw call (simp append_assoc) in
-      let start = inside s name x y in
-      let l = list start items refl refl refl (cc) in
-      let (z, rest, are, z_is, rest_is) = first_item l.rest Token.close_paren back l.rest_is in
-      let top = more (count trees) (with_parens y.start (new_open s name x)) in
-      let full = record (settled start l.after.last l.written) { stack = top ∷ s.stack } in
+      → tokens_of members ≡ inner → ListEnds start members trees) → MemberEnds s items items 0 tree
+  MemberEnds-call s (x ∷ y ∷ items) function inner tree trees may call room calls list =
+      let (first, last, are, first_are, last_is) = split_items items inner _ (cc) in
+      let (z, one, z_is) = one_item last Token.close_paren last_is in
+      let l = list (inside s function x y) first refl refl refl first_are in
+      let top = more (count trees) (with_parens y.start (new_open s function x)) in
+      let full = record (settled (inside s function x y) l.after.last l.written) {
+        stack = top ∷ s.stack;
+      } in
       let members : 0 + count trees ≡ count trees = omega arith in
-      let closed = closes_by l.after full z top s.stack l.after.stack refl
-      (l.ends ∙ ap Ok (grown_top (count trees) full _ s.stack)) refl (rw members room) in
-      record {
-        first = x ∷ y ∷ (l.first ++ z ∷ []);
-        commas_behind = [];
-        rest = rest;
-        items_are = ap (λ k. x ∷ y ∷ k) (l.items_are ∙ ap (λ k. l.first ++ k) are
-            ∙ simp append_assoc);
-        rest_is = rest_is;
+      let ends = l.ends ∙ ap Ok (grown_top (count trees) full _ s.stack) in
+      let closed : closed_by l.after z l.after.stack ≡ Ok (function_ended (top ∷ s.stack) full) =
+      grind (arith, ends, room) in
+      rw (are, one) (record {
         after = with_last Token.close_paren (function_ended (top ∷ s.stack) full);
-        written = builder.function_ended (builder.mark_of s.written) name (0 + count trees)
+        written = builder.function_ended (builder.mark_of s.written) function (0 + count trees)
             l.written;
-        runs = opens s name x y items may (cc) (cc) ∙ l.runs
-            ∙ ap (step_each l.after) are ∙ rw (z_is, l.closes, closed) refl;
+        runs = opens s function x y _ may (cc) (cc) ∙ steps_both first _ _ l.after l.runs
+            ∙ rw (z_is, l.closes, closed) refl;
         is_end = (refl, refl, refl);
         ends = refl;
-        builds = rw members (calls x y z l.first s.written l.written l.builds);
+        builds = rw members (calls x y z first s.written l.written l.builds);
         members_come = λ some. absurd (omega arith);
-      }
-  MemberEnds-call s _ name tokens inner back tree trees may is call room calls list = absurd (cc)
+      })
+  MemberEnds-call s _ function inner tree trees may call room calls list = absurd (cc)
 
   mutual
     pub MemberEnds-member : (tree : Tree Question) (s : State builder) (items : List Item)
-        (tokens back : List Token) → takes s.last Kind.name ≡ true → s.pending ≡ None
-        → tokens_of items ≡ tokens ++ back → IsMember tokens tree → MemberEnds s items back 0 tree
-    MemberEnds-member (Tree.leaf question) s items tokens back may none is (key, value, are, says) =
-        MemberEnds-leaf s items (Leaf.predicate question) key value back may (rw are at is) says
-    MemberEnds-member (Tree.literal truth) s items tokens back may none is (key, value, are, says) =
-        MemberEnds-leaf s items (Leaf.literal truth) key value back may (rw are at is) says
-    MemberEnds-member (Tree.all trees) s items tokens back may none is (inner, call, list) =
-        MemberEnds-call s items Function.all tokens inner back _ trees may is call refl
-        (laws.all trees) (λ t members named closing same are. ListEnds-list trees t members inner _
-        named closing (same ∙ none) are list)
-    MemberEnds-member (Tree.any trees) s items tokens back may none is (inner, call, list) =
-        MemberEnds-call s items Function.any tokens inner back _ trees may is call refl
-        (laws.any trees) (λ t members named closing same are. ListEnds-list trees t members inner _
-        named closing (same ∙ none) are list)
-    MemberEnds-member (Tree.not tree) s items tokens back may none is (inner, n, call, spelled) =
-        MemberEnds-call s items Function.not tokens (inner ++ commas n) back _
-        (Trees.more tree Trees.none) may is call refl (laws.not tree)
-        (λ t members named closing same are. ListEnds-one t members _ _ tree
-        (MemberEnds-commas n 0 t members _ tree (MemberEnds-member tree t members inner _ named
-        (same ∙ none) (are ∙ append_assoc inner (commas n) _) spelled)))
+        → takes s.last Kind.name ≡ true → s.pending ≡ None → IsMember (tokens_of items) tree
+        → MemberEnds s items items 0 tree
+    MemberEnds-member (Tree.leaf question) s items may none (key, value, are, says) =
+        MemberEnds-leaf s items (Leaf.predicate question) key value may are says
+    MemberEnds-member (Tree.literal truth) s items may none (key, value, are, says) =
+        MemberEnds-leaf s items (Leaf.literal truth) key value may are says
+    MemberEnds-member (Tree.all trees) s items may none (inner, call, list) =
+        MemberEnds-call s items Function.all inner _ trees may call refl (laws.all trees)
+        (λ t members named closing same are. ListEnds-list trees t members named closing
+        (same ∙ none) (rw are list))
+    MemberEnds-member (Tree.any trees) s items may none (inner, call, list) =
+        MemberEnds-call s items Function.any inner _ trees may call refl (laws.any trees)
+        (λ t members named closing same are. ListEnds-list trees t members named closing
+        (same ∙ none) (rw are list))
+    MemberEnds-member (Tree.not tree) s items may none (inner, n, call, spelled) =
+        MemberEnds-call s items Function.not (inner ++ commas n) _ (Trees.more tree Trees.none) may
+        call refl (laws.not tree) (λ t members named closing same are.
+        let (xs, ys, both, xs_are, ys_are) = split_items members inner (commas n) are in
+        rw both (ListEnds-one t xs ys n tree (MemberEnds-commas n t xs ys tree ys_are
+        (MemberEnds-member tree t xs named (same ∙ none) (rw xs_are spelled)))))
 
     ListEnds-list : (trees : Trees Question) (s : State builder) (items : List Item)
-        (tokens back : List Token) → takes s.last Kind.name ≡ true
-        → takes s.last Kind.closing ≡ true → s.pending ≡ None
-        → tokens_of items ≡ tokens ++ back → IsList tokens trees → ListEnds s items back trees
-    ListEnds-list Trees.none s items tokens back named closing none is list = record {
-      first = [];
-      rest = items;
-      items_are = refl;
-      rest_is = rw list at is;
-      after = s;
-      written = s.written;
-      runs = refl;
-      closes = closing;
-      ends = ap (ended_by s) none ∙ (λ i. Ok (record s { pending = none i }));
-      builds = laws.none s.written;
-    }
-    ListEnds-list (Trees.more tree trees) s items tokens back named closing none is
+        → takes s.last Kind.name ≡ true → takes s.last Kind.closing ≡ true → s.pending ≡ None
+        → IsList (tokens_of items) trees → ListEnds s items trees
+    ListEnds-list Trees.none s items named close none list =
+        let end = ap (ended_by s) none ∙ (λ i. Ok (record s { pending = none i })) in
+        let done = laws.none s.written in
+        let empty : ListEnds s [] Trees.none =
+        record { after = s; written = _; runs = refl; closes = close; ends = end; builds = done } in
+        rw (no_items items list) empty
+    ListEnds-list (Trees.more tree trees) s items named closing none
         (front, n, others, are, some, spelled, list) =
-        let i = MemberEnds-member tree s items front (commas n ++ (others ++ back)) named none
-        (is ∙ rw are (simp append_assoc)) spelled in
-        ListEnds-more s items others back _ tree trees
-        (MemberEnds-commas n 0 s items (others ++ back) tree i) (rw add-zero some) list
-        (λ t rest may close settled rest_is. ListEnds-list trees t rest others back may close
-        settled rest_is list)
+        let (xs, rest, both, xs_are, rest_are) = split_items items front (commas n ++ others) are in
+        let (ys, zs, again, ys_are, zs_are) = split_items rest (commas n) others rest_are in
+        let i = MemberEnds-member tree s xs named none (rw xs_are spelled) in
+        rw (both, again) (ListEnds-more s xs ys zs n tree trees
+        (MemberEnds-commas n s xs ys tree ys_are i) some (rw zs_are list)
+        (λ t may close settled. ListEnds-list trees t zs may close settled (rw zs_are list)))
 
 -- The builder that builds the tree itself.
 
@@ -400,7 +377,7 @@ calls : (function : Function) (tree : Tree Question) (trees : Trees Question)
     → called function (list_of trees) ≡ tree → Calls tree_builder (λ items w v t. v ≡ w ++ t ∷ [])
     (λ items w v ts. v ≡ w ++ list_of ts) function tree trees
 calls function tree trees is head opening closing members w v built =
-    rw (built, take-append_seam, drop-append_seam, is) refl
+    grind (arith, take-append_seam, drop-append_seam)
 
 pub tree_laws : Laws tree_builder
 tree_laws = record {
@@ -423,21 +400,6 @@ tree_built items built tree is = is
 
 -- A text whose tokens a tree spells is accepted.
 
-no_items : (items : List Item) → tokens_of items ≡ [] → items ≡ []
-no_items [] is = refl
-no_items (x ∷ items) is = absurd (cc)
-
-module _ {W M L : Type 0} {builder : Builder W M L} where
-  -- nothing was open where nothing is open once the predicate has ended
-  none_open : (s t : State builder) (stack : List (Open M)) → s.stack ≡ stack
-      → predicate_ended s ≡ Ok t → t.stack ≡ [] → s.stack ≡ []
-  none_open s t stack is ends none = grind arith
-
-  concludes_one : (len : ℕ) (s t : State builder) → lacks_value s.last ≡ false → s.stack ≡ []
-      → predicate_ended s ≡ Ok t → t.roots ≡ 1
-      → conclude len s ≡ Ok (record t { written = builder.root_ended t.written })
-  concludes_one len s t whole none ends one = grind arith
-
 module _ {W M L : Type 0} {builder : Builder W M L} (laws : Laws builder) where
   -- the tokens are taken, and the tree is built of the first of them: commas may follow
   pub record Finds (len : ℕ) (items : List Item) (tree : Tree Question) : Type 0 where
@@ -455,20 +417,19 @@ module _ {W M L : Type 0} {builder : Builder W M L} (laws : Laws builder) where
   pub Finds-tree : (len : ℕ) (items : List Item) (tree : Tree Question)
       → IsTree (tokens_of items) tree → Finds len items tree
   Finds-tree len items tree (member, n, is, spelled) =
-      let i = MemberEnds-commas laws n 0 initial items [] tree
-      (MemberEnds-member laws tree initial items member _ refl refl
-      (is ∙ ap (λ l. member ++ l) (sym (append-nil (commas n)))) spelled) in
+      let (xs, ys, both, xs_are, ys_are) = split_items items member (commas n) is in
+      let i = MemberEnds-commas laws n initial xs ys tree ys_are
+      (MemberEnds-member laws tree initial xs refl refl (rw xs_are spelled)) in
       let settled = between initial i.after.last i.written in
-      let none = none_open i.after settled i.after.stack refl i.ends refl in
       record {
         read = i.after;
-        runs = i.runs ∙ ap (step_each i.after) (no_items i.rest i.rest_is);
-        first = i.first;
-        rest = i.commas_behind ++ i.rest;
-        items_are = i.items_are;
+        runs = ap (step_each initial) both ∙ i.runs;
+        first = xs;
+        rest = ys;
+        items_are = both;
         written = i.written;
         builds = i.builds;
         whole = record settled { written = builder.root_ended i.written };
-        concludes = concludes_one len i.after settled i.is_end.2 none i.ends refl;
+        concludes = grind (arith, i.is_end.2, i.ends);
         whole_is = refl;
       }

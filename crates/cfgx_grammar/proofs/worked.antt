@@ -1,8 +1,7 @@
 -- The definitions, computed on rows whose answers are known from outside.
-use Rattle.std.specs.Prelude.{◌≡◌, ℕ, suc, ◌-◌, ◌==◌, ◌||◌, Bool, true, false, not, List, [], ◌∷◌}
-use Rattle.std.specs.Prelude.{◌++◌, length, codes, map, reverse, Option, Some, if◌then◌else◌, take}
-use Rattle.std.specs.Prelude.{None, Result}
-use Rattle.std.specs.Str.{bytes_eq}
+use Rattle.std.proofs.Common.{◌≡◌, ℕ, suc, ◌-◌, ◌==◌, ◌||◌, Bool, true, false, not, List, [], ◌∷◌}
+use Rattle.std.proofs.Common.{◌++◌, length, codes, map, reverse, Option, Some, if◌then◌else◌, take}
+use Rattle.std.proofs.Common.{None, Result, bytes_eq, refl, Err, sym, ap, ◌∙◌, arith, rules}
 use Rattle.cfgx_syntax.specs.Error.{Cause, Refusal, unexpected, invalid_integer, invalid_has_atomic}
 use Rattle.cfgx_syntax.specs.Error.{invalid_not, empty, unclosed_parens, unopened_parens}
 use Rattle.cfgx_syntax.specs.Error.{unclosed_quotes, multiple_root_predicates}
@@ -14,10 +13,6 @@ use Rattle.cfgx_grammar.specs.Fold.{Operations, fold}
 use Rattle.cfgx_grammar.specs.Neighbours.{expected, next}
 use Rattle.cfgx_grammar.specs.Question.{Question, Leaf, TargetQuestion}
 use Rattle.cfgx_grammar.specs.Tree.{Tree, Trees, asked}
-use Rattle.std.proofs.Common.{◌≡◌, refl, ℕ, Bool, List, [], ◌∷◌, true, false, Option, Some, None}
-use Rattle.std.proofs.Common.{Err, sym, ap, ◌∙◌, arith, rules}
-use Rattle.cfgx_syntax.specs.contracts.logic.BoolLogic.TheImpl as bool_logic
-use Rattle.cfgx_syntax.specs.contracts.logic.OptionBoolLogic.TheImpl as kleene_logic
 use Rattle.cfgx_grammar.specs.Filling.{polar}
 use Rattle.std.specs.Fmt.{digits}
 use Rattle.cfgx_targets.specs.Endian.{endian_named}
@@ -34,6 +29,8 @@ use Rattle.cfgx_grammar.specs.parsing.State.{State, initial}
 use Rattle.cfgx_grammar.specs.parsing.Step.{step_each, answer_from}
 use Rattle.cfgx_grammar.proofs.accepted.{tokens_of}
 use Rattle.cfgx_grammar.proofs.spelled.{tree_builder, tree_laws, Finds-tree}
+use Rattle.cfgx_syntax.specs.contracts.logic.BoolLogic.TheImpl as bool_logic
+use Rattle.cfgx_syntax.specs.contracts.logic.OptionBoolLogic.TheImpl as kleene_logic
 
 -- Worked examples: trees, texts, and a logic that writes its terms down.
 
@@ -72,10 +69,6 @@ either truth = Tree.any (Trees.more (Tree.literal truth) (one (flag (codes "a"))
 -- `all(a,,b)`
 abbrev pub listed : Tree Question
 listed = Tree.all (Trees.more (flag (codes "a")) (one (flag (codes "b"))))
-
--- `all(a)`
-abbrev pub single : Tree Question
-single = Tree.all (one (flag (codes "a")))
 
 -- The tokens of a text of words, signs and values: `all`, `any` and `not` are names of functions,
 -- and any other word is a key.
@@ -133,9 +126,6 @@ shown text = first_fault text (lexed text) Ending.blank
 abbrev pub fault : Cause → ℕ → ℕ → Option Refusal
 fault cause start end = Some (refusal cause start end)
 
-abbrev pub key : List ℕ → Token
-key text = Token.key text
-
 -- the fault of a token that is refused behind the last one
 abbrev pub refused_behind : Option Token → ℕ → ℕ → Option Refusal
 refused_behind last start end = fault (unexpected (expected last)) start end
@@ -164,10 +154,8 @@ pub tree_asks : Lines asked ((shallow, flags (codes "b" ∷ codes "a" ∷ codes 
 tree_asks = refl
 
 -- Which token may stand behind which, and what is expected there.
-abbrev may_follow : Option Token × Token → Bool
-may_follow both = next both.0 both.1
-
-pub follows : Lines may_follow (((None, Token.not), true)
+pub follows : Lines (λ (both : Option Token × Token). next both.0 both.1) (
+    ((None, Token.not), true)
     ∷ ((None, Token.close_paren), false)
     ∷ ((Some Token.open_paren, Token.comma), false)
     ∷ ((Some Token.comma, Token.comma), true)
@@ -181,10 +169,7 @@ expects = refl
 
 -- The answers stand in the order of the questions: b, a, c for `all(a, any(b), c)`, and c, b, a, d
 -- for `any(a, all(b, not(c)), d)`. A literal is joined among the leaves of its list.
-abbrev value : Tree Question × List (List ℕ) → List ℕ
-value both = fold terms both.0 both.1
-
-pub values : Lines value (
+pub values : Lines (λ (both : Tree Question × List (List ℕ)). fold terms both.0 both.1) (
     ((shallow, codes "b" ∷ codes "a" ∷ codes "c" ∷ []), codes "(((T&c)&a)&(F|b))")
     ∷ ((nested, codes "c" ∷ codes "b" ∷ codes "a" ∷ codes "d" ∷ []), codes "(((F|d)|a)|((T&b)&!c))")
     ∷ ((listed, codes "a" ∷ codes "b" ∷ []), codes "((T&b)&a)")
@@ -200,10 +185,8 @@ values = refl
 pub both : fold bool_logic.ghosts listed (true ∷ false ∷ []) ≡ false
 both = refl
 
-abbrev known : Tree Question × List (Option Bool) → Option Bool
-known both = fold kleene_logic.ghosts both.0 both.1
-
-pub over_three : Lines known (((listed, Some false ∷ None ∷ []), Some false)
+pub over_three : Lines (λ (both : Tree Question × List (Option Bool)).
+    fold kleene_logic.ghosts both.0 both.1) (((listed, Some false ∷ None ∷ []), Some false)
     ∷ ((listed, Some true ∷ None ∷ []), None)
     ∷ ((either true, None ∷ []), Some true)
     ∷ ((either false, None ∷ []), None) ∷ [])
@@ -216,11 +199,9 @@ left_open = (refl, refl)
 
 -- What keys and values are, and how predicates are written, computed.
 
-abbrev said : List ℕ × Option (List ℕ) → Class
-said both = class both.0 both.1
-
 -- The literals, other keys that do not begin with `target_`, and one that does and lacks its value.
-pub plain_keys : Lines said (((codes "true", None), Class.is (Leaf.literal true))
+pub plain_keys : Lines (λ (both : List ℕ × Option (List ℕ)). class both.0 both.1) (
+    ((codes "true", None), Class.is (Leaf.literal true))
     ∷ ((codes "false", None), Class.is (Leaf.literal false))
     ∷ ((codes "true", Some (codes "x")), bad_value (unexpected []))
     ∷ ((codes "True", None), predicate (Question.flag (codes "True")))
@@ -282,8 +263,8 @@ spelled = refl
 -- First faults of texts, computed; worked out by hand from the rules.
 
 -- Faults of a token.
-abbrev of_tokens : List (List ℕ × Option Refusal)
-of_tokens = (codes "all(a b)", refused_behind (Some (key (codes "a"))) 6 7)
+pub tokens_show : Lines shown (
+    (codes "all(a b)", refused_behind (Some (Token.key (codes "a"))) 6 7)
     ∷ (codes ")", refused_behind None 0 1)
     ∷ (codes "a,)", fault unopened_parens 2 3)
     ∷ (codes "not(not(), feature)", fault (invalid_not 0) 4 9)
@@ -292,53 +273,43 @@ of_tokens = (codes "all(a b)", refused_behind (Some (key (codes "a"))) 6 7)
     ∷ (codes "any(not(not(key_one, key_two)))", fault (invalid_not 2) 8 29)
     ∷ (codes "not(a, feature)", fault (invalid_not 2) 0 15)
     ∷ (codes "not(feature, x)", fault (unexpected (codes "= \"<feature_name>\"" ∷ [])) 4 11)
-    ∷ (codes "feature)", fault unopened_parens 7 8) ∷ []
-
-pub tokens_show : Lines shown of_tokens
+    ∷ (codes "feature)", fault unopened_parens 7 8) ∷ [])
 unfolding class
 tokens_show = refl
 
 -- Those that the end of the text shows, and the place where no token can start.
-abbrev of_ends : List (List ℕ × Option Refusal)
-of_ends = (codes "all(key =", fault (unexpected (codes "\"<value>\"" ∷ [])) 9 9)
+pub ends_show : Lines shown (
+    (codes "all(key =", fault (unexpected (codes "\"<value>\"" ∷ [])) 9 9)
     ∷ (codes "all(any", fault (unexpected (codes "(" ∷ [])) 4 7)
     ∷ (codes "all(feature", fault unclosed_parens 3 11)
     ∷ (codes "all(any(a)", fault unclosed_parens 3 10)
     ∷ (codes "not", fault (unexpected (codes "(" ∷ [])) 0 3)
     ∷ (codes "a, target_os", fault (unexpected (codes "= \"<target_cfg_value>\"" ∷ [])) 3 12)
     ∷ (codes "all(), any()", fault multiple_root_predicates 0 12)
-    ∷ (codes "   ", fault empty 0 3) ∷ []
-
-pub ends_show : Lines shown of_ends
+    ∷ (codes "   ", fault empty 0 3) ∷ [])
 unfolding class
 ends_show = refl
 
-pub no_token : first_fault (codes "feature 8") (lexed (codes "feature")) (Ending.no_token 8)
-    ≡ refused_behind None 8 9
+-- a text, the front of it that has tokens, and how it ends
+abbrev stopped : List ℕ × List ℕ × Ending → Option Refusal
+stopped row = first_fault row.0 (lexed row.1) row.2
+
+pub no_token : let row = codes "all(key = \"value), key = \"value\"" in Lines stopped (
+    ((codes "feature 8", codes "feature", Ending.no_token 8), refused_behind None 8 9)
+    ∷ ((codes "key \"abc", codes "key", Ending.unclosed_quotes 4), fault unclosed_quotes 4 8)
+    ∷ ((row, take 31 row, Ending.unclosed_quotes 31), refused_behind (Some (Token.value [])) 26 31)
+    ∷ [])
 unfolding class
 no_token = refl
 
-pub quotes : first_fault (codes "key \"abc") (lexed (codes "key")) (Ending.unclosed_quotes 4)
-    ≡ fault unclosed_quotes 4 8
-unfolding class
-quotes = refl
-
-pub key_before_quote : let text = codes "all(key = \"value), key = \"value\"" in
-    first_fault text (lexed (take 31 text)) (Ending.unclosed_quotes 31)
-    ≡ refused_behind (Some (Token.value [])) 26 31
-unfolding class
-key_before_quote = refl
-
 -- Literals are members and roots, and have no value; values that are refused; and a condition.
-abbrev of_values : List (List ℕ × Option Refusal)
-of_values = (codes "not(true, false)", fault (invalid_not 2) 0 16)
+pub values_show : Lines shown (
+    (codes "not(true, false)", fault (invalid_not 2) 0 16)
     ∷ (codes "true = \"x\"", fault (unexpected []) 8 9)
     ∷ (codes "true, a", fault multiple_root_predicates 0 7)
     ∷ (codes "target_feature = \"\"", fault (unexpected (codes "<feature>" ∷ [])) 18 18)
     ∷ (codes "target_pointer_width = \"256\"", fault invalid_integer 24 27)
-    ∷ (codes "all(a,,)", None) ∷ []
-
-pub values_show : Lines shown of_values
+    ∷ (codes "all(a,,)", None) ∷ [])
 unfolding class read_below
 values_show = refl
 
@@ -353,32 +324,29 @@ none_read text fault are refuses tree has =
     absurd (cc (ap (step_each initial) (sym same.0) ∙ found.runs))
 
 is_a : IsKey (codes "a")
-is_a =
-    record { spelled = (refl, refl); not_all = λ e. cc; not_any = λ e. cc; not_not = λ e. cc }
+is_a = grind arith
 
-is_flag_a : IsMember (key (codes "a") ∷ []) (flag (codes "a"))
-unfolding class
-is_flag_a = (codes "a", None, refl, refl)
-
-is_flag_b : IsMember (key (codes "b") ∷ []) (flag (codes "b"))
-unfolding class
-is_flag_b = (codes "b", None, refl, refl)
+is_flag : (word : List ℕ) → class word None ≡ predicate (Question.flag word)
+    → IsMember (Token.key word ∷ []) (flag word)
+is_flag word says = (word, None, refl, says)
 
 -- Two commas may stand between members; none behind a `(`, and `not` has a member.
 pub is_listed : IsTree (tokens_of (lexed (codes "all(a,,b)"))) listed
+unfolding class
 is_listed =
-    let last : IsList (key (codes "b") ∷ []) (one (flag (codes "b"))) =
-    (_ ∷ [], 0, [], refl, tt, is_flag_b, refl) in
-    let each : IsList (key (codes "a") ∷ Token.comma ∷ Token.comma ∷ key (codes "b") ∷ [])
-    (Trees.more (flag (codes "a")) (one (flag (codes "b")))) =
-    (_ ∷ [], 2, _ ∷ [], refl, omega arith, is_flag_a, last) in
+    let last : IsList (Token.key (codes "b") ∷ []) (one (flag (codes "b"))) =
+    (_ ∷ [], 0, [], refl, tt, is_flag (codes "b") refl, refl) in
+    let each : IsList (Token.key (codes "a") ∷ Token.comma ∷ Token.comma ∷ Token.key (codes "b")
+    ∷ []) (Trees.more (flag (codes "a")) (one (flag (codes "b")))) =
+    (_ ∷ [], 2, _ ∷ [], refl, omega arith, is_flag (codes "a") refl, last) in
     (_, 0, refl, (_, refl, each))
 
-pub single_has : HasTree (codes "all(a)") single
+pub single_has : HasTree (codes "all(a)") (Tree.all (one (flag (codes "a"))))
+unfolding class
 single_has = record {
   items = lexed (codes "all(a)");
   are_items = search (rules, is_a, NoCharPasses-nil);
-  spelled = (_, 0, refl, (_ ∷ [], refl, (_ ∷ [], 0, [], refl, tt, is_flag_a, refl)));
+  spelled = (_, 0, refl, (_ ∷ [], refl, (_ ∷ [], 0, [], refl, tt, is_flag (codes "a") refl, refl)));
 }
 
 pub lone_comma_has_none : HasNoTree (codes "any(,)")

@@ -2,18 +2,18 @@
 -- less deep than what stands inside it, and its members are those that begin at that depth behind
 -- it.
 use Rattle.std.proofs.Common.{◌≡◌, ⊎_elim, ℕ, zero, suc, ◌+◌, ◌<◌, ◌≤◌, ◌&&◌, ◌==◌, Bool, true}
-use Rattle.std.proofs.Common.{false, List, [], ◌∷◌, ◌++◌, length, Option, Some, None, sym, refl, ap}
-use Rattle.std.proofs.Common.{◌∙◌, arith, take_at, option_map, take_all}
-use Rattle.std.specs.Prelude.{if◌then◌else◌, nat_le, slice_get}
+use Rattle.std.proofs.Common.{false, List, [], ◌∷◌, ◌++◌, length, Option, Some, sym, refl, ap, ◌∙◌}
+use Rattle.std.proofs.Common.{arith, take_at, option_map, take_all, if◌then◌else◌, nat_le}
+use Rattle.std.proofs.Common.{slice_get}
 use Rattle.std.proofs.lemmas.Bool.{cases_lt}
 use Rattle.std.proofs.lemmas.List.{take-append-le, length_push}
 use Rattle.cfgx_syntax.specs.Items.{Item}
 use Rattle.cfgx_grammar.specs.Neighbours.{Kind, kind_of, is_kind}
-use Rattle.cfgx_grammar.specs.Depth.{count_below, last_below, first_below, begins_member, depth}
-use Rattle.cfgx_grammar.specs.Depth.{depth_at, members_at}
+use Rattle.cfgx_grammar.specs.Depth.{count_below, last_below, begins_member, depth, depth_at}
+use Rattle.cfgx_grammar.specs.Depth.{members_at}
 use Rattle.std.proofs.lemmas.Option.{slice_get_within}
 use Rattle.cfgx_grammar.specs.parsing.State.{Function, Open, name_of}
-use Rattle.cfgx_grammar.specs.parsing.Step.{over_top, one_more, root_more, with_parens}
+use Rattle.cfgx_grammar.specs.parsing.Step.{over_top, with_parens}
 
 -- Counting and searching the places of a list that grows at its end.
 
@@ -28,22 +28,6 @@ module _ {X : Type 0} where
       → slice_get (xs ++ y ∷ ys) (length xs) ≡ Some y
   slice_get_next [] y ys = refl
   slice_get_next (x ∷ xs) y ys = slice_get_next xs y ys
-
-  pub first_below-none : (answer : ℕ → Option X) (n : ℕ)
-      → ((k : ℕ) → k < n → answer k ≡ None) → first_below answer n ≡ None
-  first_below-none answer zero none = refl
-  first_below-none answer (suc n) none =
-      rw (first_below-none answer n (λ k lt. none k (omega (arith, lt)))) (none n (omega arith))
-
-  pub first_below-found : (answer : ℕ → Option X) (place n : ℕ) (x : X) → place < n
-      → ((k : ℕ) → k < place → answer k ≡ None) → answer place ≡ Some x
-      → first_below answer n ≡ Some x
-  first_below-found answer place zero x lt none here = absurd (omega (arith, lt))
-  first_below-found answer place (suc n) x lt none here = ⊎_elim
-      (λ (less : place < n). rw (first_below-found answer place n x less none here) refl)
-      (λ (most : n ≤ place). let same : place ≡ n = omega (arith, lt, most) in
-      rw (first_below-none answer n (λ k below. none k (omega (arith, below, same))))
-      (ap answer (sym same) ∙ here)) (cases_lt place n)
 
 pub last_below-found : (test : ℕ → Bool) (place n : ℕ) → place < n → test place ≡ true
     → ((k : ℕ) → place < k → k < n → test k ≡ false) → last_below test n ≡ Some place
@@ -69,8 +53,7 @@ count_below-none test (suc n) none = rw (none n (omega arith))
 -- behind the last token no member begins
 pub members_at_end : (items : List Item) (level from : ℕ) → length items ≤ from
     → members_at items level from ≡ 0
-members_at_end items level from past = count_below-none _ (length items)
-    (λ k lt. grind arith)
+members_at_end items level from past = count_below-none _ (length items) (λ k lt. grind arith)
 
 -- The levels.
 
@@ -108,12 +91,6 @@ module _ {M : Type 0} where
   Levels front roots is_named [] going = members_at front 0 0 ≡ roots + going
   Levels front roots is_named (top ∷ rest) going =
       IsLevel front is_named (length rest) top going × Levels front roots false rest 1
-
-  -- what goes on ends, and is counted
-  pub Levels-ended : (front : List Item) (roots : ℕ) (is_named : Bool) (stack : List (Open M))
-      → Levels front roots is_named stack 1
-      → Levels front (root_more stack roots) is_named (over_top one_more stack) 0
-  Levels-ended front roots is_named stack levels = grind arith
 
 -- One more token at the end.
 
@@ -168,8 +145,7 @@ module _ (front : List Item) (item : Item) where
   members_at_deeper level from deeper = members_at_more level from false (grind arith)
 
   IsOpenAt-more : (level : ℕ) (function : Function) (start end place : ℕ) → level < depth more
-      → IsOpenAt front level function start end place
-      → IsOpenAt more level function start end place
+      → IsOpenAt front level function start end place → IsOpenAt more level function start end place
   IsOpenAt-more level function start end place deep is =
       let at = slice_get_within front place is.name is.stands in
       record {
@@ -232,8 +208,7 @@ module _ (front : List Item) (item : Item) where
       → length stack ≤ depth more → is_kind Kind.name (kind_of item.token) ≡ false
       → Levels front roots true stack going
       → Levels more roots false (over_top (with_parens item.start) stack) going
-  Levels-open roots going [] deep other levels =
-      members_at_other 0 0 other ∙ levels
+  Levels-open roots going [] deep other levels = members_at_other 0 0 other ∙ levels
   Levels-open roots going (top ∷ rest) deep other (l, levels) = (
     record {
       place = l.place;

@@ -3,41 +3,32 @@ use Rattle.std.proofs.lemmas.Bool.Decides.{nat_tests}
 use Rattle.std.proofs.lemmas.Grind.{common_steps}
 use Rattle.std.proofs.Common.{◌≡◌, ◌⊎◌, inl, inr, ℕ, ◌+◌, Bool, true, false, List, [], ◌∷◌, ◌++◌}
 use Rattle.std.proofs.Common.{length, reverse, cond, Option, Some, None, Result, Ok, Err, sym, refl}
-use Rattle.std.proofs.Common.{ap, ◌∙◌, subst, arith, suc, ◌-◌, ◌<◌, ◌==◌, option_map, take_all}
-use Rattle.std.proofs.Common.{⊎_elim, ◌≤◌, append_assoc, length-append}
-use Rattle.std.specs.Prelude.{count_by, option_and_then, if◌then◌else◌, codes}
-use Rattle.std.proofs.lemmas.Bool.{false≢true, lt-ltb, le-ltb, eq-eqb, ne_eqb, cases_lt}
+use Rattle.std.proofs.Common.{ap, ◌∙◌, arith, suc, ◌-◌, ◌<◌, option_map, take_all, append_assoc}
+use Rattle.std.proofs.Common.{◌==◌, count_by, option_and_then, if◌then◌else◌, lt-ltb, le-ltb}
+use Rattle.std.proofs.Common.{eq-eqb, ne_eqb, append-nil}
 use Rattle.std.proofs.Math.Seq.{take-append_seam}
-use Rattle.std.proofs.lemmas.List.{reverse-append, append-nil}
-use Rattle.std.proofs.lemmas.List.Sums.{sum_by_push}
 use Rattle.cfgx_syntax.specs.Token.{Token}
 use Rattle.cfgx_syntax.specs.Items.{Item, Ending, lexical}
-use Rattle.cfgx_syntax.specs.Error.{Refusal, unexpected, invalid_not, empty}
-use Rattle.cfgx_syntax.specs.Error.{multiple_root_predicates}
-use Rattle.cfgx_grammar.specs.Classification.{Class}
-use Rattle.cfgx_grammar.specs.Neighbours.{Kind, takes, kind_of, is_kind, next, expected}
+use Rattle.cfgx_syntax.specs.Error.{Refusal, invalid_not}
+use Rattle.cfgx_grammar.specs.Neighbours.{Kind, takes, kind_of, is_kind, next}
 use Rattle.cfgx_grammar.specs.Depth.{names_function, is_closing, depth, depth_at, innermost}
-use Rattle.cfgx_grammar.specs.Depth.{members, roots, members_at, first_below}
-use Rattle.cfgx_grammar.specs.LastPredicate.{key_token, key_last, equals_token, equals_last}
-use Rattle.cfgx_grammar.specs.LastPredicate.{predicate_token, predicate_last, class_of, Word}
+use Rattle.cfgx_grammar.specs.Depth.{members, roots, first_below}
+use Rattle.cfgx_grammar.specs.LastPredicate.{key_token, key_last, equals_last, predicate_token}
 use Rattle.cfgx_grammar.specs.LastPredicate.{word_of, with_value}
-use Rattle.cfgx_grammar.specs.FirstFault.{predicate_fault, class_fault, head_token, last_token}
-use Rattle.cfgx_grammar.specs.FirstFault.{lacks_value, count_fault, not_fault, fault_by}
-use Rattle.cfgx_grammar.specs.FirstFault.{fault_behind, unclosed_fault, open_fault, root_fault}
+use Rattle.cfgx_grammar.specs.FirstFault.{predicate_fault, head_token, last_token, lacks_value}
+use Rattle.cfgx_grammar.specs.FirstFault.{not_fault, fault_by, fault_behind, open_fault, root_fault}
 use Rattle.cfgx_grammar.specs.FirstFault.{end_fault, refusal, fault_at, first_fault}
 use Rattle.cfgx_grammar.specs.parsing.State.{Pending, Builder, Open, State, initial, Function}
 use Rattle.cfgx_grammar.specs.parsing.State.{name_of}
-use Rattle.cfgx_grammar.specs.parsing.Step.{result_map, located_class, leaf_ended, ended_by}
-use Rattle.cfgx_grammar.specs.parsing.Step.{predicate_ended, over_top, one_more, and_then}
-use Rattle.cfgx_grammar.specs.parsing.Step.{member_count, has_room, function_ended, new_open}
-use Rattle.cfgx_grammar.specs.parsing.Step.{closed_by, opened, with_last, with_parens, apply, step}
-use Rattle.cfgx_grammar.specs.parsing.Step.{unclosed, one_root, concluded_by, conclude, step_each}
-use Rattle.cfgx_grammar.specs.parsing.Step.{ended_as, answer_from}
-use Rattle.cfgx_grammar.proofs.faults.Levels.{Levels, Levels-ended, IsLevel, start_of, Levels-same}
-use Rattle.cfgx_grammar.proofs.faults.Levels.{Levels-member, Levels-open, slice_get_next}
-use Rattle.cfgx_grammar.proofs.faults.Levels.{members_at_other, length_more, last_below-found}
-use Rattle.cfgx_grammar.proofs.faults.Levels.{members_at_end, depth_at_end, first_below-none}
-use Rattle.cfgx_grammar.proofs.faults.Levels.{first_below-found}
+use Rattle.cfgx_grammar.specs.parsing.Step.{result_map, predicate_ended, over_top, one_more}
+use Rattle.cfgx_grammar.specs.parsing.Step.{and_then, member_count, has_room, function_ended}
+use Rattle.cfgx_grammar.specs.parsing.Step.{new_open, closed_by, opened, with_last, with_parens}
+use Rattle.cfgx_grammar.specs.parsing.Step.{apply, step, unclosed, one_root, concluded_by, conclude}
+use Rattle.cfgx_grammar.specs.parsing.Step.{step_each, ended_as, answer_from, root_more}
+use Rattle.cfgx_grammar.proofs.faults.Levels.{Levels, IsLevel, start_of, Levels-same, Levels-member}
+use Rattle.cfgx_grammar.proofs.faults.Levels.{Levels-open, slice_get_next, members_at_other}
+use Rattle.cfgx_grammar.proofs.faults.Levels.{length_more, last_below-found, members_at_end}
+use Rattle.cfgx_grammar.proofs.faults.Levels.{depth_at_end}
 use Rattle.std.specs.Option.{option_or}
 use Rattle.std.proofs.lemmas.Option.{slice_get_within, slice_get_past}
 
@@ -48,8 +39,7 @@ use Rattle.std.proofs.lemmas.Option.{slice_get_within, slice_get_past}
 -- the predicate that has begun
 abbrev pub begun_token : Item → List Item → Token → Option Pending
 begun_token item before (Token.key text) = key_token item (Token.key text)
-begun_token item before (Token.value text) =
-    predicate_token item before (Token.value text)
+begun_token item before (Token.value text) = predicate_token item before (Token.value text)
 begun_token item before Token.equals = key_last before
 begun_token item before _ = None
 
@@ -72,23 +62,6 @@ names front = count_by (λ item. names_function item.token) front
 abbrev pub closings : List Item → ℕ
 closings front = count_by (λ item. is_closing item.token) front
 
--- one more token
-
-module _ (front : List Item) (item : Item) where
-  pub last_more : last_token (front ++ item ∷ []) ≡ Some item.token
-  last_more = ap head_token (reverse-append front (item ∷ []))
-
-  pub begun_more : begun_last (reverse (front ++ item ∷ []))
-      ≡ begun_token item (reverse front) item.token
-  begun_more = ap begun_last (reverse-append front (item ∷ []))
-
-  pub names_more : names (front ++ item ∷ []) ≡ names front + cond (names_function item.token) 1 0
-  names_more = sum_by_push (λ (i : Item). cond (names_function i.token) 1 0) front item
-
-  pub closings_more : closings (front ++ item ∷ [])
-      ≡ closings front + cond (is_closing item.token) 1 0
-  closings_more = sum_by_push (λ (i : Item). cond (is_closing i.token) 1 0) front item
-
 -- What may stand behind the last token says which it is.
 
 -- What a token of this kind says of those in front of it. In front of a name no predicate has
@@ -101,34 +74,39 @@ Says Kind.equals begun key equals names = (begun ≡ key) × (names ≡ false)
 Says Kind.value begun key equals names = (begun ≡ equals) × (names ≡ false)
 Says _ begun key equals names = Unit {0}
 
-says_token : (kind : Kind) (item : Item) (before : List Item) (token : Token)
-    → takes (Some token) kind ≡ true → Says kind (begun_token item before token)
-    (key_token item token) (equals_token before token) (names_function token)
-says_token kind item before token may = grind arith
-
 pub says : (kind : Kind) (back : List Item) → takes (head_token back) kind ≡ true
     → Says kind (begun_last back) (key_last back) (equals_last back) (names_last (head_token back))
 says kind back may = grind arith
 
--- a predicate that has begun has ended but behind `=`
-ended_token : (item : Item) (before : List Item) (token : Token)
-    → lacks_value (Some token) ≡ false
-    → begun_token item before token ≡ predicate_token item before token
-ended_token item before token whole = grind arith
+-- What comes of the tokens and what is shown of them: no fault, and something that this holds of,
+-- or a fault on both sides.
+abbrev pub Meets : {A : Type 0} → (A → Type 0) → Result A Refusal → Option Refusal → Type 0
+Meets P (Ok t) fault = (fault ≡ None) × P t
+Meets P (Err refusal) fault = fault ≡ Some refusal
 
-ended_last : (back : List Item) → lacks_value (head_token back) ≡ false
-    → begun_last back ≡ predicate_last back
-ended_last back whole = grind arith
+module _ {A B : Type 0} (P : A → Type 0) (Q : B → Type 0) where
+  meets_map : (f : A → B) (r : Result A Refusal) (fault : Option Refusal) → Meets P r fault
+      → ((t : A) → P t → Q (f t)) → Meets Q (result_map f r) fault
+  meets_map f r fault meets each = grind (arith, each)
 
--- in front of `)` and `,` stands what has ended, or nothing
-pub after_end : (last : Option Token)
-    → (takes last Kind.closing ≡ true) ⊎ (takes last Kind.comma ≡ true)
-    → (lacks_value last ≡ false) × (names_last last ≡ false)
-after_end last which = grind arith
+  meets_then : (f : A → Result B Refusal) (r : Result A Refusal) (fault next : Option Refusal)
+      → Meets P r fault → ((t : A) → P t → Meets Q (f t) next)
+      → Meets Q (and_then f r) (option_or fault next)
+  meets_then f r fault next meets each = grind (arith, each)
 
-pub height_kept : {M : Type 0} (f : Open M → Open M) (stack : List (Open M))
-    → length (over_top f stack) ≡ length stack
-height_kept f stack = grind arith
+meets_each : {A : Type 0} (P Q : A → Type 0) (r : Result A Refusal) (fault : Option Refusal)
+    → Meets P r fault → ((t : A) → P t → Q t) → Meets Q r fault
+meets_each P Q r fault meets each = grind (arith, each)
+
+abbrev pub EndAgrees : {A : Type 0} → Result A Refusal → Option Refusal → Type 0
+EndAgrees r fault = Meets (λ _. Unit {0}) r fault
+
+-- a test on both sides
+meets_if : {A : Type 0} (P : A → Type 0) (b : Bool) (r other : Result A Refusal)
+    (fault shown : Option Refusal) → (b ≡ true → Meets P r fault)
+    → (b ≡ false → Meets P other shown) → Meets P (if b then r else other)
+    (if b then fault else shown)
+meets_if P b r other fault shown pass fail = grind arith
 
 module _ {W M L : Type 0} {builder : Builder W M L} where
   pub record Matches (front : List Item) (s : State builder) : Type 0 where
@@ -137,76 +115,18 @@ module _ {W M L : Type 0} {builder : Builder W M L} where
     pub balance : closings front + length s.stack ≡ names front
     pub levels : Levels front s.roots (names_last (last_token front)) s.stack (going s.pending)
 
-  pub Matches-initial : Matches [] (initial {builder = builder})
-  Matches-initial = record { last = refl; pending = refl; balance = refl; levels = refl }
-
   pub depth_is : (front : List Item) (s : State builder) → Matches front s
       → depth front ≡ length s.stack
   depth_is front s m = omega (arith, m.balance)
 
-  -- The predicate that ends.
-
-  module _ (front : List Item) (is_named : Bool) (s : State builder) where
-    -- the state in which it has ended
-    pub record Ended (t : State builder) : Type 0 where
-      pub settled : t.pending ≡ None
-      pub height : length t.stack ≡ length s.stack
-      pub levels : Levels front t.roots is_named t.stack 0
-
-    -- it ends well where the tokens show no fault of it, and otherwise with that fault
-    abbrev pub EndsAs : Result (State builder) Refusal → Option Refusal → Type 0
-    EndsAs (Ok t) fault = (fault ≡ None) × Ended t
-    EndsAs (Err refusal) fault = fault ≡ Some refusal
-
-    class_ends : (p : Pending) (class : Class) → Levels front s.roots is_named s.stack 1
-        → EndsAs (result_map (leaf_ended s) (located_class builder p class)) (class_fault p class)
-    class_ends p class levels = grind arith
-
-    pending_ends : (pending : Option Pending) → s.pending ≡ pending
-        → Levels front s.roots is_named s.stack (going pending) → EndsAs (ended_by s pending)
-        (option_and_then (λ p. class_fault p (class_of p)) pending)
-    pending_ends pending is levels = grind arith
-
-  pub predicate_ends : (front : List Item) (s : State builder) (m : Matches front s)
-      → lacks_value (last_token front) ≡ false
-      → EndsAs front (names_last (last_token front)) s (predicate_ended s) (predicate_fault front)
-  predicate_ends front s m whole = grind arith
+  -- the state in which the predicate has ended
+  pub record Ended (front : List Item) (is_named : Bool) (s t : State builder) : Type 0 where
+    pub settled : t.pending ≡ None
+    pub height : length t.stack ≡ length s.stack
+    pub levels : Levels front t.roots is_named t.stack 0
 
 -- Each step refuses a token with the fault that the tokens in front of it show, and the end of the
 -- text likewise.
-
--- the members that have ended and the one that goes on
-going_counted : {M : Type 0} (top : Open M) (pending : Option Pending)
-    → top.members + going pending ≡ member_count top pending
-going_counted top pending = grind arith
-
-going_value : (value : Word) (pending : Option Pending)
-    → going (option_map (with_value value) pending) ≡ going pending
-going_value value pending = grind arith
-
--- the fault of a function that is closed
-room_fault : (function : Function) (name close : Item) (start count : ℕ)
-    → name.token ≡ name_of function → name.start ≡ start
-    → count_fault name count close ≡ (if has_room function count then None
-    else Some (refusal (invalid_not count) start close.end))
-room_fault function name close start count named starts = grind arith
-
--- the fault of a function that stays open
-unclosed_is : {M : Type 0} (len : ℕ) (name : Item) (top : Open M) (paren : Option Item)
-    (parens : Option ℕ) → name.start ≡ top.start → name.end ≡ top.end → start_of paren ≡ parens
-    → unclosed_fault len name paren ≡ unclosed len top parens
-unclosed_is len name top paren parens starts ends is = grind arith
-
-module _ {W M L : Type 0} {builder : Builder W M L} where
-  -- what a token leads to is what the tokens show
-  abbrev pub Agrees : List Item → Result (State builder) Refusal → Option Refusal → Type 0
-  Agrees front (Ok t) fault = (fault ≡ None) × Matches front t
-  Agrees front (Err refusal) fault = fault ≡ Some refusal
-
-  -- and what the end leads to is what it shows
-  abbrev pub EndAgrees : Result (State builder) Refusal → Option Refusal → Type 0
-  EndAgrees (Ok t) fault = fault ≡ None
-  EndAgrees (Err refusal) fault = fault ≡ Some refusal
 
 module _ {W M L : Type 0} {builder : Builder W M L} (front : List Item) (s : State builder)
     (m : Matches front s) where
@@ -216,7 +136,7 @@ module _ {W M L : Type 0} {builder : Builder W M L} (front : List Item) (s : Sta
   -- the innermost function
   module _ (top : Open M) (rest : List (Open M)) (is : s.stack ≡ top ∷ rest) where
     levels_are : Levels front s.roots named (top ∷ rest) (going s.pending)
-    levels_are = subst (λ k. Levels front s.roots named k (going s.pending)) is m.levels
+    levels_are = rw is at m.levels
 
     abbrev level : IsLevel front named (length rest) top (going s.pending)
     level = levels_are.0
@@ -224,11 +144,9 @@ module _ {W M L : Type 0} {builder : Builder W M L} (front : List Item) (s : Sta
     deep_is : depth front ≡ length rest + 1
     deep_is = depth_is front s m ∙ ap length is ∙ omega arith
 
-    within : level.place < length front
-    within = slice_get_within front level.place level.opened.name level.opened.stands
-
     innermost_is : innermost front ≡ Some level.place
-    innermost_is = last_below-found _ level.place (length front) within
+    innermost_is = last_below-found _ level.place (length front)
+        (slice_get_within front level.place _ level.opened.stands)
         (lt-ltb (depth_at front level.place) (depth front)
         (omega (arith, level.opened.before, deep_is)))
         (λ k above below. le-ltb (depth_at front k) (depth front)
@@ -239,27 +157,18 @@ module _ {W M L : Type 0} {builder : Builder W M L} (front : List Item) (s : Sta
     members_are = grind arith
 
     -- it is closed
-    close_fault_is : (close : Item)
-        → option_and_then (not_fault front close) (innermost front)
-        ≡ (if has_room top.function (member_count top s.pending) then None
+    close_fault_is : (close : Item) (other : Option Refusal)
+        → option_or (option_and_then (not_fault front close) (innermost front)) other
+        ≡ (if has_room top.function (member_count top s.pending) then other
         else Some (refusal (invalid_not (member_count top s.pending)) top.start close.end))
-    close_fault_is close = rw (innermost_is, level.opened.stands, members_are)
-        (room_fault top.function level.opened.name close top.start
-        (member_count top s.pending) level.opened.named level.opened.starts)
+    close_fault_is close other = rw (innermost_is, level.opened.stands, members_are)
+        (grind (arith, level.opened.named, level.opened.starts))
 
     -- it stays open
     open_fault_is : (len : ℕ) → option_and_then (open_fault len front) (innermost front)
         ≡ Some (unclosed len top top.parens)
     open_fault_is len = rw (innermost_is, level.opened.stands)
-        (ap Some (unclosed_is len level.opened.name top _ _ level.opened.starts level.opened.ends
-        level.parens))
-
-  -- the levels, by whether a name is the last token
-  levels_of : (b : Bool) → named ≡ b → Levels front s.roots b s.stack (going s.pending)
-  levels_of b is = subst (λ c. Levels front s.roots c s.stack (going s.pending)) is m.levels
-
-  plain_levels : (b : Bool) → s.pending ≡ None → named ≡ b → Levels front s.roots b s.stack 0
-  plain_levels b none is = rw none at (levels_of b is)
+        (grind (arith, level.opened.starts, level.opened.ends, level.parens))
 
   module _ (start end : ℕ) where
     abbrev at : Token → Item
@@ -281,28 +190,29 @@ module _ {W M L : Type 0} {builder : Builder W M L} (front : List Item) (s : Sta
     matched : (token : Token) (t : State builder) (w : ℕ) → t.last ≡ Some token
         → t.pending ≡ begun_token (at token) (reverse front) token → going t.pending ≡ w
         → Rises token (length t.stack)
-        → Levels (more token) t.roots (names_function token) t.stack w
-        → Matches (more token) t
+        → Levels (more token) t.roots (names_function token) t.stack w → Matches (more token) t
     matched token t w last pending goes rises levels = grind (arith, nat_tests, common_steps)
 
     -- a token that neither opens nor closes a function and begins no member
     stays : (token : Token) (t : State builder) (w : ℕ) → t.last ≡ Some token
-        → names_function token ≡ false
-        → is_kind Kind.name (kind_of token) ≡ false → Rises token (length t.stack)
-        → t.pending ≡ begun_token (at token) (reverse front) token → going t.pending ≡ w
-        → Levels front t.roots false t.stack w → Matches (more token) t
+        → names_function token ≡ false → is_kind Kind.name (kind_of token) ≡ false
+        → Rises token (length t.stack) → t.pending ≡ begun_token (at token) (reverse front) token
+        → going t.pending ≡ w → Levels front t.roots false t.stack w → Matches (more token) t
     stays token t w last no_name other rises pending goes levels =
         matched token t w last pending goes rises (rw no_name (Levels-same front (at token)
         t.roots w t.stack (omega (arith, balanced token _ rises))
         (λ level from le. members_at_other front (at token) level from other) levels))
+
+    -- what the token leads to, without it as the last one
+    abbrev After : Token → State builder → Type 0
+    After token t = Matches (more token) (with_last token t)
 
     -- the name of a function
     name_step : (function : Function) → takes (last_token front) Kind.name ≡ true
         → names_function (name_of function) ≡ true → is_closing (name_of function) ≡ false
         → is_kind Kind.name (kind_of (name_of function)) ≡ true
         → begun_token (at (name_of function)) (reverse front) (name_of function) ≡ None
-        → Agrees (more (name_of function)) (Ok (with_last (name_of function)
-        (opened s function (at (name_of function))))) None
+        → Meets (After (name_of function)) (Ok (opened s function (at (name_of function)))) None
     name_step function may is_name no_close begins none =
         let token = name_of function in
         let item = at token in
@@ -312,7 +222,7 @@ module _ {W M L : Type 0} {builder : Builder W M L} (front : List Item) (s : Sta
         let long = length_more front item in
         let deep : length s.stack < depth (more token) = omega (arith, balanced token _ rises) in
         let outer = Levels-member front item s.roots s.stack (omega (arith, deep))
-        (depth_is front s m) begins (plain_levels false pending a.1) in
+        (depth_is front s m) begins (rw (pending, a.1) at m.levels) in
         let here : IsLevel (more token) true (length s.stack) (new_open s function item)
         (going s.pending) = record {
           place = length front;
@@ -335,18 +245,8 @@ module _ {W M L : Type 0} {builder : Builder W M L} (front : List Item) (s : Sta
     -- `,` and `)`, in front of which a predicate ends
     ended_here : (takes (last_token front) Kind.closing ≡ true)
         ⊎ (takes (last_token front) Kind.comma ≡ true)
-        → EndsAs front false s (predicate_ended s) (predicate_fault front)
+        → Meets (Ended front false s) (predicate_ended s) (predicate_fault front)
     ended_here which = grind arith
-
-    comma_ends : (r : Result (State builder) Refusal) (fault : Option Refusal)
-        → EndsAs front false s r fault
-        → Agrees (more Token.comma) (result_map (with_last Token.comma) r) fault
-    comma_ends (Err refusal) fault ends = ends
-    comma_ends (Ok t) fault (none, e) = (
-      none,
-      stays Token.comma _ 0 refl refl refl (ap (λ n. n + 0) e.height) e.settled (ap going e.settled)
-          e.levels,
-    )
 
     function_closes : (t : State builder) (stack : List (Open M)) → t.stack ≡ stack
         → Ended front false s t → 0 < length s.stack
@@ -357,177 +257,111 @@ module _ {W M L : Type 0} {builder : Builder W M L} (front : List Item) (s : Sta
         let heights : length s.stack ≡ suc (length rest) = sym e.height ∙ ap length is in
         let rises : Rises token (length rest) = omega (arith, heights) in
         let old = rw is at e.levels in
-        let levels = Levels-ended (more token) t.roots false rest (Levels-same front (at token)
-        t.roots 1 rest (omega (arith, balanced token _ rises))
-        (λ level from le. members_at_other front (at token) level from refl) old.1) in
-        matched token _ 0 refl e.settled (ap going e.settled)
-        (ap (λ k. k + 1) (height_kept one_more rest) ∙ rises) levels
-
-    close_ends : (r : Result (State builder) Refusal) (fault : Option Refusal)
-        → EndsAs front false s r fault → 0 < length s.stack → Agrees (more Token.close_paren)
-        (result_map (with_last Token.close_paren) (result_map (λ t. function_ended t.stack t) r))
-        fault
-    close_ends (Err refusal) fault ends some = ends
-    close_ends (Ok t) fault ends some = (ends.0, function_closes t t.stack refl ends.1 some)
-
-    close_room : (top : Open M) (n : ℕ) (room : Bool)
-        → EndsAs front false s (predicate_ended s) (predicate_fault front) → 0 < length s.stack
-        → Agrees (more Token.close_paren) (result_map (with_last Token.close_paren)
-        (if room then result_map (λ t. function_ended t.stack t) (predicate_ended s)
-        else Err (refusal (invalid_not n) top.start end)))
-        (option_or (if room then None else Some (refusal (invalid_not n) top.start end))
-        (predicate_fault front))
-    close_room top n false ends some = refl
-    close_room top n true ends some =
-        close_ends (predicate_ended s) (predicate_fault front) ends some
+        let kept = Levels-same front (at token) t.roots 1 rest
+        (omega (arith, balanced token _ rises))
+        (λ level from le. members_at_other front (at token) level from refl) old.1 in
+        let levels : Levels (more token) (root_more rest t.roots) false (over_top one_more rest) 0 =
+        grind (arith, kept) in
+        let height : length (over_top one_more rest) + 1 ≡ length s.stack + 0 = grind arith in
+        matched token _ 0 refl e.settled (ap going e.settled) height levels
 
     close_step : (stack : List (Open M)) → s.stack ≡ stack
-        → EndsAs front false s (predicate_ended s) (predicate_fault front)
-        → Agrees (more Token.close_paren) (result_map (with_last Token.close_paren)
-        (closed_by s (at Token.close_paren) stack))
+        → Meets (Ended front false s) (predicate_ended s) (predicate_fault front)
+        → Meets (After Token.close_paren) (closed_by s (at Token.close_paren) stack)
         (fault_by front (at Token.close_paren) Token.close_paren)
-    close_step [] is ends =
-        rw (eq-eqb (depth front) 0 (depth_is front s m ∙ ap length is)) refl
+    close_step [] is ends = rw (eq-eqb (depth front) 0 (depth_is front s m ∙ ap length is)) refl
     close_step (top ∷ rest) is ends =
-        let n = member_count top s.pending in
         let some : 0 < length s.stack = omega (arith, ap length is) in
-        let inside = ne_eqb (depth front) 0
-        (λ zero. omega (arith, zero, deep_is top rest is)) in
-        rw (inside, close_fault_is top rest is (at Token.close_paren))
-        (close_room top n (has_room top.function n) ends some)
+        let inside = ne_eqb (depth front) 0 (λ zero. omega (arith, zero, deep_is top rest is)) in
+        let closes = meets_map (Ended front false s) (After Token.close_paren)
+        (λ t. function_ended t.stack t) (predicate_ended s) (predicate_fault front) ends
+        (λ t e. function_closes t t.stack refl e some) in
+        rw (inside, close_fault_is top rest is (at Token.close_paren) (predicate_fault front))
+        (meets_if (After Token.close_paren) (has_room top.function (member_count top s.pending))
+        _ _ _ _ (λ room. closes) (λ full. refl))
 
     -- one token where it may stand
     token_step : (token : Token) → next (last_token front) token ≡ true
-        → Agrees (more token) (result_map (with_last token) (apply s (at token) token))
-        (fault_by front (at token) token)
+        → Meets (After token) (apply s (at token) token) (fault_by front (at token) token)
     token_step (Token.key text) may = let token = Token.key text in
         let a = says Kind.name (reverse front) may in
         let levels = Levels-member front (at token) s.roots s.stack
         (omega (arith, balanced token (length s.stack) refl)) (depth_is front s m) refl
-        (plain_levels false (m.pending ∙ a.0) a.1) in
+        (rw (m.pending ∙ a.0, a.1) at m.levels) in
         (refl, matched token _ 1 refl refl refl refl levels)
     token_step (Token.value text) may = let value = word_of text (start + 1) (end - 1) in
-        let a = says Kind.value (reverse front) may in (
-          refl,
-          stays (Token.value text) _ _ refl refl refl refl
-              (ap (option_map (with_value value)) (m.pending ∙ a.0))
-              (going_value value s.pending) (levels_of false a.1),
-        )
-    token_step Token.equals may = let a = says Kind.equals (reverse front) may in (
-      refl,
-      stays Token.equals _ _ refl refl refl refl (m.pending ∙ a.0) refl (levels_of false a.1),
-    )
+        let a = says Kind.value (reverse front) may in
+        let pending = ap (option_map (with_value value)) (m.pending ∙ a.0) in
+        let left = stays (Token.value text) _ (going s.pending) refl refl refl refl pending
+        (grind arith) (rw a.1 at m.levels) in (refl, left)
+    token_step Token.equals may = let a = says Kind.equals (reverse front) may in
+        let levels = rw a.1 at m.levels in
+        (refl, stays Token.equals _ _ refl refl refl refl (m.pending ∙ a.0) refl levels)
     token_step Token.all may = name_step Function.all may refl refl refl refl
     token_step Token.any may = name_step Function.any may refl refl refl refl
     token_step Token.not may = name_step Function.not may refl refl refl refl
     token_step Token.open_paren may = let token = Token.open_paren in
         let a = says Kind.opening (reverse front) may in
         let levels = Levels-open front (at token) s.roots (going s.pending) s.stack
-        (omega (arith, balanced token (length s.stack) refl)) refl (levels_of true a.1) in
-        let rises = ap (λ n. n + 0) (height_kept (with_parens start) s.stack) in
+        (omega (arith, balanced token (length s.stack) refl)) refl (rw a.1 at m.levels) in
+        let rises : Rises token (length (over_top (with_parens start) s.stack)) = grind arith in
         (refl, matched token _ _ refl (m.pending ∙ a.0) refl rises levels)
     token_step Token.close_paren may = close_step s.stack refl (ended_here (inl may))
-    token_step Token.comma may =
-        comma_ends (predicate_ended s) (predicate_fault front) (ended_here (inr may))
+    token_step Token.comma may = meets_each (Ended front false s) _ _ _ (ended_here (inr may))
+        (λ t e. stays Token.comma _ 0 refl refl refl (ap (λ n. n + 0) e.height) e.settled
+        (ap going e.settled) e.levels)
 
     pub step_agrees : (token : Token)
-        → Agrees (more token) (step s (at token)) (fault_behind front (at token))
-    step_agrees token = rw m.last (by _ refl)
-      where
-        by : (b : Bool) → next (last_token front) token ≡ b → Agrees (more token)
-            (if b then result_map (with_last token) (apply s (at token) token)
-            else Err (refusal (unexpected (expected (last_token front))) start end))
-            (if b then fault_by front (at token) token
-            else Some (refusal (unexpected (expected (last_token front))) start end))
-        by true may = token_step token may
-        by false may = refl
+        → Meets (Matches (more token)) (step s (at token)) (fault_behind front (at token))
+    step_agrees token = rw m.last (meets_if _ _ _ _ _ _
+        (λ may. meets_map _ _ _ _ _ (token_step token may) (λ t matches. matches)) (λ no. refl))
 
   -- the end of the text
-  root_agrees : (len : ℕ) (t : State builder) (none one : Bool)
-      → EndAgrees (if none then Err (refusal empty 0 len) else if one
-      then Ok (record t { written = builder.root_ended t.written })
-      else Err (refusal multiple_root_predicates 0 len))
-      (if none then Some (refusal empty 0 len) else if one then None
-      else Some (refusal multiple_root_predicates 0 len))
-  root_agrees len t true one = refl
-  root_agrees len t false true = refl
-  root_agrees len t false false = refl
-
-  roots_counted : (t : State builder) (b : Bool) (stack : List (Open M)) → t.stack ≡ stack
-      → length stack ≡ 0 → Levels front t.roots b t.stack 0 → roots front ≡ t.roots
-  roots_counted t b stack is low levels = grind (arith, nat_tests, common_steps)
-
   root_ends : (len : ℕ) (r : Result (State builder) Refusal) (fault : Option Refusal)
-      → s.stack ≡ [] → EndsAs front named s r fault
+      → s.stack ≡ [] → Meets (Ended front named s) r fault
       → EndAgrees (and_then (one_root len) r) (option_or fault (root_fault len (roots front)))
   root_ends len r fault is ends = grind (arith, nat_tests, common_steps)
 
   end_stack : (len : ℕ) (stack : List (Open M)) → s.stack ≡ stack
       → lacks_value (last_token front) ≡ false
-      → EndAgrees (concluded_by len s stack) (end_fault len front)
-  end_stack len [] is whole =
-      rw (whole, eq-eqb (depth front) 0 (depth_is front s m ∙ ap length is))
-      (root_ends len (predicate_ended s) (predicate_fault front) is
-      (predicate_ends front s m whole))
+      → EndAgrees (concluded_by len s stack) (if depth front == 0
+      then option_or (predicate_fault front) (root_fault len (roots front))
+      else option_and_then (open_fault len front) (innermost front))
+  end_stack len [] is whole = rw (eq-eqb (depth front) 0 (depth_is front s m ∙ ap length is))
+      (root_ends len (predicate_ended s) (predicate_fault front) is (grind arith))
   end_stack len (top ∷ rest) is whole =
-      rw (whole, ne_eqb (depth front) 0 (λ zero. omega (arith, zero, deep_is top rest is)))
+      rw (ne_eqb (depth front) 0 (λ zero. omega (arith, zero, deep_is top rest is)))
       (open_fault_is top rest is len)
 
   pub end_agrees : (len : ℕ) → EndAgrees (conclude len s) (end_fault len front)
-  end_agrees len = by _ refl
-    where
-      by : (b : Bool) → lacks_value s.last ≡ b → EndAgrees
-          (if b then Err (refusal (unexpected (codes "\"<value>\"" ∷ [])) len len)
-          else concluded_by len s s.stack) (end_fault len front)
-      by true lacks = rw (ap lacks_value (sym m.last) ∙ lacks) refl
-      by false lacks = end_stack len s.stack refl (ap lacks_value (sym m.last) ∙ lacks)
+  end_agrees len = rw (← m.last) (meets_if _ _ _ _ _ _ (λ lacks. refl)
+      (λ whole. end_stack len s.stack refl (ap lacks_value (sym m.last) ∙ whole)))
 
 -- What the steps answer for all tokens of a text is its first fault, or none.
 
--- the tokens lead on where none shows a fault, and otherwise to the first fault
-abbrev Scanned : {W M L : Type 0} {builder : Builder W M L} → List Item
-    → Result (State builder) Refusal → Type 0
-Scanned all (Ok t) = (first_below (fault_at all) (length all) ≡ None) × Matches all t
-Scanned all (Err refusal) = first_below (fault_at all) (length all) ≡ Some refusal
+-- the first fault of some tokens behind others
+abbrev first_behind : List Item → List Item → Option Refusal
+first_behind front [] = None
+first_behind front (item ∷ items) =
+    option_or (fault_behind front item) (first_behind (front ++ item ∷ []) items)
 
--- no token of these shows a fault
-abbrev HasNone : List Item → ℕ → Type 0
-HasNone all n = (k : ℕ) → k < n → fault_at all k ≡ None
+first_is : (items all front : List Item) → all ≡ front ++ items
+    → first_below (fault_at all) (length all)
+    ≡ option_or (first_below (fault_at all) (length front)) (first_behind front items)
+first_is [] all front is = rw (ap length (is ∙ append-nil front)) (grind arith)
+first_is (item ∷ items) all front is =
+    let here : fault_at all (length front) ≡ fault_behind front item =
+    rw (is, take-append_seam, slice_get_next) refl in
+    let rest = first_is items all _ (is ∙ sym (append_assoc front (item ∷ []) items)) in
+    rw (rest, length_more front item, here) (grind arith)
 
-module _ (all front : List Item) (item : Item) (items : List Item)
-    (is : all ≡ front ++ item ∷ items) where
-  fault_next : fault_at all (length front) ≡ fault_behind front item
-  fault_next = rw (is, take-append_seam, slice_get_next) refl
-
-  next_inside : length front < length all
-  next_inside = omega (arith, ap length is, length-append front (item ∷ items))
-
-  none_more : HasNone all (length front) → fault_behind front item ≡ None
-      → HasNone all (length (front ++ item ∷ []))
-  none_more none here k lt = ⊎_elim (none k) (λ (past : length front ≤ k).
-      let same : k ≡ length front = omega (arith, lt, past, length_more front item) in
-      ap (fault_at all) same ∙ fault_next ∙ here) (cases_lt k (length front))
-
-  scan_next : {W M L : Type 0} {builder : Builder W M L} (r : Result (State builder) Refusal)
-      → HasNone all (length front) → Agrees (front ++ item ∷ []) r (fault_behind front item)
-      → ((t : State builder) → Matches (front ++ item ∷ []) t → fault_behind front item ≡ None
-      → Scanned all (step_each t items)) → Scanned all (and_then (λ t. step_each t items) r)
-  scan_next (Err refusal) none agrees go = first_below-found (fault_at all) (length front)
-      (length all) refusal next_inside none (fault_next ∙ agrees)
-  scan_next (Ok t) none agrees go = go t agrees.1 agrees.0
-
-scan : {W M L : Type 0} {builder : Builder W M L} (items all front : List Item)
-    (s : State builder) → all ≡ front ++ items → Matches front s → HasNone all (length front)
-    → Scanned all (step_each s items)
-scan [] all front s is m none =
-    let same : all ≡ front = is ∙ append-nil front in
-    (first_below-none (fault_at all) (length all) (rw (← same) at none), rw (← same) at m)
-scan (item ∷ items) all front s is m none =
-    scan_next all front item items is (step s item) none
+scan : {W M L : Type 0} {builder : Builder W M L} (items front : List Item) (s : State builder)
+    → Matches front s
+    → Meets (Matches (front ++ items)) (step_each s items) (first_behind front items)
+scan [] front s m = (refl, rw append-nil m)
+scan (item ∷ items) front s m = meets_then _ _ _ _ _ _
     (step_agrees front s m item.start item.end item.token)
-    (λ t more here. scan items all (front ++ item ∷ []) t
-    (is ∙ sym (append_assoc front (item ∷ []) items)) more
-    (none_more all front item items is none here))
+    (λ t more. rw append_assoc at (scan items (front ++ item ∷ []) t more))
 
 module _ {W M L : Type 0} (builder : Builder W M L) (text : List ℕ) (items : List Item)
     (ending : Ending) where
@@ -536,13 +370,9 @@ module _ {W M L : Type 0} (builder : Builder W M L) (text : List ℕ) (items : L
   at_end (Some refusal) t m = refl
   at_end None t m = end_agrees items t m (length text)
 
-  whole_by : (r : Result (State builder) Refusal) → Scanned items r
-      → EndAgrees (and_then (ended_as text (lexical text ending)) r)
-      (first_fault text items ending)
-  whole_by (Err refusal) scanned = rw scanned refl
-  whole_by (Ok t) scanned = rw scanned.0 (at_end (lexical text ending) t scanned.1)
-
   pub whole_agrees : EndAgrees (answer_from (initial {builder = builder}) text items ending)
       (first_fault text items ending)
-  whole_agrees = whole_by (step_each initial items)
-      (scan items items [] initial refl Matches-initial (λ k lt. absurd (omega (arith, lt))))
+  whole_agrees = let start : Matches [] (initial {builder = builder}) =
+      record { last = refl; pending = refl; balance = refl; levels = refl } in
+      rw (first_is items items [] refl) (meets_then _ _ _ _ _ _ (scan items [] initial start)
+      (at_end (lexical text ending)))
