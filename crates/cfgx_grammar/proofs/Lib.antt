@@ -1,7 +1,6 @@
 pub mod Alike
 pub mod Answering
 pub mod Arranging
-pub mod Classes
 pub mod Dealing
 pub mod Exactness
 pub mod Mapping

@@ -39,9 +39,6 @@ find-none p (y ∷ ys) fails =
     rw first (find-none p ys (λ k d h. fails (suc k) d (omega (arith, h))))
 
 module _ {A : Type 0} (rows : List (TargetInfo A)) where
-  not_ge : (r : Ordering) → is_ge r ≡ false → r ≡ Less
-  not_ge r h = grind (arith, common_steps)
-
   abbrev order : TargetInfo A → TargetInfo A → Ordering
   order one other = slice_cmp nat_cmp one.triple other.triple
 
@@ -50,10 +47,6 @@ module _ {A : Type 0} (rows : List (TargetInfo A)) where
       (inside : place < length rows) (rising : AllAdjacentBelow IsBelow rows place)
       (is_before : before ≡ get_or rows (place - 1) before) (is_row : row ≡ get_or rows place row)
     where
-      neighbours : (d : TargetInfo A)
-          → order (get_or rows (place - 1) d) (get_or rows place d) ≡ order before row
-      neighbours d = grind (arith, common_steps)
-
       -- that is not above it
       pub first-not_above : is_ge (order before row) ≡ true → IsFirstNotAbove rows place
       first-not_above ge = grind (arith, common_steps)

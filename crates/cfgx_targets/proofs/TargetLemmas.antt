@@ -1,11 +1,9 @@
 -- That targets are the same exactly where their fields are.
-use Rattle.std.proofs.Common.{arith}
+use Rattle.std.proofs.Common.{arith, ◌≡◌, Bool, ◌&&◌}
 use Rattle.std.proofs.lemmas.Grind.{common_steps}
-use Rattle.std.proofs.Common.{◌≡◌, Bool, ◌&&◌}
 use Rattle.std.specs.Prelude.{Option}
 use Rattle.std.specs.Bool.{Decides}
 use Rattle.std.specs.Option.{option_eq}
-use Rattle.std.proofs.lemmas.Bool.Decides.{Decides-and}
 use Rattle.cfgx_targets.specs.declared.info.TargetInfo.{TargetInfo}
 
 -- values that may be missing, where the test of two values decides whether they are the same
@@ -13,10 +11,7 @@ pub options-decide : {X : Type 0} {E : X → X → Bool} → ((x y : X) → Deci
     → (one other : Option X) → Decides (option_eq E one other) (one ≡ other)
 options-decide d y one = grind (arith, common_steps)
 
--- one test more
-and-decides : {P Q : Type 0} {x y : Bool} → Decides x P → Decides y Q → Decides (x && y) (P × Q)
-and-decides {x = x} {y = y} d e = Decides-and x y d e
-
+-- and so of targets, where the tests of their fields do
 pub targets-decide : {A : Type 0} (one other : TargetInfo A)
     → {triple os abi arch env vendor families width endian atomics panic : Bool}
     → Decides triple (one.triple ≡ other.triple) → Decides os (one.os ≡ other.os)
