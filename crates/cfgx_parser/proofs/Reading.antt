@@ -1,7 +1,7 @@
 -- What the rest of a text answers, the whole answers: one token after another, as the lexer gives
 -- them.
-use Rattle.std.proofs.Common.{arith}
 use Rattle.std.proofs.Common.{◌≡◌, ℕ, List, length, drop, Option, Some, Result, Ok, Err, refl}
+use Rattle.std.proofs.Common.{arith}
 use Rattle.cfgx_syntax.specs.Items.{Item, Ending, IsBlank}
 use Rattle.cfgx_syntax.specs.Error.{Refusal, FailsWith, fault_in}
 use Rattle.cfgx_syntax.specs.LexerState.{LexerState}
