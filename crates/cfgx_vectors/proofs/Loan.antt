@@ -5,9 +5,9 @@
 -- contracts of `ends_countdown` and `inner`, and how code names the two.
 -- One step walks a whole call statement. `alive` is there before it and after it, and what else it
 -- takes comes first: `counts_down` goes from `lent` to a `bool`, and `lent` stays; `reaches_inner`
--- from `lent` to a pointer, and what a `&` to the inner allocator holds; `allocates` from that to an
--- answer, and what comes with it, where no case is told apart; `deallocates` from that and a block
--- to nothing. `answer_of`, `answer_owned` and `answer_made` are an answer's value, and what a
+-- from `lent` to a pointer, and what a `&` to the inner allocator holds; `allocates` from that to
+-- an answer, and what comes with it, where no case is told apart; `deallocates` from that and a
+-- block to nothing. `answer_of`, `answer_owned` and `answer_made` are an answer's value, and what a
 -- contract wants to see owned of it.
 use Rattle.std.proofs.Common.{◌≡◌, ℕ, ◌^◌, ◌<◌, Bool, true, false, List, [], ◌∷◌, Ok, Err, refl, ap}
 use Rattle.std.proofs.Common.{w64, Bor}
