@@ -36,7 +36,8 @@ abbrev mutual
   prefix_each (Trees.more tree trees) = prefix tree ++ prefix_each trees
 
 abbrev mutual
-  -- the tree with the place of each predicate's node in its stead, when the tree stands at the place
+  -- the tree with the place of each predicate's node in its stead, when the tree itself stands at
+  -- the place
   pub with_places : {X : Type 0} → ℕ → Tree X → Tree ℕ
   with_places place (Tree.leaf x) = Tree.leaf place
   with_places place (Tree.literal truth) = Tree.literal truth
