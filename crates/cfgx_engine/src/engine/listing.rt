@@ -19,9 +19,20 @@ pub(super) fn lines<A: SmallAllocator>(
 {
     let mut written = Vec::new(alloc);
     for predicate in predicates {
-        push_line(&mut written, &predicate)?;
+        push_next(&mut written, predicate)?;
     }
     Ok(written)
+}
+
+/// Adds a predicate's line, and lets go of the predicate.
+fn push_next<A: Allocator>(
+    written: &mut Vec<u8, A>,
+    predicate: Predicate<'_>,
+) -> Result<(), AllocError>
+    ensures { OnOk result (written.new.items
+        ≡ written.old.items ++ text_line (spelling (question_of predicate.entry))) }
+{
+    push_line(written, &predicate)
 }
 
 /// Adds a predicate's line. A vector refuses bytes for want of memory alone.
