@@ -3,6 +3,7 @@
 ghost use Rattle.std.specs.Prelude.{◌≡◌, ◌≤◌, ◌++◌, IfOk, OnOk, length, map};
 ghost use Rattle.std.specs.Str.Lines.{strip_carriage_return};
 ghost use Rattle.cfgx_grammar.specs.Matching.{meets};
+ghost use Rattle.cfgx_parser.specs.Predicate.{question_of};
 ghost use Rattle.cfgx_engine.specs.Answer.{output_of, AddsFillings, AddsLine, AddsVerdict};
 ghost use Rattle.cfgx_engine.specs.Answer.{line_view, TellsFailure};
 ghost use Rattle.cfgx_engine.specs.declared.resolve.Verdict.TheVariants as verdict;
@@ -14,11 +15,11 @@ ghost use Rattle.cfgx_engine.specs.Verdicts.{IsVerdict};
 
 use super::answer::Answer;
 use crate::resolve::{Verdict, answer_by, verdict_on};
-use cfg_expr::Expression;
 use cfg_expr::error::Failure;
 use cfg_expr::expr::Predicates;
 use cfg_expr::memory::SmallAllocator;
 use cfg_expr::targets::TargetInfo;
+use cfg_expr::{Expression, Predicate};
 use std::alloc::{AllocError, Allocator};
 
 /// What a line says.
@@ -53,6 +54,13 @@ fn read_line(text: &str) -> Line<'_>
     }
 }
 
+/// What a target answers to a predicate, which is let go.
+fn taken_answer<A: Allocator>(row: &TargetInfo<'_, A>, predicate: Predicate<'_>) -> Option<bool>
+    ensures { result ≡ answer_on row.now (question_of predicate.entry) }
+{
+    answer_by(row, &predicate)
+}
+
 /// What a target answers to each predicate.
 fn answers_on<A: SmallAllocator>(
     alloc: A,
@@ -63,7 +71,7 @@ fn answers_on<A: SmallAllocator>(
 {
     let mut answers = Vec::with_capacity(alloc, predicates.left())?;
     for predicate in predicates {
-        answers.push(answer_by(row, &predicate))?;
+        answers.push(taken_answer(row, predicate))?;
     }
     Ok(answers)
 }
