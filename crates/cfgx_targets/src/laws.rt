@@ -13,7 +13,7 @@ use std::cmp::Ordering;
 fn width_order(one: HasAtomic, other: HasAtomic) -> Ordering
     ensures { result ≡ nat_cmp (atomic_rank one) (atomic_rank other) }
 {
-    one.cmp(&other)
+    Ord::cmp(&one, &other)
 }
 
 // The big one is below the little one.
