@@ -179,12 +179,16 @@ fn push_apple<'a, A: Allocator + Copy>(
 {
     let families = SortedList::unix(alloc)?;
     let has_atomics = SortedList::atomic_8_16_32_64_128_ptr(alloc)?;
+    let (abi, env) = match variant {
+        Some(name) => (Some(Abi::new_const(name)), Some(Env::new_const(name))),
+        None => (None, None),
+    };
     rows.push(TargetInfo {
         triple: Triple::new_const(triple),
         os: Some(Os::new_const(os)),
-        abi: variant.map(|name| Abi::new_const(name)),
+        abi,
         arch: Arch::aarch64(),
-        env: variant.map(|name| Env::new_const(name)),
+        env,
         vendor: Some(Vendor::apple()),
         families,
         pointer_width: 64,
