@@ -1,4 +1,3 @@
-mod Loan
 pub mod Audited
 pub mod Respelt
 pub mod Written

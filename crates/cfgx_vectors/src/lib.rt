@@ -4,7 +4,9 @@
 
 #[cfg(test)]
 mod accepted;
+#[cfg(test)]
 pub mod auditing;
+#[cfg(test)]
 pub mod calling;
 #[cfg(test)]
 mod commands;
@@ -12,6 +14,7 @@ mod commands;
 mod deep;
 #[cfg(test)]
 mod errors;
+#[cfg(test)]
 pub mod evaluating;
 #[cfg(test)]
 mod faults;
@@ -40,7 +43,9 @@ mod picking;
 mod program;
 #[cfg(test)]
 mod questions;
+#[cfg(test)]
 pub mod refusing;
+#[cfg(test)]
 pub mod respelling;
 #[cfg(test)]
 mod rust_crate;

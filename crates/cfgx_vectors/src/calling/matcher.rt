@@ -15,7 +15,7 @@ pub struct Board<'a> {
 impl TargetMatcher for Board<'_> {
     ghost use Rattle.cfgx_vectors.specs.Board.{board_meets};
 
-    ghost answer = { board_meets };
+    ghost answer = { λ board. board_meets board.os.now board.pointer_width };
 
     fn matches(&self, tp: &TargetPredicate<'_>) -> bool {
         match tp {

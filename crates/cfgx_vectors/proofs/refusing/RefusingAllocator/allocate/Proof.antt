@@ -34,10 +34,10 @@ use Rattle.std.specs.Allocator.{HasLayout}
 use Rattle.std.proofs.alloc.Calls.{Al, Answer-typed, answer_val, got, token, takes_key, Takes}
 use Rattle.std.proofs.alloc.Shapes.{after}
 use Rattle.std.proofs.raw_atomic.Walks.{leaves, proved}
-use Rattle.cfgx_vectors.proofs.Loan.{type_args, Loan, loan_of, Request, request}
-use Rattle.cfgx_vectors.proofs.Loan.{countdown_at, inner_at, by_ref}
-use Rattle.cfgx_vectors.proofs.Loan.{Countdown, Inner, lent, alive, counts_down, reaches_inner}
-use Rattle.cfgx_vectors.proofs.Loan.{allocates, answer_of, answer_owned, answer_made}
+use Rattle.cfgx_vectors.proofs.refusing.Loan.{type_args, Loan, loan_of, Request, request}
+use Rattle.cfgx_vectors.proofs.refusing.Loan.{countdown_at, inner_at, by_ref}
+use Rattle.cfgx_vectors.proofs.refusing.Loan.{Countdown, Inner, lent, alive, counts_down, reaches_inner}
+use Rattle.cfgx_vectors.proofs.refusing.Loan.{allocates, answer_of, answer_owned, answer_made}
 use Rattle.cfgx_vectors.proofs.refusing.Refusing.ends_countdown.Met as countdown
 use Rattle.cfgx_vectors.proofs.refusing.Refusing.inner.Met as inner
 use Rattle.cfgx_vectors.specs.contracts.refusing.RefusingAllocator.allocate as f

@@ -32,9 +32,9 @@ use denote.Triple.Walked.{Stays, stay_dropped, Goes-dropped, walk_of}
 use Rattle.std.specs.Allocator.{HasLayout, owned_block}
 use Rattle.std.proofs.alloc.Calls.{Al, token, gives_key, Gives}
 use Rattle.std.proofs.raw_atomic.Walks.{leaves, proved}
-use Rattle.cfgx_vectors.proofs.Loan.{type_args, Loan, loan_of, Request, request}
-use Rattle.cfgx_vectors.proofs.Loan.{inner_at, by_ref, Inner, alive}
-use Rattle.cfgx_vectors.proofs.Loan.{reaches_inner, deallocates}
+use Rattle.cfgx_vectors.proofs.refusing.Loan.{type_args, Loan, loan_of, Request, request}
+use Rattle.cfgx_vectors.proofs.refusing.Loan.{inner_at, by_ref, Inner, alive}
+use Rattle.cfgx_vectors.proofs.refusing.Loan.{reaches_inner, deallocates}
 use Rattle.cfgx_vectors.proofs.refusing.Refusing.inner.Met as inner
 use Rattle.cfgx_vectors.specs.contracts.refusing.RefusingAllocator.deallocate as f
 use Rattle.cfgx_vectors.proofs.refusing.RefusingAllocator.deallocate.Statement.{statement}
