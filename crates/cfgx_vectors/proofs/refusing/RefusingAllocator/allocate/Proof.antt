@@ -36,7 +36,8 @@ use Rattle.std.proofs.alloc.Shapes.{after}
 use Rattle.std.proofs.raw_atomic.Walks.{leaves, proved}
 use Rattle.cfgx_vectors.proofs.refusing.Loan.{type_args, Loan, loan_of, Request, request}
 use Rattle.cfgx_vectors.proofs.refusing.Loan.{countdown_at, inner_at, by_ref}
-use Rattle.cfgx_vectors.proofs.refusing.Loan.{Countdown, Inner, lent, alive, counts_down, reaches_inner}
+use Rattle.cfgx_vectors.proofs.refusing.Loan.{Countdown, Inner, lent, alive}
+use Rattle.cfgx_vectors.proofs.refusing.Loan.{counts_down, reaches_inner}
 use Rattle.cfgx_vectors.proofs.refusing.Loan.{allocates, answer_of, answer_owned, answer_made}
 use Rattle.cfgx_vectors.proofs.refusing.Refusing.ends_countdown.Met as countdown
 use Rattle.cfgx_vectors.proofs.refusing.Refusing.inner.Met as inner
