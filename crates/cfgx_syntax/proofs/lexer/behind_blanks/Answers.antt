@@ -10,7 +10,9 @@ range_from-rest-requires c = λ some. rw (c.blank_len.ensures.len, c.as_bytes.en
     (IsCharBoundary-behind is_blank blank-ascii c.args.text.now c.utf8.text)
 
 pub returns-in-Some : goal.returns-in-Some
-returns-in-Some c = search (rules, trim_behind)
+returns-in-Some c =
+    trim_behind _ _ _ _ c.blank_len.ensures.len c.as_bytes.ensures.value
+    c.range_from-rest.ensures.value _ c.trim_start.ensures.value
 
 pub returns-in_default : goal.returns-in_default
 returns-in_default c = search (rules, trim_blanks)
