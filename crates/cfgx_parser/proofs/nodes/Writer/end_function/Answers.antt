@@ -12,5 +12,9 @@ refilled items i x = rw (← length-set items i x) (take-append_seam (set items 
 
 pub returns-in_ok-end_list : goal.returns-in_ok-end_list
 returns-in_ok-end_list g c =
-    rw (c.in_ok-end_list.ensures, c.deref_mut.ensures.value, c.len.ensures.value,
-        refilled c.args.self.now.nodes.items c.args.mark.node _) refl
+    rw (
+      c.in_ok-end_list.ensures,
+      c.deref_mut.ensures.value,
+      c.len.ensures.value,
+      refilled c.args.self.now.nodes.items c.args.mark.node _,
+    ) refl
