@@ -1,20 +1,28 @@
 //! A whole program.
 
-use cfg_expr::Expression;
 use cfg_expr::error::Failure;
+use cfg_expr::expr::Predicates;
+use cfg_expr::{Expression, Predicate};
 use std::io;
 
 /// Prints the predicates of a condition, or what is wrong with it.
 fn print_predicates(rt: &HostRuntime, text: &str) -> io::Result<()> {
-    let expression = match Expression::parse(rt.alloc(), text) {
-        Ok(expression) => expression,
-        Err(Failure::Parse(fault)) => return println!(rt; "{fault}"),
-        Err(Failure::Memory(error)) => return Err(error.into()),
-    };
-    for predicate in expression.predicates() {
-        println!(rt; "{predicate:?}")?;
+    match Expression::parse(rt.alloc(), text) {
+        Ok(expression) => print_each(rt, expression.predicates()),
+        Err(Failure::Parse(fault)) => println!(rt; "{fault}"),
+        Err(Failure::Memory(error)) => Err(error.into()),
+    }
+}
+
+fn print_each(rt: &HostRuntime, predicates: Predicates<'_>) -> io::Result<()> {
+    for predicate in predicates {
+        print_line(rt, predicate)?;
     }
     Ok(())
+}
+
+fn print_line(rt: &HostRuntime, predicate: Predicate<'_>) -> io::Result<()> {
+    println!(rt; "{predicate:?}")
 }
 
 pub fn main(rt: HostRuntime) -> io::Result<()> {
