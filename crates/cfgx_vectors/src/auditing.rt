@@ -27,6 +27,14 @@ pub fn answer_of<T: TargetMatcher>(predicate: &Predicate<'_>, rows: &[T]) -> Kle
     }
 }
 
+/// What each row answers to a predicate, which is let go.
+fn taken_answer<T: TargetMatcher>(predicate: Predicate<'_>, rows: &[T]) -> Kleene64
+    requires { length rows.now ≤ 64 }
+    ensures { InLanes T.answer rows.now (question_of predicate.entry) result }
+{
+    answer_of(&predicate, rows)
+}
+
 /// What the rows answer to each predicate of the condition.
 pub fn answers_of<T: TargetMatcher>(
     alloc: Global,
@@ -39,7 +47,7 @@ pub fn answers_of<T: TargetMatcher>(
 {
     let mut answers = Vec::new(alloc);
     for predicate in expression.predicates() {
-        answers.push(answer_of(&predicate, rows))?;
+        answers.push(taken_answer(predicate, rows))?;
     }
     Ok(answers)
 }
