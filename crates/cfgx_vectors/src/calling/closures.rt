@@ -46,15 +46,22 @@ pub fn count_asked(alloc: Global, expression: &Expression) -> Result<usize, Allo
 mod tests {
     use super::{count_asked, if_all_true, with_features};
     use cfg_expr::Expression;
+    use std::alloc::{AllocError, Global};
     use std::test::Fail;
+
+    // Whether each closure answers what it is to answer of `all(feature = "a", not(test))`.
+    fn are_asked(alloc: Global, expression: &Expression) -> Result<bool, AllocError> {
+        Ok(
+            !if_all_true(alloc, expression)?
+                && with_features(alloc, expression, &["b", "a"])?
+                && count_asked(alloc, expression)? == 2,
+        )
+    }
 
     #[test]
     fn closures_of_each_kind_are_asked(rt: HostRuntime) -> Result<(), Fail> {
-        let alloc = rt.alloc();
-        let expression = Expression::parse(alloc, "all(feature = \"a\", not(test))")?;
-        assert!(rt; !if_all_true(alloc, &expression)?);
-        assert!(rt; with_features(alloc, &expression, &["b", "a"])?);
-        assert!(rt; count_asked(alloc, &expression)? == 2);
+        let expression = Expression::parse(rt.alloc(), "all(feature = \"a\", not(test))")?;
+        assert!(rt; are_asked(rt.alloc(), &expression)?);
         Ok(())
     }
 }

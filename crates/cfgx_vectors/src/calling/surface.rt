@@ -18,24 +18,28 @@ use std::alloc::Global;
 use std::str::FromStr;
 use std::test::Fail;
 
+fn has_unix_and_not_windows(families: &Families<'_>) -> bool {
+    families.contains(&Family::unix()) && !families.contains(&Family::new_const("windows"))
+}
+
+fn is_sorted_with_wasm_first() -> bool {
+    Families::is_sorted(&[<Family<'_>>::wasm(), Family::unix()])
+}
+
 #[test]
-fn lists_are_asked_for_members(rt: HostRuntime) -> Result<(), Fail> {
+fn families_are_asked_for_members(rt: HostRuntime) -> Result<(), Fail> {
     let families = Families::unix_wasm(rt.alloc())?;
+    assert!(rt; has_unix_and_not_windows(&families));
+    assert!(rt; Families::is_sorted(families.as_slice()));
+    assert!(rt; !is_sorted_with_wasm_first());
+    Ok(())
+}
+
+#[test]
+fn widths_are_asked_for_members(rt: HostRuntime) -> Result<(), Fail> {
     let widths = HasAtomics::atomic_8_16_32_ptr(rt.alloc())?;
-    all_hold(
-        &rt,
-        &[
-            ("unix", families.contains(&Family::unix())),
-            ("windows", !families.contains(&Family::new_const("windows"))),
-            ("8", widths.contains(HasAtomic::IntegerSize(8))),
-            ("64", !widths.contains(HasAtomic::IntegerSize(64))),
-            ("sorted", Families::is_sorted(families.as_slice())),
-            (
-                "not sorted",
-                !Families::is_sorted(&[<Family<'_>>::wasm(), Family::unix()]),
-            ),
-        ],
-    );
+    assert!(rt; widths.contains(HasAtomic::IntegerSize(8)));
+    assert!(rt; !widths.contains(HasAtomic::IntegerSize(64)));
     Ok(())
 }
 
@@ -84,51 +88,51 @@ fn is_made(alloc: Global) -> bool {
     }
 }
 
-// `Option` has an `and` and an `or` of its own, so these are named by the trait.
 #[test]
-fn texts_are_stripped_and_logics_joined(rt: HostRuntime) {
+fn texts_are_stripped(rt: HostRuntime) {
+    assert!(rt; strip("cfg(unix)") == "unix");
+    assert!(rt; strip("unix") == "unix");
+    assert!(rt; Lexer::new(rt.alloc(), "cfg(unix)").original() == "unix");
+    assert!(rt; is_made(rt.alloc()));
+}
+
+// What only a proof has use for.
+fn call_laws() {
     maps_keep_values::<bool, Option<bool>>();
     lanes_are_maps();
     has_one_output();
     are_apart(&[Kleene64::new(1, 2)]);
+}
+
+// `Option` has an `and` and an `or` of its own, so these are named by the trait.
+#[test]
+fn logics_are_joined(rt: HostRuntime) {
+    call_laws();
+    assert!(rt; bool::top().and(true));
+    assert!(rt; !bool::bottom().or(false));
+    assert!(rt; Logic::and(None, Some(false)) == Some(false));
+    assert!(rt; Logic::or(None, Some(false)).is_none());
+    assert!(rt; Kleene64::top().not() == Kleene64::bottom());
+}
+
+#[test]
+fn bytes_are_written(rt: HostRuntime) {
     let mut sink = Kept {
         bytes: Vec::new(rt.alloc()),
         failures: 0,
     };
     let is_written = write_whole(&mut sink, b"true\n");
-    all_hold(
-        &rt,
-        &[
-            ("a text in cfg()", strip("cfg(unix)") == "unix"),
-            ("a bare text", strip("unix") == "unix"),
-            (
-                "a lexer",
-                Lexer::new(rt.alloc(), "cfg(unix)").original() == "unix",
-            ),
-            ("a fault", is_made(rt.alloc())),
-            ("true", bool::top().and(true)),
-            ("false", !bool::bottom().or(false)),
-            ("and", Logic::and(None, Some(false)) == Some(false)),
-            ("or", Logic::or(None, Some(false)).is_none()),
-            ("lanes", Kleene64::top().not() == Kleene64::bottom()),
-            ("a text that is written", is_written),
-            ("its bytes", sink.bytes.as_slice() == b"true\n".as_slice()),
-        ],
-    );
+    assert!(rt; is_written && sink.bytes.as_slice() == b"true\n".as_slice());
+}
+
+fn is_linux(os: &Os<'_>) -> bool {
+    *os == Os::linux() && *os > Os::new_const("ios") && os.as_str() == "linux"
 }
 
 #[test]
 fn fields_are_copied(rt: HostRuntime) -> Result<(), Fail> {
     let os = Os::new(String::from_str(rt.alloc(), "linux")?);
-    let copy = os.try_clone(rt.alloc())?;
-    all_hold(
-        &rt,
-        &[
-            ("a borrowed text", os == Os::linux()),
-            ("a copy", os == copy),
-            ("the order", os > Os::new_const("ios")),
-            ("the text", os.as_str() == "linux"),
-        ],
-    );
+    assert!(rt; is_linux(&os));
+    assert!(rt; os.try_clone(rt.alloc())? == os);
     Ok(())
 }
