@@ -1,6 +1,6 @@
 //! Targets: what no clause says of them. The readers, lists, rows and tables of worked examples,
 //! and the bytes that they print. What memory does to their calls is in `in_turn/targets.rt`.
-use crate::holding::{all_hold, prints};
+use crate::holding::prints;
 use cfg_expr::error::{Failure, Reason};
 use cfg_expr::expr::Predicates;
 use cfg_expr::targets::{
@@ -88,26 +88,26 @@ fn widths_are_read(rt: HostRuntime) -> Result<(), Fail> {
 }
 
 #[test]
-fn what_rust_knows_of_targets(rt: HostRuntime) {
+fn lists_of_widths_are_told_to_be_sorted(rt: HostRuntime) {
     let eight = HasAtomic::IntegerSize(8);
+    assert!(rt; !HasAtomics::is_sorted(&[HasAtomic::Pointer, eight]));
+    assert!(rt; HasAtomics::is_sorted(&[eight, eight]));
+    assert!(rt; HasAtomics::is_sorted(&[]));
+}
+
+#[test]
+fn byte_orders_are_parsed(rt: HostRuntime) {
     let both = Reason::Unexpected(&["big", "little"]);
-    let pointer_first = [HasAtomic::Pointer, eight];
-    let vec_extabi = Abi::<Global>::vec_extabi();
-    let solid_asp3 = Os::<Global>::solid_asp3();
-    all_hold(
-        &rt,
-        &[
-            ("ptr before 8", !HasAtomics::is_sorted(&pointer_first)),
-            ("8 twice", HasAtomics::is_sorted(&[eight, eight])),
-            ("no width", HasAtomics::is_sorted(&[])),
-            ("big", "big".parse::<Endian>() == Ok(Endian::big)),
-            ("little", "little".parse::<Endian>() == Ok(Endian::little)),
-            ("Big", "Big".parse::<Endian>() == Err(both)),
-            ("an ABI", prints(rt.alloc(), &vec_extabi, "vec-extabi")),
-            ("a system", prints(rt.alloc(), &solid_asp3, "solid_asp3")),
-            ("the version", rustc_version() == "1.99.0"),
-        ],
-    );
+    assert!(rt; "big".parse::<Endian>() == Ok(Endian::big));
+    assert!(rt; "little".parse::<Endian>() == Ok(Endian::little));
+    assert!(rt; "Big".parse::<Endian>() == Err(both));
+}
+
+#[test]
+fn what_rust_knows_of_targets(rt: HostRuntime) {
+    assert!(rt; prints(rt.alloc(), &Abi::<Global>::vec_extabi(), "vec-extabi"));
+    assert!(rt; prints(rt.alloc(), &Os::<Global>::solid_asp3(), "solid_asp3"));
+    assert!(rt; rustc_version() == "1.99.0");
 }
 
 // A row that lacks all that a row may lack.
