@@ -48,32 +48,45 @@ fn prints_as<T: Display>(alloc: Global, field: &T, text: &str) -> Result<bool, A
 }
 
 /// A text of `RISING`, behind its place.
-type Placed = (usize, &'static str);
+type Placed<'a> = (usize, &'a str);
+
+// Whether these fields of the texts compare, hash and print as the texts do.
+fn stand_for_texts<T: Ord + Hash + Display>(
+    alloc: Global,
+    fields: (&T, &T),
+    one: Placed<'_>,
+    other: Placed<'_>,
+) -> bool {
+    compare_as_texts(fields.0, fields.1, one.0, other.0)
+        && holds(prints_as(alloc, fields.0, one.1))
+        && holds(prints_as(alloc, fields.1, other.1))
+}
+
+// An owned copy of the text, behind which every growth is refused.
+fn owned<'h>(heap: Heap<'h>, text: &str) -> Result<String<Heap<'h>>, AllocError> {
+    heap.refuse(0);
+    let owned = String::from_str(heap, text)?;
+    heap.refuse(EVERY);
+    Ok(owned)
+}
 
 // Whether a borrowed field of the first text and an owned one of the second, of a crate's type,
 // are these texts, compare as they do, and print them, with every growth refused.
 macro_rules! are_texts {
     ($fields:ident, $kind:ty, $alloc:ident, $heap:ident, $one:ident, $other:ident) => {{
-        $heap.refuse(0);
-        let owned: $fields::Field<'static, $kind, Heap<'_>> =
-            $fields::Field::new(String::from_str($heap, $other.1)?);
-        $heap.refuse(EVERY);
+        let text = owned($heap, $other.1)?;
+        let owned: $fields::Field<'_, $kind, Heap<'_>> = $fields::Field::new(text);
         let borrowed = $fields::Field::new_const($one.1);
-        Ok(
-            compare_as_texts(&borrowed, &owned, $one.0, $other.0)
-                && borrowed.as_str() == $one.1
-                && owned.as_str() == $other.1
-                && prints_as($alloc, &borrowed, $one.1)?
-                && prints_as($alloc, &owned, $other.1)?,
-        )
+        let are_texts = borrowed.as_str() == $one.1 && owned.as_str() == $other.1;
+        Ok(are_texts && stand_for_texts($alloc, (&borrowed, &owned), $one, $other))
     }};
 }
 
 fn are_fields<K: Drop>(
     alloc: Global,
     heap: Heap<'_>,
-    one: Placed,
-    other: Placed,
+    one: Placed<'_>,
+    other: Placed<'_>,
 ) -> Result<bool, AllocError> {
     are_texts!(cfgx_fields, K, alloc, heap, one, other)
 }
@@ -81,8 +94,8 @@ fn are_fields<K: Drop>(
 fn are_places<K: Drop>(
     alloc: Global,
     heap: Heap<'_>,
-    one: Placed,
-    other: Placed,
+    one: Placed<'_>,
+    other: Placed<'_>,
 ) -> Result<bool, AllocError> {
     are_texts!(cfgx_places, K, alloc, heap, one, other)
 }
@@ -91,8 +104,8 @@ fn are_places<K: Drop>(
 fn are_all_texts(
     alloc: Global,
     heap: Heap<'_>,
-    one: Placed,
-    other: Placed,
+    one: Placed<'_>,
+    other: Placed<'_>,
 ) -> Result<bool, AllocError> {
     Ok(
         are_fields::<TripleKind>(alloc, heap, one, other)?
@@ -121,31 +134,59 @@ fn each_field_is_a_text(rt: HostRuntime) -> Result<(), Fail> {
     Ok(())
 }
 
-// Whether a borrowed text of a crate's type is copied with no growth, and an owned one with one
-// growth; where that is refused, so is the copy, and the field stays.
-macro_rules! is_copied {
-    ($fields:ident, $kind:ty, $heap:ident) => {{
-        $heap.refuse(0);
-        let owned: $fields::Field<'static, $kind, Heap<'_>> =
-            $fields::Field::new(String::from_str($heap, "é")?);
-        $heap.refuse(EVERY);
-        let borrowed = $fields::Field::new_const("é");
-        let is_free = borrowed.try_clone($heap)? == borrowed;
+// Whether the copy was made, and is equal to this.
+fn is_equal<T: PartialEq + Drop>(copy: Result<T, AllocError>, wanted: &T) -> bool {
+    match copy {
+        Ok(copy) => copy == *wanted,
+        Err(_) => false,
+    }
+}
+
+// Whether the copy was refused, by the refusal that lay ahead.
+fn is_refused<T: Drop>(copy: Result<T, AllocError>, heap: Heap<'_>) -> bool {
+    copy.is_err() && heap.has_refused()
+}
+
+// Whether a borrowed field of a crate's type is copied with no growth, and an owned one of the same
+// text with one growth; where that is refused, so is the copy, and the field stays.
+macro_rules! are_copied {
+    ($borrowed:ident, $owned:ident, $heap:ident) => {{
+        let is_free = is_equal($borrowed.try_clone($heap), $borrowed);
         $heap.refuse(1);
-        let is_refused = owned.try_clone($heap).is_err() && $heap.has_refused();
-        let stays = owned == borrowed;
+        let is_refused = is_refused($owned.try_clone($heap), $heap);
+        let stays = $owned == $borrowed;
         $heap.refuse(2);
-        let is_equal = owned.try_clone($heap)? == borrowed;
-        Ok(is_free && is_refused && stays && is_equal && !$heap.has_refused())
+        let is_equal = is_equal($owned.try_clone($heap), $borrowed);
+        is_free && is_refused && stays && is_equal && !$heap.has_refused()
     }};
 }
 
+fn are_fields_copied<'h, K: Drop>(
+    borrowed: &cfgx_fields::Field<'static, K, Heap<'h>>,
+    owned: &cfgx_fields::Field<'static, K, Heap<'h>>,
+    heap: Heap<'h>,
+) -> bool {
+    are_copied!(borrowed, owned, heap)
+}
+
+fn are_places_copied<'h, K: Drop>(
+    borrowed: &cfgx_places::Field<'static, K, Heap<'h>>,
+    owned: &cfgx_places::Field<'static, K, Heap<'h>>,
+    heap: Heap<'h>,
+) -> bool {
+    are_copied!(borrowed, owned, heap)
+}
+
 fn field_is_copied<K: Drop>(heap: Heap<'_>) -> Result<bool, AllocError> {
-    is_copied!(cfgx_fields, K, heap)
+    let text = owned(heap, "é")?;
+    let owned = cfgx_fields::Field::<'static, K, Heap<'_>>::new(text);
+    Ok(are_fields_copied(&cfgx_fields::Field::new_const("é"), &owned, heap))
 }
 
 fn place_is_copied<K: Drop>(heap: Heap<'_>) -> Result<bool, AllocError> {
-    is_copied!(cfgx_places, K, heap)
+    let text = owned(heap, "é")?;
+    let owned = cfgx_places::Field::<'static, K, Heap<'_>>::new(text);
+    Ok(are_places_copied(&cfgx_places::Field::new_const("é"), &owned, heap))
 }
 
 #[test]
