@@ -31,10 +31,14 @@ mod tests {
         Ok(())
     }
 
+    fn is_flag(predicate: &Option<Predicate<'_>>, name: &str) -> bool {
+        matches!(predicate, Some(Predicate::Flag(flag)) if *flag == name)
+    }
+
     #[test]
     fn the_first_flag_is_found(rt: HostRuntime) -> Result<(), Fail> {
         let expression = Expression::parse(rt.alloc(), "all(a, not(b), test)")?;
-        assert!(rt; first_flag(&expression) == Some(Predicate::Flag("b")));
+        assert!(rt; is_flag(&first_flag(&expression), "b"));
         Ok(())
     }
 }
