@@ -170,11 +170,14 @@ fn asks(alloc: Global, text: &str) -> Result<bool, Failure> {
 }
 
 fn are_one(mut predicates: Predicates<'_>, wanted: &Predicate<'_>) -> bool {
-    let is_first = match predicates.next() {
-        Some(predicate) => predicate == *wanted,
+    is_one(&predicates.next(), wanted) && is_next(&mut predicates, 0, None)
+}
+
+fn is_one(predicate: &Option<Predicate<'_>>, wanted: &Predicate<'_>) -> bool {
+    match predicate {
+        Some(predicate) => predicate == wanted,
         None => false,
-    };
-    is_first && predicates.next().is_none()
+    }
 }
 
 const TYPED: &[&str] = &[
@@ -305,35 +308,60 @@ fn are_equal_by_their_stripped_texts(rt: HostRuntime) {
     );
 }
 
+// Whether it is this flag, or none if none is named.
+fn is_flag(predicate: &Option<Predicate<'_>>, flag: Option<&str>) -> bool {
+    match (predicate, flag) {
+        (Some(Predicate::Flag(next)), Some(flag)) => *next == flag,
+        (None, None) => true,
+        _ => false,
+    }
+}
+
 /// Whether there are so many predicates to come, and this flag is the next of them, if one is named
 pub(crate) fn is_next(predicates: &mut Predicates<'_>, left: usize, flag: Option<&str>) -> bool {
     let is_left = predicates.left() == left;
-    let is_flag = match (predicates.next(), flag) {
-        (Some(Predicate::Flag(next)), Some(flag)) => next == flag,
-        (None, None) => true,
-        _ => false,
-    };
-    is_left && is_flag
+    is_flag(&predicates.next(), flag) && is_left
 }
 
-// What is still to come falls by one with each predicate, and the end stays the end.
-#[test]
-fn count_what_is_to_come(rt: HostRuntime) -> Result<(), Fail> {
-    let expression = Expression::parse(rt.alloc(), "all(a, any(b), c)")?;
-    let empty = Expression::parse(rt.alloc(), "all(any(), not(all()))")?;
-    let mut predicates = expression.predicates();
-    all_hold(
-        &rt,
+/// How many predicates are left before a call, and the flag that it gives, if one is to come.
+type Call<'a> = (usize, Option<&'a str>);
+
+// Texts, and the calls for the predicates of each. What is still to come falls by one with each
+// predicate, and the end stays the end.
+const TO_COME: &[(&str, &[Call<'_>])] = &[
+    (
+        "all(a, any(b), c)",
         &[
-            ("the first", is_next(&mut predicates, 3, Some("b"))),
-            ("the second", is_next(&mut predicates, 2, Some("a"))),
-            ("the third", is_next(&mut predicates, 1, Some("c"))),
-            ("the end", is_next(&mut predicates, 0, None)),
-            ("the end again", is_next(&mut predicates, 0, None)),
-            ("no function", is_next(&mut empty.predicates(), 0, None)),
+            (3, Some("b")),
+            (2, Some("a")),
+            (1, Some("c")),
+            (0, None),
+            (0, None),
         ],
-    );
-    Ok(())
+    ),
+    ("all(any(), not(all()))", &[(0, None)]),
+];
+
+fn are_next(predicates: &mut Predicates<'_>, calls: &[Call<'_>]) -> bool {
+    for (left, flag) in calls {
+        if !is_next(predicates, *left, *flag) {
+            return false;
+        }
+    }
+    true
+}
+
+// Whether the calls for the predicates of the text give these.
+fn come(alloc: Global, text: &str, calls: &[Call<'_>]) -> Result<bool, Failure> {
+    let expression = Expression::parse(alloc, text)?;
+    Ok(are_next(&mut expression.predicates(), calls))
+}
+
+#[test]
+fn count_what_is_to_come(rt: HostRuntime) {
+    for (text, calls) in TO_COME {
+        assert!(rt; holds(come(rt.alloc(), text, calls)), "{text}");
+    }
 }
 
 #[test]
