@@ -19,7 +19,7 @@ pub fn on_rows(
     let expression = Expression::parse(alloc, text)?;
     let mut answers = Vec::new(alloc);
     for predicate in expression.predicates() {
-        answers.push(lanes(&predicate, rows))?;
+        answers.push(lanes(predicate, rows))?;
     }
     if expression.predicates().left() != answers.len() {
         return Ok(None);
@@ -27,8 +27,8 @@ pub fn on_rows(
     Ok(Some(expression.eval_lanes(alloc, answers.as_slice())?))
 }
 
-fn lanes(predicate: &Predicate<'_>, rows: &[TargetInfo]) -> Kleene64 {
-    match predicate {
+fn lanes(predicate: Predicate<'_>, rows: &[TargetInfo]) -> Kleene64 {
+    match &predicate {
         Predicate::Target(target) if rows.len() <= 64 => target.lanes(rows),
         _ => Kleene64::new(0, 0),
     }
