@@ -127,13 +127,18 @@ fn bare(triple: &'static str) -> TargetInfo<'static> {
     }
 }
 
+// What the row answers to a predicate that is asked of targets.
+fn answer_of(predicate: &Option<Predicate<'_>>, row: &TargetInfo<'_>) -> Option<bool> {
+    match predicate {
+        Some(Predicate::Target(predicate)) => Some(predicate.matches(row)),
+        _ => None,
+    }
+}
+
 // Whether the text's one predicate is true of the row.
 fn is_met(alloc: Global, row: &TargetInfo<'_>, text: &str) -> Result<Option<bool>, Failure> {
     let expression = Expression::parse(alloc, text)?;
-    Ok(match expression.predicates().next() {
-        Some(Predicate::Target(predicate)) => Some(predicate.matches(row)),
-        _ => None,
-    })
+    Ok(answer_of(&expression.predicates().next(), row))
 }
 
 // Predicates on a row that lacks its operating system, ABI, environment and vendor.
@@ -223,6 +228,11 @@ fn is_true_of(predicate: &Predicate<'_>, row: &TargetInfo<'_>) -> bool {
     }
 }
 
+// The same of a predicate that is let go.
+fn is_true(predicate: Predicate<'_>, row: &TargetInfo<'_>) -> bool {
+    is_true_of(&predicate, row)
+}
+
 // A row of Windows for 32 bits, of this vendor.
 pub(crate) fn windows(
     alloc: Global,
@@ -251,41 +261,50 @@ pub(crate) fn darwin(alloc: Global) -> Result<TargetInfo<'static>, AllocError> {
 
 fn are_true_of(predicates: Predicates<'_>, row: &TargetInfo<'_>) -> bool {
     for predicate in predicates {
-        if !is_true_of(&predicate, row) {
+        if !is_true(predicate, row) {
             return false;
         }
     }
     true
 }
 
+fn is_first_true(first: &Option<Predicate<'_>>, row: &TargetInfo<'_>) -> bool {
+    match first {
+        Some(predicate) => is_true_of(predicate, row),
+        None => false,
+    }
+}
+
 // Whether the row meets the first predicate, which stands in `not`, and whether it meets all of
 // the others.
 fn meets(mut predicates: Predicates<'_>, row: &TargetInfo<'_>) -> (bool, bool) {
-    let is_first_met = match predicates.next() {
-        Some(predicate) => is_true_of(&predicate, row),
-        None => false,
-    };
+    let is_first_met = is_first_true(&predicates.next(), row);
     (is_first_met, are_true_of(predicates, row))
 }
 
 // The value of the expression on the row, and what of it the row meets.
-fn of_readme(alloc: Global, row: TargetInfo<'static>) -> Result<(bool, bool, bool), Failure> {
+fn of_readme(alloc: Global, row: &TargetInfo<'_>) -> Result<(bool, bool, bool), Failure> {
     let expression = Expression::parse(alloc, README)?;
-    let (is_first_met, are_others_met) = meets(expression.predicates(), &row);
+    let (is_first_met, are_others_met) = meets(expression.predicates(), row);
     let value = expression.eval(
         alloc,
-        &mut |predicate: &Predicate<'_>| is_true_of(predicate, &row),
+        &mut |predicate: &Predicate<'_>| is_true_of(predicate, row),
     )?;
     Ok((value, is_first_met, are_others_met))
+}
+
+// The same of a row that is let go.
+fn of_made(alloc: Global, row: TargetInfo<'static>) -> Result<(bool, bool, bool), Failure> {
+    of_readme(alloc, &row)
 }
 
 #[test]
 fn the_expression_of_the_readme_on_rows(rt: HostRuntime) -> Result<(), Fail> {
     let alloc = rt.alloc();
-    assert!(rt; of_readme(alloc, windows(alloc, Vendor::pc())?)? == (true, false, true));
-    assert!(rt; of_readme(alloc, windows(alloc, Vendor::uwp())?)? == (false, true, true));
-    assert!(rt; of_readme(alloc, darwin(alloc)?)? == (false, false, false));
-    assert!(rt; of_readme(alloc, ios(alloc)?)? == (false, false, false));
+    assert!(rt; of_made(alloc, windows(alloc, Vendor::pc())?)? == (true, false, true));
+    assert!(rt; of_made(alloc, windows(alloc, Vendor::uwp())?)? == (false, true, true));
+    assert!(rt; of_made(alloc, darwin(alloc)?)? == (false, false, false));
+    assert!(rt; of_made(alloc, ios(alloc)?)? == (false, false, false));
     Ok(())
 }
 
