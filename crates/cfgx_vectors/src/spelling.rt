@@ -101,11 +101,16 @@ fn spell_each(alloc: Global, text: &str, writer: &mut Slow) -> Result<Option<Err
 
 fn spell_all(predicates: Predicates<'_>, writer: &mut Slow) -> Option<ErrorKind> {
     for predicate in predicates {
-        if let Err(error) = spell(&predicate, writer) {
+        if let Err(error) = spell_one(predicate, writer) {
             return Some(error.kind());
         }
     }
     None
+}
+
+// Spells a predicate, which is let go.
+fn spell_one(predicate: Predicate<'_>, writer: &mut Slow) -> io::Result<()> {
+    spell(&predicate, writer)
 }
 
 // Whether the text is spelled so by calls that take at most `each` bytes.
