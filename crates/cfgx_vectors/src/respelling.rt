@@ -37,8 +37,28 @@ pub fn read_again(alloc: Global, predicate: &Predicate<'_>) -> Option<Result<Exp
 #[cfg(test)]
 mod tests {
     use super::read_again;
-    use cfg_expr::Expression;
+    use cfg_expr::error::Failure;
+    use cfg_expr::{Expression, Predicate};
+    use std::alloc::Global;
     use std::test::Fail;
+
+    // Whether the expression is this text, which asks one predicate.
+    fn is_alone(again: Result<Expression, Failure>, text: &str) -> bool {
+        match again {
+            Ok(again) => again.original() == text && again.predicates().left() == 1,
+            Err(_) => false,
+        }
+    }
+
+    // Whether the predicate is spelled, and its spelling is this text, which asks one predicate.
+    fn is_read_as(alloc: Global, predicate: &Predicate<'_>, text: &str) -> bool
+        requires { IsRegular (question_of predicate.now) }
+    {
+        match read_again(alloc, predicate) {
+            Some(again) => is_alone(again, text),
+            None => false,
+        }
+    }
 
     #[test]
     fn a_spelling_asks_its_predicate(rt: HostRuntime) -> Result<(), Fail> {
@@ -46,12 +66,7 @@ mod tests {
         let Some(predicate) = expression.predicates().next() else {
             return Err(Fail::from("nothing is asked"));
         };
-        let Some(again) = read_again(rt.alloc(), &predicate) else {
-            return Err(Fail::from("not written"));
-        };
-        let again = again?;
-        assert!(rt; again.original() == "panic = \"abort\"");
-        assert!(rt; again.predicates().left() == 1);
+        assert!(rt; is_read_as(rt.alloc(), &predicate, "panic = \"abort\""));
         Ok(())
     }
 }
