@@ -116,101 +116,201 @@ fn are_two_families<'f, A: SmallAllocator>(
     );
 }
 
+fn is_empty<A: SmallAllocator>(families: Families<'_, A>) -> bool {
+    let is_empty = families.as_slice().is_empty();
+    drop(families);
+    is_empty
+}
+
+fn are_sorted(families: [Family<'_>; 2]) -> bool {
+    let are_sorted = Families::<Global>::is_sorted(&families);
+    drop(families);
+    are_sorted
+}
+
+// Families that are borrowed.
+fn are_borrowed_families(rt: &impl Abort, heap: Heap<'_>) {
+    all_hold(
+        rt,
+        &[
+            ("no family", has_no_family(heap)),
+            (
+                "what is sorted",
+                are_sorted([Family::unix(), Family::wasm()]),
+            ),
+            ("what is not", !are_sorted([Family::wasm(), Family::unix()])),
+        ],
+    );
+}
+
+// Whether the list of no family is empty.
+fn has_no_family<A: SmallAllocator>(_alloc: A) -> bool {
+    let empty: Families<'_, A> = Families::new_const(&[]);
+    is_empty(empty)
+}
+
+/// A list, or want of memory.
+type Made<'f, A> = Result<Families<'f, A>, AllocError>;
+
+// The same of the lists that were made.
+fn are_families<A: SmallAllocator>(
+    rt: &impl Abort,
+    alloc: Global,
+    list: Made<'_, A>,
+    same: Made<'_, A>,
+    above: Made<'_, A>,
+) -> Result<(), Fail> {
+    let list = list?;
+    let same = same?;
+    let above = above?;
+    are_two_families(rt, alloc, &list, &same, &above);
+    drop(list);
+    drop(same);
+    drop(above);
+    Ok(())
+}
+
 pub(super) fn families_are_answered(
     rt: &impl Abort,
     alloc: Global,
     heap: Heap<'_>,
 ) -> Result<(), Fail> {
     heap.refuse(0);
-    let list = Families::unix_wasm(heap)?;
-    let same = Families::unix_wasm(heap)?;
-    let above = Families::wasm(heap)?;
+    let list = Families::unix_wasm(heap);
+    let same = Families::unix_wasm(heap);
+    let above = Families::wasm(heap);
     heap.refuse(EVERY);
-    are_two_families(rt, alloc, &list, &same, &above);
-    let empty: Families<'_, Heap<'_>> = Families::new_const(&[]);
-    let in_order = [Family::unix(), Family::wasm()];
-    let not_in_order = [Family::wasm(), Family::unix()];
-    all_hold(
-        rt,
-        &[
-            ("no family", empty.as_slice().is_empty()),
-            ("what is sorted", Families::<Global>::is_sorted(&in_order)),
-            ("what is not", !Families::<Global>::is_sorted(&not_in_order)),
-        ],
-    );
+    are_families(rt, alloc, list, same, above)?;
+    are_borrowed_families(rt, heap);
     Ok(())
 }
 
-/// A row whose texts may be owned.
-type Row<'h> = TargetInfo<'h, Heap<'h>>;
-
-// Copies of the rows of these numbers.
-fn rows<'h>(heap: Heap<'h>, numbers: &[usize]) -> Result<Vec<Row<'h>, Heap<'h>>, AllocError> {
-    let table: TargetTable<'h, Heap<'h>> = TargetTable::builtins(heap)?;
-    let mut rows = Vec::new(heap);
+// Copies of those of the rows that have these numbers.
+fn copies_of<'a, A: SmallAllocator + 'a>(
+    alloc: A,
+    all: &[TargetInfo<'a, A>],
+    numbers: &[usize],
+) -> Result<Vec<TargetInfo<'a, A>, A>, AllocError> {
+    let mut rows = Vec::new(alloc);
     for number in numbers {
-        if let Some(row) = table.rows().get(*number) {
-            rows.push(row.try_clone(heap)?)?;
+        if let Some(row) = all.get(*number) {
+            rows.push(row.try_clone(alloc)?)?;
         }
     }
     Ok(rows)
 }
 
-// The place at which these rows are refused, all of them given back, or `None` where they are a
+/// Rows, or want of memory.
+type Rows<'a, A> = Result<Vec<TargetInfo<'a, A>, A>, AllocError>;
+
+// The same of the rows that are built in.
+fn rows<'a, A: SmallAllocator + 'a>(alloc: A, numbers: &[usize]) -> Rows<'a, A> {
+    let table = TargetTable::builtins(alloc)?;
+    let rows = copies_of(alloc, table.rows(), numbers);
+    rows
+}
+
+// The place at which so many rows are refused, all of them given back, or `None` where they are a
 // table.
-fn refused_at(heap: Heap<'_>, numbers: &[usize]) -> Result<Option<usize>, Fail> {
-    heap.refuse(0);
-    let rows = rows(heap, numbers)?;
-    heap.refuse(EVERY);
-    match TargetTable::from_rows(rows) {
-        Ok(table) if table.rows().len() == numbers.len() => Ok(None),
-        Err(error) if error.rows.len() == numbers.len() => Ok(Some(error.index)),
-        _ => Err(Fail::from("other rows")),
+fn place_of<A: SmallAllocator>(rows: Rows<'_, A>, wanted: usize) -> Result<Option<usize>, Fail> {
+    let (place, count) = match TargetTable::from_rows(rows?) {
+        Ok(table) => (None, table.rows().len()),
+        Err(error) => (Some(error.index), error.rows.len()),
+    };
+    if count == wanted {
+        Ok(place)
+    } else {
+        Err(Fail::from("other rows"))
     }
 }
 
-pub(super) fn rows_are_answered(rt: &impl Abort, heap: Heap<'_>) -> Result<(), Fail> {
-    assert!(rt; refused_at(heap, &[0, 2, 4])?.is_none());
-    assert!(rt; refused_at(heap, &[0, 2, 2])? == Some(2));
+// The same of the rows of these numbers.
+fn refused_at(heap: Heap<'_>, numbers: &[usize]) -> Result<Option<usize>, Fail> {
     heap.refuse(0);
-    let rows = rows(heap, &[1, 1, 2])?;
+    let rows = rows(heap, numbers);
     heap.refuse(EVERY);
-    let [one, same, above] = rows.as_slice() else {
+    place_of(rows, numbers.len())
+}
+
+// Rows of which the first two are equal, and the third is above both.
+fn are_three_rows<A: SmallAllocator>(
+    rt: &impl Abort,
+    rows: &[TargetInfo<'_, A>],
+) -> Result<(), Fail> {
+    let [one, same, above] = rows else {
         return Err(Fail::from("other rows"));
     };
     are_ordered(rt, one, same, above);
     Ok(())
 }
 
-pub(super) fn tables_are_answered(rt: &impl Abort, heap: Heap<'_>) -> Result<(), Fail> {
+// The same of the rows that were made.
+fn are_ordered_rows<A: SmallAllocator>(rt: &impl Abort, rows: Rows<'_, A>) -> Result<(), Fail> {
+    let rows = rows?;
+    let are_ordered = are_three_rows(rt, rows.as_slice());
+    drop(rows);
+    are_ordered
+}
+
+pub(super) fn rows_are_answered(rt: &impl Abort, heap: Heap<'_>) -> Result<(), Fail> {
+    assert!(rt; refused_at(heap, &[0, 2, 4])?.is_none());
+    assert!(rt; refused_at(heap, &[0, 2, 2])? == Some(2));
     heap.refuse(0);
-    let table = TargetTable::builtins(heap)?;
+    let rows = rows(heap, &[1, 1, 2]);
     heap.refuse(EVERY);
-    let wanted = Err(Reason::Unexpected(&["big", "little"]));
-    let Some(first) = table.rows().first() else {
-        return Err(Fail::from("no row"));
-    };
-    are_ordered(rt, &Endian::big, &Endian::big, &Endian::little);
+    are_ordered_rows(rt, rows)
+}
+
+// Whether the first row has this triple.
+fn starts_with<A: SmallAllocator>(table: &TargetTable<'_, A>, triple: &str) -> bool {
+    match table.rows().first() {
+        Some(row) => row.triple.as_str() == triple,
+        None => false,
+    }
+}
+
+// Whether the table has a row of this triple.
+fn has_row<A: SmallAllocator>(table: &TargetTable<'_, A>, triple: &str) -> bool {
+    get_builtin_target_by_triple(table, triple).is_some()
+}
+
+// The table that is built in.
+fn is_table<A: SmallAllocator>(
+    rt: &impl Abort,
+    table: Result<TargetTable<'_, A>, AllocError>,
+) -> Result<(), Fail> {
+    let table = table?;
     all_hold(
         rt,
         &[
             ("the length", table.rows().len() == 5),
-            (
-                "the first row",
-                first.triple.as_str() == "aarch64-apple-darwin",
-            ),
-            (
-                "a row that is there",
-                get_builtin_target_by_triple(&table, "aarch64-apple-tvos").is_some(),
-            ),
-            (
-                "a row that is not",
-                get_builtin_target_by_triple(&table, "aarch64-apple").is_none(),
-            ),
+            ("the first row", starts_with(&table, "aarch64-apple-darwin")),
+            ("a row that is there", has_row(&table, "aarch64-apple-tvos")),
+            ("a row that is not", !has_row(&table, "aarch64-apple")),
+        ],
+    );
+    Ok(())
+}
+
+// What is no row.
+fn are_byte_orders(rt: &impl Abort) {
+    let wanted = Err(Reason::Unexpected(&["big", "little"]));
+    are_ordered(rt, &Endian::big, &Endian::big, &Endian::little);
+    all_hold(
+        rt,
+        &[
             ("little", "little".parse::<Endian>() == Ok(Endian::little)),
             ("Big", "Big".parse::<Endian>() == wanted),
             ("the version", rustc_version() == "1.99.0"),
         ],
     );
+}
+
+pub(super) fn tables_are_answered(rt: &impl Abort, heap: Heap<'_>) -> Result<(), Fail> {
+    heap.refuse(0);
+    let table = TargetTable::builtins(heap);
+    heap.refuse(EVERY);
+    is_table(rt, table)?;
+    are_byte_orders(rt);
     Ok(())
 }
