@@ -1,4 +1,6 @@
 //! Calls on targets that take memory, or need none where a text is borrowed.
+//!
+//! What is dear to prove where it goes out of scope is dropped by name.
 use crate::holding::{all_hold, holds};
 use crate::refusing::EVERY;
 use crate::turns::{Heap, empty_heap, has_every_block, is_refused_in_turns};
@@ -7,9 +9,10 @@ use cfg_expr::error::HasAtomicParseError;
 use cfg_expr::memory::SmallAllocator;
 use cfg_expr::targets::{
     Abi, Arch, Endian, Env, Families, Family, HasAtomic, HasAtomicFailure, HasAtomics, Os, Panic,
-    TargetTable, Vendor,
+    TargetInfo, TargetTable, Vendor,
 };
 use std::alloc::AllocError;
+use std::process::Abort;
 use std::test::Fail;
 
 // Whether the list has the families of these names.
@@ -22,31 +25,60 @@ fn are_families<A: SmallAllocator>(list: &Families<'_, A>, names: &[&str]) -> bo
     list.as_slice().len() == names.len()
 }
 
+// The same of a list that is given away.
+fn has_families<A: SmallAllocator>(list: Families<'_, A>, names: &[&str]) -> bool {
+    let are_its = are_families(&list, names);
+    drop(list);
+    are_its
+}
+
 // The named lists.
 fn names_families<A: SmallAllocator>(alloc: A) -> Result<bool, AllocError> {
     Ok(
-        are_families(&Families::unix(alloc)?, &["unix"])
-            && are_families(&Families::unix_wasm(alloc)?, &["unix", "wasm"])
-            && are_families(&Families::wasm(alloc)?, &["wasm"])
-            && are_families(&Families::windows(alloc)?, &["windows"]),
+        has_families(Families::unix(alloc)?, &["unix"])
+            && has_families(Families::unix_wasm(alloc)?, &["unix", "wasm"])
+            && has_families(Families::wasm(alloc)?, &["wasm"])
+            && has_families(Families::windows(alloc)?, &["windows"]),
     )
 }
 
+// A family that owns its text.
+fn family_of<'a, A: SmallAllocator + 'a>(
+    alloc: A,
+    name: &str,
+) -> Result<Family<'a, A>, AllocError> {
+    Ok(Family::new(String::from_str(alloc, name)?))
+}
+
 // A list of families that own these texts.
-fn families_of<'h>(heap: Heap<'h>, names: &[&str]) -> Result<Families<'h, Heap<'h>>, AllocError> {
-    let mut families = Vec::new(heap);
+fn families_of<'a, A: SmallAllocator + 'a>(
+    alloc: A,
+    names: &[&str],
+) -> Result<Families<'a, A>, AllocError> {
+    let mut families = Vec::new(alloc);
     for name in names {
-        families.push(Family::new(String::from_str(heap, name)?))?;
+        families.push(family_of(alloc, name)?)?;
     }
-    Families::new(heap, families.into_iter())
+    Families::new(alloc, families.into_iter())
+}
+
+// Whether the list, and its copy behind it, have the families of these names.
+fn is_copied<A: SmallAllocator>(
+    alloc: A,
+    list: &Families<'_, A>,
+    names: &[&str],
+) -> Result<bool, AllocError> {
+    let copy = list.try_clone(alloc);
+    let stays = are_families(list, names);
+    Ok(has_families(copy?, names) && stays)
 }
 
 // A list and its copy. One of the texts is empty.
-fn copies_families(heap: Heap<'_>) -> Result<bool, AllocError> {
-    let list = families_of(heap, &["wasm", "unix", "b", ""])?;
-    let copy = list.try_clone(heap);
-    let stays = are_families(&list, SORTED);
-    Ok(are_families(&copy?, SORTED) && stays)
+fn copies_families<A: SmallAllocator>(alloc: A) -> Result<bool, AllocError> {
+    let list = families_of(alloc, &["wasm", "unix", "b", ""])?;
+    let is_copied = is_copied(alloc, &list, SORTED);
+    drop(list);
+    is_copied
 }
 
 const SORTED: &[&str] = &["", "b", "unix", "wasm"];
@@ -69,12 +101,19 @@ fn are_widths<A: SmallAllocator>(list: &HasAtomics<A>, bits: usize) -> bool {
     }
 }
 
+// The same of a list that is given away.
+fn has_widths<A: SmallAllocator>(list: HasAtomics<A>, bits: usize) -> bool {
+    let are_its = are_widths(&list, bits);
+    drop(list);
+    are_its
+}
+
 // The named lists.
 fn names_widths<A: SmallAllocator>(alloc: A) -> Result<bool, AllocError> {
     Ok(
-        are_widths(&HasAtomics::atomic_8_16_32_64_128_ptr(alloc)?, 5)
-            && are_widths(&HasAtomics::atomic_8_16_32_64_ptr(alloc)?, 4)
-            && are_widths(&HasAtomics::atomic_8_16_32_ptr(alloc)?, 3),
+        has_widths(HasAtomics::atomic_8_16_32_64_128_ptr(alloc)?, 5)
+            && has_widths(HasAtomics::atomic_8_16_32_64_ptr(alloc)?, 4)
+            && has_widths(HasAtomics::atomic_8_16_32_ptr(alloc)?, 3),
     )
 }
 
@@ -84,7 +123,8 @@ fn copies_widths<A: SmallAllocator>(alloc: A) -> Result<bool, AllocError> {
     let list = HasAtomics::new(alloc, items.iter().copied())?;
     let copy = list.try_clone(alloc);
     let stays = are_widths(&list, 1);
-    Ok(are_widths(&copy?, 1) && stays)
+    drop(list);
+    Ok(has_widths(copy?, 1) && stays)
 }
 
 // The fault of a text that is no width.
@@ -96,28 +136,82 @@ fn no_width<A: SmallAllocator>(alloc: A) -> Result<Option<HasAtomicParseError<A>
     }
 }
 
+// Whether the copy is equal to the fault.
+fn copies_the_fault<A: SmallAllocator>(
+    alloc: A,
+    error: &HasAtomicParseError<A>,
+) -> Result<bool, AllocError> {
+    let copy = error.try_clone(alloc)?;
+    let is_equal = copy == *error;
+    drop(copy);
+    Ok(is_equal)
+}
+
 fn copies_a_fault<A: SmallAllocator>(alloc: A) -> Result<bool, AllocError> {
-    match no_width(alloc)? {
-        Some(error) => {
-            let copy = error.try_clone(alloc)?;
-            Ok(copy == error)
-        }
+    let error = no_width(alloc)?;
+    let is_copied = match &error {
+        Some(error) => copies_the_fault(alloc, error),
         None => Ok(false),
+    };
+    drop(error);
+    is_copied
+}
+
+fn is_row<A: SmallAllocator>(copy: TargetInfo<'_, A>, row: &TargetInfo<'_, A>) -> bool {
+    let is_equal = copy == *row;
+    drop(copy);
+    is_equal
+}
+
+// Whether the copy of the first of five rows is equal to it.
+fn copies_the_first<A: SmallAllocator>(
+    alloc: A,
+    rows: &[TargetInfo<'_, A>],
+) -> Result<bool, AllocError> {
+    match rows {
+        [row, _, _, _, _] => Ok(is_row(row.try_clone(alloc)?, row)),
+        _ => Ok(false),
     }
 }
 
 fn copies_a_row<A: SmallAllocator>(alloc: A) -> Result<bool, AllocError> {
     let table = TargetTable::builtins(alloc)?;
-    match table.rows() {
-        [row, _, _, _, _] => Ok(row.try_clone(alloc)? == *row),
-        _ => Ok(false),
+    let is_copied = copies_the_first(alloc, table.rows());
+    is_copied
+}
+
+// Whether the copy is there and equal to the predicate.
+fn is_copy<A: SmallAllocator>(
+    copy: Result<TargetPredicate<'_, A>, AllocError>,
+    predicate: &TargetPredicate<'_, A>,
+) -> bool {
+    let is_copy = match &copy {
+        Ok(copy) => *copy == *predicate,
+        Err(_) => false,
+    };
+    drop(copy);
+    is_copy
+}
+
+// The same, where want of memory is an error.
+fn is_copied_predicate<A: SmallAllocator>(
+    copy: Result<TargetPredicate<'_, A>, AllocError>,
+    predicate: TargetPredicate<'_, A>,
+) -> Result<bool, AllocError> {
+    let is_refused = copy.is_err();
+    let is_copy = is_copy(copy, &predicate);
+    drop(predicate);
+    if is_refused {
+        Err(AllocError)
+    } else {
+        Ok(is_copy)
     }
 }
 
 fn copies_a_predicate<A: SmallAllocator>(alloc: A) -> Result<bool, AllocError> {
     let predicate = TargetPredicate::Abi(Abi::new(String::from_str(alloc, "sim")?));
-    let copy = predicate.try_clone(alloc)?;
-    Ok(copy == predicate)
+    let copy = predicate.try_clone(alloc);
+    is_copied_predicate(copy, predicate)
 }
 
 const CALLS: &[&str] = &[
@@ -131,15 +225,15 @@ const CALLS: &[&str] = &[
 ];
 
 // What the call answers.
-fn answer_to(heap: Heap<'_>, call: &str) -> Result<bool, AllocError> {
+fn answer_to<A: SmallAllocator>(alloc: A, call: &str) -> Result<bool, AllocError> {
     match call {
-        "families" => names_families(heap),
-        "copies of families" => copies_families(heap),
-        "widths" => names_widths(heap),
-        "copies of widths" => copies_widths(heap),
-        "copies of faults" => copies_a_fault(heap),
-        "copies of rows" => copies_a_row(heap),
-        _ => copies_a_predicate(heap),
+        "families" => names_families(alloc),
+        "copies of families" => copies_families(alloc),
+        "widths" => names_widths(alloc),
+        "copies of widths" => copies_widths(alloc),
+        "copies of faults" => copies_a_fault(alloc),
+        "copies of rows" => copies_a_row(alloc),
+        _ => copies_a_predicate(alloc),
     }
 }
 
@@ -156,58 +250,79 @@ fn each_growth_of_a_call_on_targets_is_refused(rt: HostRuntime) {
 /// A predicate of these calls.
 type Asked<'h> = TargetPredicate<'static, Heap<'h>>;
 
+// Whether the copy was refused.
+fn was_refused<A: SmallAllocator>(copy: Result<TargetPredicate<'_, A>, AllocError>) -> bool {
+    let was_refused = copy.is_err();
+    drop(copy);
+    was_refused
+}
+
 // Whether the predicate, whose text is borrowed if it has one, is copied with no memory.
 fn is_free<'h>(heap: Heap<'h>, predicate: &Asked<'h>) -> bool {
     heap.refuse(EVERY);
-    match predicate.try_clone(heap) {
-        Ok(copy) => copy == *predicate,
-        Err(_) => false,
-    }
+    is_copy(predicate.try_clone(heap), predicate)
 }
 
-// Whether the borrowed one is, and whether the owned one, of the same text, wants one growth for
-// its copy, stays as it was where that is refused, and is copied where it is not.
-fn may_be_refused<'h>(
-    heap: Heap<'h>,
-    owned: Asked<'h>,
-    borrowed: Asked<'h>,
-) -> Result<bool, AllocError> {
-    let is_free = is_free(heap, &borrowed);
+// The same of one that is given away.
+fn is_free_to_copy<'h>(heap: Heap<'h>, predicate: Asked<'h>) -> bool {
+    let is_free = is_free(heap, &predicate);
+    drop(predicate);
+    is_free
+}
+
+// Whether the owned one, of the same text as the borrowed one, wants one growth for its copy, stays
+// as it was where that is refused, and is copied where it is not.
+fn stays_where_refused<'h>(heap: Heap<'h>, owned: &Asked<'h>, borrowed: &Asked<'h>) -> bool {
     heap.refuse(1);
-    let is_refused = owned.try_clone(heap).is_err() && heap.has_refused();
+    let is_refused = was_refused(owned.try_clone(heap)) && heap.has_refused();
     let stays = owned == borrowed;
-    Ok(is_free && is_refused && stays && owned.try_clone(heap)? == borrowed)
+    is_refused && stays && is_copy(owned.try_clone(heap), borrowed)
+}
+
+// Whether the borrowed one is copied with no memory, and the owned one as above.
+fn may_be_refused<'h>(heap: Heap<'h>, owned: Asked<'h>, borrowed: Asked<'h>) -> bool {
+    let are_copied = is_free(heap, &borrowed) && stays_where_refused(heap, &owned, &borrowed);
+    drop(owned);
+    drop(borrowed);
+    are_copied
 }
 
 const TEXT: &str = "\u{e9}";
 
-// The text in a block of its own, and no refusal ahead.
-fn text(heap: Heap<'_>) -> Result<String<Heap<'_>>, AllocError> {
-    heap.refuse(0);
-    String::from_str(heap, TEXT)
+// A predicate of the kind that owns its text.
+fn owned<'a, A: SmallAllocator>(
+    alloc: A,
+    kind: &str,
+) -> Result<TargetPredicate<'a, A>, AllocError> {
+    let text = String::from_str(alloc, TEXT)?;
+    Ok(match kind {
+        "abi" => TargetPredicate::Abi(Abi::new(text)),
+        "architecture" => TargetPredicate::Arch(Arch::new(text)),
+        "vendor" => TargetPredicate::Vendor(Vendor::new(text)),
+        "system" => TargetPredicate::Os(Os::new(text)),
+        "family" => TargetPredicate::Family(Family::new(text)),
+        "environment" => TargetPredicate::Env(Env::new(text)),
+        _ => TargetPredicate::Panic(Panic::new(text)),
+    })
 }
 
-// A predicate of each kind that has a text.
-macro_rules! of_kind {
-    ($heap:ident, $kind:ident) => {
-        may_be_refused(
-            $heap,
-            TargetPredicate::$kind($kind::new(text($heap)?)),
-            TargetPredicate::$kind($kind::new_const(TEXT)),
-        )
-    };
+// The same with a text that is borrowed.
+fn borrowed<'a, A: SmallAllocator>(kind: &str) -> TargetPredicate<'a, A> {
+    match kind {
+        "abi" => TargetPredicate::Abi(Abi::new_const(TEXT)),
+        "architecture" => TargetPredicate::Arch(Arch::new_const(TEXT)),
+        "vendor" => TargetPredicate::Vendor(Vendor::new_const(TEXT)),
+        "system" => TargetPredicate::Os(Os::new_const(TEXT)),
+        "family" => TargetPredicate::Family(Family::new_const(TEXT)),
+        "environment" => TargetPredicate::Env(Env::new_const(TEXT)),
+        _ => TargetPredicate::Panic(Panic::new_const(TEXT)),
+    }
 }
 
 fn copies_a_text(heap: Heap<'_>, kind: &str) -> Result<bool, AllocError> {
-    match kind {
-        "abi" => of_kind!(heap, Abi),
-        "architecture" => of_kind!(heap, Arch),
-        "vendor" => of_kind!(heap, Vendor),
-        "system" => of_kind!(heap, Os),
-        "family" => of_kind!(heap, Family),
-        "environment" => of_kind!(heap, Env),
-        _ => of_kind!(heap, Panic),
-    }
+    heap.refuse(0);
+    let owned = owned(heap, kind)?;
+    Ok(may_be_refused(heap, owned, borrowed(kind)))
 }
 
 const KINDS: &[&str] = &[
@@ -223,11 +338,41 @@ const KINDS: &[&str] = &[
 // Whether a list of borrowed widths is copied with no memory.
 fn are_free(heap: Heap<'_>) -> bool {
     heap.refuse(EVERY);
-    let widths: HasAtomics<Heap<'_>> = HasAtomics::new_const(UP_TO_128);
-    match widths.try_clone(heap) {
+    copies_borrowed_widths(heap)
+}
+
+fn copies_borrowed_widths<A: SmallAllocator>(alloc: A) -> bool {
+    let widths: HasAtomics<A> = HasAtomics::new_const(UP_TO_128);
+    let copy = widths.try_clone(alloc);
+    drop(widths);
+    match copy {
         Ok(copy) => copy.as_slice() == UP_TO_128,
         Err(_) => false,
     }
+}
+
+// Widths and predicates without a text.
+fn are_free_without_a_text(rt: &impl Abort, heap: Heap<'_>) {
+    let eight = TargetPredicate::HasAtomic(HasAtomic::IntegerSize(8));
+    all_hold(
+        rt,
+        &[
+            ("widths", are_free(heap)),
+            (
+                "big",
+                is_free_to_copy(heap, TargetPredicate::Endian(Endian::big)),
+            ),
+            (
+                "ptr",
+                is_free_to_copy(heap, TargetPredicate::HasAtomic(HasAtomic::Pointer)),
+            ),
+            ("8", is_free_to_copy(heap, eight)),
+            (
+                "64",
+                is_free_to_copy(heap, TargetPredicate::PointerWidth(64)),
+            ),
+        ],
+    );
 }
 
 #[test]
@@ -236,25 +381,7 @@ fn only_an_owned_text_takes_memory(rt: HostRuntime) -> Result<(), Fail> {
     for kind in KINDS {
         assert!(rt; holds(copies_a_text(&heap, kind)), "{kind}");
     }
-    all_hold(
-        &rt,
-        &[
-            ("widths", are_free(&heap)),
-            ("big", is_free(&heap, &TargetPredicate::Endian(Endian::big))),
-            (
-                "ptr",
-                is_free(&heap, &TargetPredicate::HasAtomic(HasAtomic::Pointer)),
-            ),
-            (
-                "8",
-                is_free(
-                    &heap,
-                    &TargetPredicate::HasAtomic(HasAtomic::IntegerSize(8)),
-                ),
-            ),
-            ("64", is_free(&heap, &TargetPredicate::PointerWidth(64))),
-        ],
-    );
+    are_free_without_a_text(&rt, &heap);
     assert!(rt; has_every_block(heap));
     Ok(())
 }
