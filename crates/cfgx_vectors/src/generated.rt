@@ -1,6 +1,8 @@
 //! Ten thousand texts that a generator with fixed seeds makes: tokens in any order, conditions,
 //! damaged conditions, and characters in any order. What is accepted prints, spells and evaluates
 //! as it has to, and what is refused has a fault in the text, which prints.
+//!
+//! What is dear to prove where it goes out of scope is dropped by name.
 pub(crate) mod agreeing;
 mod making;
 mod numbers;
@@ -20,13 +22,25 @@ fn is_printed(alloc: Global, expression: &Expression) -> Result<bool, Failure> {
     Ok(Expression::parse(alloc, printed.as_str())? == *expression)
 }
 
-// Whether this is the one predicate to come.
-fn is_alone(mut predicates: Predicates<'_>, predicate: &Predicate<'_>) -> bool {
-    let is_first = match predicates.next() {
-        Some(first) => first == *predicate,
+// Whether what comes next is this predicate.
+fn is_next(next: Option<Predicate<'_>>, predicate: &Predicate<'_>) -> bool {
+    let is_next = match &next {
+        Some(next) => next == predicate,
         None => false,
     };
-    is_first && predicates.next().is_none()
+    drop(next);
+    is_next
+}
+
+fn is_end(next: Option<Predicate<'_>>) -> bool {
+    let is_end = next.is_none();
+    drop(next);
+    is_end
+}
+
+// Whether this is the one predicate to come.
+fn is_alone(mut predicates: Predicates<'_>, predicate: &Predicate<'_>) -> bool {
+    is_next(predicates.next(), predicate) && is_end(predicates.next())
 }
 
 // Whether the spelling is parsed to this predicate alone.
@@ -47,9 +61,16 @@ fn is_spelled(alloc: Global, predicate: &Predicate<'_>) -> bool {
     spell(predicate, &mut bytes).is_ok() && holds(is_read_alone(alloc, predicate, bytes.as_slice()))
 }
 
+// The same of a predicate that is given away.
+fn has_spelling(alloc: Global, predicate: Predicate<'_>) -> bool {
+    let is_spelled = is_spelled(alloc, &predicate);
+    drop(predicate);
+    is_spelled
+}
+
 fn are_spelled(alloc: Global, predicates: Predicates<'_>) -> bool {
     for predicate in predicates {
-        if !is_spelled(alloc, &predicate) {
+        if !has_spelling(alloc, predicate) {
             return false;
         }
     }

@@ -3,8 +3,8 @@ use crate::auditing::{answer_of, answers_of, audit};
 use crate::deep::{nested, repeated};
 use crate::holding::all_hold;
 use crate::targets::{README, darwin, windows};
-use cfg_expr::expr::Logic;
 use cfg_expr::expr::logic::Kleene64;
+use cfg_expr::expr::{Logic, Predicates};
 use cfg_expr::targets::{Abi, TargetInfo, TargetTable, Triple, Vendor};
 use cfg_expr::{Expression, Predicate, TargetPredicate};
 use std::alloc::{AllocError, Global};
@@ -254,13 +254,31 @@ fn answer_or_true(predicate: &Predicate<'_>, rows: &[TargetInfo<'_>]) -> Kleene6
     }
 }
 
+// The same of a predicate that is given away. It is dropped by name, since what goes out of scope
+// is dear to prove.
+fn answer_to(predicate: Predicate<'_>, rows: &[TargetInfo<'_>]) -> Kleene64 {
+    let answer = answer_or_true(&predicate, rows);
+    drop(predicate);
+    answer
+}
+
+// The answers to all predicates.
+fn answers_or_true(
+    alloc: Global,
+    predicates: Predicates<'_>,
+    rows: &[TargetInfo<'_>],
+) -> Result<Vec<Kleene64>, AllocError> {
+    let mut answers = Vec::new(alloc);
+    for predicate in predicates {
+        answers.push(answer_to(predicate, rows))?;
+    }
+    Ok(answers)
+}
+
 // The value of the expression of the README on the rows.
 fn value_of_readme(alloc: Global, rows: &[TargetInfo<'_>]) -> Result<Kleene64, Fail> {
     let expression = Expression::parse(alloc, README)?;
-    let mut answers = Vec::new(alloc);
-    for predicate in expression.predicates() {
-        answers.push(answer_or_true(&predicate, rows))?;
-    }
+    let answers = answers_or_true(alloc, expression.predicates(), rows)?;
     value_over(alloc, &expression, answers.as_slice())
 }
 
