@@ -10,9 +10,10 @@ mod targets;
 use crate::deep::{Parts, written};
 use crate::faults::{NO_TOKEN, NO_VALUE, NOTHING};
 use crate::refusing::EVERY;
-use crate::turns::{Heap, empty_heap, has_every_block, is_refused_in_turns};
+use crate::turns::{empty_heap, has_every_block, is_refused_in_turns};
 use cfg_expr::Expression;
 use cfg_expr::error::Reason;
+use cfg_expr::memory::SmallAllocator;
 use conditions::{Wanted, is_answer, lexes, uses};
 use runs::is_run_in_turns;
 use std::alloc::{AllocError, Global};
@@ -144,18 +145,18 @@ const LONG: &[(Parts, Wanted, Calls)] = &[
 ];
 
 // What the call answers.
-fn answer_to(
-    heap: Heap<'_>,
+fn answer_to<A: SmallAllocator>(
+    alloc: A,
     call: &str,
     text: &str,
     original: &str,
     wanted: &Wanted,
 ) -> Result<bool, AllocError> {
     match call {
-        "lexer" => lexes(heap, text),
-        "parse" => is_answer(Expression::parse(heap, text), original, wanted),
-        "from_str" => is_answer(Expression::from_str(heap, text), original, wanted),
-        other => uses(heap, other, text, original, wanted),
+        "lexer" => lexes(alloc, text),
+        "parse" => is_answer(Expression::parse(alloc, text), original, wanted),
+        "from_str" => is_answer(Expression::from_str(alloc, text), original, wanted),
+        other => uses(alloc, other, text, original, wanted),
     }
 }
 
@@ -185,18 +186,32 @@ fn is_right_in_turns(
 }
 
 #[test]
-fn each_growth_of_each_call_is_refused(rt: HostRuntime) -> Result<(), Fail> {
+fn each_growth_of_each_call_is_refused(rt: HostRuntime) {
     for (text, original, wanted, calls) in SHORT {
         assert!(rt;
             is_right_in_turns(rt.alloc(), calls, text, original, wanted),
             "{text}"
         );
     }
+}
+
+// The same of the text of these parts.
+fn is_long_in_turns(
+    alloc: Global,
+    calls: &[&str],
+    parts: &Parts,
+    wanted: &Wanted,
+) -> Result<bool, AllocError> {
+    let text = written(alloc, parts)?;
+    let text = text.as_str();
+    Ok(is_right_in_turns(alloc, calls, text, text, wanted))
+}
+
+#[test]
+fn each_growth_of_each_call_on_a_long_text_is_refused(rt: HostRuntime) -> Result<(), Fail> {
     for (parts, wanted, calls) in LONG {
-        let text = written(rt.alloc(), parts)?;
-        let text = text.as_str();
         assert!(rt;
-            is_right_in_turns(rt.alloc(), calls, text, text, wanted),
+            is_long_in_turns(rt.alloc(), calls, parts, wanted)?,
             "{parts:?}"
         );
     }

@@ -100,23 +100,36 @@ const COMMANDS: &[(&[&str], u8)] = &[
 ];
 
 #[test]
-fn each_growth_of_each_run_is_refused(rt: HostRuntime) -> Result<(), Fail> {
+fn each_growth_of_each_run_is_refused(rt: HostRuntime) {
     for (words, status) in COMMANDS {
         assert!(rt;
             is_run_in_turns(rt.alloc(), words, "", None, *status),
             "{words:?}"
         );
     }
+}
+
+#[test]
+fn each_growth_of_each_run_of_pick_is_refused(rt: HostRuntime) {
     for (input, written, status) in KINDS {
         assert!(rt;
             is_run_in_turns(rt.alloc(), &["pick", SIM], input, Some(*written), *status),
             "{input:?}"
         );
     }
+}
+
+#[test]
+fn each_growth_of_a_wide_run_is_refused(rt: HostRuntime) -> Result<(), Fail> {
     let wide = repeated(rt.alloc(), "any(", "a,", 100, ")")?;
     let flag = repeated(rt.alloc(), "?any(", "b,", 100, ")")?;
     let words = ["eval", wide.as_str(), flag.as_str()];
     assert!(rt; is_run_in_turns(rt.alloc(), &words, "", None, 0));
+    Ok(())
+}
+
+#[test]
+fn each_growth_of_a_deep_run_is_refused(rt: HostRuntime) -> Result<(), Fail> {
     let deep = nested(rt.alloc(), "not(", 40, "a")?;
     let words = ["target", "aarch64-apple-tvos", deep.as_str()];
     assert!(rt; is_run_in_turns(rt.alloc(), &words, "", None, 0));
