@@ -176,8 +176,7 @@ fn copies_the_first<A: SmallAllocator>(
 
 fn copies_a_row<A: SmallAllocator>(alloc: A) -> Result<bool, AllocError> {
     let table = TargetTable::builtins(alloc)?;
-    let is_copied = copies_the_first(alloc, table.rows());
-    is_copied
+    copies_the_first(alloc, table.rows())
 }
 
 // Whether the copy is there and equal to the predicate.

@@ -40,16 +40,14 @@ fn read<'h>(heap: Heap<'h>, text: &str) -> Read<Heap<'h>> {
 // Whether the expression of `TEXT` has and prints it.
 fn is_printed<A: SmallAllocator>(alloc: Global, read: Read<A>) -> Result<bool, Fail> {
     let expression = read?;
-    let is_printed = expression.original() == TEXT && prints(alloc, &expression, TEXT);
-    Ok(is_printed)
+    Ok(expression.original() == TEXT && prints(alloc, &expression, TEXT))
 }
 
 // Whether the expressions are equal, and whether their predicates are.
 fn compared<A: SmallAllocator>(one: Read<A>, other: Read<A>) -> Result<(bool, bool), Fail> {
     let one = one?;
     let other = other?;
-    let are_equal = (one == other, ask_the_same(&one, &other));
-    Ok(are_equal)
+    Ok((one == other, ask_the_same(&one, &other)))
 }
 
 // The same of `TEXT` and another text.
@@ -77,8 +75,7 @@ fn are_of_text(mut predicates: Predicates<'_>) -> bool {
 
 fn has_its_predicates<A: SmallAllocator>(read: Read<A>) -> Result<bool, Fail> {
     let expression = read?;
-    let are_its = are_of_text(expression.predicates());
-    Ok(are_its)
+    Ok(are_of_text(expression.predicates()))
 }
 
 pub(super) fn predicates_are_answered(rt: &impl Abort, heap: Heap<'_>) -> Result<(), Fail> {
@@ -111,8 +108,7 @@ fn have_spelling(alloc: Global, predicates: Predicates<'_>, spelling: &[u8]) -> 
 // Whether the predicates of the expression have this spelling.
 fn spells<A: SmallAllocator>(alloc: Global, read: Read<A>, spelling: &[u8]) -> Result<bool, Fail> {
     let expression = read?;
-    let are_spelled = have_spelling(alloc, expression.predicates(), spelling);
-    Ok(are_spelled)
+    Ok(have_spelling(alloc, expression.predicates(), spelling))
 }
 
 pub(super) fn spellings_are_answered(
@@ -169,8 +165,7 @@ fn asks_for_the_fourth<A: SmallAllocator>(
     rows: &[TargetInfo<'_, A>],
 ) -> Result<bool, Fail> {
     let expression = read?;
-    let are_met = are_of_the_fourth(expression.predicates(), rows);
-    Ok(are_met)
+    Ok(are_of_the_fourth(expression.predicates(), rows))
 }
 
 // The same of the rows of a table.
@@ -179,8 +174,7 @@ fn asks_for_its_fourth<A: SmallAllocator>(
     table: Result<TargetTable<'_, A>, AllocError>,
 ) -> Result<bool, Fail> {
     let table = table?;
-    let are_met = asks_for_the_fourth(read, table.rows());
-    are_met
+    asks_for_the_fourth(read, table.rows())
 }
 
 pub(super) fn targets_are_answered(rt: &impl Abort, heap: Heap<'_>) -> Result<(), Fail> {

@@ -206,8 +206,7 @@ type Rows<'a, A> = Result<Vec<TargetInfo<'a, A>, A>, AllocError>;
 // The same of the rows that are built in.
 fn rows<'a, A: SmallAllocator + 'a>(alloc: A, numbers: &[usize]) -> Rows<'a, A> {
     let table = TargetTable::builtins(alloc)?;
-    let rows = copies_of(alloc, table.rows(), numbers);
-    rows
+    copies_of(alloc, table.rows(), numbers)
 }
 
 // The place at which so many rows are refused, all of them given back, or `None` where they are a
