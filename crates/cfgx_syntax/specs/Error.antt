@@ -51,12 +51,16 @@ quoted term = codes "`" ++ term ++ codes "`"
 abbrev pub more_terms_text : List (List ℕ) → List ℕ
 more_terms_text terms = flat_map (λ term. codes ", " ++ quoted term) terms
 
--- what `Unexpected` prints, by the length of its list
+-- what is written before the first term, by those after it
+abbrev pub terms_front : List (List ℕ) → List ℕ
+terms_front [] = codes "expected a "
+terms_front (_ ∷ _) = codes "expected one of "
+
+-- what `Unexpected` prints: that nothing was expected, the one term, or one of several
 abbrev pub unexpected_text : List (List ℕ) → List ℕ
 unexpected_text [] = codes "the term was not expected here"
-unexpected_text (term ∷ []) = codes "expected a " ++ quoted term ++ codes " here"
 unexpected_text (term ∷ others) =
-    codes "expected one of " ++ quoted term ++ more_terms_text others ++ codes " here"
+    terms_front others ++ quoted term ++ more_terms_text others ++ codes " here"
 
 -- what a reason prints
 abbrev pub reason_text : Cause → List ℕ

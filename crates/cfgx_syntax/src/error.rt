@@ -3,8 +3,8 @@
 ghost use Rattle.std.specs.Prelude.{◌≡◌, ◌-◌, ◌<◌, ◌∷◌, ◌++◌, [], Some, codes, map, replicate};
 ghost use Rattle.std.specs.List.{repeat};
 ghost use Rattle.std.specs.Fmt.{DisplaysOnOk};
-ghost use Rattle.cfgx_syntax.specs.Error.{cause_of, marks, more_terms_text, unexpected_text};
-ghost use Rattle.cfgx_syntax.specs.Error.{FailsWith, fault_in, byte_of};
+ghost use Rattle.cfgx_syntax.specs.Error.{cause_of, marks, more_terms_text, quoted, terms_front};
+ghost use Rattle.cfgx_syntax.specs.Error.{unexpected_text, FailsWith, fault_in, byte_of};
 
 use std::alloc::{AllocError, AllocFailed, Allocator, Global};
 use std::fmt;
@@ -117,64 +117,14 @@ impl<T: Drop, A: Allocator> From<AllocFailed<T>> for Failure<A> {
     }
 }
 
-impl fmt::Display for Reason {
-    ghost use Rattle.cfgx_syntax.specs.Error.{cause_of, reason_text};
-
-    ghost output = { λ reason. Some (reason_text (cause_of reason)) };
-
-    fn fmt<W: fmt::Write>(&self, f: &mut fmt::Formatter<W>) -> fmt::Result {
-        match self {
-            Reason::InvalidNot(found) => write!(f, "not() takes 1 predicate, found {found}"),
-            Reason::InvalidCharacters => f.write_str("invalid character(s)"),
-            Reason::UnclosedParens => f.write_str("unclosed parens"),
-            Reason::UnopenedParens => f.write_str("unopened parens"),
-            Reason::UnclosedQuotes => f.write_str("unclosed quotes"),
-            Reason::UnopenedQuotes => f.write_str("unopened quotes"),
-            Reason::Empty => f.write_str("empty expression"),
-            Reason::Unexpected(terms) => write_unexpected(f, terms),
-            Reason::InvalidInteger => f.write_str("invalid integer"),
-            Reason::MultipleRootPredicates => f.write_str("multiple root predicates"),
-            Reason::InvalidHasAtomic => f.write_str("expected integer or \"ptr\""),
-            Reason::UnknownBuiltin => f.write_str("unknown built-in"),
-        }
-    }
-}
-
-// Which terms may stand where another one did.
-fn write_unexpected<W: fmt::Write>(f: &mut fmt::Formatter<W>, terms: &[&str]) -> fmt::Result
-    ensures { DisplaysOnOk W.write_str_gives f.old result
-        (Some (unexpected_text (map (λ t. t.now) terms.now))) f.new }
-{
-    let Some((first, others)) = terms.split_first() else {
-        return f.write_str("the term was not expected here");
-    };
-    let Some((second, others)) = others.split_first() else {
-        return write!(f, "expected a `{first}` here");
-    };
-    write!(f, "expected one of `{first}`, `{second}`")?;
-    write_more_terms(f, others)?;
-    f.write_str(" here")
-}
-
-// Each of the terms between back quotes, behind a comma.
-fn write_more_terms<W: fmt::Write>(f: &mut fmt::Formatter<W>, terms: &[&str]) -> fmt::Result
-    ensures { DisplaysOnOk W.write_str_gives f.old result
-        (Some (more_terms_text (map (λ t. t.now) terms.now))) f.new }
-{
-    for term in terms {
-        write!(f, ", `{term}`")?;
-    }
-    Ok(())
-}
-
-impl<A: Allocator> ParseError<A> {
+impl Reason {
     ghost use Rattle.cfgx_syntax.specs.Error.{cause_of, description_of};
 
-    /// What is wrong, in a few words: the reason's text without its number and its terms.
-    pub fn description(&self) -> &'static str
-        ensures { result.now ≡ description_of (cause_of self.now.reason) }
+    // The reason in a few words, without its number and its terms.
+    fn description(self) -> &'static str
+        ensures { result.now ≡ description_of (cause_of self) }
     {
-        match self.reason {
+        match self {
             Reason::InvalidNot(_) => "not() takes 1 predicate",
             Reason::InvalidCharacters => "invalid character(s)",
             Reason::UnclosedParens => "unclosed parens",
@@ -188,6 +138,77 @@ impl<A: Allocator> ParseError<A> {
             Reason::InvalidHasAtomic => "expected integer or \"ptr\"",
             Reason::UnknownBuiltin => "unknown built-in",
         }
+    }
+}
+
+impl fmt::Display for Reason {
+    ghost use Rattle.cfgx_syntax.specs.Error.{cause_of, reason_text};
+
+    ghost output = { λ reason. Some (reason_text (cause_of reason)) };
+
+    fn fmt<W: fmt::Write>(&self, f: &mut fmt::Formatter<W>) -> fmt::Result {
+        match self {
+            Reason::InvalidNot(found) => write!(f, "not() takes 1 predicate, found {found}"),
+            Reason::Unexpected(terms) => write_unexpected(f, terms),
+            reason => f.write_str(reason.description()),
+        }
+    }
+}
+
+// Which terms may stand where another one did.
+fn write_unexpected<W: fmt::Write>(f: &mut fmt::Formatter<W>, terms: &[&str]) -> fmt::Result
+    ensures { DisplaysOnOk W.write_str_gives f.old result
+        (Some (unexpected_text (map (λ t. t.now) terms.now))) f.new }
+{
+    let Some((first, others)) = terms.split_first() else {
+        return f.write_str("the term was not expected here");
+    };
+    f.write_str(front_of(others))?;
+    write_quoted(f, first)?;
+    write_more_terms(f, others)?;
+    f.write_str(" here")
+}
+
+// What is written before the first term, by those after it.
+fn front_of(others: &[&str]) -> &'static str
+    ensures { result.now ≡ terms_front (map (λ t. t.now) others.now) }
+{
+    if others.is_empty() {
+        "expected a "
+    } else {
+        "expected one of "
+    }
+}
+
+// A term between back quotes.
+fn write_quoted<W: fmt::Write>(f: &mut fmt::Formatter<W>, term: &str) -> fmt::Result
+    ensures { DisplaysOnOk W.write_str_gives f.old result (Some (quoted term.now)) f.new }
+{
+    f.write_str("`")?;
+    f.write_str(term)?;
+    f.write_str("`")
+}
+
+// Each of the terms between back quotes, behind a comma.
+fn write_more_terms<W: fmt::Write>(f: &mut fmt::Formatter<W>, terms: &[&str]) -> fmt::Result
+    ensures { DisplaysOnOk W.write_str_gives f.old result
+        (Some (more_terms_text (map (λ t. t.now) terms.now))) f.new }
+{
+    for term in terms {
+        f.write_str(", ")?;
+        write_quoted(f, term)?;
+    }
+    Ok(())
+}
+
+impl<A: Allocator> ParseError<A> {
+    ghost use Rattle.cfgx_syntax.specs.Error.{cause_of, description_of};
+
+    /// What is wrong, in a few words: the reason's text without its number and its terms.
+    pub fn description(&self) -> &'static str
+        ensures { result.now ≡ description_of (cause_of self.now.reason) }
+    {
+        self.reason.description()
     }
 }
 

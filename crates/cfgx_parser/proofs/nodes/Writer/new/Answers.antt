@@ -1,4 +1,4 @@
-use Rattle.std.proofs.Common.{◌≡◌, refl}
+use Rattle.std.proofs.Common.{refl}
 use Rattle.cfgx_parser.proofs.nodes.Writer.new.Goals as goal
 
 pub returns : goal.returns
