@@ -169,8 +169,12 @@ fn asks(alloc: Global, text: &str) -> Result<bool, Failure> {
     Ok(are_one(expression.predicates(), &typed(text)))
 }
 
-fn are_one(mut predicates: Predicates<'_>, wanted: &Predicate<'_>) -> bool {
-    is_one(&predicates.next(), wanted) && is_next(&mut predicates, 0, None)
+/// Whether this is the one predicate to come.
+pub(crate) fn are_one(mut predicates: Predicates<'_>, wanted: &Predicate<'_>) -> bool {
+    let next = predicates.next();
+    let is_one = is_one(&next, wanted);
+    drop(next);
+    is_one && is_next(&mut predicates, 0, None)
 }
 
 fn is_one(predicate: &Option<Predicate<'_>>, wanted: &Predicate<'_>) -> bool {
@@ -320,7 +324,10 @@ fn is_flag(predicate: &Option<Predicate<'_>>, flag: Option<&str>) -> bool {
 /// Whether there are so many predicates to come, and this flag is the next of them, if one is named
 pub(crate) fn is_next(predicates: &mut Predicates<'_>, left: usize, flag: Option<&str>) -> bool {
     let is_left = predicates.left() == left;
-    is_flag(&predicates.next(), flag) && is_left
+    let next = predicates.next();
+    let is_flag = is_flag(&next, flag);
+    drop(next);
+    is_left && is_flag
 }
 
 /// How many predicates are left before a call, and the flag that it gives, if one is to come.

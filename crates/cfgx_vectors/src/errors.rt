@@ -1,6 +1,6 @@
 //! Printed texts, written out by hand from the rules of the format.
 
-use crate::holding::holds;
+use crate::holding::{gives, holds};
 use cfg_expr::error::{Failure, ParseError, Reason};
 use std::alloc::{AllocError, Global};
 use std::ops::Range;
@@ -209,7 +209,7 @@ fn unopened(alloc: Global, text: &str, span: Range<usize>) -> Result<ParseError,
 // Whether faults at these places of one text are equal.
 fn are_equal(alloc: Global, one: Range<usize>, other: Range<usize>) -> Result<bool, AllocError> {
     let one = unopened(alloc, "a)", one)?;
-    Ok(one == unopened(alloc, "a)", other)?)
+    gives(unopened(alloc, "a)", other), &one)
 }
 
 #[test]

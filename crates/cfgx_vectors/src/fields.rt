@@ -2,7 +2,7 @@
 //! owned text, which gives its error where its one growth is refused; and the clauses mean the
 //! texts, the order and the printing of Rust's `str`.
 
-use crate::holding::{all_hold, holds};
+use crate::holding::{all_hold, gives, holds};
 use crate::refusing::EVERY;
 use crate::turns::{Heap, empty_heap, has_every_block};
 use cfgx_fields::{AbiKind, ArchKind, TripleKind, VendorKind};
@@ -134,16 +134,8 @@ fn each_field_is_a_text(rt: HostRuntime) -> Result<(), Fail> {
     Ok(())
 }
 
-// Whether the copy was made, and is equal to this.
-fn is_equal<T: PartialEq + Drop>(copy: Result<T, AllocError>, wanted: &T) -> bool {
-    match copy {
-        Ok(copy) => copy == *wanted,
-        Err(_) => false,
-    }
-}
-
-// Whether the copy was refused, by the refusal that lay ahead.
-fn is_refused<T: Drop>(copy: Result<T, AllocError>, heap: Heap<'_>) -> bool {
+/// Whether the copy was refused, by the refusal that lay ahead.
+pub(crate) fn is_refused<T: Drop>(copy: Result<T, AllocError>, heap: Heap<'_>) -> bool {
     copy.is_err() && heap.has_refused()
 }
 
@@ -151,13 +143,13 @@ fn is_refused<T: Drop>(copy: Result<T, AllocError>, heap: Heap<'_>) -> bool {
 // text with one growth; where that is refused, so is the copy, and the field stays.
 macro_rules! are_copied {
     ($borrowed:ident, $owned:ident, $heap:ident) => {{
-        let is_free = is_equal($borrowed.try_clone($heap), $borrowed);
+        let is_free = holds(gives($borrowed.try_clone($heap), $borrowed));
         $heap.refuse(1);
         let is_refused = is_refused($owned.try_clone($heap), $heap);
         let stays = $owned == $borrowed;
         $heap.refuse(2);
-        let is_equal = is_equal($owned.try_clone($heap), $borrowed);
-        is_free && is_refused && stays && is_equal && !$heap.has_refused()
+        let is_copied = holds(gives($owned.try_clone($heap), $borrowed));
+        is_free && is_refused && stays && is_copied && !$heap.has_refused()
     }};
 }
 

@@ -7,6 +7,7 @@ pub(crate) mod agreeing;
 mod making;
 mod numbers;
 
+use crate::accepted::are_one;
 use crate::holding::holds;
 use agreeing::agrees_in_each_lane;
 use cfg_expr::error::{Failure, ParseError};
@@ -22,27 +23,6 @@ fn is_printed(alloc: Global, expression: &Expression) -> Result<bool, Failure> {
     Ok(Expression::parse(alloc, printed.as_str())? == *expression)
 }
 
-// Whether what comes next is this predicate.
-fn is_next(next: Option<Predicate<'_>>, predicate: &Predicate<'_>) -> bool {
-    let is_next = match &next {
-        Some(next) => next == predicate,
-        None => false,
-    };
-    drop(next);
-    is_next
-}
-
-fn is_end(next: Option<Predicate<'_>>) -> bool {
-    let is_end = next.is_none();
-    drop(next);
-    is_end
-}
-
-// Whether this is the one predicate to come.
-fn is_alone(mut predicates: Predicates<'_>, predicate: &Predicate<'_>) -> bool {
-    is_next(predicates.next(), predicate) && is_end(predicates.next())
-}
-
 // Whether the spelling is parsed to this predicate alone.
 fn is_read_alone(
     alloc: Global,
@@ -53,7 +33,7 @@ fn is_read_alone(
         return Ok(false);
     };
     let expression = Expression::parse(alloc, text)?;
-    Ok(is_alone(expression.predicates(), predicate))
+    Ok(are_one(expression.predicates(), predicate))
 }
 
 fn is_spelled(alloc: Global, predicate: &Predicate<'_>) -> bool {
@@ -96,7 +76,7 @@ fn is_fault(alloc: Global, error: &ParseError, text: &str) -> Result<bool, Alloc
 }
 
 /// What a text is.
-#[derive(Clone, Copy, PartialEq)]
+#[derive(Clone, Copy)]
 enum Seen {
     /// It is accepted, and asks so many predicates.
     Accepted(usize),

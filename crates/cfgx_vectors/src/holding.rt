@@ -11,6 +11,16 @@ pub(crate) fn holds<E: Drop>(answer: Result<bool, E>) -> bool {
     }
 }
 
+/// Whether this is the value, if there is no error.
+///
+/// What is dear to let go is so where its type is known. Here it is not.
+pub(crate) fn gives<T: PartialEq + Drop, E: Drop>(
+    answer: Result<T, E>,
+    wanted: &T,
+) -> Result<bool, E> {
+    Ok(answer? == *wanted)
+}
+
 /// Asserts each of some checks, which have names.
 pub(crate) fn all_hold(rt: &impl Abort, checks: &[(&str, bool)]) {
     for (name, is_held) in checks {

@@ -57,21 +57,24 @@ fn values_are_read(rt: HostRuntime) {
             ("Big", read_endian("Big").is_none()),
             ("ptr", read_has_atomic("ptr") == Some(HasAtomic::Pointer)),
             ("little", Endian::from_str("little") == Ok(Endian::little)),
-            (
-                "x and x",
-                HasAtomic::read(alloc, "x") == HasAtomic::read(alloc, "x"),
-            ),
-            (
-                "x and y",
-                HasAtomic::read(alloc, "x") != HasAtomic::read(alloc, "y"),
-            ),
-            (
-                "8",
-                HasAtomic::read(alloc, "8") == Ok(HasAtomic::IntegerSize(8)),
-            ),
+            ("x and x", are_read_alike(alloc, "x", "x")),
+            ("x and y", are_read_apart(alloc, "x", "y")),
+            ("8", is_eight(alloc, "8")),
             ("no width", is_no_width(alloc, "")),
         ],
     );
+}
+
+fn are_read_alike(alloc: Global, one: &str, other: &str) -> bool {
+    HasAtomic::read(alloc, one) == HasAtomic::read(alloc, other)
+}
+
+fn are_read_apart(alloc: Global, one: &str, other: &str) -> bool {
+    HasAtomic::read(alloc, one) != HasAtomic::read(alloc, other)
+}
+
+fn is_eight(alloc: Global, text: &str) -> bool {
+    HasAtomic::read(alloc, text) == Ok(HasAtomic::IntegerSize(8))
 }
 
 fn is_no_width(alloc: Global, text: &str) -> bool {

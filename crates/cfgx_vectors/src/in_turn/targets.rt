@@ -1,7 +1,8 @@
 //! Calls on targets that take memory, or need none where a text is borrowed.
 //!
 //! What is dear to prove where it goes out of scope is dropped by name.
-use crate::holding::{all_hold, holds};
+use crate::fields::is_refused;
+use crate::holding::{all_hold, gives, holds};
 use crate::refusing::EVERY;
 use crate::turns::{Heap, empty_heap, has_every_block, is_refused_in_turns};
 use cfg_expr::TargetPredicate;
@@ -136,31 +137,14 @@ fn no_width<A: SmallAllocator>(alloc: A) -> Result<Option<HasAtomicParseError<A>
     }
 }
 
-// Whether the copy is equal to the fault.
-fn copies_the_fault<A: SmallAllocator>(
-    alloc: A,
-    error: &HasAtomicParseError<A>,
-) -> Result<bool, AllocError> {
-    let copy = error.try_clone(alloc)?;
-    let is_equal = copy == *error;
-    drop(copy);
-    Ok(is_equal)
-}
-
 fn copies_a_fault<A: SmallAllocator>(alloc: A) -> Result<bool, AllocError> {
     let error = no_width(alloc)?;
     let is_copied = match &error {
-        Some(error) => copies_the_fault(alloc, error),
+        Some(error) => gives(error.try_clone(alloc), error),
         None => Ok(false),
     };
     drop(error);
     is_copied
-}
-
-fn is_row<A: SmallAllocator>(copy: TargetInfo<'_, A>, row: &TargetInfo<'_, A>) -> bool {
-    let is_equal = copy == *row;
-    drop(copy);
-    is_equal
 }
 
 // Whether the copy of the first of five rows is equal to it.
@@ -169,7 +153,7 @@ fn copies_the_first<A: SmallAllocator>(
     rows: &[TargetInfo<'_, A>],
 ) -> Result<bool, AllocError> {
     match rows {
-        [row, _, _, _, _] => Ok(is_row(row.try_clone(alloc)?, row)),
+        [row, _, _, _, _] => gives(row.try_clone(alloc), row),
         _ => Ok(false),
     }
 }
@@ -179,38 +163,11 @@ fn copies_a_row<A: SmallAllocator>(alloc: A) -> Result<bool, AllocError> {
     copies_the_first(alloc, table.rows())
 }
 
-// Whether the copy is there and equal to the predicate.
-fn is_copy<A: SmallAllocator>(
-    copy: Result<TargetPredicate<'_, A>, AllocError>,
-    predicate: &TargetPredicate<'_, A>,
-) -> bool {
-    let is_copy = match &copy {
-        Ok(copy) => *copy == *predicate,
-        Err(_) => false,
-    };
-    drop(copy);
-    is_copy
-}
-
-// The same, where want of memory is an error.
-fn is_copied_predicate<A: SmallAllocator>(
-    copy: Result<TargetPredicate<'_, A>, AllocError>,
-    predicate: TargetPredicate<'_, A>,
-) -> Result<bool, AllocError> {
-    let is_refused = copy.is_err();
-    let is_copy = is_copy(copy, &predicate);
-    drop(predicate);
-    if is_refused {
-        Err(AllocError)
-    } else {
-        Ok(is_copy)
-    }
-}
-
 fn copies_a_predicate<A: SmallAllocator>(alloc: A) -> Result<bool, AllocError> {
     let predicate = TargetPredicate::Abi(Abi::new(String::from_str(alloc, "sim")?));
-    let copy = predicate.try_clone(alloc);
-    is_copied_predicate(copy, predicate)
+    let is_copied = gives(predicate.try_clone(alloc), &predicate);
+    drop(predicate);
+    is_copied
 }
 
 const CALLS: &[&str] = &[
@@ -249,17 +206,10 @@ fn each_growth_of_a_call_on_targets_is_refused(rt: HostRuntime) {
 /// A predicate of these calls.
 type Asked<'h> = TargetPredicate<'static, Heap<'h>>;
 
-// Whether the copy was refused.
-fn was_refused<A: SmallAllocator>(copy: Result<TargetPredicate<'_, A>, AllocError>) -> bool {
-    let was_refused = copy.is_err();
-    drop(copy);
-    was_refused
-}
-
 // Whether the predicate, whose text is borrowed if it has one, is copied with no memory.
 fn is_free<'h>(heap: Heap<'h>, predicate: &Asked<'h>) -> bool {
     heap.refuse(EVERY);
-    is_copy(predicate.try_clone(heap), predicate)
+    holds(gives(predicate.try_clone(heap), predicate))
 }
 
 // The same of one that is given away.
@@ -273,20 +223,37 @@ fn is_free_to_copy<'h>(heap: Heap<'h>, predicate: Asked<'h>) -> bool {
 // as it was where that is refused, and is copied where it is not.
 fn stays_where_refused<'h>(heap: Heap<'h>, owned: &Asked<'h>, borrowed: &Asked<'h>) -> bool {
     heap.refuse(1);
-    let is_refused = was_refused(owned.try_clone(heap)) && heap.has_refused();
+    let is_refused = is_refused(owned.try_clone(heap), heap);
     let stays = owned == borrowed;
-    is_refused && stays && is_copy(owned.try_clone(heap), borrowed)
+    let is_copied = holds(gives(owned.try_clone(heap), borrowed));
+    is_refused && stays && is_copied
 }
 
 // Whether the borrowed one is copied with no memory, and the owned one as above.
 fn may_be_refused<'h>(heap: Heap<'h>, owned: Asked<'h>, borrowed: Asked<'h>) -> bool {
-    let are_copied = is_free(heap, &borrowed) && stays_where_refused(heap, &owned, &borrowed);
+    let is_free = is_free(heap, &borrowed);
+    let stays = stays_where_refused(heap, &owned, &borrowed);
     drop(owned);
     drop(borrowed);
-    are_copied
+    is_free && stays
 }
 
 const TEXT: &str = "\u{e9}";
+
+// The predicate of the kind with this text, which the constructor makes a field.
+macro_rules! of_kind {
+    ($kind:ident, $new:ident, $text:ident) => {
+        match $kind {
+            "abi" => TargetPredicate::Abi(Abi::$new($text)),
+            "architecture" => TargetPredicate::Arch(Arch::$new($text)),
+            "vendor" => TargetPredicate::Vendor(Vendor::$new($text)),
+            "system" => TargetPredicate::Os(Os::$new($text)),
+            "family" => TargetPredicate::Family(Family::$new($text)),
+            "environment" => TargetPredicate::Env(Env::$new($text)),
+            _ => TargetPredicate::Panic(Panic::$new($text)),
+        }
+    };
+}
 
 // A predicate of the kind that owns its text.
 fn owned<'a, A: SmallAllocator>(
@@ -294,28 +261,12 @@ fn owned<'a, A: SmallAllocator>(
     kind: &str,
 ) -> Result<TargetPredicate<'a, A>, AllocError> {
     let text = String::from_str(alloc, TEXT)?;
-    Ok(match kind {
-        "abi" => TargetPredicate::Abi(Abi::new(text)),
-        "architecture" => TargetPredicate::Arch(Arch::new(text)),
-        "vendor" => TargetPredicate::Vendor(Vendor::new(text)),
-        "system" => TargetPredicate::Os(Os::new(text)),
-        "family" => TargetPredicate::Family(Family::new(text)),
-        "environment" => TargetPredicate::Env(Env::new(text)),
-        _ => TargetPredicate::Panic(Panic::new(text)),
-    })
+    Ok(of_kind!(kind, new, text))
 }
 
 // The same with a text that is borrowed.
 fn borrowed<'a, A: SmallAllocator>(kind: &str) -> TargetPredicate<'a, A> {
-    match kind {
-        "abi" => TargetPredicate::Abi(Abi::new_const(TEXT)),
-        "architecture" => TargetPredicate::Arch(Arch::new_const(TEXT)),
-        "vendor" => TargetPredicate::Vendor(Vendor::new_const(TEXT)),
-        "system" => TargetPredicate::Os(Os::new_const(TEXT)),
-        "family" => TargetPredicate::Family(Family::new_const(TEXT)),
-        "environment" => TargetPredicate::Env(Env::new_const(TEXT)),
-        _ => TargetPredicate::Panic(Panic::new_const(TEXT)),
-    }
+    of_kind!(kind, new_const, TEXT)
 }
 
 fn copies_a_text(heap: Heap<'_>, kind: &str) -> Result<bool, AllocError> {

@@ -1,6 +1,6 @@
 //! Byte orders, widths, lists, rows and tables.
 use crate::fields::hash_of;
-use crate::holding::{all_hold, prints};
+use crate::holding::{all_hold, gives, holds, prints};
 use crate::refusing::EVERY;
 use crate::turns::Heap;
 use cfg_expr::error::Reason;
@@ -67,10 +67,13 @@ fn are_widths<A: SmallAllocator>(rt: &impl Abort, alloc: Global, refusing: A) {
         &[
             ("what is sorted", HasAtomics::<Global>::is_sorted(SORTED)),
             ("what is not", !HasAtomics::<Global>::is_sorted(UNSORTED)),
-            ("a number", HasAtomic::read(refusing, "+08") == Ok(EIGHT)),
+            (
+                "a number",
+                holds(gives(HasAtomic::read(refusing, "+08"), &EIGHT)),
+            ),
             (
                 "ptr",
-                HasAtomic::read(refusing, "ptr") == Ok(HasAtomic::Pointer),
+                holds(gives(HasAtomic::read(refusing, "ptr"), &HasAtomic::Pointer)),
             ),
             (
                 "display of 65535",
