@@ -7,7 +7,6 @@ use crate::atomic::HasAtomic;
 use crate::endian::Endian;
 use crate::info::TargetInfo;
 use crate::list::SortedList;
-use crate::owning::{both, one, push, two};
 use crate::table::TargetTable;
 use cfgx_fields::{Abi, Arch, Triple, Vendor};
 use cfgx_places::{Env, Family, Os, Panic};
@@ -29,7 +28,8 @@ impl<'a, A: Allocator> SortedList<'a, Family<'a, A>, A> {
     pub fn unix_wasm(alloc: A) -> Result<Self, AllocError>
         ensures { IfOk result (λ list. list ≡ codes "unix" ∷ codes "wasm" ∷ []) }
     {
-        let families = two(alloc, Family::unix(), Family::wasm())?;
+        let mut families = one(alloc, Family::unix())?;
+        families.push(Family::wasm())?;
         Ok(SortedList::from_sorted(families))
     }
 
@@ -58,6 +58,15 @@ impl<'a, A: Allocator> SortedList<'a, Family<'a, A>, A> {
         let families = one(alloc, family)?;
         Ok(SortedList::from_sorted(families))
     }
+}
+
+// A vector of this one item, in memory of `alloc`.
+fn one<T: Drop, A: Allocator>(alloc: A, item: T) -> Result<Vec<T, A>, AllocError>
+    ensures { IfOk result (λ items. items.items ≡ item ∷ []) }
+{
+    let mut items = Vec::new(alloc);
+    items.push(item)?;
+    Ok(items)
 }
 
 impl<'a, A: Allocator> SortedList<'a, HasAtomic, A> {
@@ -148,24 +157,12 @@ fn rows<'a, A: Allocator + Copy>(alloc: A) -> Result<Vec<TargetInfo<'a, A>, A>, 
     ensures { IfOk result (λ rows. rows.items ≡ builtin_rows) }
 {
     let mut rows: Vec<TargetInfo<'a, A>, A> = Vec::with_capacity(alloc, 5)?;
-    push_rows(&mut rows, alloc)?;
+    push_apple(&mut rows, alloc, DARWIN, "macos", None)?;
+    push_apple(&mut rows, alloc, IOS, "ios", None)?;
+    push_apple(&mut rows, alloc, MACABI, "ios", Some("macabi"))?;
+    push_apple(&mut rows, alloc, SIM, "ios", Some("sim"))?;
+    push_apple(&mut rows, alloc, TVOS, "tvos", None)?;
     Ok(rows)
-}
-
-// Adds them to a vector that is empty.
-fn push_rows<'a, A: Allocator + Copy>(
-    rows: &mut Vec<TargetInfo<'a, A>, A>,
-    alloc: A,
-) -> Result<(), AllocError>
-    requires { rows.old.items ≡ [] }
-    ensures { OnOk result (rows.new.items ≡ builtin_rows) }
-{
-    push_apple(rows, alloc, DARWIN, "macos", None)?;
-    push_apple(rows, alloc, IOS, "ios", None)?;
-    push_apple(rows, alloc, MACABI, "ios", Some("macabi"))?;
-    push_apple(rows, alloc, SIM, "ios", Some("sim"))?;
-    push_apple(rows, alloc, TVOS, "tvos", None)?;
-    Ok(())
 }
 
 // Adds a target of Apple's with this triple and operating system. The variant, where there is one,
@@ -180,28 +177,24 @@ fn push_apple<'a, A: Allocator + Copy>(
     ensures { OnOk result (rows.new.items ≡ rows.old.items ++ apple_row
         triple.now os.now (option_copied variant.entry) (option_copied variant.entry) ∷ []) }
 {
-    let (families, has_atomics) = both(
-        SortedList::unix(alloc)?,
-        SortedList::atomic_8_16_32_64_128_ptr(alloc),
-    )?;
+    let families = SortedList::unix(alloc)?;
+    let has_atomics = SortedList::atomic_8_16_32_64_128_ptr(alloc)?;
     let (abi, env) = match variant {
         Some(name) => (Some(Abi::new_const(name)), Some(Env::new_const(name))),
         None => (None, None),
     };
-    push(
-        rows,
-        TargetInfo {
-            triple: Triple::new_const(triple),
-            os: Some(Os::new_const(os)),
-            abi,
-            arch: Arch::aarch64(),
-            env,
-            vendor: Some(Vendor::apple()),
-            families,
-            pointer_width: 64,
-            endian: Endian::little,
-            has_atomics,
-            panic: Panic::unwind(),
-        },
-    )
+    rows.push(TargetInfo {
+        triple: Triple::new_const(triple),
+        os: Some(Os::new_const(os)),
+        abi,
+        arch: Arch::aarch64(),
+        env,
+        vendor: Some(Vendor::apple()),
+        families,
+        pointer_width: 64,
+        endian: Endian::little,
+        has_atomics,
+        panic: Panic::unwind(),
+    })?;
+    Ok(())
 }

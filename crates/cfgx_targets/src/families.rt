@@ -4,7 +4,6 @@ ghost use Rattle.std.specs.Prelude.{◌≡◌, ◌↔◌, ◌∷◌, ◌++◌, [
 ghost use Rattle.std.specs.Prelude.{OnOk};
 
 use crate::list::{Member, SortedList, are_sorted};
-use crate::owning::push;
 use cfgx_places::Family;
 use std::alloc::{AllocError, Allocator, Global};
 use std::borrow::CowSlice;
@@ -83,5 +82,7 @@ fn push_copy<'a, A: Allocator + Copy>(
 ) -> Result<(), AllocError>
     ensures { OnOk result (copies.new.items ≡ copies.old.items ++ family.now ∷ []) }
 {
-    push(copies, family.try_clone(alloc)?)
+    let copy = family.try_clone(alloc)?;
+    copies.push(copy)?;
+    Ok(())
 }

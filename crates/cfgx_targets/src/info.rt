@@ -5,7 +5,6 @@ ghost use Rattle.std.specs.Prelude.{◌≡◌, IfOk};
 use crate::atomics::HasAtomics;
 use crate::endian::Endian;
 use crate::families::Families;
-use crate::owning::both;
 use cfgx_fields::{Abi, Arch, Field, Triple, Vendor};
 use cfgx_places::{Env, Field as Place, Os, Panic};
 use std::alloc::{AllocError, Allocator, Global};
@@ -68,14 +67,14 @@ fn copied_place<'a, K, A: Allocator>(
     }
 }
 
-// The triple and the architecture, and the vendor.
-type Names<'a, A> = ((Triple<'a, A>, Arch<'a, A>), Option<Vendor<'a, A>>);
+// The triple, the architecture and the vendor.
+type Names<'a, A> = (Triple<'a, A>, Arch<'a, A>, Option<Vendor<'a, A>>);
 
-// The operating system and the ABI, and the environment.
-type Places<'a, A> = ((Option<Os<'a, A>>, Option<Abi<'a, A>>), Option<Env<'a, A>>);
+// The operating system, the ABI and the environment.
+type Places<'a, A> = (Option<Os<'a, A>>, Option<Abi<'a, A>>, Option<Env<'a, A>>);
 
-// The families and the widths of atomics, and the panic strategy.
-type Lists<'a, A> = ((Families<'a, A>, HasAtomics<A>), Panic<'a, A>);
+// The families, the widths of atomics and the panic strategy.
+type Lists<'a, A> = (Families<'a, A>, HasAtomics<A>, Panic<'a, A>);
 
 impl<'a, A: Allocator + Copy> TargetInfo<'a, A> {
     /// A target equal to this one. What is borrowed is borrowed again and takes no memory; what is
@@ -85,10 +84,9 @@ impl<'a, A: Allocator + Copy> TargetInfo<'a, A> {
     pub fn try_clone(&self, alloc: A) -> Result<Self, AllocError>
         ensures { IfOk result (λ copy. copy ≡ self.now) }
     {
-        let names = both(self.copied_names(alloc)?, self.copied_places(alloc))?;
-        let (names_and_places, lists) = both(names, self.copied_lists(alloc))?;
-        let (((triple, arch), vendor), ((os, abi), env)) = names_and_places;
-        let ((families, has_atomics), panic) = lists;
+        let (triple, arch, vendor) = self.copied_names(alloc)?;
+        let (os, abi, env) = self.copied_places(alloc)?;
+        let (families, has_atomics, panic) = self.copied_lists(alloc)?;
         Ok(TargetInfo {
             triple,
             os,
@@ -103,33 +101,33 @@ impl<'a, A: Allocator + Copy> TargetInfo<'a, A> {
             panic,
         })
     }
+}
 
+// In three groups: on each way out of a function the checker goes over all that is owned there, so
+// one function that copies every field takes it far longer.
+impl<'a, A: Allocator + Copy> TargetInfo<'a, A> {
     fn copied_names(&self, alloc: A) -> Result<Names<'a, A>, AllocError>
-        ensures { IfOk result
-            (λ copy. copy ≡ ((self.now.triple, self.now.arch), self.now.vendor)) }
+        ensures { IfOk result (λ copy. copy ≡ (self.now.triple, self.now.arch, self.now.vendor)) }
     {
-        let names = both(self.triple.try_clone(alloc)?, self.arch.try_clone(alloc))?;
-        both(names, copied_field(&self.vendor, alloc))
+        let triple = self.triple.try_clone(alloc)?;
+        let arch = self.arch.try_clone(alloc)?;
+        Ok((triple, arch, copied_field(&self.vendor, alloc)?))
     }
 
     fn copied_places(&self, alloc: A) -> Result<Places<'a, A>, AllocError>
-        ensures { IfOk result (λ copy. copy ≡ ((self.now.os, self.now.abi), self.now.env)) }
+        ensures { IfOk result (λ copy. copy ≡ (self.now.os, self.now.abi, self.now.env)) }
     {
-        let places = both(
-            copied_place(&self.os, alloc)?,
-            copied_field(&self.abi, alloc),
-        )?;
-        both(places, copied_place(&self.env, alloc))
+        let os = copied_place(&self.os, alloc)?;
+        let abi = copied_field(&self.abi, alloc)?;
+        Ok((os, abi, copied_place(&self.env, alloc)?))
     }
 
     fn copied_lists(&self, alloc: A) -> Result<Lists<'a, A>, AllocError>
         ensures { IfOk result
-            (λ copy. copy ≡ ((self.now.families, self.now.has_atomics), self.now.panic)) }
+            (λ copy. copy ≡ (self.now.families, self.now.has_atomics, self.now.panic)) }
     {
-        let lists = both(
-            self.families.try_clone(alloc)?,
-            self.has_atomics.try_clone(alloc),
-        )?;
-        both(lists, self.panic.try_clone(alloc))
+        let families = self.families.try_clone(alloc)?;
+        let has_atomics = self.has_atomics.try_clone(alloc)?;
+        Ok((families, has_atomics, self.panic.try_clone(alloc)?))
     }
 }

@@ -10,6 +10,5 @@ pub mod families;
 pub mod info;
 mod laws;
 pub mod list;
-mod owning;
 pub mod reading;
 pub mod table;
