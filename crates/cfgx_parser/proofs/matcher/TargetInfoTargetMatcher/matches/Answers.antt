@@ -1,3 +1,4 @@
+use Rattle.std.proofs.Common.{rules}
 use Rattle.std.proofs.lemmas.Bool.Decides.{same_from_decides}
 use Rattle.std.proofs.lemmas.Map.Made.{is_member-Decides}
 use Rattle.std.proofs.lemmas.Slice.Eq.{bytes_eq-Decides}
@@ -14,3 +15,6 @@ returns-in-HasAtomic g c =
     rw c.in-HasAtomic.is
     (same_from_decides _ _ c.contains-in-HasAtomic.ensures
     (is_member-Decides is_same_width-Decides _ _))
+
+pub returns-in-Os : goal.returns-in-Os
+returns-in-Os g c = search rules

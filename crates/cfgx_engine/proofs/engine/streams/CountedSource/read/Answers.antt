@@ -1,0 +1,6 @@
+-- A failed read is counted.
+use Rattle.std.proofs.Common.{rules}
+use Rattle.cfgx_engine.proofs.engine.streams.CountedSource.read.Goals as goal
+
+pub returns-then-is_err-clause-count : goal.returns-then-is_err-clause-count
+returns-then-is_err-clause-count g c = search rules

@@ -1,0 +1,6 @@
+-- Nothing is known of what is not on the target.
+use Rattle.std.proofs.Common.{rules}
+use Rattle.cfgx_engine.proofs.resolve.answer_by.Goals as goal
+
+pub returns-in_default : goal.returns-in_default
+returns-in_default g c = search rules

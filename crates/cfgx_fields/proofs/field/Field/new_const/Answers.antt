@@ -1,0 +1,6 @@
+-- The text is kept.
+use Rattle.std.proofs.Common.{rules}
+use Rattle.cfgx_fields.proofs.field.Field.new_const.Goals as goal
+
+pub returns : goal.returns
+returns g c = search rules

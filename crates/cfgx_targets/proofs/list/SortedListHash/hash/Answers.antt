@@ -1,0 +1,6 @@
+-- The members are fed.
+use Rattle.std.proofs.Common.{rules}
+use Rattle.cfgx_targets.proofs.list.SortedListHash.hash.Goals as goal
+
+pub returns : goal.returns
+returns g c = search rules

@@ -1,0 +1,6 @@
+-- Lists are ordered by their members.
+use Rattle.std.proofs.Common.{rules}
+use Rattle.cfgx_targets.proofs.list.SortedListOrd.cmp.Goals as goal
+
+pub returns : goal.returns
+returns g c = search rules

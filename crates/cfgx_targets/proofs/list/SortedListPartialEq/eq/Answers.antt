@@ -1,0 +1,6 @@
+-- Lists are compared by their members.
+use Rattle.std.proofs.Common.{rules}
+use Rattle.cfgx_targets.proofs.list.SortedListPartialEq.eq.Goals as goal
+
+pub returns : goal.returns
+returns g c = search rules
