@@ -61,8 +61,7 @@ pub Joins-next : {T : Type 0} (join : T → T → T) (functions : Bool) (begin :
     (new_one otherwise : Member T) (place : ℕ) → place < length old
     → Joins join functions begin old value left (place + 1) members
     → next ≡ join_value join value (value_in functions (get_or members place otherwise))
-    → new_one ≡ taken functions (get_or members place otherwise)
-    → held ≡ is_held new_one
+    → new_one ≡ taken functions (get_or members place otherwise) → held ≡ is_held new_one
     → Joins join functions begin old next (left || held) place (set members place new_one)
 Joins-next join functions begin old members value next left held new_one otherwise place inside
     joins is same held_is =

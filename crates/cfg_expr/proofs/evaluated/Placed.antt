@@ -124,7 +124,6 @@ read-placed {T = T} logic tree answers nodes shapes many =
     ≡ slots (prefix given) = rw (count, places-shape tree given same)
     (ap (with_answers _ (places 0 given)) (sym (asked-answered logic.top tree answers many))
     ∙ placed given) in
-    rw (put, shapes, shapes-shape tree given same) (rw (
-      append-nil (map shape_of (prefix given)),
-      append-nil (slots (prefix given)),
-    ) at (read-tree logic given [] []))
+    let ends = rw (append-nil (map shape_of (prefix given)), append-nil (slots (prefix given)))
+    at (read-tree logic given [] []) in
+    rw (put, shapes, shapes-shape tree given same) ends

@@ -96,8 +96,7 @@ pub record Reading {T : Type 0} (logic : Operations T) (shapes : List Shape)
 
 pub Reading-next : {T : Type 0} {logic : Operations T} (shapes : List Shape)
     {old slots new : List (Member T)} {stack next : Stack T} (place : ℕ) (otherwise : Member T)
-    → place < length shapes → place < length old
-    → Reading logic shapes old (place + 1) stack slots
+    → place < length shapes → place < length old → Reading logic shapes old (place + 1) stack slots
     → stack_of next new ≡ put logic (get_or shapes place Shape.predicate)
     (get_or slots place otherwise) (stack_of stack slots)
     → take place new ≡ take place slots

@@ -1,3 +1,4 @@
+use Rattle.std.proofs.Common.{rules}
 use Rattle.cfgx_engine.specs.Answer.{output_of}
 use Rattle.cfgx_engine.specs.Request.{request_of, texts}
 use Rattle.cfgx_engine.proofs.OneOutput.{Prints-decided}
@@ -8,3 +9,6 @@ write_answer-requires-clause-status g c =
     let prints = c.in-Ok.ensures.right in
     let shown = output_of {A = g.row.A.Denot} c.in-Ok.answer in
     (Prints-decided (request_of (texts c.args.words.now)) prints.0 shown shown prints.2 prints.2).1
+
+pub returns-in-Err-clause-refused : goal.returns-in-Err-clause-refused
+returns-in-Err-clause-refused g c = search rules

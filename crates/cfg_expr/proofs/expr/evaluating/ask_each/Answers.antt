@@ -19,8 +19,7 @@ ask-answer-requires g c =
     let asks = c.predicates-predicate-items.ensures.asked in
     let all = c.into_iter-predicate-iterator.ensures.into_iter_gives ∙ asks.1 in
     Asking-may c.loop-predicate.invariant c.in-Some.ensures.steps
-    (subst (MayAskEach g.EP.FnMut c.args.ep.now) (sym all)
-    (c.requires asks.0.tree asks.0.has_tree))
+    (subst (MayAskEach g.EP.FnMut c.args.ep.now) (sym all) (c.requires asks.0.tree asks.0.has_tree))
 
 pub loop-predicate-preserved : goal.loop-predicate-preserved
 loop-predicate-preserved g c =
@@ -30,11 +29,9 @@ loop-predicate-preserved g c =
 pub returns : goal.returns
 returns g c =
     let asks = c.predicates-predicate-items.ensures.asked in
-    let found = c.places.ensures in (
-      asks.0,
-      Asking-over c.loop-predicate.invariant asks.0.tree
-          (c.into_iter-predicate-iterator.ensures.into_iter_gives ∙ asks.1)
-          (c.iter-places.ensures.rest ∙ found.1
-          ∙ ap (places 0) (asks.0.only found.0.tree found.0.has_tree))
-          c.in-None.ensures.steps.0,
-    )
+    let found = c.places.ensures in
+    let over = Asking-over c.loop-predicate.invariant asks.0.tree
+    (c.into_iter-predicate-iterator.ensures.into_iter_gives ∙ asks.1)
+    (c.iter-places.ensures.rest ∙ found.1
+    ∙ ap (places 0) (asks.0.only found.0.tree found.0.has_tree)) c.in-None.ensures.steps.0 in
+    (asks.0, over)

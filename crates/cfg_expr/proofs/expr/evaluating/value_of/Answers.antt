@@ -9,8 +9,7 @@ pub ask_each-requires : goal.ask_each-requires
 ask_each-requires g c = c.requires
 
 pub read_value-requires : goal.read_value-requires
-read_value-requires g c =
-    c.ask_each.auto.slots ∙ (ap length c.as_mut_slice-slots.ensures.value
+read_value-requires g c = c.ask_each.auto.slots ∙ (ap length c.as_mut_slice-slots.ensures.value
     ∙ (ap length c.in_ok-answers.ensures.slots ∙ length-replicate _ _))
 
 pub returns-clause-value : goal.returns-clause-value
@@ -24,6 +23,5 @@ returns-clause-value g c =
       calls = ends.calls;
       value_is = c.read_value.ensures one.tree ends.answers
           (shapes-kept c.nodes-nodes.result.now c.nodes-nodes.ensures.nodes one)
-          (Calls-length g.EP.FnMut ends.calls)
-          (rw blank at ends.slots_are);
+          (Calls-length g.EP.FnMut ends.calls) (rw blank at ends.slots_are);
     }

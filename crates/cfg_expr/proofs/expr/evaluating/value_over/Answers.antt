@@ -6,8 +6,7 @@ use Rattle.cfg_expr.proofs.evaluated.Nodes.{shapes-kept}
 use Rattle.cfg_expr.proofs.expr.evaluating.value_over.Goals as goal
 
 pub read_value-requires : goal.read_value-requires
-read_value-requires g c =
-    c.put_each.auto.slots ∙ (ap length c.as_mut_slice-slots.ensures.value
+read_value-requires g c = c.put_each.auto.slots ∙ (ap length c.as_mut_slice-slots.ensures.value
     ∙ (ap length c.in_ok-answers.ensures.slots ∙ length-replicate _ _))
 
 pub returns-clause-value : goal.returns-clause-value

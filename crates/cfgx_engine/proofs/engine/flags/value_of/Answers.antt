@@ -6,6 +6,9 @@ use Rattle.cfgx_engine.specs.Flags.{IsAnswer, known_texts, unknown_texts}
 use Rattle.cfgx_engine.specs.Request.{texts}
 use Rattle.cfgx_engine.proofs.engine.flags.value_of.Goals as goal
 
+pub returns-in_err-flags : goal.returns-in_err-flags
+returns-in_err-flags g c = search rules
+
 pub returns : goal.returns
 returns g c =
     let evaluates = rw c.in_ok-expression.ensures.0 at c.in_ok-eval.ensures.value in
@@ -22,6 +25,6 @@ returns g c =
           let answers : IsAnswer before.0.now.known.items before.0.now.unknown.items
           (question_of asks.shown.now) given = search rules in
           (rw (← are.known_are, ← are.unknown_are, ← holds, ← asks.shows) answers, search rules))
-          _ _ _ _ refl evaluates.calls;
+          _ _ _ _ (refl {a = c.in_ok-flags.flags}) evaluates.calls;
       value_is = evaluates.value_is;
     }

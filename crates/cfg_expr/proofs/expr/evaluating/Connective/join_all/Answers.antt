@@ -4,8 +4,7 @@ use Rattle.cfg_expr.proofs.evaluated.Joined.{joined-twice}
 use Rattle.cfg_expr.proofs.expr.evaluating.Connective.join_all.Goals as goal
 
 pub returns : goal.returns
-returns g c =
-    c.join_kind.ensures.value
+returns g c = c.join_kind.ensures.value
     ∙ rw (c.join_kind-leaves.ensures.members, c.join_kind-leaves.ensures.value, c.begin.ensures)
     (joined-twice g.T.Logic c.args.self c.args.members.now)
 
