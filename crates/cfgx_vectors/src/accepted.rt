@@ -1,6 +1,6 @@
 //! Texts with a tree, and the predicates that they ask.
 use crate::deep::repeated;
-use crate::holding::{all_hold, holds, prints};
+use crate::holding::{holds, prints};
 use crate::streams::is_answer;
 use cfg_expr::error::Failure;
 use cfg_expr::expr::Predicates;
@@ -11,6 +11,7 @@ use cfgx_places::Field as Place;
 use cfgx_targets::atomic::HasAtomic;
 use cfgx_targets::endian::Endian;
 use std::alloc::Global;
+use std::process::Abort;
 use std::test::Fail;
 
 // A text, and its predicates in the order in which they are asked, one a line.
@@ -151,16 +152,17 @@ const VALUES: &[(&str, &str)] = &[
     ),
 ];
 
+// Asserts that each text is accepted, and asks the predicates of its row.
+fn ask_those_of(rt: &impl Abort, alloc: Global, rows: &[(&str, &str)]) {
+    for (text, written) in rows {
+        assert!(rt; is_answer(alloc, &["parse", text], 0, written), "{text:?}");
+    }
+}
+
 #[test]
 fn ask_their_predicates(rt: HostRuntime) {
-    for rows in [ROWS, VALUES] {
-        for (text, written) in rows {
-            assert!(rt;
-                is_answer(rt.alloc(), &["parse", text], 0, written),
-                "{text:?}"
-            );
-        }
-    }
+    ask_those_of(&rt, rt.alloc(), ROWS);
+    ask_those_of(&rt, rt.alloc(), VALUES);
 }
 
 // Whether the text of `TYPED` has its one predicate.
@@ -171,9 +173,7 @@ fn asks(alloc: Global, text: &str) -> Result<bool, Failure> {
 
 /// Whether this is the one predicate to come.
 pub(crate) fn are_one(mut predicates: Predicates<'_>, wanted: &Predicate<'_>) -> bool {
-    let next = predicates.next();
-    let is_one = is_one(&next, wanted);
-    drop(next);
+    let is_one = is_one(&predicates.next(), wanted);
     is_one && is_next(&mut predicates, 0, None)
 }
 
@@ -248,11 +248,16 @@ pub(crate) fn ask_the_same<A: SmallAllocator>(one: &Expression<A>, other: &Expre
     one.predicates().eq(other.predicates())
 }
 
+// Whether the text has an expression that is equal to this one.
+fn is_equal(alloc: Global, expression: &Expression, text: &str) -> Result<bool, Failure> {
+    let other = Expression::parse(alloc, text)?;
+    Ok(*expression == other)
+}
+
 // Whether two texts have equal expressions.
 fn are_equal(alloc: Global, one: &str, other: &str) -> Result<bool, Failure> {
-    let first = Expression::parse(alloc, one)?;
-    let second = Expression::parse(alloc, other)?;
-    Ok(first == second)
+    let expression = Expression::parse(alloc, one)?;
+    is_equal(alloc, &expression, other)
 }
 
 // The bytes that a text was stripped to.
@@ -297,19 +302,22 @@ fn keep_and_print_the_stripped_text(rt: HostRuntime) -> Result<(), Fail> {
     Ok(())
 }
 
+// Two texts, and whether their expressions are equal.
+const PAIRS: &[(&str, &str, bool)] = &[
+    ("key", "key", true),
+    ("cfg(key)", "key", true),
+    ("key", "key,", false),
+];
+
 #[test]
-fn are_equal_by_their_stripped_texts(rt: HostRuntime) {
-    all_hold(
-        &rt,
-        &[
-            ("key", holds(are_equal(rt.alloc(), "key", "key"))),
-            ("cfg(key)", holds(are_equal(rt.alloc(), "cfg(key)", "key"))),
-            (
-                "key,",
-                are_equal(rt.alloc(), "key", "key,").ok() == Some(false),
-            ),
-        ],
-    );
+fn are_equal_by_their_stripped_texts(rt: HostRuntime) -> Result<(), Fail> {
+    for (one, other, wanted) in PAIRS {
+        assert!(rt;
+            are_equal(rt.alloc(), one, other)? == *wanted,
+            "{one} {other}"
+        );
+    }
+    Ok(())
 }
 
 // Whether it is this flag, or none if none is named.
@@ -324,10 +332,7 @@ fn is_flag(predicate: &Option<Predicate<'_>>, flag: Option<&str>) -> bool {
 /// Whether there are so many predicates to come, and this flag is the next of them, if one is named
 pub(crate) fn is_next(predicates: &mut Predicates<'_>, left: usize, flag: Option<&str>) -> bool {
     let is_left = predicates.left() == left;
-    let next = predicates.next();
-    let is_flag = is_flag(&next, flag);
-    drop(next);
-    is_left && is_flag
+    is_flag(&predicates.next(), flag) && is_left
 }
 
 /// How many predicates are left before a call, and the flag that it gives, if one is to come.

@@ -2,7 +2,7 @@
 use crate::auditing::{answer_of, answers_of, audit};
 use crate::deep::{nested, repeated};
 use crate::holding::all_hold;
-use crate::targets::{README, darwin, windows};
+use crate::targets::{self, README, darwin, windows};
 use cfg_expr::expr::logic::Kleene64;
 use cfg_expr::expr::{Logic, Predicates};
 use cfg_expr::targets::{Abi, TargetInfo, TargetTable, Triple, Vendor};
@@ -348,14 +348,6 @@ fn numbered_rows(alloc: Global, count: usize) -> Result<Vec<TargetInfo<'static>>
     Ok(rows)
 }
 
-// What the row answers by itself.
-fn answer_of_row(predicate: &Predicate<'_>, row: &TargetInfo<'_>) -> Option<bool> {
-    match predicate {
-        Predicate::Target(target) => Some(target.matches(row)),
-        _ => None,
-    }
-}
-
 // The value on one row, in three values.
 fn plain_value(
     alloc: Global,
@@ -364,7 +356,7 @@ fn plain_value(
 ) -> Result<Option<bool>, AllocError> {
     expression.eval(
         alloc,
-        &mut |predicate: &Predicate<'_>| answer_of_row(predicate, row),
+        &mut |predicate: &Predicate<'_>| targets::answer_of(predicate, row),
     )
 }
 

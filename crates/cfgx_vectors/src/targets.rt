@@ -127,18 +127,26 @@ fn bare(triple: &'static str) -> TargetInfo<'static> {
     }
 }
 
-// What the row answers to a predicate that is asked of targets.
-fn answer_of(predicate: &Option<Predicate<'_>>, row: &TargetInfo<'_>) -> Option<bool> {
+/// What the row answers to a predicate, if that is asked of targets.
+pub(crate) fn answer_of(predicate: &Predicate<'_>, row: &TargetInfo<'_>) -> Option<bool> {
     match predicate {
-        Some(Predicate::Target(predicate)) => Some(predicate.matches(row)),
+        Predicate::Target(predicate) => Some(predicate.matches(row)),
         _ => None,
+    }
+}
+
+// The same of the first predicate.
+fn first_answer(first: &Option<Predicate<'_>>, row: &TargetInfo<'_>) -> Option<bool> {
+    match first {
+        Some(predicate) => answer_of(predicate, row),
+        None => None,
     }
 }
 
 // Whether the text's one predicate is true of the row.
 fn is_met(alloc: Global, row: &TargetInfo<'_>, text: &str) -> Result<Option<bool>, Failure> {
     let expression = Expression::parse(alloc, text)?;
-    Ok(answer_of(&expression.predicates().next(), row))
+    Ok(first_answer(&expression.predicates().next(), row))
 }
 
 // Predicates on a row that lacks its operating system, ABI, environment and vendor.
