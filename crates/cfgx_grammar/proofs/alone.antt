@@ -20,7 +20,6 @@ use Rattle.cfgx_syntax.specs.Error.{Cause, invalid_integer, invalid_has_atomic}
 use Rattle.cfgx_targets.specs.Endian.{endian_text, endian_named}
 use Rattle.cfgx_targets.specs.HasAtomic.{IsWidth, atomic_text, atomic_named}
 use Rattle.cfgx_targets.specs.Number.{read_below}
-use Rattle.cfgx_targets.specs.declared.endian.Endian.{Endian}
 use Rattle.cfgx_targets.specs.declared.atomic.HasAtomic.{HasAtomic}
 use Rattle.cfgx_targets.specs.declared.atomic.HasAtomic.TheVariants.{IntegerSize, Pointer}
 use Rattle.cfgx_targets.proofs.AtomicLemmas.{endian_named-text, atomic_named-text}

@@ -80,6 +80,14 @@ fn is_read<A: Allocator>(answer: &Result<Input<A>, Stop>, bytes: &[u8]) -> bool 
     }
 }
 
+// Whether this stopped the reading.
+fn is_stopped<A: Allocator>(answer: &Result<Input<A>, Stop>, stop: Stop) -> bool {
+    match answer {
+        Ok(_) => false,
+        Err(found) => *found == stop,
+    }
+}
+
 const TEN: &[u8] = b"0123456789";
 
 // The failing read of ten bytes in pieces of three, and the bytes that are then still to come. The
@@ -96,7 +104,7 @@ const FAILING: &[(u64, &[u8])] = &[
 fn is_device(alloc: Global, failing_read: u64, left: &[u8]) -> bool {
     let mut source = Pieces::new(TEN, 3, failing_read);
     let answer = read_input(alloc, &mut source);
-    matches!(answer, Err(Stop::Device))
+    is_stopped(&answer, Stop::Device)
         && source.reads == failing_read
         && source.failures == 1
         && source.left == left
@@ -230,7 +238,7 @@ fn seen_at(alloc: Global, bytes: &[u8], turn: u64) -> Seen {
     if !refusing.has_refused() && is_read(&answer, bytes) {
         Seen::Plain
     } else if refusing.has_refused()
-        && matches!(answer, Err(Stop::Memory))
+        && is_stopped(&answer, Stop::Memory)
         && source.failures == 0
         && bytes.ends_with(left)
         && is_read(&read_input(alloc, &mut source), left)

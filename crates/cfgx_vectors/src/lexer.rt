@@ -1,7 +1,7 @@
 //! The items of a text, one by one.
 use crate::faults::NO_TOKEN;
 use cfg_expr::error::Failure;
-use cfg_expr::expr::lexer::{Lexer, Token};
+use cfg_expr::expr::lexer::{Lexer, LexerToken, Token};
 use std::alloc::{Allocator, Global};
 
 /// A token, where it starts and ends, and how many bytes stand behind it.
@@ -61,16 +61,26 @@ const ROWS: &[(&str, &[Row])] = &[
     ("cfg( )", &[]),
 ];
 
-/// Whether the next item is that of the row.
+// Whether the item is that of the row.
+fn is_item(item: &LexerToken<'_>, row: &Row) -> bool {
+    item.token == row.0 && item.span.start == row.1 && item.span.end == row.2
+}
+
+// Whether the item, and its copy, are that of the row.
+fn are_items(item: &LexerToken<'_>, row: &Row) -> bool {
+    match item.clone() {
+        Ok(copy) => is_item(item, row) && is_item(&copy, row),
+        Err(_) => false,
+    }
+}
+
+/// Whether the next item, and its copy, are that of the row.
 pub(crate) fn gives<A: Allocator>(lexer: &mut Lexer<'_, A>, row: &Row) -> bool {
-    let (token, start, end, behind) = row;
-    let is_item = match lexer.next() {
-        Some(Ok(item)) => {
-            item.token == *token && item.span.start == *start && item.span.end == *end
-        }
+    let are_items = match lexer.next() {
+        Some(Ok(item)) => are_items(&item, row),
         _ => false,
     };
-    is_item && lexer.items_left_bound() == *behind
+    are_items && lexer.items_left_bound() == row.3
 }
 
 /// Whether nothing is to come, however often it is asked.
