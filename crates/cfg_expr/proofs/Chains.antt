@@ -28,7 +28,7 @@ module _ {F T : Type 0} (asker : Asker F T) where
   Calls-length (Calls.none state) = refl
   Calls-length (Calls.more _ _ _ _ _ _ _ _ calls) = ap suc (Calls-length calls)
 
-  -- where each call keeps what holds of the closure, and its answer stands in a relation to its
+  -- if each call keeps what holds of the closure, and its answer stands in a relation to its
   -- question, so do all the answers to all the questions
   pub Calls-AllZip : (Holds : F → Type 0) (R : Question → T → Type 0)
       → ((before : F) (question : Question) (given : T) (after : F) → Holds before
@@ -41,7 +41,7 @@ module _ {F T : Type 0} (asker : Asker F T) where
       let first = each before question given between holds asks in
       (first.0, Calls-AllZip Holds R each between questions answers after first.1 calls)
 
-  -- where each call adds one to what the closure counts in, up to a bound, the chain adds the
+  -- if each call adds one to what the closure counts in, up to a bound, the chain adds the
   -- number of questions
   Calls-count : (seen : F → MutBor ℕ) (most : ℕ) → AddsOne asker seen most
       → {before after : F} {questions : List Question} {answers : List T}
@@ -54,7 +54,7 @@ module _ {F T : Type 0} (asker : Asker F T) where
       let others = Calls-count seen most each (omega (arith, first.0)) calls in
       (omega (arith, first.0, others.0), others.1 ∙ first.1)
 
-  -- where each call answers the first one of the answers that are seen of the closure, and takes it
+  -- if each call answers the first one of the answers that are seen of the closure, and takes it
   -- off, the answers are those that are seen at the start, if there is one for each question
   Calls-taken : (seen : F → List T) (otherwise : T)
       → ((before : F) (question : Question) (given : T) (after : F)
@@ -88,7 +88,7 @@ Evaluates-taken {logic} {asker} {before} {after} seen otherwise answers e each a
     (tree.2 ∙ ap (λ tree. length (asked tree)) (e.one.only tree.0 tree.1)) in
     (e.one, e.value_is ∙ ap (tree_value.fold logic e.one.tree) taken)
 
--- where no call changes the closure, the value is that over the function by which it answers
+-- if no call changes the closure, the value is that over the function by which it answers
 pub Evaluates-by : {F T : Type 0} {logic : Operations T} {asker : Asker F T} {text : List ℕ}
     {before after : F} {value : T} → Evaluates logic asker text before value after
     → (answer_to : Question → T) → AnswersBy asker before answer_to
@@ -106,7 +106,7 @@ Evaluates-by {logic = logic} {asker} {before = before} {after} e answer_to by =
       value_is = e.value_is ∙ ap (tree_value.fold logic e.one.tree) answers;
     }
 
--- where the closure counts its calls from 0 up to a bound, the count is that of the questions
+-- if the closure counts its calls from 0 up to a bound, the count is that of the questions
 pub Evaluates-count : {F T : Type 0} {logic : Operations T} {asker : Asker F T} {text : List ℕ}
     {before after : F} {value : T} {count : ℕ} (seen : F → MutBor ℕ) (most : ℕ)
     → Evaluates logic asker text before value after

@@ -69,7 +69,7 @@ impl<A: Allocator> fmt::Display for Expression<A> {
     }
 }
 
-/// Two expressions are equal where their stripped texts are: `key` and `key,` are not.
+/// Two expressions are equal if their stripped texts are: `key` and `key,` are not.
 impl<A: Allocator> PartialEq for Expression<A> {
     ghost use Rattle.std.specs.Prelude.{nat_eq, ◌↔◌, IsTrue};
     ghost use Rattle.std.specs.Cmp.{partial_equiv_from_equiv};
@@ -133,13 +133,13 @@ impl<A: SmallAllocator> Expression<A> {
         self.parsed.predicates()
     }
 
-    /// The value of the condition, where `ep` answers each predicate.
+    /// The value of the condition if `ep` answers each predicate.
     ///
     /// Each occurrence of a predicate is asked once, in the order of `predicates`. The members of
     /// `all` are joined by `and` to `top`, those of `any` by `or` to `bottom`: from the last back,
     /// the predicates and literals of the list, and then its functions.
     ///
-    /// All memory is taken before the first question, and none where the text has at most 32 bytes.
+    /// All memory is taken before the first question, and none if the text has at most 32 bytes.
     /// The error is that `alloc` refused it; then `ep` is as it was. It must be callable on each
     /// predicate, in each state that the calls before leave it in.
     pub fn eval<EP, T>(&self, alloc: A, ep: &mut EP) -> Result<T, AllocError>
@@ -159,12 +159,12 @@ impl<A: SmallAllocator> Expression<A> {
         evaluating::value_of(alloc, &self.parsed, ep)
     }
 
-    /// The fillings that show why the value over the answers is unknown, or `None` where it is
+    /// The fillings that show why the value over the answers is unknown, or `None` if it is
     /// known.
     ///
     /// There is one answer for each occurrence of a predicate, in the order of `predicates`, and
-    /// `None` where it is unknown. Each filling has one truth value for each of them in this order:
-    /// the answer, where that is known. With the first filling the condition is true, and with the
+    /// `None` if it is unknown. Each filling has one truth value for each of them in this order:
+    /// the answer, if that is known. With the first filling the condition is true, and with the
     /// second one it is false.
     ///
     /// The error is that `alloc` refused memory.
@@ -174,7 +174,7 @@ impl<A: SmallAllocator> Expression<A> {
         answers: &[Option<bool>],
     ) -> Result<Option<(Vec<bool, A>, Vec<bool, A>)>, AllocError>
         requires { AreAnswersTo answers.now self.now }
-        // This holds of all answers to the text's one tree, also where memory runs out.
+        // This holds of all answers to the text's one tree, also if the call is out of memory.
         ensures exact { (one : HasOneTree self.now) × ((given : List (Option Bool))
             → length given ≡ length (asked one.tree) → IsExact one.tree given) }
         ensures fillings { IfOk result (λ found. (one : HasOneTree self.now)
@@ -190,11 +190,10 @@ impl<A: SmallAllocator> Expression<A> {
     /// the answers: of the targets that `TargetPredicate::lanes` is asked of, each one gets its
     /// own.
     ///
-    /// No memory is taken where the text has at most 32 bytes. The error is that `alloc` refused
-    /// it.
+    /// No memory is taken if the text has at most 32 bytes. The error is that `alloc` refused it.
     pub fn eval_lanes(&self, alloc: A, answers: &[Kleene64]) -> Result<Kleene64, AllocError>
         requires { AreAnswersTo answers.now self.now }
-        // This holds of all answers to the text's one tree, also where memory runs out.
+        // This holds of all answers to the text's one tree, also if the call is out of memory.
         ensures lanes { (one : HasOneTree self.now) × ((given : List Planes)
             → AllByRecursion IsApart given → length given ≡ length (asked one.tree)
             → IsByLane one.tree given) }

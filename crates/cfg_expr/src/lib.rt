@@ -5,6 +5,6 @@ pub mod error;
 pub mod expr;
 pub mod targets;
 
-pub use cfgx_parser::memory;
+pub use cfgx_syntax::memory;
 pub use error::ParseError;
 pub use expr::{Expression, Predicate, TargetPredicate};

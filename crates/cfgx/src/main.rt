@@ -10,9 +10,9 @@ use std::{env, io};
 /// written then.
 const REFUSED: u8 = 3;
 
-/// Hands the words behind the program's name to the engine, and answers its status.
+/// Hands the words after the program's name to the engine, and answers its status.
 fn status(rt: &HostRuntime) -> io::Result<u8> {
-    // `collect` would ask for less room where its first request is refused.
+    // `collect` would ask for less room if its first request was refused.
     let mut owned = Vec::new(rt.alloc());
     for word in env::args(rt)?.skip(1) {
         owned.push(word)?;

@@ -49,7 +49,7 @@ module _ {A : Type 0} where
         unknown_are = rw (filter_map-append, map-append, ← are.unknown_are) adds.unknown_are;
       })
 
-  -- what blames a word blames it behind words that have a tree each
+  -- what blames a word blames it after words that have a tree each
   pub BlamesFirst-later : (words : List (Bor (List ℕ))) (i : ℕ) (d : Bor (List ℕ))
       (failed : Failure A) → i < length words
       → AllByRecursion (λ flag. HasOneTree (strip (flag_text flag))) (texts (take i words))

@@ -18,8 +18,8 @@ use Rattle.cfgx_engine.specs.Output.{Output}
 use Rattle.cfgx_engine.specs.Sections.{IsWell, Line, PrintsLine, PrintsLines, TellsFault}
 use Rattle.cfgx_engine.specs.Sections.{TellsFirst, line_fault, line_of}
 
--- What is left to print after a front of the lines: where the others print this from the number on,
--- behind what the front has written, all the lines print it.
+-- What is left to print after a front of the lines: if the others print this from the number on,
+-- after what the front has written, all the lines print it.
 abbrev pub PrintsRest : {A : Type 0} → TargetInfo A → ℕ → List Line → List ℕ → Output → Type 0
 PrintsRest row number lines front shown = ((written : List (List ℕ))
     × AllZip (PrintsLine row) lines written

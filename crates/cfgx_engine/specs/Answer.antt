@@ -40,7 +40,7 @@ command_request command.WrongUse = Request.wrong_use
 abbrev pub output_of : {A : Type 0} → Answer A → Output
 output_of answer = record { bytes = cow_slice_items answer.bytes; status = answer.status }
 
--- the output of a fault; want of memory has none
+-- the output of a fault; a call out of memory has none
 abbrev pub ShowsFailure : {A : Type 0} → Failure A → Output → Type 0
 ShowsFailure (failure.Parse error) output = output ≡ fault_output (fault_of error)
 ShowsFailure (failure.Memory error) output = ⊥
@@ -83,7 +83,7 @@ abbrev pub IsShort : {A : Type 0} → Input A → Type 0
 IsShort (input.Bytes bytes) = length bytes.items ≤ input_limit
 IsShort input.TooLong = Unit {0}
 
--- what `pick` writes of an input that was read, where a target answers
+-- what `pick` writes of an input that was read, if a target answers
 abbrev pub PicksFrom : {A B : Type 0} → TargetInfo A → Input B → Output → Type 0
 PicksFrom row (input.Bytes bytes) output =
     MatchBool (is_utf8 bytes.items) (PrintsLines row (map line_of (lines_of bytes.items)) output)
@@ -117,7 +117,7 @@ AddsLine row number line old new None =
     (written : List ℕ) × PrintsLine row line written × (new ≡ old ++ written)
 AddsLine row number line old new (Some told) = TellsFault number line (output_of told)
 
--- the output of a fault on the line with this number; want of memory has none
+-- the output of a fault on the line with this number; a call out of memory has none
 abbrev pub TellsFailure : {A : Type 0} → ℕ → Failure A → Output → Type 0
 TellsFailure number (failure.Parse error) output = output ≡ line_fault number (fault_of error)
 TellsFailure number (failure.Memory error) output = ⊥

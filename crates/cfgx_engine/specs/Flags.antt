@@ -9,7 +9,7 @@ use Rattle.cfgx_grammar.specs.Question.{Question}
 use Rattle.cfgx_grammar.specs.Tree.{Tree, asked}
 use Rattle.cfgx_grammar.specs.Grammar.{HasTree}
 
--- the text of a flag that names unknown predicates: what is behind the `?` that it starts with
+-- the text of a flag that names unknown predicates: what follows the `?` that it starts with
 abbrev pub unknown_text : List ℕ → Option (List ℕ)
 unknown_text flag = if bytes_eq (take 1 flag) (codes "?") then Some (drop 1 flag) else None
 
@@ -37,7 +37,7 @@ Names text question = (tree : Tree Question) × HasTree text tree × Contains (a
 abbrev pub IsNamed : List (List ℕ) → Question → Type 0
 IsNamed texts question = Any (λ text. Names text question) texts
 
--- the answer to a question: true where a known text names it, else unknown where an unknown one
+-- the answer to a question: true if a known text names it, else unknown if an unknown one
 -- does, and else false
 abbrev pub IsAnswer : List (List ℕ) → List (List ℕ) → Question → Option Bool → Type 0
 IsAnswer known unknown question (Some true) = IsNamed known question

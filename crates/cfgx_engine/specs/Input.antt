@@ -19,7 +19,7 @@ stop_failures (Ok answer) = 0
 stop_failures (Err stop.Memory) = 0
 stop_failures (Err stop.Device) = 1
 
--- The bytes of an input are all that the source gave, to its end. An input is too long where one
+-- The bytes of an input are all that the source gave, to its end. An input is too long if one
 -- byte more than the limit was read. Otherwise a beginning of the input was read.
 abbrev pub ReadsInput : {A : Type 0} → Option (List ℕ) → Option (List ℕ) → Result (Input A) Stop
     → Type 0

@@ -17,7 +17,7 @@ use Rattle.cfgx_grammar.specs.Spelling.{spelling}
 use Rattle.cfgx_engine.specs.Flags.{IsAnswer, flag_text, known_texts, unknown_texts}
 use Rattle.cfgx_engine.specs.Verdicts.{answer_by}
 
--- what a run writes where memory is found and no call fails, and the status that it then ends with
+-- what a run writes if memory is found and no call fails, and the status that it then ends with
 pub record Output : Type 0 where
   pub bytes : List ℕ
   pub status : ℕ
@@ -67,7 +67,7 @@ abbrev pub Lists : List ℕ → Output → Type 0
 Lists text output = (one : HasOneTree (strip text))
     × (output ≡ record { bytes = lines (asked one.tree); status = 0 })
 
--- the value of the one tree of the text, where the flags, with one tree each, answer its predicates
+-- the value of the one tree of the text, if the flags, with one tree each, answer its predicates
 pub record HasValue (text : List ℕ) (flags : List (List ℕ)) (value : Option Bool) : Type 0 where
   pub one : HasOneTree (strip text)
   pub each_flag : AllByRecursion (λ flag. HasOneTree (strip (flag_text flag))) flags
@@ -80,7 +80,7 @@ pub record HasValue (text : List ℕ) (flags : List (List ℕ)) (value : Option 
 abbrev pub answer_on : {A : Type 0} → TargetInfo A → Question → Option Bool
 answer_on row = answer_by (meets row)
 
--- the value of the one tree of the text, where the target answers its predicates
+-- the value of the one tree of the text, if the target answers its predicates
 abbrev pub HasValueOn : {A : Type 0} → TargetInfo A → List ℕ → Option Bool → Type 0
 HasValueOn row text value = (one : HasOneTree (strip text))
     × (value ≡ fold three_valued one.tree (map (answer_on row) (asked one.tree)))

@@ -24,14 +24,14 @@ too_long = record { bytes = text_line (codes "input too long"); status = 1 }
 abbrev pub not_utf8 : Output
 not_utf8 = record { bytes = text_line (codes "input is not UTF-8"); status = 1 }
 
--- what `pick` writes where a target answers
+-- what `pick` writes if a target answers
 abbrev pub Picks : {A : Type 0} → TargetInfo A → List ℕ → Output → Type 0
 Picks row input output =
     MatchBool (nat_lt input_limit (length input)) (output ≡ too_long)
     (MatchBool (is_utf8 input) (PrintsLines row (map line_of (lines_of input)) output)
     (output ≡ not_utf8))
 
--- the same of the input that a source holds; it may be any input where the source does not tell its
+-- the same of the input that a source holds; it may be any input if the source does not tell its
 -- bytes
 abbrev pub PicksInput : {A : Type 0} → TargetInfo A → Option (List ℕ) → Output → Type 0
 PicksInput row held output =

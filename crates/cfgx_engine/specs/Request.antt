@@ -1,14 +1,14 @@
--- What the words behind the program's name ask for.
+-- What the words after the program's name ask for.
 -- Source of the rules: docs/RULES.md.
 use Rattle.std.specs.Prelude.{ℕ, List, [], ◌∷◌, codes, map, if◌then◌else◌}
 use Rattle.std.specs.Borrow.{Bor}
 use Rattle.std.specs.Str.{bytes_eq}
 
--- what the words behind the program's name ask for
+-- what the words after the program's name ask for
 pub data Request : Type 0 where
   -- the predicates of a text
   parse : List ℕ → Request
-  -- the value of a text, where flags say which predicates are true and which are unknown
+  -- the value of a text, if flags say which predicates are true and which are unknown
   eval : List ℕ → List (List ℕ) → Request
   -- the value of a text on the target with a triple
   target : List ℕ → List ℕ → Request

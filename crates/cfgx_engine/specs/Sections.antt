@@ -41,7 +41,7 @@ line_of text =
 abbrev pub digits : List Bool → List ℕ
 digits filling = flat_map (λ filled. if filled then codes "1" else codes "0") filling
 
--- a filling behind a text, in a line of its own
+-- a filling after a text, in a line of its own
 abbrev pub filling_line : List ℕ → List Bool → List ℕ
 filling_line text filling = text ++ digits filling ++ codes "\n"
 
@@ -64,7 +64,7 @@ IsWell Line.empty = Unit {0}
 IsWell Line.undivided = ⊥
 IsWell (Line.section name condition) = HasOneTree (strip condition)
 
--- what such a line prints, where the target answers the predicates
+-- what such a line prints, if the target answers the predicates
 abbrev pub PrintsLine : {A : Type 0} → TargetInfo A → Line → List ℕ → Type 0
 PrintsLine row Line.empty written = written ≡ []
 PrintsLine row Line.undivided written = ⊥
@@ -78,7 +78,7 @@ line_fault number fault = record {
   status = 1;
 }
 
--- what is written for the line with this number where it is faulty
+-- what is written for the line with this number if it is faulty
 abbrev pub TellsFault : ℕ → Line → Output → Type 0
 TellsFault number Line.empty output = ⊥
 TellsFault number Line.undivided output =
@@ -87,7 +87,7 @@ TellsFault number (Line.section name condition) output =
     (fault : Refusal) × IsRefused (strip condition) fault
     × (output ≡ line_fault number (fault_in (strip condition) fault))
 
--- the same of the first line that is faulty, where the lines are counted from this number on
+-- the same of the first line that is faulty, if the lines are counted from this number on
 abbrev pub TellsFirst : ℕ → List Line → Output → Type 0
 TellsFirst number [] output = ⊥
 TellsFirst number (line ∷ others) output =

@@ -10,7 +10,7 @@ abbrev pub failures_of : {T E : Type 0} → Result T E → ℕ
 failures_of (Ok _) = 0
 failures_of (Err _) = 1
 
--- the same of a `write` of these bytes, which fails too where it takes none of some
+-- the same of a `write` of these bytes, which fails too if it takes none of some
 abbrev pub write_failures : {E : Type 0} → Result ℕ E → List ℕ → ℕ
 write_failures (Ok taken) bytes = if taken == 0 && nat_lt 0 (length bytes) then 1 else 0
 write_failures (Err _) bytes = 1

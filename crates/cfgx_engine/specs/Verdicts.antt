@@ -1,5 +1,5 @@
 -- What a target says of a condition, of whose predicates it knows those on the target alone.
--- Source: Kleene's strong logic, in which a value is known where every way to fill what is unknown
+-- Source: Kleene's strong logic, in which a value is known if every way to fill what is unknown
 -- leads to it.
 use Rattle.std.specs.Prelude.{◌≡◌, ◌↔◌, ℕ, Bool, true, false, List, Option, Some, None, map}
 use Rattle.cfgx_grammar.specs.Question.{Question, TargetQuestion}
@@ -21,18 +21,18 @@ verdict_of (Some true) = verdict.Yes
 verdict_of (Some false) = verdict.No
 verdict_of None = verdict.Unknown
 
--- the verdict on a condition where these are the answers on the target
+-- the verdict on a condition if these are the answers on the target
 pub record IsVerdict (answer : TargetQuestion → Bool) (condition : List ℕ) (given : Verdict)
     : Type 0 where
   pub one : HasOneTree condition
   -- it is that of the tree's value
   pub value_is : given ≡ verdict_of (fold three_valued one.tree
       (map (answer_by answer) (asked one.tree)))
-  -- it is `Yes` exactly where every filling of the answers makes the tree true
+  -- it is `Yes` exactly if every filling of the answers makes the tree true
   pub yes : (given ≡ verdict.Yes) ↔ ((filling : List Bool)
       → IsFilling (map (answer_by answer) (asked one.tree)) filling
       → fold two_valued one.tree filling ≡ true)
-  -- and `No` exactly where every filling makes it false
+  -- and `No` exactly if every filling makes it false
   pub no : (given ≡ verdict.No) ↔ ((filling : List Bool)
       → IsFilling (map (answer_by answer) (asked one.tree)) filling
       → fold two_valued one.tree filling ≡ false)

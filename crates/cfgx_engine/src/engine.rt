@@ -29,7 +29,7 @@ const REFUSED: u8 = 3;
 
 /// Runs the command that the words ask for, and answers the status with which the program ends.
 ///
-/// `words` are those behind the program's name. What is written is made in memory whole before its
+/// `words` are those after the program's name. What is written is made in memory whole before its
 /// first byte goes out; the usage line takes no memory. Status 0 says that it is done, 1 that a
 /// text or the input is faulty, 2 wrong use or a triple that is not built in, and 3 that memory was
 /// refused or that a call of the reader or writer failed. No failed call is tried again. Both

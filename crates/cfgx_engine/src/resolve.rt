@@ -14,7 +14,7 @@ use cfg_expr::memory::SmallAllocator;
 use cfg_expr::{Expression, Predicate};
 use std::alloc::{AllocError, Allocator, Global};
 
-/// A section, which is taken where its condition is true.
+/// A section, which is taken if its condition is true.
 #[derive_where(Debug)]
 pub struct Section<A: SmallAllocator = Global> {
     /// Its name
@@ -100,8 +100,8 @@ pub(crate) fn verdict_on<A: SmallAllocator, M: TargetMatcher>(
 /// One verdict for each section, in order: what the matcher answers decides, and predicates that
 /// are not on the target are unknown.
 ///
-/// A verdict is `Yes` exactly where every way to fill the unknown answers makes the section's
-/// condition true, and `No` exactly where every way makes it false. The error is that `alloc`
+/// A verdict is `Yes` exactly if every way to fill the unknown answers makes the section's
+/// condition true, and `No` exactly if every way makes it false. The error is that `alloc`
 /// refused memory. The sections stay as they were.
 pub fn pick<A: SmallAllocator, M: TargetMatcher>(
     alloc: A,

@@ -11,7 +11,7 @@ use Rattle.cfgx_grammar.proofs.Alike.{length-asked_by}
 
 -- What a tree asks, dealt out to a tree of its shape, makes it again.
 module _ {X T : Type 0} (otherwise : T) where
-  -- the members of a list, whatever comes behind
+  -- the members of a list, whatever comes after
   abbrev Remade : Trees X → Trees T → Type 0
   Remade trees answers = (inner own : List T) → answered_each otherwise trees
       (asked_by is_function answers ++ inner) (asked_by is_leaf answers ++ own) ≡ answers

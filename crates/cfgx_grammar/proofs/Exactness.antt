@@ -1,4 +1,4 @@
--- Three values are exact: a value is known exactly where every filling leads to it.
+-- Three values are exact: a value is known exactly if every filling leads to it.
 use Rattle.std.proofs.lemmas.Grind.{common_steps}
 use Rattle.std.proofs.Common.{◌≡◌, Bool, true, false, not, ◌&&◌, ◌||◌, List, [], ◌∷◌, ◌++◌, arith}
 use Rattle.std.proofs.Common.{length, Option, Some, refl, ap, ◌∙◌, map, unwrap_or}
@@ -25,6 +25,10 @@ pub record Preserve {T U : Type 0} (one : Operations T) (other : Operations U)
   pub or : (x y : T) (u v : U) → R x u → R y v → R (one.or x y) (other.or u v)
   pub not : (x : T) (u : U) → R x u → R (one.not x) (other.not u)
 
+-- the values of a function's members, as it joins them
+abbrev members : {T : Type 0} → Operations T → Trees T → List T
+members logic trees = values_by logic is_function trees ++ values_by logic is_leaf trees
+
 module _ {T U : Type 0} (one : Operations T) (other : Operations U) (R : T → U → Type 0)
     (preserve : Preserve one other R) where
   from_last_kept : (join : T → T → T) (joined : U → U → U) (begin : T) (begun : U) → R begin begun
@@ -37,6 +41,13 @@ module _ {T U : Type 0} (one : Operations T) (other : Operations U) (R : T → U
       (from_last_kept join joined begin begun base each xs ys all.1) all.0
   from_last_kept join joined begin begun base each _ _ all = absurd all
 
+  members_kept : (xs : Trees T) (ys : Trees U)
+      → ((f : Tree T → Bool) (g : Tree U → Bool) → SameTests R f g
+      → AllZip R (values_by one f xs) (values_by other g ys))
+      → AllZip R (members one xs) (members other ys)
+  members_kept xs ys each = AllZip-append R _ _ _ _
+      (each is_function is_function (same_functions R)) (each is_leaf is_leaf (same_leaves R))
+
   mutual
     -- leaves that are related make related values
     pub value_kept : (x : Tree T) (y : Tree U) → Alike R x y → R (value_of one x) (value_of other y)
@@ -45,14 +56,10 @@ module _ {T U : Type 0} (one : Operations T) (other : Operations U) (R : T → U
     value_kept _ _ (Alike.literal false) = preserve.bottom
     value_kept _ _ (Alike.all xs ys each) =
         from_last_kept one.and other.and one.top other.top preserve.top preserve.and _ _
-        (AllZip-append R _ _ _ _
-        (values_kept is_function is_function (same_functions R) xs ys each)
-        (values_kept is_leaf is_leaf (same_leaves R) xs ys each))
+        (members_kept xs ys (λ f g same. values_kept f g same xs ys each))
     value_kept _ _ (Alike.any xs ys each) =
         from_last_kept one.or other.or one.bottom other.bottom preserve.bottom preserve.or _ _
-        (AllZip-append R _ _ _ _
-        (values_kept is_function is_function (same_functions R) xs ys each)
-        (values_kept is_leaf is_leaf (same_leaves R) xs ys each))
+        (members_kept xs ys (λ f g same. values_kept f g same xs ys each))
     value_kept _ _ (Alike.not x y alike) = preserve.not _ _ (value_kept x y alike)
 
     values_kept : (f : Tree T → Bool) (g : Tree U → Bool) → SameTests R f g
@@ -95,6 +102,20 @@ from_last-sides join joined begin fill [] each = refl
 from_last-sides join joined begin fill (value ∷ values) each =
     rw (from_last-sides join joined begin fill values each) (each _ value)
 
+-- the tests of the two trees agree
+abbrev AreFilledAlike : (Tree (Option Bool) → Bool) → (Tree Bool → Bool) → Type 0
+AreFilledAlike f g = (fill : Bool) (tree : Tree (Option Bool)) → g (filled fill tree) ≡ f tree
+
+members-filled : (fill : Bool) (trees : Trees (Option Bool))
+    → ((f : Tree (Option Bool) → Bool) (g : Tree Bool → Bool) → AreFilledAlike f g
+    → values_by two_valued g (filled_each fill trees)
+    ≡ map (side fill) (values_by three_valued f trees))
+    → members two_valued (filled_each fill trees) ≡ map (side fill) (members three_valued trees)
+members-filled fill trees each =
+    let inner = each is_function is_function (λ filling tree. grind arith) in
+    let own = each is_leaf is_leaf (λ filling tree. grind arith) in
+    rw (inner, own, ← map-append) refl
+
 mutual
   value-filled : (fill : Bool) (tree : Tree (Option Bool))
       → value_of two_valued (filled fill tree) ≡ side fill (value_of three_valued tree)
@@ -102,23 +123,14 @@ mutual
   value-filled fill (Tree.literal true) = refl
   value-filled fill (Tree.literal false) = refl
   value-filled fill (Tree.all trees) =
-      let inner = values-filled is_function is_function (λ filling tree. grind arith) fill trees in
-      let own = values-filled is_leaf is_leaf (λ filling tree. grind arith) fill trees in
-      rw (inner, own, ← map-append)
-      (from_last-sides ◌&&◌ kleene_and true fill
-      (values_by three_valued is_function trees ++ values_by three_valued is_leaf trees)
-      (λ x y. grind arith))
+      rw (members-filled fill trees (λ f g same. values-filled f g same fill trees))
+      (from_last-sides ◌&&◌ kleene_and true fill (members three_valued trees) (λ x y. grind arith))
   value-filled fill (Tree.any trees) =
-      let inner = values-filled is_function is_function (λ filling tree. grind arith) fill trees in
-      let own = values-filled is_leaf is_leaf (λ filling tree. grind arith) fill trees in
-      rw (inner, own, ← map-append)
-      (from_last-sides ◌||◌ kleene_or false fill
-      (values_by three_valued is_function trees ++ values_by three_valued is_leaf trees)
-      (λ x y. grind arith))
+      rw (members-filled fill trees (λ f g same. values-filled f g same fill trees))
+      (from_last-sides ◌||◌ kleene_or false fill (members three_valued trees) (λ x y. grind arith))
   value-filled fill (Tree.not tree) = rw (value-filled (not fill) tree) (grind arith)
 
-  values-filled : (f : Tree (Option Bool) → Bool) (g : Tree Bool → Bool)
-      → ((fill : Bool) (tree : Tree (Option Bool)) → g (filled fill tree) ≡ f tree)
+  values-filled : (f : Tree (Option Bool) → Bool) (g : Tree Bool → Bool) → AreFilledAlike f g
       → (fill : Bool) (trees : Trees (Option Bool)) → values_by two_valued g
       (filled_each fill trees) ≡ map (side fill) (values_by three_valued f trees)
   values-filled f g same fill Trees.none = refl

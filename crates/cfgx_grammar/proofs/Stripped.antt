@@ -1,4 +1,4 @@
--- Nothing is stripped from a text that has a tree: behind the word `cfg` no `(` may stand.
+-- Nothing is stripped from a text that has a tree: after the word `cfg` no `(` may stand.
 use Rattle.std.proofs.Common.{◌≡◌, ℕ, Bool, true, false, List, ◌∷◌, ◌++◌, nat_eq, sym, refl, ap}
 use Rattle.std.proofs.Common.{◌∙◌, arith, codes}
 use Rattle.std.specs.List.{starts_with}

@@ -37,7 +37,7 @@ IsMember-leaf tokens leaf is = grind arith
 -- What completes the open lists of the parser, as it is read from the end of a text: one member in
 -- front of another.
 
--- which commas may come in front of the members that are left: none, any number, or, behind a
+-- which commas may come in front of the members that are left: none, any number, or, after a
 -- member, those that separate it from them
 abbrev pub NoComma : ℕ → Trees Question → Type 0
 NoComma n trees = n ≡ 0
@@ -54,7 +54,7 @@ one_tree tokens (Trees.more tree Trees.none) one (member, n, rest, are, some, sp
 one_tree tokens (Trees.more tree (Trees.more second trees)) one list = absurd (omega arith)
 
 module _ {M : Type 0} where
-  -- The tokens close the open functions, the innermost of which has so many more members: behind
+  -- The tokens close the open functions, the innermost of which has so many more members: after
   -- each `)` come commas and the members that are left of the list around it. At the root stands
   -- one item.
   abbrev pub Ends : List (Open M) → ℕ → ℕ → List Token → Type 0
@@ -65,7 +65,7 @@ module _ {M : Type 0} where
       × (tokens ≡ Token.close_paren ∷ (commas n ++ (others ++ after))) × Separates n trees
       × IsList others trees × Ends rest roots (1 + count trees) after
 
-  -- the tokens are commas, members of the innermost list, and what closes it, where so many members
+  -- the tokens are commas, members of the innermost list, and what closes it, if so many members
   -- have no place in the stack yet
   abbrev pub Rest : (ℕ → Trees Question → Type 0) → List (Open M) → ℕ → ℕ → List Token → Type 0
   Rest May stack roots members tokens = (n : ℕ) × (others : List Token)
@@ -97,7 +97,7 @@ module _ {M : Type 0} where
       let end = subst (λ m. Ends stack roots m after) sum ends in
       (0, _, Trees.more tree trees, after, all, refl, (member, n, others, refl, may, is, list), end)
 
-  -- a call in front of what is left behind it
+  -- a call in front of what is left after it
   pub Rest-call : (function : Function) (begun : Open M) (stack : List (Open M)) (roots : ℕ)
       (tokens : List Token) → begun.function ≡ function → begun.members ≡ 0
       → Rest NoComma (begun ∷ stack) roots 0 tokens
@@ -141,7 +141,7 @@ module _ {W M L : Type 0} {builder : Builder W M L} where
       → predicate_ended s ≡ Ok t → LeafEnds s t p
   LeafEnds-ended s t p pending ends = grind arith
 
-  -- nothing ends where nothing pends
+  -- nothing ends if nothing pends
   pub same_ended : (s t : State builder) → s.pending ≡ None → predicate_ended s ≡ Ok t → s ≡ t
   same_ended s t none ends = ok_same s t (ap (ended_by s) (sym none) ∙ ends)
 
@@ -180,7 +180,7 @@ module _ {W M L : Type 0} {builder : Builder W M L} where
       → Completes last s tokens
   Completes-member last s tokens may r = grind arith
 
-  -- behind a predicate that ends
+  -- after a predicate that ends
   LeafRest-ended : (s t : State builder) (tokens : List Token) (p : Pending) → s.pending ≡ Some p
       → predicate_ended s ≡ Ok t → RestOf Separates t 0 tokens → LeafRest s p.key.text
       (leaf_tokens p.key.text (option_map (λ v. v.text) p.value) ++ tokens)
@@ -225,7 +225,7 @@ module _ {W M L : Type 0} {builder : Builder W M L} where
   Completes-none _ s t tokens (inr (whole, closed)) ends e = λ top rest is. absurd (cc)
 
 -- What the steps accept is spelled by a tree: each token stands in front of what completes the
--- state behind it.
+-- state after it.
 
 abbrev pub tokens_of : List Item → List Token
 tokens_of items = map (λ item. item.token) items

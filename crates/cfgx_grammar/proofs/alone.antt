@@ -25,8 +25,8 @@ use Rattle.cfgx_targets.specs.declared.atomic.HasAtomic.TheVariants.{IntegerSize
 use Rattle.cfgx_targets.proofs.AtomicLemmas.{endian_named-text, atomic_named-text}
 use Rattle.cfgx_targets.proofs.NumberLemmas.{read_below-decimal}
 use Rattle.cfgx_grammar.specs.Classification.{predicate, Class, class, bare, valued, if_read}
-use Rattle.cfgx_grammar.specs.Classification.{target_feature, Line, by_name, key_lines}
-use Rattle.cfgx_grammar.specs.Classification.{target_lines, target_class, plain}
+use Rattle.cfgx_grammar.specs.Classification.{target_feature, Rule, by_name, key_rules}
+use Rattle.cfgx_grammar.specs.Classification.{target_rules, target_class, plain}
 use Rattle.cfgx_grammar.specs.Spelling.{key_and_value, spelling}
 use Rattle.std.proofs.lemmas.Str.{NoCharPasses-nil}
 use Rattle.cfgx_grammar.proofs.Answering.{same_tree}
@@ -149,7 +149,7 @@ named_small text Pointer is = tt
 no_quote_atomic : (atomic : HasAtomic) → IsWidth atomic → HasNoQuote (atomic_text atomic)
 no_quote_atomic atomic small = grind (arith, no_quote_decimal)
 
--- Each line of the tables.
+-- Each rule of the tables.
 
 spelt_word : (word : List ℕ) (value : Option (List ℕ)) (question : Question) → CanBeQuoted value
     → IsWord word × (nat_lt 3 (length word) ≡ true) × (class word value ≡ predicate question)
@@ -173,14 +173,14 @@ module _ (key : List ℕ) (value : Option (List ℕ)) where
       IsSpelt question ⊎ (spelling question ≡ text_of key value)
   Good _ = Unit {0}
 
-  -- the goal, once each line of a table is good
-  abbrev Each : {V : Type 0} → V → List (Line V) → Type 0 → Type 0
+  -- the goal, once each rule of a table is good
+  abbrev Each : {V : Type 0} → V → List (Rule V) → Type 0 → Type 0
   Each v [] goal = goal
   Each v (first ∷ rest) goal = Good (first.read v) → Each v rest goal
 
   -- then the table is
   good_by_name : {V : Type 0} (name : List ℕ) (v : V) (otherwise : Class) (goal : Type 0)
-      → Good otherwise → (lines : List (Line V))
+      → Good otherwise → (lines : List (Rule V))
       → (Good (by_name lines name v otherwise) → goal) → Each v lines goal
   good_by_name name v otherwise goal last [] whole = whole last
   good_by_name name v otherwise goal last (first ∷ rest) whole = λ good.
@@ -221,7 +221,7 @@ module _ (key : List ℕ) (value : Option (List ℕ)) where
       let fits : n < 2 ^ 64 = omega (arith, small) in
       spelt_word (codes "target_pointer_width") (Some (decimal n)) _ (no_quote_decimal n fits)
       ((refl, refl), refl, rw (read_below-decimal (2 ^ 8) n small fits) refl, refl)) in
-      good_by_name name v _ _ tt target_lines (λ good. good)
+      good_by_name name v _ _ tt target_rules (λ good. good)
       (inl (spelt_word (codes "target_abi") (Some v) _ q ((refl, refl), refl, refl, refl)))
       (inl (spelt_word (codes "target_arch") (Some v) _ q ((refl, refl), refl, refl, refl)))
       (inl (spelt_word (codes "target_os") (Some v) _ q ((refl, refl), refl, refl, refl)))
@@ -235,7 +235,7 @@ module _ (key : List ℕ) (value : Option (List ℕ)) where
   good_class quoted = good_by_name key value _ _ (kept_if Good
       (starts_with nat_eq key (codes "target_")) _ (plain key value)
       (good_valued _ _ (good_target (drop 7 key)) value quoted) (grind arith))
-      key_lines (λ good. good)
+      key_rules (λ good. good)
       (good_bare (Leaf.literal true) tt value)
       (good_bare (Leaf.literal false) tt value)
       (good_bare _ (inl (spelt_family (codes "unix") refl)) value)

@@ -86,7 +86,7 @@ no_items : (items : List Item) → tokens_of items ≡ [] → items ≡ []
 no_items [] is = refl
 no_items (x ∷ items) is = absurd (cc)
 
--- behind a member, and behind the commas that follow it: `)`, `,` and the end may come
+-- after a member, and after the commas that follow it: `)`, `,` and the end may come
 abbrev IsEnd : Option Token → Type 0
 IsEnd last = (takes last Kind.closing ≡ true) × (takes last Kind.comma ≡ true)
     × (lacks_value last ≡ false)
@@ -96,7 +96,7 @@ abbrev more : {M : Type 0} → ℕ → Open M → Open M
 more n f = record f { members = f.members + n }
 
 module _ {W M L : Type 0} {builder : Builder W M L} where
-  -- the state behind so many more members of the innermost list
+  -- the state after so many more members of the innermost list
   abbrev grown : ℕ → State builder → State builder
   grown zero s = s
   grown (suc n) s = grown n (with_member s)
@@ -104,7 +104,7 @@ module _ {W M L : Type 0} {builder : Builder W M L} where
   abbrev settled : State builder → Option Token → W → State builder
   settled s last written = record s { pending = None; last = last; written = written }
 
-  -- and behind one more
+  -- and after one more
   abbrev pub between : State builder → Option Token → W → State builder
   between s last written = with_member (settled s last written)
 
@@ -139,7 +139,7 @@ module _ {W M L : Type 0} {builder : Builder W M L} where
       let (u, steps, rest) = ran (step s x) (λ v. step_each v xs) t runs in
       rw steps (steps_both xs ys u t rest)
 
-  -- commas behind a member that ends
+  -- commas after a member that ends
   commas_run : (n : ℕ) (xs : List Item) (s t : State builder) (written : W)
       → tokens_of xs ≡ Token.comma ∷ commas n → takes t.last Kind.comma ≡ true
       → predicate_ended t ≡ Ok (between s t.last written)
@@ -152,7 +152,7 @@ module _ {W M L : Type 0} {builder : Builder W M L} where
   commas_run _ _ s t written are may ends = absurd (cc)
 
 module _ {W M L : Type 0} {builder : Builder W M L} (laws : Laws builder) where
-  -- The state when these items have been taken, a member and `n` commas behind it; the predicate
+  -- The state when these items have been taken, a member and `n` commas after it; the predicate
   -- has ended, or ends there.
   pub record MemberEnds (s : State builder) (items member : List Item) (n : ℕ)
       (tree : Tree Question) : Type 0 where
@@ -210,7 +210,7 @@ module _ {W M L : Type 0} {builder : Builder W M L} (laws : Laws builder) where
   MemberEnds-leaf s _ leaf key None may is classed = absurd (cc)
   MemberEnds-leaf s _ leaf key (Some value) may is classed = absurd (cc)
 
-  -- commas behind a member
+  -- commas after a member
   pub MemberEnds-commas : (n : ℕ) (s : State builder) (member behind : List Item)
       (tree : Tree Question) → tokens_of behind ≡ commas n → MemberEnds s member member 0 tree
       → MemberEnds s (member ++ behind) member n tree
@@ -351,7 +351,7 @@ called Function.any trees = Tree.any (trees_of trees)
 called Function.not [] = Tree.all Trees.none
 called Function.not (tree ∷ trees) = Tree.not tree
 
--- it keeps the trees of the open lists that have ended, those of inner lists behind those of outer
+-- it keeps the trees of the open lists that have ended, those of inner lists after those of outer
 -- ones
 abbrev pub tree_builder : Builder (List (Tree Question)) ℕ Leaf
 tree_builder = record {

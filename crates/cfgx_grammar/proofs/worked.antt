@@ -115,7 +115,7 @@ bad_key cause = Class.refused cause Part.of_key
 abbrev pub bad_value : Cause → Class
 bad_value cause = Class.refused cause Part.of_value
 
--- Tables: whether each line has the value that stands behind it.
+-- Tables: whether each line has the value that stands after it.
 abbrev pub Lines : {A B : Type 0} → (A → B) → List (A × B) → Type 0
 Lines of lines = map (λ line. of line.0) lines ≡ map (λ line. line.1) lines
 
@@ -126,7 +126,7 @@ shown text = first_fault text (lexed text) Ending.blank
 abbrev pub fault : Cause → ℕ → ℕ → Option Refusal
 fault cause start end = Some (refusal cause start end)
 
--- the fault of a token that is refused behind the last one
+-- the fault of a token that is refused after the last one
 abbrev pub refused_behind : Option Token → ℕ → ℕ → Option Refusal
 refused_behind last start end = fault (unexpected (expected last)) start end
 
@@ -143,7 +143,7 @@ terms = record {
   not = λ term. codes "!" ++ term;
 }
 
--- What trees ask, their values, and which token may stand behind which, computed.
+-- What trees ask, their values, and which token may stand after which, computed.
 
 -- `all(a, any(b), c)` asks b, a, c, and `any(a, all(b, not(c)), d)` asks c, b, a, d. Literals are
 -- passed over: `all(a, true, any(b), false)` asks b, a.
@@ -153,7 +153,7 @@ pub tree_asks : Lines asked ((shallow, flags (codes "b" ∷ codes "a" ∷ codes 
     ∷ (mixed, flags (codes "b" ∷ codes "a" ∷ [])) ∷ [])
 tree_asks = refl
 
--- Which token may stand behind which, and what is expected there.
+-- Which token may stand after which, and what is expected there.
 pub follows : Lines (λ (both : Option Token × Token). next both.0 both.1) (
     ((None, Token.not), true)
     ∷ ((None, Token.close_paren), false)
@@ -330,7 +330,7 @@ is_flag : (word : List ℕ) → class word None ≡ predicate (Question.flag wor
     → IsMember (Token.key word ∷ []) (flag word)
 is_flag word says = (word, None, refl, says)
 
--- Two commas may stand between members; none behind a `(`, and `not` has a member.
+-- Two commas may stand between members; none after a `(`, and `not` has a member.
 pub is_listed : IsTree (tokens_of (lexed (codes "all(a,,b)"))) listed
 unfolding class
 is_listed =
@@ -360,7 +360,7 @@ empty_not_has_none = none_read (codes "not()") _ (search (rules, NoCharPasses-ni
 abbrev reads : List ℕ → Result (State tree_builder) Refusal
 reads text = answer_from initial text (lexed text) Ending.blank
 
--- The place of each fault. The fault of `feature`, which lacks its value, comes behind that of
+-- The place of each fault. The fault of `feature`, which lacks its value, comes after that of
 -- `not`, which has two members.
 pub faults : Lines reads (
     (codes "all(a", Err (refusal unclosed_parens 3 5))

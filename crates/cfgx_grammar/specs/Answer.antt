@@ -35,7 +35,7 @@ IsRefused text fault = HasNoTree text × HasOneFault text fault
 
 -- An expression comes only from a text with one tree and no fault, which nothing is stripped from,
 -- and is seen as that text. A fault is the first fault of a text with no tree, and holds that text.
--- Where memory ran out, the text is one or the other.
+-- If the call is out of memory, the text is one or the other.
 abbrev pub Answers : {A : Type 0} → List ℕ → Result (List ℕ) (Failure A) → Type 0
 Answers text (Ok expression) = (expression ≡ text) × (strip text ≡ text) × IsAccepted text
 Answers text (Err (failure.Parse error)) = (fault : Refusal)

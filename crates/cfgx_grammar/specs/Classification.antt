@@ -52,56 +52,56 @@ target_feature (byte ∷ bytes) = predicate (Question.target_feature (byte ∷ b
 abbrev pub asks : TargetQuestion → Class
 asks question = predicate (Question.target question)
 
--- a line of a table: a name, and what it makes of a value
-pub record Line (Value : Type 0) : Type 0 where
+-- a rule of a table: a name, and what it makes of a value
+pub record Rule (Value : Type 0) : Type 0 where
   pub name : List ℕ
   pub read : Value → Class
 
-abbrev pub line : {Value : Type 0} → List ℕ → (Value → Class) → Line Value
-line name read = record { name = name; read = read }
+abbrev pub rule : {Value : Type 0} → List ℕ → (Value → Class) → Rule Value
+rule name read = record { name = name; read = read }
 
--- the first line with the name, and otherwise the last answer
-abbrev pub by_name : {Value : Type 0} → List (Line Value) → List ℕ → Value → Class → Class
+-- the first rule with the name, and otherwise the last answer
+abbrev pub by_name : {Value : Type 0} → List (Rule Value) → List ℕ → Value → Class → Class
 by_name [] name value otherwise = otherwise
 by_name (first ∷ rest) name value otherwise = if bytes_eq name first.name then first.read value
     else by_name rest name value otherwise
 
 -- by what follows `target_` in the key
-abbrev pub target_lines : List (Line (List ℕ))
-target_lines = line (codes "abi") (λ value. asks (TargetQuestion.abi value))
-    ∷ line (codes "arch") (λ value. asks (TargetQuestion.arch value))
-    ∷ line (codes "os") (λ value. asks (TargetQuestion.os value))
-    ∷ line (codes "family") (λ value. asks (TargetQuestion.family value))
-    ∷ line (codes "env") (λ value. asks (TargetQuestion.env value))
-    ∷ line (codes "vendor") (λ value. asks (TargetQuestion.vendor value))
-    ∷ line (codes "feature") target_feature
-    ∷ line (codes "endian") (λ value. if_read TargetQuestion.endian invalid_integer
+abbrev pub target_rules : List (Rule (List ℕ))
+target_rules = rule (codes "abi") (λ value. asks (TargetQuestion.abi value))
+    ∷ rule (codes "arch") (λ value. asks (TargetQuestion.arch value))
+    ∷ rule (codes "os") (λ value. asks (TargetQuestion.os value))
+    ∷ rule (codes "family") (λ value. asks (TargetQuestion.family value))
+    ∷ rule (codes "env") (λ value. asks (TargetQuestion.env value))
+    ∷ rule (codes "vendor") (λ value. asks (TargetQuestion.vendor value))
+    ∷ rule (codes "feature") target_feature
+    ∷ rule (codes "endian") (λ value. if_read TargetQuestion.endian invalid_integer
     (endian_named value))
-    ∷ line (codes "has_atomic") (λ value. if_read TargetQuestion.has_atomic invalid_has_atomic
+    ∷ rule (codes "has_atomic") (λ value. if_read TargetQuestion.has_atomic invalid_has_atomic
     (atomic_named value))
-    ∷ line (codes "pointer_width") (λ value. if_read TargetQuestion.pointer_width invalid_integer
+    ∷ rule (codes "pointer_width") (λ value. if_read TargetQuestion.pointer_width invalid_integer
     (read_below (2 ^ 8) value))
     ∷ []
 
 abbrev pub target_class : List ℕ → List ℕ → Class
-target_class name value = by_name target_lines name value
+target_class name value = by_name target_rules name value
     (Class.refused (unexpected target_names) Part.of_key)
 
 abbrev pub family : List ℕ → Leaf
 family name = Leaf.predicate (Question.target (TargetQuestion.family name))
 
 -- by the key
-abbrev pub key_lines : List (Line (Option (List ℕ)))
-key_lines = line (codes "true") (bare (Leaf.literal true))
-    ∷ line (codes "false") (bare (Leaf.literal false))
-    ∷ line (codes "unix") (bare (family (codes "unix")))
-    ∷ line (codes "windows") (bare (family (codes "windows")))
-    ∷ line (codes "test") (bare (Leaf.predicate Question.test))
-    ∷ line (codes "debug_assertions") (bare (Leaf.predicate Question.debug_assertions))
-    ∷ line (codes "proc_macro") (bare (Leaf.predicate Question.proc_macro))
-    ∷ line (codes "feature") (valued (λ value. predicate (Question.feature value))
+abbrev pub key_rules : List (Rule (Option (List ℕ)))
+key_rules = rule (codes "true") (bare (Leaf.literal true))
+    ∷ rule (codes "false") (bare (Leaf.literal false))
+    ∷ rule (codes "unix") (bare (family (codes "unix")))
+    ∷ rule (codes "windows") (bare (family (codes "windows")))
+    ∷ rule (codes "test") (bare (Leaf.predicate Question.test))
+    ∷ rule (codes "debug_assertions") (bare (Leaf.predicate Question.debug_assertions))
+    ∷ rule (codes "proc_macro") (bare (Leaf.predicate Question.proc_macro))
+    ∷ rule (codes "feature") (valued (λ value. predicate (Question.feature value))
     (codes "= \"<feature_name>\""))
-    ∷ line (codes "panic") (valued (λ value. asks (TargetQuestion.panic value))
+    ∷ rule (codes "panic") (valued (λ value. asks (TargetQuestion.panic value))
     (codes "= \"<panic_strategy>\""))
     ∷ []
 
@@ -110,11 +110,11 @@ abbrev pub plain : List ℕ → Option (List ℕ) → Class
 plain key None = predicate (Question.flag key)
 plain key (Some value) = predicate (Question.key_value key value)
 
--- a key that stands in no line: it may begin with `target_`
+-- a key that has no rule: it may begin with `target_`
 abbrev pub other_class : List ℕ → Option (List ℕ) → Class
 other_class key value = if starts_with nat_eq key (codes "target_")
     then valued (target_class (drop 7 key)) (codes "= \"<target_cfg_value>\"") value else plain key
     value
 
 unfoldable pub class : List ℕ → Option (List ℕ) → Class
-class key value = by_name key_lines key value (other_class key value)
+class key value = by_name key_rules key value (other_class key value)

@@ -1,5 +1,5 @@
 -- Answers that may be unknown, and what fills the unknown ones.
--- Source: Kleene's strong logic, in which a value is known where every way to fill what is unknown
+-- Source: Kleene's strong logic, in which a value is known if every way to fill what is unknown
 -- leads to it, for each occurrence by itself.
 use Rattle.std.specs.Prelude.{◌≡◌, ◌↔◌, Bool, true, false, not, List}
 use Rattle.std.specs.Prelude.{Option, Some, None, Vec, unwrap_or}
@@ -16,12 +16,12 @@ two_valued = bool_logic.ghosts
 abbrev pub three_valued : Operations (Option Bool)
 three_valued = kleene_logic.ghosts
 
--- a truth value is the answer, where that is known
+-- a truth value is the answer, if that is known
 abbrev pub Agrees : Option Bool → Bool → Type 0
 Agrees None filled = Unit {0}
 Agrees (Some answer) filled = filled ≡ answer
 
--- one truth value for each answer, and the answer itself where that is known
+-- one truth value for each answer, and the answer itself if that is known
 abbrev pub IsFilling : List (Option Bool) → List Bool → Type 0
 IsFilling answers filling = AllZip Agrees answers filling
 
@@ -46,16 +46,16 @@ polar tree answers fill = asked (filled fill (answered three_valued.top tree ans
 
 -- the value of a tree in three values, against the fillings of the answers
 pub record IsExact {X : Type 0} (tree : Tree X) (answers : List (Option Bool)) : Type 0 where
-  -- it is known exactly where every filling leads to it
+  -- it is known exactly if every filling leads to it
   pub known : (value : Bool) → (fold three_valued tree answers ≡ Some value)
       ↔ ((filling : List Bool) → IsFilling answers filling
       → fold two_valued tree filling ≡ value)
-  -- it is unknown exactly where one polar filling makes the tree true and the other one false
+  -- it is unknown exactly if one polar filling makes the tree true and the other one false
   pub unknown : (fold three_valued tree answers ≡ None)
       ↔ ((fold two_valued tree (polar tree answers true) ≡ true)
       × (fold two_valued tree (polar tree answers false) ≡ false))
 
--- What tells whether the value is known: nothing where it is, and else the polar fillings with true
+-- What tells whether the value is known: nothing if it is, and else the polar fillings with true
 -- and with false.
 abbrev pub PolarFillings : {X A : Type 0} → Tree X → List (Option Bool)
     → Option (Vec Bool A × Vec Bool A) → Type 0

@@ -1,4 +1,4 @@
--- The value of a tree, where each of its predicates has an answer of some logic.
+-- The value of a tree, if each of its predicates has an answer of some logic.
 -- Source: the crate cfg-expr's `Expression::eval`, where `all` begins with `top` and `any` with
 -- `bottom`, and the members are joined from the last back to the first; the Rust Reference's
 -- conditional compilation, where `all()` is true and `any()` is false.
@@ -39,7 +39,7 @@ abbrev pub first_or : {T : Type 0} → T → List T → T
 first_or otherwise [] = otherwise
 first_or otherwise (answer ∷ answers) = answer
 
--- the answers of the second of two parts, where the first one asks these
+-- the answers of the second of two parts, if the first one asks these
 abbrev pub behind : {X T : Type 0} → List X → List T → List T
 behind questions answers = drop (length questions) answers
 

@@ -26,7 +26,7 @@ IsLeaf tokens leaf =
 abbrev pub IsCall : Token → List Token → List Token → Type 0
 IsCall name tokens inner = tokens ≡ name ∷ Token.open_paren ∷ (inner ++ Token.close_paren ∷ [])
 
--- n commas stand between a member and those behind it: any number behind the last, else at least
+-- n commas stand between a member and those after it: any number after the last, else at least
 -- one
 abbrev pub Separates : ℕ → Trees Question → Type 0
 Separates n Trees.none = Unit {0}

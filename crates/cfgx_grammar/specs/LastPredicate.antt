@@ -24,7 +24,7 @@ pub record KeyAndValue : Type 0 where
 abbrev pub with_value : Word → KeyAndValue → KeyAndValue
 with_value value p = record p { value = Some value }
 
--- the part of a predicate that is at fault; `class` names the value only where there is one
+-- the part of a predicate that is at fault; `class` names the value only if there is one
 abbrev pub part_of : KeyAndValue → Part → Word
 part_of p Part.of_key = p.key
 part_of p Part.of_value = unwrap_or p.value p.key

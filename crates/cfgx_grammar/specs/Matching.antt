@@ -23,7 +23,7 @@ is_same_width (IntegerSize bits) Pointer = false
 is_same_width Pointer (IntegerSize others) = false
 is_same_width Pointer Pointer = true
 
--- whether a field has a text, where a missing field has the text that stands for it
+-- whether a field has a text; a missing field has the text that stands for it
 abbrev pub has_text : Option (List ℕ) → List ℕ → List ℕ → Bool
 has_text field missing text = bytes_eq (unwrap_or field missing) text
 

@@ -1,4 +1,4 @@
--- Which token may stand behind which: what the crate cfg-expr allows behind each token, and what it
+-- Which token may stand after which: what the crate cfg-expr allows after each token, and what it
 -- says that it expected.
 use Rattle.std.specs.Prelude.{ℕ, Bool, true, false, List, [], ◌∷◌, codes, Option, Some, None}
 use Rattle.std.specs.List.{list_any}
@@ -33,7 +33,7 @@ is_kind Kind.closing Kind.closing = true
 is_kind Kind.comma Kind.comma = true
 is_kind _ _ = false
 
--- what may stand behind the last token, or at the start
+-- what may stand after the last token, or at the start
 abbrev pub followers : Option Token → List Kind
 followers None = Kind.name ∷ []
 followers (Some Token.open_paren) = Kind.name ∷ Kind.closing ∷ []
@@ -49,7 +49,7 @@ followers (Some Token.close_paren) = Kind.closing ∷ Kind.comma ∷ []
 abbrev pub takes : Option Token → Kind → Bool
 takes last kind = list_any (is_kind kind) (followers last)
 
--- whether the token may stand behind the last one, or at the start
+-- whether the token may stand after the last one, or at the start
 abbrev pub next : Option Token → Token → Bool
 next last token = takes last (kind_of token)
 

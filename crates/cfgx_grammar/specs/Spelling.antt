@@ -1,4 +1,4 @@
--- How a predicate is written: a key, and where it has a value one space, `=`, one space and the
+-- How a predicate is written: a key, and if it has a value, one space, `=`, one space and the
 -- value in quotes.
 use Rattle.std.specs.Prelude.{ℕ, List, ◌++◌, codes}
 use Rattle.std.specs.Fmt.{decimal}

@@ -14,7 +14,7 @@ pub record Takes (old new : Option (List ℕ)) (bytes left : List ℕ) : Type 0 
 abbrev pub TakesFront : Option (List ℕ) → Option (List ℕ) → List ℕ → Type 0
 TakesFront old new bytes = (left : List ℕ) × Takes old new bytes left
 
--- it has taken them all, or a beginning of them where it answers an error
+-- it has taken them all, or a beginning of them if it answers an error
 abbrev pub Writes : {E : Type 0} → Option (List ℕ) → Option (List ℕ) → Result (Unit {0}) E
     → List ℕ → Type 0
 Writes old new (Ok done) bytes = Appends old new bytes

@@ -81,7 +81,7 @@ IsHeld-parens s place h = record {
       (omega arith) h.marks;
 }
 
--- what is kept where a step may be taken
+-- what is kept if a step may be taken
 IfOk-taken : {A E : Type 0} (P Q : A → Type 0) (f : A → A) (may : Bool) (r : Result A E) (e : E)
     → ((a : A) → P a → Q (f a)) → IfOk r P → IfOk (if may then result_map f r else Err e) Q
 IfOk-taken P Q f true (Ok a) e keeps holds = keeps a holds

@@ -34,11 +34,11 @@ asked_root tree = grind (arith, append-nil)
 -- the predicate at the root is the last that is asked
 KeepsTree-writes : (text : List ℕ) (w v : Written) (tree : Tree Question) → with_list_ended 0 w ≡ v
     → WritesNodes text nothing w (prefix tree) (own 0 tree) (inner 0 tree)
-    → KeepsTree text v.nodes v.asked tree
+    → KeepsTree text v.nodes v.index tree
 KeepsTree-writes text w v tree is a = rw (← is) (record {
   nodes_are = rw a.nodes_are a.shown_are;
   cuts = rw a.nodes_are a.cuts;
-  asked_are = rw (a.asked_are, a.leaves_are) (asked_root tree);
+  index_are = rw (a.index_are, a.leaves_are) (asked_root tree);
 })
 
 module _ (text : List ℕ) (one : HasOneTokenList text) where
@@ -55,7 +55,7 @@ module _ (text : List ℕ) (one : HasOneTokenList text) where
       )
 
   pub KeepsOneTree-accepted : (u : ParserState) → answer text one ≡ Ok u
-      → KeepsOneTree text u.written.nodes u.written.asked
+      → KeepsOneTree text u.written.nodes u.written.index
   KeepsOneTree-accepted u e =
       let (tree, has) = tree_of text one u e in
       let f = FindsTree-tree text one (node_laws text) tree has in

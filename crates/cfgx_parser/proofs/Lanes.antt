@@ -8,7 +8,7 @@ use Rattle.std.proofs.lemmas.List.{length-append, length-map, nil_from_length}
 use Rattle.std.proofs.Math.Nat.{pow-succ'}
 use Rattle.std.proofs.Math.Pow.{pow_mono}
 use Rattle.std.proofs.lemmas.Nat.Bits.{bit_at-zero, bit_at-suc, bit_at_lowest}
-use Rattle.cfgx_syntax.specs.Kleene.{AreApart, EachLane, answer_of}
+use Rattle.cfgx_syntax.specs.Kleene.{AreApart, EachLane, answer_of_bits}
 use Rattle.cfgx_syntax.proofs.Lanes.{AreApart-from}
 
 abbrev pub digit : Bool → ℕ
@@ -29,7 +29,7 @@ bit_at-next false n i = bit_at-suc (0 + 2 * n) i ∙ ap (λ m. bit_at m i) (omeg
 digit-opposite : (b : Bool) → digit b + digit (not b) ≡ 1
 digit-opposite b = grind arith
 
-answer-digit : (b : Bool) → answer_of (digit b) (digit (not b)) ≡ slice_get (b ∷ []) 0
+answer-digit : (b : Bool) → answer_of_bits (digit b) (digit (not b)) ≡ slice_get (b ∷ []) 0
 answer-digit b = grind arith
 
 -- at most one of both planes has a bit
@@ -41,7 +41,7 @@ bits-apart (b ∷ bs) (suc i) =
 
 -- the lanes are the answers, and unknown past them
 lane-bits : (bs : List Bool) (i : ℕ)
-    → answer_of (bit_at (bits bs) i) (bit_at (bits (map not bs)) i) ≡ slice_get bs i
+    → answer_of_bits (bit_at (bits bs) i) (bit_at (bits (map not bs)) i) ≡ slice_get bs i
 lane-bits [] i = rw bit_at-zero refl
 lane-bits (b ∷ bs) zero =
     rw (bit_at-first b (bits bs), bit_at-first (not b) (bits (map not bs))) (answer-digit b)

@@ -59,7 +59,7 @@ module _ {A : Type 0} (last : LastToken) (result : Result (Unit {0}) Halt)
       GivesAt-after {A = A} _ result new _ _ gives
       (rw may (apply-after before (state_of {A = A} old) (item_of lexed) (token_of lexed.token)))
 
-  -- the end behind a token that needs no value
+  -- the end after a token that needs no value
   pub Finishes-ended : (len : ℕ) → lacks_value (token_like last) ≡ false
       → Gives {A = A} result new (concluded (state_of {A = A} old) len)
       → Finishes {A = A} last len old new result

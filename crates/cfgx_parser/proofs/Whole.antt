@@ -24,7 +24,7 @@ pub record Begins {A : Type 0} (text : List ℕ) (lexer : LexerState)
   pub lexer_is : lexer ≡ starting text
   pub state_is : state_of {A = A} parser ≡ initial
 
--- where memory runs out
+-- if it is out of memory
 pub Answers-memory : {A : Type 0} (text : List ℕ) → HasOneTokenList text → (error : _)
     (result : Result (List ℕ) (Failure A)) → IsErrAnd result (λ f. f ≡ failure.Memory error)
     → Answers text result
@@ -48,7 +48,7 @@ module _ {A : Type 0} {text : List ℕ} {lexer : LexerState} {old : Parser A} (n
 
   -- what is accepted
   pub Accepted : Begins {A = A} text lexer old → ReadsAll {A = A} lexer old new (Ok tt)
-      → KeepsOneTree text new.writer.nodes.items new.writer.asked.items
+      → KeepsOneTree text new.writer.nodes.items new.writer.index.items
       × (strip text ≡ text) × IsAccepted text
   Accepted b reads =
       let (state, accepts, reaches) = (given (Ok tt) b reads).1 in

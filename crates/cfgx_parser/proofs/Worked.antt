@@ -31,7 +31,7 @@ single_read = record initial {
   last = Some Token.close_paren;
   written = record nothing {
     nodes = node.Fn (func.All 1) 2 ∷ node.Predicate (inner.Other (span 4 5) None) ∷ [];
-    asked = 1 ∷ [];
+    index = 1 ∷ [];
   };
 }
 

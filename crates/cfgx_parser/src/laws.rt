@@ -11,7 +11,7 @@ use crate::predicates::{Predicate, TargetPredicate};
 use std::alloc::Allocator;
 use std::cmp::Ordering;
 
-/// Two target predicates are equal where they are of one kind and have equal texts, wherever these
+/// Two target predicates are equal if they are of one kind and have equal texts, wherever these
 /// lie.
 pub fn are_same_targets<A: Allocator>(
     one: &TargetPredicate<'_, A>,
@@ -22,7 +22,7 @@ pub fn are_same_targets<A: Allocator>(
     *one == *other
 }
 
-/// Two predicates are equal where they are of one kind and have equal texts, wherever these lie.
+/// Two predicates are equal if they are of one kind and have equal texts, wherever these lie.
 pub fn are_same_predicates<A: Allocator>(one: &Predicate<'_, A>, other: &Predicate<'_, A>) -> bool
     ensures { IsTrue result ↔ (question_of one.now ≡ question_of other.now) }
 {
@@ -36,7 +36,7 @@ pub fn function_order(one: Func, other: Func) -> Ordering
     one.cmp(&other)
 }
 
-/// Functions are equal where they are the same.
+/// Functions are equal if they are the same.
 pub fn are_same_functions(one: Func, other: Func) -> bool
     ensures { IsTrue result ↔ (one ≡ other) }
 {

@@ -5,7 +5,6 @@ mod classification;
 pub mod function;
 mod laws;
 pub mod matcher;
-pub mod memory;
 pub mod nodes;
 pub mod parsed;
 mod parser;

@@ -2,7 +2,7 @@
 ghost use Rattle.std.specs.Prelude.{◌≡◌, ◌<◌, ◌≤◌, length, OnOk, IfOk};
 
 use crate::function::Func;
-use crate::memory::SmallAllocator;
+use cfgx_syntax::memory::SmallAllocator;
 use cfgx_targets::atomic::HasAtomic;
 use cfgx_targets::endian::Endian;
 use smallvec::SmallVec;
@@ -110,7 +110,7 @@ pub(crate) struct Writer<A: SmallAllocator> {
     /// The places of predicates whose list is open, those of inner lists last
     pub(crate) leaves: SmallVec<usize, 5, A>,
     /// The places of the other predicates, in the order in which they are asked
-    pub(crate) asked: SmallVec<usize, 5, A>,
+    pub(crate) index: SmallVec<usize, 5, A>,
 }
 
 impl<A: SmallAllocator> Writer<A> {
@@ -126,7 +126,7 @@ impl<A: SmallAllocator> Writer<A> {
         Ok(Writer {
             nodes: SmallVec::with_capacity(alloc, room)?,
             leaves: SmallVec::new(alloc),
-            asked: SmallVec::new(alloc),
+            index: SmallVec::new(alloc),
         })
     }
 
@@ -166,13 +166,13 @@ impl<A: SmallAllocator> Writer<A> {
         Ok(())
     }
 
-    /// Ends a list: its own predicates, which are behind the first `leaves`, are asked next.
+    /// Ends a list: its own predicates, which come after the first `leaves`, are asked next.
     #[inline(always)]
     pub(crate) fn end_list(&mut self, leaves: usize) -> Result<(), AllocError>
         requires { leaves ≤ length (written_of self.old).leaves }
         ensures { OnOk result (written_of self.new ≡ with_list_ended leaves (written_of self.old)) }
     {
-        self.asked
+        self.index
             .extend_from_slice(&self.leaves.as_slice()[leaves..])?;
         self.leaves.truncate(leaves);
         Ok(())

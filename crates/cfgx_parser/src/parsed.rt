@@ -7,12 +7,12 @@ ghost use Rattle.cfgx_grammar.specs.Regular.{IsRegular};
 ghost use Rattle.cfgx_grammar.specs.Tree.{asked};
 ghost use Rattle.cfgx_parser.specs.nodes.Prefix.{node_at, prefix, places};
 
-use crate::memory::SmallAllocator;
 use crate::nodes::ExprNode;
 use crate::parser::Parser;
 use crate::predicates::Predicates;
 use cfgx_syntax::error::Failure;
 use cfgx_syntax::lexer::Lexer;
+use cfgx_syntax::memory::SmallAllocator;
 use smallvec::SmallVec;
 use std::alloc::{AllocError, Allocator, Global};
 use std::marker::Model;
@@ -24,7 +24,7 @@ pub struct Parsed<A: Allocator = Global> {
     /// In source order
     nodes: SmallVec<ExprNode, 5, A>,
     /// The places of the predicates among the nodes, in the order in which they are asked
-    asked: SmallVec<usize, 5, A>,
+    index: SmallVec<usize, 5, A>,
 }
 
 impl<A: Allocator> Model for Parsed<A> {
@@ -35,7 +35,7 @@ impl<A: Allocator> Model for Parsed<A> {
 
     ghost view = { λ p. string_bytes p.original };
 
-    ghost invariant = { λ p. KeepsOneTree (string_bytes p.original) p.nodes.items p.asked.items };
+    ghost invariant = { λ p. KeepsOneTree (string_bytes p.original) p.nodes.items p.index.items };
 }
 
 impl<A: Allocator> Parsed<A> {
@@ -61,7 +61,7 @@ impl<A: SmallAllocator> Parsed<A> {
     pub fn places(&self) -> &[usize]
         ensures { (one : HasOneTree self.now) × (result.now ≡ places 0 one.tree) }
     {
-        self.asked.as_slice()
+        self.index.as_slice()
     }
 
     /// The predicates in the order in which they are asked. It takes no memory.
@@ -72,7 +72,7 @@ impl<A: SmallAllocator> Parsed<A> {
         Predicates::new(
             self.original.as_str(),
             self.nodes.as_slice(),
-            self.asked.as_slice(),
+            self.index.as_slice(),
         )
     }
 
@@ -85,7 +85,7 @@ impl<A: SmallAllocator> Parsed<A> {
         Ok(Parsed {
             original: String::from_str(alloc, self.original.as_str())?,
             nodes: SmallVec::from_clones(alloc, self.nodes.as_slice())?,
-            asked: SmallVec::from_slice(alloc, self.asked.as_slice())?,
+            index: SmallVec::from_slice(alloc, self.index.as_slice())?,
         })
     }
 }
@@ -101,10 +101,10 @@ pub fn parse<A: SmallAllocator>(alloc: A, original: &str) -> Result<Parsed<A>, F
     let mut parser = Parser::new(alloc, text.len())?;
     parser.read_all(alloc, lexer)?;
     let original = String::from_str(alloc, text)?;
-    let (nodes, asked) = parser.into_parts();
+    let (nodes, index) = parser.into_parts();
     Ok(Parsed {
         original,
         nodes,
-        asked,
+        index,
     })
 }

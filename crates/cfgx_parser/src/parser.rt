@@ -14,11 +14,11 @@ ghost use Rattle.cfgx_parser.specs.parsing.Fields.{last_of, token_like};
 ghost use Rattle.cfgx_parser.specs.parsing.Parser.{shown};
 
 use crate::classification::{Pending, Word, classify};
-use crate::function::Func;
-use crate::memory::SmallAllocator;
+use crate::function::{Func, FuncKind};
 use crate::nodes::{ExprNode, Mark, Span, Writer};
 use cfgx_syntax::error::{Failure, Reason};
 use cfgx_syntax::lexer::{Lexer, LexerToken, Token};
+use cfgx_syntax::memory::SmallAllocator;
 use smallvec::SmallVec;
 use std::alloc::AllocError;
 
@@ -46,7 +46,7 @@ impl OpenList {
 /// A function whose `)` was not read yet.
 #[derive(Drop)]
 pub(crate) struct FuncAndSpan {
-    func: Func,
+    kind: FuncKind,
     /// Where its name stands
     span: Span,
     /// Where it began among the nodes
@@ -58,7 +58,7 @@ pub(crate) struct FuncAndSpan {
 impl Default for FuncAndSpan {
     fn default() -> Self {
         FuncAndSpan {
-            func: Func::Not,
+            kind: FuncKind::Not,
             span: 0..0,
             mark: Mark { node: 0, leaves: 0 },
             around: OpenList::new(),
@@ -146,7 +146,7 @@ pub(crate) struct Parser<'a, A: SmallAllocator> {
     fault: Option<Fault>,
 }
 
-/// Whether the token may stand behind the last one, or at the start.
+/// Whether the token may stand after the last one, or at the start.
 fn may_follow(last: LastToken, token: Token<'_>) -> bool
     ensures { result ≡ next (token_like last) (token_of token.entry) }
 {
@@ -163,7 +163,7 @@ fn may_follow(last: LastToken, token: Token<'_>) -> bool
     }
 }
 
-/// What a fault says that it expected behind the last token, or at the start.
+/// What a fault says that it expected after the last token, or at the start.
 fn expected(last: LastToken) -> Reason
     ensures { cause_of result ≡ unexpected (expected (token_like last)) }
 {
@@ -188,23 +188,23 @@ fn lacks_value(last: LastToken) -> bool
 }
 
 /// The function with this many members.
-fn counted(func: Func, members: usize) -> Func
-    ensures { result ≡ counted (function_of func) members }
+fn counted(kind: FuncKind, members: usize) -> Func
+    ensures { result ≡ counted (function_of kind) members }
 {
-    match func {
-        Func::Not => Func::Not,
-        Func::All(_) => Func::All(members),
-        Func::Any(_) => Func::Any(members),
+    match kind {
+        FuncKind::Not => Func::Not,
+        FuncKind::All => Func::All(members),
+        FuncKind::Any => Func::Any(members),
     }
 }
 
 /// Whether the function may have this many members.
-fn has_room(func: Func, members: usize) -> bool
-    ensures { result ≡ has_room (function_of func) members }
+fn has_room(kind: FuncKind, members: usize) -> bool
+    ensures { result ≡ has_room (function_of kind) members }
 {
-    match func {
-        Func::Not => members == 1,
-        Func::All(_) | Func::Any(_) => true,
+    match kind {
+        FuncKind::Not => members == 1,
+        FuncKind::All | FuncKind::Any => true,
     }
 }
 
@@ -326,13 +326,13 @@ impl<'a, A: SmallAllocator> Parser<'a, A> {
     }
 
     /// Opens a function, whose name stands at the span.
-    fn open(&mut self, func: Func, span: Span) -> Result<(), AllocError>
-        ensures { OnOk result (Opens self.old self.new (function_of func) span) }
+    fn open(&mut self, kind: FuncKind, span: Span) -> Result<(), AllocError>
+        ensures { OnOk result (Opens self.old self.new (function_of kind) span) }
     {
         let mark = self.writer.mark();
-        self.writer.function(counted(func, 0))?;
+        self.writer.function(counted(kind, 0))?;
         self.func_stack.push(FuncAndSpan {
-            func,
+            kind,
             span,
             mark,
             around: self.list,
@@ -350,13 +350,13 @@ impl<'a, A: SmallAllocator> Parser<'a, A> {
             return Err(self.halt(Reason::UnopenedParens, span));
         };
         let members = self.list.members + usize::from(self.pending.is_some());
-        if !has_room(top.func, members) {
+        if !has_room(top.kind, members) {
             return Err(self.halt(Reason::InvalidNot(members), top.span.start..span.end));
         }
         self.write_pending()?;
         self.list = top.around;
         self.writer
-            .end_function(top.mark, counted(top.func, members))?;
+            .end_function(top.mark, counted(top.kind, members))?;
         self.count_member();
         Ok(())
     }
@@ -374,7 +374,7 @@ impl<'a, A: SmallAllocator> Parser<'a, A> {
         }
     }
 
-    /// What a token does where it may stand.
+    /// What a token does if it may stand there.
     fn apply(&mut self, lexed: LexerToken<'a>) -> Result<(), Halt>
         requires bounded { IsBounded (state_of self.old) }
         requires quoted { IsQuoted lexed }
@@ -382,7 +382,7 @@ impl<'a, A: SmallAllocator> Parser<'a, A> {
             (apply (state_of self.old) (item_of lexed.entry) (token_of lexed.entry.token)) }
     {
         let LexerToken { token, span } = lexed;
-        let func = match token {
+        let kind = match token {
             Token::Key(text) => {
                 let key = Word { text, span };
                 self.pending = Some(Pending { key, value: None });
@@ -399,14 +399,14 @@ impl<'a, A: SmallAllocator> Parser<'a, A> {
             }
             Token::CloseParen => return self.close(span),
             Token::Comma => return self.end_predicate(),
-            Token::All => Func::All(0),
-            Token::Any => Func::Any(0),
-            Token::Not => Func::Not,
+            Token::All => FuncKind::All,
+            Token::Any => FuncKind::Any,
+            Token::Not => FuncKind::Not,
         };
-        Ok(self.open(func, span)?)
+        Ok(self.open(kind, span)?)
     }
 
-    /// Reads one token behind the last one, or at the start.
+    /// Reads one token after the last one, or at the start.
     fn read(&mut self, last: LastToken, lexed: LexerToken<'a>) -> Result<(), Halt>
         requires bounded { IsBounded (state_of self.old) }
         requires quoted { IsQuoted lexed }
@@ -445,7 +445,7 @@ impl<'a, A: SmallAllocator> Parser<'a, A> {
         self.one_root(len)
     }
 
-    /// Ends a text of so many bytes behind its last token, and completes its nodes.
+    /// Ends a text of so many bytes after its last token, and completes its nodes.
     fn finish(&mut self, last: LastToken, len: usize) -> Result<(), Halt>
         requires { IsBounded (state_of self.old) }
         ensures { Finishes last len self.old self.new result }
@@ -482,10 +482,10 @@ impl<'a, A: SmallAllocator> Parser<'a, A> {
     /// The nodes that were written, and the places of the predicates among them.
     pub(crate) fn into_parts(self) -> (SmallVec<ExprNode, 5, A>, SmallVec<usize, 5, A>)
         ensures nodes { result.0 ≡ self.entry.writer.nodes }
-        ensures asked { result.1 ≡ self.entry.writer.asked }
+        ensures index { result.1 ≡ self.entry.writer.index }
     {
         let Parser { writer, .. } = self;
-        let Writer { nodes, asked, .. } = writer;
-        (nodes, asked)
+        let Writer { nodes, index, .. } = writer;
+        (nodes, index)
     }
 }

@@ -137,7 +137,7 @@ pub struct Predicates<'a> {
     text: &'a str,
     nodes: &'a [ExprNode],
     /// The places of those that are still to come
-    asked: &'a [usize],
+    index: &'a [usize],
 }
 
 impl<'a> Model for Predicates<'a> {
@@ -147,9 +147,9 @@ impl<'a> Model for Predicates<'a> {
 
     ghost Value = { List Question };
 
-    ghost view = { λ p. questions_at p.text.now p.nodes.now p.asked.now };
+    ghost view = { λ p. questions_at p.text.now p.nodes.now p.index.now };
 
-    ghost invariant = { λ p. NamePredicates p.text.now p.nodes.now p.asked.now };
+    ghost invariant = { λ p. NamePredicates p.text.now p.nodes.now p.index.now };
 }
 
 impl<'a> Predicates<'a> {
@@ -157,18 +157,18 @@ impl<'a> Predicates<'a> {
 
     /// The predicates of the nodes at the places, one after another as these come. The nodes are
     /// those of the text.
-    pub(crate) fn new(text: &'a str, nodes: &'a [ExprNode], asked: &'a [usize]) -> Self
-        requires { NamePredicates text.now nodes.now asked.now }
-        ensures { result ≡ questions_at text.now nodes.now asked.now }
+    pub(crate) fn new(text: &'a str, nodes: &'a [ExprNode], index: &'a [usize]) -> Self
+        requires { NamePredicates text.now nodes.now index.now }
+        ensures { result ≡ questions_at text.now nodes.now index.now }
     {
-        Predicates { text, nodes, asked }
+        Predicates { text, nodes, index }
     }
 
     /// The number of predicates that are still to come.
     pub fn left(&self) -> usize
         ensures { result ≡ length self.now }
     {
-        self.asked.len()
+        self.index.len()
     }
 }
 
@@ -183,8 +183,8 @@ impl<'a> Iterator for Predicates<'a> {
 
     #[inline(always)]
     fn next(&mut self) -> Option<Predicate<'a>> {
-        let (place, others) = self.asked.split_first()?;
-        self.asked = others;
+        let (place, others) = self.index.split_first()?;
+        self.index = others;
         match self.nodes.get(*place) {
             Some(ExprNode::Predicate(predicate)) => Some(predicate.to_pred(self.text)),
             _ => unreachable!(),

@@ -1,5 +1,5 @@
 //! The named values of this crate's field types, each the borrowed text that equals its name.
-//! Where nothing else says the allocator, a caller names it, as in `Os::<Global>::linux()`.
+//! If nothing else says the allocator, a caller names it, as in `Os::<Global>::linux()`.
 
 ghost use Rattle.std.specs.Prelude.{◌≡◌, codes};
 

@@ -1,4 +1,4 @@
--- ASCII white space in front of a text, and the white space behind that.
+-- ASCII white space in front of a text, and the white space after that.
 use Rattle.std.proofs.Common.{◌≡◌, ℕ, ◌+◌, ◌<◌, true, false, List, [], ◌∷◌, ◌++◌, length, take}
 use Rattle.std.proofs.Common.{drop, get_or, sym, refl, ap, ◌∙◌, subst, arith, add-zero}
 use Rattle.std.proofs.Common.{length-append, length-drop, take-append-drop}
@@ -57,7 +57,7 @@ IsTrimStart-ascii (c ∷ cs) low stops =
     IsTrimStart-here (c ∷ cs) cs
     (λ _. (c, visible, rw (encode_ascii c ascii) refl, ascii-scalar c ascii))
 
--- behind white space, it is what is left of the rest
+-- after white space, it is what is left of the rest
 pub IsTrimStart-past : (front text rest : List ℕ) → NoCharPasses is_not_whitespace front
     → IsTrimStart text rest → IsTrimStart (front ++ text) rest
 IsTrimStart-past front text rest blank (n, is, white, starts, short) = (

@@ -27,7 +27,7 @@ use Rattle.cfgx_syntax.proofs.Values.{BeginsWith-value, HasNoQuote-from}
 use Rattle.cfgx_syntax.proofs.Words.{BeginsWith-byte, BeginsWith-word, word_front}
 use Rattle.cfgx_syntax.proofs.TokenList.{ItemsFrom-same}
 
--- what is left of a text behind the white space in front is a text
+-- what is left of a text after the white space in front is a text
 abbrev Trimmed : List ℕ → Type 0
 Trimmed text = (rest : List ℕ) × IsTrimStart text rest × IsUtf8 rest
 
@@ -149,7 +149,7 @@ record Found (text : List ℕ) (from : ℕ) : Type 0 where
   pub are : ItemsFrom text from items ending
   pub cuts : AllByRecursion (λ i. CanBeCut text i.token i.start i.end) items
 
--- the first item or the ending, where what follows an item is known
+-- the first item or the ending, if what follows an item is known
 found_behind : (text rest : List ℕ) (from : ℕ) → IsUtf8 rest → IsBehind text rest from
     → ((place : ℕ) → from < place → place ≤ length text → IsUtf8 (drop place text)
     → Found text place)
@@ -163,7 +163,7 @@ found_behind text rest from utf8 behind next some (Begins.token kind len front) 
     let past : drop len rest ≡ drop (s + len) text =
     ap (drop len) (rest_is text rest from behind) ∙ drop-drop len s text in
     let text_behind : IsUtf8 (drop (s + len) text) =
-    subst IsUtf8 past (IsUtf8-drop rest len utf8 front.cut.spelling.closes) in
+    subst IsUtf8 past (IsUtf8-drop rest len utf8 front.cut.spelling.at_end) in
     let past_from : from < s + len = omega (arith, stands.behind, front.some) in
     let more = next (s + len) past_from stands.inside text_behind in
     record {

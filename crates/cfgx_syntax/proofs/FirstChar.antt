@@ -23,7 +23,7 @@ char_some c more =
     let bounds = len_utf8_bounds c in
     omega (arith, length-append (encode_utf8 c) more, length-encode c, bounds.0)
 
--- behind white space, the first character that is none, and what follows it, are determined
+-- after white space, the first character that is none, and what follows it, are determined
 same_behind : (ws vs : List ℕ) (c d : ℕ) (r t : List ℕ) → NonePass is_not_whitespace ws
     → NonePass is_not_whitespace vs → is_not_whitespace c ≡ true → is_not_whitespace d ≡ true
     → encode_utf8_all ws ++ (encode_utf8 c ++ r) ≡ encode_utf8_all vs ++ (encode_utf8 d ++ t)

@@ -121,7 +121,7 @@ front_starts rest token len spelled =
     let long : 0 < len = omega (arith, some, length-take len rest) in
     rw get_or-take at (Spells-first (take len rest) token spelled)
 
--- where a quote is never closed, a token would not end in the text
+-- if a quote is never closed, a token would not end in the text
 pub unclosed_len : (rest : List ℕ) → OpensNoValue rest → length rest < token_len rest
 unclosed_len rest (more, is, none) =
     let all = rw append-nil at (quote_after more [] none) in rw is (omega (arith, all))

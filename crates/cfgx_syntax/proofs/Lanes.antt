@@ -8,7 +8,7 @@ use Rattle.std.proofs.lemmas.Grind.{common_steps}
 use Rattle.std.proofs.lemmas.Nat.{and_comm}
 use Rattle.std.proofs.lemmas.Nat.Bits.{bit_at_and, bit_at_or, bit_at-zero, bit_at-lt, bit_at_ones}
 use Rattle.std.proofs.lemmas.Nat.Bits.{same_from_bits}
-use Rattle.cfgx_syntax.specs.Kleene.{Planes, AreApart, IsApart, EachLane, answer_of, lane}
+use Rattle.cfgx_syntax.specs.Kleene.{Planes, AreApart, IsApart, EachLane, answer_of_bits, lane}
 use Rattle.cfgx_syntax.specs.Kleene.{planes_and, planes_or, planes_not, planes_top, planes_bottom}
 use Rattle.cfgx_syntax.specs.Logic.{kleene_and, kleene_or, kleene_not}
 
@@ -39,14 +39,14 @@ AreApart-or t f u g one other =
     (AreApart-and f t g u (AreApart-not t f one) (AreApart-not u g other))
 
 by_and : (t f u g : ℕ) → t + f ≤ 1 → u + g ≤ 1
-    → answer_of (min t u) (max f g) ≡ kleene_and (answer_of t f) (answer_of u g)
+    → answer_of_bits (min t u) (max f g) ≡ kleene_and (answer_of_bits t f) (answer_of_bits u g)
 by_and t f u g one other = grind (arith, nat_tests, common_steps)
 
 by_or : (t f u g : ℕ) → t + f ≤ 1 → u + g ≤ 1
-    → answer_of (max t u) (min f g) ≡ kleene_or (answer_of t f) (answer_of u g)
+    → answer_of_bits (max t u) (min f g) ≡ kleene_or (answer_of_bits t f) (answer_of_bits u g)
 by_or t f u g one other = grind (arith, nat_tests, common_steps)
 
-by_not : (t f : ℕ) → t + f ≤ 1 → answer_of f t ≡ kleene_not (answer_of t f)
+by_not : (t f : ℕ) → t + f ≤ 1 → answer_of_bits f t ≡ kleene_not (answer_of_bits t f)
 by_not t f few = grind (arith, nat_tests, common_steps)
 
 pub EachLane-and : (one other : Planes) → IsApart one → IsApart other

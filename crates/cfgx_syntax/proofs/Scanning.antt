@@ -1,4 +1,4 @@
--- What the lexer finds behind white space stands in the whole text.
+-- What the lexer finds after white space stands in the whole text.
 use Rattle.std.proofs.Common.{Some, ◌∙◌, rules, ◌≡◌, ℕ, ◌+◌, ◌-◌, ◌<◌, ◌≤◌, min, true, false, List}
 use Rattle.std.proofs.Common.{length, inl, inr, ◌⊎◌, refl, drop, get_or, ap, subst, arith}
 use Rattle.std.proofs.Common.{length-drop}
@@ -22,7 +22,7 @@ use Rattle.cfgx_syntax.proofs.Cutting.{CanBeCut-from_rest}
 pub starts_token-ascii : (c : ℕ) → starts_token c ≡ true → c < 128
 starts_token-ascii c h = grind (arith, nat_tests, common_steps)
 
--- `rest` is what follows the white space behind the place in the text
+-- `rest` is what follows the white space after the place in the text
 pub record IsBehind (text rest : List ℕ) (place : ℕ) : Type 0 where
   pub inside : place ≤ length text
   pub trimmed : IsTrimStart (drop place text) rest
@@ -71,7 +71,7 @@ module _ (text rest : List ℕ) (place : ℕ) (behind : IsBehind text rest place
       CanBeCut-from_rest text start (omega arith) token len begins.some
       (subst (λ l. CanBeCut l token 0 len) rest_is begins.cut)
 
-  -- the first character behind white space is a byte if it begins a token
+  -- the first character after white space is a byte if it begins a token
   IsStuck-found : 0 < length rest → starts_token (get_or rest 0 0) ≡ false
       → IsStuck text place start
   IsStuck-found some none =
@@ -99,7 +99,7 @@ module _ (text rest : List ℕ) (place : ℕ) (behind : IsBehind text rest place
       let ends : IsUnclosed text place start = search (rules, place_le_start, gap_is_blank) in
       (Ending.unclosed_quotes start, ends, rw (unclosed.why, all) refl)
 
--- the state behind what was given
+-- the state after what was given
 pub state_at : (text : List ℕ) (n m : ℕ) → n ≡ m
     → ◌≡◌ {A = LexerState} (record { text = text; place = n }) (record { text = text; place = m })
 state_at text n m e = let f : ℕ → LexerState = λ k. record { text = text; place = k } in ap f e

@@ -44,7 +44,7 @@ first_char : (rest : List ℕ) → starts_token (get_or rest 0 0) ≡ true
 first_char [] starts = absurd (false≢true starts)
 first_char (c ∷ more) starts = rw (encode_ascii c (starts_token-ascii c starts)) refl
 
--- a byte that begins a token is the first character behind white space
+-- a byte that begins a token is the first character after white space
 first_of : (text : List ℕ) (from place : ℕ) → from ≤ place → IsBlank (slice_range text from place)
     → starts_token (get_or (drop place text) 0 0) ≡ true
     → IsFirst text from place (get_or (drop place text) 0 0)

@@ -1,4 +1,4 @@
--- Where a value ends: at the first quote behind the one that opens it.
+-- Where a value ends: at the first quote after the one that opens it.
 use Rattle.std.proofs.Common.{rules, ◌≡◌, ℕ, suc, ◌+◌, ◌-◌, ◌<◌, ◌≤◌, ◌≢◌, false, List, [], ◌∷◌}
 use Rattle.std.proofs.Common.{◌++◌, length, take, drop, get_or, sym, refl, ap, ◌∙◌, arith}
 use Rattle.std.proofs.Common.{length-append, append_assoc, length-take, length-drop}

@@ -44,7 +44,7 @@ word_front (byte ∷ rest) starts =
     rw (starts_word-continues byte starts, one-add)
     ((starts, passing_front continues_word rest), omega arith)
 
--- behind bytes that pass a test which only ASCII passes
+-- after bytes that pass a test which only ASCII passes
 pub IsCharBoundary-behind : (p : ℕ → Bool) → ((c : ℕ) → p c ≡ true → c < 128) → (text : List ℕ)
     → IsUtf8 text → IsCharBoundary text (prefix_len p text)
 IsCharBoundary-behind p low text utf8 = by (prefix_len p text) refl where

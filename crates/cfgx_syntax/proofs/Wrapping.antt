@@ -30,7 +30,7 @@ strip-wrapped text inner kept p q =
     omega (arith, ap length whole, length-append kept (codes ")")) in
     rw (front, back, left) (sym (take_at kept (codes ")") _ long))
 
--- what starts with `cfg(` and has `)` last has the `)` behind the `cfg(`
+-- what starts with `cfg(` and has `)` last has the `)` after the `cfg(`
 ends_after : (inner front : List ℕ) → codes "cfg(" ++ inner ≡ front ++ codes ")"
     → inner ≡ drop 4 front ++ codes ")"
 ends_after [] front e =

@@ -7,8 +7,8 @@ use Rattle.cfgx_syntax.specs.Token.{Token}
 pub record IsCut (text : List ℕ) (start end : ℕ) : Type 0 where
   pub ordered : start ≤ end
   pub inside : end ≤ length text
-  pub opens : IsCharBoundary text start
-  pub closes : IsCharBoundary text end
+  pub at_start : IsCharBoundary text start
+  pub at_end : IsCharBoundary text end
 
 -- what a value holds, one byte in from both quotes, can be cut out of the text; of another token
 -- nothing is said

@@ -47,7 +47,7 @@ cause_of reason.UnknownBuiltin = unknown_builtin
 abbrev pub quoted : List ℕ → List ℕ
 quoted term = codes "`" ++ term ++ codes "`"
 
--- terms between back quotes, each behind a comma and a space
+-- terms between back quotes, each after a comma and a space
 abbrev pub more_terms_text : List (List ℕ) → List ℕ
 more_terms_text terms = flat_map (λ term. codes ", " ++ quoted term) terms
 
@@ -109,7 +109,7 @@ fault_in text refusal = record {
 abbrev pub byte_of : List ℕ → ℕ
 byte_of text = slice_index text 0
 
--- the marks below the text, behind the spaces: what was never closed is named from its start, what
+-- the marks below the text, after the spaces: what was never closed is named from its start, what
 -- was never opened is one place, and every other fault is marked byte for byte
 abbrev pub marks : ℕ → Cause → List ℕ
 marks width unclosed_parens = codes "-"
@@ -133,7 +133,7 @@ fault_of e = record {
   cause = cause_of e.reason;
 }
 
--- the failure is this fault, or want of memory for its copy of the text
+-- the failure is this fault, or the call was out of memory for its copy of the text
 abbrev pub FailsWith : {A : Type 0} → Fault → Failure A → Type 0
 FailsWith fault (failure.Parse error) = fault_of error ≡ fault
 FailsWith fault (failure.Memory error) = Unit {0}

@@ -29,7 +29,7 @@ abbrev pub StartsNoToken : List ℕ → Type 0
 StartsNoToken rest = (c : ℕ) × (more : List ℕ) × IsScalar c × (rest ≡ encode_utf8 c ++ more)
     × (is_not_whitespace c ≡ true) × (starts_token c ≡ false)
 
--- the rest of a text begins with a quote, and no quote stands behind it
+-- the rest of a text begins with a quote, and no quote stands after it
 abbrev pub OpensNoValue : List ℕ → Type 0
 OpensNoValue rest = (more : List ℕ) × (rest ≡ codes "\"" ++ more) × HasNoQuote more
 
@@ -42,7 +42,7 @@ pub record Stands (text : List ℕ) (from : ℕ) (item : Item) : Type 0 where
   pub inside : item.end ≤ length text
   pub whole : IsWhole item.token (drop item.end text)
 
--- what stands behind the last token: white space to the end, or white space and then a place where
+-- what stands after the last token: white space to the end, or white space and then a place where
 -- no token can start, either way
 pub data Ending : Type 0 where
   blank : Ending

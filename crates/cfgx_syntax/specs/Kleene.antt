@@ -16,14 +16,14 @@ AreApart is_true is_false = bit_and is_true is_false ≡ 0
 abbrev pub IsApart : Planes → Type 0
 IsApart planes = AreApart planes.is_true planes.is_false
 
--- the answer that two bits stand for: true, false, or unknown where neither is set
-abbrev pub answer_of : ℕ → ℕ → Option Bool
-answer_of is_true is_false =
+-- the answer that two bits stand for: true, false, or unknown if neither is set
+abbrev pub answer_of_bits : ℕ → ℕ → Option Bool
+answer_of_bits is_true is_false =
     if is_true == 1 then Some true else (if is_false == 1 then Some false else None)
 
 -- the answer in lane i
 abbrev pub lane : ℕ → Planes → Option Bool
-lane i planes = answer_of (bit_at planes.is_true i) (bit_at planes.is_false i)
+lane i planes = answer_of_bits (bit_at planes.is_true i) (bit_at planes.is_false i)
 
 -- each lane has the answer that is given for its number
 abbrev pub EachLane : Planes → (ℕ → Option Bool) → Type 0

@@ -30,7 +30,7 @@ token_of given.Comma = spelled.Token.comma
 abbrev pub item_of : LexerToken → Item
 item_of t = record { token = token_of t.token; start = t.span.start; end = t.span.end }
 
--- the next item of the text: it stands there, its bytes can be cut out, and the lexer is behind it
+-- the next item of the text: it stands there, its bytes can be cut out, and the lexer is after it
 pub record GivesItem (old : LexerState) (item : Item) (new : LexerState) : Type 0 where
   pub stands : Stands old.text old.place item
   pub cut : CanBeCut old.text item.token item.start item.end
@@ -46,7 +46,7 @@ pub record GivesFault {A : Type 0} (old : LexerState) (failure : Failure A) (new
   pub fails : FailsWith (fault_in old.text refusal) failure
   pub is_over : new ≡ at_end old
 
--- One call of `next`: the first of the items to come, and then the others are to come; `None` where
+-- One call of `next`: the first of the items to come, and then the others are to come; `None` if
 -- white space alone is left; else a refusal.
 abbrev pub GivesNext : {A : Type 0} → LexerState → Option (Result LexerToken (Failure A))
     → LexerState → Type 0

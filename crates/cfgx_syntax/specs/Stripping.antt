@@ -3,7 +3,7 @@
 use Rattle.std.specs.Prelude.{ℕ, ◌-◌, List, length, codes, nat_eq, ◌&&◌, if◌then◌else◌, slice_range}
 use Rattle.std.specs.List.{starts_with, ends_with}
 
--- What lies between the outer `cfg(` and `)`, where the text starts and ends with these, once;
+-- What lies between the outer `cfg(` and `)`, if the text starts and ends with these, once;
 -- otherwise the text.
 unfoldable pub strip : List ℕ → List ℕ
 strip text =

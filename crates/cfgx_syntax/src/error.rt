@@ -34,7 +34,7 @@ pub enum Reason {
     UnopenedQuotes,
     /// There is no predicate, literal or function.
     Empty,
-    /// A term that may not stand here, with the terms that may; none where nothing may.
+    /// A term that may not stand here, with the terms that may; none if nothing may.
     Unexpected(&'static [&'static str]),
     /// A number is none or out of its range, or a `target_endian` is neither `big` nor `little`.
     InvalidInteger,
@@ -64,13 +64,13 @@ pub struct ParseError<A: Allocator = Global> {
 pub enum Failure<A: Allocator = Global> {
     /// The text is faulty.
     Parse(ParseError<A>),
-    /// Memory ran out. Nothing is said of the text.
+    /// The call is out of memory. Nothing is said of the text.
     Memory(AllocError),
 }
 
 impl<A: Allocator> Failure<A> {
-    /// The fault of `original` at the bytes `span`, with a copy of the text in `alloc`; want of
-    /// memory where `alloc` refuses the copy. The text stays as it was.
+    /// The fault of `original` at the bytes `span`, with a copy of the text in `alloc`; the
+    /// call is out of memory if `alloc` refuses the copy. The text stays as it was.
     pub fn of(alloc: A, original: &str, span: Range<usize>, reason: Reason) -> Failure<A>
         ensures { FailsWith (fault_in original.now
             (record { cause = cause_of reason; start = span.start; end = span.end })) result }
@@ -189,7 +189,7 @@ fn write_quoted<W: fmt::Write>(f: &mut fmt::Formatter<W>, term: &str) -> fmt::Re
     f.write_str("`")
 }
 
-// Each of the terms between back quotes, behind a comma.
+// Each of the terms between back quotes, after a comma.
 fn write_more_terms<W: fmt::Write>(f: &mut fmt::Formatter<W>, terms: &[&str]) -> fmt::Result
     ensures { DisplaysOnOk W.write_str_gives f.old result
         (Some (more_terms_text (map (λ t. t.now) terms.now))) f.new }

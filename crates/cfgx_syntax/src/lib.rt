@@ -1,9 +1,10 @@
 //! What a `cfg()` text is made of: its tokens, the faults of reading it, the values that it can
-//! have, and the text that a field holds.
+//! have, the text that a field holds, and the allocators of what is made of it.
 #![tactic(auto)]
 
 pub mod error;
 pub mod lexer;
 pub mod logic;
+pub mod memory;
 pub mod stripping;
 pub mod text;

@@ -2,7 +2,7 @@
 ghost use Rattle.std.specs.Prelude.{◌≡◌};
 ghost use Rattle.cfgx_syntax.specs.Stripping.{strip};
 
-/// What lies between the outer `cfg(` and `)` of the text, where it has both, and otherwise the
+/// What lies between the outer `cfg(` and `)` of the text, if it has both, and otherwise the
 /// text. This is done once.
 pub fn strip(text: &str) -> &str
     ensures { result.now ≡ strip text.now }

@@ -23,7 +23,7 @@ Decides-is_numeral [] = (λ h. cc, λ h. absurd (omega (arith, h.0)))
 Decides-is_numeral (d ∷ ds) =
     (λ h. (omega arith, digits_model.to (d ∷ ds) h), λ h. digits_model.from (d ∷ ds) h.1)
 
--- a result that is `Ok` of the value exactly where the test passes, as an option
+-- a result that is `Ok` of the value exactly if the test passes, as an option
 result_ok-OkIff : {E P : Type 0} (b : Bool) (v : ℕ) (r : Result ℕ E) → Decides b P → OkIff r P v
     → result_ok r ≡ cond b (Some v) None
 result_ok-OkIff b v r d h = grind (arith, common_steps)

@@ -74,7 +74,7 @@ module _ {X : Type 0} {R : X → X → Ordering} (o : IsTotalOrder R) where
             [ inl lt ↦ (let e = below lt in cc) | inr le ↦ (let e = above le in cc) ]),
       )
 
--- what a search by halves found, where each call of its closure answers the rank of a member
+-- what a search by halves found, if each call of its closure answers the rank of a member
 pub binary_search_by-gives : {X F : Type 0} {g : Mut F (Bor X × Unit {0}) Ordering} {f : F}
     → (rank : X → Ordering) (xs : List X) (r : Result ℕ ℕ)
     → ((ord : X → Ordering) → ComputesKey g ord f → IsBinarySearchResult ord xs r)
@@ -181,7 +181,7 @@ module _ {X : Type 0} {R : X → X → Ordering} (o : IsTotalOrder R) where
     pub lists-same : (xs ys : List X) → IsTrue (pointwise E xs ys) ↔ (xs ≡ ys)
     lists-same xs ys = pointwise_decides decides-same xs ys
 
-    -- is true exactly where one is made of a rearrangement of what the other is made of
+    -- is true exactly if one is made of a rearrangement of what the other is made of
     pub lists-made_same : (xs ys items others : List X)
         → IsSortedFrom R items xs → IsSortedFrom R others ys
         → IsTrue (pointwise E xs ys) ↔ IsPermutation items others

@@ -98,7 +98,7 @@ module _ {A : Type 0} (rows : List (TargetInfo A)) where
         let less = sym alike ∙ below in
         has_triple triple one Less less)
 
-    -- where it finds none, no row has the triple
+    -- if it finds none, no row has the triple
     pub row_with-missing : (triple : List ℕ) (place : ℕ)
         → IsBinarySearchResult (λ row. slice_cmp nat_cmp row.triple triple) rows (Err place)
         → row_with triple rows ≡ None

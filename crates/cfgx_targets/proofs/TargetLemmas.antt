@@ -1,4 +1,4 @@
--- That targets are the same exactly where their fields are.
+-- That targets are the same exactly if their fields are.
 use Rattle.std.proofs.Common.{arith, ◌≡◌, Bool, ◌&&◌}
 use Rattle.std.proofs.lemmas.Grind.{common_steps}
 use Rattle.std.specs.Prelude.{Option}
@@ -6,12 +6,12 @@ use Rattle.std.specs.Bool.{Decides}
 use Rattle.std.specs.Option.{option_eq}
 use Rattle.cfgx_targets.specs.declared.info.TargetInfo.{TargetInfo}
 
--- values that may be missing, where the test of two values decides whether they are the same
+-- values that may be missing, if the test of two values decides whether they are the same
 pub options-decide : {X : Type 0} {E : X → X → Bool} → ((x y : X) → Decides (E x y) (x ≡ y))
     → (one other : Option X) → Decides (option_eq E one other) (one ≡ other)
 options-decide d y one = grind (arith, common_steps)
 
--- and so of targets, where the tests of their fields do
+-- and so of targets, if the tests of their fields do
 pub targets-decide : {A : Type 0} (one other : TargetInfo A)
     → {triple os abi arch env vendor families width endian atomics panic : Bool}
     → Decides triple (one.triple ≡ other.triple) → Decides os (one.os ≡ other.os)

@@ -16,7 +16,7 @@ abbrev pub atomic_text : HasAtomic → List ℕ
 atomic_text (IntegerSize bits) = decimal bits
 atomic_text Pointer = codes "ptr"
 
--- the width of a pointer, where the text is its name
+-- the width of a pointer, if the text is its name
 abbrev pub pointer_named : List ℕ → Option HasAtomic
 pointer_named text = if bytes_eq text (atomic_text Pointer) then Some Pointer else None
 
@@ -30,8 +30,8 @@ abbrev pub IsWidth : HasAtomic → Type 0
 IsWidth (IntegerSize bits) = bits < 2 ^ 16
 IsWidth Pointer = ⊤
 
--- What the reading of a width answers: the one that the text names, or, only where it names none,
--- the fault with that text or want of memory.
+-- What the reading of a width answers: the one that the text names, or, only if it names none, the
+-- fault with that text, or that it is out of memory.
 abbrev pub ReadsAtomic : {A : Type 0} → List ℕ → Result HasAtomic (HasAtomicFailure A) → Type 0
 ReadsAtomic text (Ok width) = atomic_named text ≡ Some width
 ReadsAtomic text (Err (Parse error)) = (atomic_named text ≡ None) × (error ≡ text)

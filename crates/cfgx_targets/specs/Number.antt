@@ -10,7 +10,7 @@ abbrev pub is_numeral : List ℕ → Bool
 is_numeral [] = false
 is_numeral (first ∷ others) = all_ascii_digits (first ∷ others)
 
--- the number of the digits, where they are digits and it is below the limit
+-- the number of the digits, if they are digits and it is below the limit
 abbrev pub numeral_below : ℕ → List ℕ → Option ℕ
 numeral_below limit digits = if is_numeral digits && nat_lt (digits_value 10 digits) limit
     then Some (digits_value 10 digits) else None

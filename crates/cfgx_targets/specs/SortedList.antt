@@ -10,7 +10,7 @@ pub record IsSortedFrom {T : Type 0} (cmp : T → T → Ordering) (items members
   pub rearranged : IsPermutation items members
   pub sorted : IsSorted cmp members
 
--- texts, each behind a comma and a space
+-- texts, each after a comma and a space
 abbrev pub others_text : List (List ℕ) → List ℕ
 others_text texts = flat_map (λ text. codes ", " ++ text) texts
 

@@ -13,7 +13,7 @@ use Rattle.cfgx_targets.specs.declared.info.TargetInfo.{TargetInfo}
 abbrev pub text_cmp : List ℕ → List ℕ → Ordering
 text_cmp = slice_cmp nat_cmp
 
--- by the fields, the first one first, where these are the orders of byte orders and of widths
+-- by the fields, the first one first, if these are the orders of byte orders and of widths
 abbrev pub info_cmp : (Endian → Endian → Ordering) → (HasAtomic → HasAtomic → Ordering)
     → {A : Type 0} → TargetInfo A → TargetInfo A → Ordering
 info_cmp endian_cmp width_cmp one other =

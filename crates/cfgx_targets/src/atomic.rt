@@ -22,7 +22,7 @@ pub enum HasAtomic {
 pub enum HasAtomicFailure<A: Allocator = Global> {
     /// The text names no width.
     Parse(HasAtomicParseError<A>),
-    /// The text names no width, and memory ran out for the copy of it.
+    /// The text names no width, and the call is out of memory for the copy of it.
     Memory(AllocError),
 }
 
@@ -55,7 +55,7 @@ impl HasAtomic {
     /// Reads a number of bits, at most 65535, or `ptr`. What it prints, it reads again.
     ///
     /// A text that names a width takes no memory. Any other one is copied into `alloc` for the
-    /// fault, and is `Memory` where that copy is refused.
+    /// fault, and is `Memory` if that copy is refused.
     pub fn read<A: Allocator>(alloc: A, text: &str) -> Result<HasAtomic, HasAtomicFailure<A>>
         ensures reads { ReadsAtomic text.now result }
         ensures printed { (width : HasAtomic) → IsWidth width → text.now ≡ atomic_text width

@@ -165,7 +165,7 @@ fn rows<'a, A: Allocator + Copy>(alloc: A) -> Result<Vec<TargetInfo<'a, A>, A>, 
     Ok(rows)
 }
 
-// Adds a target of Apple's with this triple and operating system. The variant, where there is one,
+// Adds a target of Apple's with this triple and operating system. The variant, if there is one,
 // is its ABI and its environment.
 fn push_apple<'a, A: Allocator + Copy>(
     rows: &mut Vec<TargetInfo<'a, A>, A>,

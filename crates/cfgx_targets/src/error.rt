@@ -57,7 +57,7 @@ impl<A: Allocator> fmt::Display for HasAtomicParseError<A> {
     }
 }
 
-// Two faults are equal exactly where their texts are.
+// Two faults are equal exactly if their texts are.
 fn are_same_faults<A: Allocator>(
     one: &HasAtomicParseError<A>,
     other: &HasAtomicParseError<A>,

@@ -22,11 +22,11 @@ pub struct TargetInfo<'a, A: Allocator = Global> {
     pub triple: Triple<'a, A>,
     /// The operating system, as `target_os`.
     pub os: Option<Os<'a, A>>,
-    /// The binary interface where it tells targets apart, as `target_abi`.
+    /// The binary interface, if it tells targets apart, as `target_abi`.
     pub abi: Option<Abi<'a, A>>,
     /// The architecture, as `target_arch`.
     pub arch: Arch<'a, A>,
-    /// The interface or libc where it tells targets apart, as `target_env`.
+    /// The interface or libc, if it tells targets apart, as `target_env`.
     pub env: Option<Env<'a, A>>,
     /// The vendor, as `target_vendor`.
     pub vendor: Option<Vendor<'a, A>>,

@@ -187,7 +187,7 @@ fn write_members<T: Member, W: fmt::Write>(f: &mut fmt::Formatter<W>, members: &
     }
 }
 
-// Each of the members behind a comma and a space.
+// Each of the members, after a comma and a space.
 fn write_others<T: Member, W: fmt::Write>(f: &mut fmt::Formatter<W>, members: &[T]) -> fmt::Result
     ensures { DisplaysOnOk W.write_str_gives f.old result
         (Some (others_text (map T.text members.now))) f.new }

@@ -83,7 +83,7 @@ fn first_not_above<A: Allocator>(rows: &[TargetInfo<'_, A>]) -> Option<usize>
     None
 }
 
-/// The row of the table with this triple, or `None` where no row has it.
+/// The row of the table with this triple, or `None` if no row has it.
 pub fn get_builtin_target_by_triple<'t, 'a, A: Allocator>(
     table: &'t TargetTable<'a, A>,
     triple: &str,

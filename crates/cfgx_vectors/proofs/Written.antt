@@ -3,7 +3,7 @@ use Rattle.std.proofs.Common.{◌≡◌, ℕ, zero, suc, ◌+◌, ◌<◌, ◌�
 use Rattle.std.proofs.Common.{refl, ap, sym, ◌∙◌, arith, append_assoc, length-append}
 use Rattle.std.specs.Prelude.{codes, set}
 use Rattle.std.proofs.lemmas.List.{take_all, take_more_set, take-append-le, length-take-le}
-use Rattle.cfgx_vectors.specs.Terms.{cut, joined}
+use Rattle.cfgx_vectors.specs.Terms.{cut, in_parens}
 
 take-front : (n : ℕ) (front rest : List ℕ) → take n (take n front ++ rest) ≡ take n (front ++ rest)
 take-front zero front rest = refl
@@ -19,7 +19,7 @@ pub cut-short : (bytes : List ℕ) (n : ℕ) → n ≤ 64 → length bytes ≡ 6
 cut-short bytes n within long =
     sym (take_all 64 (take n bytes) (omega (arith, length-take-le n bytes (omega (arith, long)))))
 
--- one byte more, where there is room
+-- one byte more, if there is room
 pub cut-pushed : (bytes : List ℕ) (n byte : ℕ) → n < 64 → length bytes ≡ 64
     → take (n + 1) (set bytes n byte) ≡ cut (take n bytes ++ byte ∷ [])
 cut-pushed bytes n byte room long =
@@ -28,7 +28,7 @@ cut-pushed bytes n byte room long =
     omega (arith, short, length-append (take n bytes) (byte ∷ [])) in
     take_more_set bytes n byte (omega (arith, long)) ∙ sym (take_all 64 _ fits)
 
--- and where there is none
+-- and if there is none
 pub cut-full : (bytes : List ℕ) (n byte : ℕ) → n ≡ 64 → length bytes ≡ 64
     → take n bytes ≡ cut (take n bytes ++ byte ∷ [])
 cut-full bytes n byte full long =
@@ -36,7 +36,7 @@ cut-full bytes n byte full long =
     cut-short bytes n (omega (arith, full)) long
     ∙ sym (take-append-le 64 (take n bytes) (byte ∷ []) (omega (arith, short, full)))
 
--- a byte behind what was written of some bytes
+-- a byte after what was written of some bytes
 pub cut-next : (old front now new : List ℕ) (byte : ℕ) → now ≡ cut (old ++ front)
     → new ≡ cut (now ++ byte ∷ []) → new ≡ cut (old ++ (front ++ byte ∷ []))
 cut-next old front now new byte is next =
@@ -44,11 +44,11 @@ cut-next old front now new byte is next =
     ∙ ap cut (append_assoc old front (byte ∷ []))
 
 -- the parts of a term one after another
-pub cut-joined : (one other first second third fourth fifth : List ℕ) (sign : ℕ)
+pub cut-in_parens : (one other first second third fourth fifth : List ℕ) (sign : ℕ)
     → first ≡ cut (codes "(") → second ≡ cut (first ++ one) → third ≡ cut (second ++ sign ∷ [])
     → fourth ≡ cut (third ++ other) → fifth ≡ cut (fourth ++ codes ")")
-    → fifth ≡ joined sign one other
-cut-joined one other first second third fourth fifth sign a b c d e =
+    → fifth ≡ in_parens sign one other
+cut-in_parens one other first second third fourth fifth sign a b c d e =
     let opened = codes "(" ++ one in
     let signed = opened ++ sign ∷ [] in
     let both = signed ++ other in

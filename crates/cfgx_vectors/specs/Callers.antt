@@ -20,7 +20,7 @@ is_among flags (Question.feature text) = false
 is_among flags (Question.target_feature text) = false
 is_among flags (Question.key_value key value) = false
 
--- the term of a predicate: its name, where it is such a key, and else `?`
+-- the term of a predicate: its name if it is such a key, and else `?`
 abbrev pub term_of : Question → List ℕ
 term_of (Question.flag name) = cut name
 term_of (Question.target question) = codes "?"
@@ -31,7 +31,7 @@ term_of (Question.feature text) = codes "?"
 term_of (Question.target_feature text) = codes "?"
 term_of (Question.key_value key value) = codes "?"
 
--- the expression of a text that asks this predicate alone was read, or memory ran out
+-- the expression of a text that asks this predicate alone was read, or the call was out of memory
 abbrev pub IsReadAlone : {A : Type 0} → Question → Result (List ℕ) (Failure A) → Type 0
 IsReadAlone question (Ok expression) = IsAlone expression question
 IsReadAlone question (Err (failure.Parse error)) = ⊥

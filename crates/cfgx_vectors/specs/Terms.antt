@@ -6,5 +6,5 @@ abbrev pub cut : List ℕ → List ℕ
 cut bytes = take 64 bytes
 
 -- both terms in parentheses, with the sign between them
-abbrev pub joined : ℕ → List ℕ → List ℕ → List ℕ
-joined sign one other = cut (codes "(" ++ (one ++ (sign ∷ (other ++ codes ")"))))
+abbrev pub in_parens : ℕ → List ℕ → List ℕ → List ℕ
+in_parens sign one other = cut (codes "(" ++ (one ++ (sign ∷ (other ++ codes ")"))))

@@ -17,7 +17,7 @@ use cfg_expr::{Expression, Predicate};
 use std::alloc::{AllocError, Global};
 
 /// What each row answers to a predicate: nothing is known of one that is not asked of targets.
-pub fn answer_of<T: TargetMatcher>(predicate: &Predicate<'_>, rows: &[T]) -> Kleene64
+pub fn lanes_of<T: TargetMatcher>(predicate: &Predicate<'_>, rows: &[T]) -> Kleene64
     requires { length rows.now ≤ 64 }
     ensures { InLanes T.answer rows.now (question_of predicate.now) result }
 {
@@ -32,7 +32,7 @@ fn taken_answer<T: TargetMatcher>(predicate: Predicate<'_>, rows: &[T]) -> Kleen
     requires { length rows.now ≤ 64 }
     ensures { InLanes T.answer rows.now (question_of predicate.entry) result }
 {
-    answer_of(&predicate, rows)
+    lanes_of(&predicate, rows)
 }
 
 /// What the rows answer to each predicate of the condition.

@@ -8,7 +8,7 @@ use std::test::Fail;
 // What is printed of a text that starts with a question mark.
 const QUESTION_MARK: &str = "?a\n^ expected one of `<key>`, `all`, `any`, `not` here\n";
 
-// The words behind `eval`, and the value that is written.
+// The words after `eval`, and the value that is written.
 const VALUES: &[(&[&str], &str)] = &[
     (&["all(a, not(b))", "a"], "true\n"),
     (&["any(a, not(a))", "?a"], "unknown\n"),
@@ -75,7 +75,7 @@ const VALUES: &[(&[&str], &str)] = &[
     (&["target_os = \"a\"", "target_env = \"a\""], "false\n"),
 ];
 
-// The words behind `eval`, and the fault of the first of them that is faulty.
+// The words after `eval`, and the fault of the first of them that is faulty.
 const FAULTS: &[(&[&str], &str)] = &[
     (&["key)"], "key)\n   ^ unopened parens\n"),
     (&[""], "\n empty expression\n"),
@@ -167,7 +167,7 @@ const ON_TARGETS: &[(&str, &str, &str)] = &[
     (TVOS, "all(feature = \"x\", unix)", "unknown\n"),
 ];
 
-// Other words behind `target`, the output and the status.
+// Other words after `target`, the output and the status.
 const OTHERS: &[(&[&str], &str, u8)] = &[
     (&["target", "nowhere", ")"], "unknown triple\n", 2),
     (&["target", "nowhere", "unix"], "unknown triple\n", 2),

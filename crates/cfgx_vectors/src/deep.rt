@@ -33,7 +33,7 @@ pub(crate) fn nested(
     repeated(alloc, front.as_str(), ")", times, "")
 }
 
-/// A front, a piece, how often it comes, a back, and how many `)` stand behind that.
+/// A front, a piece, how often it comes, a back, and how many `)` stand after that.
 pub(crate) type Parts = (&'static str, &'static str, usize, &'static str, usize);
 
 /// The text of these parts.
@@ -162,7 +162,7 @@ fn predicates_of_deep_and_wide_texts(rt: HostRuntime) -> Result<(), Fail> {
     Ok(())
 }
 
-// Whether the fault far behind the start prints as many spaces.
+// Whether the fault far after the start prints as many spaces.
 fn prints_its_spaces(alloc: Global) -> Result<bool, Fail> {
     let text = repeated(alloc, "all(b", ",", 3_000, "c d)")?;
     let back = "^ expected one of `=`, `,`, `)` here";

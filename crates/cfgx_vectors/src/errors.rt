@@ -177,7 +177,7 @@ fn a_fault_prints_its_text_its_marks_and_its_reason(rt: HostRuntime) {
     }
 }
 
-// U+00E9 takes two bytes, so the mark below the `x` behind it stands two places to the right.
+// U+00E9 takes two bytes, so the mark below the `x` after it stands two places to the right.
 #[test]
 fn a_span_counts_bytes(rt: HostRuntime) -> Result<(), Fail> {
     let shown = printed(rt.alloc(), "\u{e9}x", 2..3, Reason::Unexpected(&[]))?;

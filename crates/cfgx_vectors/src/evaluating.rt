@@ -24,7 +24,7 @@ fn is_among(flags: &[&str], predicate: &Predicate<'_>) -> bool
     }
 }
 
-/// The value of a condition where these flags are true, and all else is false.
+/// The value of a condition if these flags are true, and all else is false.
 pub fn value_with_flags(
     alloc: Global,
     expression: &Expression,
@@ -39,7 +39,7 @@ pub fn value_with_flags(
     )
 }
 
-/// The term of a predicate: its name, where it is a bare key of no other meaning, and else `?`.
+/// The term of a predicate: its name if it is a bare key of no other meaning, and else `?`.
 fn term_of(predicate: &Predicate<'_>) -> Terms
     ensures { result ≡ term_of (question_of predicate.now) }
 {
@@ -122,7 +122,7 @@ mod tests {
     use std::alloc::Global;
     use std::test::Fail;
 
-    // The value where each predicate has the same answer.
+    // The value if each predicate has the same answer.
     fn value<T: Logic + Copy>(alloc: Global, text: &str, answer: T) -> Result<T, Fail> {
         let expression = Expression::parse(alloc, text)?;
         Ok(expression.eval(alloc, &mut |_predicate: &Predicate<'_>| answer)?)
@@ -156,7 +156,7 @@ mod tests {
         Ok(())
     }
 
-    // The value where the feature has this answer, and the target feature's is unknown.
+    // The value if the feature has this answer, and the target feature's is unknown.
     fn value_with_feature(alloc: Global, feature: Option<bool>) -> Result<Option<bool>, Failure> {
         let text = "all(feature = \"make_fast\", target_feature = \"sse4.2\")";
         let expression = Expression::parse(alloc, text)?;
@@ -246,7 +246,7 @@ mod tests {
         Ok(terms_of(alloc, &expression)?.as_bytes() == wanted)
     }
 
-    // The last member that is asked is joined first. What is behind 64 bytes is cut off.
+    // The last member that is asked is joined first. What follows 64 bytes is cut off.
     #[test]
     fn terms_are_written_down(rt: HostRuntime) -> Result<(), Fail> {
         for row in TERMS {

@@ -10,7 +10,7 @@ use std::test::Fail;
 pub(crate) fn fault(alloc: Global, text: &str) -> Result<ParseError, &'static str> {
     match Expression::parse(alloc, text) {
         Err(Failure::Parse(error)) => Ok(error),
-        Err(Failure::Memory(_)) => Err("want of memory"),
+        Err(Failure::Memory(_)) => Err("out of memory"),
         Ok(_) => Err("the text was accepted"),
     }
 }
@@ -279,7 +279,7 @@ const NO_NUMBERS: &[&str] = &[
 
 // Whether the key with this value has this fault at the value.
 fn is_refused(alloc: Global, key: &str, value: &str, reason: Reason) -> Result<bool, &'static str> {
-    let text = format!(in alloc; "{key} = \"{value}\"").map_err(|_| "want of memory")?;
+    let text = format!(in alloc; "{key} = \"{value}\"").map_err(|_| "out of memory")?;
     let start = key.len().saturating_add(4);
     let end = start.saturating_add(value.len());
     has_fault(alloc, text.as_str(), text.as_str(), (start, end), reason)

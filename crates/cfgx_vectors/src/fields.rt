@@ -1,5 +1,5 @@
 //! The eight field types: what no clause says of them. No call takes memory but the copy of an
-//! owned text, which gives its error where its one growth is refused; and the clauses mean the
+//! owned text, which gives its error if its one growth is refused; and the clauses mean the
 //! texts, the order and the printing of Rust's `str`.
 
 use crate::holding::{all_hold, gives, holds};
@@ -47,7 +47,7 @@ fn prints_as<T: Display>(alloc: Global, field: &T, text: &str) -> Result<bool, A
     Ok(plain.as_str() == text && wide.as_str() == wanted.as_str())
 }
 
-/// A text of `RISING`, behind its place.
+/// A text of `RISING`, after its place.
 type Placed<'a> = (usize, &'a str);
 
 // Whether these fields of the texts compare, hash and print as the texts do.
@@ -62,7 +62,7 @@ fn stand_for_texts<T: Ord + Hash + Display>(
         && holds(prints_as(alloc, fields.1, other.1))
 }
 
-// An owned copy of the text, behind which every growth is refused.
+// An owned copy of the text, after which every growth is refused.
 fn owned<'h>(heap: Heap<'h>, text: &str) -> Result<String<Heap<'h>>, AllocError> {
     heap.refuse(0);
     let owned = String::from_str(heap, text)?;
@@ -140,7 +140,7 @@ pub(crate) fn is_refused<T: Drop>(copy: Result<T, AllocError>, heap: Heap<'_>) -
 }
 
 // Whether a borrowed field of a crate's type is copied with no growth, and an owned one of the same
-// text with one growth; where that is refused, so is the copy, and the field stays.
+// text with one growth; if that is refused, so is the copy, and the field stays.
 macro_rules! are_copied {
     ($borrowed:ident, $owned:ident, $heap:ident) => {{
         let is_free = holds(gives($borrowed.try_clone($heap), $borrowed));

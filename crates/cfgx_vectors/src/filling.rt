@@ -98,7 +98,7 @@ mod tests {
 
     const NO: Option<bool> = Some(false);
 
-    /// A text, the answers, and the two fillings, or nothing where the value is known.
+    /// A text, the answers, and the two fillings, or nothing if the value is known.
     type Row = (
         &'static str,
         &'static [Option<bool>],
@@ -232,7 +232,7 @@ mod tests {
         }
     }
 
-    // Whether the plan acts just where there are no fillings, and on the value over the answers.
+    // Whether the plan acts exactly if there are no fillings, and on the value over the answers.
     fn is_planned(alloc: Global, row: &Row) -> Result<bool, Fail> {
         let expression = Expression::parse(alloc, row.0)?;
         let acts = acted_on(alloc, &expression, row.1)?;
@@ -404,7 +404,7 @@ mod tests {
         led_to(alloc, expression, answers, filling.as_slice())
     }
 
-    // The value to which all the fillings lead, or nothing where they differ.
+    // The value to which all the fillings lead, or nothing if they differ.
     fn common_value(
         alloc: Global,
         expression: &Expression,

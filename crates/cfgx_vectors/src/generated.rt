@@ -82,7 +82,7 @@ enum Seen {
     Accepted(usize),
     /// It has a fault.
     Refused,
-    /// Something of it is wrong, or memory ran out.
+    /// Something of it is wrong, or a call was out of memory.
     Wrong,
 }
 

@@ -3,7 +3,7 @@ use std::alloc::Global;
 use std::fmt::Display;
 use std::process::Abort;
 
-/// Whether the check holds, where an error of its own is a no.
+/// Whether the check holds; an error of its own is a no.
 pub(crate) fn holds<E: Drop>(answer: Result<bool, E>) -> bool {
     match answer {
         Ok(is_held) => is_held,
@@ -13,7 +13,7 @@ pub(crate) fn holds<E: Drop>(answer: Result<bool, E>) -> bool {
 
 /// Whether this is the value, if there is no error.
 ///
-/// What is dear to let go is so where its type is known. Here it is not.
+/// What is dear to let go is so if its type is known. Here it is not.
 pub(crate) fn gives<T: PartialEq + Drop, E: Drop>(
     answer: Result<T, E>,
     wanted: &T,

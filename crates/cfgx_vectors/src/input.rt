@@ -224,7 +224,7 @@ enum Seen {
     Plain,
     /// It answers that memory was refused, with no failed call. What was read stays read: reading
     /// again gives what follows it.
-    WantOfMemory,
+    OutOfMemory,
     Other,
 }
 
@@ -243,7 +243,7 @@ fn seen_at(alloc: Global, bytes: &[u8], turn: u64) -> Seen {
         && bytes.ends_with(left)
         && is_read(&read_input(alloc, &mut source), left)
     {
-        Seen::WantOfMemory
+        Seen::OutOfMemory
     } else {
         Seen::Other
     }
@@ -252,7 +252,7 @@ fn seen_at(alloc: Global, bytes: &[u8], turn: u64) -> Seen {
 // Whether reading these bytes is refused with each growth in turn, which are so many.
 fn is_refused_in_turns(alloc: Global, bytes: &[u8], growths: u64) -> bool {
     for turn in 1..=growths {
-        if seen_at(alloc, bytes, turn) != Seen::WantOfMemory {
+        if seen_at(alloc, bytes, turn) != Seen::OutOfMemory {
             return false;
         }
     }

@@ -1,5 +1,5 @@
 //! Conditions in sixty-four lanes at once.
-use crate::auditing::{answer_of, answers_of, audit};
+use crate::auditing::{answers_of, audit, lanes_of};
 use crate::deep::{nested, repeated};
 use crate::holding::all_hold;
 use crate::targets::{self, README, darwin, windows};
@@ -28,7 +28,7 @@ fn value(alloc: Global, text: &str, answers: &[Kleene64]) -> Result<Kleene64, Fa
     value_over(alloc, &expression, answers)
 }
 
-// The value where the rows, at most 64, answer each predicate on the target, and the others are
+// The value if the rows, at most 64, answer each predicate on the target, and the others are
 // unknown.
 fn value_on(alloc: Global, text: &str, rows: &[TargetInfo<'_>]) -> Result<Kleene64, Fail> {
     if rows.len() > 64 {
@@ -44,7 +44,7 @@ fn answer_on(predicate: &Predicate<'_>, rows: &[TargetInfo<'_>]) -> Kleene64 {
     if rows.len() > 64 {
         return Kleene64::new(0, 0);
     }
-    answer_of(predicate, rows)
+    lanes_of(predicate, rows)
 }
 
 // The same value by `eval`.
@@ -131,7 +131,7 @@ fn lanes_are_joined_one_by_one(rt: HostRuntime) {
     );
 }
 
-// Texts, and their values where each predicate is answered by these three lanes.
+// Texts, and their values if each predicate is answered by these three lanes.
 const OF_THREE: &[(&str, u64, u64)] = &[
     ("a", 0b001, 0b010),
     ("not(a)", 0b010, 0b001),
@@ -147,7 +147,7 @@ const OF_THREE: &[(&str, u64, u64)] = &[
     ("all(a, true, any(b), false)", 0, u64::MAX),
 ];
 
-// The value by `eval` where each answer is the same.
+// The value by `eval` if each answer is the same.
 fn value_of_each(alloc: Global, text: &str, answer: Kleene64) -> Result<Kleene64, Fail> {
     let expression = Expression::parse(alloc, text)?;
     Ok(expression.eval(alloc, &mut |_predicate: &Predicate<'_>| answer)?)
@@ -246,7 +246,7 @@ fn values_of_eval_in_each_lane(rt: HostRuntime) -> Result<(), Fail> {
     Ok(())
 }
 
-// What the rows answer, where what is not asked of targets is taken as true.
+// What the rows answer, if what is not asked of targets is taken as true.
 fn answer_or_true(predicate: &Predicate<'_>, rows: &[TargetInfo<'_>]) -> Kleene64 {
     match predicate {
         Predicate::Target(_) => answer_on(predicate, rows),

@@ -4,7 +4,7 @@ use cfg_expr::error::Failure;
 use cfg_expr::expr::lexer::{Lexer, LexerToken, Token};
 use std::alloc::{Allocator, Global};
 
-/// A token, where it starts and ends, and how many bytes stand behind it.
+/// A token, where it starts and ends, and how many bytes stand after it.
 pub(crate) type Row = (Token<'static>, usize, usize, usize);
 
 const FUNCTIONS: &str = "cfg(all(a, any (\u{a0}_b8),,not(\u{3000}all_c )  \n\t\r )   )";
@@ -116,7 +116,7 @@ fn gives_every_item(rt: HostRuntime) {
     }
 }
 
-// Texts, what may be left before their first item, that item, and where the fault behind it is.
+// Texts, what may be left before their first item, that item, and where the fault after it is.
 // White space past ASCII counts its bytes, and a fault is one byte of a longer character.
 const FAULTS: &[(&str, usize, Row, usize)] = &[
     ("a 8 b", 5, (Token::Key("a"), 0, 1, 4), 2),

@@ -43,7 +43,7 @@ const EMPTY: &str = "line 1:\n\n empty expression\n";
 // What is written of `key)` in line 1.
 const UNOPENED: &str = "line 1:\nkey)\n   ^ unopened parens\n";
 
-// The same with a carriage return behind it.
+// The same with a carriage return after it.
 const UNOPENED_AND_RETURN: &str = "line 1:\nkey)\r\n   ^ unopened parens\n";
 
 // Inputs, what is written of them on the simulator, and the status.

@@ -17,7 +17,7 @@ mod refused_1;
 mod refused_2;
 mod refused_3;
 
-// What stands behind a backslash, as the character that it means.
+// What stands after a backslash, as the character that it means.
 fn meant(c: char) -> char {
     match c {
         'n' => '\n',
@@ -49,8 +49,8 @@ fn unescaped(alloc: Global, field: &str) -> Result<String, AllocError> {
 // Whether a run of the row's text ends with this status and writes what the row says.
 fn is_as_said(alloc: Global, row: &str, status: u8) -> Result<bool, &'static str> {
     let (field, written) = row.split_once('|').ok_or("a row without a bar")?;
-    let text = unescaped(alloc, field).map_err(|_| "want of memory")?;
-    let written = unescaped(alloc, written).map_err(|_| "want of memory")?;
+    let text = unescaped(alloc, field).map_err(|_| "out of memory")?;
+    let written = unescaped(alloc, written).map_err(|_| "out of memory")?;
     Ok(is_answer(alloc, &["parse", text.as_str()], status, written.as_str()))
 }
 

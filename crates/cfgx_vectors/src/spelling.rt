@@ -53,7 +53,7 @@ impl Write for Slow {
     }
 }
 
-// A text, and the spellings of its predicates one behind the other.
+// A text, and the spellings of its predicates one after the other.
 const ROWS: &[(&str, &str)] = &[
     ("unix", "target_family = \"unix\""),
     ("windows", "target_family = \"windows\""),
@@ -142,7 +142,7 @@ fn a_flag_that_is_read_as_a_literal(rt: HostRuntime) {
     assert_eq!(rt; writer.bytes.as_slice(), b"true".as_slice());
 }
 
-// Whether a beginning of the spelling was written, this many bytes, where no more have room.
+// Whether a beginning of the spelling was written, this many bytes, if no more have room.
 fn stops_behind(alloc: Global, text: &str, spelled: &str, room: usize) -> Result<bool, Failure> {
     let mut writer = Slow::new(alloc, 4);
     writer.room = room;
@@ -166,7 +166,7 @@ fn stops_where_the_writer_takes_nothing(rt: HostRuntime) {
 }
 
 // Whether a spelling whose call of this number fails, of calls that take one byte, ends with the
-// writer's own error at that call, behind the bytes of the calls before it.
+// writer's own error at that call, after the bytes of the calls before it.
 fn fails_at(
     alloc: Global,
     text: &str,

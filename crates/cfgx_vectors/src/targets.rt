@@ -347,7 +347,7 @@ fn have_triples(rows: &[TargetInfo<'_>], triples: &[&str]) -> bool {
     rows.len() == triples.len()
 }
 
-// The place at which rows with these triples are refused, all of them given back, or `None` where
+// The place at which rows with these triples are refused, all of them given back, or `None` if
 // they are a table of just these rows.
 fn refused_at(alloc: Global, triples: &[&'static str]) -> Result<Option<usize>, Fail> {
     match TargetTable::from_rows(rows_with(alloc, triples)?) {

@@ -10,7 +10,7 @@ use crate::holding::holds;
 use cfg_expr::expr::lexer::Token;
 use std::alloc::{AllocError, Global};
 
-// `cfg( )` is stripped once, and only where the text ends with it.
+// `cfg( )` is stripped once, and only if the text ends with it.
 fn stripped()
     ensures wrapped { strip (codes "cfg(key)") ≡ codes "key" }
     ensures empty { strip (codes "cfg()") ≡ [] }
@@ -49,7 +49,7 @@ fn refused()
 // What is no item and no ending: a word cut short, a word that is a function taken for a key, a
 // value that lacks its last quote, one that runs past a quote, and one without its quotes; a token
 // taken for the place where none can start, a value taken for an unclosed quote, and white space
-// with a token behind it.
+// with a token after it.
 fn excluded()
     ensures short { Stands (codes "ab") 0
         (record { token = spelled.Token.key (codes "a"); start = 0; end = 1 }) → ⊥ }

@@ -24,9 +24,9 @@ pub(crate) fn has_every_block(heap: Refusing<Bump>) -> bool {
 // No call here needs so many growths.
 const MOST_GROWTHS: u64 = 1000;
 
-/// Whether the call answers want of memory with its first growth refused, with its second, and so
-/// on, and true when it is made again; whether it is true once none is refused, and at least one
-/// was before; and whether every block was back at the end of each turn.
+/// Whether the call answers that it is out of memory with its first growth refused, with its
+/// second, and so on, and true when it is made again; whether it is true once none is refused, and
+/// at least one was before; and whether every block was back at the end of each turn.
 pub(crate) fn is_refused_in_turns<C>(alloc: Global, call: C) -> bool
 where
     C: Fn(&Refusing<Bump>) -> Result<bool, AllocError>,
@@ -62,7 +62,7 @@ pub(crate) fn all_true<A: SmallAllocator>(
     (value, count)
 }
 
-// Whether a block is known to be out where its list is forgotten, and to be back where it is
+// Whether a block is known to be out if its list is forgotten, and to be back if it is
 // dropped.
 fn is_told(alloc: Global, is_forgotten: bool) -> Result<bool, AllocError> {
     let heap = empty_heap(alloc);

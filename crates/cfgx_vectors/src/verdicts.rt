@@ -125,7 +125,7 @@ fn are_verdicts(verdicts: &[Verdict], number: usize, rows: &[Row<'_>]) -> bool {
 }
 
 /// Whether the target of this number says of the sections what the rows do, twice, and leaves them
-/// as they were, also where it is out of memory.
+/// as they were, also if it is out of memory.
 pub(crate) fn is_picked<A: SmallAllocator, M: TargetMatcher>(
     alloc: A,
     matcher: &M,

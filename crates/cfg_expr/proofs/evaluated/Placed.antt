@@ -37,7 +37,7 @@ module _ {T : Type 0} where
   abbrev at : List (Member T) → ℕ → Member T
   at slots place = get_or slots place member.Joined
 
-  -- where each slot is right but for the places still to come, all are right at the end
+  -- if each slot is right but for the places still to come, all are right at the end
   put-right : (all slots : List (Member T)) (ps : List ℕ) (xs : List T)
       → map (at all) ps ≡ map member.Leaf xs → length slots ≡ length all
       → ((place : ℕ) → Misses place ps → at slots place ≡ at all place)

@@ -7,7 +7,7 @@ use Rattle.cfgx_parser.specs.nodes.Shape.{Shape}
 use Rattle.cfgx_parser.specs.declared.function.Func.{Func}
 use Rattle.cfgx_parser.specs.declared.function.Func.TheVariants.{Not, All, Any}
 
--- the truth value, or its opposite where it is to be turned over
+-- the truth value, or its opposite if it is to be turned over
 abbrev pub turned : Bool → Bool → Bool
 turned value false = value
 turned value true = not value
@@ -24,7 +24,7 @@ arity (All count) = count
 arity (Any count) = count
 
 -- One node more. In front the queue says of each tree that is still to come whether it stands below
--- an odd number of `not`, and behind of each node whether it is such a predicate.
+-- an odd number of `not`, and after those of each node whether it is such a predicate.
 abbrev pub gone_over : Shape → List Bool → List Bool
 gone_over shape [] = []
 gone_over Shape.predicate (odd ∷ queue) = queue ++ odd ∷ []
@@ -36,13 +36,13 @@ abbrev pub pass : List Shape → List Bool → List Bool
 pass [] queue = queue
 pass (shape ∷ shapes) queue = pass shapes (gone_over shape queue)
 
--- the answers, and for unknown ones the truth value, turned over where its number of `not` is odd
+-- the answers, and for unknown ones the truth value, turned over if its number of `not` is odd
 abbrev pub filled_by : List Bool → List (Option Bool) → Bool → List Bool
 filled_by [] answers fill = []
 filled_by (odd ∷ odds) answers fill = unwrap_or (first_or (Some true) answers) (turned fill odd)
     ∷ filled_by odds (drop 1 answers) fill
 
--- where the parities of the nodes are known, and the places of the predicates
+-- if the parities of the nodes are known, and the places of the predicates
 abbrev pub filled_at : List Bool → List ℕ → List (Option Bool) → Bool → List Bool
 filled_at odds places answers fill =
     filled_by (map (λ place. get_or odds place false) places) answers fill

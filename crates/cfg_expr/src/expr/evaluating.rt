@@ -307,7 +307,7 @@ fn read_predicate<T: Logic>(place: usize, stack: Stack<T>, slots: &mut [Member<T
     Stack { top, others }
 }
 
-/// Takes the value of the first member, or answers `top` where there is none.
+/// Takes the value of the first member, or answers `top` if there is none.
 fn take_first<T: Logic>(members: &mut [Member<T>]) -> T
     ensures { result ≡ top_value T.Logic members.old }
 {

@@ -1,11 +1,11 @@
-//! The fillings that tell whether a value is known: where it is not, the condition is true with the
+//! The fillings that tell whether a value is known: if it is not, the condition is true with the
 //! one and false with the other.
 //!
 //! One pass over the nodes finds which predicates stand below an odd number of `not`. A queue holds
-//! in front whether each tree does that is still to come, and behind what was found of the nodes
-//! that were gone over: a node takes the first one off, adds what it finds, and puts in front what
-//! holds of its members. A tree has at least one node, so the queue holds no more than one value
-//! for each node, and at the end what was found of them all, in order.
+//! in front whether each tree does that is still to come, and after that what was found of the
+//! nodes that were gone over: a node takes the first one off, adds what it finds, and puts in
+//! front what holds of its members. A tree has at least one node, so the queue holds no more than
+//! one value for each node, and at the end what was found of them all, in order.
 ghost use Rattle.std.specs.Prelude.{◌≡◌, ◌++◌, ◌∷◌, true, false, [], length, map};
 ghost use Rattle.std.specs.Prelude.{replicate, IfOk, OnOk};
 ghost use Rattle.cfgx_grammar.specs.Given.{AreAnswersTo};

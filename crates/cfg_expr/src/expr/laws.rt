@@ -20,7 +20,7 @@ pub fn maps_keep_values<T: Logic, U: Logic>()
         → to (fold T.Logic tree answers) ≡ fold U.Logic tree (map to answers) }
 {}
 
-/// The answer of a lane is such a map, from sixty-four answers to one that may be unknown, where no
+/// The answer of a lane is such a map, from sixty-four answers to one that may be unknown, if no
 /// lane is both true and false.
 pub fn lanes_are_maps()
     ensures { (i : ℕ) → i < 64 → IsMap lane_valued three_valued (Passes is_apart) (lane i) }

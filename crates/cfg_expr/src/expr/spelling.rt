@@ -16,7 +16,7 @@ use cfgx_targets::endian::Endian;
 use std::alloc::Allocator;
 use std::io::{self, ErrorKind, Write};
 
-/// One call of `write`. It answers what is left behind the bytes that went out.
+/// One call of `write`. It answers what is left after the bytes that went out.
 fn write_once<'a, W: Write>(writer: &mut W, bytes: &'a [u8]) -> io::Result<&'a [u8]>
     requires { 0 < length bytes.now }
     ensures taken { IfOk result (λ left.
@@ -74,7 +74,7 @@ impl Value<'_> {
     }
 }
 
-/// Writes a value and the quote behind it.
+/// Writes a value and the quote after it.
 #[inline(always)]
 #[tactic(auto, using(crate::proofs::Parts::front_of_first, crate::proofs::Parts::writes_second))]
 fn write_to_quote<W: Write>(writer: &mut W, value: Value<'_>) -> io::Result<()>
@@ -85,7 +85,7 @@ fn write_to_quote<W: Write>(writer: &mut W, value: Value<'_>) -> io::Result<()>
     write_bytes(writer, b"\"")
 }
 
-/// Writes what stands in front of a value, the value, and the quote behind it.
+/// Writes what stands in front of a value, the value, and the quote after it.
 #[inline(always)]
 #[tactic(auto, using(crate::proofs::Parts::front_of_first, crate::proofs::Parts::writes_second))]
 fn write_quoted<W: Write>(writer: &mut W, front: &[u8], value: Value<'_>) -> io::Result<()>
@@ -186,7 +186,7 @@ fn write_predicate<W: Write, A: Allocator>(
 /// the value in quotes. It takes no memory.
 ///
 /// The bytes go out in as many calls of `write` as the writer needs, none of them of an empty
-/// slice, and no failed call is tried again. The error is the writer's, or `WriteZero` where it
+/// slice, and no failed call is tried again. The error is the writer's, or `WriteZero` if it
 /// took no byte; then a beginning of the spelling was written. The table is in `docs/RULES.md`.
 ///
 /// The spelling of a predicate that can stand in a text, as each one of an expression can, is a

@@ -38,7 +38,7 @@ const FAULTY: u8 = 1;
 /// The status of wrong use, and of a triple that no built-in target has.
 const NOT_KNOWN: u8 = 2;
 
-/// What is written, and the status behind it.
+/// What is written, and the status after it.
 #[derive(Drop)]
 pub(super) struct Answer<A: Allocator> {
     pub(super) bytes: CowSlice<'static, u8, A>,

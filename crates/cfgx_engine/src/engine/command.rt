@@ -1,4 +1,4 @@
-// What the words behind the program's name ask for.
+// What the words after the program's name ask for.
 
 ghost use Rattle.std.specs.Prelude.{◌≡◌};
 ghost use Rattle.cfgx_engine.specs.Answer.{command_request};
@@ -31,7 +31,7 @@ pub(super) fn command_of<'a>(words: &'a [&'a str]) -> Command<'a>
     }
 }
 
-/// The command of the words behind `parse`.
+/// The command of the words after `parse`.
 fn parse_command<'a>(words: &'a [&'a str]) -> Command<'a>
     ensures { command_request result ≡ parse_request (texts words.now) }
 {
@@ -41,7 +41,7 @@ fn parse_command<'a>(words: &'a [&'a str]) -> Command<'a>
     }
 }
 
-/// The command of the words behind `eval`.
+/// The command of the words after `eval`.
 fn eval_command<'a>(words: &'a [&'a str]) -> Command<'a>
     ensures { command_request result ≡ eval_request (texts words.now) }
 {
@@ -51,7 +51,7 @@ fn eval_command<'a>(words: &'a [&'a str]) -> Command<'a>
     }
 }
 
-/// The command of the words behind `target`.
+/// The command of the words after `target`.
 fn target_command<'a>(words: &'a [&'a str]) -> Command<'a>
     ensures { command_request result ≡ target_request (texts words.now) }
 {
@@ -61,7 +61,7 @@ fn target_command<'a>(words: &'a [&'a str]) -> Command<'a>
     }
 }
 
-/// The command of the words behind `pick`.
+/// The command of the words after `pick`.
 fn pick_command<'a>(words: &'a [&'a str]) -> Command<'a>
     ensures { command_request result ≡ pick_request (texts words.now) }
 {

@@ -1,4 +1,4 @@
-// The value of a text, where flags say which predicates are true and which are unknown.
+// The value of a text if flags say which predicates are true and which are unknown.
 
 ghost use Rattle.std.specs.Prelude.{◌≡◌, ◌∷◌, ◌↔◌, [], IfErr, IsTrue, OnOk, map};
 ghost use Rattle.cfgx_grammar.specs.Answer.{Answers};

@@ -35,7 +35,7 @@ fn push_next<A: Allocator>(
     push_line(written, &predicate)
 }
 
-/// Adds a predicate's line. A vector refuses bytes for want of memory alone.
+/// Adds a predicate's line. A vector refuses bytes only if it is out of memory.
 fn push_line<A: Allocator>(
     written: &mut Vec<u8, A>,
     predicate: &Predicate<'_>,

@@ -86,7 +86,7 @@ fn push_digits<A: Allocator>(written: &mut Vec<u8, A>, filling: &[bool]) -> Resu
     Ok(())
 }
 
-/// Adds a filling in a line of its own, behind a text.
+/// Adds a filling in a line of its own, after a text.
 fn push_filling<A: Allocator>(
     written: &mut Vec<u8, A>,
     text: &str,

@@ -167,7 +167,7 @@ impl<S: io::Write> Sink for Counted<S> {
 /// Writes all the bytes, in as many calls of `write` as the sink needs, and then flushes once. It
 /// answers whether all went out.
 ///
-/// Where there is nothing to write no `write` is made, but the flush is. The first failed call ends
+/// If there is nothing to write, no `write` is made, but the flush is. The first failed call ends
 /// it: no call is tried again, an interrupted one neither. What was written then is a beginning of
 /// the bytes. The sink must count fewer than `u64::MAX` failed calls.
 pub fn write_whole<W: Sink>(sink: &mut W, bytes: &[u8]) -> bool
@@ -196,7 +196,7 @@ fn write_in_turns<W: Sink>(sink: &mut W, bytes: &[u8]) -> bool
     true
 }
 
-// One call of `write`. It answers what is left after the bytes that went out, or `None` where the
+// One call of `write`. It answers what is left after the bytes that went out, or `None` if the
 // call failed.
 fn write_once<'a, W: Sink>(sink: &mut W, bytes: &'a [u8]) -> Option<&'a [u8]>
     requires room { W.failures sink.old < u64.MAX }

@@ -22,7 +22,7 @@ fn value_of(verdict: Verdict) -> Option<bool>
     }
 }
 
-/// The value of the text where the target answers its predicates.
+/// The value of the text if the target answers its predicates.
 pub(super) fn value_on<A: SmallAllocator>(
     alloc: A,
     row: &TargetInfo<'_, A>,

@@ -1,5 +1,5 @@
 -- The stack of open functions against the tokens: each open function is the last place that lies
--- less deep than what stands inside it, and its members are those that begin at that depth behind
+-- less deep than what stands inside it, and its members are those that begin at that depth after
 -- it.
 use Rattle.std.proofs.Common.{◌≡◌, ⊎_elim, ℕ, zero, suc, ◌+◌, ◌<◌, ◌≤◌, ◌&&◌, ◌==◌, Bool, true}
 use Rattle.std.proofs.Common.{false, List, [], ◌∷◌, ◌++◌, length, Option, Some, sym, refl, ap, ◌∙◌}
@@ -50,7 +50,7 @@ count_below-none test zero none = refl
 count_below-none test (suc n) none = rw (none n (omega arith))
     (count_below-none test n (λ k lt. none k (omega (arith, lt))))
 
--- behind the last token no member begins
+-- after the last token no member begins
 pub members_at_end : (items : List Item) (level from : ℕ) → length items ≤ from
     → members_at items level from ≡ 0
 members_at_end items level from past = count_below-none _ (length items) (λ k lt. grind arith)
@@ -58,7 +58,7 @@ members_at_end items level from past = count_below-none _ (length items) (λ k l
 -- The levels.
 
 -- the name of an open function stands at the place, so many functions are open in front of it, and
--- more everywhere behind it
+-- more everywhere after it
 pub record IsOpenAt (front : List Item) (level : ℕ) (function : Function) (start end : ℕ)
     (place : ℕ) : Type 0 where
   pub name : Item
@@ -82,10 +82,10 @@ module _ {M : Type 0} where
   pub record IsLevel (front : List Item) (is_named : Bool) (level : ℕ) (top : Open M)
       (going : ℕ) : Type 0 where
     pub place : ℕ
-    pub opened : IsOpenAt front level top.function top.start top.end place
+    pub is_open : IsOpenAt front level top.function top.start top.end place
     pub named_last : IsLast is_named place front
     pub parens : start_of (slice_get front (place + 1)) ≡ top.parens
-    pub counted : members_at front (level + 1) (place + 1) ≡ top.members + going
+    pub count_is : members_at front (level + 1) (place + 1) ≡ top.members + going
 
   abbrev pub Levels : List Item → ℕ → Bool → List (Open M) → ℕ → Type 0
   Levels front roots is_named [] going = members_at front 0 0 ≡ roots + going
@@ -170,10 +170,10 @@ module _ (front : List Item) (item : Item) where
       → IsLevel front false level top going → IsLevel more false level top goes
   IsLevel-more level going goes top deep adds is = record {
     place = is.place;
-    opened = IsOpenAt-more level _ _ _ is.place deep is.opened;
+    is_open = IsOpenAt-more level _ _ _ is.place deep is.is_open;
     named_last = omega (arith, is.named_last, length_more);
     parens = rw (slice_get_front front (item ∷ []) (is.place + 1) is.named_last) is.parens;
-    counted = adds is.place (omega (arith, is.named_last)) is.counted;
+    count_is = adds is.place (omega (arith, is.named_last)) is.count_is;
   }
 
   -- the token adds no member to any level
@@ -212,11 +212,11 @@ module _ (front : List Item) (item : Item) where
   Levels-open roots going (top ∷ rest) deep other (l, levels) = (
     record {
       place = l.place;
-      opened = IsOpenAt-more (length rest) _ _ _ l.place (omega (arith, deep)) l.opened;
+      is_open = IsOpenAt-more (length rest) _ _ _ l.place (omega (arith, deep)) l.is_open;
       named_last = omega (arith, l.named_last, length_more);
       parens = ap (λ k. start_of (slice_get more k)) l.named_last
           ∙ ap start_of (slice_get_next front item []);
-      counted = members_at_other (length rest + 1) (l.place + 1) other ∙ l.counted;
+      count_is = members_at_other (length rest + 1) (l.place + 1) other ∙ l.count_is;
     },
     Levels-same roots 1 rest (omega (arith, deep))
         (λ level from le. members_at_other level from other) levels,

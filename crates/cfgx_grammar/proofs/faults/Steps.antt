@@ -62,7 +62,7 @@ names front = count_by (λ item. names_function item.token) front
 abbrev pub closings : List Item → ℕ
 closings front = count_by (λ item. is_closing item.token) front
 
--- What may stand behind the last token says which it is.
+-- What may stand after the last token says which it is.
 
 -- What a token of this kind says of those in front of it. In front of a name no predicate has
 -- begun and no name is the last token; in front of `(` stands a name, in front of `=` a key, and in
@@ -146,11 +146,11 @@ module _ {W M L : Type 0} {builder : Builder W M L} (front : List Item) (s : Sta
 
     innermost_is : innermost front ≡ Some level.place
     innermost_is = last_below-found _ level.place (length front)
-        (slice_get_within front level.place _ level.opened.stands)
+        (slice_get_within front level.place _ level.is_open.stands)
         (lt-ltb (depth_at front level.place) (depth front)
-        (omega (arith, level.opened.before, deep_is)))
+        (omega (arith, level.is_open.before, deep_is)))
         (λ k above below. le-ltb (depth_at front k) (depth front)
-        (let more = level.opened.inside k above (omega (arith, below)) in
+        (let more = level.is_open.inside k above (omega (arith, below)) in
         omega (arith, more, deep_is)))
 
     members_are : members front level.place ≡ member_count top s.pending
@@ -161,14 +161,14 @@ module _ {W M L : Type 0} {builder : Builder W M L} (front : List Item) (s : Sta
         → option_or (option_and_then (not_fault front close) (innermost front)) other
         ≡ (if has_room top.function (member_count top s.pending) then other
         else Some (refusal (invalid_not (member_count top s.pending)) top.start close.end))
-    close_fault_is close other = rw (innermost_is, level.opened.stands, members_are)
-        (grind (arith, level.opened.named, level.opened.starts))
+    close_fault_is close other = rw (innermost_is, level.is_open.stands, members_are)
+        (grind (arith, level.is_open.named, level.is_open.starts))
 
     -- it stays open
     open_fault_is : (len : ℕ) → option_and_then (open_fault len front) (innermost front)
         ≡ Some (unclosed len top top.parens)
-    open_fault_is len = rw (innermost_is, level.opened.stands)
-        (grind (arith, level.opened.starts, level.opened.ends, level.parens))
+    open_fault_is len = rw (innermost_is, level.is_open.stands)
+        (grind (arith, level.is_open.starts, level.is_open.ends, level.parens))
 
   module _ (start end : ℕ) where
     abbrev at : Token → Item
@@ -177,7 +177,7 @@ module _ {W M L : Type 0} {builder : Builder W M L} (front : List Item) (s : Sta
     abbrev more : Token → List Item
     more token = front ++ at token ∷ []
 
-    -- so many functions are open behind the token
+    -- so many functions are open after the token
     abbrev Rises : Token → ℕ → Type 0
     Rises token height = height + cond (is_closing token) 1 0
         ≡ length s.stack + cond (names_function token) 1 0
@@ -226,7 +226,7 @@ module _ {W M L : Type 0} {builder : Builder W M L} (front : List Item) (s : Sta
         let here : IsLevel (more token) true (length s.stack) (new_open s function item)
         (going s.pending) = record {
           place = length front;
-          opened = record {
+          is_open = record {
             name = item;
             stands = slice_get_next front item [];
             named = refl;
@@ -237,7 +237,7 @@ module _ {W M L : Type 0} {builder : Builder W M L} (front : List Item) (s : Sta
           };
           named_last = omega arith;
           parens = ap start_of (slice_get_past (more token) _ (omega arith));
-          counted = members_at_end (more token) (length s.stack + 1) (length front + 1)
+          count_is = members_at_end (more token) (length s.stack + 1) (length front + 1)
               (omega arith) ∙ sym (ap going pending) ∙ omega arith;
         } in
         (refl, matched token _ _ refl (pending ∙ sym none) refl rises (rw is_name (here, outer)))
@@ -339,7 +339,7 @@ module _ {W M L : Type 0} {builder : Builder W M L} (front : List Item) (s : Sta
 
 -- What the steps answer for all tokens of a text is its first fault, or none.
 
--- the first fault of some tokens behind others
+-- the first fault of some tokens after others
 abbrev first_behind : List Item → List Item → Option Refusal
 first_behind front [] = None
 first_behind front (item ∷ items) =

@@ -6,7 +6,7 @@ use Rattle.std.specs.declared.ops.Range.{Range}
 use Rattle.std.proofs.lemmas.Slice.Eq.{bytes_eq-Decides}
 use Rattle.cfgx_syntax.specs.Error.{Cause}
 use Rattle.cfgx_grammar.specs.Question.{Leaf, Question, TargetQuestion}
-use Rattle.cfgx_grammar.specs.Classification.{Class, Line, class, by_name, target_lines, key_lines}
+use Rattle.cfgx_grammar.specs.Classification.{Class, Rule, class, by_name, target_rules, key_rules}
 use Rattle.cfgx_grammar.specs.Classification.{if_read, target_feature, target_class, other_class}
 use Rattle.cfgx_parser.specs.nodes.Located.{predicate_located, question_at, at, IsSpan, HasCut}
 use Rattle.cfgx_parser.specs.nodes.Located.{ValueHasCut}
@@ -25,7 +25,7 @@ module _ (text : List ℕ) (key_span : Range ℕ) where
 
   -- a table names what each of its lines names
   by_lines : {V : Type 0} (span : Option (Range ℕ)) (name : List ℕ) (value : V) (otherwise : Class)
-      (lines : List (Line V))
+      (lines : List (Rule V))
       → AllByRecursion (λ line. name ≡ line.name → NamesClass span (line.read value)) lines
       → NamesClass span otherwise → NamesClass span (by_name lines name value otherwise)
   by_lines span name value otherwise [] each last = last
@@ -44,7 +44,7 @@ module _ (text : List ℕ) (key_span : Range ℕ) where
 
   names_target : (span : Range ℕ) (name : List ℕ) → IsSpan text span
       → NamesClass (Some span) (target_class name (at text span))
-  names_target span name cut = by_lines (Some span) name (at text span) _ target_lines
+  names_target span name cut = by_lines (Some span) name (at text span) _ target_rules
       (search (rules, names_read, names_feature)) tt
 
   names_other : (span : Option (Range ℕ)) (key : List ℕ) → at text key_span ≡ key
@@ -55,8 +55,8 @@ module _ (text : List ℕ) (key_span : Range ℕ) where
   pub NamesClass-class : (span : Option (Range ℕ)) → IsSpan text key_span → ValueHasCut text span
       → NamesClass span (class (at text key_span) (option_map (at text) span))
   unfolding class
-  NamesClass-class None key_cut cut = by_lines None (at text key_span) None _ key_lines
+  NamesClass-class None key_cut cut = by_lines None (at text key_span) None _ key_rules
       (search rules) (names_other None _ refl key_cut cut)
   NamesClass-class (Some span) key_cut cut =
-      by_lines (Some span) (at text key_span) (Some (at text span)) _ key_lines
+      by_lines (Some span) (at text key_span) (Some (at text span)) _ key_rules
       (search rules) (names_other (Some span) _ refl key_cut cut)

@@ -20,7 +20,7 @@ WritesNodes-none text w = record {
   shown_are = refl;
   cuts = tt;
   leaves_are = sym (append-nil w.leaves);
-  asked_are = sym (append-nil w.asked);
+  index_are = sym (append-nil w.index);
 }
 
 -- one thing after another
@@ -34,7 +34,7 @@ WritesNodes-then a b = record {
   shown_are = simp (map-append, a.shown_are, b.shown_are);
   cuts = all_of_both _ a.added b.added a.cuts b.cuts;
   leaves_are = simp (b.leaves_are, a.leaves_are, append_assoc);
-  asked_are = simp (b.asked_are, a.asked_are, append_assoc);
+  index_are = simp (b.index_are, a.index_are, append_assoc);
 }
 
 -- as many nodes were added as are shown
@@ -52,7 +52,7 @@ WritesNodes-leaf text w leaf shown is cut = record {
   shown_are = ap (λ n. n ∷ []) is;
   cuts = (cut, tt);
   leaves_are = refl;
-  asked_are = sym (append-nil w.asked);
+  index_are = sym (append-nil w.index);
 }
 
 -- a function and its members
@@ -70,5 +70,5 @@ WritesNodes-function {w} {v} {shown} {own} first last a =
       shown_are = rw a.shown_are refl;
       cuts = (tt, a.cuts);
       leaves_are = rw (a.leaves_are, append-nil) (take_at w.leaves own _ refl);
-      asked_are = rw (a.leaves_are, drop_at w.leaves own _ refl, a.asked_are, append_assoc) refl;
+      index_are = rw (a.leaves_are, drop_at w.leaves own _ refl, a.index_are, append_assoc) refl;
     }

@@ -13,16 +13,16 @@ use Rattle.cfgx_parser.specs.declared.nodes.ExprNode.{ExprNode}
 use Rattle.cfgx_parser.specs.declared.nodes.ExprNode.TheVariants as node
 
 -- the nodes and the places are those of the tree, and the text can be cut at their spans
-pub record KeepsTree (text : List ℕ) (nodes : List ExprNode) (asked : List ℕ)
+pub record KeepsTree (text : List ℕ) (nodes : List ExprNode) (index : List ℕ)
     (tree : Tree Question) : Type 0 where
   pub nodes_are : map (node_at text) nodes ≡ prefix tree
   pub cuts : AllByRecursion (NodeHasCut text) nodes
-  pub asked_are : asked ≡ places 0 tree
+  pub index_are : index ≡ places 0 tree
 
 -- they are those of the text's one tree
-pub record KeepsOneTree (text : List ℕ) (nodes : List ExprNode) (asked : List ℕ) : Type 0 where
+pub record KeepsOneTree (text : List ℕ) (nodes : List ExprNode) (index : List ℕ) : Type 0 where
   pub one : HasOneTree text
-  pub keeps : KeepsTree text nodes asked one.tree
+  pub keeps : KeepsTree text nodes index one.tree
 
 abbrev pub predicate_of : ExprNode → Option InnerPredicate
 predicate_of (node.Fn func len) = None
@@ -35,8 +35,8 @@ predicate_at nodes place = option_and_then predicate_of (slice_get nodes place)
 
 -- the questions of the predicates at the places
 abbrev pub questions_at : List ℕ → List ExprNode → List ℕ → List Question
-questions_at text nodes asked = filter_map (λ place. option_map (question_at text)
-    (predicate_at nodes place)) asked
+questions_at text nodes index = filter_map (λ place. option_map (question_at text)
+    (predicate_at nodes place)) index
 
 -- a predicate stands at the place, and its parts can be cut out of the text
 pub record NamesPredicate (text : List ℕ) (nodes : List ExprNode) (place : ℕ) : Type 0 where
@@ -45,4 +45,4 @@ pub record NamesPredicate (text : List ℕ) (nodes : List ExprNode) (place : ℕ
   pub cut : HasCut text predicate
 
 abbrev pub NamePredicates : List ℕ → List ExprNode → List ℕ → Type 0
-NamePredicates text nodes asked = AllByRecursion (NamesPredicate text nodes) asked
+NamePredicates text nodes index = AllByRecursion (NamesPredicate text nodes) index

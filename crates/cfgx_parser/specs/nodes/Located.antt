@@ -10,7 +10,7 @@ use Rattle.cfgx_parser.specs.declared.nodes.InnerPredicate.TheVariants as inner
 use Rattle.cfgx_parser.specs.declared.nodes.ExprNode.{ExprNode}
 use Rattle.cfgx_parser.specs.declared.nodes.ExprNode.TheVariants as node
 
--- the target predicate whose text, where it has one, stands at the span
+-- the target predicate whose text, if it has one, stands at the span
 abbrev pub target_at : Range ℕ → TargetQuestion → InnerTarget
 target_at span (TargetQuestion.abi text) = target.Abi span
 target_at span (TargetQuestion.arch text) = target.Arch span

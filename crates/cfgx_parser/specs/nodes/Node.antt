@@ -6,15 +6,15 @@ pub use Rattle.cfgx_parser.specs.declared.nodes.Mark.{Mark}
 use Rattle.cfgx_parser.specs.declared.nodes.ExprNode.{ExprNode}
 use Rattle.cfgx_parser.specs.declared.nodes.ExprNode.TheVariants as node
 
--- The nodes; the places of predicates whose list has not ended, those of inner lists behind those
+-- The nodes; the places of predicates whose list has not ended, those of inner lists after those
 -- of outer ones; the places of the other predicates, as they are asked.
 pub record Written : Type 0 where
   pub nodes : List ExprNode
   pub leaves : List ℕ
-  pub asked : List ℕ
+  pub index : List ℕ
 
 abbrev pub nothing : Written
-nothing = record { nodes = []; leaves = []; asked = [] }
+nothing = record { nodes = []; leaves = []; index = [] }
 
 abbrev pub mark_of : Written → Mark
 mark_of w = record { node = length w.nodes; leaves = length w.leaves }
@@ -40,7 +40,7 @@ with_function func w = record w { nodes = w.nodes ++ node.Fn func 0 ∷ [] }
 abbrev pub with_list_ended : ℕ → Written → Written
 with_list_ended leaves w = record w {
   leaves = take leaves w.leaves;
-  asked = w.asked
+  index = w.index
       ++ drop leaves w.leaves;
 }
 

@@ -42,4 +42,4 @@ pub record WritesNodes (text : List ℕ) (old new : Written) (shown : List (Node
   pub shown_are : map (node_at text) added ≡ shown
   pub cuts : AllByRecursion (NodeHasCut text) added
   pub leaves_are : new.leaves ≡ old.leaves ++ own
-  pub asked_are : new.asked ≡ old.asked ++ inner
+  pub index_are : new.index ≡ old.index ++ inner

@@ -8,7 +8,7 @@ abbrev pub counted_in : List OpenFunction → ℕ
 counted_in [] = 0
 counted_in (top ∷ rest) = suc top.members + counted_in rest
 
--- each open function began among what is written, behind those around it
+-- each open function began among what is written, after those around it
 abbrev pub AreMarked : List OpenFunction → ℕ → ℕ → Type 0
 AreMarked [] nodes leaves = Unit {0}
 AreMarked (top ∷ rest) nodes leaves =

@@ -8,8 +8,8 @@ use Rattle.cfgx_grammar.specs.Classification.{target_class, other_class}
 use Rattle.cfgx_grammar.specs.parsing.State.{Function, Word, Pending}
 use Rattle.cfgx_parser.specs.parsing.State.{OpenFunction, located_class}
 use Rattle.cfgx_grammar.specs.FirstFault.{refusal}
-use Rattle.cfgx_parser.specs.declared.function.Func.{Func}
-use Rattle.cfgx_parser.specs.declared.function.Func.TheVariants as func
+use Rattle.cfgx_parser.specs.declared.function.FuncKind.{FuncKind}
+use Rattle.cfgx_parser.specs.declared.function.FuncKind.TheVariants as kind
 use Rattle.cfgx_parser.specs.declared.classification.Word as code_word
 use Rattle.cfgx_parser.specs.declared.classification.Pending as code_pending
 use Rattle.cfgx_parser.specs.declared.nodes.ExprNode.{ExprNode}
@@ -43,16 +43,16 @@ abbrev pub target_answer : List ℕ → Word → Word → Result ExprNode Refusa
 target_answer name key value =
     located_class (record { key = key; value = Some value }) (target_class name value.text)
 
--- of a key that stands in no line
+-- of a key that has no rule of its own
 abbrev pub other_answer : Word → Option Word → Result ExprNode Refusal
 other_answer key value =
     located_class (record { key = key; value = value })
     (other_class key.text (option_map (λ v. v.text) value))
 
-abbrev pub function_of : Func → Function
-function_of func.Not = Function.not
-function_of (func.All members) = Function.all
-function_of (func.Any members) = Function.any
+abbrev pub function_of : FuncKind → Function
+function_of kind.Not = Function.not
+function_of kind.All = Function.all
+function_of kind.Any = Function.any
 
 abbrev pub empty_list : OpenList
 empty_list = record { members = 0; parens_index = None }
@@ -60,7 +60,7 @@ empty_list = record { members = 0; parens_index = None }
 -- an open function and its list, as the parser keeps them
 abbrev pub open_of : FuncAndSpan → OpenList → OpenFunction
 open_of f list = record {
-  function = function_of f.func;
+  function = function_of f.kind;
   start = f.span.start;
   end = f.span.end;
   parens = list.parens_index;

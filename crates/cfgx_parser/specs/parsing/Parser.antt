@@ -27,7 +27,7 @@ use Rattle.cfgx_parser.specs.parsing.Fields.{opens_in, roots_in, pending_of, las
 use Rattle.cfgx_parser.specs.declared.parser.LastToken.{LastToken}
 use Rattle.cfgx_parser.specs.declared.parser.Parser.{Parser}
 
--- behind a last token, which the parser is told, or at the start
+-- after a last token, which the parser is told, or at the start
 abbrev pub state_at : {A : Type 0} → Option spelled.Token → Parser A → ParserState
 state_at last p = record {
   stack = opens_in p.list (reverse p.func_stack.items);
@@ -140,7 +140,7 @@ Reads {A} last lexed old new result = (before : Option spelled.Token) → last_o
     → GivesAt {A = A} (Some (token_of lexed.token)) result new
     (step (state_at {A = A} before old) (item_of lexed))
 
--- the text of so many bytes ends behind it
+-- the text of so many bytes ends after it
 abbrev pub Finishes : {A : Type 0} → LastToken → ℕ → Parser A → Parser A
     → Result (Unit {0}) Halt → Type 0
 Finishes {A} last len old new result = (before : Option spelled.Token) → last_of before ≡ last

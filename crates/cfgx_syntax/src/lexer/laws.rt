@@ -5,8 +5,8 @@ ghost use Rattle.cfgx_syntax.specs.Lexer.{token_of};
 
 use super::Token;
 
-/// Two tokens are equal where they are of one kind, and two keys or two values where their texts
-/// are equal, wherever these lie.
+/// Two tokens are equal if they are of one kind, and two keys or two values if their texts are
+/// equal, wherever these lie.
 pub fn are_same_tokens(one: &Token<'_>, other: &Token<'_>) -> bool
     ensures { IsTrue result ↔ (token_of one.now ≡ token_of other.now) }
 {

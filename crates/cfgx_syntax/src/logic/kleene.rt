@@ -61,7 +61,7 @@ impl Kleene64 {
         let _ = &self.is_true;
     }
 
-    /// The answer in lane `i`, which is below 64: `None` where it is unknown.
+    /// The answer in lane `i`, which is below 64: `None` if it is unknown.
     pub fn lane(&self, i: usize) -> Option<bool>
         requires { i < 64 }
         ensures { result ≡ lane i self.now }

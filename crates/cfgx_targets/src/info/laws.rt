@@ -25,7 +25,7 @@ fn tests_tell()
         (IsTrue (⟦<HasAtomic as PartialEq>⟧.eq one other) ↔ (one ≡ other)) }
 {}
 
-// Targets are equal exactly where all of their fields are.
+// Targets are equal exactly if all of their fields are.
 fn are_same_targets<A: Allocator>(one: &TargetInfo<'_, A>, other: &TargetInfo<'_, A>) -> bool
     ensures { IsTrue result ↔ (one.now ≡ other.now) }
 {

@@ -6,7 +6,7 @@ ghost use Rattle.cfgx_targets.specs.SortedList.{IsSortedFrom};
 use super::{Member, SortedList};
 use std::alloc::Allocator;
 
-// Lists are equal exactly where they have the same members in the same places.
+// Lists are equal exactly if they have the same members in the same places.
 fn are_same_lists<T: Member, A: Allocator>(
     one: &SortedList<'_, T, A>,
     other: &SortedList<'_, T, A>,
@@ -16,7 +16,7 @@ fn are_same_lists<T: Member, A: Allocator>(
     one == other
 }
 
-// Lists that were made of items are equal exactly where the items of one are a rearrangement of
+// Lists that were made of items are equal exactly if the items of one are a rearrangement of
 // those of the other.
 fn are_made_of_the_same<T: Member, A: Allocator>(
     one: &SortedList<'_, T, A>,

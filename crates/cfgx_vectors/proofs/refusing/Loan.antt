@@ -6,8 +6,8 @@
 -- One step walks a whole call statement. `alive` is there before it and after it, and what else it
 -- takes comes first: `counts_down` goes from `lent` to a `bool`, and `lent` stays; `reaches_inner`
 -- from `lent` to a pointer, and what a `&` to the inner allocator holds; `allocates` from that to
--- an answer, and what comes with it, where no case is told apart; `deallocates` from that and a
--- block to nothing. `answer_of`, `answer_owned` and `answer_made` are an answer's value, and what a
+-- an answer, and what comes with it, with no case told apart; `deallocates` from that and a
+-- block to nothing. `as_answer`, `answer_owned` and `answer_made` are an answer's value, and what a
 -- contract wants to see owned of it.
 use Rattle.std.proofs.Common.{◌≡◌, ℕ, ◌^◌, ◌<◌, Bool, true, false, List, [], ◌∷◌, Ok, Err, refl, ap}
 use Rattle.std.proofs.Common.{w64, Bor}
@@ -241,20 +241,20 @@ module _ (Z : Al) {M : Type 1} {𝓤 : Ura M} (𝓛 : Logic 𝓤) (at_mem : Memo
           await t tt $ learn t (λ is. join t $ next v is))
 
 -- an answer is told by whether it is `Ok`, and by where the block lies
-abbrev pub answer_of : Bool × (ℕ × ℕ) → Answer.Denot
-answer_of (true, block) = Ok (block_ptr block.0 block.1)
-answer_of (false, block) = Err (record {})
+abbrev pub as_answer : Bool × (ℕ × ℕ) → Answer.Denot
+as_answer (true, block) = Ok (block_ptr block.0 block.1)
+as_answer (false, block) = Err (record {})
 
 module _ {M : Type 1} {𝓤 : Ura M} (𝓛 : Logic 𝓤) (Z : Al) (h : Z.row.Denot) (τ : Ty) where
   abbrev pub answer_owned : Bool × (ℕ × ℕ) → Item 𝓤
-  answer_owned came = ‵ (Answer.own_val (answer_of came) (answer_val came.0 came.1.0 came.1.1 ∷ []))
-      ⊛ ‵ (block_if_ok (token Z h) τ (answer_of came))
+  answer_owned came = ‵ (Answer.own_val (as_answer came) (answer_val came.0 came.1.0 came.1.1 ∷ []))
+      ⊛ ‵ (block_if_ok (token Z h) τ (as_answer came))
 
   pub answer_made : (came : Bool × (ℕ × ℕ)) → ent 𝓤
       (sem 𝓛 (got (token Z h) τ came.0 came.1.0 came.1.1)) (mean 𝓛 (answer_owned came))
   answer_made (true, block) = qed 𝓛 (‵ (got (token Z h) τ true block.0 block.1) ∷ []) ∵ use0 𝓛
-      (‵ (Answer.own_val (answer_of (true, block)) (answer_val true block.0 block.1 ∷ [])))
+      (‵ (Answer.own_val (as_answer (true, block)) (answer_val true block.0 block.1 ∷ [])))
       (Answer-Ok 𝓛 block.0 block.1) $ done !
   answer_made (false, block) = qed 𝓛 (‵ ftrue ∷ []) ∵ use0 𝓛
-      (‵ (Answer.own_val (answer_of (false, block)) (answer_val false 0 0 ∷ []))) (Answer-err 𝓛) $
+      (‵ (Answer.own_val (as_answer (false, block)) (answer_val false 0 0 ∷ []))) (Answer-err 𝓛) $
       done !

@@ -1,11 +1,11 @@
 //! A logic that writes its terms down.
 ghost use Rattle.std.specs.Prelude.{◌≡◌, ◌≤◌, ◌++◌, ◌∷◌, [], codes, length, take};
-ghost use Rattle.cfgx_vectors.specs.Terms.{cut, joined};
+ghost use Rattle.cfgx_vectors.specs.Terms.{cut, in_parens};
 
 use cfg_expr::expr::Logic;
 use std::marker::Model;
 
-/// How many bytes a term has at most. What is behind them is cut off.
+/// How many bytes a term has at most. What follows them is cut off.
 const ROOM: usize = 64;
 
 /// A term: `T`, `F`, `(x&y)`, `(x|y)`, `!x`, or a caller's own bytes. Contracts see its bytes.
@@ -45,7 +45,7 @@ impl Terms {
         &self.bytes[..self.length]
     }
 
-    /// Writes one byte behind the others.
+    /// Writes one byte after the others.
     fn push(&mut self, byte: u8)
         ensures { self.new ≡ cut (self.old ++ byte ∷ []) }
     {
@@ -55,7 +55,7 @@ impl Terms {
         }
     }
 
-    /// Writes bytes behind the others.
+    /// Writes bytes after the others.
     fn append(&mut self, bytes: &[u8])
         ensures { self.new ≡ cut (self.old ++ bytes.now) }
     {
@@ -67,7 +67,7 @@ impl Terms {
 
     /// Both terms in parentheses, with the sign between them.
     fn join(&self, sign: u8, other: &Terms) -> Terms
-        ensures { result ≡ joined sign self.now other.now }
+        ensures { result ≡ in_parens sign self.now other.now }
     {
         let mut terms = Terms::new(b"(");
         terms.append(self.as_bytes());
@@ -85,9 +85,9 @@ impl Logic for Terms {
 
     ghost bottom = { codes "F" };
 
-    ghost and = { joined 38 };
+    ghost and = { in_parens 38 };
 
-    ghost or = { joined 124 };
+    ghost or = { in_parens 124 };
 
     ghost not = { λ term. cut (codes "!" ++ term) };
 

@@ -66,7 +66,7 @@ const LEAVES: &[&str] = &[
     "not(all())",
 ];
 
-// What may stand before the first member of a function, and what behind its last one.
+// What may stand before the first member of a function, and what after its last one.
 const FRONTS: &[&str] = &["", " ", "\n\t", "\u{a0}"];
 
 const BACKS: &[&str] = &["", "", ",", " , ,"];
@@ -80,7 +80,7 @@ fn push_tokens(numbers: &mut Numbers, text: &mut String) -> Result<(), AllocErro
     Ok(())
 }
 
-// Writes so many members, each with a comma before or behind it.
+// Writes so many members, each with a comma before or after it.
 fn push_leaves(
     numbers: &mut Numbers,
     text: &mut String,

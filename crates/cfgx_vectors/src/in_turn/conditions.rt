@@ -58,7 +58,7 @@ pub(super) fn is_answer<A: SmallAllocator>(
     }
 }
 
-/// The fault of the lexer after one token. It ends the lexer, and so does want of memory.
+/// The fault of the lexer after one token. It ends the lexer, and so does being out of memory.
 pub(super) fn lexes<A: SmallAllocator>(alloc: A, text: &str) -> Result<bool, AllocError> {
     let mut lexer = Lexer::new(alloc, text);
     if !gives(&mut lexer, &(Token::Key("a"), 0, 1, 4)) {
@@ -143,7 +143,7 @@ fn are(filling: &[bool], value: bool, count: usize) -> bool {
 // As many answers as the longest of the texts has predicates.
 const UNKNOWN_ANSWERS: &[Option<bool>] = &[None; 100];
 
-// Whether there are two fillings, where no answer is known: all true makes the text true, and all
+// Whether there are two fillings, if no answer is known: all true makes the text true, and all
 // false makes it false.
 fn is_filled<A: SmallAllocator>(alloc: A, expression: &Expression<A>) -> Result<bool, AllocError> {
     let count = expression.predicates().left();

@@ -1,4 +1,4 @@
-//! Calls on targets that take memory, or need none where a text is borrowed.
+//! Calls on targets that take memory, or need none if a text is borrowed.
 //!
 //! What is dear to prove where it goes out of scope is dropped by name.
 use crate::fields::is_refused;
@@ -63,7 +63,7 @@ fn families_of<'a, A: SmallAllocator + 'a>(
     Families::new(alloc, families.into_iter())
 }
 
-// Whether the list, and its copy behind it, have the families of these names.
+// Whether the list, and its copy after it, have the families of these names.
 fn is_copied<A: SmallAllocator>(
     alloc: A,
     list: &Families<'_, A>,
@@ -220,7 +220,7 @@ fn is_free_to_copy<'h>(heap: Heap<'h>, predicate: Asked<'h>) -> bool {
 }
 
 // Whether the owned one, of the same text as the borrowed one, wants one growth for its copy, stays
-// as it was where that is refused, and is copied where it is not.
+// as it was if that is refused, and is copied if it is not.
 fn stays_where_refused<'h>(heap: Heap<'h>, owned: &Asked<'h>, borrowed: &Asked<'h>) -> bool {
     heap.refuse(1);
     let is_refused = is_refused(owned.try_clone(heap), heap);
@@ -285,10 +285,10 @@ const KINDS: &[&str] = &[
     "panic",
 ];
 
-// Whether a list of borrowed widths is copied with no memory.
+// Whether lists of borrowed widths and families are copied with no memory.
 fn are_free(heap: Heap<'_>) -> bool {
     heap.refuse(EVERY);
-    copies_borrowed_widths(heap)
+    copies_borrowed_widths(heap) && copies_borrowed_families(heap)
 }
 
 fn copies_borrowed_widths<A: SmallAllocator>(alloc: A) -> bool {
@@ -301,13 +301,19 @@ fn copies_borrowed_widths<A: SmallAllocator>(alloc: A) -> bool {
     }
 }
 
-// Widths and predicates without a text.
+fn copies_borrowed_families<A: SmallAllocator>(alloc: A) -> bool {
+    let families: [Family<'_, A>; 1] = [Family::unix()];
+    let list = Families::new_const(&families);
+    holds(is_copied(alloc, &list, &["unix"]))
+}
+
+// Lists that are borrowed, and predicates without a text.
 fn are_free_without_a_text(rt: &impl Abort, heap: Heap<'_>) {
     let eight = TargetPredicate::HasAtomic(HasAtomic::IntegerSize(8));
     all_hold(
         rt,
         &[
-            ("widths", are_free(heap)),
+            ("lists", are_free(heap)),
             (
                 "big",
                 is_free_to_copy(heap, TargetPredicate::Endian(Endian::big)),

@@ -86,7 +86,7 @@ const UNKNOWN: &[(Parts, &str, &str, usize)] = &[
     (("", "not(", 10_001, "a", 10_001), "0", "1", 1),
 ];
 
-// The digits of both fillings behind the name and the verdict.
+// The digits of both fillings after the name and the verdict.
 fn unknown(alloc: Global, one: &str, other: &str, count: usize) -> Result<String, AllocError> {
     let front = "n\tunknown\n\ttrue with ";
     let text = repeated(alloc, front, one, count, "\n\tfalse with ")?;
@@ -133,7 +133,7 @@ fn is_judged(alloc: Global, row: &(usize, u8, &str, u8)) -> Result<bool, AllocEr
     Ok(is_picked(alloc, IOS, input.as_slice(), written, *status))
 }
 
-// It takes some minutes where it is not built by LLVM.
+// It takes some minutes if it is not built by LLVM.
 #[test]
 fn the_length_is_judged_first(rt: HostRuntime) -> Result<(), Fail> {
     for row in LENGTHS {

@@ -152,7 +152,7 @@ fn has_no_family<A: SmallAllocator>(_alloc: A) -> bool {
     is_empty(empty)
 }
 
-/// A list, or want of memory.
+/// A list, or out of memory.
 type Made<'f, A> = Result<Families<'f, A>, AllocError>;
 
 // The same of the lists that were made.
@@ -203,7 +203,7 @@ fn copies_of<'a, A: SmallAllocator + 'a>(
     Ok(rows)
 }
 
-/// Rows, or want of memory.
+/// Rows, or out of memory.
 type Rows<'a, A> = Result<Vec<TargetInfo<'a, A>, A>, AllocError>;
 
 // The same of the rows that are built in.
@@ -212,7 +212,7 @@ fn rows<'a, A: SmallAllocator + 'a>(alloc: A, numbers: &[usize]) -> Rows<'a, A> 
     copies_of(alloc, table.rows(), numbers)
 }
 
-// The place at which so many rows are refused, all of them given back, or `None` where they are a
+// The place at which so many rows are refused, all of them given back, or `None` if they are a
 // table.
 fn place_of<A: SmallAllocator>(rows: Rows<'_, A>, wanted: usize) -> Result<Option<usize>, Fail> {
     let (place, count) = match TargetTable::from_rows(rows?) {

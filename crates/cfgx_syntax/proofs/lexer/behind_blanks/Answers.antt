@@ -1,4 +1,4 @@
--- White space goes on behind ASCII white space only if a longer character is next.
+-- White space goes on after ASCII white space only if a longer character is next.
 use Rattle.std.proofs.Common.{rules}
 use Rattle.cfgx_syntax.proofs.Blanks.{blank-ascii, trim_behind, trim_blanks}
 use Rattle.cfgx_syntax.proofs.Words.{IsCharBoundary-behind}

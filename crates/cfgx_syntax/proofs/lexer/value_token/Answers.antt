@@ -1,4 +1,4 @@
--- A value runs to the first quote behind the one in front, and without such a quote it is unclosed.
+-- A value runs to the first quote after the one in front, and without such a quote it is unclosed.
 use Rattle.std.proofs.Common.{◌≡◌, ℕ, ◌<◌, List, ◌∷◌, length, drop, get_or, Some, None, arith, refl}
 use Rattle.std.proofs.Common.{lit<, inr}
 use Rattle.std.proofs.lemmas.List.{drop_more}
@@ -7,7 +7,7 @@ use Rattle.std.proofs.lemmas.Str.Pattern.{split_parts}
 use Rattle.cfgx_syntax.proofs.Values.{BeginsWith-value, HasNoQuote-from}
 use Rattle.cfgx_syntax.proofs.lexer.value_token.Goals as goal
 
--- the text is a quote and what the code cuts off behind it
+-- the text is a quote and what the code cuts off after it
 behind_quote : (text rest : List ℕ) → 0 < length text → get_or text 0 0 ≡ 34 → rest ≡ drop 1 text
     → text ≡ 34 ∷ rest
 behind_quote text rest some first is = rw (first, ← is) at (drop_more text 0 0 some)

@@ -1,4 +1,4 @@
--- The prefix and the suffix are found where the text is wrapped, and only there.
+-- The prefix and the suffix are found exactly if the text is wrapped.
 use Rattle.std.proofs.Common.{Some, None, lit<}
 use Rattle.std.proofs.lemmas.Str.Pattern.{strip_suffix_char}
 use Rattle.cfgx_syntax.proofs.Wrapping.{strip-bare, strip-wrapped, strip-prefixed}

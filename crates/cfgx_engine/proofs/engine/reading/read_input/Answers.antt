@@ -5,7 +5,7 @@ use Rattle.std.proofs.Math.Seq.{take-add}
 use Rattle.std.specs.Io.KnownBytes.{Consumes}
 use Rattle.cfgx_engine.proofs.engine.reading.read_input.Goals as goal
 
--- what two reads took is what both took, one behind the other
+-- what two reads took is what both took, one after the other
 consumes-more : (old between new : Option (List ℕ)) (first second : List ℕ)
     → Consumes old between first → Consumes between new second → Consumes old new (first ++ second)
 consumes-more None between new first second one two = tt

@@ -3,7 +3,7 @@ use Rattle.std.proofs.Common.{append_assoc}
 use Rattle.cfgx_engine.proofs.VerdictLemmas.{same_value}
 use Rattle.cfgx_engine.proofs.engine.sections.push_verdict.Goals as goal
 
--- what is added behind a text is added with it
+-- what is added after a text is added with it
 behind : (old text one two between new : List ℕ) → between ≡ old ++ text
     → new ≡ between ++ one ++ two → new ≡ old ++ (text ++ one ++ two)
 behind old text one two between new first rest =

@@ -5,4 +5,4 @@ use Rattle.cfgx_parser.proofs.parsed.Parsed.places.Goals as goal
 pub returns : goal.returns
 returns g c =
     let keeps = rw c.self.view_is at c.self.invariant in
-    (keeps.one, c.as_slice.ensures ∙ keeps.keeps.asked_are)
+    (keeps.one, c.as_slice.ensures ∙ keeps.keeps.index_are)

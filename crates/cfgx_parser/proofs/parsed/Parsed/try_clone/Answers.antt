@@ -8,5 +8,5 @@ invariant_of-result g c =
     let text = c.in_ok-from_str.ensures.ok ∙ c.as_str.ensures.value in
     let nodes : c.in_ok-from_clones.field-0.items ≡ c.self.inside.nodes.items =
     same_from_all_zip _ _ _ c.in_ok-from_clones.ensures.ok (search rules) ∙ c.as_slice.ensures in
-    let asked = c.in_ok-from_slice.ensures.ok ∙ c.as_slice-2.ensures in
-    rw (text, nodes, asked) c.self.invariant
+    let index = c.in_ok-from_slice.ensures.ok ∙ c.as_slice-2.ensures in
+    rw (text, nodes, index) c.self.invariant

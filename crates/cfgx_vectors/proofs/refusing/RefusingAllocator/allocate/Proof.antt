@@ -1,5 +1,5 @@
 -- A growth that ends the countdown is refused. Any other ends with what came from the inner
--- allocator, which the walk does not look into: with its block where there is one, so that one
+-- allocator, which the walk does not look into: with its block if there is one, so that one
 -- ending, `ends`, serves it and the refusal. Assumes `Logic`.
 use Rattle.std.proofs.Common.{ℕ, Bool, false, List, [], ◌∷◌, refl, w64}
 use seplogic.Ra.Ura.{Ura}
@@ -38,7 +38,7 @@ use Rattle.cfgx_vectors.proofs.refusing.Loan.{type_args, Loan, loan_of, Request,
 use Rattle.cfgx_vectors.proofs.refusing.Loan.{countdown_at, inner_at, by_ref}
 use Rattle.cfgx_vectors.proofs.refusing.Loan.{Countdown, Inner, lent, alive}
 use Rattle.cfgx_vectors.proofs.refusing.Loan.{counts_down, reaches_inner}
-use Rattle.cfgx_vectors.proofs.refusing.Loan.{allocates, answer_of, answer_owned, answer_made}
+use Rattle.cfgx_vectors.proofs.refusing.Loan.{allocates, as_answer, answer_owned, answer_made}
 use Rattle.cfgx_vectors.proofs.refusing.Refusing.ends_countdown.Met as countdown
 use Rattle.cfgx_vectors.proofs.refusing.Refusing.inner.Met as inner
 use Rattle.cfgx_vectors.specs.contracts.refusing.RefusingAllocator.allocate as f
@@ -79,7 +79,7 @@ module _ (Z : Al) {M : Type 1} {𝓤 : Ura M} (𝓛 : Logic 𝓤) (at_mem : Memo
       came.1.0 came.1.1) ∷ alive Z loan ∷ []) (prop (Ends (answer_val came.0 came.1.0 came.1.1)))
   ends came =
       suffices ! _ (leaves 𝓛 (parts Z) (spent Z) clauses bound (answer_val came.0 came.1.0 came.1.1)
-      (answer_of came) (tt, (tt, (tt, tt))) (tt, (tt, (tt, tt)))) $
+      (as_answer came) (tt, (tt, (tt, tt))) (tt, (tt, (tt, tt)))) $
       use1 𝓛 (answer_owned 𝓛 Z loan.self.now.inner asked.ty came)
       (answer_made 𝓛 Z loan.self.now.inner asked.ty came) $ nothing ! $ nothing ! $ fjoin ! $
       nothing ! $ fjoin ! $ nothing ! $ fjoin ! $ join ! $ move ! (1 ∷ 0 ∷ []) $ done !

@@ -3,7 +3,7 @@ use Rattle.std.proofs.lemmas.List.Elements.{Contains-append_right}
 use Rattle.cfgx_parser.specs.Predicate.{question_of}
 use Rattle.cfgx_engine.proofs.engine.flags.Flag.names.Goals as goal
 
--- what stands in a list, and is not its first item, stands behind it
+-- what stands in a list, and is not its first item, stands after it
 other_item : {X : Type 0} (x y : X) (xs : List X) → (x ≡ y → ⊥) → Contains (x ∷ xs) y
     → Contains xs y
 other_item x y xs differs (zero, below, is) = absurd (differs is)

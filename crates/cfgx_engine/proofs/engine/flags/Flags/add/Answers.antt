@@ -4,7 +4,7 @@ use Rattle.std.proofs.lemmas.Str.Pattern.{strip_prefix_char}
 use Rattle.cfgx_engine.proofs.FlagLemmas.{BlamesFirst-parse, unknown_text-unmarked}
 use Rattle.cfgx_engine.proofs.engine.flags.Flags.add.Goals as goal
 
--- the text behind a `?` is the flag's
+-- the text after a `?` is the flag's
 pub returns-in_err-parse-in-Some-clause-err : goal.returns-in_err-parse-in-Some-clause-err
 returns-in_err-parse-in-Some-clause-err g c =
     let p = err_from_is_err_and c.from_residual.result c.from_residual.ensures.1 in
