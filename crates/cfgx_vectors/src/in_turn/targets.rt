@@ -301,10 +301,17 @@ fn copies_borrowed_widths<A: SmallAllocator>(alloc: A) -> bool {
     }
 }
 
-fn copies_borrowed_families<A: SmallAllocator>(alloc: A) -> bool {
-    let families: [Family<'_, A>; 1] = [Family::unix()];
-    let list = Families::new_const(&families);
+fn are_borrowed<'f, A: SmallAllocator>(alloc: A, families: &'f [Family<'f, A>]) -> bool {
+    if !Families::is_sorted(families) {
+        return false;
+    }
+    let list = Families::new_const(families);
     holds(is_copied(alloc, &list, &["unix"]))
+}
+
+fn copies_borrowed_families<A: SmallAllocator>(alloc: A) -> bool {
+    let families = [Family::unix()];
+    are_borrowed(alloc, &families)
 }
 
 // Lists that are borrowed, and predicates without a text.
