@@ -9,8 +9,7 @@ use Rattle.cfgx_grammar.specs.Question.{Question}
 use Rattle.cfgx_grammar.specs.Answer.{HasOneTree}
 use Rattle.cfgx_grammar.specs.Grammar.{HasTree}
 use Rattle.cfgx_grammar.specs.Tree.{Tree, asked}
-use Rattle.cfgx_grammar.specs.Fold.{Operations, first_or}
-use Rattle.cfgx_grammar.specs.Fold as tree_value
+use Rattle.cfgx_grammar.specs.Fold.{Operations, first_or, fold}
 use Rattle.cfg_expr.specs.Asking.{AnswersBy, Asker, Asks, Calls}
 use Rattle.cfg_expr.specs.Evaluation.{Evaluates, IsValueBy}
 
@@ -82,11 +81,11 @@ pub Evaluates-taken : {F T : Type 0} {logic : Operations T} {asker : Asker F T} 
     → (given ≡ first_or otherwise (seen before)) × (seen after ≡ drop 1 (seen before)))
     → seen before ≡ answers
     → (tree : Tree Question) × HasTree text tree × (length answers ≡ length (asked tree))
-    → (one : HasOneTree text) × (value ≡ tree_value.fold logic one.tree answers)
+    → (one : HasOneTree text) × (value ≡ fold logic one.tree answers)
 Evaluates-taken {logic} {asker} {before} {after} seen otherwise answers e each are tree =
     let taken = Calls-taken asker seen otherwise each answers e.calls are
     (tree.2 ∙ ap (λ tree. length (asked tree)) (e.one.only tree.0 tree.1)) in
-    (e.one, e.value_is ∙ ap (tree_value.fold logic e.one.tree) taken)
+    (e.one, e.value_is ∙ ap (fold logic e.one.tree) taken)
 
 -- if no call changes the closure, the value is that over the function by which it answers
 pub Evaluates-by : {F T : Type 0} {logic : Operations T} {asker : Asker F T} {text : List ℕ}
@@ -103,7 +102,7 @@ Evaluates-by {logic = logic} {asker} {before = before} {after} e answer_to by =
     before (asked e.one.tree) e.answers after by e.calls) in
     record {
       one = e.one;
-      value_is = e.value_is ∙ ap (tree_value.fold logic e.one.tree) answers;
+      value_is = e.value_is ∙ ap (fold logic e.one.tree) answers;
     }
 
 -- if the closure counts its calls from 0 up to a bound, the count is that of the questions

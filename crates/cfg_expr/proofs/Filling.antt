@@ -1,20 +1,20 @@
 -- The pass over the nodes, and the places of the predicates, give the polar fillings.
 use Rattle.std.proofs.Common.{◌≡◌, ℕ, Bool, true, false, not, List, [], ◌∷◌, ◌++◌, length, map}
-use Rattle.std.proofs.Common.{replicate, Option, sym, refl, ap, ◌∙◌, append_assoc}
-use Rattle.std.specs.Prelude.{unwrap_or}
+use Rattle.std.proofs.Common.{replicate, Option, sym, refl, ap, ◌∙◌, append_assoc, unwrap_or}
 use Rattle.std.proofs.lemmas.Slice.Zip.{AllZip-map}
 use Rattle.std.proofs.lemmas.List.{append-nil, map-append}
 use Rattle.cfgx_grammar.specs.Question.{Question}
-use Rattle.cfgx_grammar.specs.Tree.{Tree, Trees, asked, count}
+use Rattle.cfgx_grammar.specs.Tree.{ListFunction, Tree, Trees, asked, count}
 use Rattle.cfgx_grammar.specs.Fold.{answered}
 use Rattle.cfgx_grammar.specs.Filling.{three_valued, filled, filled_each, polar}
 use Rattle.cfgx_grammar.proofs.Alike.{Alike, AlikeEach, answered-shape, asked-alike}
 use Rattle.cfgx_grammar.proofs.Dealing.{asked-answered}
-use Rattle.cfgx_parser.specs.nodes.Prefix.{Node, prefix, prefix_each, places}
+use Rattle.cfgx_parser.specs.nodes.Prefix.{Node, list_func, prefix, prefix_each, places}
 use Rattle.cfgx_parser.specs.nodes.Shape.{Shape, shape, shape_of}
 use Rattle.cfgx_parser.specs.declared.nodes.ExprNode.{ExprNode}
 use Rattle.cfgx_parser.proofs.Shapes.{places-shape, shapes-shape}
-use Rattle.cfg_expr.specs.nodes.Parity.{turned, pass, filled_at, filled_by}
+use Rattle.cfg_expr.specs.nodes.Parity.{turned, gone_over, pass, filled_at}
+use Rattle.cfg_expr.specs.nodes.Parity.{filled_by}
 use Rattle.cfg_expr.proofs.evaluated.Nodes.{read-mapped}
 
 -- the tree with each predicate's parity: whether it stands below an odd number of `not`
@@ -22,14 +22,19 @@ abbrev mutual
   with_odds : {X : Type 0} → Bool → Tree X → Tree (X × Bool)
   with_odds odd (Tree.leaf x) = Tree.leaf (x, odd)
   with_odds odd (Tree.literal truth) = Tree.literal truth
-  with_odds odd (Tree.all trees) = Tree.all (with_odds_each odd trees)
-  with_odds odd (Tree.any trees) = Tree.any (with_odds_each odd trees)
+  with_odds odd (Tree.list function trees) = Tree.list function (with_odds_each odd trees)
   with_odds odd (Tree.not tree) = Tree.not (with_odds (not odd) tree)
 
   with_odds_each : {X : Type 0} → Bool → Trees X → Trees (X × Bool)
   with_odds_each odd Trees.none = Trees.none
   with_odds_each odd (Trees.more tree trees) =
       Trees.more (with_odds odd tree) (with_odds_each odd trees)
+
+list_gone_over : (function : ListFunction) (n : ℕ) (odd : Bool) (queue : List Bool)
+    → gone_over (Shape.function (list_func function n)) (odd ∷ queue)
+    ≡ replicate n odd ++ (queue ++ false ∷ [])
+list_gone_over ListFunction.all n odd queue = refl
+list_gone_over ListFunction.any n odd queue = refl
 
 module _ {X : Type 0} where
   abbrev odd_in : Node (X × Bool) → Bool
@@ -48,10 +53,10 @@ module _ {X : Type 0} where
     pass-tree : (tree : Tree X) (odd : Bool) (queue : List Bool) (rest : List Shape)
         → pass (map shape_of (prefix tree) ++ rest) (odd ∷ queue)
         ≡ pass rest (queue ++ odds odd tree)
-    pass-tree (Tree.all trees) odd queue rest =
-        pass-each trees odd (queue ++ false ∷ []) rest ∙ rw append_assoc refl
-    pass-tree (Tree.any trees) odd queue rest =
-        pass-each trees odd (queue ++ false ∷ []) rest ∙ rw append_assoc refl
+    pass-tree (Tree.list function trees) odd queue rest =
+        ap (pass (map shape_of (prefix_each trees) ++ rest))
+        (list_gone_over function (count trees) odd queue)
+        ∙ pass-each trees odd (queue ++ false ∷ []) rest ∙ rw append_assoc refl
     pass-tree (Tree.not tree) odd queue rest =
         pass-tree tree (not odd) (queue ++ false ∷ []) rest ∙ rw append_assoc refl
     pass-tree tree odd queue rest = refl
@@ -95,10 +100,9 @@ module _ (fill : Bool) where
         Alike Answer with tree × Alike Filled with (filled (turned fill odd) tree)
     says odd (Tree.leaf x) = (Alike.leaf _ _ refl, Alike.leaf _ _ refl)
     says odd (Tree.literal truth) = (Alike.literal truth, Alike.literal truth)
-    says odd (Tree.all trees) =
-        let each = each-says odd trees in (Alike.all _ _ each.0, Alike.all _ _ each.1)
-    says odd (Tree.any trees) =
-        let each = each-says odd trees in (Alike.any _ _ each.0, Alike.any _ _ each.1)
+    says odd (Tree.list function trees) =
+        let each = each-says odd trees in
+        (Alike.list function _ _ each.0, Alike.list function _ _ each.1)
     says odd (Tree.not tree) =
         let one = says (not odd) tree in
         (Alike.not _ _ one.0, rw turned-not (Alike.not _ _ one.1))

@@ -3,7 +3,8 @@ use Rattle.std.proofs.Common.{arith, ◌≡◌, ℕ, suc, zero, Bool, List, [], 
 use Rattle.std.proofs.Common.{if◌then◌else◌}
 use Rattle.std.specs.List.{AllZip}
 use Rattle.std.proofs.lemmas.Slice.Zip.{AllZip-long}
-use Rattle.cfgx_grammar.specs.Tree.{Tree, Trees, is_function, is_leaf, asked, asked_by}
+use Rattle.cfgx_grammar.specs.Tree.{ListFunction, Tree, Trees, is_function, is_leaf, asked}
+use Rattle.cfgx_grammar.specs.Tree.{asked_by}
 use Rattle.cfgx_grammar.specs.Fold.{answered, answered_each}
 
 -- Lists whose items stand in a relation.
@@ -33,8 +34,8 @@ module _ {T U : Type 0} (R : T → U → Type 0) where
     pub data Alike : Tree T → Tree U → Type 0 where
       leaf : (x : T) (y : U) → R x y → Alike (Tree.leaf x) (Tree.leaf y)
       literal : (truth : Bool) → Alike (Tree.literal truth) (Tree.literal truth)
-      all : (xs : Trees T) (ys : Trees U) → AlikeEach xs ys → Alike (Tree.all xs) (Tree.all ys)
-      any : (xs : Trees T) (ys : Trees U) → AlikeEach xs ys → Alike (Tree.any xs) (Tree.any ys)
+      list : (function : ListFunction) (xs : Trees T) (ys : Trees U) → AlikeEach xs ys
+          → Alike (Tree.list function xs) (Tree.list function ys)
       not : (x : Tree T) (y : Tree U) → Alike x y → Alike (Tree.not x) (Tree.not y)
 
     pub data AlikeEach : Trees T → Trees U → Type 0 where
@@ -66,10 +67,7 @@ module _ {T U : Type 0} (R : T → U → Type 0) where
     pub asked-alike : (x : Tree T) (y : Tree U) → Alike R x y → AllZip R (asked x) (asked y)
     asked-alike _ _ (Alike.leaf x y related) = (related, tt)
     asked-alike _ _ (Alike.literal truth) = tt
-    asked-alike _ _ (Alike.all xs ys each) = AllZip-append R _ _ _ _
-        (asked_by-alike is_function is_function same_functions xs ys each)
-        (asked_by-alike is_leaf is_leaf same_leaves xs ys each)
-    asked-alike _ _ (Alike.any xs ys each) = AllZip-append R _ _ _ _
+    asked-alike _ _ (Alike.list function xs ys each) = AllZip-append R _ _ _ _
         (asked_by-alike is_function is_function same_functions xs ys each)
         (asked_by-alike is_leaf is_leaf same_leaves xs ys each)
     asked-alike _ _ (Alike.not x y alike) = asked-alike x y alike
@@ -98,10 +96,9 @@ module _ {T U : Type 0} (R : T → U → Type 0) (one : T) (other : U) (related 
         → Alike R (answered one tree xs) (answered other tree ys)
     answered-alike (Tree.leaf x) xs ys zipped = Alike.leaf _ _ (grind arith)
     answered-alike (Tree.literal truth) xs ys zipped = Alike.literal truth
-    answered-alike (Tree.all trees) xs ys zipped = Alike.all _ _ (answered_each-alike trees _ _ _ _
-        zipped (AllZip-drop R (length (asked_by is_function trees)) xs ys zipped))
-    answered-alike (Tree.any trees) xs ys zipped = Alike.any _ _ (answered_each-alike trees _ _ _ _
-        zipped (AllZip-drop R (length (asked_by is_function trees)) xs ys zipped))
+    answered-alike (Tree.list function trees) xs ys zipped = Alike.list function _ _
+        (answered_each-alike trees _ _ _ _ zipped
+        (AllZip-drop R (length (asked_by is_function trees)) xs ys zipped))
     answered-alike (Tree.not tree) xs ys zipped = Alike.not _ _ (answered-alike tree xs ys zipped)
 
     answered_each-alike : {X : Type 0} (trees : Trees X) (xs others : List T) (ys further : List U)
@@ -123,8 +120,8 @@ module _ {X T : Type 0} (otherwise : T) where
         → SameShape tree (answered otherwise tree answers)
     answered-shape (Tree.leaf x) answers = Alike.leaf _ _ tt
     answered-shape (Tree.literal truth) answers = Alike.literal truth
-    answered-shape (Tree.all trees) answers = Alike.all _ _ (answered_each-shape trees _ _)
-    answered-shape (Tree.any trees) answers = Alike.any _ _ (answered_each-shape trees _ _)
+    answered-shape (Tree.list function trees) answers =
+        Alike.list function _ _ (answered_each-shape trees _ _)
     answered-shape (Tree.not tree) answers = Alike.not _ _ (answered-shape tree answers)
 
     answered_each-shape : (trees : Trees X) (inner own : List T)

@@ -5,7 +5,7 @@ use Rattle.std.proofs.Common.{append_assoc, drop_at, ◌≡◌, ◌≤◌, List,
 use Rattle.std.proofs.Common.{refl, sym, ap, ◌∙◌, arith, length-append, length-drop, take-add}
 use Rattle.std.proofs.Common.{append-nil, take_all}
 use Rattle.cfgx_grammar.specs.Tree.{Tree, Trees, is_function, is_leaf, asked, asked_by}
-use Rattle.cfgx_grammar.specs.Fold.{behind, answered, answered_each}
+use Rattle.cfgx_grammar.specs.Fold.{left_after, answered, answered_each}
 use Rattle.cfgx_grammar.proofs.Alike.{Alike, AlikeEach, SameShape, SameShapes, length-asked}
 use Rattle.cfgx_grammar.proofs.Alike.{length-asked_by}
 
@@ -20,7 +20,7 @@ module _ {X T : Type 0} (otherwise : T) where
       → length (asked_by is_function answers) ≡ length (asked_by is_function trees)
       → Remade trees answers → (more : List T)
       → let all = (asked_by is_function answers ++ asked_by is_leaf answers) ++ more in
-      answered_each otherwise trees all (behind (asked_by is_function trees) all) ≡ answers
+      answered_each otherwise trees all (left_after (asked_by is_function trees) all) ≡ answers
   list_front trees answers many remade more = grind (arith, nat_tests, common_steps)
 
   mutual
@@ -28,11 +28,8 @@ module _ {X T : Type 0} (otherwise : T) where
         → answered otherwise tree (asked answer ++ more) ≡ answer
     answered-front _ _ (Alike.leaf x y related) more = refl
     answered-front _ _ (Alike.literal truth) more = refl
-    answered-front _ _ (Alike.all xs ys each) more =
-        ap Tree.all (list_front xs ys (length-asked_by _ xs ys each)
-        (answered_each-front xs ys each) more)
-    answered-front _ _ (Alike.any xs ys each) more =
-        ap Tree.any (list_front xs ys (length-asked_by _ xs ys each)
+    answered-front _ _ (Alike.list function xs ys each) more =
+        ap (Tree.list function) (list_front xs ys (length-asked_by _ xs ys each)
         (answered_each-front xs ys each) more)
     answered-front _ _ (Alike.not x y alike) more = ap Tree.not (answered-front x y alike more)
 
@@ -58,7 +55,7 @@ module _ {X T : Type 0} (otherwise : T) where
 
 -- two parts of what is asked, one after another
 taken_both : {X T : Type 0} (first second : List X) (answers these those : List T)
-    → these ≡ take (length first) answers → those ≡ take (length second) (behind first answers)
+    → these ≡ take (length first) answers → those ≡ take (length second) (left_after first answers)
     → these ++ those ≡ take (length (first ++ second)) answers
 taken_both first second answers these those these_are those_are =
     rw (these_are, those_are, length-append first second, take-add (length first)) refl
@@ -76,7 +73,7 @@ module _ {X T : Type 0} (otherwise : T) where
 
   list_taken : (trees : Trees X) (answers : List T) → TakesAll trees
       → let inner = asked_by is_function trees in let own = asked_by is_leaf trees in
-      let made = answered_each otherwise trees answers (behind inner answers) in
+      let made = answered_each otherwise trees answers (left_after inner answers) in
       length (inner ++ own) ≤ length answers
       → asked_by is_function made ++ asked_by is_leaf made ≡ take (length (inner ++ own)) answers
   list_taken trees answers takes enough =
@@ -84,7 +81,7 @@ module _ {X T : Type 0} (otherwise : T) where
       let own = asked_by is_leaf trees in
       let many = length-append inner own in
       let left = length-drop (length inner) answers in
-      let taken = takes answers (behind inner answers) (omega (arith, many))
+      let taken = takes answers (left_after inner answers) (omega (arith, many))
       (omega (arith, many, left)) in
       taken_both inner own answers _ _ taken.0 taken.1
 
@@ -94,9 +91,7 @@ module _ {X T : Type 0} (otherwise : T) where
     asked-taken (Tree.leaf x) [] enough = absurd (omega arith)
     asked-taken (Tree.leaf x) (answer ∷ answers) enough = refl
     asked-taken (Tree.literal truth) answers enough = refl
-    asked-taken (Tree.all trees) answers enough =
-        list_taken trees answers (asked_each-taken trees) enough
-    asked-taken (Tree.any trees) answers enough =
+    asked-taken (Tree.list function trees) answers enough =
         list_taken trees answers (asked_each-taken trees) enough
     asked-taken (Tree.not tree) answers enough = asked-taken tree answers enough
 
@@ -110,7 +105,7 @@ module _ {X T : Type 0} (otherwise : T) where
         let rest = asked_by is_function trees in
         let many = length-append (asked tree) rest in
         let left = length-drop (length (asked tree)) inner in
-        let others = asked_each-taken trees (behind (asked tree) inner) own
+        let others = asked_each-taken trees (left_after (asked tree) inner) own
         (omega (arith, many, left)) some in
         let first = asked-taken tree inner (omega (arith, many)) in
         (taken_both (asked tree) rest inner _ _ first others.0, others.1)

@@ -1,12 +1,13 @@
 -- Three values are exact: a value is known exactly if every filling leads to it.
 use Rattle.std.proofs.lemmas.Grind.{common_steps}
-use Rattle.std.proofs.Common.{◌≡◌, Bool, true, false, not, ◌&&◌, ◌||◌, List, [], ◌∷◌, ◌++◌, arith}
+use Rattle.std.proofs.Common.{◌≡◌, Bool, true, false, not, ◌&&◌, ◌||◌, List, [], ◌∷◌, arith}
 use Rattle.std.proofs.Common.{length, Option, Some, refl, ap, ◌∙◌, map, unwrap_or}
 use Rattle.std.proofs.lemmas.List.{map-append}
 use Rattle.std.specs.List.{AllZip}
 use Rattle.cfgx_syntax.specs.Logic.{kleene_and, kleene_or}
-use Rattle.cfgx_grammar.specs.Tree.{Tree, Trees, is_function, is_leaf, asked}
-use Rattle.cfgx_grammar.specs.Fold.{Operations, from_last, value_of, values_by, answered, fold}
+use Rattle.cfgx_grammar.specs.Tree.{ListFunction, Tree, Trees, is_function, is_leaf, asked}
+use Rattle.cfgx_grammar.specs.Fold.{Operations, from_last, list_value, value_of, values_by}
+use Rattle.cfgx_grammar.specs.Fold.{answered, fold}
 use Rattle.cfgx_grammar.specs.Filling.{two_valued, three_valued, Agrees, IsFilling, IsExact, filled}
 use Rattle.cfgx_grammar.specs.Filling.{filled_each, polar}
 use Rattle.cfgx_grammar.proofs.Alike.{Alike, AlikeEach, SameTests, AllZip-append, AllZip-if}
@@ -25,10 +26,6 @@ pub record Preserve {T U : Type 0} (one : Operations T) (other : Operations U)
   pub or : (x y : T) (u v : U) → R x u → R y v → R (one.or x y) (other.or u v)
   pub not : (x : T) (u : U) → R x u → R (one.not x) (other.not u)
 
--- the values of a function's members, as it joins them
-abbrev members : {T : Type 0} → Operations T → Trees T → List T
-members logic trees = values_by logic is_function trees ++ values_by logic is_leaf trees
-
 module _ {T U : Type 0} (one : Operations T) (other : Operations U) (R : T → U → Type 0)
     (preserve : Preserve one other R) where
   from_last_kept : (join : T → T → T) (joined : U → U → U) (begin : T) (begun : U) → R begin begun
@@ -41,12 +38,12 @@ module _ {T U : Type 0} (one : Operations T) (other : Operations U) (R : T → U
       (from_last_kept join joined begin begun base each xs ys all.1) all.0
   from_last_kept join joined begin begun base each _ _ all = absurd all
 
-  members_kept : (xs : Trees T) (ys : Trees U)
-      → ((f : Tree T → Bool) (g : Tree U → Bool) → SameTests R f g
-      → AllZip R (values_by one f xs) (values_by other g ys))
-      → AllZip R (members one xs) (members other ys)
-  members_kept xs ys each = AllZip-append R _ _ _ _
-      (each is_function is_function (same_functions R)) (each is_leaf is_leaf (same_leaves R))
+  list_kept : (function : ListFunction) (xs : List T) (ys : List U) → AllZip R xs ys
+      → R (list_value one function xs) (list_value other function ys)
+  list_kept ListFunction.all xs ys all =
+      from_last_kept one.and other.and one.top other.top preserve.top preserve.and xs ys all
+  list_kept ListFunction.any xs ys all =
+      from_last_kept one.or other.or one.bottom other.bottom preserve.bottom preserve.or xs ys all
 
   mutual
     -- leaves that are related make related values
@@ -54,12 +51,10 @@ module _ {T U : Type 0} (one : Operations T) (other : Operations U) (R : T → U
     value_kept _ _ (Alike.leaf x y related) = related
     value_kept _ _ (Alike.literal true) = preserve.top
     value_kept _ _ (Alike.literal false) = preserve.bottom
-    value_kept _ _ (Alike.all xs ys each) =
-        from_last_kept one.and other.and one.top other.top preserve.top preserve.and _ _
-        (members_kept xs ys (λ f g same. values_kept f g same xs ys each))
-    value_kept _ _ (Alike.any xs ys each) =
-        from_last_kept one.or other.or one.bottom other.bottom preserve.bottom preserve.or _ _
-        (members_kept xs ys (λ f g same. values_kept f g same xs ys each))
+    value_kept _ _ (Alike.list function xs ys each) =
+        list_kept function _ _ (AllZip-append R _ _ _ _
+        (values_kept is_function is_function (same_functions R) xs ys each)
+        (values_kept is_leaf is_leaf (same_leaves R) xs ys each))
     value_kept _ _ (Alike.not x y alike) = preserve.not _ _ (value_kept x y alike)
 
     values_kept : (f : Tree T → Bool) (g : Tree U → Bool) → SameTests R f g
@@ -106,15 +101,13 @@ from_last-sides join joined begin fill (value ∷ values) each =
 abbrev AreFilledAlike : (Tree (Option Bool) → Bool) → (Tree Bool → Bool) → Type 0
 AreFilledAlike f g = (fill : Bool) (tree : Tree (Option Bool)) → g (filled fill tree) ≡ f tree
 
-members-filled : (fill : Bool) (trees : Trees (Option Bool))
-    → ((f : Tree (Option Bool) → Bool) (g : Tree Bool → Bool) → AreFilledAlike f g
-    → values_by two_valued g (filled_each fill trees)
-    ≡ map (side fill) (values_by three_valued f trees))
-    → members two_valued (filled_each fill trees) ≡ map (side fill) (members three_valued trees)
-members-filled fill trees each =
-    let inner = each is_function is_function (λ filling tree. grind arith) in
-    let own = each is_leaf is_leaf (λ filling tree. grind arith) in
-    rw (inner, own, ← map-append) refl
+list_value-side : (function : ListFunction) (fill : Bool) (values : List (Option Bool))
+    → list_value two_valued function (map (side fill) values)
+    ≡ side fill (list_value three_valued function values)
+list_value-side ListFunction.all fill values =
+    from_last-sides ◌&&◌ kleene_and true fill values (λ x y. grind arith)
+list_value-side ListFunction.any fill values =
+    from_last-sides ◌||◌ kleene_or false fill values (λ x y. grind arith)
 
 mutual
   value-filled : (fill : Bool) (tree : Tree (Option Bool))
@@ -122,12 +115,10 @@ mutual
   value-filled fill (Tree.leaf answer) = refl
   value-filled fill (Tree.literal true) = refl
   value-filled fill (Tree.literal false) = refl
-  value-filled fill (Tree.all trees) =
-      rw (members-filled fill trees (λ f g same. values-filled f g same fill trees))
-      (from_last-sides ◌&&◌ kleene_and true fill (members three_valued trees) (λ x y. grind arith))
-  value-filled fill (Tree.any trees) =
-      rw (members-filled fill trees (λ f g same. values-filled f g same fill trees))
-      (from_last-sides ◌||◌ kleene_or false fill (members three_valued trees) (λ x y. grind arith))
+  value-filled fill (Tree.list function trees) =
+      let inner = values-filled is_function is_function (λ filling tree. grind arith) fill trees in
+      let own = values-filled is_leaf is_leaf (λ filling tree. grind arith) fill trees in
+      rw (inner, own, ← map-append) (list_value-side function fill _)
   value-filled fill (Tree.not tree) = rw (value-filled (not fill) tree) (grind arith)
 
   values-filled : (f : Tree (Option Bool) → Bool) (g : Tree Bool → Bool) → AreFilledAlike f g
@@ -146,8 +137,8 @@ module _ {X : Type 0} (R : X → Option Bool → Type 0) (S : X → Bool → Typ
         → Alike R tree answers → Alike S tree (filled fill answers)
     filled-alike fill _ _ (Alike.leaf x y related) = Alike.leaf _ _ (each fill x y related)
     filled-alike fill _ _ (Alike.literal truth) = Alike.literal truth
-    filled-alike fill _ _ (Alike.all xs ys all) = Alike.all _ _ (filled_each-alike fill xs ys all)
-    filled-alike fill _ _ (Alike.any xs ys all) = Alike.any _ _ (filled_each-alike fill xs ys all)
+    filled-alike fill _ _ (Alike.list function xs ys all) =
+        Alike.list function _ _ (filled_each-alike fill xs ys all)
     filled-alike fill _ _ (Alike.not x y alike) = Alike.not _ _ (filled-alike (not fill) x y alike)
 
     filled_each-alike : (fill : Bool) (trees : Trees X) (answers : Trees (Option Bool))

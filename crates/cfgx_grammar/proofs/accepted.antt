@@ -6,7 +6,7 @@ use Rattle.std.proofs.Common.{append-nil, if◌then◌else◌}
 use Rattle.std.proofs.lemmas.Bool.Decides.{Decides-eqb}
 use Rattle.cfgx_syntax.specs.Token.{Token}
 use Rattle.cfgx_grammar.specs.Question.{Question, Leaf}
-use Rattle.cfgx_grammar.specs.Tree.{Tree, Trees, count}
+use Rattle.cfgx_grammar.specs.Tree.{ListFunction, Tree, Trees, count}
 use Rattle.cfgx_grammar.specs.Grammar.{commas, Separates, IsMember, IsList, IsTree, leaf_tokens}
 use Rattle.cfgx_grammar.specs.Grammar.{IsLeaf}
 use Rattle.cfgx_grammar.specs.parsing.State.{Function, Open, name_of, Word, Pending, Builder, State}
@@ -116,8 +116,8 @@ module _ {M : Type 0} where
       called : (function : Function) (list : List Token) (trees : Trees Question)
           → has_room function (count trees) ≡ true → IsList list trees → (tree : Tree Question)
           × IsMember (name_of function ∷ Token.open_paren ∷ (list ++ Token.close_paren ∷ [])) tree
-      called Function.all list trees room is = (Tree.all trees, (list, refl, is))
-      called Function.any list trees room is = (Tree.any trees, (list, refl, is))
+      called (Function.list function) list trees room is =
+          (Tree.list function trees, (list, refl, is))
       called Function.not list trees room is =
           let (tree, (member, n, are, spelled)) = one_tree list trees
           ((Decides-eqb (count trees) 1).0 room) is in
@@ -317,9 +317,11 @@ module _ {W M L : Type 0} {builder : Builder W M L} where
     Completes-applied (Some (Token.key _)) Token.equals may does completes =
         subst (After Token.equals) (sym (ok_same s u does)) completes
     Completes-applied last Token.all may does completes =
-        Completes-member last s _ may (Rest-name Function.all s u (at Token.all) _ does completes)
+        Completes-member last s _ may
+        (Rest-name (Function.list ListFunction.all) s u (at Token.all) _ does completes)
     Completes-applied last Token.any may does completes =
-        Completes-member last s _ may (Rest-name Function.any s u (at Token.any) _ does completes)
+        Completes-member last s _ may
+        (Rest-name (Function.list ListFunction.any) s u (at Token.any) _ does completes)
     Completes-applied last Token.not may does completes =
         Completes-member last s _ may (Rest-name Function.not s u (at Token.not) _ does completes)
     Completes-applied (Some Token.all) Token.open_paren may does completes =

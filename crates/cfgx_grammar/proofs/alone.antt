@@ -12,7 +12,7 @@ use Rattle.cfgx_syntax.specs.Token.{IsWhole}
 use Rattle.cfgx_syntax.specs.Items.{Item, Ending, ItemsFrom, IsBlank, Stands, AreItems}
 use Rattle.cfgx_grammar.specs.Question.{Question, Leaf, TargetQuestion}
 use Rattle.cfgx_grammar.specs.Tree.{Tree, Trees, is_function, is_leaf, asked, asked_by}
-use Rattle.cfgx_grammar.specs.Grammar.{commas, IsCall, IsMember, IsList, HasTree, leaf_tokens}
+use Rattle.cfgx_grammar.specs.Grammar.{commas, IsMember, IsList, HasTree, leaf_tokens}
 use Rattle.cfgx_grammar.specs.Regular.{IsRegular, CanBeQuoted, IsAlone}
 use Rattle.std.specs.Str.Parse.{AllDigits}
 use Rattle.std.proofs.lemmas.Fmt.{decimal_is_IsNumeral}
@@ -74,25 +74,15 @@ AreRegular questions = AllByRecursion IsRegular questions
 kept_if : {A : Type 0} (P : A → Type 0) (b : Bool) (x y : A) → P x → P y → P (if b then x else y)
 kept_if P b x y here there = grind arith
 
--- what the members of a call ask
-regular_call : (name : Token) (tokens : List Token) (trees : Trees Question) → AreSpelled tokens
-    → (inner : List Token) × IsCall name tokens inner × IsList inner trees
-    → ((test : Tree Question → Bool) (inner : List Token) → AreSpelled inner → IsList inner trees
-    → AreRegular (asked_by test trees))
-    → AreRegular (asked_by is_function trees ++ asked_by is_leaf trees)
-regular_call name tokens trees spelled (inner, is, list) each =
-    let all = all_of_first IsSpelled inner _ (rw is at spelled).1.1 in
-    all_of_both IsRegular _ _ (each is_function inner all list) (each is_leaf inner all list)
-
 mutual
   regular_member : (tokens : List Token) (tree : Tree Question) → AreSpelled tokens
       → IsMember tokens tree → AreRegular (asked tree)
   regular_member tokens (Tree.leaf question) spelled member = (grind arith, tt)
   regular_member tokens (Tree.literal truth) spelled member = tt
-  regular_member tokens (Tree.all trees) spelled call =
-      regular_call Token.all tokens trees spelled call (λ test inner. regular_list test inner trees)
-  regular_member tokens (Tree.any trees) spelled call =
-      regular_call Token.any tokens trees spelled call (λ test inner. regular_list test inner trees)
+  regular_member tokens (Tree.list function trees) spelled (inner, is, list) =
+      let all = all_of_first IsSpelled inner _ (rw is at spelled).1.1 in
+      all_of_both IsRegular _ _ (regular_list is_function inner trees all list)
+      (regular_list is_leaf inner trees all list)
   regular_member tokens (Tree.not tree) spelled (member, n, is, one) = regular_member member tree
       (all_of_first IsSpelled member _ (all_of_first IsSpelled _ _ (rw is at spelled).1.1)) one
 

@@ -8,7 +8,7 @@ use Rattle.cfgx_grammar.specs.Question.{Leaf, Question}
 use Rattle.cfgx_grammar.specs.Classification.{Class, class}
 use Rattle.cfgx_grammar.specs.FirstFault.{lacks_value}
 use Rattle.cfgx_grammar.specs.LastPredicate.{word_of, class_of}
-use Rattle.cfgx_grammar.specs.Tree.{Tree, Trees, count}
+use Rattle.cfgx_grammar.specs.Tree.{ListFunction, Tree, Trees, count}
 use Rattle.cfgx_grammar.specs.Grammar.{commas, Separates, leaf_tokens, IsCall, IsMember, IsList}
 use Rattle.cfgx_grammar.specs.Grammar.{IsTree}
 use Rattle.cfgx_grammar.specs.Neighbours.{Kind, takes}
@@ -59,10 +59,8 @@ pub record Laws {W M L : Type 0} (builder : Builder W M L) : Type 1 where
   pub more : (xs ys zs : List Item) (tree : Tree Question) (trees : Trees Question) (w v u : W)
       → MemberBuilds xs w v tree → ListBuilds zs v u trees
       → ListBuilds (xs ++ (ys ++ zs)) w u (Trees.more tree trees)
-  pub all : (trees : Trees Question)
-      → Calls builder MemberBuilds ListBuilds Function.all (Tree.all trees) trees
-  pub any : (trees : Trees Question)
-      → Calls builder MemberBuilds ListBuilds Function.any (Tree.any trees) trees
+  pub list : (function : ListFunction) (trees : Trees Question) → Calls builder MemberBuilds
+      ListBuilds (Function.list function) (Tree.list function trees) trees
   pub not : (tree : Tree Question)
       → Calls builder MemberBuilds ListBuilds Function.not (Tree.not tree)
       (Trees.more tree Trees.none)
@@ -304,12 +302,9 @@ module _ {W M L : Type 0} {builder : Builder W M L} (laws : Laws builder) where
         MemberEnds-leaf s items (Leaf.predicate question) key value may are says
     MemberEnds-member (Tree.literal truth) s items may none (key, value, are, says) =
         MemberEnds-leaf s items (Leaf.literal truth) key value may are says
-    MemberEnds-member (Tree.all trees) s items may none (inner, call, list) =
-        MemberEnds-call s items Function.all inner _ trees may call refl (laws.all trees)
-        (λ t members named closing same are. ListEnds-list trees t members named closing
-        (same ∙ none) (rw are list))
-    MemberEnds-member (Tree.any trees) s items may none (inner, call, list) =
-        MemberEnds-call s items Function.any inner _ trees may call refl (laws.any trees)
+    MemberEnds-member (Tree.list function trees) s items may none (inner, call, list) =
+        MemberEnds-call s items (Function.list function) inner _ trees may call refl
+        (laws.list function trees)
         (λ t members named closing same are. ListEnds-list trees t members named closing
         (same ∙ none) (rw are list))
     MemberEnds-member (Tree.not tree) s items may none (inner, n, call, spelled) =
@@ -346,9 +341,8 @@ trees_of (tree ∷ trees) = Trees.more tree (trees_of trees)
 
 -- a function's tree, of its members; a `not` always has one
 abbrev called : Function → List (Tree Question) → Tree Question
-called Function.all trees = Tree.all (trees_of trees)
-called Function.any trees = Tree.any (trees_of trees)
-called Function.not [] = Tree.all Trees.none
+called (Function.list function) trees = Tree.list function (trees_of trees)
+called Function.not [] = Tree.list ListFunction.all Trees.none
 called Function.not (tree ∷ trees) = Tree.not tree
 
 -- it keeps the trees of the open lists that have ended, those of inner lists after those of outer
@@ -388,8 +382,8 @@ tree_laws = record {
   none = λ w. sym (append-nil w);
   more = λ xs ys zs tree trees w v u first others.
       others ∙ ap (λ l. l ++ list_of trees) first ∙ append_assoc w (tree ∷ []) (list_of trees);
-  all = λ trees. calls Function.all (Tree.all trees) trees (ap Tree.all (trees_listed trees));
-  any = λ trees. calls Function.any (Tree.any trees) trees (ap Tree.any (trees_listed trees));
+  list = λ function trees. calls (Function.list function) (Tree.list function trees) trees
+      (ap (Tree.list function) (trees_listed trees));
   not = λ tree. calls Function.not (Tree.not tree) (Trees.more tree Trees.none) refl;
 }
 

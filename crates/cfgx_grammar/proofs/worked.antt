@@ -12,7 +12,7 @@ use Rattle.cfgx_grammar.specs.FirstFault.{refusal, first_fault}
 use Rattle.cfgx_grammar.specs.Fold.{Operations, fold}
 use Rattle.cfgx_grammar.specs.Neighbours.{expected, next}
 use Rattle.cfgx_grammar.specs.Question.{Question, Leaf, TargetQuestion}
-use Rattle.cfgx_grammar.specs.Tree.{Tree, Trees, asked}
+use Rattle.cfgx_grammar.specs.Tree.{ListFunction, Tree, Trees, asked}
 use Rattle.cfgx_grammar.specs.Filling.{polar}
 use Rattle.std.specs.Fmt.{digits}
 use Rattle.cfgx_targets.specs.Endian.{endian_named}
@@ -44,31 +44,38 @@ flags keys = map Question.flag keys
 abbrev pub one : Tree Question → Trees Question
 one tree = Trees.more tree Trees.none
 
+-- functions that have a list of members
+abbrev all_of : Trees Question → Tree Question
+all_of = Tree.list ListFunction.all
+
+abbrev any_of : Trees Question → Tree Question
+any_of = Tree.list ListFunction.any
+
 -- `all(a, any(b), c)`
 abbrev pub shallow : Tree Question
-shallow = Tree.all (Trees.more (flag (codes "a"))
-    (Trees.more (Tree.any (one (flag (codes "b")))) (one (flag (codes "c")))))
+shallow = all_of (Trees.more (flag (codes "a"))
+    (Trees.more (any_of (one (flag (codes "b")))) (one (flag (codes "c")))))
 
 -- `all(b, not(c))`
 abbrev pub inside : Tree Question
-inside = Tree.all (Trees.more (flag (codes "b")) (one (Tree.not (flag (codes "c")))))
+inside = all_of (Trees.more (flag (codes "b")) (one (Tree.not (flag (codes "c")))))
 
 -- `any(a, all(b, not(c)), d)`
 abbrev pub nested : Tree Question
-nested = Tree.any (Trees.more (flag (codes "a")) (Trees.more inside (one (flag (codes "d")))))
+nested = any_of (Trees.more (flag (codes "a")) (Trees.more inside (one (flag (codes "d")))))
 
 -- `all(a, true, any(b), false)`
 abbrev pub mixed : Tree Question
-mixed = Tree.all (Trees.more (flag (codes "a")) (Trees.more (Tree.literal true)
-    (Trees.more (Tree.any (one (flag (codes "b")))) (one (Tree.literal false)))))
+mixed = all_of (Trees.more (flag (codes "a")) (Trees.more (Tree.literal true)
+    (Trees.more (any_of (one (flag (codes "b")))) (one (Tree.literal false)))))
 
 -- `any(false, a)` and `any(true, a)`
 abbrev pub either : Bool → Tree Question
-either truth = Tree.any (Trees.more (Tree.literal truth) (one (flag (codes "a"))))
+either truth = any_of (Trees.more (Tree.literal truth) (one (flag (codes "a"))))
 
 -- `all(a,,b)`
 abbrev pub listed : Tree Question
-listed = Tree.all (Trees.more (flag (codes "a")) (one (flag (codes "b"))))
+listed = all_of (Trees.more (flag (codes "a")) (one (flag (codes "b"))))
 
 -- The tokens of a text of words, signs and values: `all`, `any` and `not` are names of functions,
 -- and any other word is a key.
@@ -173,8 +180,8 @@ pub values : Lines (λ (both : Tree Question × List (List ℕ)). fold terms bot
     ((shallow, codes "b" ∷ codes "a" ∷ codes "c" ∷ []), codes "(((T&c)&a)&(F|b))")
     ∷ ((nested, codes "c" ∷ codes "b" ∷ codes "a" ∷ codes "d" ∷ []), codes "(((F|d)|a)|((T&b)&!c))")
     ∷ ((listed, codes "a" ∷ codes "b" ∷ []), codes "((T&b)&a)")
-    ∷ ((Tree.not (Tree.any (one (flag (codes "x")))), codes "x" ∷ []), codes "!(F|x)")
-    ∷ ((Tree.all Trees.none, []), codes "T")
+    ∷ ((Tree.not (any_of (one (flag (codes "x")))), codes "x" ∷ []), codes "!(F|x)")
+    ∷ ((all_of Trees.none, []), codes "T")
     ∷ ((mixed, codes "b" ∷ codes "a" ∷ []), codes "((((T&F)&T)&a)&(F|b))")
     ∷ ((Tree.literal true, []), codes "T")
     ∷ ((Tree.not (Tree.literal false), []), codes "!F")
@@ -341,7 +348,7 @@ is_listed =
     (_ ∷ [], 2, _ ∷ [], refl, omega arith, is_flag (codes "a") refl, last) in
     (_, 0, refl, (_, refl, each))
 
-pub single_has : HasTree (codes "all(a)") (Tree.all (one (flag (codes "a"))))
+pub single_has : HasTree (codes "all(a)") (all_of (one (flag (codes "a"))))
 unfolding class
 single_has = record {
   items = lexed (codes "all(a)");

@@ -30,8 +30,7 @@ abbrev mutual
   pub filled : Bool → Tree (Option Bool) → Tree Bool
   filled fill (Tree.leaf answer) = Tree.leaf (unwrap_or answer fill)
   filled fill (Tree.literal truth) = Tree.literal truth
-  filled fill (Tree.all trees) = Tree.all (filled_each fill trees)
-  filled fill (Tree.any trees) = Tree.any (filled_each fill trees)
+  filled fill (Tree.list function trees) = Tree.list function (filled_each fill trees)
   filled fill (Tree.not tree) = Tree.not (filled (not fill) tree)
 
   pub filled_each : Bool → Trees (Option Bool) → Trees Bool

@@ -56,13 +56,13 @@ fault_by front item Token.comma = predicate_fault front
 fault_by front item _ = None
 
 -- the fault of a token after others
-abbrev pub fault_behind : List Item → Item → Option Refusal
-fault_behind front item = if next (last_token front) item.token then fault_by front item item.token
+abbrev pub fault_after : List Item → Item → Option Refusal
+fault_after front item = if next (last_token front) item.token then fault_by front item item.token
     else Some (refusal (unexpected (expected (last_token front))) item.start item.end)
 
 -- the fault of the token at the place
 abbrev pub fault_at : List Item → ℕ → Option Refusal
-fault_at items place = option_and_then (fault_behind (take place items)) (slice_get items place)
+fault_at items place = option_and_then (fault_after (take place items)) (slice_get items place)
 
 -- the last token is `=`
 abbrev pub lacks_value : Option Token → Bool

@@ -4,12 +4,18 @@
 -- conditional compilation, where `all()` is true and `any()` is false.
 use Rattle.std.specs.Prelude.{Bool, true, false, List, [], ◌∷◌, ◌++◌, length, drop, if◌then◌else◌}
 pub use Rattle.cfgx_syntax.specs.declared.logic.Logic.{Ghosts as Operations}
-use Rattle.cfgx_grammar.specs.Tree.{Tree, Trees, is_function, is_leaf, asked, asked_by}
+use Rattle.cfgx_grammar.specs.Tree.{ListFunction, Tree, Trees, is_function, is_leaf, asked}
+use Rattle.cfgx_grammar.specs.Tree.{asked_by}
 
 -- what the values make when they are joined to the first one given, from the last value back
 abbrev pub from_last : {T : Type 0} → (T → T → T) → T → List T → T
 from_last join begin [] = begin
 from_last join begin (value ∷ values) = join (from_last join begin values) value
+
+-- the value of a list, by the values of its members as they are joined
+abbrev pub list_value : {T : Type 0} → Operations T → ListFunction → List T → T
+list_value logic ListFunction.all values = from_last logic.and logic.top values
+list_value logic ListFunction.any values = from_last logic.or logic.bottom values
 
 -- the value of a literal
 abbrev pub constant : {T : Type 0} → Operations T → Bool → T
@@ -22,9 +28,7 @@ abbrev mutual
   pub value_of : {T : Type 0} → Operations T → Tree T → T
   value_of logic (Tree.leaf answer) = answer
   value_of logic (Tree.literal truth) = constant logic truth
-  value_of logic (Tree.all trees) = from_last logic.and logic.top
-      (values_by logic is_function trees ++ values_by logic is_leaf trees)
-  value_of logic (Tree.any trees) = from_last logic.or logic.bottom
+  value_of logic (Tree.list function trees) = list_value logic function
       (values_by logic is_function trees ++ values_by logic is_leaf trees)
   value_of logic (Tree.not tree) = logic.not (value_of logic tree)
 
@@ -40,8 +44,8 @@ first_or otherwise [] = otherwise
 first_or otherwise (answer ∷ answers) = answer
 
 -- the answers of the second of two parts, if the first one asks these
-abbrev pub behind : {X T : Type 0} → List X → List T → List T
-behind questions answers = drop (length questions) answers
+abbrev pub left_after : {X T : Type 0} → List X → List T → List T
+left_after questions answers = drop (length questions) answers
 
 -- the tree with answers in the place of its predicates, which are dealt out in the order in which
 -- it asks; a literal takes none
@@ -49,10 +53,8 @@ abbrev mutual
   pub answered : {X T : Type 0} → T → Tree X → List T → Tree T
   answered otherwise (Tree.leaf x) answers = Tree.leaf (first_or otherwise answers)
   answered otherwise (Tree.literal truth) answers = Tree.literal truth
-  answered otherwise (Tree.all trees) answers = Tree.all
-      (answered_each otherwise trees answers (behind (asked_by is_function trees) answers))
-  answered otherwise (Tree.any trees) answers = Tree.any
-      (answered_each otherwise trees answers (behind (asked_by is_function trees) answers))
+  answered otherwise (Tree.list function trees) answers = Tree.list function
+      (answered_each otherwise trees answers (left_after (asked_by is_function trees) answers))
   answered otherwise (Tree.not tree) answers = Tree.not (answered otherwise tree answers)
 
   -- the functions of a list take the inner answers, and its leaves its own
@@ -60,9 +62,9 @@ abbrev mutual
   answered_each otherwise Trees.none inner own = Trees.none
   answered_each otherwise (Trees.more tree trees) inner own = if is_function tree
       then Trees.more (answered otherwise tree inner)
-      (answered_each otherwise trees (behind (asked tree) inner) own)
+      (answered_each otherwise trees (left_after (asked tree) inner) own)
       else Trees.more (answered otherwise tree own)
-      (answered_each otherwise trees inner (behind (asked tree) own))
+      (answered_each otherwise trees inner (left_after (asked tree) own))
 
 -- the value of a tree over as many answers as it asks
 abbrev pub fold : {X T : Type 0} → Operations T → Tree X → List T → T

@@ -6,7 +6,7 @@ use Rattle.cfgx_syntax.specs.Token.{Token}
 use Rattle.cfgx_syntax.specs.Items.{Item, Ending, AreItems}
 use Rattle.cfgx_grammar.specs.Question.{Leaf, Question}
 use Rattle.cfgx_grammar.specs.Classification.{Class, class}
-use Rattle.cfgx_grammar.specs.Tree.{Tree, Trees}
+use Rattle.cfgx_grammar.specs.Tree.{ListFunction, Tree, Trees}
 
 abbrev pub commas : ℕ → List Token
 commas n = replicate n Token.comma
@@ -26,6 +26,11 @@ IsLeaf tokens leaf =
 abbrev pub IsCall : Token → List Token → List Token → Type 0
 IsCall name tokens inner = tokens ≡ name ∷ Token.open_paren ∷ (inner ++ Token.close_paren ∷ [])
 
+-- the name of a function that has a list of members
+abbrev pub list_name : ListFunction → Token
+list_name ListFunction.all = Token.all
+list_name ListFunction.any = Token.any
+
 -- n commas stand between a member and those after it: any number after the last, else at least
 -- one
 abbrev pub Separates : ℕ → Trees Question → Type 0
@@ -37,10 +42,8 @@ abbrev mutual
   pub IsMember : List Token → Tree Question → Type 0
   IsMember tokens (Tree.leaf question) = IsLeaf tokens (Leaf.predicate question)
   IsMember tokens (Tree.literal truth) = IsLeaf tokens (Leaf.literal truth)
-  IsMember tokens (Tree.all trees) = (inner : List Token) × IsCall Token.all tokens inner
-      × IsList inner trees
-  IsMember tokens (Tree.any trees) = (inner : List Token) × IsCall Token.any tokens inner
-      × IsList inner trees
+  IsMember tokens (Tree.list function trees) = (inner : List Token)
+      × IsCall (list_name function) tokens inner × IsList inner trees
   IsMember tokens (Tree.not tree) = (member : List Token) × (n : ℕ)
       × IsCall Token.not tokens (member ++ commas n) × IsMember member tree
 

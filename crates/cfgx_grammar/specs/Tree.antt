@@ -1,6 +1,11 @@
 -- Conditions as trees, and the order in which their predicates are asked.
 use Rattle.std.specs.Prelude.{ℕ, suc, Bool, true, false, List, [], ◌∷◌, ◌++◌, if◌then◌else◌}
 
+-- the functions that have a list of members
+pub data ListFunction : Type 0 where
+  all : ListFunction
+  any : ListFunction
+
 -- A leaf, or a function with its members in source order: the `all`, `any` and `not` of the Rust
 -- Reference's conditional compilation. The leaves of a condition are its predicates, and the
 -- literals `true` and `false`; with answers in the place of the predicates it can be evaluated.
@@ -8,8 +13,7 @@ mutual
   pub data Tree (X : Type 0) : Type 0 where
     leaf : X → Tree X
     literal : Bool → Tree X
-    all : Trees X → Tree X
-    any : Trees X → Tree X
+    list : ListFunction → Trees X → Tree X
     not : Tree X → Tree X
 
   pub data Trees (X : Type 0) : Type 0 where
@@ -19,15 +23,13 @@ mutual
 abbrev pub is_function : {X : Type 0} → Tree X → Bool
 is_function (Tree.leaf x) = false
 is_function (Tree.literal truth) = false
-is_function (Tree.all trees) = true
-is_function (Tree.any trees) = true
+is_function (Tree.list function trees) = true
 is_function (Tree.not tree) = true
 
 abbrev pub is_leaf : {X : Type 0} → Tree X → Bool
 is_leaf (Tree.leaf x) = true
 is_leaf (Tree.literal truth) = true
-is_leaf (Tree.all trees) = false
-is_leaf (Tree.any trees) = false
+is_leaf (Tree.list function trees) = false
 is_leaf (Tree.not tree) = false
 
 -- the trees of a list that pass the test, in order
@@ -56,8 +58,7 @@ abbrev mutual
   pub asked : {X : Type 0} → Tree X → List X
   asked (Tree.leaf x) = x ∷ []
   asked (Tree.literal truth) = []
-  asked (Tree.all trees) = asked_by is_function trees ++ asked_by is_leaf trees
-  asked (Tree.any trees) = asked_by is_function trees ++ asked_by is_leaf trees
+  asked (Tree.list function trees) = asked_by is_function trees ++ asked_by is_leaf trees
   asked (Tree.not tree) = asked tree
 
   -- those of the trees of a list that pass the test, one tree after another

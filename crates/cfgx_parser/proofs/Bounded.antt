@@ -6,6 +6,7 @@ use Rattle.std.proofs.lemmas.Result.{IfOk-at_ok}
 use Rattle.std.proofs.lemmas.List.{length_push, length-set}
 use Rattle.cfgx_syntax.specs.Token.{Token}
 use Rattle.cfgx_syntax.specs.Items.{Item}
+use Rattle.cfgx_grammar.specs.Tree.{ListFunction}
 use Rattle.cfgx_grammar.specs.parsing.State.{Function, Pending}
 use Rattle.cfgx_parser.specs.parsing.State.{OpenFunction, ParserState, counted, classified}
 use Rattle.cfgx_grammar.specs.parsing.Step.{over_top, one_more, root_more, leaf_ended}
@@ -14,7 +15,7 @@ use Rattle.cfgx_grammar.specs.parsing.Step.{apply, step, ended_by, closed_by, wi
 use Rattle.cfgx_grammar.specs.FirstFault.{refusal}
 use Rattle.cfgx_syntax.specs.Error.{Refusal}
 use Rattle.cfgx_parser.specs.parsing.Bounded.{counted_in, AreMarked, IsHeld}
-use Rattle.cfgx_parser.specs.nodes.Node.{asked_at}
+use Rattle.cfgx_parser.specs.nodes.Node.{asked_at, begun}
 use Rattle.cfgx_parser.specs.declared.nodes.ExprNode.{ExprNode}
 use Rattle.cfgx_parser.specs.declared.nodes.ExprNode.TheVariants as node
 
@@ -51,7 +52,7 @@ IsHeld-ended s (Some p) h = IsHeld-written s (classified p) h
 IsHeld-opened : (s : ParserState) (function : Function) (item : Item) → IsHeld s
     → IsHeld (opened s function item)
 IsHeld-opened s function item h =
-    let nodes = length_push s.written.nodes (node.Fn (counted function 0) 0) in
+    let nodes = length_push s.written.nodes begun in
     record { counts = omega arith; marks = (omega arith, omega arith, h.marks) }
 
 IsHeld-closed : (t : ParserState) (stack : List OpenFunction) → t.stack ≡ stack → IsHeld t
@@ -99,8 +100,8 @@ IsHeld-applied : (s : ParserState) (item : Item) (token : Token) → IsHeld s
 IsHeld-applied s item (Token.key text) h = record { counts = h.counts; marks = h.marks }
 IsHeld-applied s item (Token.value text) h = record { counts = h.counts; marks = h.marks }
 IsHeld-applied s item Token.equals h = h
-IsHeld-applied s item Token.all h = IsHeld-opened s Function.all item h
-IsHeld-applied s item Token.any h = IsHeld-opened s Function.any item h
+IsHeld-applied s item Token.all h = IsHeld-opened s (Function.list ListFunction.all) item h
+IsHeld-applied s item Token.any h = IsHeld-opened s (Function.list ListFunction.any) item h
 IsHeld-applied s item Token.not h = IsHeld-opened s Function.not item h
 IsHeld-applied s item Token.open_paren h = IsHeld-parens s item.start h
 IsHeld-applied s item Token.close_paren h = IsHeld-close s item s.stack h

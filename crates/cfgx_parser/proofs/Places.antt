@@ -34,10 +34,8 @@ module _ {X Y : Type 0} (read : ℕ → Y) (of : X → Y) where
         → Alike Reads (with_places place tree) tree
     reads-tree (Tree.leaf x) place each = Alike.leaf _ _ (each 0 place x (omega arith) refl)
     reads-tree (Tree.literal truth) place each = Alike.literal truth
-    reads-tree (Tree.all trees) place each =
-        Alike.all _ _ (reads-trees trees _ (λ i n x at is. each (suc i) n x (omega arith) is))
-    reads-tree (Tree.any trees) place each =
-        Alike.any _ _ (reads-trees trees _ (λ i n x at is. each (suc i) n x (omega arith) is))
+    reads-tree (Tree.list function trees) place each = Alike.list function _ _
+        (reads-trees trees _ (λ i n x at is. each (suc i) n x (omega arith) is))
     reads-tree (Tree.not tree) place each =
         Alike.not _ _ (reads-tree tree _ (λ i n x at is. each (suc i) n x (omega arith) is))
 

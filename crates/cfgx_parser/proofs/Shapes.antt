@@ -26,12 +26,9 @@ module _ {X Y : Type 0} {R : X → Y → Type 0} where
     same_nodes : (x : Tree X) (y : Tree Y) → Alike R x y → SameNodes x y
     same_nodes _ _ (Alike.leaf x y related) = (refl, λ place. refl)
     same_nodes _ _ (Alike.literal truth) = (refl, λ place. refl)
-    same_nodes _ _ (Alike.all xs ys each) =
+    same_nodes _ _ (Alike.list function xs ys each) =
         let (counts, shapes, places) = same_members xs ys each in
-        (rw (counts, shapes) refl, λ place. ap Tree.all (places (place + 1)))
-    same_nodes _ _ (Alike.any xs ys each) =
-        let (counts, shapes, places) = same_members xs ys each in
-        (rw (counts, shapes) refl, λ place. ap Tree.any (places (place + 1)))
+        (rw (counts, shapes) refl, λ place. ap (Tree.list function) (places (place + 1)))
     same_nodes _ _ (Alike.not x y alike) =
         let (shapes, places) = same_nodes x y alike in
         (rw shapes refl, λ place. ap Tree.not (places (place + 1)))

@@ -2,7 +2,8 @@
 use Rattle.std.proofs.Common.{◌≡◌, ℕ, ◌+◌, ◌≤◌, List, ◌++◌, length, Option, ap}
 use Rattle.std.proofs.Common.{arith, length-append}
 use Rattle.cfgx_syntax.specs.Token.{Token}
-use Rattle.cfgx_grammar.specs.Grammar.{leaf_tokens, IsCall, IsMember, IsList, commas, HasTree}
+use Rattle.cfgx_grammar.specs.Grammar.{leaf_tokens, list_name, IsCall, IsMember, IsList}
+use Rattle.cfgx_grammar.specs.Grammar.{commas, HasTree}
 use Rattle.cfgx_syntax.specs.Items.{Item, Ending}
 use Rattle.cfgx_syntax.proofs.Sizes.{items-bytes}
 use Rattle.std.proofs.lemmas.List.{length-map}
@@ -24,10 +25,9 @@ mutual
       → length (prefix tree) ≤ length tokens
   tree-tokens (Tree.leaf question) tokens is = grind (arith, leaf-tokens)
   tree-tokens (Tree.literal truth) tokens is = grind (arith, leaf-tokens)
-  tree-tokens (Tree.all trees) tokens is =
-      omega (arith, call-tokens Token.all tokens is.0 is.1, trees-tokens trees is.0 is.2)
-  tree-tokens (Tree.any trees) tokens is =
-      omega (arith, call-tokens Token.any tokens is.0 is.1, trees-tokens trees is.0 is.2)
+  tree-tokens (Tree.list function trees) tokens is =
+      let call = call-tokens (list_name function) tokens is.0 is.1 in
+      omega (arith, call, trees-tokens trees is.0 is.2)
   tree-tokens (Tree.not tree) tokens is =
       let call = call-tokens Token.not tokens (is.0 ++ commas is.1) is.2 in
       omega (arith, call, tree-tokens tree is.0 is.3, length-append {A = Token})

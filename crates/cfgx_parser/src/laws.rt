@@ -4,7 +4,7 @@ ghost use Rattle.std.specs.Prelude.{◌≡◌, ◌↔◌, IsTrue};
 ghost use Rattle.cfgx_parser.specs.Predicate.{question_of, target_of};
 ghost use Rattle.cfgx_parser.specs.Order.{func_cmp};
 ghost use Rattle.cfgx_grammar.specs.Question.{Question};
-ghost use Rattle.cfgx_grammar.specs.Tree.{Tree, Trees, asked, asked_each, arranged};
+ghost use Rattle.cfgx_grammar.specs.Tree.{ListFunction, Tree, Trees, asked, asked_each, arranged};
 
 use crate::function::Func;
 use crate::predicates::{Predicate, TargetPredicate};
@@ -45,6 +45,6 @@ pub fn are_same_functions(one: Func, other: Func) -> bool
 
 /// A function asks what its members ask, one after another as they are arranged.
 pub fn asks_as_arranged()
-    ensures all { (trees : Trees Question) → asked (Tree.all trees) ≡ asked_each (arranged trees) }
-    ensures any { (trees : Trees Question) → asked (Tree.any trees) ≡ asked_each (arranged trees) }
+    ensures { (function : ListFunction) (trees : Trees Question)
+        → asked (Tree.list function trees) ≡ asked_each (arranged trees) }
 {}

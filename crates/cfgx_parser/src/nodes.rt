@@ -155,13 +155,16 @@ impl<A: SmallAllocator> Writer<A> {
         Ok(())
     }
 
-    /// Writes a function whose members are still to come.
-    pub(crate) fn function(&mut self, func: Func) -> Result<(), AllocError>
+    /// Writes the node of a function that has begun. What it holds is known at the function's end.
+    pub(crate) fn function(&mut self) -> Result<(), AllocError>
         ensures written { OnOk result
-            (written_of self.new ≡ with_function func (written_of self.old)) }
+            (written_of self.new ≡ with_function (written_of self.old)) }
         ensures fits { OnOk result (Fits (written_of self.new)) }
     {
-        self.nodes.push(ExprNode::Fn { func, len: 0 })?;
+        self.nodes.push(ExprNode::Fn {
+            func: Func::Not,
+            len: 0,
+        })?;
         let _fits = self.nodes.len();
         Ok(())
     }

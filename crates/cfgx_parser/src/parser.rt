@@ -330,7 +330,7 @@ impl<'a, A: SmallAllocator> Parser<'a, A> {
         ensures { OnOk result (Opens self.old self.new (function_of kind) span) }
     {
         let mark = self.writer.mark();
-        self.writer.function(counted(kind, 0))?;
+        self.writer.function()?;
         self.func_stack.push(FuncAndSpan {
             kind,
             span,

@@ -226,7 +226,7 @@ fn parse_failure(alloc: Global) -> Result<(), Failure> {
 }
 
 #[test]
-fn a_failure_tells_a_fault_from_want_of_memory(rt: HostRuntime) -> Result<(), Fail> {
+fn a_failure_is_a_fault_or_out_of_memory(rt: HostRuntime) -> Result<(), Fail> {
     let wanted = unopened(rt.alloc(), ")", 0..1)?;
     assert!(rt; parse_failure(rt.alloc()) == Err(Failure::Parse(wanted)));
     assert!(rt; Failure::<Global>::from(AllocError) == Failure::Memory(AllocError));

@@ -1,10 +1,9 @@
 -- Members that are joined from the last back.
 use Rattle.std.proofs.Common.{◌≡◌, ◌+◌, ◌<◌, ◌++◌, ℕ, Bool, true, false, List, [], ◌∷◌, length}
-use Rattle.std.proofs.Common.{map, take, drop, set, get_or, Option, refl, sym, ap, ◌∙◌}
+use Rattle.std.proofs.Common.{map, take, drop, set, get_or, refl, sym, ap, ◌∙◌}
 use Rattle.std.proofs.Common.{append_assoc, arith, ◌||◌}
 use Rattle.std.proofs.Math.Seq.{get_or-append_seam}
 use Rattle.std.proofs.lemmas.List.{drop_more, length-take-le, set_at, take_more}
-use Rattle.std.specs.List.{cons_option}
 use Rattle.cfgx_grammar.specs.Fold.{Operations, from_last}
 use Rattle.cfg_expr.specs.nodes.Reading.{Member, begin_of, join_of, join_value, value_in, values_in}
 use Rattle.cfg_expr.specs.nodes.Reading.{taken, joined, is_held}
@@ -33,11 +32,6 @@ joined-twice logic connective members =
     rw (values-taken members)
     (sym (from_last-append (join_of logic connective) (begin_of logic connective)
     (values_in true members) (values_in false members)))
-
-from_last-cons : {T : Type 0} (join : T → T → T) (begin : T) (value : Option T) (values : List T)
-    → join_value join (from_last join begin values) value
-    ≡ from_last join begin (cons_option value values)
-from_last-cons join begin value values = grind arith
 
 -- One pass, from the last member back to the place: the value so far, and the members.
 abbrev pub Joins : {T : Type 0} → (T → T → T) → Bool → T → List (Member T) → T → Bool → ℕ
@@ -75,7 +69,7 @@ Joins-next join functions begin old members value next left held new_one otherwi
     let one : get_or members place otherwise ≡ member = rw members_are
     (ap (λ n. get_or (take place old ++ member ∷ back) n otherwise) (sym at)
     ∙ get_or-append_seam (take place old) member back otherwise) in (
-      is ∙ rw (joins.0, one, last) (from_last-cons join begin (value_in functions member) _),
+      is ∙ rw (joins.0, one, last) (grind arith),
       rw (last, same, one, members_are) (set_at (take place old) member back _ place at),
       λ none. rw last (values-left (taken functions member) back left joins.2
           (ap (λ m. left || is_held m) (sym (same ∙ ap (taken functions) one))

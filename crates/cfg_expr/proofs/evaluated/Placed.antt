@@ -66,10 +66,7 @@ module _ {T : Type 0} where
     covered : (tree : Tree T) (first place offset : ℕ) → place ≡ first + offset
         → Misses place (places first tree) → at (slots (prefix tree)) offset ≡ member.Joined
     covered (Tree.leaf x) first place zero is misses = absurd (misses.0 (omega (arith, is)))
-    covered (Tree.all trees) first place (suc offset) is misses =
-        let both = Misses-both place (places_by is_function (first + 1) trees) _ misses in
-        each-covered trees (first + 1) place offset (omega (arith, is)) both.0 both.1
-    covered (Tree.any trees) first place (suc offset) is misses =
+    covered (Tree.list function trees) first place (suc offset) is misses =
         let both = Misses-both place (places_by is_function (first + 1) trees) _ misses in
         each-covered trees (first + 1) place offset (omega (arith, is)) both.0 both.1
     covered (Tree.not tree) first place (suc offset) is misses =

@@ -4,9 +4,9 @@ use Rattle.std.proofs.Common.{take, drop, get_or, suc, sym, refl, ap, ◌∙◌,
 use Rattle.std.proofs.Common.{length-append}
 use Rattle.std.proofs.Math.Seq.{drop-append_seam, take-append_seam}
 use Rattle.std.proofs.lemmas.List.{get_or-take, map-append, drop_more, take-take}
-use Rattle.cfgx_grammar.specs.Tree.{Tree, Trees, is_function, is_leaf, count}
+use Rattle.cfgx_grammar.specs.Tree.{ListFunction, Tree, Trees, is_function, is_leaf, count}
 use Rattle.cfgx_grammar.specs.Fold.{Operations, constant, from_last, value_of, values_by}
-use Rattle.cfgx_parser.specs.nodes.Prefix.{Node, prefix, prefix_each}
+use Rattle.cfgx_parser.specs.nodes.Prefix.{Node, list_func, prefix, prefix_each}
 use Rattle.cfgx_parser.specs.nodes.Shape.{Shape, shape_of}
 use Rattle.cfg_expr.specs.nodes.Reading.{Member, begin_of, join_of, values_in, top_value}
 use Rattle.cfg_expr.specs.nodes.Reading.{joined_list, put, read, held, stack_of}
@@ -69,12 +69,16 @@ module _ {T : Type 0} (logic : Operations T) where
       rw (all, take-append_seam (entries trees) rest, drop-append_seam (entries trees) rest)
       (rw (values.0, values.1) refl)
 
+  list-put : (function : ListFunction) (trees : Trees T) (rest : List (Member T))
+      → put logic (Shape.function (list_func function (count trees))) member.Joined
+      (entries trees ++ rest) ≡ entry (Tree.list function trees) ∷ rest
+  list-put ListFunction.all trees rest = joined-entries And trees rest
+  list-put ListFunction.any trees rest = joined-entries Or trees rest
+
   mutual
     pub read-tree : (tree : Tree T) → Reads (prefix tree) (entry tree ∷ [])
-    read-tree (Tree.all trees) shapes slots =
-        rw (read-each trees shapes slots) (joined-entries And trees _)
-    read-tree (Tree.any trees) shapes slots =
-        rw (read-each trees shapes slots) (joined-entries Or trees _)
+    read-tree (Tree.list function trees) shapes slots =
+        rw (read-each trees shapes slots) (list-put function trees _)
     read-tree (Tree.not tree) shapes slots =
         rw (read-tree tree shapes slots, value-entry tree (read logic shapes slots)) refl
     read-tree tree shapes slots = refl

@@ -10,13 +10,14 @@ use Rattle.std.proofs.Math.Seq.{take-append_seam}
 use Rattle.cfgx_syntax.specs.Token.{Token}
 use Rattle.cfgx_syntax.specs.Items.{Item, Ending, lexical}
 use Rattle.cfgx_syntax.specs.Error.{Refusal, invalid_not}
+use Rattle.cfgx_grammar.specs.Tree.{ListFunction}
 use Rattle.cfgx_grammar.specs.Neighbours.{Kind, takes, kind_of, is_kind, next}
 use Rattle.cfgx_grammar.specs.Depth.{names_function, is_closing, depth, depth_at, innermost}
 use Rattle.cfgx_grammar.specs.Depth.{members, roots, first_below}
 use Rattle.cfgx_grammar.specs.LastPredicate.{key_token, key_last, equals_last, predicate_token}
 use Rattle.cfgx_grammar.specs.LastPredicate.{word_of, with_value}
 use Rattle.cfgx_grammar.specs.FirstFault.{predicate_fault, head_token, last_token, lacks_value}
-use Rattle.cfgx_grammar.specs.FirstFault.{not_fault, fault_by, fault_behind, open_fault, root_fault}
+use Rattle.cfgx_grammar.specs.FirstFault.{not_fault, fault_by, fault_after, open_fault, root_fault}
 use Rattle.cfgx_grammar.specs.FirstFault.{end_fault, refusal, fault_at, first_fault}
 use Rattle.cfgx_grammar.specs.parsing.State.{Pending, Builder, Open, State, initial, Function}
 use Rattle.cfgx_grammar.specs.parsing.State.{name_of}
@@ -297,8 +298,10 @@ module _ {W M L : Type 0} {builder : Builder W M L} (front : List Item) (s : Sta
     token_step Token.equals may = let a = says Kind.equals (reverse front) may in
         let levels = rw a.1 at m.levels in
         (refl, stays Token.equals _ _ refl refl refl refl (m.pending ∙ a.0) refl levels)
-    token_step Token.all may = name_step Function.all may refl refl refl refl
-    token_step Token.any may = name_step Function.any may refl refl refl refl
+    token_step Token.all may =
+        name_step (Function.list ListFunction.all) may refl refl refl refl
+    token_step Token.any may =
+        name_step (Function.list ListFunction.any) may refl refl refl refl
     token_step Token.not may = name_step Function.not may refl refl refl refl
     token_step Token.open_paren may = let token = Token.open_paren in
         let a = says Kind.opening (reverse front) may in
@@ -312,7 +315,7 @@ module _ {W M L : Type 0} {builder : Builder W M L} (front : List Item) (s : Sta
         (ap going e.settled) e.levels)
 
     pub step_agrees : (token : Token)
-        → Meets (Matches (more token)) (step s (at token)) (fault_behind front (at token))
+        → Meets (Matches (more token)) (step s (at token)) (fault_after front (at token))
     step_agrees token = rw m.last (meets_if _ _ _ _ _ _
         (λ may. meets_map _ _ _ _ _ (token_step token may) (λ t matches. matches)) (λ no. refl))
 
@@ -340,24 +343,24 @@ module _ {W M L : Type 0} {builder : Builder W M L} (front : List Item) (s : Sta
 -- What the steps answer for all tokens of a text is its first fault, or none.
 
 -- the first fault of some tokens after others
-abbrev first_behind : List Item → List Item → Option Refusal
-first_behind front [] = None
-first_behind front (item ∷ items) =
-    option_or (fault_behind front item) (first_behind (front ++ item ∷ []) items)
+abbrev first_after : List Item → List Item → Option Refusal
+first_after front [] = None
+first_after front (item ∷ items) =
+    option_or (fault_after front item) (first_after (front ++ item ∷ []) items)
 
 first_is : (items all front : List Item) → all ≡ front ++ items
     → first_below (fault_at all) (length all)
-    ≡ option_or (first_below (fault_at all) (length front)) (first_behind front items)
+    ≡ option_or (first_below (fault_at all) (length front)) (first_after front items)
 first_is [] all front is = rw (ap length (is ∙ append-nil front)) (grind arith)
 first_is (item ∷ items) all front is =
-    let here : fault_at all (length front) ≡ fault_behind front item =
+    let here : fault_at all (length front) ≡ fault_after front item =
     rw (is, take-append_seam, slice_get_next) refl in
     let rest = first_is items all _ (is ∙ sym (append_assoc front (item ∷ []) items)) in
     rw (rest, length_more front item, here) (grind arith)
 
 scan : {W M L : Type 0} {builder : Builder W M L} (items front : List Item) (s : State builder)
     → Matches front s
-    → Meets (Matches (front ++ items)) (step_each s items) (first_behind front items)
+    → Meets (Matches (front ++ items)) (step_each s items) (first_after front items)
 scan [] front s m = (refl, rw append-nil m)
 scan (item ∷ items) front s m = meets_then _ _ _ _ _ _
     (step_agrees front s m item.start item.end item.token)

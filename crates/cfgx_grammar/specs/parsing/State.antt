@@ -2,17 +2,17 @@
 use Rattle.std.specs.Prelude.{ℕ, List, [], Option, None}
 use Rattle.cfgx_syntax.specs.Token.{Token}
 use Rattle.cfgx_grammar.specs.Question.{Leaf}
+use Rattle.cfgx_grammar.specs.Tree.{ListFunction}
+use Rattle.cfgx_grammar.specs.Grammar.{list_name}
 pub use Rattle.cfgx_grammar.specs.LastPredicate.{Word, KeyAndValue as Pending}
 
 -- the three functions
 pub data Function : Type 0 where
-  all : Function
-  any : Function
+  list : ListFunction → Function
   not : Function
 
 abbrev pub name_of : Function → Token
-name_of Function.all = Token.all
-name_of Function.any = Token.any
+name_of (Function.list function) = list_name function
 name_of Function.not = Token.not
 
 -- What the parser builds: any type with these changes. Which tokens it takes does not depend on it.

@@ -11,6 +11,7 @@ use Rattle.cfgx_grammar.specs.FirstFault.{refusal}
 use Rattle.cfgx_grammar.specs.LastPredicate.{word_of, with_value, part_of, class_of}
 use Rattle.cfgx_grammar.specs.FirstFault.{lacks_value}
 use Rattle.cfgx_grammar.specs.Neighbours.{next, expected}
+use Rattle.cfgx_grammar.specs.Tree.{ListFunction}
 use Rattle.cfgx_grammar.specs.parsing.State.{Function, Pending, Builder, Open, State}
 
 -- the next step of what went well
@@ -27,8 +28,7 @@ result_map f (Err e) = Err e
 -- `not` has one member, and the other functions any number
 abbrev pub has_room : Function → ℕ → Bool
 has_room Function.not n = n == 1
-has_room Function.all n = true
-has_room Function.any n = true
+has_room (Function.list function) n = true
 
 module _ {M : Type 0} where
   -- the innermost open function changed
@@ -126,8 +126,8 @@ module _ {W M L : Type 0} {builder : Builder W M L} where
     pending = option_map (with_value (word_of text (item.start + 1) (item.end - 1))) s.pending;
   })
   apply s item Token.equals = Ok s
-  apply s item Token.all = Ok (opened s Function.all item)
-  apply s item Token.any = Ok (opened s Function.any item)
+  apply s item Token.all = Ok (opened s (Function.list ListFunction.all) item)
+  apply s item Token.any = Ok (opened s (Function.list ListFunction.any) item)
   apply s item Token.not = Ok (opened s Function.not item)
   apply s item Token.open_paren =
       Ok (record s { stack = over_top (with_parens item.start) s.stack })

@@ -10,7 +10,7 @@ use Rattle.cfgx_grammar.specs.Classification.{Class, class}
 use Rattle.cfgx_grammar.specs.Tree.{Tree, Trees, is_function, is_leaf, count}
 use Rattle.cfgx_grammar.specs.parsing.State.{Function}
 use Rattle.cfgx_parser.specs.nodes.Located.{located, at, IsSpan, ValueHasCut}
-use Rattle.cfgx_parser.specs.nodes.Node.{Written, with_leaf}
+use Rattle.cfgx_parser.specs.nodes.Node.{Written, begun, with_leaf}
 use Rattle.cfgx_parser.specs.nodes.Prefix.{Node, headed, prefix, prefix_each, places, places_by}
 use Rattle.cfgx_parser.specs.nodes.Prefix.{with_places}
 use Rattle.cfgx_parser.specs.nodes.Writes.{IsPlaced, ArePlaced, WritesNodes}
@@ -82,9 +82,9 @@ module _ (text : List ℕ) where
       → Calls node_builder MemberWrites ListWrites function tree trees
   call_writes function tree trees called head opening closing members w v writes placed =
       let written = writes (all_of_first _ members (closing ∷ []) placed.1.1) in
-      let place = length_push w.nodes (node.Fn (counted function 0) 0) in
+      let place = length_push w.nodes begun in
       rw (called.prefix_is, called.is_no_leaf, called.is_one, called.places_are, ← place)
-      (WritesNodes-function (counted function 0) (counted function (count trees)) written)
+      (WritesNodes-function (counted function (count trees)) written)
 
   pub node_laws : Laws node_builder
   node_laws = record {
@@ -98,8 +98,8 @@ module _ (text : List ℕ) where
         leaf_writes w _ (Some _) leaf word.1 other.1 (rw (word.0, other.0) classed);
     none = λ w placed. WritesNodes-none text w;
     more = list_writes;
-    all = λ trees. call_writes Function.all (Tree.all trees) trees (search rules);
-    any = λ trees. call_writes Function.any (Tree.any trees) trees (search rules);
+    list = λ function trees. call_writes (Function.list function) (Tree.list function trees) trees
+        (search rules);
     not = λ tree. call_writes Function.not (Tree.not tree) (Trees.more tree Trees.none)
         (search (rules, append-nil, places_one));
   }

@@ -5,8 +5,8 @@ use Rattle.std.proofs.lemmas.List.{append-nil, map-append, length-map, length_pu
 use Rattle.std.proofs.lemmas.List.{drop_at}
 use Rattle.cfgx_grammar.specs.Question.{Question}
 use Rattle.cfgx_grammar.proofs.alone.{all_of_both}
-use Rattle.cfgx_parser.specs.nodes.Node.{Written, mark_of, asked_at, with_leaf, with_function}
-use Rattle.cfgx_parser.specs.nodes.Node.{with_function_ended}
+use Rattle.cfgx_parser.specs.nodes.Node.{Written, mark_of, asked_at, with_leaf, begun}
+use Rattle.cfgx_parser.specs.nodes.Node.{with_function, with_function_ended}
 use Rattle.cfgx_parser.specs.nodes.Prefix.{Node, node_at, headed}
 use Rattle.cfgx_parser.specs.nodes.Writes.{NodeHasCut, WritesNodes}
 use Rattle.cfgx_parser.specs.declared.function.Func.{Func}
@@ -57,15 +57,14 @@ WritesNodes-leaf text w leaf shown is cut = record {
 
 -- a function and its members
 pub WritesNodes-function : {text : List ℕ} {w v : Written} {shown : List (Node Question)}
-    {own inner : List ℕ} (first last : Func)
-    → WritesNodes text (with_function first w) v shown own inner
-    → WritesNodes text w (with_function_ended (mark_of w) last v) (headed last shown) []
+    {own inner : List ℕ} (func : Func) → WritesNodes text (with_function w) v shown own inner
+    → WritesNodes text w (with_function_ended (mark_of w) func v) (headed func shown) []
     (inner ++ own)
-WritesNodes-function {w} {v} {shown} {own} first last a =
+WritesNodes-function {w} {v} {shown} {own} func a =
     let long : length v.nodes - length w.nodes ≡ length shown + 1 =
-    omega (arith, length-nodes a, length_push w.nodes (node.Fn first 0)) in
+    omega (arith, length-nodes a, length_push w.nodes begun) in
     record {
-      added = node.Fn last (length shown + 1) ∷ a.added;
+      added = node.Fn func (length shown + 1) ∷ a.added;
       nodes_are = rw (long, a.nodes_are, append_assoc) (set_at w.nodes _ a.added _ _ refl);
       shown_are = rw a.shown_are refl;
       cuts = (tt, a.cuts);

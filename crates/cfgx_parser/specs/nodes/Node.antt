@@ -2,6 +2,7 @@
 -- are asked.
 use Rattle.std.specs.Prelude.{ℕ, ◌-◌, List, [], ◌∷◌, ◌++◌, length, take, drop, set}
 use Rattle.cfgx_parser.specs.declared.function.Func.{Func}
+use Rattle.cfgx_parser.specs.declared.function.Func.TheVariants.{Not}
 pub use Rattle.cfgx_parser.specs.declared.nodes.Mark.{Mark}
 use Rattle.cfgx_parser.specs.declared.nodes.ExprNode.{ExprNode}
 use Rattle.cfgx_parser.specs.declared.nodes.ExprNode.TheVariants as node
@@ -32,9 +33,12 @@ with_leaf leaf w = record w {
   leaves = w.leaves ++ asked_at leaf (length w.nodes);
 }
 
--- with a function's node, whose number of members and of nodes is not known yet
-abbrev pub with_function : Func → Written → Written
-with_function func w = record w { nodes = w.nodes ++ node.Fn func 0 ∷ [] }
+-- a function's node until its end, when the number of its members and of its nodes is known
+abbrev pub begun : ExprNode
+begun = node.Fn Not 0
+
+abbrev pub with_function : Written → Written
+with_function w = record w { nodes = w.nodes ++ begun ∷ [] }
 
 -- with the list ended that began with so many predicates of outer lists: its own ones are asked
 abbrev pub with_list_ended : ℕ → Written → Written

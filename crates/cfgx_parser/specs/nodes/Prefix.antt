@@ -1,7 +1,7 @@
 -- A tree as nodes in source order, and where its predicates stand among them.
 use Rattle.std.specs.Prelude.{ℕ, ◌+◌, Bool, List, [], ◌∷◌, ◌++◌, length}
 use Rattle.cfgx_grammar.specs.Question.{Question}
-use Rattle.cfgx_grammar.specs.Tree.{Tree, Trees, asked, asked_by, count}
+use Rattle.cfgx_grammar.specs.Tree.{ListFunction, Tree, Trees, asked, asked_by, count}
 use Rattle.cfgx_parser.specs.nodes.Located.{question_at}
 use Rattle.cfgx_parser.specs.declared.function.Func.{Func}
 use Rattle.cfgx_parser.specs.declared.function.Func.TheVariants.{Not, All, Any}
@@ -19,6 +19,11 @@ node_at text (node.Fn func len) = Node.function func len
 node_at text (node.Predicate predicate) = Node.leaf (question_at text predicate)
 node_at text (node.Literal truth) = Node.literal truth
 
+-- a list of so many members, as the code has it
+abbrev pub list_func : ListFunction → ℕ → Func
+list_func ListFunction.all n = All n
+list_func ListFunction.any n = Any n
+
 -- a function, and then the nodes of its members: it holds how many nodes these are with itself
 abbrev pub headed : {X : Type 0} → Func → List (Node X) → List (Node X)
 headed func members = Node.function func (length members + 1) ∷ members
@@ -27,8 +32,7 @@ abbrev mutual
   pub prefix : {X : Type 0} → Tree X → List (Node X)
   prefix (Tree.leaf x) = Node.leaf x ∷ []
   prefix (Tree.literal truth) = Node.literal truth ∷ []
-  prefix (Tree.all trees) = headed (All (count trees)) (prefix_each trees)
-  prefix (Tree.any trees) = headed (Any (count trees)) (prefix_each trees)
+  prefix (Tree.list which trees) = headed (list_func which (count trees)) (prefix_each trees)
   prefix (Tree.not tree) = headed Not (prefix tree)
 
   pub prefix_each : {X : Type 0} → Trees X → List (Node X)
@@ -41,8 +45,7 @@ abbrev mutual
   pub with_places : {X : Type 0} → ℕ → Tree X → Tree ℕ
   with_places place (Tree.leaf x) = Tree.leaf place
   with_places place (Tree.literal truth) = Tree.literal truth
-  with_places place (Tree.all trees) = Tree.all (with_places_each (place + 1) trees)
-  with_places place (Tree.any trees) = Tree.any (with_places_each (place + 1) trees)
+  with_places place (Tree.list which trees) = Tree.list which (with_places_each (place + 1) trees)
   with_places place (Tree.not tree) = Tree.not (with_places (place + 1) tree)
 
   pub with_places_each : {X : Type 0} → ℕ → Trees X → Trees ℕ

@@ -5,6 +5,7 @@ use Rattle.std.specs.declared.ops.Range.{Range}
 use Rattle.cfgx_syntax.specs.Error.{Refusal, unexpected, cause_of}
 use Rattle.cfgx_syntax.specs.declared.error.Reason.{Reason}
 use Rattle.cfgx_grammar.specs.Classification.{target_class, other_class}
+use Rattle.cfgx_grammar.specs.Tree.{ListFunction}
 use Rattle.cfgx_grammar.specs.parsing.State.{Function, Word, Pending}
 use Rattle.cfgx_parser.specs.parsing.State.{OpenFunction, located_class}
 use Rattle.cfgx_grammar.specs.FirstFault.{refusal}
@@ -51,8 +52,8 @@ other_answer key value =
 
 abbrev pub function_of : FuncKind → Function
 function_of kind.Not = Function.not
-function_of kind.All = Function.all
-function_of kind.Any = Function.any
+function_of kind.All = Function.list ListFunction.all
+function_of kind.Any = Function.list ListFunction.any
 
 abbrev pub empty_list : OpenList
 empty_list = record { members = 0; parens_index = None }

@@ -10,6 +10,7 @@ use Rattle.cfgx_grammar.specs.parsing.Step as steps
 use Rattle.cfgx_parser.specs.nodes.Node.{Mark, Written, nothing, mark_of, with_leaf, with_function}
 use Rattle.cfgx_parser.specs.nodes.Node.{with_list_ended, with_function_ended}
 use Rattle.cfgx_parser.specs.nodes.Located.{located}
+use Rattle.cfgx_parser.specs.nodes.Prefix.{list_func}
 use Rattle.cfgx_parser.specs.declared.function.Func.{Func}
 use Rattle.cfgx_parser.specs.declared.function.Func.TheVariants as func
 use Rattle.cfgx_parser.specs.declared.nodes.ExprNode.{ExprNode}
@@ -17,8 +18,7 @@ use Rattle.cfgx_parser.specs.declared.nodes.ExprNode.{ExprNode}
 -- a function with so many members
 abbrev pub counted : Function → ℕ → Func
 counted Function.not n = func.Not
-counted Function.all n = func.All n
-counted Function.any n = func.Any n
+counted (Function.list function) n = list_func function n
 
 abbrev pub span_of : Word → Range ℕ
 span_of word = record { start = word.start; end = word.end }
@@ -30,7 +30,7 @@ node_builder = record {
   mark_of = mark_of;
   located = λ p leaf. located (span_of p.key) (option_map span_of p.value) leaf;
   leaf = with_leaf;
-  function = λ function. with_function (counted function 0);
+  function = λ function. with_function;
   function_ended = λ mark function members. with_function_ended mark (counted function members);
   root_ended = with_list_ended 0;
 }
