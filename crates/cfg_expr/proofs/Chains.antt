@@ -7,8 +7,8 @@ use Rattle.std.proofs.lemmas.List.{nil_from_length}
 use Rattle.std.proofs.lemmas.Slice.Zip.{AllZip-map}
 use Rattle.cfgx_grammar.specs.Question.{Question}
 use Rattle.cfgx_grammar.specs.Answer.{HasOneTree}
-use Rattle.cfgx_grammar.specs.Grammar.{HasTree}
-use Rattle.cfgx_grammar.specs.Tree.{Tree, asked}
+use Rattle.cfgx_grammar.specs.Given.{AreAnswersTo}
+use Rattle.cfgx_grammar.specs.Tree.{asked}
 use Rattle.cfgx_grammar.specs.Fold.{Operations, first_or, fold}
 use Rattle.cfg_expr.specs.Asking.{AnswersBy, Asker, Asks, Calls}
 use Rattle.cfg_expr.specs.Evaluation.{Evaluates, IsValueBy}
@@ -80,7 +80,7 @@ pub Evaluates-taken : {F T : Type 0} {logic : Operations T} {asker : Asker F T} 
     → Asks asker before question given after
     → (given ≡ first_or otherwise (seen before)) × (seen after ≡ drop 1 (seen before)))
     → seen before ≡ answers
-    → (tree : Tree Question) × HasTree text tree × (length answers ≡ length (asked tree))
+    → AreAnswersTo answers text
     → (one : HasOneTree text) × (value ≡ fold logic one.tree answers)
 Evaluates-taken {logic} {asker} {before} {after} seen otherwise answers e each are tree =
     let taken = Calls-taken asker seen otherwise each answers e.calls are

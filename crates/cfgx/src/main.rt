@@ -6,7 +6,7 @@ use cfgx_engine::engine::{Counted, run};
 use std::process::ExitCode;
 use std::{env, io};
 
-/// The status if the words could not be had: memory was refused, or one is not UTF-8. Nothing was
+/// The status if the words could not be had: it is out of memory, or one is not UTF-8. Nothing was
 /// written then.
 const REFUSED: u8 = 3;
 

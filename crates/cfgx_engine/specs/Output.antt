@@ -1,6 +1,6 @@
 -- What the commands on texts write, and the status that the program then ends with.
--- Source of the rules: docs/RULES.md. Those of the crate cfg-expr stand behind what a predicate, a
--- value and a fault are.
+-- Source of the rules: docs/RULES.md; of what a predicate, a value and a fault are, the crate
+-- cfg-expr.
 use Rattle.std.specs.Prelude.{◌≡◌, ℕ, Bool, true, false, List, [], ◌∷◌, ◌++◌, codes, map, ◌⊎◌}
 use Rattle.std.specs.Prelude.{Option, Some, None}
 use Rattle.std.specs.List.{AllByRecursion, AllZip, flat_map}

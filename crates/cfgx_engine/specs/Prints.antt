@@ -1,6 +1,6 @@
 -- What a run writes, by what the words ask for and what the input holds.
--- Source of the rules: docs/RULES.md. Those of the crate cfg-expr stand behind what a predicate, a
--- value and a fault are.
+-- Source of the rules: docs/RULES.md; of what a predicate, a value and a fault are, the crate
+-- cfg-expr.
 use Rattle.std.specs.Prelude.{◌≡◌, ◌⊎◌, ℕ, List, ◌∷◌, codes, length, map, nat_lt}
 use Rattle.std.specs.Prelude.{Option, Some, IsSome, MatchOption}
 use Rattle.std.specs.Bool.{MatchBool}

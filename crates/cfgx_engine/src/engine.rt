@@ -24,15 +24,15 @@ use std::alloc::Allocator;
 use streams::write_whole;
 pub use streams::{Counted, Sink, Source};
 
-/// The status of a run for which memory was refused, or of which a read, a write or a flush failed.
+/// The status of a run that is out of memory, or of which a read, a write or a flush failed.
 const REFUSED: u8 = 3;
 
 /// Runs the command that the words ask for, and answers the status with which the program ends.
 ///
 /// `words` are those after the program's name. What is written is made in memory whole before its
 /// first byte goes out; the usage line takes no memory. Status 0 says that it is done, 1 that a
-/// text or the input is faulty, 2 wrong use or a triple that is not built in, and 3 that memory was
-/// refused or that a call of the reader or writer failed. No failed call is tried again. Both
+/// text or the input is faulty, 2 wrong use or a triple that is not built in, and 3 that it is out
+/// of memory or that a call of the reader or writer failed. No failed call is tried again. Both
 /// streams must count fewer than `u64::MAX` failed calls. The rules are in `docs/RULES.md`.
 pub fn run<A: SmallAllocator, R: Source, W: Sink>(
     alloc: A,

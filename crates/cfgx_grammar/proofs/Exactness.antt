@@ -28,15 +28,15 @@ pub record Preserve {T U : Type 0} (one : Operations T) (other : Operations U)
 
 module _ {T U : Type 0} (one : Operations T) (other : Operations U) (R : T → U → Type 0)
     (preserve : Preserve one other R) where
-  from_last_kept : (join : T → T → T) (joined : U → U → U) (begin : T) (begun : U) → R begin begun
-      → ((x y : T) (u v : U) → R x u → R y v → R (join x y) (joined u v))
+  from_last_kept : (join : T → T → T) (other_join : U → U → U) (begin : T) (begun : U)
+      → R begin begun → ((x y : T) (u v : U) → R x u → R y v → R (join x y) (other_join u v))
       → (xs : List T) (ys : List U) → AllZip R xs ys
-      → R (from_last join begin xs) (from_last joined begun ys)
-  from_last_kept join joined begin begun base each [] [] all = base
-  from_last_kept join joined begin begun base each (x ∷ xs) (y ∷ ys) all =
-      each (from_last join begin xs) x (from_last joined begun ys) y
-      (from_last_kept join joined begin begun base each xs ys all.1) all.0
-  from_last_kept join joined begin begun base each _ _ all = absurd all
+      → R (from_last join begin xs) (from_last other_join begun ys)
+  from_last_kept join other_join begin begun base each [] [] all = base
+  from_last_kept join other_join begin begun base each (x ∷ xs) (y ∷ ys) all =
+      each (from_last join begin xs) x (from_last other_join begun ys) y
+      (from_last_kept join other_join begin begun base each xs ys all.1) all.0
+  from_last_kept join other_join begin begun base each _ _ all = absurd all
 
   list_kept : (function : ListFunction) (xs : List T) (ys : List U) → AllZip R xs ys
       → R (list_value one function xs) (list_value other function ys)
@@ -88,14 +88,14 @@ agreement = record {
 abbrev side : Bool → Option Bool → Bool
 side fill value = unwrap_or value fill
 
-from_last-sides : (join : Bool → Bool → Bool) (joined : Option Bool → Option Bool → Option Bool)
+from_last-sides : (join : Bool → Bool → Bool) (other_join : Option Bool → Option Bool → Option Bool)
     (begin fill : Bool) (values : List (Option Bool))
-    → ((x y : Option Bool) → join (side fill x) (side fill y) ≡ side fill (joined x y))
+    → ((x y : Option Bool) → join (side fill x) (side fill y) ≡ side fill (other_join x y))
     → from_last join begin (map (side fill) values)
-    ≡ side fill (from_last joined (Some begin) values)
-from_last-sides join joined begin fill [] each = refl
-from_last-sides join joined begin fill (value ∷ values) each =
-    rw (from_last-sides join joined begin fill values each) (each _ value)
+    ≡ side fill (from_last other_join (Some begin) values)
+from_last-sides join other_join begin fill [] each = refl
+from_last-sides join other_join begin fill (value ∷ values) each =
+    rw (from_last-sides join other_join begin fill values each) (each _ value)
 
 -- the tests of the two trees agree
 abbrev AreFilledAlike : (Tree (Option Bool) → Bool) → (Tree Bool → Bool) → Type 0

@@ -107,10 +107,10 @@ module _ {M : Type 0} where
       =
       let one : begun.members + (0 + count trees) ≡ count trees = omega arith in
       let (tree, spelled) = called function inner trees (rw (one, is) at room) list in
-      let behind = commas m ++ (others ++ after) in
-      let tokens_are : tokens ≡ (inner ++ Token.close_paren ∷ []) ++ behind =
+      let beyond = commas m ++ (others ++ after) in
+      let tokens_are : tokens ≡ (inner ++ Token.close_paren ∷ []) ++ beyond =
       these ∙ rw (bare, are) (simp append_assoc) in
-      rw tokens_are (Rest-member stack roots _ behind tree spelled
+      rw tokens_are (Rest-member stack roots _ beyond tree spelled
       (m, others, left, after, refl, may, rest, ends))
     where
       called : (function : Function) (list : List Token) (trees : Trees Question)
@@ -258,8 +258,8 @@ module _ {W M L : Type 0} {builder : Builder W M L} where
       → closed_by s item stack ≡ Ok u → Closes s u
   Closes-stack s u item [] is does = absurd (cc)
   Closes-stack s u item (top ∷ rest) is does =
-      let (room, closes) = allowed _ _ _ u does in
-      let (settled, ends, closed) = mapped _ (predicate_ended s) u closes in
+      let (room, does_end) = allowed _ _ _ u does in
+      let (settled, ends, closed) = mapped _ (predicate_ended s) u does_end in
       (top, rest, settled, is, room, ends, closed)
 
   -- `)` stands in front of what completes the function around

@@ -91,10 +91,10 @@ mutual
   regular_list test tokens Trees.none spelled list = tt
   regular_list test tokens (Trees.more tree trees) spelled (member, n, rest, is, apart, one, more) =
       let all = rw is at spelled in
-      let behind = all_of_second IsSpelled member (commas n ++ rest) all in
+      let beyond = all_of_second IsSpelled member (commas n ++ rest) all in
       let here = regular_member member tree (all_of_first IsSpelled member _ all) one in
       all_of_both IsRegular _ _ (kept_if AreRegular (test tree) _ [] here tt)
-      (regular_list test rest trees (all_of_second IsSpelled (commas n) rest behind) more)
+      (regular_list test rest trees (all_of_second IsSpelled (commas n) rest beyond) more)
 
 pub regular_tree : (text : List ℕ) (tree : Tree Question) → HasTree text tree
     → AreRegular (asked tree)
@@ -170,8 +170,8 @@ module _ (key : List ℕ) (value : Option (List ℕ)) where
 
   -- then the table is
   good_by_name : {V : Type 0} (name : List ℕ) (v : V) (otherwise : Class) (goal : Type 0)
-      → Good otherwise → (lines : List (Rule V))
-      → (Good (by_name lines name v otherwise) → goal) → Each v lines goal
+      → Good otherwise → (rules : List (Rule V))
+      → (Good (by_name rules name v otherwise) → goal) → Each v rules goal
   good_by_name name v otherwise goal last [] whole = whole last
   good_by_name name v otherwise goal last (first ∷ rest) whole = λ good.
       good_by_name name v otherwise goal last rest (λ others. whole (kept_if Good
@@ -259,7 +259,7 @@ stands_between text before gap bytes rest token from start end is begins starts 
     let long : length ((before ++ gap) ++ bytes) ≡ end =
     omega (arith, length-append (before ++ gap) bytes) in
     record {
-      behind = omega arith;
+      comes_after = omega arith;
       gap = rw (is, begins, starts, slice_middle before gap (bytes ++ rest)) blank;
       spelled = rw (later, ends, ← front, slice_middle (before ++ gap) bytes rest) spelled;
       ordered = omega arith;

@@ -38,7 +38,7 @@ abbrev pub Calls : {W M L : Type 0} → Builder W M L → (List Item → W → W
     → (List Item → W → W → Trees Question → Type 0) → Function → Tree Question → Trees Question
     → Type 0
 Calls {W} builder MemberBuilds ListBuilds function tree trees = (head opening closing : Item)
-    (members : List Item) (w v : W) → ListBuilds members (builder.function function w) v trees
+    (members : List Item) (w v : W) → ListBuilds members (builder.function w) v trees
     → MemberBuilds (head ∷ opening ∷ (members ++ closing ∷ [])) w
     (builder.function_ended (builder.mark_of w) function (count trees) v) tree
 
@@ -120,7 +120,7 @@ module _ {W M L : Type 0} {builder : Builder W M L} where
   inside s function head opening = record s {
     stack = with_parens opening.start (new_open s function head) ∷ s.stack;
     last = Some Token.open_paren;
-    written = builder.function function s.written;
+    written = builder.function s.written;
   }
 
   opens : (s : State builder) (function : Function) (head opening : Item) (rest : List Item)
@@ -209,16 +209,16 @@ module _ {W M L : Type 0} {builder : Builder W M L} (laws : Laws builder) where
   MemberEnds-leaf s _ leaf key (Some value) may is classed = absurd (cc)
 
   -- commas after a member
-  pub MemberEnds-commas : (n : ℕ) (s : State builder) (member behind : List Item)
-      (tree : Tree Question) → tokens_of behind ≡ commas n → MemberEnds s member member 0 tree
-      → MemberEnds s (member ++ behind) member n tree
-  MemberEnds-commas zero s member behind tree are i =
-      rw (no_items behind are, append-nil member) i
-  MemberEnds-commas (suc n) s member behind tree are i = record {
+  pub MemberEnds-commas : (n : ℕ) (s : State builder) (member beyond : List Item)
+      (tree : Tree Question) → tokens_of beyond ≡ commas n → MemberEnds s member member 0 tree
+      → MemberEnds s (member ++ beyond) member n tree
+  MemberEnds-commas zero s member beyond tree are i =
+      rw (no_items beyond are, append-nil member) i
+  MemberEnds-commas (suc n) s member beyond tree are i = record {
     after = between s (Some Token.comma) i.written;
     written = i.written;
-    runs = steps_both member behind s i.after i.runs
-        ∙ commas_run n behind s i.after i.written are i.is_end.1 i.ends;
+    runs = steps_both member beyond s i.after i.runs
+        ∙ commas_run n beyond s i.after i.written are i.is_end.1 i.ends;
     is_end = (refl, refl, refl);
     ends = refl;
     builds = i.builds;
@@ -226,34 +226,34 @@ module _ {W M L : Type 0} {builder : Builder W M L} (laws : Laws builder) where
   }
 
   -- the last member, and a member in front of others
-  ListEnds-one : (s : State builder) (member behind : List Item) (n : ℕ) (tree : Tree Question)
-      → MemberEnds s (member ++ behind) member n tree
-      → ListEnds s (member ++ behind) (Trees.more tree Trees.none)
-  ListEnds-one s member behind n tree i = record {
+  ListEnds-one : (s : State builder) (member beyond : List Item) (n : ℕ) (tree : Tree Question)
+      → MemberEnds s (member ++ beyond) member n tree
+      → ListEnds s (member ++ beyond) (Trees.more tree Trees.none)
+  ListEnds-one s member beyond n tree i = record {
     after = i.after;
     written = i.written;
     runs = i.runs;
     closes = i.is_end.0;
     ends = i.ends;
     builds = rw append-nil at
-        (laws.more member behind [] tree Trees.none _ _ _ i.builds (laws.none i.written));
+        (laws.more member beyond [] tree Trees.none _ _ _ i.builds (laws.none i.written));
   }
 
-  ListEnds-more : (s : State builder) (member behind others : List Item) (n : ℕ)
+  ListEnds-more : (s : State builder) (member beyond others : List Item) (n : ℕ)
       (tree : Tree Question) (trees : Trees Question)
-      → MemberEnds s (member ++ behind) member n tree → Separates n trees
+      → MemberEnds s (member ++ beyond) member n tree → Separates n trees
       → IsList (tokens_of others) trees → ((t : State builder) → takes t.last Kind.name ≡ true
       → takes t.last Kind.closing ≡ true → t.pending ≡ None → ListEnds t others trees)
-      → ListEnds s (member ++ (behind ++ others)) (Trees.more tree trees)
-  ListEnds-more s member behind others n tree Trees.none i some list go_on =
-      rw (no_items others list, append-nil behind) (ListEnds-one s member behind n tree i)
-  ListEnds-more s member behind others n tree (Trees.more second trees) i some list go_on =
+      → ListEnds s (member ++ (beyond ++ others)) (Trees.more tree trees)
+  ListEnds-more s member beyond others n tree Trees.none i some list go_on =
+      rw (no_items others list, append-nil beyond) (ListEnds-one s member beyond n tree i)
+  ListEnds-more s member beyond others n tree (Trees.more second trees) i some list go_on =
       let t = between s (Some Token.comma) i.written in
       let l = go_on t refl refl refl in
       record {
         after = l.after;
         written = l.written;
-        runs = rw (← append_assoc member behind others) (steps_both (member ++ behind) others s t
+        runs = rw (← append_assoc member beyond others) (steps_both (member ++ beyond) others s t
             (i.runs ∙ ap Ok (i.members_come some)) ∙ l.runs);
         closes = l.closes;
         ends = l.ends;
@@ -353,7 +353,7 @@ tree_builder = record {
   mark_of = length;
   located = λ p leaf. leaf;
   leaf = λ leaf trees. trees ++ leaf_tree leaf ∷ [];
-  function = λ function trees. trees;
+  function = λ trees. trees;
   function_ended = λ mark function members trees.
       take mark trees ++ called function (drop mark trees) ∷ [];
   root_ended = λ trees. trees;

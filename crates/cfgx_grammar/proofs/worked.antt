@@ -134,8 +134,8 @@ abbrev pub fault : Cause → ℕ → ℕ → Option Refusal
 fault cause start end = Some (refusal cause start end)
 
 -- the fault of a token that is refused after the last one
-abbrev pub refused_behind : Option Token → ℕ → ℕ → Option Refusal
-refused_behind last start end = fault (unexpected (expected last)) start end
+abbrev pub refused_after : Option Token → ℕ → ℕ → Option Refusal
+refused_after last start end = fault (unexpected (expected last)) start end
 
 -- Values in a logic that writes its terms down: `T`, `F`, `(x&y)`, `(x|y)`, `!x`.
 abbrev pub between : List ℕ → List ℕ → List ℕ → List ℕ
@@ -271,12 +271,12 @@ spelled = refl
 
 -- Faults of a token.
 pub tokens_show : Lines shown (
-    (codes "all(a b)", refused_behind (Some (Token.key (codes "a"))) 6 7)
-    ∷ (codes ")", refused_behind None 0 1)
+    (codes "all(a b)", refused_after (Some (Token.key (codes "a"))) 6 7)
+    ∷ (codes ")", refused_after None 0 1)
     ∷ (codes "a,)", fault unopened_parens 2 3)
     ∷ (codes "not(not(), feature)", fault (invalid_not 0) 4 9)
     ∷ (codes "any(unix = \"x\", not())", fault (unexpected []) 12 13)
-    ∷ (codes "all(target_os = \"a\" \"b\")", refused_behind (Some (Token.value [])) 20 23)
+    ∷ (codes "all(target_os = \"a\" \"b\")", refused_after (Some (Token.value [])) 20 23)
     ∷ (codes "any(not(not(key_one, key_two)))", fault (invalid_not 2) 8 29)
     ∷ (codes "not(a, feature)", fault (invalid_not 2) 0 15)
     ∷ (codes "not(feature, x)", fault (unexpected (codes "= \"<feature_name>\"" ∷ [])) 4 11)
@@ -302,9 +302,9 @@ abbrev stopped : List ℕ × List ℕ × Ending → Option Refusal
 stopped row = first_fault row.0 (lexed row.1) row.2
 
 pub no_token : let row = codes "all(key = \"value), key = \"value\"" in Lines stopped (
-    ((codes "feature 8", codes "feature", Ending.no_token 8), refused_behind None 8 9)
+    ((codes "feature 8", codes "feature", Ending.no_token 8), refused_after None 8 9)
     ∷ ((codes "key \"abc", codes "key", Ending.unclosed_quotes 4), fault unclosed_quotes 4 8)
-    ∷ ((row, take 31 row, Ending.unclosed_quotes 31), refused_behind (Some (Token.value [])) 26 31)
+    ∷ ((row, take 31 row, Ending.unclosed_quotes 31), refused_after (Some (Token.value [])) 26 31)
     ∷ [])
 unfolding class
 no_token = refl

@@ -7,9 +7,9 @@ use Rattle.cfgx_grammar.specs.Question.{Question}
 use Rattle.cfgx_grammar.specs.Tree.{Tree, asked}
 use Rattle.cfgx_parser.specs.nodes.Located.{question_at}
 use Rattle.cfgx_parser.specs.nodes.Prefix.{Node, node_at}
-use Rattle.cfgx_parser.specs.nodes.Writes.{NodeHasCut}
-use Rattle.cfgx_parser.specs.nodes.Keeps.{KeepsTree, predicate_at, questions_at}
-use Rattle.cfgx_parser.specs.nodes.Keeps.{NamesPredicate, NamePredicates}
+use Rattle.cfgx_parser.specs.nodes.WritesNodes.{NodeHasCut}
+use Rattle.cfgx_parser.specs.nodes.KeepsTree.{KeepsTree, predicate_at, questions_at}
+use Rattle.cfgx_parser.specs.nodes.KeepsTree.{NamesPredicate, NamePredicates}
 use Rattle.cfgx_parser.specs.declared.nodes.ExprNode.{ExprNode}
 use Rattle.cfgx_parser.specs.declared.nodes.ExprNode.TheVariants as node
 use Rattle.cfgx_parser.proofs.Places.{read-places}

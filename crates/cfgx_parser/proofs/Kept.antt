@@ -11,10 +11,10 @@ use Rattle.cfgx_grammar.specs.Question.{Question}
 use Rattle.cfgx_grammar.specs.Tree.{Tree}
 use Rattle.cfgx_grammar.proofs.Answering.{answer, tree_of, FindsTree-tree, HasOneTree-tree}
 use Rattle.cfgx_grammar.proofs.alone.{all_of_first}
-use Rattle.cfgx_parser.specs.nodes.Keeps.{KeepsTree, KeepsOneTree}
+use Rattle.cfgx_parser.specs.nodes.KeepsTree.{KeepsTree, KeepsOneTree}
 use Rattle.cfgx_parser.specs.nodes.Node.{Written, nothing, with_list_ended}
 use Rattle.cfgx_parser.specs.nodes.Prefix.{node_at, prefix, places}
-use Rattle.cfgx_parser.specs.nodes.Writes.{IsPlaced, ArePlaced, WritesNodes}
+use Rattle.cfgx_parser.specs.nodes.WritesNodes.{IsPlaced, ArePlaced, WritesNodes}
 use Rattle.cfgx_parser.specs.parsing.State.{ParserState}
 use Rattle.cfgx_parser.specs.declared.nodes.ExprNode.{ExprNode}
 use Rattle.cfgx_parser.proofs.Sizes.{nodes-bytes}

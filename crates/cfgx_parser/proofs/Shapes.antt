@@ -39,10 +39,10 @@ module _ {X Y : Type 0} {R : X → Y → Type 0} where
         let (shapes, places) = same_nodes x y first in
         let (counts, others, all_places) = same_members xs ys rest in
         let long = length-same (prefix x) (prefix y) shapes in
-        let behind = length (prefix y) in (
+        let beyond = length (prefix y) in (
           ap suc counts,
           simp (map-append, shapes, others),
-          λ n. rw (places n, long, all_places (n + behind)) refl,
+          λ n. rw (places n, long, all_places (n + beyond)) refl,
         )
 
   pub length-shape : (x : Tree X) (y : Tree Y) → Alike R x y

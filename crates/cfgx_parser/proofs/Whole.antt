@@ -8,7 +8,7 @@ use Rattle.cfgx_syntax.specs.Stripping.{strip}
 use Rattle.cfgx_syntax.specs.declared.error.Failure.{Failure}
 use Rattle.cfgx_syntax.specs.declared.error.Failure.TheVariants as failure
 use Rattle.cfgx_grammar.specs.Answer.{Answers, IsAccepted}
-use Rattle.cfgx_parser.specs.nodes.Keeps.{KeepsOneTree}
+use Rattle.cfgx_parser.specs.nodes.KeepsTree.{KeepsOneTree}
 use Rattle.cfgx_grammar.specs.parsing.State.{initial}
 use Rattle.cfgx_parser.specs.parsing.Parser.{state_of, Ends, ReadsAll}
 use Rattle.cfgx_parser.specs.declared.parser.Parser.{Parser}

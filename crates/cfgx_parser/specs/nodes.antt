@@ -1,9 +1,9 @@
 -- A tree as the list of nodes in which a parser writes it. Internal: no public contract of
 -- `cfg_expr` names it.
-pub mod Keeps
+pub mod KeepsTree
 pub mod Located
 pub mod Node
 pub mod Prefix
 pub mod Shape
 pub mod Writer
-pub mod Writes
+pub mod WritesNodes

@@ -117,7 +117,7 @@ pub(crate) struct Fault {
 pub(crate) enum Halt {
     /// The parser has noted a fault
     Fault,
-    /// Memory was refused
+    /// It is out of memory
     Memory,
 }
 
@@ -234,7 +234,7 @@ impl<'a, A: SmallAllocator> Parser<'a, A> {
 
     /// A parser that has read nothing of a text of so many bytes.
     ///
-    /// The error is that `alloc` refused room for the nodes, which a text of 47 bytes has inline.
+    /// The error is that `alloc` refused memory for the nodes, which a text of 47 bytes has inline.
     pub(crate) fn new(alloc: A, len: usize) -> Result<Self, AllocError>
         ensures { IfOk result (λ parser. state_of parser ≡ initial) }
     {
@@ -458,7 +458,7 @@ impl<'a, A: SmallAllocator> Parser<'a, A> {
 
     /// Reads what the lexer gives, to the end of the text.
     ///
-    /// The error is the first fault of the text, or that memory was refused.
+    /// The error is the first fault of the text, or that the call is out of memory.
     pub(crate) fn read_all(&mut self, alloc: A, lexer: Lexer<'a, A>) -> Result<(), Failure<A>>
         requires { IsBounded (state_of self.old) }
         ensures { ReadsAll lexer.entry self.old self.new result }

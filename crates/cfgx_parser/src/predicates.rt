@@ -143,7 +143,7 @@ pub struct Predicates<'a> {
 impl<'a> Model for Predicates<'a> {
     ghost use Rattle.std.specs.Prelude.{List};
     ghost use Rattle.cfgx_grammar.specs.Question.{Question};
-    ghost use Rattle.cfgx_parser.specs.nodes.Keeps.{questions_at, NamePredicates};
+    ghost use Rattle.cfgx_parser.specs.nodes.KeepsTree.{questions_at, NamePredicates};
 
     ghost Value = { List Question };
 
@@ -153,7 +153,7 @@ impl<'a> Model for Predicates<'a> {
 }
 
 impl<'a> Predicates<'a> {
-    ghost use Rattle.cfgx_parser.specs.nodes.Keeps.{questions_at, NamePredicates};
+    ghost use Rattle.cfgx_parser.specs.nodes.KeepsTree.{questions_at, NamePredicates};
 
     /// The predicates of the nodes at the places, one after another as these come. The nodes are
     /// those of the text.

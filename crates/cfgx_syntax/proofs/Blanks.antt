@@ -73,8 +73,8 @@ module _ (text bytes rest : List ℕ) (n : ℕ) (len : n ≡ prefix_len is_blank
   blanks : n ≡ prefix_len is_blank text
   blanks = len ∙ ap (prefix_len is_blank) same
 
-  pub trim_behind : (trimmed : List ℕ) → IsTrimStart rest trimmed → IsTrimStart text trimmed
-  trim_behind trimmed left =
+  pub trim_after : (trimmed : List ℕ) → IsTrimStart rest trimmed → IsTrimStart text trimmed
+  trim_after trimmed left =
       let front : NoCharPasses is_not_whitespace (take n text) = rw blanks (front-blank text) in
       let whole = IsTrimStart-past (take n text) (drop n text) trimmed front
       (subst (λ l. IsTrimStart l trimmed) is left) in
@@ -86,7 +86,7 @@ module _ (text bytes rest : List ℕ) (n : ℕ) (len : n ≡ prefix_len is_blank
       let inside : prefix_len is_blank text < length text =
       omega (arith, some, ap length is, length-drop n text, blanks) in
       rw (is, blanks, get_or-drop, add-zero) (prefix_len_stops is_blank text 0 inside) in
-      trim_behind rest (IsTrimStart-ascii rest low stops)
+      trim_after rest (IsTrimStart-ascii rest low stops)
 
 -- an ASCII character that is printed is no white space
 pub trim_graphic : (text : List ℕ) → is_ascii_graphic (get_or text 0 0) ≡ true

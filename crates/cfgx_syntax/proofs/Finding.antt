@@ -21,7 +21,7 @@ use Rattle.cfgx_syntax.specs.Token.{HasNoQuote, IsWhole}
 use Rattle.cfgx_syntax.specs.Error.{Cause}
 use Rattle.cfgx_syntax.specs.Cut.{IsValueCut, CanBeCut}
 use Rattle.cfgx_syntax.proofs.Blanks.{IsTrimStart-here, IsTrimStart-past}
-use Rattle.cfgx_syntax.proofs.Scanning.{IsBehind, Stands-found, Ending-found, rest_is}
+use Rattle.cfgx_syntax.proofs.Scanning.{IsAfter, Stands-found, Ending-found, rest_is}
 use Rattle.cfgx_syntax.proofs.Scanning.{CanBeCut-found}
 use Rattle.cfgx_syntax.proofs.Values.{BeginsWith-value, HasNoQuote-from}
 use Rattle.cfgx_syntax.proofs.Words.{BeginsWith-byte, BeginsWith-word, word_front}
@@ -91,12 +91,12 @@ begins_quote more utf8 =
     let inside = before_first is_quote more in
     let none = HasNoQuote-before more in
     ⊎_elim (λ lt.
-    let behind = after_first is_quote more in
+    let beyond = after_first is_quote more in
     let closing : get_or more n 0 ≡ 34 = quote_is _ (passes_at_first is_quote more 0 lt) in
-    let split : more ≡ inside ++ (codes "\"" ++ behind) =
-    split_at_first is_quote more 0 lt ∙ ap (λ b. inside ++ (b ∷ behind)) closing in
+    let split : more ≡ inside ++ (codes "\"" ++ beyond) =
+    split_at_first is_quote more 0 lt ∙ ap (λ b. inside ++ (b ∷ beyond)) closing in
     Begins.token (Token.value inside) (length inside + 2)
-    (BeginsWith-value (34 ∷ more) inside behind utf8 none (ap (λ l. 34 ∷ l) split)))
+    (BeginsWith-value (34 ∷ more) inside beyond utf8 none (ap (λ l. 34 ∷ l) split)))
     (λ late. Begins.fault Cause.unclosed_quotes (length (34 ∷ more)) (inr (record {
       unclosed = (more, refl, subst HasNoQuote (take_all n more late) none);
       why = refl;
@@ -150,27 +150,27 @@ record Found (text : List ℕ) (from : ℕ) : Type 0 where
   pub cuts : AllByRecursion (λ i. CanBeCut text i.token i.start i.end) items
 
 -- the first item or the ending, if what follows an item is known
-found_behind : (text rest : List ℕ) (from : ℕ) → IsUtf8 rest → IsBehind text rest from
+found_after : (text rest : List ℕ) (from : ℕ) → IsUtf8 rest → IsAfter text rest from
     → ((place : ℕ) → from < place → place ≤ length text → IsUtf8 (drop place text)
     → Found text place)
     → 0 < length rest → Begins rest → Found text from
-found_behind text rest from utf8 behind next some (Begins.fault cause len wrong) =
-    let end = Ending-found text rest from behind cause len some wrong in
+found_after text rest from utf8 beyond next some (Begins.fault cause len wrong) =
+    let end = Ending-found text rest from beyond cause len some wrong in
     record { items = []; ending = end.0; are = end.1; cuts = tt }
-found_behind text rest from utf8 behind next some (Begins.token kind len front) =
+found_after text rest from utf8 beyond next some (Begins.token kind len front) =
     let s : ℕ = length text - length rest in
-    let stands = Stands-found text rest from behind kind len front in
+    let stands = Stands-found text rest from beyond kind len front in
     let past : drop len rest ≡ drop (s + len) text =
-    ap (drop len) (rest_is text rest from behind) ∙ drop-drop len s text in
-    let text_behind : IsUtf8 (drop (s + len) text) =
+    ap (drop len) (rest_is text rest from beyond) ∙ drop-drop len s text in
+    let text_after : IsUtf8 (drop (s + len) text) =
     subst IsUtf8 past (IsUtf8-drop rest len utf8 front.cut.spelling.at_end) in
-    let past_from : from < s + len = omega (arith, stands.behind, front.some) in
-    let more = next (s + len) past_from stands.inside text_behind in
+    let past_from : from < s + len = omega (arith, stands.comes_after, front.some) in
+    let more = next (s + len) past_from stands.inside text_after in
     record {
       items = record { token = kind; start = s; end = s + len } ∷ more.items;
       ending = more.ending;
       are = (stands, more.are);
-      cuts = (CanBeCut-found text rest from behind kind len front, more.cuts);
+      cuts = (CanBeCut-found text rest from beyond kind len front, more.cuts);
     }
 
 found : (fuel : ℕ) (text : List ℕ) (from : ℕ) → length text < from + fuel → from ≤ length text
@@ -179,11 +179,11 @@ found zero text from enough within utf8 = absurd (omega arith)
 found (suc fuel) text from enough within utf8 =
     let left = trimmed (drop from text) utf8 in
     let rest = left.0 in
-    let behind : IsBehind text rest from = record { inside = within; trimmed = left.1 } in
+    let beyond : IsAfter text rest from = record { inside = within; trimmed = left.1 } in
     let next = λ (place : ℕ) (lt : from < place).
     found fuel text place (omega (arith, lt, enough)) in
     ⊎_elim
-    (λ some. found_behind text rest from left.2 behind next some (begins rest left.2 some))
+    (λ some. found_after text rest from left.2 beyond next some (begins rest left.2 some))
     (λ none.
     let gap = left.1.0 in
     let all : take gap (drop from text) ≡ drop from text =

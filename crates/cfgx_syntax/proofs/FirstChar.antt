@@ -11,7 +11,7 @@ use Rattle.cfgx_syntax.specs.Items.{IsBlank}
 
 -- white space alone lies between `from` and the place, and a character that is none stands there
 pub record IsFirst (text : List ℕ) (from place c : ℕ) : Type 0 where
-  pub behind : from ≤ place
+  pub comes_after : from ≤ place
   pub gap : IsBlank (slice_range text from place)
   pub more : List ℕ
   pub stands : drop place text ≡ encode_utf8 c ++ more
@@ -24,42 +24,42 @@ char_some c more =
     omega (arith, length-append (encode_utf8 c) more, length-encode c, bounds.0)
 
 -- after white space, the first character that is none, and what follows it, are determined
-same_behind : (ws vs : List ℕ) (c d : ℕ) (r t : List ℕ) → NonePass is_not_whitespace ws
+same_after : (ws vs : List ℕ) (c d : ℕ) (r t : List ℕ) → NonePass is_not_whitespace ws
     → NonePass is_not_whitespace vs → is_not_whitespace c ≡ true → is_not_whitespace d ≡ true
     → encode_utf8_all ws ++ (encode_utf8 c ++ r) ≡ encode_utf8_all vs ++ (encode_utf8 d ++ t)
     → (c ≡ d) × (r ≡ t)
-same_behind [] [] c d r t white light seen shown e = encode_same c d r t e
-same_behind [] (v ∷ vs) c d r t white light seen shown e =
+same_after [] [] c d r t white light seen shown e = encode_same c d r t e
+same_after [] (v ∷ vs) c d r t white light seen shown e =
     let same = encode_same c v _ _ (simp append_assoc at e) in
     absurd (both_ways _ light.0 (rw same.0 at seen))
-same_behind (w ∷ ws) [] c d r t white light seen shown e =
+same_after (w ∷ ws) [] c d r t white light seen shown e =
     let same = encode_same w d _ _ (simp append_assoc at e) in
     absurd (both_ways _ white.0 (rw (← same.0) at shown))
-same_behind (w ∷ ws) (v ∷ vs) c d r t white light seen shown e =
+same_after (w ∷ ws) (v ∷ vs) c d r t white light seen shown e =
     let same = encode_same w v _ _ (simp append_assoc at e) in
-    same_behind ws vs c d r t white.1 light.1 seen shown same.1
+    same_after ws vs c d r t white.1 light.1 seen shown same.1
 
 -- white space alone does not go on with such a character
-none_behind : (ws cs : List ℕ) (c : ℕ) (r : List ℕ) → NonePass is_not_whitespace ws
+none_after : (ws cs : List ℕ) (c : ℕ) (r : List ℕ) → NonePass is_not_whitespace ws
     → NonePass is_not_whitespace cs → is_not_whitespace c ≡ true
     → encode_utf8_all ws ++ (encode_utf8 c ++ r) ≡ encode_utf8_all cs → ⊥
-none_behind [] cs c r white light seen e =
+none_after [] cs c r white light seen e =
     let same = cons_from_encodes cs r c (sym e) in both_ways _ (rw same.1 at light).0 seen
-none_behind (w ∷ ws) cs c r white light seen e =
+none_after (w ∷ ws) cs c r white light seen e =
     let same = cons_from_encodes cs _ w (sym (rw append_assoc at e)) in
-    none_behind ws same.0 c r white.1 (rw same.1 at light).1 seen (sym same.2)
+    none_after ws same.0 c r white.1 (rw same.1 at light).1 seen (sym same.2)
 
 -- what follows `from`: the white space, and the character
 from_first : (text : List ℕ) (from place c : ℕ) (first : IsFirst text from place c)
     → encode_utf8_all first.gap.0 ++ (encode_utf8 c ++ first.more) ≡ drop from text
 from_first text from place c first =
-    rw (first.gap.1, ← first.stands) (sym (drop_split text from place first.behind))
+    rw (first.gap.1, ← first.stands) (sym (drop_split text from place first.comes_after))
 
 pub IsFirst-same : (text : List ℕ) (from p q c d : ℕ) → IsFirst text from p c
     → IsFirst text from q d → (p ≡ q) × (c ≡ d)
 IsFirst-same text from p q c d one other =
     let both = from_first text from p c one ∙ sym (from_first text from q d other) in
-    let same = same_behind one.gap.0 other.gap.0 c d one.more other.more
+    let same = same_after one.gap.0 other.gap.0 c d one.more other.more
     one.gap.2 other.gap.2 one.visible other.visible both in
     let rests : drop p text ≡ drop q text = cc in
     let some : 0 < length (drop p text) = rw one.stands (char_some c one.more) in
@@ -68,5 +68,5 @@ IsFirst-same text from p q c d one other =
 pub IsFirst-not_blank : (text : List ℕ) (from p c : ℕ) → IsFirst text from p c
     → IsBlank (drop from text) → ⊥
 IsFirst-not_blank text from p c first blank =
-    none_behind first.gap.0 blank.0 c first.more first.gap.2 blank.2 first.visible
+    none_after first.gap.0 blank.0 c first.more first.gap.2 blank.2 first.visible
     (from_first text from p c first ∙ sym blank.1)

@@ -23,36 +23,36 @@ pub starts_token-ascii : (c : ℕ) → starts_token c ≡ true → c < 128
 starts_token-ascii c h = grind (arith, nat_tests, common_steps)
 
 -- `rest` is what follows the white space after the place in the text
-pub record IsBehind (text rest : List ℕ) (place : ℕ) : Type 0 where
+pub record IsAfter (text rest : List ℕ) (place : ℕ) : Type 0 where
   pub inside : place ≤ length text
   pub trimmed : IsTrimStart (drop place text) rest
 
-pub IsBehind-trimmed : (text inner rest : List ℕ) → inner ≡ drop (length text - length inner) text
-    → IsTrimStart inner rest → IsBehind text rest (length text - length inner)
-IsBehind-trimmed text inner rest follows trimmed =
+pub IsAfter-trimmed : (text inner rest : List ℕ) → inner ≡ drop (length text - length inner) text
+    → IsTrimStart inner rest → IsAfter text rest (length text - length inner)
+IsAfter-trimmed text inner rest follows trimmed =
     record { inside = omega arith; trimmed = subst (λ l. IsTrimStart l rest) follows trimmed }
 
-module _ (text rest : List ℕ) (place : ℕ) (behind : IsBehind text rest place) where
+module _ (text rest : List ℕ) (place : ℕ) (beyond : IsAfter text rest place) where
   -- where the rest starts
   abbrev start : ℕ
   start = length text - length rest
 
-  start_is : start ≡ min (place + behind.trimmed.0) (length text)
+  start_is : start ≡ min (place + beyond.trimmed.0) (length text)
   start_is =
-      let long = ap length behind.trimmed.1 ∙ length-drop behind.trimmed.0 (drop place text) in
-      omega (arith, length-drop place text, behind.inside)
+      let long = ap length beyond.trimmed.1 ∙ length-drop beyond.trimmed.0 (drop place text) in
+      omega (arith, length-drop place text, beyond.inside)
 
   place_le_start : place ≤ start
-  place_le_start = omega (arith, start_is, behind.inside)
+  place_le_start = omega (arith, start_is, beyond.inside)
 
   pub rest_is : rest ≡ drop start text
-  rest_is = rw (start_is, drop_min, ← drop-drop) behind.trimmed.1
+  rest_is = rw (start_is, drop_min, ← drop-drop) beyond.trimmed.1
 
   gap_is_blank : IsBlank (slice_range text place start)
   gap_is_blank =
-      let wide : start - place ≡ min behind.trimmed.0 (length (drop place text)) =
-      omega (arith, start_is, length-drop place text, behind.inside) in
-      rw (wide, take_min) behind.trimmed.2
+      let wide : start - place ≡ min beyond.trimmed.0 (length (drop place text)) =
+      omega (arith, start_is, length-drop place text, beyond.inside) in
+      rw (wide, take_min) beyond.trimmed.2
 
   pub Stands-found : (token : Token) (len : ℕ) → BeginsWith rest token len
       → Stands text place (record { token = token; start = start; end = start + len })
@@ -75,10 +75,10 @@ module _ (text rest : List ℕ) (place : ℕ) (behind : IsBehind text rest place
   IsStuck-found : 0 < length rest → starts_token (get_or rest 0 0) ≡ false
       → IsStuck text place start
   IsStuck-found some none =
-      let first = behind.trimmed.3.1 some in
+      let first = beyond.trimmed.3.1 some in
       let other : starts_token first.0 ≡ false =
       false_from_ne_true (starts_token first.0) (λ t.
-      let same = byte_from_char rest behind.trimmed.3.0 first.0 first.2 (starts_token-ascii _ t) in
+      let same = byte_from_char rest beyond.trimmed.3.0 first.0 first.2 (starts_token-ascii _ t) in
       both_ways _ (rw same at none) t) in
       let stuck : StartsNoToken rest = search rules in
       let there = subst StartsNoToken rest_is stuck in

@@ -14,4 +14,4 @@ items-bytes text from (item ∷ items) ending inside are =
     let some = Spells-some bytes item.token are.0.spelled in
     let few = length-take (item.end - item.start) (drop item.start text) in
     let others = items-bytes text item.end items ending are.0.inside are.1 in
-    omega (arith, some, few, others, are.0.behind)
+    omega (arith, some, few, others, are.0.comes_after)

@@ -48,7 +48,7 @@ first_char (c ∷ more) starts = rw (encode_ascii c (starts_token-ascii c starts
 first_of : (text : List ℕ) (from place : ℕ) → from ≤ place → IsBlank (slice_range text from place)
     → starts_token (get_or (drop place text) 0 0) ≡ true
     → IsFirst text from place (get_or (drop place text) 0 0)
-first_of text from place behind gap starts =
+first_of text from place beyond gap starts =
     search (rules, first_char, starts_token-visible)
 
 next_of : (text : List ℕ) (from : ℕ) (next : Item ⊎ Ending) → Comes text from next
@@ -63,7 +63,8 @@ next_of text from (inl item) at =
     let long : token_len rest ≡ len =
     token_len_is rest item.token len at.spelled inside (rw (drop-drop, end) at.whole) in
     let fits = le-ltb (length rest) (token_len rest) (rw long inside) in
-    Next.begins item.start (get_or rest 0 0) (first_of text from item.start at.behind at.gap starts)
+    Next.begins item.start (get_or rest 0 0)
+    (first_of text from item.start at.comes_after at.gap starts)
     (rw (starts, fits, long, end, token_by_is (take len rest) item.token at.spelled) refl)
 next_of text from (inr Ending.blank) blank = Next.ends blank refl
 next_of text from (inr (Ending.no_token place)) at =
@@ -71,7 +72,7 @@ next_of text from (inr (Ending.no_token place)) at =
 next_of text from (inr (Ending.unclosed_quotes place)) at =
     let rest = drop place text in
     let starts : starts_token (get_or rest 0 0) ≡ true = rw at.unclosed.1 refl in
-    Next.begins place (get_or rest 0 0) (first_of text from place at.behind at.gap starts)
+    Next.begins place (get_or rest 0 0) (first_of text from place at.comes_after at.gap starts)
     (rw (starts, lt-ltb _ _ (unclosed_len rest at.unclosed)) refl)
 
 same_next : (text : List ℕ) (from : ℕ) (one other : Item ⊎ Ending) → Next text from one

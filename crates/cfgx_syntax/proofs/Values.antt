@@ -35,27 +35,27 @@ value_inside text inside start end within is =
     omega (arith, within, ap length is, length-take (end - start) rest, length-drop start text) in
     let long : end - 1 - (start + 1) ≡ n = omega (arith, len) in
     let whole : take (1 + (n + 1)) rest ≡ in_quotes inside = rw (← len) is in
-    let behind : take (n + 1) (drop 1 rest) ≡ inside ++ codes "\"" =
+    let beyond : take (n + 1) (drop 1 rest) ≡ inside ++ codes "\"" =
     sym (drop-take 1 (n + 1) rest) ∙ ap (drop 1) whole in
-    rw (long, ← drop-drop 1 start text, ← take-take n (n + 1) (drop 1 rest) (omega arith), behind)
+    rw (long, ← drop-drop 1 start text, ← take-take n (n + 1) (drop 1 rest) (omega arith), beyond)
     (take_at inside (codes "\"") n refl)
 
 -- a text begins with the value that stands between its first byte, a quote, and the next quote
-pub BeginsWith-value : (text inside behind : List ℕ) → IsUtf8 text → HasNoQuote inside
-    → text ≡ codes "\"" ++ (inside ++ (codes "\"" ++ behind))
+pub BeginsWith-value : (text inside beyond : List ℕ) → IsUtf8 text → HasNoQuote inside
+    → text ≡ codes "\"" ++ (inside ++ (codes "\"" ++ beyond))
     → BeginsWith text (Token.value inside) (length inside + 2)
-BeginsWith-value text inside behind utf8 none is =
+BeginsWith-value text inside beyond utf8 none is =
     let quoted : List ℕ = in_quotes inside in
     let n = length inside in
-    let whole : text ≡ quoted ++ behind = rw (append_assoc inside (codes "\"") behind) is in
+    let whole : text ≡ quoted ++ beyond = rw (append_assoc inside (codes "\"") beyond) is in
     let wide : length quoted ≡ n + 2 = omega (arith, length-append inside (codes "\"")) in
     let long : n + 2 ≤ length text =
-    omega (arith, ap length whole, length-append quoted behind, wide) in
+    omega (arith, ap length whole, length-append quoted beyond, wide) in
     let opening : get_or text 0 0 ≡ 34 = ap (λ l. get_or l 0 0) is in
     let closing : get_or text (n + 1) 0 ≡ 34 =
-    rw is (get_or_at (34 ∷ inside) 34 behind 0 (n + 1) (omega arith)) in
+    rw is (get_or_at (34 ∷ inside) 34 beyond 0 (n + 1) (omega arith)) in
     let opens = IsCharBoundary-after_ascii text 0 utf8 (omega arith) (omega arith) in
-    let closes = IsCharBoundary-before_ascii text (n + 1) (omega arith) (omega arith) in
+    let before_end = IsCharBoundary-before_ascii text (n + 1) (omega arith) (omega arith) in
     let ends = IsCharBoundary-after_ascii text (n + 1) utf8 (omega arith) (omega arith) in
-    let spelled : take (n + 2) text ≡ quoted = rw whole (take_at quoted behind (n + 2) wide) in
+    let spelled : take (n + 2) text ≡ quoted = rw whole (take_at quoted beyond (n + 2) wide) in
     search (rules, IsCut-front)

@@ -29,11 +29,11 @@ passing_front p (x ∷ xs) =
     cond_both (p x) (1 + prefix_len p xs) 0 (λ n. list_all p (take n (x ∷ xs)) ≡ true)
     (λ passes. rw (one-add, passes) (passing_front p xs)) (λ _. refl)
 
-EndsWord-behind : (xs : List ℕ) → EndsWord (drop (prefix_len continues_word xs) xs)
-EndsWord-behind [] = refl
-EndsWord-behind (x ∷ xs) =
+EndsWord-after : (xs : List ℕ) → EndsWord (drop (prefix_len continues_word xs) xs)
+EndsWord-after [] = refl
+EndsWord-after (x ∷ xs) =
     cond_both (continues_word x) (1 + prefix_len continues_word xs) 0
-    (λ n. EndsWord (drop n (x ∷ xs))) (λ _. rw one-add (EndsWord-behind xs)) (λ stops. stops)
+    (λ n. EndsWord (drop n (x ∷ xs))) (λ _. rw one-add (EndsWord-after xs)) (λ stops. stops)
 
 -- the word in front of a text that starts with one: its first byte, and those that continue it
 pub word_front : (text : List ℕ) → starts_word (get_or text 0 0) ≡ true
@@ -45,9 +45,9 @@ word_front (byte ∷ rest) starts =
     ((starts, passing_front continues_word rest), omega arith)
 
 -- after bytes that pass a test which only ASCII passes
-pub IsCharBoundary-behind : (p : ℕ → Bool) → ((c : ℕ) → p c ≡ true → c < 128) → (text : List ℕ)
+pub IsCharBoundary-after : (p : ℕ → Bool) → ((c : ℕ) → p c ≡ true → c < 128) → (text : List ℕ)
     → IsUtf8 text → IsCharBoundary text (prefix_len p text)
-IsCharBoundary-behind p low text utf8 = by (prefix_len p text) refl where
+IsCharBoundary-after p low text utf8 = by (prefix_len p text) refl where
   by : (n : ℕ) → n ≡ prefix_len p text → IsCharBoundary text n
   by zero is = IsCharBoundary-start text utf8
   by (suc n) is =
@@ -65,7 +65,7 @@ IsWhole-word rest _ ends = refl
 -- the front of a text up to a place where it can be cut
 pub IsCut-front : (text : List ℕ) (len : ℕ) → IsUtf8 text → len ≤ length text
     → IsCharBoundary text len → IsCut text 0 len
-IsCut-front text len utf8 inside closes = search (rules, IsCharBoundary-start)
+IsCut-front text len utf8 inside cut = search (rules, IsCharBoundary-start)
 
 -- a text, whose bytes these are, begins with a token of one byte
 pub BeginsWith-byte : (text bytes : List ℕ) (token : Token) (byte : ℕ) → IsUtf8 text
@@ -76,7 +76,7 @@ BeginsWith-byte [] bytes token byte utf8 some same is low spelled whole value =
     absurd (omega arith)
 BeginsWith-byte (first ∷ rest) bytes token byte utf8 some same is low spelled whole value =
     let at : first ≡ byte = rw same at is in
-    let closes = IsCharBoundary-after_ascii (first ∷ rest) 0 utf8 some (omega arith) in
+    let cut = IsCharBoundary-after_ascii (first ∷ rest) 0 utf8 some (omega arith) in
     let here : Spells (first ∷ []) token = rw at spelled in
     search (rules, IsCut-front)
 
@@ -95,9 +95,9 @@ pub BeginsWith-word : (text : List ℕ) (token : Token) → IsUtf8 text
 BeginsWith-word text token utf8 starts spelled =
     let n = prefix_len continues_word text in
     let inside = prefix_len-le-length continues_word text in
-    let closes = IsCharBoundary-behind continues_word continues_word-ascii text utf8 in
+    let cut = IsCharBoundary-after continues_word continues_word-ascii text utf8 in
     let word = word_front text starts in
-    let whole = IsWhole-word (drop n text) token (EndsWord-behind text) in
+    let whole = IsWhole-word (drop n text) token (EndsWord-after text) in
     let value = IsValueCut-word text (take n text) token 0 n word.0 spelled in
     search (rules, IsCut-front)
 

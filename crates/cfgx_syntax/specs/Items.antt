@@ -35,7 +35,7 @@ OpensNoValue rest = (more : List ℕ) × (rest ≡ codes "\"" ++ more) × HasNoQ
 
 -- the item stands in the text, with white space alone between `from` and it
 pub record Stands (text : List ℕ) (from : ℕ) (item : Item) : Type 0 where
-  pub behind : from ≤ item.start
+  pub comes_after : from ≤ item.start
   pub gap : IsBlank (slice_range text from item.start)
   pub spelled : Spells (slice_range text item.start item.end) item.token
   pub ordered : item.start ≤ item.end
@@ -51,13 +51,13 @@ pub data Ending : Type 0 where
 
 -- no token can start at the place, and white space alone lies between `from` and it
 pub record IsStuck (text : List ℕ) (from : ℕ) (place : ℕ) : Type 0 where
-  pub behind : from ≤ place
+  pub comes_after : from ≤ place
   pub gap : IsBlank (slice_range text from place)
   pub stuck : StartsNoToken (drop place text)
 
 -- a quote at the place is never closed, and white space alone lies between `from` and it
 pub record IsUnclosed (text : List ℕ) (from : ℕ) (place : ℕ) : Type 0 where
-  pub behind : from ≤ place
+  pub comes_after : from ≤ place
   pub gap : IsBlank (slice_range text from place)
   pub unclosed : OpensNoValue (drop place text)
 

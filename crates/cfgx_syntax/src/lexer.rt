@@ -74,7 +74,7 @@ fn blank_len(bytes: &[u8]) -> usize
 
 /// The text without the white space in front of it, where ASCII white space stands in most cases.
 #[tactic(auto, using(crate::proofs::Blanks::trim_blanks))]
-fn behind_blanks(text: &str) -> &str
+fn after_blanks(text: &str) -> &str
     ensures { IsTrimStart text.now result.now }
 {
     let rest = &text[blank_len(text.as_bytes())..];
@@ -93,7 +93,7 @@ fn trimmed(text: &str) -> &str
     match text.as_bytes().first() {
         // Mostly there is none: then the first byte tells so.
         Some(first) if first.is_ascii_graphic() => text,
-        _ => behind_blanks(text),
+        _ => after_blanks(text),
     }
 }
 
@@ -243,8 +243,8 @@ impl<'a, A: Allocator> Lexer<'a, A> {
     }
 }
 
-/// Each item is the next token. The error is the lexical fault that the text ends with, or that
-/// memory was refused for its copy of the text.
+/// Each item is the next token. The error is the lexical fault that the text ends with, or that the
+/// lexer is out of memory for its copy of the text.
 impl<'a, A: Allocator> Iterator for Lexer<'a, A> {
     type Item = Result<LexerToken<'a>, Failure<A>>;
 

@@ -43,7 +43,7 @@ module _ {A : Type 0} (rows : List (TargetInfo A)) where
   order one other = slice_cmp nat_cmp one.triple other.triple
 
   -- a row and the one before it
-  module _ (place : ℕ) (before row : TargetInfo A) (behind : 0 < place)
+  module _ (place : ℕ) (before row : TargetInfo A) (beyond : 0 < place)
       (inside : place < length rows) (rising : AllAdjacentBelow IsBelow rows place)
       (is_before : before ≡ get_or rows (place - 1) before) (is_row : row ≡ get_or rows place row)
     where

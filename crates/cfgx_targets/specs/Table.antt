@@ -18,7 +18,7 @@ AreIncreasing rows = AllAdjacentBelow IsBelow rows (length rows)
 
 -- the first row whose triple is not above that of the row before it stands at the place
 pub record IsFirstNotAbove {A : Type 0} (rows : List (TargetInfo A)) (place : ℕ) : Type 0 where
-  pub behind_first : 0 < place
+  pub not_first : 0 < place
   pub inside : place < length rows
   pub rising : AllAdjacentBelow IsBelow rows place
   pub not_above : (d : TargetInfo A)

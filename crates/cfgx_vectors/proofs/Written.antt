@@ -49,16 +49,16 @@ pub cut-in_parens : (one other first second third fourth fifth : List ℕ) (sign
     → fourth ≡ cut (third ++ other) → fifth ≡ cut (fourth ++ codes ")")
     → fifth ≡ in_parens sign one other
 cut-in_parens one other first second third fourth fifth sign a b c d e =
-    let opened = codes "(" ++ one in
-    let signed = opened ++ sign ∷ [] in
+    let front = codes "(" ++ one in
+    let signed = front ++ sign ∷ [] in
     let both = signed ++ other in
-    let second_is : second ≡ cut opened =
+    let second_is : second ≡ cut front =
     b ∙ ap (λ l. cut (l ++ one)) a ∙ cut-front (codes "(") one in
     let third_is : third ≡ cut signed =
-    c ∙ ap (λ l. cut (l ++ sign ∷ [])) second_is ∙ cut-front opened (sign ∷ []) in
+    c ∙ ap (λ l. cut (l ++ sign ∷ [])) second_is ∙ cut-front front (sign ∷ []) in
     let fourth_is : fourth ≡ cut both =
     d ∙ ap (λ l. cut (l ++ other)) third_is ∙ cut-front signed other in
     let regrouped : both ++ codes ")" ≡ codes "(" ++ (one ++ (sign ∷ (other ++ codes ")"))) =
-    append_assoc signed other (codes ")") ∙ append_assoc opened (sign ∷ []) (other ++ codes ")")
+    append_assoc signed other (codes ")") ∙ append_assoc front (sign ∷ []) (other ++ codes ")")
     ∙ append_assoc (codes "(") one (sign ∷ (other ++ codes ")")) in
     e ∙ ap (λ l. cut (l ++ codes ")")) fourth_is ∙ cut-front both (codes ")") ∙ ap cut regrouped

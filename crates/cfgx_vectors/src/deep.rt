@@ -179,7 +179,7 @@ fn prints(alloc: Global, text: &str, start: usize, wanted: &str) -> Result<bool,
 }
 
 #[test]
-fn prints_a_fault_far_behind_the_start(rt: HostRuntime) -> Result<(), Fail> {
+fn prints_a_fault_far_from_the_start(rt: HostRuntime) -> Result<(), Fail> {
     assert!(rt; prints_its_spaces(rt.alloc())?);
     Ok(())
 }

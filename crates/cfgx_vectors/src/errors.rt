@@ -1,5 +1,6 @@
 //! Printed texts, written out by hand from the rules of the format.
 
+use crate::faults::NO_TOKEN;
 use crate::holding::{gives, holds};
 use cfg_expr::error::{Failure, ParseError, Reason};
 use std::alloc::{AllocError, Global};
@@ -63,7 +64,7 @@ const REASONS: &[(Reason, &str, &str)] = &[
         "unexpected term",
     ),
     (
-        Reason::Unexpected(&["<key>", "all", "any", "not"]),
+        NO_TOKEN,
         "expected one of `<key>`, `all`, `any`, `not` here",
         "unexpected term",
     ),

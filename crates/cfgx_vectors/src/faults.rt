@@ -20,19 +20,19 @@ pub(crate) const NO_TOKEN: Reason = Reason::Unexpected(&["<key>", "all", "any", 
 
 const IN_PARENS: Reason = Reason::Unexpected(&["<key>", ")", "all", "any", "not"]);
 
-const BEHIND_KEY: Reason = Reason::Unexpected(&["=", ",", ")"]);
+const AFTER_KEY: Reason = Reason::Unexpected(&["=", ",", ")"]);
 
-const BEHIND_VALUE: Reason = Reason::Unexpected(&[",", ")"]);
+const AFTER_VALUE: Reason = Reason::Unexpected(&[",", ")"]);
 
-const BEHIND_EQUALS: Reason = Reason::Unexpected(&["\""]);
+const AFTER_EQUALS: Reason = Reason::Unexpected(&["\""]);
 
 pub(crate) const NO_VALUE: Reason = Reason::Unexpected(&["\"<value>\""]);
 
-const BEHIND_NAME: Reason = Reason::Unexpected(&["("]);
+const AFTER_NAME: Reason = Reason::Unexpected(&["("]);
 
-const BEHIND_LIST: Reason = Reason::Unexpected(&[")", ","]);
+const AFTER_LIST: Reason = Reason::Unexpected(&[")", ","]);
 
-const BEHIND_COMMA: Reason = Reason::Unexpected(&[")", "<key>"]);
+const AFTER_COMMA: Reason = Reason::Unexpected(&[")", "<key>"]);
 
 pub(crate) const NOTHING: Reason = Reason::Unexpected(&[]);
 
@@ -112,30 +112,30 @@ const LEXICAL: &[Row] = &[
 
 const NEIGHBOURS: &[Row] = &[
     ("\"x\"", 0, 3, NO_TOKEN),
-    ("cfg(key) ", 3, 4, BEHIND_KEY),
+    ("cfg(key) ", 3, 4, AFTER_KEY),
     ("any(,)", 4, 5, IN_PARENS),
     ("any(\"x\")", 4, 7, IN_PARENS),
-    ("all key", 4, 7, BEHIND_NAME),
-    ("not not", 4, 7, BEHIND_NAME),
-    ("all,", 3, 4, BEHIND_NAME),
-    ("all = \"x\"", 4, 5, BEHIND_NAME),
-    ("nope()", 4, 5, BEHIND_KEY),
-    ("all(nope())", 8, 9, BEHIND_KEY),
-    ("all(a b)", 6, 7, BEHIND_KEY),
-    ("key \"abc\"", 4, 9, BEHIND_KEY),
-    ("key = =", 6, 7, BEHIND_EQUALS),
-    ("key = )", 6, 7, BEHIND_EQUALS),
-    ("all(key = a)", 10, 11, BEHIND_EQUALS),
-    ("key = \"é\" =", 11, 12, BEHIND_VALUE),
-    ("key = \"a\" b", 10, 11, BEHIND_VALUE),
-    ("key = \"value, key = \"value\"", 21, 26, BEHIND_VALUE),
-    ("all(key = \"value), key = \"value\"", 26, 31, BEHIND_VALUE),
-    ("all(target_os = \"a\" \"b\")", 20, 23, BEHIND_VALUE),
-    ("all() key", 6, 9, BEHIND_LIST),
-    ("all()(", 5, 6, BEHIND_LIST),
-    ("a,(", 2, 3, BEHIND_COMMA),
-    ("a, = \"x\"", 3, 4, BEHIND_COMMA),
-    ("a, \"x\"", 3, 6, BEHIND_COMMA),
+    ("all key", 4, 7, AFTER_NAME),
+    ("not not", 4, 7, AFTER_NAME),
+    ("all,", 3, 4, AFTER_NAME),
+    ("all = \"x\"", 4, 5, AFTER_NAME),
+    ("nope()", 4, 5, AFTER_KEY),
+    ("all(nope())", 8, 9, AFTER_KEY),
+    ("all(a b)", 6, 7, AFTER_KEY),
+    ("key \"abc\"", 4, 9, AFTER_KEY),
+    ("key = =", 6, 7, AFTER_EQUALS),
+    ("key = )", 6, 7, AFTER_EQUALS),
+    ("all(key = a)", 10, 11, AFTER_EQUALS),
+    ("key = \"é\" =", 11, 12, AFTER_VALUE),
+    ("key = \"a\" b", 10, 11, AFTER_VALUE),
+    ("key = \"value, key = \"value\"", 21, 26, AFTER_VALUE),
+    ("all(key = \"value), key = \"value\"", 26, 31, AFTER_VALUE),
+    ("all(target_os = \"a\" \"b\")", 20, 23, AFTER_VALUE),
+    ("all() key", 6, 9, AFTER_LIST),
+    ("all()(", 5, 6, AFTER_LIST),
+    ("a,(", 2, 3, AFTER_COMMA),
+    ("a, = \"x\"", 3, 4, AFTER_COMMA),
+    ("a, \"x\"", 3, 6, AFTER_COMMA),
     ("all((", 4, 5, IN_PARENS),
 ];
 
@@ -157,11 +157,11 @@ const LISTS: &[Row] = &[
     ("not(a, feature)", 0, 15, Reason::InvalidNot(2)),
     ("not(not(), feature)", 4, 9, Reason::InvalidNot(0)),
     ("not(all(), any(a), b)", 0, 21, Reason::InvalidNot(3)),
-    ("not", 0, 3, BEHIND_NAME),
-    ("not ", 0, 3, BEHIND_NAME),
-    ("all(any", 4, 7, BEHIND_NAME),
-    ("all(any ", 4, 7, BEHIND_NAME),
-    ("a, any\u{3000}\n", 3, 6, BEHIND_NAME),
+    ("not", 0, 3, AFTER_NAME),
+    ("not ", 0, 3, AFTER_NAME),
+    ("all(any", 4, 7, AFTER_NAME),
+    ("all(any ", 4, 7, AFTER_NAME),
+    ("a, any\u{3000}\n", 3, 6, AFTER_NAME),
     ("all(feature", 3, 11, Reason::UnclosedParens),
     ("not(key", 3, 7, Reason::UnclosedParens),
     ("all(any(a)", 3, 10, Reason::UnclosedParens),
@@ -193,10 +193,10 @@ const ENDS: &[Row] = &[
     ("false, true", 0, 11, Reason::MultipleRootPredicates),
     ("not(true, false)", 0, 16, Reason::InvalidNot(2)),
     ("true)", 4, 5, Reason::UnopenedParens),
-    ("true false", 5, 10, BEHIND_KEY),
+    ("true false", 5, 10, AFTER_KEY),
     ("all(true", 3, 8, Reason::UnclosedParens),
     ("true =", 6, 6, NO_VALUE),
-    ("true()", 4, 5, BEHIND_KEY),
+    ("true()", 4, 5, AFTER_KEY),
     ("a, b, c", 0, 7, Reason::MultipleRootPredicates),
 ];
 
@@ -305,8 +305,8 @@ fn no_number_is_no_width(rt: HostRuntime) {
 const STRIPPED: &[(&str, &str, usize, usize, Reason)] = &[
     ("cfg()", "", 0, 0, Reason::Empty),
     ("cfg( )", " ", 0, 1, Reason::Empty),
-    ("cfg(a b)", "a b", 2, 3, BEHIND_KEY),
-    ("cfg(cfg(a))", "cfg(a)", 3, 4, BEHIND_KEY),
+    ("cfg(a b)", "a b", 2, 3, AFTER_KEY),
+    ("cfg(cfg(a))", "cfg(a)", 3, 4, AFTER_KEY),
     ("cfg(not(a, b))", "not(a, b)", 0, 9, Reason::InvalidNot(2)),
     ("cfg(unix = \"x\")", "unix = \"x\"", 8, 9, NOTHING),
 ];

@@ -45,7 +45,7 @@ fn value_over(
 
 /// What to do over the answers, one for each predicate.
 ///
-/// The error is that `alloc` refused room.
+/// The error is that `alloc` refused memory.
 pub fn plan(
     alloc: Global,
     expression: &Expression,

@@ -51,9 +51,9 @@ impl io::Read for Pieces<'_> {
             return Err(io::Error::from(ErrorKind::Interrupted));
         }
         let count = buffer.len().min(self.each.max(1)).min(self.left.len());
-        let (front, behind) = self.left.split_at(count);
+        let (front, beyond) = self.left.split_at(count);
         buffer[..count].copy_from_slice(front);
-        self.left = behind;
+        self.left = beyond;
         Ok(count)
     }
 }
@@ -222,7 +222,7 @@ fn an_input_has_at_most_sixteen_mebibytes(rt: HostRuntime) {
 enum Seen {
     /// It answers the bytes, and no growth was refused.
     Plain,
-    /// It answers that memory was refused, with no failed call. What was read stays read: reading
+    /// It answers that it is out of memory, with no failed call. What was read stays read: reading
     /// again gives what follows it.
     OutOfMemory,
     Other,

@@ -32,13 +32,13 @@ fn meant(c: char) -> char {
 // The text that a field of a row stands for.
 fn unescaped(alloc: Global, field: &str) -> Result<String, AllocError> {
     let mut text = String::new(alloc);
-    let mut is_behind_backslash = false;
+    let mut is_after_backslash = false;
     for c in field.chars() {
-        if is_behind_backslash {
+        if is_after_backslash {
             text.push(meant(c))?;
-            is_behind_backslash = false;
+            is_after_backslash = false;
         } else if c == '\\' {
-            is_behind_backslash = true;
+            is_after_backslash = true;
         } else {
             text.push(c)?;
         }

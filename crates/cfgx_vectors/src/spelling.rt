@@ -143,7 +143,7 @@ fn a_flag_that_is_read_as_a_literal(rt: HostRuntime) {
 }
 
 // Whether a beginning of the spelling was written, this many bytes, if no more have room.
-fn stops_behind(alloc: Global, text: &str, spelled: &str, room: usize) -> Result<bool, Failure> {
+fn stops_after(alloc: Global, text: &str, spelled: &str, room: usize) -> Result<bool, Failure> {
     let mut writer = Slow::new(alloc, 4);
     writer.room = room;
     let error = spell_each(alloc, text, &mut writer)?;
@@ -158,7 +158,7 @@ fn stops_where_the_writer_takes_nothing(rt: HostRuntime) {
     for (text, spelled) in ROWS {
         for room in 0..spelled.len() {
             assert!(rt;
-                holds(stops_behind(rt.alloc(), text, spelled, room)),
+                holds(stops_after(rt.alloc(), text, spelled, room)),
                 "{text} at {room}"
             );
         }

@@ -483,7 +483,7 @@ fn no_answers<T: Logic, A: Allocator>(
 
 /// What `Expression::eval` answers.
 ///
-/// The error is that `alloc` refused room for the answers.
+/// The error is that `alloc` refused memory for the answers.
 pub(crate) fn value_of<EP, T, A>(alloc: A, parsed: &Parsed<A>, ep: &mut EP) -> Result<T, AllocError>
 where
     EP: FnMut(&Predicate<'_>) -> T,
@@ -504,7 +504,7 @@ where
 
 /// The value over answers that are there already, in the order of the questions.
 ///
-/// The error is that `alloc` refused room for the answers.
+/// The error is that `alloc` refused memory for the answers.
 pub(crate) fn value_over<T, A>(alloc: A, parsed: &Parsed<A>, given: &[T]) -> Result<T, AllocError>
 where
     T: Logic + Copy,

@@ -111,7 +111,7 @@ fn fillings<A: SmallAllocator>(
 
 /// What `Expression::polar_fillings` answers.
 ///
-/// The error is that `alloc` refused room.
+/// The error is that `alloc` refused memory.
 pub(crate) fn polar_fillings<A: SmallAllocator>(
     alloc: A,
     parsed: &Parsed<A>,

@@ -27,7 +27,7 @@ pub enum Input<A: Allocator = Global> {
 /// Why an input was not read to its end.
 #[derive(Clone, Copy, PartialEq, Eq, Debug)]
 pub enum Stop {
-    /// Memory was refused
+    /// It is out of memory
     Memory,
     /// A call of the source failed
     Device,
@@ -76,9 +76,9 @@ fn read_once<R: Source>(reader: &mut R, bytes: &mut [u8], filled: usize) -> Opti
 /// Reads a source to its end.
 ///
 /// It answers all the bytes, or that the input is too long once one byte more than 16,777,216 was
-/// read. The error is that memory was refused, or that a call of the source failed; no call is made
-/// after it. What was read stays read in each case. The source must count fewer than `u64::MAX`
-/// failed calls.
+/// read. The error is that it is out of memory, or that a call of the source failed; no call is
+/// made after it. What was read stays read in each case. The source must count fewer than
+/// `u64::MAX` failed calls.
 pub fn read_input<A: Allocator, R: Source>(alloc: A, reader: &mut R) -> Result<Input<A>, Stop>
     requires { R.failures reader.old < u64.MAX }
     ensures count { R.failures reader.new ≡ R.failures reader.old + stop_failures result }

@@ -188,10 +188,10 @@ fn write_in_turns<W: Sink>(sink: &mut W, bytes: &[u8]) -> bool
 {
     let mut left = bytes;
     while !left.is_empty() {
-        let Some(behind) = write_once(sink, left) else {
+        let Some(beyond) = write_once(sink, left) else {
             return false;
         };
-        left = behind;
+        left = beyond;
     }
     true
 }

@@ -155,11 +155,11 @@ module _ (front : List Item) (item : Item) where
         starts = is.starts;
         ends = is.ends;
         before = depth_at_front place (omega (arith, at)) ∙ is.before;
-        inside = λ k behind within. ⊎_elim
+        inside = λ k beyond within. ⊎_elim
             (λ (past : length front < k). rw (take_all k more
             (omega (arith, past, length_more))) deep)
             (λ (old : k ≤ length front). rw (depth_at_front k old)
-            (is.inside k behind old)) (cases_lt (length front) k);
+            (is.inside k beyond old)) (cases_lt (length front) k);
       }
 
   -- the token changes the members of the level, and how many of its members go on

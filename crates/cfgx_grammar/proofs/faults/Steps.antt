@@ -234,7 +234,7 @@ module _ {W M L : Type 0} {builder : Builder W M L} (front : List Item) (s : Sta
             starts = refl;
             ends = refl;
             before = depth_at_end front item ∙ depth_is front s m;
-            inside = λ k behind within. rw (take_all k (more token) (omega arith)) deep;
+            inside = λ k beyond within. rw (take_all k (more token) (omega arith)) deep;
           };
           named_last = omega arith;
           parens = ap start_of (slice_get_past (more token) _ (omega arith));
@@ -274,14 +274,14 @@ module _ {W M L : Type 0} {builder : Builder W M L} (front : List Item) (s : Sta
     close_step (top ∷ rest) is ends =
         let some : 0 < length s.stack = omega (arith, ap length is) in
         let inside = ne_eqb (depth front) 0 (λ zero. omega (arith, zero, deep_is top rest is)) in
-        let closes = meets_map (Ended front false s) (After Token.close_paren)
+        let leads = meets_map (Ended front false s) (After Token.close_paren)
         (λ t. function_ended t.stack t) (predicate_ended s) (predicate_fault front) ends
         (λ t e. function_closes t t.stack refl e some) in
         rw (inside, close_fault_is top rest is (at Token.close_paren) (predicate_fault front))
         (meets_if (After Token.close_paren) (has_room top.function (member_count top s.pending))
-        _ _ _ _ (λ room. closes) (λ full. refl))
+        _ _ _ _ (λ room. leads) (λ full. refl))
 
-    -- one token where it may stand
+    -- one token, if it may stand there
     token_step : (token : Token) → next (last_token front) token ≡ true
         → Meets (After token) (apply s (at token) token) (fault_by front (at token) token)
     token_step (Token.key text) may = let token = Token.key text in

@@ -25,7 +25,7 @@ pub record Builder (W M L : Type 0) : Type 0 where
   pub located : Pending → Leaf → L
   pub leaf : L → W → W
   -- the name of a function was read
-  pub function : Function → W → W
+  pub function : W → W
   -- it was closed, with so many members
   pub function_ended : M → Function → ℕ → W → W
   -- the text ended

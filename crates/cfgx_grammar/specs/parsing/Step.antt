@@ -99,7 +99,7 @@ module _ {W M L : Type 0} {builder : Builder W M L} where
   abbrev pub opened : State builder → Function → Item → State builder
   opened s function name = record s {
     stack = new_open s function name ∷ s.stack;
-    written = builder.function function s.written;
+    written = builder.function s.written;
   }
 
   -- the innermost function has ended, whose members all have
@@ -117,7 +117,7 @@ module _ {W M L : Type 0} {builder : Builder W M L} where
       (λ t. function_ended t.stack t) (predicate_ended s)
       else Err (refusal (invalid_not (member_count top s.pending)) top.start item.end)
 
-  -- what a token does where it may stand
+  -- what a token does if it may stand there
   abbrev pub apply : State builder → Item → Token → Result (State builder) Refusal
   apply s item (Token.key text) = Ok (record s {
     pending = Some (record { key = word_of text item.start item.end; value = None });

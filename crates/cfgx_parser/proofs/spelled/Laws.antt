@@ -13,7 +13,7 @@ use Rattle.cfgx_parser.specs.nodes.Located.{located, at, IsSpan, ValueHasCut}
 use Rattle.cfgx_parser.specs.nodes.Node.{Written, begun, with_leaf}
 use Rattle.cfgx_parser.specs.nodes.Prefix.{Node, headed, prefix, prefix_each, places, places_by}
 use Rattle.cfgx_parser.specs.nodes.Prefix.{with_places}
-use Rattle.cfgx_parser.specs.nodes.Writes.{IsPlaced, ArePlaced, WritesNodes}
+use Rattle.cfgx_parser.specs.nodes.WritesNodes.{IsPlaced, ArePlaced, WritesNodes}
 use Rattle.cfgx_parser.specs.parsing.State.{counted, node_builder}
 use Rattle.cfgx_parser.specs.declared.nodes.ExprNode.TheVariants as node
 use Rattle.cfgx_grammar.proofs.alone.{all_of_first, all_of_second}

@@ -23,14 +23,14 @@ module _ (text : List ℕ) (key_span : Range ℕ) where
   NamesClass value_span (Class.is (Leaf.predicate question)) = Names value_span question
   NamesClass value_span _ = Unit {0}
 
-  -- a table names what each of its lines names
-  by_lines : {V : Type 0} (span : Option (Range ℕ)) (name : List ℕ) (value : V) (otherwise : Class)
-      (lines : List (Rule V))
-      → AllByRecursion (λ line. name ≡ line.name → NamesClass span (line.read value)) lines
-      → NamesClass span otherwise → NamesClass span (by_name lines name value otherwise)
-  by_lines span name value otherwise [] each last = last
-  by_lines span name value otherwise (first ∷ rest) each last =
-      let others = by_lines span name value otherwise rest each.1 last in
+  -- a table names what each of its rules names
+  by_rules : {V : Type 0} (span : Option (Range ℕ)) (name : List ℕ) (value : V) (otherwise : Class)
+      (rules : List (Rule V))
+      → AllByRecursion (λ rule. name ≡ rule.name → NamesClass span (rule.read value)) rules
+      → NamesClass span otherwise → NamesClass span (by_name rules name value otherwise)
+  by_rules span name value otherwise [] each last = last
+  by_rules span name value otherwise (first ∷ rest) each last =
+      let others = by_rules span name value otherwise rest each.1 last in
       grind (arith, bytes_eq-Decides, each.0, others)
 
   names_read : {X : Type 0} (span : Range ℕ) (ask : X → TargetQuestion) (cause : Cause)
@@ -44,7 +44,7 @@ module _ (text : List ℕ) (key_span : Range ℕ) where
 
   names_target : (span : Range ℕ) (name : List ℕ) → IsSpan text span
       → NamesClass (Some span) (target_class name (at text span))
-  names_target span name cut = by_lines (Some span) name (at text span) _ target_rules
+  names_target span name cut = by_rules (Some span) name (at text span) _ target_rules
       (search (rules, names_read, names_feature)) tt
 
   names_other : (span : Option (Range ℕ)) (key : List ℕ) → at text key_span ≡ key
@@ -55,8 +55,8 @@ module _ (text : List ℕ) (key_span : Range ℕ) where
   pub NamesClass-class : (span : Option (Range ℕ)) → IsSpan text key_span → ValueHasCut text span
       → NamesClass span (class (at text key_span) (option_map (at text) span))
   unfolding class
-  NamesClass-class None key_cut cut = by_lines None (at text key_span) None _ key_rules
+  NamesClass-class None key_cut cut = by_rules None (at text key_span) None _ key_rules
       (search rules) (names_other None _ refl key_cut cut)
   NamesClass-class (Some span) key_cut cut =
-      by_lines (Some span) (at text key_span) (Some (at text span)) _ key_rules
+      by_rules (Some span) (at text key_span) (Some (at text span)) _ key_rules
       (search rules) (names_other (Some span) _ refl key_cut cut)

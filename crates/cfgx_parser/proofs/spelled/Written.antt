@@ -8,7 +8,7 @@ use Rattle.cfgx_grammar.proofs.alone.{all_of_both}
 use Rattle.cfgx_parser.specs.nodes.Node.{Written, mark_of, asked_at, with_leaf, begun}
 use Rattle.cfgx_parser.specs.nodes.Node.{with_function, with_function_ended}
 use Rattle.cfgx_parser.specs.nodes.Prefix.{Node, node_at, headed}
-use Rattle.cfgx_parser.specs.nodes.Writes.{NodeHasCut, WritesNodes}
+use Rattle.cfgx_parser.specs.nodes.WritesNodes.{NodeHasCut, WritesNodes}
 use Rattle.cfgx_parser.specs.declared.function.Func.{Func}
 use Rattle.cfgx_parser.specs.declared.nodes.ExprNode.{ExprNode}
 use Rattle.cfgx_parser.specs.declared.nodes.ExprNode.TheVariants as node

@@ -30,7 +30,7 @@ node_builder = record {
   mark_of = mark_of;
   located = λ p leaf. located (span_of p.key) (option_map span_of p.value) leaf;
   leaf = with_leaf;
-  function = λ function. with_function;
+  function = with_function;
   function_ended = λ mark function members. with_function_ended mark (counted function members);
   root_ended = with_list_ended 0;
 }

@@ -85,12 +85,12 @@ fn push_leaves(
     numbers: &mut Numbers,
     text: &mut String,
     before: &str,
-    behind: &str,
+    beyond: &str,
 ) -> Result<(), AllocError> {
     for _leaf in 0..numbers.below(3) {
         text.push_str(before)?;
         text.push_str(numbers.one_of(LEAVES))?;
-        text.push_str(behind)?;
+        text.push_str(beyond)?;
     }
     Ok(())
 }

@@ -4,7 +4,7 @@ use Rattle.cfgx_syntax.specs.Token.{starts_word, continues_word}
 use Rattle.cfgx_syntax.specs.Lexer.{token_of}
 use Rattle.std.proofs.Math.Nat.{sub-zero}
 use Rattle.cfgx_syntax.proofs.Words.{BeginsWith-byte, BeginsWith-word, word_front}
-use Rattle.cfgx_syntax.proofs.Words.{IsCharBoundary-behind, continues_word-ascii}
+use Rattle.cfgx_syntax.proofs.Words.{IsCharBoundary-after, continues_word-ascii}
 use Rattle.cfgx_syntax.proofs.lexer.first_token.Goals as goal
 
 pub returns-in-40 : goal.returns-in-40
@@ -22,7 +22,7 @@ returns-in-61 c = search (rules, BeginsWith-byte)
 pub range-requires-clause-end_boundary : goal.range-requires-clause-end_boundary
 range-requires-clause-end_boundary c =
     rw c.word_len-len.ensures
-    (IsCharBoundary-behind continues_word continues_word-ascii c.args.text.now c.utf8.text)
+    (IsCharBoundary-after continues_word continues_word-ascii c.args.text.now c.utf8.text)
 
 pub word_token-requires : goal.word_token-requires
 word_token-requires c =

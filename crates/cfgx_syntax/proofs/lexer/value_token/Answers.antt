@@ -8,9 +8,9 @@ use Rattle.cfgx_syntax.proofs.Values.{BeginsWith-value, HasNoQuote-from}
 use Rattle.cfgx_syntax.proofs.lexer.value_token.Goals as goal
 
 -- the text is a quote and what the code cuts off after it
-behind_quote : (text rest : List ℕ) → 0 < length text → get_or text 0 0 ≡ 34 → rest ≡ drop 1 text
+after_quote : (text rest : List ℕ) → 0 < length text → get_or text 0 0 ≡ 34 → rest ≡ drop 1 text
     → text ≡ 34 ∷ rest
-behind_quote text rest some first is = rw (first, ← is) at (drop_more text 0 0 some)
+after_quote text rest some first is = rw (first, ← is) at (drop_more text 0 0 some)
 
 pub range_from-requires : goal.range_from-requires
 range_from-requires c = λ _.
@@ -20,11 +20,11 @@ pub returns-in-Some : goal.returns-in-Some
 returns-in-Some c =
     let rest = c.range_from.result.now in
     let inside = c.in-Some.inside in
-    let behind = c.in-Some.field-0-1 in
-    let parts = split_parts 34 rest (Some (inside, behind)) c.in-Some.ensures.cases (lit< tt) in
+    let beyond = c.in-Some.field-0-1 in
+    let parts = split_parts 34 rest (Some (inside, beyond)) c.in-Some.ensures.cases (lit< tt) in
     let whole =
-    behind_quote c.args.text.now rest c.requires.some c.requires.quote c.range_from.ensures.value in
-    BeginsWith-value c.args.text.now inside.now behind.now c.utf8.text
+    after_quote c.args.text.now rest c.requires.some c.requires.quote c.range_from.ensures.value in
+    BeginsWith-value c.args.text.now inside.now beyond.now c.utf8.text
     (HasNoQuote-from inside.now parts.1) (rw parts.0 at whole)
 
 pub returns-in-None : goal.returns-in-None
@@ -32,5 +32,5 @@ returns-in-None c =
     let rest = c.range_from.result.now in
     let none = split_parts 34 rest None c.in-None.ensures.cases (lit< tt) in
     let whole =
-    behind_quote c.args.text.now rest c.requires.some c.requires.quote c.range_from.ensures.value in
+    after_quote c.args.text.now rest c.requires.some c.requires.quote c.range_from.ensures.value in
     inr (record { unclosed = (rest, whole, HasNoQuote-from rest none); why = refl; all = refl })

@@ -5,7 +5,7 @@ use Rattle.std.specs.Prelude.{Vec}
 use Rattle.cfgx_grammar.specs.Answer.{HasOneTree}
 use Rattle.cfgx_grammar.specs.Filling.{IsExact, PolarFillings, three_valued, two_valued}
 use Rattle.cfgx_grammar.specs.Fold.{fold}
-use Rattle.cfgx_grammar.specs.Grammar.{HasTree}
+use Rattle.cfgx_grammar.specs.Given.{AreAnswersTo}
 use Rattle.cfgx_grammar.specs.Question.{Question}
 use Rattle.cfgx_grammar.specs.Tree.{Tree, asked}
 use Rattle.cfgx_vectors.proofs.filling.plan.Goals as goal
@@ -21,8 +21,7 @@ record AreFound (text : List ℕ) (answers : List (Option Bool)) (found : Fillin
   fillings : PolarFillings one.tree answers found
 
 AreFound-clauses : (text : List ℕ) (answers : List (Option Bool)) (found shown : Fillings)
-    → found ≡ shown
-    → (tree : Tree Question) × HasTree text tree × (length answers ≡ length (asked tree))
+    → found ≡ shown → AreAnswersTo answers text
     → (one : HasOneTree text) × ((given : List (Option Bool))
     → length given ≡ length (asked one.tree) → IsExact one.tree given)
     → (one : HasOneTree text) × PolarFillings one.tree answers found

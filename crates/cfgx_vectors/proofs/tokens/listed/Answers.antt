@@ -24,7 +24,7 @@ eight = encode_ascii 56 (lit< tt)
 word_a : (rest : List ℕ)
     → Stands (codes "a " ++ rest) 0 (record { token = Token.key (codes "a"); start = 0; end = 1 })
 word_a rest = record {
-  behind = omega arith;
+  comes_after = omega arith;
   gap = no_gap;
   spelled = (
     refl,
@@ -45,7 +45,7 @@ returns c = record {
   stuck = (
     word_a (codes "8 b"),
     record {
-      behind = omega arith;
+      comes_after = omega arith;
       gap = one_space;
       stuck = (56, codes " b", refl, sym (ap (λ l. l ++ codes " b") eight), refl, refl);
     },
@@ -53,14 +53,14 @@ returns c = record {
   unclosed = (
     word_a (codes "\"bc"),
     record {
-      behind = omega arith;
+      comes_after = omega arith;
       gap = one_space;
       unclosed = (codes "bc", refl, refl);
     },
   );
   empty_value = (
     record {
-      behind = omega arith;
+      comes_after = omega arith;
       gap = no_gap;
       spelled = refl;
       ordered = omega arith;
@@ -69,7 +69,7 @@ returns c = record {
     },
     (
       record {
-        behind = omega arith;
+        comes_after = omega arith;
         gap = no_gap;
         spelled = (refl, refl);
         ordered = omega arith;
@@ -81,7 +81,7 @@ returns c = record {
   );
   wide_space = (
     record {
-      behind = omega arith;
+      comes_after = omega arith;
       gap = (160 ∷ [], ap (λ l. l ++ []) wide, (refl, tt));
       spelled = refl;
       ordered = omega arith;

@@ -10,10 +10,10 @@ pub loop-place-preserved : goal.loop-place-preserved
 loop-place-preserved g c =
     let nodes = c.args.nodes.now in
     let place = c.loop-place.place - 1 in
-    let one_more : c.loop-place.place ≡ place + 1 = omega (arith, c.loop-place-test.true) in
-    let inside : place < length nodes = omega (arith, c.loop-place.auto.place, one_more) in
+    let next_is : c.loop-place.place ≡ place + 1 = omega (arith, c.loop-place-test.true) in
+    let inside : place < length nodes = omega (arith, c.loop-place.auto.place, next_is) in
     let shapes = get_or-map shape nodes place _ Shape.predicate inside in
     Reading-next (map shape nodes) place member.Joined
     (omega (arith, length-map nodes shape, inside)) (omega (arith, c.requires, inside))
-    (rw one_more at c.loop-place.invariant) (rw shapes c.read_node-stack.ensures.stack)
+    (rw next_is at c.loop-place.invariant) (rw shapes c.read_node-stack.ensures.stack)
     c.read_node-stack.ensures.front c.read_node-stack.ensures.within

@@ -4,9 +4,9 @@ use Rattle.cfgx_engine.proofs.VerdictLemmas.{same_value}
 use Rattle.cfgx_engine.proofs.engine.sections.push_verdict.Goals as goal
 
 -- what is added after a text is added with it
-behind : (old text one two between new : List ℕ) → between ≡ old ++ text
+added_with : (old text one two between new : List ℕ) → between ≡ old ++ text
     → new ≡ between ++ one ++ two → new ≡ old ++ (text ++ one ++ two)
-behind old text one two between new first rest =
+added_with old text one two between new first rest =
     cc (append_assoc old text one, append_assoc old (text ++ one) two)
 
 -- the value is that of the verdict
@@ -26,7 +26,7 @@ returns-in_ok-push_fillings-in-Unknown g c =
     let tree = adds.0.only c.requires.one.tree c.requires.one.has_tree in
     let value = rw tree at (same_value None _ (sym c.in-Unknown.is ∙ c.requires.value_is)) in (
       adds.0,
-      rw (← value) (behind c.args.written.now.items (codes "\tunknown\n") _ _ _ _
+      rw (← value) (added_with c.args.written.now.items (codes "\tunknown\n") _ _ _ _
           c.in_ok-extend_from_slice-in-Unknown.ensures.items adds.1),
     )
 

@@ -2,28 +2,28 @@
 use Rattle.std.proofs.Common.{arith, rules}
 use Rattle.cfgx_syntax.specs.Error.{cause_of}
 use Rattle.cfgx_syntax.specs.Lexer.{token_of}
-use Rattle.cfgx_syntax.proofs.Scanning.{IsBehind-trimmed, Stands-found, CanBeCut-found}
+use Rattle.cfgx_syntax.proofs.Scanning.{IsAfter-trimmed, Stands-found, CanBeCut-found}
 use Rattle.cfgx_syntax.proofs.Scanning.{Ending-found, state_at}
 use Rattle.cfgx_syntax.proofs.lexer.LexerIterator.next.Goals as goal
 
 pub returns-in-Ok-clause-steps : goal.returns-in-Ok-clause-steps
 returns-in-Ok-clause-steps g c =
     let trimmed = c.trimmed-rest.ensures in
-    let behind = IsBehind-trimmed _ _ _ c.self.invariant.0 trimmed in
+    let beyond = IsAfter-trimmed _ _ _ c.self.invariant.0 trimmed in
     let token = token_of c.in-Ok.token in
     let begins = c.in-Ok.ensures in
     let left = c.range_from-self-inside.ensures.len in
     rw (← c.self.view_is) (record {
-      stands = Stands-found _ _ _ behind token c.in-Ok.len begins;
-      cut = CanBeCut-found _ _ _ behind token c.in-Ok.len begins;
-      goes_on = state_at _ _ _ (omega (arith, left, begins.inside, behind.inside, trimmed.4));
+      stands = Stands-found _ _ _ beyond token c.in-Ok.len begins;
+      cut = CanBeCut-found _ _ _ beyond token c.in-Ok.len begins;
+      goes_on = state_at _ _ _ (omega (arith, left, begins.inside, beyond.inside, trimmed.4));
     })
 
 pub returns-in-Some-clause-steps : goal.returns-in-Some-clause-steps
 returns-in-Some-clause-steps g c =
-    let behind = IsBehind-trimmed _ _ _ c.self.invariant.0 c.trimmed-rest.ensures in
+    let beyond = IsAfter-trimmed _ _ _ c.self.invariant.0 c.trimmed-rest.ensures in
     let cause = cause_of c.in-Err.reason in
-    let found = Ending-found _ _ _ behind cause c.in-Err.len (search rules) c.in-Err.ensures in
+    let found = Ending-found _ _ _ beyond cause c.in-Err.len (search rules) c.in-Err.ensures in
     rw (← c.self.view_is) (record {
       ending = found.0;
       ends = found.1;

@@ -7,10 +7,10 @@ use Rattle.cfg_expr.proofs.expr.evaluating.Connective.join_kind.Goals as goal
 pub loop-place-preserved : goal.loop-place-preserved
 loop-place-preserved g c =
     let more = c.loop-place-test.true in
-    let one_more : c.loop-place.place ≡ c.loop-place.place - 1 + 1 = omega (arith, more) in
+    let next_is : c.loop-place.place ≡ c.loop-place.place - 1 + 1 = omega (arith, more) in
     let step = c.join_one-value.ensures in
     rw step.left (Joins-next _ _ _ _ _ _ _ _ _ _ c.index-members-place.result
     (c.loop-place.place - 1)
     (omega (arith, c.loop-place.auto.members, c.loop-place.auto.place, more))
-    (rw one_more at c.loop-place.invariant) step.value step.member
+    (rw next_is at c.loop-place.invariant) step.value step.member
     (ap is_held (sym step.member)))

@@ -1,17 +1,17 @@
 -- White space goes on after ASCII white space only if a longer character is next.
 use Rattle.std.proofs.Common.{rules}
-use Rattle.cfgx_syntax.proofs.Blanks.{blank-ascii, trim_behind, trim_blanks}
-use Rattle.cfgx_syntax.proofs.Words.{IsCharBoundary-behind}
+use Rattle.cfgx_syntax.proofs.Blanks.{blank-ascii, trim_after, trim_blanks}
+use Rattle.cfgx_syntax.proofs.Words.{IsCharBoundary-after}
 use Rattle.cfgx_syntax.specs.Lexer.{is_blank}
-use Rattle.cfgx_syntax.proofs.lexer.behind_blanks.Goals as goal
+use Rattle.cfgx_syntax.proofs.lexer.after_blanks.Goals as goal
 
 pub range_from-rest-requires : goal.range_from-rest-requires
 range_from-rest-requires c = λ some. rw (c.blank_len.ensures.len, c.as_bytes.ensures.value)
-    (IsCharBoundary-behind is_blank blank-ascii c.args.text.now c.utf8.text)
+    (IsCharBoundary-after is_blank blank-ascii c.args.text.now c.utf8.text)
 
 pub returns-in-Some : goal.returns-in-Some
 returns-in-Some c =
-    trim_behind _ _ _ _ c.blank_len.ensures.len c.as_bytes.ensures.value
+    trim_after _ _ _ _ c.blank_len.ensures.len c.as_bytes.ensures.value
     c.range_from-rest.ensures.value _ c.trim_start.ensures.value
 
 pub returns-in_default : goal.returns-in_default

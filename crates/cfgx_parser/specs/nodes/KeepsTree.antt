@@ -7,7 +7,7 @@ use Rattle.cfgx_grammar.specs.Tree.{Tree}
 use Rattle.cfgx_grammar.specs.Answer.{HasOneTree}
 use Rattle.cfgx_parser.specs.nodes.Located.{HasCut, question_at}
 use Rattle.cfgx_parser.specs.nodes.Prefix.{node_at, prefix, places}
-use Rattle.cfgx_parser.specs.nodes.Writes.{NodeHasCut}
+use Rattle.cfgx_parser.specs.nodes.WritesNodes.{NodeHasCut}
 use Rattle.cfgx_parser.specs.declared.nodes.InnerPredicate.{InnerPredicate}
 use Rattle.cfgx_parser.specs.declared.nodes.ExprNode.{ExprNode}
 use Rattle.cfgx_parser.specs.declared.nodes.ExprNode.TheVariants as node
