@@ -1,7 +1,6 @@
 //! Targets: the fields that they are described by, and tables of them.
 
-pub use cfgx_fields::{Abi, Arch, Triple, Vendor};
-pub use cfgx_places::{Env, Family, Os, Panic};
+pub use cfgx_fields::{Abi, Arch, Env, Family, Os, Panic, Triple, Vendor};
 pub use cfgx_targets::atomic::{HasAtomic, HasAtomicFailure};
 pub use cfgx_targets::atomics::HasAtomics;
 pub use cfgx_targets::builtins;

@@ -1,7 +1,4 @@
-//! The one code of this crate's field types: a text of `cfgx_syntax`, marked with its kind.
-//!
-//! Inherent functions, as the named values are, can be written only for a type of the same crate.
-//! So each crate of field types has this thin wrapper, and all that it does is done by `Text`.
+//! The one code of the field types: a text of `cfgx_syntax`, marked with its kind.
 
 ghost use Rattle.std.specs.Prelude.{◌≡◌, IfOk, Some, string_bytes};
 ghost use Rattle.std.specs.Cmp.Rules.{comparing};

@@ -1,5 +1,6 @@
-//! The field types of a target that say what it is made of: its triple, ABI, architecture and
-//! vendor, with their named values.
+//! The field types of a target, with their named values: what it is made of (its triple, ABI,
+//! architecture and vendor) and where a program runs (its operating system, family, environment
+//! and panic strategy).
 //!
 //! Each is a text of its own type, as in the crate `cfg-expr`.
 #![tactic(auto)]
@@ -27,6 +28,22 @@ pub struct ArchKind;
 #[derive(Debug, Drop)]
 pub struct VendorKind;
 
+/// Marks a field as an operating system.
+#[derive(Debug, Drop)]
+pub struct OsKind;
+
+/// Marks a field as a family.
+#[derive(Debug, Drop)]
+pub struct FamilyKind;
+
+/// Marks a field as an environment.
+#[derive(Debug, Drop)]
+pub struct EnvKind;
+
+/// Marks a field as a panic strategy.
+#[derive(Debug, Drop)]
+pub struct PanicKind;
+
 /// The name of a whole target, such as `x86_64-unknown-linux-gnu`.
 pub type Triple<'a, A = Global> = Field<'a, TripleKind, A>;
 
@@ -38,3 +55,15 @@ pub type Arch<'a, A = Global> = Field<'a, ArchKind, A>;
 
 /// The value of `target_vendor`, such as `apple`.
 pub type Vendor<'a, A = Global> = Field<'a, VendorKind, A>;
+
+/// The value of `target_os`, such as `linux`.
+pub type Os<'a, A = Global> = Field<'a, OsKind, A>;
+
+/// The value of `target_family`, such as `unix`.
+pub type Family<'a, A = Global> = Field<'a, FamilyKind, A>;
+
+/// The value of `target_env`, such as `musl`.
+pub type Env<'a, A = Global> = Field<'a, EnvKind, A>;
+
+/// The value of `panic`, such as `unwind`.
+pub type Panic<'a, A = Global> = Field<'a, PanicKind, A>;

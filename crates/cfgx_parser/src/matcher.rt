@@ -8,7 +8,6 @@ ghost use Rattle.cfgx_parser.specs.Predicate.{target_of};
 
 use crate::predicates::TargetPredicate;
 use cfgx_fields::Field;
-use cfgx_places::Field as Place;
 use cfgx_syntax::logic::Kleene64;
 use cfgx_targets::info::TargetInfo;
 use std::alloc::{AllocError, Allocator};
@@ -39,10 +38,10 @@ impl<A: Allocator> TargetMatcher for TargetInfo<'_, A> {
             Abi(abi) => has_field(&self.abi, "", abi.as_str()),
             Arch(arch) => self.arch.as_str() == arch.as_str(),
             Endian(endian) => self.endian == *endian,
-            Env(env) => has_place(&self.env, "", env.as_str()),
+            Env(env) => has_field(&self.env, "", env.as_str()),
             Family(family) => self.families.contains(family),
             HasAtomic(width) => self.has_atomics.contains(*width),
-            Os(os) => has_place(&self.os, "none", os.as_str()),
+            Os(os) => has_field(&self.os, "none", os.as_str()),
             Panic(panic) => self.panic.as_str() == panic.as_str(),
             PointerWidth(bits) => self.pointer_width == *bits,
             Vendor(vendor) => has_field(&self.vendor, "unknown", vendor.as_str()),
@@ -50,22 +49,12 @@ impl<A: Allocator> TargetMatcher for TargetInfo<'_, A> {
     }
 }
 
-// Whether a field has this text, where `missing` stands for the text of a missing one. The fields
-// are of two types.
+// Whether a field has this text, where `missing` stands for the text of a missing one.
 fn has_field<K, A: Allocator>(field: &Option<Field<'_, K, A>>, missing: &str, text: &str) -> bool
     ensures { result ≡ has_text field.now missing.now text.now }
 {
     match field {
         Some(field) => field.as_str() == text,
-        None => missing == text,
-    }
-}
-
-fn has_place<K, A: Allocator>(place: &Option<Place<'_, K, A>>, missing: &str, text: &str) -> bool
-    ensures { result ≡ has_text place.now missing.now text.now }
-{
-    match place {
-        Some(place) => place.as_str() == text,
         None => missing == text,
     }
 }
@@ -111,16 +100,16 @@ impl<'a, A: Allocator> TargetPredicate<'a, A> {
     {
         use TargetPredicate::*;
         match self {
-            Abi(abi) => Abi(cfgx_fields::Abi::new_const(abi.as_str())),
-            Arch(arch) => Arch(cfgx_fields::Arch::new_const(arch.as_str())),
+            Abi(abi) => Abi(Field::new_const(abi.as_str())),
+            Arch(arch) => Arch(Field::new_const(arch.as_str())),
             Endian(endian) => Endian(*endian),
-            Env(env) => Env(cfgx_places::Env::new_const(env.as_str())),
-            Family(family) => Family(cfgx_places::Family::new_const(family.as_str())),
+            Env(env) => Env(Field::new_const(env.as_str())),
+            Family(family) => Family(Field::new_const(family.as_str())),
             HasAtomic(width) => HasAtomic(*width),
-            Os(os) => Os(cfgx_places::Os::new_const(os.as_str())),
-            Panic(panic) => Panic(cfgx_places::Panic::new_const(panic.as_str())),
+            Os(os) => Os(Field::new_const(os.as_str())),
+            Panic(panic) => Panic(Field::new_const(panic.as_str())),
             PointerWidth(bits) => PointerWidth(*bits),
-            Vendor(vendor) => Vendor(cfgx_fields::Vendor::new_const(vendor.as_str())),
+            Vendor(vendor) => Vendor(Field::new_const(vendor.as_str())),
         }
     }
 

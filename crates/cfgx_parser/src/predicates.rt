@@ -5,8 +5,7 @@ ghost use Rattle.cfgx_parser.specs.nodes.Located.{HasCut, TargetHasCut, question
 ghost use Rattle.cfgx_parser.specs.nodes.Located.{target_question_at};
 
 use crate::nodes::{ExprNode, InnerPredicate, InnerTarget};
-use cfgx_fields::{Abi, Arch, Vendor};
-use cfgx_places::{Env, Family, Os, Panic};
+use cfgx_fields::{Abi, Arch, Env, Family, Os, Panic, Vendor};
 use cfgx_targets::atomic::HasAtomic;
 use cfgx_targets::endian::Endian;
 use std::alloc::{Allocator, Global};

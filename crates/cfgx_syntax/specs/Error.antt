@@ -2,7 +2,7 @@
 -- Source of the texts: `cfg-expr` 0.20.10, `impl Display for Reason`, `impl Display for ParseError`
 -- and `ParseError::description`.
 use Rattle.std.specs.Prelude.{◌≡◌, ℕ, ◌-◌, List, [], ◌∷◌, ◌++◌, codes, map, replicate}
-use Rattle.std.specs.Prelude.{slice_index}
+use Rattle.std.specs.Prelude.{Option, Some, None, slice_index}
 use Rattle.std.specs.List.{flat_map}
 use Rattle.std.specs.Fmt.{decimal}
 use Rattle.std.specs.String.{string_bytes}
@@ -132,6 +132,11 @@ fault_of e = record {
   end = e.span.end;
   cause = cause_of e.reason;
 }
+
+-- the fault of a failure, or none if the call was out of memory
+abbrev pub failure_of : {A : Type 0} → Failure A → Option Fault
+failure_of (failure.Parse error) = Some (fault_of error)
+failure_of (failure.Memory _) = None
 
 -- the failure is this fault, or the call was out of memory for its copy of the text
 abbrev pub FailsWith : {A : Type 0} → Fault → Failure A → Type 0

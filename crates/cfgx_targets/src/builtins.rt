@@ -8,8 +8,7 @@ use crate::endian::Endian;
 use crate::info::TargetInfo;
 use crate::list::SortedList;
 use crate::table::TargetTable;
-use cfgx_fields::{Abi, Arch, Triple, Vendor};
-use cfgx_places::{Env, Family, Os, Panic};
+use cfgx_fields::{Abi, Arch, Env, Family, Os, Panic, Triple, Vendor};
 use std::alloc::{AllocError, Allocator};
 
 impl<'a, A: Allocator> SortedList<'a, Family<'a, A>, A> {

@@ -4,7 +4,7 @@ ghost use Rattle.std.specs.Prelude.{◌≡◌, ◌↔◌, ◌∷◌, ◌++◌, [
 ghost use Rattle.std.specs.Prelude.{OnOk};
 
 use crate::list::{Member, SortedList, are_sorted};
-use cfgx_places::Family;
+use cfgx_fields::Family;
 use std::alloc::{AllocError, Allocator, Global};
 use std::borrow::CowSlice;
 

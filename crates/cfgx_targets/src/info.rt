@@ -5,8 +5,7 @@ ghost use Rattle.std.specs.Prelude.{◌≡◌, IfOk};
 use crate::atomics::HasAtomics;
 use crate::endian::Endian;
 use crate::families::Families;
-use cfgx_fields::{Abi, Arch, Field, Triple, Vendor};
-use cfgx_places::{Env, Field as Place, Os, Panic};
+use cfgx_fields::{Abi, Arch, Env, Field, Os, Panic, Triple, Vendor};
 use std::alloc::{AllocError, Allocator, Global};
 
 mod laws;
@@ -42,7 +41,7 @@ pub struct TargetInfo<'a, A: Allocator = Global> {
     pub panic: Panic<'a, A>,
 }
 
-// A copy of what the option holds, in memory of `alloc`. The fields are of two types.
+// A copy of what the option holds, in memory of `alloc`.
 fn copied_field<'a, K, A: Allocator>(
     field: &Option<Field<'a, K, A>>,
     alloc: A,
@@ -55,23 +54,11 @@ fn copied_field<'a, K, A: Allocator>(
     }
 }
 
-fn copied_place<'a, K, A: Allocator>(
-    place: &Option<Place<'a, K, A>>,
-    alloc: A,
-) -> Result<Option<Place<'a, K, A>>, AllocError>
-    ensures { IfOk result (λ copy. copy ≡ place.now) }
-{
-    match place {
-        Some(place) => Ok(Some(place.try_clone(alloc)?)),
-        None => Ok(None),
-    }
-}
-
 // The triple, the architecture and the vendor.
 type Names<'a, A> = (Triple<'a, A>, Arch<'a, A>, Option<Vendor<'a, A>>);
 
 // The operating system, the ABI and the environment.
-type Places<'a, A> = (Option<Os<'a, A>>, Option<Abi<'a, A>>, Option<Env<'a, A>>);
+type Platform<'a, A> = (Option<Os<'a, A>>, Option<Abi<'a, A>>, Option<Env<'a, A>>);
 
 // The families, the widths of atomics and the panic strategy.
 type Lists<'a, A> = (Families<'a, A>, HasAtomics<A>, Panic<'a, A>);
@@ -85,7 +72,7 @@ impl<'a, A: Allocator + Copy> TargetInfo<'a, A> {
         ensures { IfOk result (λ copy. copy ≡ self.now) }
     {
         let (triple, arch, vendor) = self.copied_names(alloc)?;
-        let (os, abi, env) = self.copied_places(alloc)?;
+        let (os, abi, env) = self.copied_platform(alloc)?;
         let (families, has_atomics, panic) = self.copied_lists(alloc)?;
         Ok(TargetInfo {
             triple,
@@ -114,12 +101,12 @@ impl<'a, A: Allocator + Copy> TargetInfo<'a, A> {
         Ok((triple, arch, copied_field(&self.vendor, alloc)?))
     }
 
-    fn copied_places(&self, alloc: A) -> Result<Places<'a, A>, AllocError>
+    fn copied_platform(&self, alloc: A) -> Result<Platform<'a, A>, AllocError>
         ensures { IfOk result (λ copy. copy ≡ (self.now.os, self.now.abi, self.now.env)) }
     {
-        let os = copied_place(&self.os, alloc)?;
+        let os = copied_field(&self.os, alloc)?;
         let abi = copied_field(&self.abi, alloc)?;
-        Ok((os, abi, copied_place(&self.env, alloc)?))
+        Ok((os, abi, copied_field(&self.env, alloc)?))
     }
 
     fn copied_lists(&self, alloc: A) -> Result<Lists<'a, A>, AllocError>

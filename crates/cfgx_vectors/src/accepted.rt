@@ -7,7 +7,6 @@ use cfg_expr::expr::Predicates;
 use cfg_expr::memory::SmallAllocator;
 use cfg_expr::{Expression, Predicate, TargetPredicate};
 use cfgx_fields::Field;
-use cfgx_places::Field as Place;
 use cfgx_targets::atomic::HasAtomic;
 use cfgx_targets::endian::Endian;
 use std::alloc::Global;
@@ -226,11 +225,11 @@ fn typed_target(text: &str) -> TargetPredicate<'static> {
         "target_abi = \"sim\"" => TargetPredicate::Abi(Field::new_const("sim")),
         "target_arch = \"x\"" => TargetPredicate::Arch(Field::new_const("x")),
         "target_endian = \"big\"" => TargetPredicate::Endian(Endian::big),
-        "target_env = \"\"" => TargetPredicate::Env(Place::new_const("")),
-        "unix" => TargetPredicate::Family(Place::new_const("unix")),
+        "target_env = \"\"" => TargetPredicate::Env(Field::new_const("")),
+        "unix" => TargetPredicate::Family(Field::new_const("unix")),
         "target_has_atomic = \"128\"" => TargetPredicate::HasAtomic(HasAtomic::IntegerSize(128)),
-        "target_os = \"x\"" => TargetPredicate::Os(Place::new_const("x")),
-        "panic = \"abort\"" => TargetPredicate::Panic(Place::new_const("abort")),
+        "target_os = \"x\"" => TargetPredicate::Os(Field::new_const("x")),
+        "panic = \"abort\"" => TargetPredicate::Panic(Field::new_const("abort")),
         "target_vendor = \"x\"" => TargetPredicate::Vendor(Field::new_const("x")),
         _ => TargetPredicate::PointerWidth(64),
     }

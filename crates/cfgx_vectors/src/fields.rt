@@ -5,8 +5,9 @@
 use crate::holding::{all_hold, gives, holds};
 use crate::refusing::EVERY;
 use crate::turns::{Heap, empty_heap, has_every_block};
-use cfgx_fields::{AbiKind, ArchKind, TripleKind, VendorKind};
-use cfgx_places::{EnvKind, FamilyKind, OsKind, PanicKind};
+use cfgx_fields::{
+    AbiKind, ArchKind, EnvKind, FamilyKind, Field, OsKind, PanicKind, TripleKind, VendorKind,
+};
 use std::alloc::{AllocError, Global};
 use std::fmt::Display;
 use std::hash::{DefaultHasher, Hash, Hasher};
@@ -70,34 +71,18 @@ fn owned<'h>(heap: Heap<'h>, text: &str) -> Result<String<Heap<'h>>, AllocError>
     Ok(owned)
 }
 
-// Whether a borrowed field of the first text and an owned one of the second, of a crate's type,
-// are these texts, compare as they do, and print them, with every growth refused.
-macro_rules! are_texts {
-    ($fields:ident, $kind:ty, $alloc:ident, $heap:ident, $one:ident, $other:ident) => {{
-        let text = owned($heap, $other.1)?;
-        let owned: $fields::Field<'_, $kind, Heap<'_>> = $fields::Field::new(text);
-        let borrowed = $fields::Field::new_const($one.1);
-        let are_texts = borrowed.as_str() == $one.1 && owned.as_str() == $other.1;
-        Ok(are_texts && stand_for_texts($alloc, (&borrowed, &owned), $one, $other))
-    }};
-}
-
-fn are_fields<K: Drop>(
+// Whether a borrowed field of the first text and an owned one of the second, of one kind, are these
+// texts, compare as they do, and print them, with every growth refused.
+fn are_texts<K: Drop>(
     alloc: Global,
     heap: Heap<'_>,
     one: Placed<'_>,
     other: Placed<'_>,
 ) -> Result<bool, AllocError> {
-    are_texts!(cfgx_fields, K, alloc, heap, one, other)
-}
-
-fn are_places<K: Drop>(
-    alloc: Global,
-    heap: Heap<'_>,
-    one: Placed<'_>,
-    other: Placed<'_>,
-) -> Result<bool, AllocError> {
-    are_texts!(cfgx_places, K, alloc, heap, one, other)
+    let owned: Field<'_, K, Heap<'_>> = Field::new(owned(heap, other.1)?);
+    let borrowed = Field::new_const(one.1);
+    let are_texts = borrowed.as_str() == one.1 && owned.as_str() == other.1;
+    Ok(are_texts && stand_for_texts(alloc, (&borrowed, &owned), one, other))
 }
 
 // The same of each field type.
@@ -108,14 +93,14 @@ fn are_all_texts(
     other: Placed<'_>,
 ) -> Result<bool, AllocError> {
     Ok(
-        are_fields::<TripleKind>(alloc, heap, one, other)?
-            && are_fields::<AbiKind>(alloc, heap, one, other)?
-            && are_fields::<ArchKind>(alloc, heap, one, other)?
-            && are_fields::<VendorKind>(alloc, heap, one, other)?
-            && are_places::<OsKind>(alloc, heap, one, other)?
-            && are_places::<FamilyKind>(alloc, heap, one, other)?
-            && are_places::<EnvKind>(alloc, heap, one, other)?
-            && are_places::<PanicKind>(alloc, heap, one, other)?,
+        are_texts::<TripleKind>(alloc, heap, one, other)?
+            && are_texts::<AbiKind>(alloc, heap, one, other)?
+            && are_texts::<ArchKind>(alloc, heap, one, other)?
+            && are_texts::<VendorKind>(alloc, heap, one, other)?
+            && are_texts::<OsKind>(alloc, heap, one, other)?
+            && are_texts::<FamilyKind>(alloc, heap, one, other)?
+            && are_texts::<EnvKind>(alloc, heap, one, other)?
+            && are_texts::<PanicKind>(alloc, heap, one, other)?,
     )
 }
 
@@ -139,46 +124,26 @@ pub(crate) fn is_refused<T: Drop>(copy: Result<T, AllocError>, heap: Heap<'_>) -
     copy.is_err() && heap.has_refused()
 }
 
-// Whether a borrowed field of a crate's type is copied with no growth, and an owned one of the same
-// text with one growth; if that is refused, so is the copy, and the field stays.
-macro_rules! are_copied {
-    ($borrowed:ident, $owned:ident, $heap:ident) => {{
-        let is_free = holds(gives($borrowed.try_clone($heap), $borrowed));
-        $heap.refuse(1);
-        let is_refused = is_refused($owned.try_clone($heap), $heap);
-        let stays = $owned == $borrowed;
-        $heap.refuse(2);
-        let is_copied = holds(gives($owned.try_clone($heap), $borrowed));
-        is_free && is_refused && stays && is_copied && !$heap.has_refused()
-    }};
-}
-
-fn are_fields_copied<'h, K: Drop>(
-    borrowed: &cfgx_fields::Field<'static, K, Heap<'h>>,
-    owned: &cfgx_fields::Field<'static, K, Heap<'h>>,
+// Whether a borrowed field is copied with no growth, and an owned one of the same text with one
+// growth; if that is refused, so is the copy, and the field stays.
+fn are_copied<'h, K: Drop>(
+    borrowed: &Field<'static, K, Heap<'h>>,
+    owned: &Field<'static, K, Heap<'h>>,
     heap: Heap<'h>,
 ) -> bool {
-    are_copied!(borrowed, owned, heap)
+    let is_free = holds(gives(borrowed.try_clone(heap), borrowed));
+    heap.refuse(1);
+    let is_refused = is_refused(owned.try_clone(heap), heap);
+    let stays = owned == borrowed;
+    heap.refuse(2);
+    let is_copied = holds(gives(owned.try_clone(heap), borrowed));
+    is_free && is_refused && stays && is_copied && !heap.has_refused()
 }
 
-fn are_places_copied<'h, K: Drop>(
-    borrowed: &cfgx_places::Field<'static, K, Heap<'h>>,
-    owned: &cfgx_places::Field<'static, K, Heap<'h>>,
-    heap: Heap<'h>,
-) -> bool {
-    are_copied!(borrowed, owned, heap)
-}
-
-fn field_is_copied<K: Drop>(heap: Heap<'_>) -> Result<bool, AllocError> {
+fn is_copied<K: Drop>(heap: Heap<'_>) -> Result<bool, AllocError> {
     let text = owned(heap, "é")?;
-    let owned = cfgx_fields::Field::<'static, K, Heap<'_>>::new(text);
-    Ok(are_fields_copied(&cfgx_fields::Field::new_const("é"), &owned, heap))
-}
-
-fn place_is_copied<K: Drop>(heap: Heap<'_>) -> Result<bool, AllocError> {
-    let text = owned(heap, "é")?;
-    let owned = cfgx_places::Field::<'static, K, Heap<'_>>::new(text);
-    Ok(are_places_copied(&cfgx_places::Field::new_const("é"), &owned, heap))
+    let owned = Field::<'static, K, Heap<'_>>::new(text);
+    Ok(are_copied(&Field::new_const("é"), &owned, heap))
 }
 
 #[test]
@@ -187,17 +152,14 @@ fn each_copy_may_be_refused(rt: HostRuntime) {
     all_hold(
         &rt,
         &[
-            ("a triple", holds(field_is_copied::<TripleKind>(&heap))),
-            ("an ABI", holds(field_is_copied::<AbiKind>(&heap))),
-            ("an architecture", holds(field_is_copied::<ArchKind>(&heap))),
-            ("a vendor", holds(field_is_copied::<VendorKind>(&heap))),
-            ("a system", holds(place_is_copied::<OsKind>(&heap))),
-            ("a family", holds(place_is_copied::<FamilyKind>(&heap))),
-            ("an environment", holds(place_is_copied::<EnvKind>(&heap))),
-            (
-                "a panic strategy",
-                holds(place_is_copied::<PanicKind>(&heap)),
-            ),
+            ("a triple", holds(is_copied::<TripleKind>(&heap))),
+            ("an ABI", holds(is_copied::<AbiKind>(&heap))),
+            ("an architecture", holds(is_copied::<ArchKind>(&heap))),
+            ("a vendor", holds(is_copied::<VendorKind>(&heap))),
+            ("a system", holds(is_copied::<OsKind>(&heap))),
+            ("a family", holds(is_copied::<FamilyKind>(&heap))),
+            ("an environment", holds(is_copied::<EnvKind>(&heap))),
+            ("a panic strategy", holds(is_copied::<PanicKind>(&heap))),
         ],
     );
     assert!(rt; has_every_block(heap));

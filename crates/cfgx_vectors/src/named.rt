@@ -1,20 +1,14 @@
 //! The texts of the named values, written out apart from the code.
 use crate::refusing::Refusing;
-use cfgx_fields::{Abi, Arch, Vendor};
-use cfgx_places::{Env, Family, Os, Panic};
+use cfgx_fields::{Abi, Arch, Env, Family, Field, Os, Panic, Vendor};
 use std::alloc::{Allocator, Global};
 
 /// An allocator that may refuse a growth. No value here asks for one.
 type Heap = Refusing<Global>;
 
 // Whether the field is this text.
-fn is_field<K: Drop, A: Allocator>(field: cfgx_fields::Field<'_, K, A>, text: &str) -> bool {
+fn is_field<K: Drop, A: Allocator>(field: Field<'_, K, A>, text: &str) -> bool {
     field.as_str() == text
-}
-
-// The same of a place.
-fn is_place<K: Drop, A: Allocator>(place: cfgx_places::Field<'_, K, A>, text: &str) -> bool {
-    place.as_str() == text
 }
 
 const ABIS: &[&str] = &[
@@ -314,7 +308,7 @@ fn later_system(place: usize) -> Os<'static, Heap> {
 #[test]
 fn systems_have_their_texts(rt: HostRuntime) {
     for (place, text) in OPERATING_SYSTEMS.iter().enumerate() {
-        assert!(rt; is_place(system(place), text), "{text}");
+        assert!(rt; is_field(system(place), text), "{text}");
     }
 }
 
@@ -331,7 +325,7 @@ fn family(place: usize) -> Family<'static, Heap> {
 #[test]
 fn families_have_their_texts(rt: HostRuntime) {
     for (place, text) in FAMILIES.iter().enumerate() {
-        assert!(rt; is_place(family(place), text), "{text}");
+        assert!(rt; is_field(family(place), text), "{text}");
     }
 }
 
@@ -382,7 +376,7 @@ fn environment(place: usize) -> Env<'static, Heap> {
 #[test]
 fn environments_have_their_texts(rt: HostRuntime) {
     for (place, text) in ENVIRONMENTS.iter().enumerate() {
-        assert!(rt; is_place(environment(place), text), "{text}");
+        assert!(rt; is_field(environment(place), text), "{text}");
     }
 }
 
@@ -398,6 +392,6 @@ fn panic(place: usize) -> Panic<'static, Heap> {
 #[test]
 fn panics_have_their_texts(rt: HostRuntime) {
     for (place, text) in PANIC_STRATEGIES.iter().enumerate() {
-        assert!(rt; is_place(panic(place), text), "{text}");
+        assert!(rt; is_field(panic(place), text), "{text}");
     }
 }
