@@ -32,13 +32,13 @@ use denote.Triple.Walked.{Stays, stay_dropped, Goes-dropped, walk_of}
 use Rattle.std.specs.Allocator.{HasLayout, owned_block}
 use Rattle.std.proofs.alloc.Calls.{Al, token, gives_key, Gives}
 use Rattle.std.proofs.raw_atomic.Walks.{leaves, proved}
-use Rattle.cfgx_vectors.proofs.refusing.Loan.{type_args, Loan, loan_of, Request, request}
-use Rattle.cfgx_vectors.proofs.refusing.Loan.{inner_at, by_ref, Inner, alive}
-use Rattle.cfgx_vectors.proofs.refusing.Loan.{reaches_inner, deallocates}
-use Rattle.cfgx_vectors.proofs.refusing.Refusing.inner.Met as inner
-use Rattle.cfgx_vectors.specs.contracts.refusing.RefusingAllocator.deallocate as f
-use Rattle.cfgx_vectors.proofs.refusing.RefusingAllocator.deallocate.Statement.{statement}
-use Rattle.cfgx_vectors.proofs.refusing.RefusingAllocator.deallocate.Code as code
+use Rattle.cfgx_testing.proofs.refusing.Loan.{type_args, Loan, loan_of, Request, request}
+use Rattle.cfgx_testing.proofs.refusing.Loan.{inner_at, by_ref, Inner, alive}
+use Rattle.cfgx_testing.proofs.refusing.Loan.{reaches_inner, deallocates}
+use Rattle.cfgx_testing.proofs.refusing.Refusing.inner.Met as inner
+use Rattle.cfgx_testing.specs.contracts.refusing.RefusingAllocator.deallocate as f
+use Rattle.cfgx_testing.proofs.refusing.RefusingAllocator.deallocate.Statement.{statement}
+use Rattle.cfgx_testing.proofs.refusing.RefusingAllocator.deallocate.Code as code
 
 module _ (Z : Al) where
   abbrev parts : Ended
@@ -158,5 +158,5 @@ deallocate_spec 𝓤 𝓛 𝓜 𝓡 wired row laws g d drops met dropped =
     let asked : Request =
     request τ a.1.1.0 a.1.1.1.0 are.1.1.0.1 are.1.1.1.0.1 in
     walk Z 𝓛 𝓜.mem 𝓡.returns loan asked (tables_of 𝓤 𝓛.H 𝓜 (tables 𝓤 𝓛.H 𝓜 𝓡 𝓡.env))
-    (inner.met 𝓤 𝓛 𝓜 𝓡 (code.calls-cfgx_vectors::refusing::Refusing::inner 𝓡.env wired) row laws g d
+    (inner.met 𝓤 𝓛 𝓜 𝓡 (code.calls-cfgx_testing::refusing::Refusing::inner 𝓡.env wired) row laws g d
     drops met dropped) (met.deallocate drops) a.1.0)

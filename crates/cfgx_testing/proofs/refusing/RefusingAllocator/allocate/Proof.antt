@@ -34,16 +34,16 @@ use Rattle.std.specs.Allocator.{HasLayout}
 use Rattle.std.proofs.alloc.Calls.{Al, Answer-typed, answer_val, got, token, takes_key, Takes}
 use Rattle.std.proofs.alloc.Shapes.{after}
 use Rattle.std.proofs.raw_atomic.Walks.{leaves, proved}
-use Rattle.cfgx_vectors.proofs.refusing.Loan.{type_args, Loan, loan_of, Request, request}
-use Rattle.cfgx_vectors.proofs.refusing.Loan.{countdown_at, inner_at, by_ref}
-use Rattle.cfgx_vectors.proofs.refusing.Loan.{Countdown, Inner, lent, alive}
-use Rattle.cfgx_vectors.proofs.refusing.Loan.{counts_down, reaches_inner}
-use Rattle.cfgx_vectors.proofs.refusing.Loan.{allocates, as_answer, answer_owned, answer_made}
-use Rattle.cfgx_vectors.proofs.refusing.Refusing.ends_countdown.Met as countdown
-use Rattle.cfgx_vectors.proofs.refusing.Refusing.inner.Met as inner
-use Rattle.cfgx_vectors.specs.contracts.refusing.RefusingAllocator.allocate as f
-use Rattle.cfgx_vectors.proofs.refusing.RefusingAllocator.allocate.Statement.{statement}
-use Rattle.cfgx_vectors.proofs.refusing.RefusingAllocator.allocate.Code as code
+use Rattle.cfgx_testing.proofs.refusing.Loan.{type_args, Loan, loan_of, Request, request}
+use Rattle.cfgx_testing.proofs.refusing.Loan.{countdown_at, inner_at, by_ref}
+use Rattle.cfgx_testing.proofs.refusing.Loan.{Countdown, Inner, lent, alive}
+use Rattle.cfgx_testing.proofs.refusing.Loan.{counts_down, reaches_inner}
+use Rattle.cfgx_testing.proofs.refusing.Loan.{allocates, as_answer, answer_owned, answer_made}
+use Rattle.cfgx_testing.proofs.refusing.Refusing.ends_countdown.Met as countdown
+use Rattle.cfgx_testing.proofs.refusing.Refusing.inner.Met as inner
+use Rattle.cfgx_testing.specs.contracts.refusing.RefusingAllocator.allocate as f
+use Rattle.cfgx_testing.proofs.refusing.RefusingAllocator.allocate.Statement.{statement}
+use Rattle.cfgx_testing.proofs.refusing.RefusingAllocator.allocate.Code as code
 
 module _ (Z : Al) where
   abbrev function : Fn
@@ -155,7 +155,7 @@ allocate_spec 𝓤 𝓛 𝓜 𝓡 wired row laws g d drops met dropped =
     let asked : Request =
     request τ a.1.0 a.1.1.0 are.1.0.1 are.1.1.0.1 in
     walk Z 𝓛 𝓜.mem 𝓡.returns loan asked (tables_of 𝓤 𝓛.H 𝓜 (tables 𝓤 𝓛.H 𝓜 𝓡 𝓡.env))
-    (countdown.met 𝓤 𝓛 𝓜 𝓡 (code.calls-cfgx_vectors::refusing::Refusing::ends_countdown 𝓡.env wired)
+    (countdown.met 𝓤 𝓛 𝓜 𝓡 (code.calls-cfgx_testing::refusing::Refusing::ends_countdown 𝓡.env wired)
     row laws g d drops met dropped)
-    (inner.met 𝓤 𝓛 𝓜 𝓡 (code.calls-cfgx_vectors::refusing::Refusing::inner 𝓡.env wired) row laws g d
+    (inner.met 𝓤 𝓛 𝓜 𝓡 (code.calls-cfgx_testing::refusing::Refusing::inner 𝓡.env wired) row laws g d
     drops met dropped) (met.allocate drops))

@@ -45,12 +45,12 @@ use Rattle.std.specs.Allocator.{HasLayout, block_if_ok}
 use Rattle.std.proofs.alloc.Calls.{Al, seen, token, got, Answer, answer_val, Answer-Ok, Answer-err}
 use Rattle.std.proofs.alloc.Calls.{takes_key, Takes, at_takes, Takes-goes, Takes-gives, gives_key}
 use Rattle.std.proofs.alloc.Calls.{Gives, at_gives, Gives-goes, Gives-Gives}
-use Rattle.cfgx_vectors.specs.contracts.refusing.Refusing as refusing
-use Rattle.cfgx_vectors.specs.contracts.refusing.Refusing.ends_countdown as countdown
-use Rattle.cfgx_vectors.specs.contracts.refusing.Refusing.ends_countdown.Key as countdown_key
-use Rattle.cfgx_vectors.specs.contracts.refusing.Refusing.inner as inner
-use Rattle.cfgx_vectors.specs.contracts.refusing.Refusing.inner.Key as inner_key
-use Rattle.cfgx_vectors.proofs.refusing.Refusing.TheLaws.{the_row_laws}
+use Rattle.cfgx_testing.specs.contracts.refusing.Refusing as refusing
+use Rattle.cfgx_testing.specs.contracts.refusing.Refusing.ends_countdown as countdown
+use Rattle.cfgx_testing.specs.contracts.refusing.Refusing.ends_countdown.Key as countdown_key
+use Rattle.cfgx_testing.specs.contracts.refusing.Refusing.inner as inner
+use Rattle.cfgx_testing.specs.contracts.refusing.Refusing.inner.Key as inner_key
+use Rattle.cfgx_testing.proofs.refusing.Refusing.TheLaws.{the_row_laws}
 
 module _ (Z : Al) where
   abbrev pub Whole : RattleType

@@ -1,0 +1,2 @@
+//! The callers that the pages show, proved by the contracts that they call.
+#![tactic(auto)]

@@ -1,0 +1,2 @@
+//! Tests that take long if they are not built by LLVM.
+#![tactic(auto)]

@@ -1,0 +1,36 @@
+//! What a check answers.
+use std::alloc::Global;
+use std::fmt::Display;
+
+/// Whether the check holds; an error of its own is a no.
+pub fn holds<E: Drop>(answer: Result<bool, E>) -> bool {
+    match answer {
+        Ok(is_held) => is_held,
+        Err(_error) => false,
+    }
+}
+
+/// Whether this is the value, if there is no error.
+///
+/// A value is dear to drop in a proof if its type is known. Here it is not.
+pub fn gives<T: PartialEq + Drop, E: Drop>(answer: Result<T, E>, wanted: &T) -> Result<bool, E> {
+    Ok(answer? == *wanted)
+}
+
+/// The name of the first of some checks that does not hold.
+pub fn first_wrong<'a>(checks: &[(&'a str, bool)]) -> Option<&'a str> {
+    for (name, is_held) in checks {
+        if !*is_held {
+            return Some(*name);
+        }
+    }
+    None
+}
+
+/// Whether the value prints this text.
+pub fn prints<T: Display>(alloc: Global, value: &T, text: &str) -> bool {
+    match format!(in alloc; "{value}") {
+        Ok(printed) => printed.as_str() == text,
+        Err(_) => false,
+    }
+}

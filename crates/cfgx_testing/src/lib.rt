@@ -1,0 +1,11 @@
+//! What the tests of several crates share: an allocator that refuses on demand, streams in memory
+//! that fail where they are told to, long texts, and tables of rows as text.
+#![tactic(auto)]
+
+pub mod heap;
+pub mod holding;
+pub mod refusing;
+pub mod rows;
+pub mod streams;
+pub mod texts;
+pub mod triples;

@@ -1,0 +1,151 @@
+//! Tables of rows as text, one row a line.
+//!
+//! A line that is empty or begins with `// ` is no row. A backslash at the end of a line says that
+//! the row goes on in the next one. The fields of a row are divided by ` | `. In a field `\n`,
+//! `\t`, `\r`, `\0` and `\\` stand for what they are in Rust, `\u{a0}` for the character of that
+//! number, and `\e` for nothing, so that a field can be empty.
+use cfg_expr::error::{ParseError, Reason};
+use std::alloc::{AllocError, Global};
+
+// The character that stands after a backslash, or nothing for `e`.
+fn meant(letter: char) -> Option<&'static str> {
+    match letter {
+        'n' => Some("\n"),
+        't' => Some("\t"),
+        'r' => Some("\r"),
+        '0' => Some("\0"),
+        'e' => Some(""),
+        _ => None,
+    }
+}
+
+// Adds what a piece after a backslash stands for, unless it is no escape.
+fn push_meant(text: &mut String, piece: &str) -> Option<()> {
+    if let Some(rest) = piece.strip_prefix("u{") {
+        let (number, rest) = rest.split_once('}')?;
+        let number = u32::from_str_radix(number, 16).ok()?;
+        text.push(char::from_u32(number)?).ok()?;
+        return text.push_str(rest).ok();
+    }
+    let mut letters = piece.chars();
+    let meant = meant(letters.next()?)?;
+    text.push_str(meant).ok()?;
+    text.push_str(letters.as_str()).ok()
+}
+
+/// The text that a field stands for, or nothing if it has an escape of no meaning.
+pub fn unescaped(alloc: Global, field: &str) -> Option<String> {
+    let mut text = String::new(alloc);
+    let mut is_plain = true;
+    for piece in field.split('\\') {
+        if is_plain {
+            text.push_str(piece).ok()?;
+            is_plain = false;
+        } else if piece.is_empty() {
+            text.push('\\').ok()?;
+            is_plain = true;
+        } else {
+            push_meant(&mut text, piece)?;
+        }
+    }
+    if is_plain { None } else { Some(text) }
+}
+
+/// The fields of a row, or nothing if one has an escape of no meaning.
+pub fn fields_of(alloc: Global, row: &str) -> Option<Vec<String>> {
+    let mut fields = Vec::new(alloc);
+    for field in row.split(" | ") {
+        fields.push(unescaped(alloc, field)?).ok()?;
+    }
+    Some(fields)
+}
+
+// Whether the line is no row and no part of one.
+fn is_apart(line: &str) -> bool {
+    line.is_empty() || line.starts_with("// ")
+}
+
+// Whether the row can be taken apart, and its fields pass the check.
+fn passes<F>(alloc: Global, row: &str, check: &F) -> bool
+where
+    F: Fn(&[String]) -> bool,
+    requires { F.IsAlwaysCallable check.now }
+{
+    match fields_of(alloc, row) {
+        Some(fields) => check(fields.as_slice()),
+        None => false,
+    }
+}
+
+/// How many rows the table has, if each can be taken apart and its fields pass the check; otherwise
+/// the first row of which that is not so.
+pub fn passing<F>(alloc: Global, table: &str, check: F) -> Result<usize, String>
+where
+    F: Fn(&[String]) -> bool,
+    requires { F.IsAlwaysCallable check }
+{
+    let mut rows = 0usize;
+    let mut row = String::new(alloc);
+    for line in table.lines() {
+        if row.is_empty() && is_apart(line) {
+            continue;
+        }
+        let front = line.strip_suffix('\\');
+        if row.push_str(front.unwrap_or(line)).is_err() {
+            return Err(row);
+        }
+        if front.is_none() {
+            if !passes(alloc, row.as_str(), &check) {
+                return Err(row);
+            }
+            row.clear();
+            rows = rows.saturating_add(1);
+        }
+    }
+    if row.is_empty() { Ok(rows) } else { Err(row) }
+}
+
+// The name of a reason, without its number and its terms.
+fn name_of(reason: Reason) -> &'static str {
+    match reason {
+        Reason::InvalidNot(_) => "InvalidNot",
+        Reason::InvalidCharacters => "InvalidCharacters",
+        Reason::UnclosedParens => "UnclosedParens",
+        Reason::UnopenedParens => "UnopenedParens",
+        Reason::UnclosedQuotes => "UnclosedQuotes",
+        Reason::UnopenedQuotes => "UnopenedQuotes",
+        Reason::Empty => "Empty",
+        Reason::Unexpected(_) => "U",
+        Reason::InvalidInteger => "InvalidInteger",
+        Reason::MultipleRootPredicates => "MultipleRootPredicates",
+        Reason::InvalidHasAtomic => "InvalidHasAtomic",
+        Reason::UnknownBuiltin => "UnknownBuiltin",
+    }
+}
+
+// The terms between back quotes and brackets.
+fn terms_of(alloc: Global, terms: &[&str]) -> Result<String, AllocError> {
+    let mut text = String::from_str(alloc, "[")?;
+    for (place, term) in terms.iter().enumerate() {
+        text.push_str(if place == 0 { "`" } else { " `" })?;
+        text.push_str(term)?;
+        text.push_str("`")?;
+    }
+    text.push_str("]")?;
+    Ok(text)
+}
+
+/// A fault as rows and pages write it: `UnopenedParens at 3..4`, `InvalidNot(2) at 0..9`, and for
+/// `Unexpected` its terms, as in ``U[`=` `,` `)`] at 2..3``.
+pub fn told(alloc: Global, error: &ParseError) -> Result<String, AllocError> {
+    let name = name_of(error.reason);
+    let (start, end) = (error.span.start, error.span.end);
+    match error.reason {
+        Reason::InvalidNot(found) => format!(in alloc; "{name}({found}) at {start}..{end}"),
+        Reason::Unexpected(terms) => {
+            let terms = terms_of(alloc, terms)?;
+            format!(in alloc; "{name}{terms} at {start}..{end}")
+        }
+        _ => format!(in alloc; "{name} at {start}..{end}"),
+    }
+}

@@ -1,0 +1,207 @@
+//! Streams in memory: sources that hold nothing or give little a call, a sink that takes little a
+//! call, each of which fails where it is told to, and what a run writes into them.
+ghost use Rattle.std.specs.Prelude.{◌≡◌, [], Some};
+ghost use Rattle.std.specs.Io.{ReadsAtMost};
+ghost use Rattle.std.specs.Io.KnownBytes.{ReadConsumes};
+
+use cfgx_engine::engine::{Sink, Source, run};
+use std::alloc::Global;
+use std::io;
+use std::io::ErrorKind;
+
+/// What a run with words of no use writes.
+pub const USAGE: &str =
+    "usage: cfgx parse TEXT | eval TEXT FLAG.. | target TRIPLE TEXT | pick TRIPLE\n";
+
+/// No limit.
+pub const ALL: usize = usize::MAX;
+
+/// An interrupted call, which is not tried again either.
+pub fn interrupted() -> io::Error {
+    io::Error::from(ErrorKind::Interrupted)
+}
+
+/// A source at its end, whose reads never fail.
+#[derive(Drop)]
+pub struct Ended;
+
+impl Source for Ended {
+    ghost failures = { λ _. 0 };
+
+    ghost unread = { λ _. Some [] };
+
+    fn read(&mut self, _buffer: &mut [u8]) -> io::Result<usize> {
+        Ok(0)
+    }
+}
+
+/// A source of at most `each` bytes a call, whose read of the number `failing_read`, counted from
+/// 1, fails.
+#[derive(Drop)]
+pub struct Pieces<'a> {
+    /// The bytes that are still to come
+    pub left: &'a [u8],
+    each: usize,
+    failing_read: u64,
+    /// How many reads there were
+    pub reads: u64,
+    /// How many of them failed
+    pub failures: u64,
+}
+
+impl Pieces<'_> {
+    /// A source of these bytes, no read of which fails if that number is 0.
+    pub fn new(left: &[u8], each: usize, failing_read: u64) -> Pieces<'_>
+        ensures { result.failures ≡ 0 }
+    {
+        Pieces {
+            left,
+            each,
+            failing_read,
+            reads: 0,
+            failures: 0,
+        }
+    }
+}
+
+impl io::Read for Pieces<'_> {
+    ghost remaining = { λ source. Some source.left.now };
+
+    fn read(&mut self, buffer: &mut [u8]) -> io::Result<usize>
+        ensures bound { ReadsAtMost result buffer.new }
+        ensures bytes { ReadConsumes (Some self.old.left.now) (Some self.new.left.now)
+            result buffer.new }
+        ensures kept { self.new.failures ≡ self.old.failures }
+    {
+        self.reads = self.reads.saturating_add(1);
+        if self.reads == self.failing_read {
+            return Err(interrupted());
+        }
+        let count = buffer.len().min(self.each.max(1)).min(self.left.len());
+        let (front, beyond) = self.left.split_at(count);
+        buffer[..count].copy_from_slice(front);
+        self.left = beyond;
+        Ok(count)
+    }
+}
+
+impl Source for Pieces<'_> {
+    ghost failures = { λ source. source.failures };
+
+    ghost unread = { λ source. Some source.left.now };
+
+    fn read(&mut self, buffer: &mut [u8]) -> io::Result<usize> {
+        let answer = io::Read::read(self, buffer);
+        if answer.is_err() {
+            self.failures += 1;
+        }
+        answer
+    }
+}
+
+/// A sink that takes at most `each` bytes a call and `room` bytes in all. Its write of the number
+/// `failing_write` fails, and that of the number `empty_write` takes no byte, both counted from 1.
+#[derive(Drop)]
+pub struct Recorder {
+    /// What was written
+    pub bytes: Vec<u8>,
+    /// How many calls failed
+    pub failures: u64,
+    /// The most bytes of a call
+    pub each: usize,
+    /// The most bytes that are still taken
+    pub room: usize,
+    /// The write that fails, or 0
+    pub failing_write: u64,
+    /// The write that takes nothing, or 0
+    pub empty_write: u64,
+    /// Whether a flush fails
+    pub is_flush_failing: bool,
+    /// How many writes there were
+    pub writes: u64,
+    /// How many flushes there were
+    pub flushes: u64,
+    /// Whether a write was of an empty slice, or a call came after a failed one
+    pub is_misused: bool,
+}
+
+impl Recorder {
+    /// A sink that takes all.
+    pub fn new(alloc: Global) -> Recorder
+        ensures { result.failures ≡ 0 }
+    {
+        Recorder {
+            bytes: Vec::new(alloc),
+            failures: 0,
+            each: usize::MAX,
+            room: usize::MAX,
+            failing_write: 0,
+            empty_write: 0,
+            is_flush_failing: false,
+            writes: 0,
+            flushes: 0,
+            is_misused: false,
+        }
+    }
+}
+
+impl Sink for Recorder {
+    ghost failures = { λ sink. sink.failures };
+
+    ghost written = { λ sink. Some sink.bytes.items };
+
+    fn write(&mut self, bytes: &[u8]) -> io::Result<usize> {
+        self.writes = self.writes.saturating_add(1);
+        self.is_misused |= bytes.is_empty() || self.failures > 0;
+        if bytes.is_empty() {
+            return Ok(0);
+        }
+        if self.writes == self.failing_write {
+            self.failures += 1;
+            return Err(interrupted());
+        }
+        let taken = bytes.len().min(self.each).min(self.room);
+        if taken == 0 || self.writes == self.empty_write {
+            self.failures += 1;
+            return Ok(0);
+        }
+        if self.bytes.extend_from_slice(&bytes[..taken]).is_err() {
+            self.failures += 1;
+            return Err(interrupted());
+        }
+        self.room -= taken;
+        Ok(taken)
+    }
+
+    fn flush(&mut self) -> io::Result<()> {
+        self.flushes = self.flushes.saturating_add(1);
+        self.is_misused |= self.failures > 0;
+        if self.is_flush_failing {
+            self.failures += 1;
+            return Err(interrupted());
+        }
+        Ok(())
+    }
+}
+
+/// Whether this was written with one flush and no failed call.
+pub fn is_written(sink: &Recorder, written: &[u8]) -> bool {
+    sink.bytes.as_slice() == written && sink.failures == 0 && sink.flushes == 1 && !sink.is_misused
+}
+
+/// Whether a run with these words ends with this status, and writes this with one flush and no
+/// failed call.
+pub fn is_answer(alloc: Global, words: &[&str], status: u8, written: &str) -> bool {
+    let mut sink = Recorder::new(alloc);
+    let ended = run(alloc, words, &mut Ended, &mut sink);
+    is_written(&sink, written.as_bytes()) && ended == status
+}
+
+/// Whether the sink had these calls, of which so many failed, and got these bytes: no call was of
+/// an empty slice, and none came after a failed one.
+pub fn is_left_so(sink: &Recorder, written: &[u8], calls: (u64, u64), failures: u64) -> bool {
+    sink.bytes.as_slice() == written
+        && (sink.writes, sink.flushes) == calls
+        && sink.failures == failures
+        && !sink.is_misused
+}

@@ -1,0 +1,34 @@
+//! Long texts.
+use std::alloc::{AllocError, Global};
+
+/// The front, the piece so many times, and the back.
+pub fn repeated(
+    alloc: Global,
+    front: &str,
+    piece: &str,
+    times: usize,
+    back: &str,
+) -> Result<String, AllocError> {
+    let mut text = String::from_str(alloc, front)?;
+    for _time in 0..times {
+        text.push_str(piece)?;
+    }
+    text.push_str(back)?;
+    Ok(text)
+}
+
+/// So many functions, one in another, and as many `)`.
+pub fn nested(alloc: Global, name: &str, times: usize, inner: &str) -> Result<String, AllocError> {
+    let front = repeated(alloc, "", name, times, inner)?;
+    repeated(alloc, front.as_str(), ")", times, "")
+}
+
+/// A front, a piece, how often it comes, a back, and how many `)` stand after that.
+pub type Parts = (&'static str, &'static str, usize, &'static str, usize);
+
+/// The text of these parts.
+pub fn written(alloc: Global, parts: &Parts) -> Result<String, AllocError> {
+    let (front, piece, times, back, closed) = *parts;
+    let text = repeated(alloc, front, piece, times, back)?;
+    repeated(alloc, text.as_str(), ")", closed, "")
+}

@@ -1,0 +1,2 @@
+//! Tests of values and of targets, whose answers are known from outside.
+#![tactic(auto)]
