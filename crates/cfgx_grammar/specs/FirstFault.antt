@@ -2,7 +2,8 @@
 -- cfg-expr names, except that functions count as roots too, and that members are counted without a
 -- limit. It is the fault of the first token that has one; else the place where no token can start;
 -- else what is wrong at the end of the text. Each is counted on the tokens before a place.
-use Rattle.std.specs.Prelude.{◌≡◌, ℕ, ◌+◌, ◌==◌, Bool, false, List, [], ◌∷◌, length, take, reverse}
+use Rattle.std.specs.Prelude.{◌≡◌, ℕ, ◌+◌, ◌==◌, ◌&&◌, ◌||◌, Bool, false, not, nat_lt, List, []}
+use Rattle.std.specs.Prelude.{◌∷◌, length, take, reverse}
 use Rattle.std.specs.Prelude.{codes, slice_get, Option, Some, None, option_map, option_and_then}
 use Rattle.std.specs.Prelude.{if◌then◌else◌}
 use Rattle.std.specs.Option.{option_or}
@@ -11,7 +12,8 @@ use Rattle.cfgx_syntax.specs.Items.{Item, Ending, AreItems, lexical}
 use Rattle.cfgx_syntax.specs.Error.{Cause, Refusal, unexpected, unopened_parens, unclosed_parens}
 use Rattle.cfgx_syntax.specs.Error.{invalid_not, empty, multiple_root_predicates}
 use Rattle.cfgx_grammar.specs.Classification.{Class}
-use Rattle.cfgx_grammar.specs.Depth.{depth, first_below, innermost, members, names_not, roots}
+use Rattle.cfgx_grammar.specs.Depth.{depth, first_below, innermost, is_closing, members}
+use Rattle.cfgx_grammar.specs.Depth.{names_not, roots}
 use Rattle.cfgx_grammar.specs.LastPredicate.{KeyAndValue, class_of, part_of, predicate_last}
 use Rattle.cfgx_grammar.specs.Neighbours.{Kind, kind_of, is_kind, next, expected}
 
@@ -29,6 +31,10 @@ abbrev pub predicate_fault : List Item → Option Refusal
 predicate_fault front = option_and_then (λ p. class_fault p (class_of p))
     (predicate_last (reverse front))
 
+-- a predicate that has begun ends at the token
+abbrev pub ends_predicate : Token → Bool
+ends_predicate token = is_closing token || is_kind Kind.comma (kind_of token)
+
 abbrev pub head_token : List Item → Option Token
 head_token [] = None
 head_token (item ∷ before) = Some item.token
@@ -36,29 +42,52 @@ head_token (item ∷ before) = Some item.token
 abbrev pub last_token : List Item → Option Token
 last_token front = head_token (reverse front)
 
+-- Questions on a place of a text, in the order in which they are asked. The first one that shows a
+-- fault counts.
+
+abbrev pub first_of : List (Option Refusal) → Option Refusal
+first_of [] = None
+first_of (fault ∷ []) = fault
+first_of (fault ∷ other ∷ others) = option_or fault (first_of (other ∷ others))
+
+-- the fault, if it is so
+abbrev pub when : Bool → Refusal → Option Refusal
+when is_so fault = if is_so then Some fault else None
+
 -- the fault of a `not` without exactly one member: from its name to the end of its `)`
 abbrev pub count_fault : Item → ℕ → Item → Option Refusal
-count_fault name count close = if names_not name.token then (if count == 1 then None
-    else Some (refusal (invalid_not count) name.start close.end)) else None
+count_fault name count close = when (names_not name.token && not (count == 1))
+    (refusal (invalid_not count) name.start close.end)
 
 -- the fault of a `)` after the tokens, if it closes the function at the place and that is a `not`
 abbrev pub not_fault : List Item → Item → ℕ → Option Refusal
 not_fault front close function = option_and_then
     (λ name. count_fault name (members front function) close) (slice_get front function)
 
--- the fault of a token that may follow the others
-abbrev pub fault_by : List Item → Item → Token → Option Refusal
-fault_by front item Token.close_paren =
-    if depth front == 0 then Some (refusal unopened_parens item.start item.end)
-    else option_or (option_and_then (not_fault front item) (innermost front))
-    (predicate_fault front)
-fault_by front item Token.comma = predicate_fault front
-fault_by front item _ = None
+-- At a token, with the tokens before it.
 
--- the fault of a token after others
+-- it may not follow the token before it
+abbrev pub neighbour_fault : List Item → Item → Option Refusal
+neighbour_fault front item = when (not (next (last_token front) item.token))
+    (refusal (unexpected (expected (last_token front))) item.start item.end)
+
+-- it is a `)` while no function is open
+abbrev pub unopened_fault : List Item → Item → Option Refusal
+unopened_fault front item = when (is_closing item.token && depth front == 0)
+    (refusal unopened_parens item.start item.end)
+
+-- it is a `)` that closes a `not` without exactly one member
+abbrev pub closed_fault : List Item → Item → Option Refusal
+closed_fault front item = if is_closing item.token
+    then option_and_then (not_fault front item) (innermost front) else None
+
+-- it is a `)` or a `,` at which a faulty predicate ends
+abbrev pub ended_fault : List Item → Item → Option Refusal
+ended_fault front item = if ends_predicate item.token then predicate_fault front else None
+
 abbrev pub fault_after : List Item → Item → Option Refusal
-fault_after front item = if next (last_token front) item.token then fault_by front item item.token
-    else Some (refusal (unexpected (expected (last_token front))) item.start item.end)
+fault_after front item = first_of (neighbour_fault front item ∷ unopened_fault front item
+    ∷ closed_fault front item ∷ ended_fault front item ∷ [])
 
 -- the fault of the token at the place
 abbrev pub fault_at : List Item → ℕ → Option Refusal
@@ -80,17 +109,28 @@ abbrev pub open_fault : ℕ → List Item → ℕ → Option Refusal
 open_fault len items function = option_map
     (λ name. unclosed_fault len name (slice_get items (function + 1))) (slice_get items function)
 
--- the fault of a text with so many roots
-abbrev pub root_fault : ℕ → ℕ → Option Refusal
-root_fault len count = if count == 0 then Some (refusal empty 0 len) else (if count == 1 then None
-    else Some (refusal multiple_root_predicates 0 len))
+-- At the end of a text of `len` bytes, with its tokens.
 
--- the fault at the end of a text of `len` bytes whose tokens are these
+-- the last one is `=`
+abbrev pub value_fault : ℕ → List Item → Option Refusal
+value_fault len items = when (lacks_value (last_token items))
+    (refusal (unexpected (codes "\"<value>\"" ∷ [])) len len)
+
+-- a function is open; the innermost one counts
+abbrev pub unclosed_innermost : ℕ → List Item → Option Refusal
+unclosed_innermost len items = option_and_then (open_fault len items) (innermost items)
+
+-- there is no root
+abbrev pub empty_fault : ℕ → List Item → Option Refusal
+empty_fault len items = when (roots items == 0) (refusal empty 0 len)
+
+-- there is more than one
+abbrev pub roots_fault : ℕ → List Item → Option Refusal
+roots_fault len items = when (nat_lt 1 (roots items)) (refusal multiple_root_predicates 0 len)
+
 abbrev pub end_fault : ℕ → List Item → Option Refusal
-end_fault len items = if lacks_value (last_token items)
-    then Some (refusal (unexpected (codes "\"<value>\"" ∷ [])) len len)
-    else if depth items == 0 then option_or (predicate_fault items) (root_fault len (roots items))
-    else option_and_then (open_fault len items) (innermost items)
+end_fault len items = first_of (value_fault len items ∷ unclosed_innermost len items
+    ∷ predicate_fault items ∷ empty_fault len items ∷ roots_fault len items ∷ [])
 
 -- the first fault of a stripped text, by its tokens and by how it ends
 abbrev pub first_fault : List ℕ → List Item → Ending → Option Refusal

@@ -4,13 +4,13 @@
 use Rattle.std.proofs.Common.{◌≡◌, ⊎_elim, ℕ, zero, suc, ◌+◌, ◌<◌, ◌≤◌, ◌&&◌, ◌==◌, Bool, true}
 use Rattle.std.proofs.Common.{false, List, [], ◌∷◌, ◌++◌, length, Option, Some, sym, refl, ap, ◌∙◌}
 use Rattle.std.proofs.Common.{arith, take_at, option_map, take_all, if◌then◌else◌, nat_le}
-use Rattle.std.proofs.Common.{slice_get}
+use Rattle.std.proofs.Common.{slice_get, None, le-ltb}
 use Rattle.std.proofs.lemmas.Bool.{cases_lt}
 use Rattle.std.proofs.lemmas.List.{take-append-le, length_push}
 use Rattle.cfgx_syntax.specs.Items.{Item}
 use Rattle.cfgx_grammar.specs.Neighbours.{Kind, kind_of, is_kind}
 use Rattle.cfgx_grammar.specs.Depth.{count_below, last_below, begins_member, depth, depth_at}
-use Rattle.cfgx_grammar.specs.Depth.{members_at}
+use Rattle.cfgx_grammar.specs.Depth.{members_at, innermost}
 use Rattle.std.proofs.lemmas.Option.{slice_get_within}
 use Rattle.cfgx_grammar.specs.parsing.State.{Function, Open, name_of}
 use Rattle.cfgx_grammar.specs.parsing.Step.{over_top, with_parens}
@@ -28,6 +28,16 @@ module _ {X : Type 0} where
       → slice_get (xs ++ y ∷ ys) (length xs) ≡ Some y
   slice_get_next [] y ys = refl
   slice_get_next (x ∷ xs) y ys = slice_get_next xs y ys
+
+last_below-none : (test : ℕ → Bool) (n : ℕ) → ((k : ℕ) → test k ≡ false)
+    → last_below test n ≡ None
+last_below-none test zero none = refl
+last_below-none test (suc n) none = rw (none n) (last_below-none test n none)
+
+-- no function is open
+pub innermost-none : (front : List Item) → depth front ≡ 0 → innermost front ≡ None
+innermost-none front level =
+    last_below-none _ (length front) (λ k. rw level (le-ltb (depth_at front k) 0 (omega arith)))
 
 pub last_below-found : (test : ℕ → Bool) (place n : ℕ) → place < n → test place ≡ true
     → ((k : ℕ) → place < k → k < n → test k ≡ false) → last_below test n ≡ Some place

@@ -5,7 +5,7 @@ use Rattle.std.proofs.Common.{◌≡◌, ◌⊎◌, inl, inr, ℕ, ◌+◌, Bool
 use Rattle.std.proofs.Common.{length, reverse, cond, Option, Some, None, Result, Ok, Err, sym, refl}
 use Rattle.std.proofs.Common.{ap, ◌∙◌, arith, suc, ◌-◌, ◌<◌, option_map, take_all, append_assoc}
 use Rattle.std.proofs.Common.{◌==◌, count_by, option_and_then, if◌then◌else◌, lt-ltb, le-ltb}
-use Rattle.std.proofs.Common.{eq-eqb, ne_eqb, append-nil}
+use Rattle.std.proofs.Common.{eq-eqb, ne_eqb, append-nil, not}
 use Rattle.std.proofs.Math.Seq.{take-append_seam}
 use Rattle.cfgx_syntax.specs.Token.{Token}
 use Rattle.cfgx_syntax.specs.Items.{Item, Ending, lexical}
@@ -17,8 +17,10 @@ use Rattle.cfgx_grammar.specs.Depth.{members, roots, first_below}
 use Rattle.cfgx_grammar.specs.LastPredicate.{key_token, key_last, equals_last, predicate_token}
 use Rattle.cfgx_grammar.specs.LastPredicate.{word_of, with_value}
 use Rattle.cfgx_grammar.specs.FirstFault.{predicate_fault, head_token, last_token, lacks_value}
-use Rattle.cfgx_grammar.specs.FirstFault.{not_fault, fault_by, fault_after, open_fault, root_fault}
-use Rattle.cfgx_grammar.specs.FirstFault.{end_fault, refusal, fault_at, first_fault}
+use Rattle.cfgx_grammar.specs.FirstFault.{not_fault, unopened_fault, closed_fault, ended_fault}
+use Rattle.cfgx_grammar.specs.FirstFault.{first_of, when, fault_after, open_fault, empty_fault}
+use Rattle.cfgx_grammar.specs.FirstFault.{roots_fault, unclosed_innermost, end_fault, refusal}
+use Rattle.cfgx_grammar.specs.FirstFault.{fault_at, first_fault}
 use Rattle.cfgx_grammar.specs.parsing.State.{Pending, Builder, Open, State, initial, Function}
 use Rattle.cfgx_grammar.specs.parsing.State.{name_of}
 use Rattle.cfgx_grammar.specs.parsing.Step.{result_map, predicate_ended, over_top, one_more}
@@ -29,6 +31,7 @@ use Rattle.cfgx_grammar.specs.parsing.Step.{step_each, ended_as, answer_from, ro
 use Rattle.cfgx_grammar.proofs.faults.Levels.{Levels, IsLevel, start_of, Levels-same, Levels-member}
 use Rattle.cfgx_grammar.proofs.faults.Levels.{Levels-open, slice_get_next, members_at_other}
 use Rattle.cfgx_grammar.proofs.faults.Levels.{length_more, last_below-found, members_at_end}
+use Rattle.cfgx_grammar.proofs.faults.Levels.{innermost-none}
 use Rattle.cfgx_grammar.proofs.faults.Levels.{depth_at_end}
 use Rattle.std.specs.Option.{option_or}
 use Rattle.std.proofs.lemmas.Option.{slice_get_within, slice_get_past}
@@ -108,6 +111,28 @@ meets_if : {A : Type 0} (P : A → Type 0) (b : Bool) (r other : Result A Refusa
     → (b ≡ false → Meets P other shown) → Meets P (if b then r else other)
     (if b then fault else shown)
 meets_if P b r other fault shown pass fail = grind arith
+
+-- a test whose failure is the first fault
+meets_when : {A : Type 0} (P : A → Type 0) (b : Bool) (r : Result A Refusal) (refused : Refusal)
+    (fault : Option Refusal) → (b ≡ true → Meets P r fault)
+    → Meets P (if b then r else Err refused) (option_or (when (not b) refused) fault)
+meets_when P b r refused fault pass = grind arith
+
+-- a test that is the first fault
+meets_unless : {A : Type 0} (P : A → Type 0) (b : Bool) (r : Result A Refusal) (refused : Refusal)
+    (fault : Option Refusal) → (b ≡ false → Meets P r fault)
+    → Meets P (if b then Err refused else r) (option_or (when b refused) fault)
+meets_unless P b r refused fault pass = grind arith
+
+-- the questions on a token that may follow the last one
+abbrev pub fault_by : List Item → Item → Option Refusal
+fault_by front item =
+    first_of (unopened_fault front item ∷ closed_fault front item ∷ ended_fault front item ∷ [])
+
+-- those on the end of a text whose functions are all closed
+abbrev pub closed_end : ℕ → List Item → Option Refusal
+closed_end len items =
+    first_of (predicate_fault items ∷ empty_fault len items ∷ roots_fault len items ∷ [])
 
 module _ {W M L : Type 0} {builder : Builder W M L} where
   pub record Matches (front : List Item) (s : State builder) : Type 0 where
@@ -269,7 +294,7 @@ module _ {W M L : Type 0} {builder : Builder W M L} (front : List Item) (s : Sta
     close_step : (stack : List (Open M)) → s.stack ≡ stack
         → Meets (Ended front false s) (predicate_ended s) (predicate_fault front)
         → Meets (After Token.close_paren) (closed_by s (at Token.close_paren) stack)
-        (fault_by front (at Token.close_paren) Token.close_paren)
+        (fault_by front (at Token.close_paren))
     close_step [] is ends = rw (eq-eqb (depth front) 0 (depth_is front s m ∙ ap length is)) refl
     close_step (top ∷ rest) is ends =
         let some : 0 < length s.stack = omega (arith, ap length is) in
@@ -283,7 +308,7 @@ module _ {W M L : Type 0} {builder : Builder W M L} (front : List Item) (s : Sta
 
     -- one token, if it may stand there
     token_step : (token : Token) → next (last_token front) token ≡ true
-        → Meets (After token) (apply s (at token) token) (fault_by front (at token) token)
+        → Meets (After token) (apply s (at token) token) (fault_by front (at token))
     token_step (Token.key text) may = let token = Token.key text in
         let a = says Kind.name (reverse front) may in
         let levels = Levels-member front (at token) s.roots s.stack
@@ -316,28 +341,26 @@ module _ {W M L : Type 0} {builder : Builder W M L} (front : List Item) (s : Sta
 
     pub step_agrees : (token : Token)
         → Meets (Matches (more token)) (step s (at token)) (fault_after front (at token))
-    step_agrees token = rw m.last (meets_if _ _ _ _ _ _
-        (λ may. meets_map _ _ _ _ _ (token_step token may) (λ t matches. matches)) (λ no. refl))
+    step_agrees token = rw m.last (meets_when _ _ _ _ _
+        (λ may. meets_map _ _ _ _ _ (token_step token may) (λ t matches. matches)))
 
   -- the end of the text
   root_ends : (len : ℕ) (r : Result (State builder) Refusal) (fault : Option Refusal)
       → s.stack ≡ [] → Meets (Ended front named s) r fault
-      → EndAgrees (and_then (one_root len) r) (option_or fault (root_fault len (roots front)))
+      → EndAgrees (and_then (one_root len) r)
+      (option_or fault (option_or (empty_fault len front) (roots_fault len front)))
   root_ends len r fault is ends = grind (arith, nat_tests, common_steps)
 
   end_stack : (len : ℕ) (stack : List (Open M)) → s.stack ≡ stack
       → lacks_value (last_token front) ≡ false
-      → EndAgrees (concluded_by len s stack) (if depth front == 0
-      then option_or (predicate_fault front) (root_fault len (roots front))
-      else option_and_then (open_fault len front) (innermost front))
-  end_stack len [] is whole = rw (eq-eqb (depth front) 0 (depth_is front s m ∙ ap length is))
+      → EndAgrees (concluded_by len s stack)
+      (option_or (unclosed_innermost len front) (closed_end len front))
+  end_stack len [] is whole = rw (innermost-none front (depth_is front s m ∙ ap length is))
       (root_ends len (predicate_ended s) (predicate_fault front) is (grind arith))
-  end_stack len (top ∷ rest) is whole =
-      rw (ne_eqb (depth front) 0 (λ zero. omega (arith, zero, deep_is top rest is)))
-      (open_fault_is top rest is len)
+  end_stack len (top ∷ rest) is whole = rw (open_fault_is top rest is len) refl
 
   pub end_agrees : (len : ℕ) → EndAgrees (conclude len s) (end_fault len front)
-  end_agrees len = rw (← m.last) (meets_if _ _ _ _ _ _ (λ lacks. refl)
+  end_agrees len = rw (← m.last) (meets_unless _ _ _ _ _
       (λ whole. end_stack len s.stack refl (ap lacks_value (sym m.last) ∙ whole)))
 
 -- What the steps answer for all tokens of a text is its first fault, or none.
