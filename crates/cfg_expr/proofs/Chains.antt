@@ -12,6 +12,7 @@ use Rattle.cfgx_grammar.specs.Tree.{asked}
 use Rattle.cfgx_grammar.specs.Fold.{Operations, first_or, fold}
 use Rattle.cfg_expr.specs.Asking.{AnswersBy, Asker, Asks, Calls}
 use Rattle.cfg_expr.specs.Evaluation.{Evaluates, IsValueBy}
+use Rattle.cfgx_grammar.proofs.Answering.{only_tree}
 
 -- each call adds one to what the closure counts in, up to a bound, and counts on in the same place
 abbrev pub AddsOne : {F T : Type 0} → Asker F T → (F → MutBor ℕ) → ℕ → Type 0
@@ -84,7 +85,7 @@ pub Evaluates-taken : {F T : Type 0} {logic : Operations T} {asker : Asker F T} 
     → (one : HasOneTree text) × (value ≡ fold logic one.tree answers)
 Evaluates-taken {logic} {asker} {before} {after} seen otherwise answers e each are tree =
     let taken = Calls-taken asker seen otherwise each answers e.calls are
-    (tree.2 ∙ ap (λ tree. length (asked tree)) (e.one.only tree.0 tree.1)) in
+    (tree.2 ∙ ap (λ tree. length (asked tree)) (only_tree e.one tree.0 tree.1)) in
     (e.one, e.value_is ∙ ap (fold logic e.one.tree) taken)
 
 -- if no call changes the closure, the value is that over the function by which it answers

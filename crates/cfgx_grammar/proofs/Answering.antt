@@ -1,8 +1,6 @@
 -- What the parser answers for the one token list of a text, the grammar answers for the text.
-use Rattle.std.proofs.Common.{arith, ◌≡◌, ◌⊎◌, inl, inr, ℕ, List, length, Some, Result, Ok, Err}
+use Rattle.std.proofs.Common.{arith, ◌≡◌, ℕ, List, length, None, Result, Ok, Err}
 use Rattle.std.proofs.Common.{sym, refl, ap, ◌∙◌, subst}
-use Rattle.std.proofs.lemmas.Bool.Decides.{nat_tests}
-use Rattle.std.proofs.lemmas.Grind.{common_steps}
 use Rattle.cfgx_syntax.specs.Items.{Ending, AreItems, HasOneTokenList, lexical}
 use Rattle.cfgx_syntax.specs.Error.{Refusal}
 use Rattle.cfgx_syntax.proofs.TokenList.{ItemsFrom-same}
@@ -10,7 +8,7 @@ use Rattle.cfgx_grammar.specs.Question.{Question}
 use Rattle.cfgx_grammar.specs.Tree.{Tree}
 use Rattle.cfgx_grammar.specs.Grammar.{IsTree, HasTree}
 use Rattle.cfgx_grammar.specs.FirstFault.{HasFault, first_fault}
-use Rattle.cfgx_grammar.specs.Answer.{HasOneTree, IsAccepted, IsRefused}
+use Rattle.cfgx_grammar.specs.Answer.{HasOneTree, HasReading, Reading, ReadsAs}
 use Rattle.cfgx_grammar.specs.parsing.State.{Builder, State, initial}
 use Rattle.cfgx_grammar.specs.parsing.Step.{and_then, step_each, conclude, ended_as, answer_from}
 use Rattle.cfgx_grammar.proofs.accepted.{tokens_of, ran, IsTree-accepted}
@@ -69,43 +67,60 @@ same_tree text tree other has its =
     let built : g.written ≡ f.written = cc in
     cc (tree_built _ _ other g.builds, tree_built _ _ tree f.builds, built)
 
-module _ (text : List ℕ) (one : HasOneTokenList text) where
-  pub HasOneTree-tree : (tree : Tree Question) → HasTree text tree → HasOneTree text
-  HasOneTree-tree tree has =
-      record { tree = tree; has_tree = has; only = λ other its. same_tree text tree other has its }
+-- a text with a tree has no fault: its items show none
+no_fault : (text : List ℕ) (tree : Tree Question) (fault : Refusal) → HasTree text tree
+    → HasFault text fault → ⊥
+no_fault text tree fault has its =
+    let same = ItemsFrom-same text 0 has.items its.items _ _ has.are_items its.are_items in
+    let found = Finds-tree tree_laws (length text) has.items tree has.spelled in
+    let answers : answer_from initial text has.items Ending.blank ≡ Ok found.whole =
+    ap (and_then (ended_as text None)) found.runs ∙ found.concludes in
+    let none = rw answers at (whole_agrees tree_builder text has.items Ending.blank) in
+    let shown = rw (same.0, same.1) at its.shown in
+    absurd (cc (none.0, shown))
 
-  -- the first fault of the text is what the parser answers
-  fault_shown : (fault : Refusal) → HasFault text fault
-      → first_fault text one.items one.ending ≡ Some fault
-  fault_shown fault has = grind (arith, nat_tests, common_steps)
+-- So what a text with a tree reads as is that tree.
+pub ReadsAs-tree : {text : List ℕ} {tree : Tree Question} → HasTree text tree
+    → ReadsAs text (Ok tree)
+ReadsAs-tree {text} {tree} has = record { has = has; only = others }
+  where
+    others : (other : Reading) → HasReading text other → other ≡ Ok tree
+    others (Ok other) its = ap Ok (same_tree text tree other has its)
+    others (Err fault) its = absurd (no_fault text tree fault has its)
+
+pub HasOneTree-tree : {text : List ℕ} {tree : Tree Question} → HasTree text tree → HasOneTree text
+HasOneTree-tree {text} {tree} has = record { tree = tree; reads = ReadsAs-tree has }
+
+-- any tree of such a text is that one
+pub only_tree : {text : List ℕ} (one : HasOneTree text) (tree : Tree Question)
+    → HasTree text tree → tree ≡ one.tree
+only_tree one tree has = same_tree _ one.tree tree one.reads.has has
+
+-- and its first fault is the one that its items show
+ReadsAs-fault : {text : List ℕ} {fault : Refusal} → HasFault text fault
+    → ReadsAs text (Err fault)
+ReadsAs-fault {text} {fault} has = record { has = has; only = others }
+  where
+    others : (other : Reading) → HasReading text other → other ≡ Err fault
+    others (Ok tree) its = absurd (no_fault text tree fault its has)
+    others (Err other) its =
+        let same = ItemsFrom-same text 0 has.items its.items _ _ has.are_items its.are_items in
+        let shown = rw (same.0, same.1) at its.shown in cc (has.shown, shown)
 
 module _ {W M L : Type 0} {builder : Builder W M L} (text : List ℕ)
     (one : HasOneTokenList text) where
-  pub IsAccepted-accepted : (u : State builder) → answer text one ≡ Ok u → IsAccepted text
-  IsAccepted-accepted u e = let (tree, has) = tree_of text one u e in (
-    HasOneTree-tree text one tree has,
-    λ fault shown. absurd (cc ((answered text one (Ok u) e).0, fault_shown text one fault shown)),
-  )
+  -- what the parser refuses has a fault
+  pub ReadsAs-refused : (refusal : Refusal) → answer {builder = builder} text one ≡ Err refusal
+      → ReadsAs text (Err refusal)
+  ReadsAs-refused refusal e = let shown = answered text one (Err refusal) e in ReadsAs-fault
+      (record { items = one.items; ending = one.ending; are_items = one.are; shown = shown })
 
-  -- a tree would be found and show that there is no fault
-  pub IsRefused-refused : (refusal : Refusal) → answer {builder = builder} text one ≡ Err refusal
-      → IsRefused text refusal
-  IsRefused-refused refusal e = let shown = answered text one (Err refusal) e in (
-    λ tree has. let f = FindsTree-tree text one tree_laws tree has in
-        absurd (cc ((answered text one (Ok f.found.whole) f.answers).0, shown)),
-    record {
-      has_fault =
-          record { items = one.items; ending = one.ending; are_items = one.are; shown = shown };
-      only = λ other has. cc (fault_shown text one other has, shown);
-    },
-  )
-
--- either way
-pub accepted_or_refused : (text : List ℕ) → HasOneTokenList text
-    → IsAccepted text ⊎ ((fault : Refusal) × IsRefused text fault)
-accepted_or_refused text one = decided (answer text one) refl
+-- Each text reads one way.
+pub reads_one_way : (text : List ℕ) → HasOneTokenList text
+    → (reading : Reading) × ReadsAs text reading
+reads_one_way text one = decided (answer text one) refl
   where
     decided : (r : Result (State tree_builder) Refusal) → answer text one ≡ r
-        → IsAccepted text ⊎ ((fault : Refusal) × IsRefused text fault)
-    decided (Ok u) e = inl (IsAccepted-accepted text one u e)
-    decided (Err refusal) e = inr (refusal, IsRefused-refused text one refusal e)
+        → (reading : Reading) × ReadsAs text reading
+    decided (Ok u) e = let (tree, has) = tree_of text one u e in (Ok tree, ReadsAs-tree has)
+    decided (Err refusal) e = (Err refusal, ReadsAs-refused text one refusal e)

@@ -29,7 +29,7 @@ use Rattle.cfgx_grammar.specs.Classification.{target_feature, Rule, by_name, key
 use Rattle.cfgx_grammar.specs.Classification.{target_rules, target_class, plain}
 use Rattle.cfgx_grammar.specs.Spelling.{key_and_value, spelling}
 use Rattle.std.proofs.lemmas.Str.{NoCharPasses-nil}
-use Rattle.cfgx_grammar.proofs.Answering.{same_tree}
+use Rattle.cfgx_grammar.proofs.Answering.{ReadsAs-tree}
 use Rattle.cfgx_grammar.proofs.accepted.{tokens_of}
 use Rattle.cfgx_grammar.proofs.Stripped.{strip-tree}
 
@@ -324,6 +324,5 @@ spelling_alone question regular =
     }) in
     record {
       stripped = strip-tree _ _ has;
-      one = record { tree = _; has_tree = has; only = λ other its. same_tree _ _ other has its };
-      is = refl;
+      reads = ReadsAs-tree has;
     }

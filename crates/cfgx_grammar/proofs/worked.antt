@@ -23,7 +23,6 @@ use Rattle.cfgx_targets.specs.declared.atomic.HasAtomic.TheVariants.{IntegerSize
 use Rattle.cfgx_grammar.specs.Spelling.{spelling}
 use Rattle.std.proofs.lemmas.Str.{NoCharPasses-nil}
 use Rattle.cfgx_syntax.proofs.TokenList.{ItemsFrom-same}
-use Rattle.cfgx_grammar.specs.Answer.{HasNoTree}
 use Rattle.cfgx_grammar.specs.Grammar.{HasTree, IsMember, IsList, IsTree}
 use Rattle.cfgx_grammar.specs.parsing.State.{State, initial}
 use Rattle.cfgx_grammar.specs.parsing.Step.{step_each, answer_from}
@@ -324,7 +323,7 @@ values_show = refl
 
 -- a text whose items the parser refuses has no tree
 none_read : (text : List ℕ) (fault : Refusal) → AreItems text (lexed text) Ending.blank
-    → step_each (initial {builder = tree_builder}) (lexed text) ≡ Err fault → HasNoTree text
+    → step_each (initial {builder = tree_builder}) (lexed text) ≡ Err fault → (tree : Tree Question) → HasTree text tree → ⊥
 none_read text fault are refuses tree has =
     let same = ItemsFrom-same text 0 (lexed text) has.items _ _ are has.are_items in
     let found = Finds-tree tree_laws 0 has.items tree has.spelled in
@@ -356,10 +355,10 @@ single_has = record {
   spelled = (_, 0, refl, (_ ∷ [], refl, (_ ∷ [], 0, [], refl, tt, is_flag (codes "a") refl, refl)));
 }
 
-pub lone_comma_has_none : HasNoTree (codes "any(,)")
+pub lone_comma_has_none : (tree : Tree Question) → HasTree (codes "any(,)") tree → ⊥
 lone_comma_has_none = none_read (codes "any(,)") _ (search (rules, NoCharPasses-nil)) refl
 
-pub empty_not_has_none : HasNoTree (codes "not()")
+pub empty_not_has_none : (tree : Tree Question) → HasTree (codes "not()") tree → ⊥
 empty_not_has_none = none_read (codes "not()") _ (search (rules, NoCharPasses-nil)) refl
 
 -- What the parser answers to a text of tokens and white space. Which tokens it takes does not

@@ -1,11 +1,11 @@
 -- Predicates as they can stand in a text, and the text of one alone.
-use Rattle.std.specs.Prelude.{◌≡◌, ℕ, List, Option, Some, None}
+use Rattle.std.specs.Prelude.{◌≡◌, ℕ, List, Option, Some, None, Ok}
 use Rattle.cfgx_syntax.specs.Stripping.{strip}
 use Rattle.cfgx_syntax.specs.Token.{IsKey, HasNoQuote}
 use Rattle.cfgx_grammar.specs.Question.{Question}
 use Rattle.cfgx_grammar.specs.Classification.{class, predicate}
 use Rattle.cfgx_grammar.specs.Tree.{Tree}
-use Rattle.cfgx_grammar.specs.Answer.{HasOneTree}
+use Rattle.cfgx_grammar.specs.Answer.{ReadsAs}
 
 -- a value that can stand between quotes
 abbrev pub CanBeQuoted : Option (List ℕ) → Type 0
@@ -23,5 +23,4 @@ pub record IsRegular (question : Question) : Type 0 where
 -- the text is this predicate and nothing else, and nothing is stripped from it
 pub record IsAlone (text : List ℕ) (question : Question) : Type 0 where
   pub stripped : strip text ≡ text
-  pub one : HasOneTree text
-  pub is : one.tree ≡ Tree.leaf question
+  pub reads : ReadsAs text (Ok (Tree.leaf question))

@@ -10,6 +10,7 @@ use Rattle.cfgx_syntax.proofs.Values.{value_inside}
 use Rattle.cfgx_grammar.specs.Question.{Question}
 use Rattle.cfgx_grammar.specs.Tree.{Tree}
 use Rattle.cfgx_grammar.proofs.Answering.{answer, tree_of, FindsTree-tree, HasOneTree-tree}
+use Rattle.cfgx_grammar.proofs.Answering.{only_tree}
 use Rattle.cfgx_grammar.proofs.alone.{all_of_first}
 use Rattle.cfgx_parser.specs.nodes.KeepsTree.{KeepsTree, KeepsOneTree}
 use Rattle.cfgx_parser.specs.nodes.Node.{Written, nothing, with_list_ended}
@@ -59,18 +60,18 @@ module _ (text : List ℕ) (one : HasOneTokenList text) where
   KeepsOneTree-accepted u e =
       let (tree, has) = tree_of text one u e in
       let f = FindsTree-tree text one (node_laws text) tree has in
-      let whole = HasOneTree-tree text one tree has in
+      let whole = HasOneTree-tree has in
       let same : Ok f.found.whole ≡ Ok u = sym f.answers ∙ e in
       let written : with_list_ended 0 f.found.written ≡ u.written =
       sym f.found.whole_is ∙ cc in
       let writes = laws_written text f.found.first nothing f.found.written tree f.found.builds
       (all_of_first _ f.found.first f.found.rest (rw f.found.items_are at placed)) in
       let keeps = KeepsTree-writes text f.found.written u.written tree written writes in
-      record { one = whole; keeps = rw (← whole.only tree has) keeps }
+      record { one = whole; keeps = rw (← only_tree whole tree has) keeps }
 
 pub few-nodes : {text : List ℕ} {nodes : List ExprNode} {asks : List ℕ}
     → KeepsOneTree text nodes asks
     → length nodes ≤ length text
 few-nodes {text} {nodes} keeps =
     rw (← length-map nodes (node_at text), keeps.keeps.nodes_are)
-    (nodes-bytes text keeps.one.tree keeps.one.has_tree)
+    (nodes-bytes text keeps.one.tree keeps.one.reads.has)

@@ -9,6 +9,7 @@ use Rattle.cfgx_parser.specs.nodes.Shape.{shape, shape_of}
 use Rattle.cfgx_parser.specs.declared.nodes.ExprNode.{ExprNode}
 use Rattle.cfgx_parser.specs.declared.nodes.ExprNode.TheVariants as node
 use Rattle.cfgx_parser.proofs.Places.{read-places}
+use Rattle.cfgx_grammar.proofs.Answering.{only_tree}
 
 shapes-shown : (text : List ℕ) (nodes : List ExprNode)
     → map shape nodes ≡ map shape_of (map (node_at text) nodes)
@@ -21,7 +22,7 @@ pub shapes-kept : {text : List ℕ} (nodes : List ExprNode)
     → (kept : HasOneTree text) × (map (node_at text) nodes ≡ prefix kept.tree)
     → (one : HasOneTree text) → map shape nodes ≡ map shape_of (prefix one.tree)
 shapes-kept {text} nodes kept one = shapes-shown text nodes ∙ ap (map shape_of) (kept.1
-    ∙ ap prefix (one.only kept.0.tree kept.0.has_tree))
+    ∙ ap prefix (only_tree one kept.0.tree kept.0.reads.has))
 
 -- what is read at the places of the predicates
 pub read-mapped : {X Y : Type 0} (tree : Tree X) (f : Node X → Y) (otherwise : Y)

@@ -4,7 +4,7 @@ use Rattle.std.proofs.lemmas.Grind.{common_steps}
 use Rattle.std.proofs.Common.{◌≡◌, ◌⊎◌, inl, inr, ℕ, ◌+◌, Bool, true, false, List, [], ◌∷◌, ◌++◌}
 use Rattle.std.proofs.Common.{length, reverse, cond, Option, Some, None, Result, Ok, Err, sym, refl}
 use Rattle.std.proofs.Common.{ap, ◌∙◌, arith, suc, ◌-◌, ◌<◌, option_map, take_all, append_assoc}
-use Rattle.std.proofs.Common.{◌==◌, count_by, option_and_then, if◌then◌else◌, lt-ltb, le-ltb}
+use Rattle.std.proofs.Common.{count_by, option_and_then, if◌then◌else◌, lt-ltb, le-ltb}
 use Rattle.std.proofs.Common.{eq-eqb, ne_eqb, append-nil, not}
 use Rattle.std.proofs.Math.Seq.{take-append_seam}
 use Rattle.cfgx_syntax.specs.Token.{Token}
@@ -13,7 +13,7 @@ use Rattle.cfgx_syntax.specs.Error.{Refusal, invalid_not}
 use Rattle.cfgx_grammar.specs.Tree.{ListFunction}
 use Rattle.cfgx_grammar.specs.Neighbours.{Kind, takes, kind_of, is_kind, next}
 use Rattle.cfgx_grammar.specs.Depth.{names_function, is_closing, depth, depth_at, innermost}
-use Rattle.cfgx_grammar.specs.Depth.{members, roots, first_below}
+use Rattle.cfgx_grammar.specs.Depth.{members, first_below}
 use Rattle.cfgx_grammar.specs.LastPredicate.{key_token, key_last, equals_last, predicate_token}
 use Rattle.cfgx_grammar.specs.LastPredicate.{word_of, with_value}
 use Rattle.cfgx_grammar.specs.FirstFault.{predicate_fault, head_token, last_token, lacks_value}

@@ -4,6 +4,7 @@ use Rattle.cfgx_parser.specs.nodes.Prefix.{places}
 use Rattle.cfg_expr.specs.Asking.{Calls, MayAskEach}
 use Rattle.cfg_expr.proofs.evaluated.Asked.{Asking-may, Asking-next, Asking-over}
 use Rattle.cfg_expr.proofs.expr.evaluating.ask_each.Goals as goal
+use Rattle.cfgx_grammar.proofs.Answering.{only_tree}
 
 pub loop-predicate-init : goal.loop-predicate-init
 loop-predicate-init g c = record {
@@ -19,7 +20,7 @@ ask-answer-requires g c =
     let asks = c.predicates-predicate-items.ensures.asked in
     let all = c.into_iter-predicate-iterator.ensures.into_iter_gives ∙ asks.1 in
     Asking-may c.loop-predicate.invariant c.in-Some.ensures.steps
-    (subst (MayAskEach g.EP.FnMut c.args.ep.now) (sym all) (c.requires asks.0.tree asks.0.has_tree))
+    (subst (MayAskEach g.EP.FnMut c.args.ep.now) (sym all) (c.requires asks.0.tree asks.0.reads.has))
 
 pub loop-predicate-preserved : goal.loop-predicate-preserved
 loop-predicate-preserved g c =
@@ -33,5 +34,5 @@ returns g c =
     let over = Asking-over c.loop-predicate.invariant asks.0.tree
     (c.into_iter-predicate-iterator.ensures.into_iter_gives ∙ asks.1)
     (c.iter-places.ensures.rest ∙ found.1
-    ∙ ap (places 0) (asks.0.only found.0.tree found.0.has_tree)) c.in-None.ensures.steps.0 in
+    ∙ ap (places 0) (only_tree asks.0 found.0.tree found.0.reads.has)) c.in-None.ensures.steps.0 in
     (asks.0, over)

@@ -4,6 +4,7 @@ use Rattle.std.proofs.lemmas.List.{length-replicate}
 use Rattle.cfgx_grammar.specs.Tree.{asked}
 use Rattle.cfg_expr.proofs.evaluated.Nodes.{shapes-kept}
 use Rattle.cfg_expr.proofs.expr.evaluating.value_over.Goals as goal
+use Rattle.cfgx_grammar.proofs.Answering.{only_tree}
 
 pub read_value-requires : goal.read_value-requires
 read_value-requires g c = c.put_each.auto.slots ∙ (ap length c.as_mut_slice-slots.ensures.value
@@ -13,7 +14,7 @@ pub returns-clause-value : goal.returns-clause-value
 returns-clause-value g c =
     let found = c.places.ensures in
     let given = c.requires in
-    let many = given.2 ∙ ap (λ tree. length (asked tree)) (found.0.only given.0 given.1) in
+    let many = given.2 ∙ ap (λ tree. length (asked tree)) (only_tree found.0 given.0 given.1) in
     let blank = c.as_mut_slice-slots.ensures.value ∙ c.in_ok-answers.ensures.slots in (
       found.0,
       c.read_value.ensures found.0.tree c.args.given.now

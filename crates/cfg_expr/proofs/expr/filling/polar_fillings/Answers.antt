@@ -6,12 +6,13 @@ use Rattle.cfgx_parser.specs.nodes.Prefix.{places}
 use Rattle.cfg_expr.proofs.Filling.{polar-kept}
 use Rattle.cfg_expr.proofs.evaluated.Nodes.{shapes-kept}
 use Rattle.cfg_expr.proofs.expr.filling.polar_fillings.Goals as goal
+use Rattle.cfgx_grammar.proofs.Answering.{only_tree}
 
 pub fillings-requires : goal.fillings-requires
 fillings-requires g c =
     let found = c.places.ensures in
     ap length found.1 ∙ length-places found.0.tree
-    ∙ ap (λ tree. length (asked tree)) (sym (found.0.only c.requires.0 c.requires.1))
+    ∙ ap (λ tree. length (asked tree)) (sym (only_tree found.0 c.requires.0 c.requires.1))
     ∙ sym c.requires.2
 
 pub returns-in-Some-clause-fillings : goal.returns-in-Some-clause-fillings
@@ -28,8 +29,8 @@ returns-in_ok-fillings-in-None-clause-fillings g c =
     let is = λ (fill : Bool). polar-kept c.nodes.result.now one.tree
     (shapes-kept c.nodes.result.now c.nodes.ensures.nodes one) _ c.places.result.now
     c.args.answers.now fill
-    (asks.1 ∙ ap (places 0) (one.only asks.0.tree asks.0.has_tree))
-    (given.2 ∙ ap (λ tree. length (asked tree)) (one.only given.0 given.1))
+    (asks.1 ∙ ap (places 0) (only_tree one asks.0.tree asks.0.reads.has))
+    (given.2 ∙ ap (λ tree. length (asked tree)) (only_tree one given.0 given.1))
     c.in_ok-odds-in-None.ensures in
     let found = c.in_ok-fillings-in-None.ensures in
     let unknown = sym c.in_ok-value_over.ensures.value.1 ∙ c.in-None.is in

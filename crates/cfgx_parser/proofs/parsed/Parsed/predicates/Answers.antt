@@ -22,4 +22,4 @@ returns-clause-asked g c =
 pub returns-clause-regular : goal.returns-clause-regular
 returns-clause-regular g c =
     let asks = returns-clause-asked g c in
-    subst (AllByRecursion IsRegular) (sym asks.1) (regular_tree _ asks.0.tree asks.0.has_tree)
+    subst (AllByRecursion IsRegular) (sym asks.1) (regular_tree _ asks.0.tree asks.0.reads.has)
