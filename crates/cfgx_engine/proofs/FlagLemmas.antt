@@ -29,8 +29,8 @@ unknown_text-unmarked (byte ∷ rest) lacks =
 -- what parsing a text answers blames that text
 pub BlamesFirst-parse : {A : Type 0} (text : List ℕ) (failed : Failure A)
     → Answers {A = A} (strip text) (Err failed) → BlamesFirst {A = A} (text ∷ []) failed
-BlamesFirst-parse text (failure.Parse error) parsed =
-    inl (parsed.0, parsed.2, ap fault_output parsed.1)
+BlamesFirst-parse text (failure.Parse error) (fault, shown, reads) =
+    inl (fault, reads, ap fault_output shown)
 BlamesFirst-parse text (failure.Memory error) parsed = tt
 
 module _ {A : Type 0} where

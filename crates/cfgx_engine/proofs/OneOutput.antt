@@ -1,7 +1,7 @@
 -- That a request has one output, whose status is not that of a refused run.
 use Rattle.std.proofs.Common.{◌≡◌, ◌⊎◌, ℕ, ◌+◌, ◌<◌, Bool, true, false, List, [], ◌∷◌, Option, Some}
 use Rattle.std.proofs.Common.{None, MatchBool, MatchOption, refl, ap, sym, ◌∙◌, inl, inr, arith}
-use Rattle.std.proofs.Common.{rules, map, length, nat_lt, ⊎_elim}
+use Rattle.std.proofs.Common.{rules, map, length, nat_lt, ⊎_elim, Err}
 use Rattle.std.specs.Str.{is_utf8}
 use Rattle.std.specs.List.{AllByRecursion, AllZip, concat}
 use Rattle.std.specs.declared.alloc.Global.{Global}
@@ -12,7 +12,7 @@ use Rattle.cfgx_targets.specs.Table.{row_with}
 use Rattle.cfgx_targets.specs.declared.info.TargetInfo.{TargetInfo}
 use Rattle.cfgx_grammar.specs.Question.{Question}
 use Rattle.cfgx_grammar.specs.Tree.{asked}
-use Rattle.cfgx_grammar.specs.Answer.{HasOneTree, IsRefused}
+use Rattle.cfgx_grammar.specs.Answer.{HasOneTree, ReadsAs}
 use Rattle.cfgx_engine.specs.Flags.{IsAnswer, flag_text, known_texts, unknown_texts}
 use Rattle.cfgx_engine.specs.Input.{input_limit}
 use Rattle.cfgx_engine.specs.Output.{HasValue, HasValueOn, Lists, Output, Refuses, RefusesFirst}
@@ -21,6 +21,7 @@ use Rattle.cfgx_engine.specs.Prints.{Picks, Prints, not_utf8, too_long}
 use Rattle.cfgx_engine.specs.Request.{Request}
 use Rattle.cfgx_engine.specs.Sections.{IsWell, Line, PrintsLine, PrintsLines, TellsFault}
 use Rattle.cfgx_engine.specs.Sections.{TellsFirst, line_fault, line_of, lines_of}
+use Rattle.cfgx_grammar.proofs.Answering.{not_both, only_tree, same_fault}
 use Rattle.cfgx_engine.proofs.SectionLemmas.{line_well}
 
 -- at most one thing fits
@@ -78,30 +79,30 @@ AllZip-single each (x ∷ xs) (y ∷ ys) (z ∷ zs) this that =
 AllZip-single each _ _ _ this that = absurd (search rules)
 
 -- the first fault of a text, and of the first text that has no tree
-IsRefused-single : (text : List ℕ) → IsSingle (IsRefused text)
-IsRefused-single text one other this that = sym (this.1.only other that.1.has_fault)
+fault-single : (text : List ℕ) → IsSingle (λ fault. ReadsAs text (Err fault))
+fault-single text one other this that = same_fault this that
 
 Refuses-decided : (text : List ℕ) → IsDecided (Refuses text)
 Refuses-decided text = decided-made (λ fault. fault_output (fault_in (strip text) fault))
-    (IsRefused-single (strip text)) (λ fault. omega arith)
+    (fault-single (strip text)) (λ fault. omega arith)
 
 RefusesFirst-decided : (texts : List (List ℕ)) → IsDecided (RefusesFirst texts)
 RefusesFirst-decided [] = λ one other this that. absurd this
 RefusesFirst-decided (text ∷ texts) = decided-either (Refuses-decided text)
     (λ one other this that. RefusesFirst-decided texts one other this.1 that.1)
-    (λ one other this later. absurd (this.1.0 later.0.tree later.0.has_tree))
+    (λ one other this later. absurd (not_both this.1 later.0))
 
 none_refused : (flags : List (List ℕ)) (shown : Output)
     → AllByRecursion (λ flag. HasOneTree (strip (flag_text flag))) flags
     → RefusesFirst (map flag_text flags) shown → ⊥
 none_refused [] shown each told = told
-none_refused (flag ∷ flags) shown each (inl told) = told.1.0 each.0.tree each.0.has_tree
+none_refused (flag ∷ flags) shown each (inl told) = not_both told.1 each.0
 none_refused (flag ∷ flags) shown each (inr later) = none_refused flags shown each.1 later.1
 
 -- the predicates of a text
 Lists-decided : (text : List ℕ) → IsDecided (Lists text)
 Lists-decided text one other this that =
-    let same = that.0.only this.0.tree this.0.has_tree in
+    let same = only_tree that.0 this.0.tree this.0.reads.has in
     (cc, omega (arith, ap (λ (o : Output). o.status) this.1))
 
 -- a value by the answers of the flags, or by those of a target
@@ -117,7 +118,7 @@ IsAnswer-single known unknown question None (Some false) this that = absurd (tha
 
 HasValue-single : (text : List ℕ) (flags : List (List ℕ)) → IsSingle (HasValue text flags)
 HasValue-single text flags one other this that =
-    let same = that.one.only this.one.tree this.one.has_tree in
+    let same = only_tree that.one this.one.tree this.one.reads.has in
     let answers = AllZip-single (IsAnswer-single (known_texts flags) (unknown_texts flags))
     (asked that.one.tree) this.answers that.answers (rw same at this.are_answers)
     that.are_answers in cc
@@ -125,7 +126,7 @@ HasValue-single text flags one other this that =
 HasValueOn-single : {A : Type 0} (row : TargetInfo A) (text : List ℕ)
     → IsSingle (HasValueOn row text)
 HasValueOn-single row text one other this that =
-    let same = that.0.only this.0.tree this.0.has_tree in cc
+    let same = only_tree that.0 this.0.tree this.0.reads.has in cc
 
 Shows-decided : {IsValue : Option Bool → Type 0} → IsSingle IsValue → IsDecided (Shows IsValue)
 Shows-decided single = decided-made value_output single (λ value. omega arith)
@@ -136,21 +137,21 @@ PrintsLine-single : {A : Type 0} (row : TargetInfo A) (line : Line)
 PrintsLine-single row Line.empty one other this that = this ∙ sym that
 PrintsLine-single row Line.undivided one other this that = absurd this
 PrintsLine-single row (Line.section name condition) one other this that =
-    let same = that.0.only this.0.tree this.0.has_tree in cc
+    let same = only_tree that.0 this.0.tree this.0.reads.has in cc
 
 TellsFault-decided : (number : ℕ) (line : Line) → IsDecided (TellsFault number line)
 TellsFault-decided number Line.empty = λ one other this that. absurd this
 TellsFault-decided number Line.undivided = decided _ (omega arith)
 TellsFault-decided number (Line.section name condition) =
     decided-made (λ fault. line_fault number (fault_in (strip condition) fault))
-    (IsRefused-single (strip condition)) (λ fault. omega arith)
+    (fault-single (strip condition)) (λ fault. omega arith)
 
 told_alone : (number : ℕ) (line : Line) (shown : Output) → TellsFault number line shown
     → IsWell line → ⊥
 told_alone number Line.empty shown told well = told
 told_alone number Line.undivided shown told well = well
 told_alone number (Line.section name condition) shown told well =
-    told.1.0 well.tree well.has_tree
+    not_both told.1 well
 
 TellsFirst-decided : (number : ℕ) (lines : List Line) → IsDecided (TellsFirst number lines)
 TellsFirst-decided number [] = λ one other this that. absurd this
@@ -184,17 +185,17 @@ module _ {A : Type 0} (row : TargetInfo A) where
 pub Prints-decided : (request : Request) (input : List ℕ) → IsDecided (Prints request input)
 Prints-decided (Request.parse text) input =
     decided-either (Lists-decided text) (Refuses-decided text)
-    (λ one other this told. told.1.0 this.0.tree this.0.has_tree)
+    (λ one other this told. not_both told.1 this.0)
 Prints-decided (Request.eval text flags) input =
     decided-either (Shows-decided (HasValue-single text flags))
     (RefusesFirst-decided (text ∷ map flag_text flags))
     (λ one other this told. none_refused flags other this.1.each_flag (
-    ⊎_elim (λ first. absurd (first.1.0 this.1.one.tree this.1.one.has_tree)) (λ later. later.1)
+    ⊎_elim (λ first. absurd (not_both first.1 this.1.one)) (λ later. later.1)
     told))
 Prints-decided (Request.target triple text) input =
     decided-row (row_with {A = Global} triple builtin_rows)
     (λ row. decided-either (Shows-decided (HasValueOn-single row text)) (Refuses-decided text)
-    (λ one other this told. told.1.0 this.1.0.tree this.1.0.has_tree))
+    (λ one other this told. not_both told.1 this.1.0))
 Prints-decided (Request.pick triple) input =
     decided-row (row_with {A = Global} triple builtin_rows) (λ row. Picks-decided row input)
 Prints-decided Request.wrong_use input = decided usage (omega arith)

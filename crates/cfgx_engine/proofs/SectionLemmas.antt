@@ -74,6 +74,6 @@ module _ {S A B : Type 0} {steps : S → Option A → S → Type 0} {seen : A �
 pub TellsFault-section : {A : Type 0} (number : ℕ) (name condition : List ℕ) (shown : Output)
     (failed : Failure A) → Answers {A = A} (strip condition) (Err failed)
     → TellsFailure number failed shown → TellsFault number (Line.section name condition) shown
-TellsFault-section number name condition shown (failure.Parse error) answers is =
-    (answers.0, answers.2, is ∙ ap (line_fault number) answers.1)
+TellsFault-section number name condition shown (failure.Parse error) (fault, same, reads) is =
+    (fault, reads, is ∙ ap (line_fault number) same)
 TellsFault-section number name condition shown (failure.Memory error) answers is = absurd is

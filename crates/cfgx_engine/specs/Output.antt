@@ -2,14 +2,14 @@
 -- Source of the rules: docs/RULES.md; of what a predicate, a value and a fault are, the crate
 -- cfg-expr.
 use Rattle.std.specs.Prelude.{◌≡◌, ℕ, Bool, true, false, List, [], ◌∷◌, ◌++◌, codes, map, ◌⊎◌}
-use Rattle.std.specs.Prelude.{Option, Some, None}
+use Rattle.std.specs.Prelude.{Option, Some, None, Err}
 use Rattle.std.specs.List.{AllByRecursion, AllZip, flat_map}
 use Rattle.cfgx_syntax.specs.Stripping.{strip}
 use Rattle.cfgx_syntax.specs.Error.{Fault, Refusal, fault_in, error_text}
 use Rattle.cfgx_targets.specs.declared.info.TargetInfo.{TargetInfo}
 use Rattle.cfgx_grammar.specs.Question.{Question}
 use Rattle.cfgx_grammar.specs.Tree.{asked}
-use Rattle.cfgx_grammar.specs.Answer.{HasOneTree, IsRefused}
+use Rattle.cfgx_grammar.specs.Answer.{HasOneTree, ReadsAs}
 use Rattle.cfgx_grammar.specs.Filling.{three_valued}
 use Rattle.cfgx_grammar.specs.Fold.{fold}
 use Rattle.cfgx_grammar.specs.Matching.{meets}
@@ -51,12 +51,12 @@ value_output value = record { bytes = text_line (value_text value); status = 0 }
 abbrev pub fault_output : Fault → Output
 fault_output fault = record { bytes = text_line (error_text fault); status = 1 }
 
--- the first fault of the text is written, which has no tree
+-- the text reads as a fault, which is written
 abbrev pub Refuses : List ℕ → Output → Type 0
-Refuses text output = (fault : Refusal) × IsRefused (strip text) fault
+Refuses text output = (fault : Refusal) × ReadsAs (strip text) (Err fault)
     × (output ≡ fault_output (fault_in (strip text) fault))
 
--- the same of the first of the texts that has no tree
+-- the same of the first of the texts that reads as one
 abbrev pub RefusesFirst : List (List ℕ) → Output → Type 0
 RefusesFirst [] output = ⊥
 RefusesFirst (text ∷ others) output =

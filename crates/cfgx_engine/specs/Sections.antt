@@ -1,7 +1,8 @@
 -- The input of `pick`: sections, a line each, and what is printed of them.
 -- Source of the rules: docs/RULES.md.
 use Rattle.std.specs.Prelude.{◌≡◌, ◌⊎◌, ◌+◌, ◌==◌, ℕ, Bool, true, false, List, [], ◌∷◌, ◌++◌}
-use Rattle.std.specs.Prelude.{codes, length, map, nat_lt, Option, Some, None, if◌then◌else◌}
+use Rattle.std.specs.Prelude.{codes, length, map, nat_lt, Err, Option, Some, None}
+use Rattle.std.specs.Prelude.{if◌then◌else◌}
 use Rattle.std.specs.Fmt.{decimal}
 use Rattle.std.specs.List.{AllZip, after_first, before_first, concat, flat_map, position_or_len}
 use Rattle.std.specs.List.{slice_split}
@@ -10,7 +11,7 @@ use Rattle.cfgx_syntax.specs.Stripping.{strip}
 use Rattle.cfgx_syntax.specs.Error.{Fault, Refusal, error_text, fault_in}
 use Rattle.cfgx_targets.specs.declared.info.TargetInfo.{TargetInfo}
 use Rattle.cfgx_grammar.specs.Tree.{Tree, asked}
-use Rattle.cfgx_grammar.specs.Answer.{HasOneTree, IsRefused}
+use Rattle.cfgx_grammar.specs.Answer.{HasOneTree, ReadsAs}
 use Rattle.cfgx_grammar.specs.Filling.{polar, three_valued}
 use Rattle.cfgx_grammar.specs.Fold.{fold}
 use Rattle.cfgx_engine.specs.Output.{Output, answer_on}
@@ -84,7 +85,7 @@ TellsFault number Line.empty output = ⊥
 TellsFault number Line.undivided output =
     output ≡ record { bytes = codes "line " ++ decimal number ++ codes ": no tab\n"; status = 1 }
 TellsFault number (Line.section name condition) output =
-    (fault : Refusal) × IsRefused (strip condition) fault
+    (fault : Refusal) × ReadsAs (strip condition) (Err fault)
     × (output ≡ line_fault number (fault_in (strip condition) fault))
 
 -- the same of the first line that is faulty, if the lines are counted from this number on

@@ -107,6 +107,14 @@ ReadsAs-fault {text} {fault} has = record { has = has; only = others }
         let same = ItemsFrom-same text 0 has.items its.items _ _ has.are_items its.are_items in
         let shown = rw (same.0, same.1) at its.shown in cc (has.shown, shown)
 
+-- a text reads as one fault, and not as a tree too
+pub same_fault : {text : List ℕ} {one other : Refusal} → ReadsAs text (Err one)
+    → ReadsAs text (Err other) → one ≡ other
+same_fault this that = let same = that.only (Err _) this.has in cc
+
+pub not_both : {text : List ℕ} {fault : Refusal} → ReadsAs text (Err fault) → HasOneTree text → ⊥
+not_both refused one = no_fault _ one.tree _ one.reads.has refused.has
+
 module _ {W M L : Type 0} {builder : Builder W M L} (text : List ℕ)
     (one : HasOneTokenList text) where
   -- what the parser refuses has a fault

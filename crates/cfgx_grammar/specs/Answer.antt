@@ -30,14 +30,10 @@ pub record HasOneTree (text : List ℕ) : Type 0 where
   pub tree : Tree Question
   pub reads : ReadsAs text (Ok tree)
 
--- The answer shows what the text reads as: an expression, from which nothing more is stripped, is
--- seen as the text; a fault holds the text. Nothing is shown if the call is out of memory.
-abbrev pub Shows : {A : Type 0} → List ℕ → Result (List ℕ) (Failure A) → Reading → Type 0
-Shows text (Ok expression) (Ok tree) = (expression ≡ text) × (strip text ≡ text)
-Shows text (Err (failure.Parse error)) (Err fault) = fault_of error ≡ fault_in text fault
-Shows text (Err (failure.Memory error)) reading = Unit {0}
-Shows text _ _ = ⊥
-
--- the answer is what the text reads as, or the call is out of memory
+-- The answer is what the text reads as. An expression, from which nothing more is stripped, is seen
+-- as the text; a fault holds the text. If the call is out of memory, the text still reads one way.
 abbrev pub Answers : {A : Type 0} → List ℕ → Result (List ℕ) (Failure A) → Type 0
-Answers text result = (reading : Reading) × ReadsAs text reading × Shows text result reading
+Answers text (Ok expression) = (expression ≡ text) × (strip text ≡ text) × HasOneTree text
+Answers text (Err (failure.Parse error)) = (fault : Refusal)
+    × (fault_of error ≡ fault_in text fault) × ReadsAs text (Err fault)
+Answers text (Err (failure.Memory error)) = (reading : Reading) × ReadsAs text reading

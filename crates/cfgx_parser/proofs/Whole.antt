@@ -7,14 +7,12 @@ use Rattle.cfgx_syntax.specs.LexerState.{LexerState, starting}
 use Rattle.cfgx_syntax.specs.Stripping.{strip}
 use Rattle.cfgx_syntax.specs.declared.error.Failure.{Failure}
 use Rattle.cfgx_syntax.specs.declared.error.Failure.TheVariants as failure
-use Rattle.cfgx_grammar.specs.Answer.{Answers, ReadsAs}
-use Rattle.cfgx_grammar.specs.Question.{Question}
-use Rattle.cfgx_grammar.specs.Tree.{Tree}
+use Rattle.cfgx_grammar.specs.Answer.{Answers, HasOneTree}
 use Rattle.cfgx_parser.specs.nodes.KeepsTree.{KeepsOneTree}
 use Rattle.cfgx_grammar.specs.parsing.State.{initial}
 use Rattle.cfgx_parser.specs.parsing.Parser.{state_of, Ends, ReadsAll}
 use Rattle.cfgx_parser.specs.declared.parser.Parser.{Parser}
-use Rattle.cfgx_grammar.proofs.Answering.{answer, tree_of, ReadsAs-tree, ReadsAs-refused}
+use Rattle.cfgx_grammar.proofs.Answering.{HasOneTree-tree, ReadsAs-refused, answer, tree_of}
 use Rattle.cfgx_grammar.proofs.Answering.{reads_one_way}
 use Rattle.cfgx_parser.proofs.Kept.{KeepsOneTree-accepted}
 use Rattle.cfgx_grammar.proofs.Stripped.{strip-tree}
@@ -32,8 +30,7 @@ pub Answers-memory : {A : Type 0} (text : List ℕ) → HasOneTokenList text →
     → Answers text result
 Answers-memory text one error result is =
     let (failed, is_err, is_memory) = err_from_is_err_and result is in
-    let (reading, reads) = reads_one_way text one in
-    rw (is_err, is_memory) (reading, reads, tt)
+    rw (is_err, is_memory) (reads_one_way text one)
 
 module _ {A : Type 0} {text : List ℕ} {lexer : LexerState} {old : Parser A} (new : Parser A) where
   given : (result : Result (Unit {0}) (Failure A)) (b : Begins {A = A} text lexer old)
@@ -46,16 +43,15 @@ module _ {A : Type 0} {text : List ℕ} {lexer : LexerState} {old : Parser A} (n
       → ReadsAll {A = A} lexer old new (Err f) → Answers text (Err f)
   Answers-fails (failure.Parse error) b reads =
       let (refusal, refused, same) = given (Err (failure.Parse error)) b reads in
-      (Err refusal, ReadsAs-refused text b.one refusal refused, same)
-  Answers-fails (failure.Memory error) b reads =
-      let (reading, one) = reads_one_way text b.one in (reading, one, tt)
+      (refusal, same, ReadsAs-refused text b.one refusal refused)
+  Answers-fails (failure.Memory error) b reads = reads_one_way text b.one
 
   -- what is accepted
   pub Accepted : Begins {A = A} text lexer old → ReadsAll {A = A} lexer old new (Ok tt)
       → KeepsOneTree text new.writer.nodes.items new.writer.index.items
-      × (strip text ≡ text) × ((tree : Tree Question) × ReadsAs text (Ok tree))
+      × (strip text ≡ text) × HasOneTree text
   Accepted b reads =
       let (state, accepts, reaches) = (given (Ok tt) b reads).1 in
       let (tree, has) = tree_of text b.one state accepts in
       let keeps = rw reaches.is at (KeepsOneTree-accepted text b.one state accepts) in
-      (keeps, strip-tree text tree has, (tree, ReadsAs-tree has))
+      (keeps, strip-tree text tree has, HasOneTree-tree has)

@@ -1,5 +1,5 @@
 -- The text is read from its start, and what is read is what the grammar answers.
-use Rattle.std.proofs.Common.{rules, ap, ◌∙◌, Ok}
+use Rattle.std.proofs.Common.{rules, ap, ◌∙◌}
 use Rattle.std.proofs.lemmas.Result.{err_from_is_err_and}
 use Rattle.cfgx_syntax.specs.Stripping.{strip}
 use Rattle.cfgx_parser.proofs.Whole.{Begins, Answers-fails, Answers-memory, Accepted}
@@ -37,7 +37,7 @@ returns g c =
     let same = c.in_ok-original.ensures.ok ∙ c.original-text.ensures
     ∙ ap (λ l. l.text) begun.lexer_is in
     let accepted = Accepted c.read_all.new.self begun c.in_ok-read_all.ensures in
-    let (tree, reads) = accepted.2 in (Ok tree, reads, (same, accepted.1))
+    (same, accepted.1, accepted.2)
 
 pub returns-in_err-parser : goal.returns-in_err-parser
 returns-in_err-parser g c = Answers-memory (strip c.args.original.now) c.new-lexer.ensures.one _

@@ -2,6 +2,7 @@ use Rattle.std.proofs.Common.{◌≡◌, ◌++◌, ℕ, List, codes, Some, None,
 use Rattle.std.proofs.Common.{append_assoc}
 use Rattle.cfgx_engine.proofs.VerdictLemmas.{same_value}
 use Rattle.cfgx_engine.proofs.engine.sections.push_verdict.Goals as goal
+use Rattle.cfgx_grammar.proofs.Answering.{only_tree}
 
 -- what is added after a text is added with it
 added_with : (old text one two between new : List ℕ) → between ≡ old ++ text
@@ -23,7 +24,7 @@ returns-in_ok-extend_from_slice-in-No g c =
 pub returns-in_ok-push_fillings-in-Unknown : goal.returns-in_ok-push_fillings-in-Unknown
 returns-in_ok-push_fillings-in-Unknown g c =
     let adds = c.in_ok-push_fillings-in-Unknown.ensures in
-    let tree = adds.0.only c.requires.one.tree c.requires.one.has_tree in
+    let tree = only_tree adds.0 c.requires.one.tree c.requires.one.reads.has in
     let value = rw tree at (same_value None _ (sym c.in-Unknown.is ∙ c.requires.value_is)) in (
       adds.0,
       rw (← value) (added_with c.args.written.now.items (codes "\tunknown\n") _ _ _ _

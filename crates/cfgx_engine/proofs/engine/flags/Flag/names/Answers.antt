@@ -2,6 +2,7 @@ use Rattle.std.proofs.Common.{◌≡◌, zero, suc, List, [], ◌∷◌, Contain
 use Rattle.std.proofs.lemmas.List.Elements.{Contains-append_right}
 use Rattle.cfgx_parser.specs.Predicate.{question_of}
 use Rattle.cfgx_engine.proofs.engine.flags.Flag.names.Goals as goal
+use Rattle.cfgx_grammar.proofs.Answering.{only_tree}
 
 -- what stands in a list, and is not its first item, stands after it
 other_item : {X : Type 0} (x y : X) (xs : List X) → (x ≡ y → ⊥) → Contains (x ∷ xs) y
@@ -26,7 +27,7 @@ returns g c =
     let none = rw c.in-None.ensures.steps.0 at c.loop-named.invariant in (
       λ is. absurd cc,
       λ names.
-          let tree = asks.0.only names.0 (rw c.self.view_is names.1) in
+          let tree = only_tree asks.0 names.0 (rw c.self.view_is names.1) in
           let among = rw (tree, ← asks.1, ← c.into_iter-named-iterator.ensures.into_iter_gives)
           at names.2 in absurd (omega (arith, (none.0 among).1)),
     )

@@ -33,7 +33,7 @@ returns-clause-ok g c =
           let marked = strip_prefix_char 63 word (Some w.in-Some.text) w.in-Some.ensures.cases
           (omega arith) in
           rw (marked, w.self-is) (record {
-            one = parsed.2.0;
+            one = parsed.2;
             known_are = sym (append-nil old.known.items);
             unknown_are = rw (w.in_ok-push-in-Some.ensures.items, parsed.0);
           })
@@ -42,7 +42,7 @@ returns-clause-ok g c =
           let unmarked = unknown_text-unmarked word
           (strip_prefix_char 63 word None w.in-None.ensures.cases (omega arith)) in
           rw w.self-is (record {
-            one = rw unmarked parsed.2.0;
+            one = rw unmarked parsed.2;
             known_are = rw (unmarked, w.in_ok-push-in-None.ensures.items, parsed.0);
             unknown_are = rw unmarked (sym (append-nil old.unknown.items));
           })
