@@ -23,14 +23,24 @@ mod tests {
     use super::fillings;
     use std::test::Fail;
 
+    fn are(found: &Option<(Vec<bool>, Vec<bool>)>, one: &[bool], other: &[bool]) -> bool {
+        match found {
+            Some((with_true, with_false)) => {
+                with_true.as_slice() == one && with_false.as_slice() == other
+            }
+            None => false,
+        }
+    }
+
     #[test]
     fn an_unknown_answer_is_filled_both_ways(rt: HostRuntime) -> Result<(), Fail> {
-        let Some((with_true, with_false)) = fillings(rt.alloc(), "any(a, not(a))", &[None, None])?
-        else {
-            return Err(Fail::from("known"));
-        };
-        assert!(rt; with_true.as_slice() == [false, true].as_slice());
-        assert!(rt; with_false.as_slice() == [true, false].as_slice());
+        let both = fillings(rt.alloc(), "any(a, not(a))", &[None, None])?;
+        assert!(rt; are(&both, &[false, true], &[true, false]));
+        Ok(())
+    }
+
+    #[test]
+    fn another_number_of_answers_is_not_filled(rt: HostRuntime) -> Result<(), Fail> {
         assert!(rt; fillings(rt.alloc(), "any(a, not(a))", &[None])?.is_none());
         Ok(())
     }

@@ -4,7 +4,7 @@ use cfg_expr::error::Failure;
 use cfg_expr::expr::logic::Kleene64;
 use cfg_expr::targets::TargetInfo;
 use cfg_expr::{Expression, Predicate};
-use std::alloc::Global;
+use std::alloc::{AllocError, Global};
 
 /// The value on each of the rows, of which nothing else is known: lane `i` is that of row `i`. It
 /// is `None` if there are more than 64 rows.
@@ -17,6 +17,14 @@ pub fn on_rows(
         return Ok(None);
     }
     let expression = Expression::parse(alloc, text)?;
+    Ok(on_each(alloc, &expression, rows)?)
+}
+
+fn on_each(
+    alloc: Global,
+    expression: &Expression,
+    rows: &[TargetInfo],
+) -> Result<Option<Kleene64>, AllocError> {
     let mut answers = Vec::new(alloc);
     for predicate in expression.predicates() {
         answers.push(lanes(predicate, rows))?;

@@ -27,6 +27,11 @@ mod tests {
     use super::{Board, Verdict, verdicts_on};
     use std::test::Fail;
 
+    const BARE: Board<'static> = Board {
+        os: "none",
+        pointer_width: 16,
+    };
+
     const MANIFEST: &[(&str, &str)] = &[
         ("timers", "target_pointer_width = \"16\""),
         ("files", "not(target_os = \"none\")"),
@@ -39,14 +44,14 @@ mod tests {
 
     #[test]
     fn sections_are_picked_for_a_board(rt: HostRuntime) -> Result<(), Fail> {
-        let board = Board {
-            os: "none",
-            pointer_width: 16,
-        };
-        let verdicts = verdicts_on(rt.alloc(), &board, MANIFEST)?;
+        let verdicts = verdicts_on(rt.alloc(), &BARE, MANIFEST)?;
         let wanted = [Verdict::Yes, Verdict::No, Verdict::Unknown, Verdict::No];
         assert!(rt; verdicts.as_slice() == wanted.as_slice(), "{verdicts:?}");
-        assert!(rt; verdicts_on(rt.alloc(), &board, &[("a", "b)")]).is_err());
         Ok(())
+    }
+
+    #[test]
+    fn a_section_with_a_fault_is_refused(rt: HostRuntime) {
+        assert!(rt; verdicts_on(rt.alloc(), &BARE, &[("a", "b)")]).is_err());
     }
 }

@@ -13,8 +13,8 @@ use cfgx_engine::engine::laws::has_one_output;
 use cfgx_engine::engine::streams::write_whole;
 use cfgx_syntax::stripping::strip;
 use cfgx_targets::reading::{read_endian, read_has_atomic, read_u8, read_u16};
-use cfgx_testing::holding::first_wrong;
-use std::alloc::Global;
+use cfgx_testing::holding::{first_wrong, holds};
+use std::alloc::{AllocError, Global};
 use std::str::FromStr;
 use std::test::Fail;
 
@@ -133,10 +133,13 @@ fn is_linux(os: &Os<'_>) -> bool {
     *os == Os::linux() && *os > Os::new_const("ios") && os.as_str() == "linux"
 }
 
+fn is_copied(alloc: Global, os: &Os<'_>) -> Result<bool, AllocError> {
+    Ok(os.try_clone(alloc)? == *os)
+}
+
 #[test]
 fn fields_are_copied(rt: HostRuntime) -> Result<(), Fail> {
     let os = Os::new(String::from_str(rt.alloc(), "linux")?);
-    assert!(rt; is_linux(&os));
-    assert!(rt; os.try_clone(rt.alloc())? == os);
+    assert!(rt; is_linux(&os) && holds(is_copied(rt.alloc(), &os)));
     Ok(())
 }
