@@ -1,2 +1,14 @@
-//! The callers that the pages show, proved by the contracts that they call.
+//! The callers that the pages show, and others, each proved by the contracts that it calls.
 #![tactic(auto)]
+
+#[cfg(test)]
+pub mod auditing;
+#[cfg(test)]
+pub mod calling;
+pub mod decision;
+#[cfg(test)]
+pub mod evaluating;
+#[cfg(test)]
+pub mod filling;
+#[cfg(test)]
+pub mod respelling;

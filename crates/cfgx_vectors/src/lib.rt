@@ -1,13 +1,8 @@
-//! All tests, whose answers are known from outside; callers that are proved; and an allocator that
-//! refuses on demand.
+//! All tests, whose answers are known from outside, and an allocator that refuses on demand.
 #![tactic(auto)]
 
 #[cfg(test)]
 mod accepted;
-#[cfg(test)]
-pub mod auditing;
-#[cfg(test)]
-pub mod calling;
 #[cfg(test)]
 mod commands;
 #[cfg(test)]
@@ -45,8 +40,6 @@ mod program;
 mod questions;
 #[cfg(test)]
 pub mod refusing;
-#[cfg(test)]
-pub mod respelling;
 #[cfg(test)]
 mod rust_crate;
 #[cfg(test)]

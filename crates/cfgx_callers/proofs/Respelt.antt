@@ -1,0 +1,21 @@
+-- What is read of a text that asks one predicate alone.
+use Rattle.std.proofs.Common.{◌∙◌, List, ℕ, Ok, Err, sym, subst}
+use Rattle.std.specs.Prelude.{Result}
+use Rattle.cfgx_syntax.specs.Stripping.{strip}
+use Rattle.cfgx_syntax.specs.declared.error.Failure.{Failure}
+use Rattle.cfgx_syntax.specs.declared.error.Failure.TheVariants as failure
+use Rattle.cfgx_grammar.specs.Answer.{Answers}
+use Rattle.cfgx_grammar.specs.Grammar.{HasTree}
+use Rattle.cfgx_grammar.specs.Question.{Question}
+use Rattle.cfgx_grammar.specs.Regular.{IsAlone}
+use Rattle.cfgx_callers.specs.Callers.{IsReadAlone}
+
+pub read-alone : {A : Type 0} (text : List ℕ) (question : Question)
+    (result : Result (List ℕ) (Failure A)) → IsAlone text question → Answers (strip text) result
+    → IsReadAlone question result
+read-alone text question (Ok expression) alone answers =
+    subst (λ bytes. IsAlone bytes question) (sym (answers.0 ∙ alone.stripped)) alone
+read-alone text question (Err (failure.Parse error)) alone answers =
+    answers.2.0 alone.one.tree
+    (subst (λ bytes. HasTree bytes alone.one.tree) (sym alone.stripped) alone.one.has_tree)
+read-alone text question (Err (failure.Memory error)) alone answers = tt

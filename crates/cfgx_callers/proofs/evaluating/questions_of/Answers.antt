@@ -1,0 +1,10 @@
+-- Each call counts one more, in the same place.
+use Rattle.std.proofs.Common.{refl, rules}
+use Rattle.cfg_expr.proofs.Chains.{Evaluates-count}
+use Rattle.cfgx_callers.proofs.evaluating.questions_of.Goals as goal
+
+pub returns : goal.returns
+returns c =
+    Evaluates-count (λ closure. closure.0) _ c.in_ok-_value.ensures.value
+    (λ before question answer after asks. let met = asks.called.met in search rules)
+    refl (search rules)

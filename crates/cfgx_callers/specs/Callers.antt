@@ -1,0 +1,38 @@
+-- What the proved callers answer.
+use Rattle.std.specs.Prelude.{ℕ, Bool, false, List, codes, Result, Ok, Err}
+use Rattle.std.specs.Borrow.{Bor}
+use Rattle.std.specs.List.{list_any}
+use Rattle.std.specs.Str.{bytes_eq}
+use Rattle.cfgx_syntax.specs.declared.error.Failure.{Failure}
+use Rattle.cfgx_syntax.specs.declared.error.Failure.TheVariants as failure
+use Rattle.cfgx_grammar.specs.Question.{Question}
+use Rattle.cfgx_grammar.specs.Regular.{IsAlone}
+use Rattle.cfgx_callers.specs.Terms.{cut}
+
+-- whether a predicate is a bare key of no other meaning, and one of these
+abbrev pub is_among : List (Bor (List ℕ)) → Question → Bool
+is_among flags (Question.flag name) = list_any (λ flag. bytes_eq flag.now name) flags
+is_among flags (Question.target question) = false
+is_among flags Question.test = false
+is_among flags Question.debug_assertions = false
+is_among flags Question.proc_macro = false
+is_among flags (Question.feature text) = false
+is_among flags (Question.target_feature text) = false
+is_among flags (Question.key_value key value) = false
+
+-- the term of a predicate: its name if it is such a key, and else `?`
+abbrev pub term_of : Question → List ℕ
+term_of (Question.flag name) = cut name
+term_of (Question.target question) = codes "?"
+term_of Question.test = codes "?"
+term_of Question.debug_assertions = codes "?"
+term_of Question.proc_macro = codes "?"
+term_of (Question.feature text) = codes "?"
+term_of (Question.target_feature text) = codes "?"
+term_of (Question.key_value key value) = codes "?"
+
+-- the expression of a text that asks this predicate alone was read, or the call was out of memory
+abbrev pub IsReadAlone : {A : Type 0} → Question → Result (List ℕ) (Failure A) → Type 0
+IsReadAlone question (Ok expression) = IsAlone expression question
+IsReadAlone question (Err (failure.Parse error)) = ⊥
+IsReadAlone question (Err (failure.Memory error)) = Unit {0}

@@ -1,0 +1,61 @@
+//! A condition over many targets at once.
+
+use cfg_expr::error::Failure;
+use cfg_expr::expr::logic::Kleene64;
+use cfg_expr::targets::TargetInfo;
+use cfg_expr::{Expression, Predicate};
+use std::alloc::{AllocError, Global};
+
+/// The value on each of the rows, of which nothing else is known: lane `i` is that of row `i`. It
+/// is `None` if there are more than 64 rows.
+pub fn on_rows(
+    alloc: Global,
+    text: &str,
+    rows: &[TargetInfo],
+) -> Result<Option<Kleene64>, Failure> {
+    if rows.len() > 64 {
+        return Ok(None);
+    }
+    let expression = Expression::parse(alloc, text)?;
+    Ok(on_each(alloc, &expression, rows)?)
+}
+
+fn on_each(
+    alloc: Global,
+    expression: &Expression,
+    rows: &[TargetInfo],
+) -> Result<Option<Kleene64>, AllocError> {
+    let mut answers = Vec::new(alloc);
+    for predicate in expression.predicates() {
+        answers.push(lanes(predicate, rows))?;
+    }
+    if expression.predicates().left() != answers.len() {
+        return Ok(None);
+    }
+    Ok(Some(expression.eval_lanes(alloc, answers.as_slice())?))
+}
+
+fn lanes(predicate: Predicate<'_>, rows: &[TargetInfo]) -> Kleene64 {
+    match &predicate {
+        Predicate::Target(target) if rows.len() <= 64 => target.lanes(rows),
+        _ => Kleene64::new(0, 0),
+    }
+}
+
+#[cfg(test)]
+mod tests {
+    use super::on_rows;
+    use cfg_expr::targets::TargetTable;
+    use std::test::Fail;
+
+    #[test]
+    fn each_row_has_its_lane(rt: HostRuntime) -> Result<(), Fail> {
+        let table = TargetTable::builtins(rt.alloc())?;
+        let rows = table.rows();
+        let Some(value) = on_rows(rt.alloc(), "not(unix)", &rows[..2])? else {
+            return Err(Fail::from("too many rows"));
+        };
+        assert!(rt; value.is_true() == 0b00 && value.is_false() == 0b11);
+        Ok(())
+    }
+}

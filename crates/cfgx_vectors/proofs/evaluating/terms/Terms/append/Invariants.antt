@@ -1,7 +1,0 @@
-use Rattle.std.proofs.Common.{◌≡◌, ◌++◌, take}
-use Rattle.cfgx_vectors.specs.Terms.{cut}
-use Rattle.cfgx_vectors.proofs.evaluating.terms.Terms.append.Given as goal
-
--- the bytes in front of this one are written
-abbrev pub invariant-loop-byte : goal.invariant-loop-byte
-invariant-loop-byte l = l.self ≡ cut (l.initial.self ++ take l.byte-index l.bytes)

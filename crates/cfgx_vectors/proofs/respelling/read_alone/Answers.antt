@@ -1,9 +1,0 @@
--- The text has one tree, and so no fault.
-use Rattle.cfgx_parser.specs.Predicate.{question_of}
-use Rattle.cfgx_vectors.proofs.Respelt.{read-alone}
-use Rattle.cfgx_vectors.proofs.respelling.read_alone.Goals as goal
-
-pub returns : goal.returns
-returns c =
-    read-alone c.args.text.now (question_of c.args.predicate.now) c.parse.result c.requires
-    c.parse.ensures
