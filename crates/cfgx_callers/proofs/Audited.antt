@@ -15,6 +15,7 @@ use Rattle.cfgx_grammar.specs.Tree.{Tree, asked}
 use Rattle.cfgx_grammar.specs.Filling.{three_valued}
 use Rattle.cfgx_grammar.specs.Fold.{fold}
 use Rattle.cfgx_callers.specs.Audits.{InLanes, answer_by, first_lanes, verdict}
+use Rattle.cfgx_grammar.proofs.Answering.{only_tree}
 
 -- Answers to the questions, one after another.
 
@@ -97,7 +98,7 @@ module _ {T : Type 0} (answer : T → TargetQuestion → Bool) (rows : List T) w
   first_lanes-text answers given value few same asks values tree has =
       first_lanes-verdicts tree given value few
       (subst (AllZip (InLanes answer rows) (asked tree)) (sym same)
-      (subst (λ t. AllZip (InLanes answer rows) (asked t) answers) (sym (asks.0.only tree has))
+      (subst (λ t. AllZip (InLanes answer rows) (asked t) answers) (sym (only_tree asks.0 tree has))
       asks.1))
       (λ i below. values.2 i below
-      ∙ ap (λ t. fold three_valued t (map (lane i) given)) (sym (values.0.only tree has)))
+      ∙ ap (λ t. fold three_valued t (map (lane i) given)) (sym (only_tree values.0 tree has)))

@@ -9,6 +9,7 @@ use Rattle.cfgx_grammar.specs.Grammar.{HasTree}
 use Rattle.cfgx_grammar.specs.Question.{Question}
 use Rattle.cfgx_grammar.specs.Regular.{IsAlone}
 use Rattle.cfgx_callers.specs.Callers.{IsReadAlone}
+use Rattle.cfgx_grammar.proofs.Answering.{HasOneTree-tree, not_both}
 
 pub read-alone : {A : Type 0} (text : List ℕ) (question : Question)
     (result : Result (List ℕ) (Failure A)) → IsAlone text question → Answers (strip text) result
@@ -16,6 +17,5 @@ pub read-alone : {A : Type 0} (text : List ℕ) (question : Question)
 read-alone text question (Ok expression) alone answers =
     subst (λ bytes. IsAlone bytes question) (sym (answers.0 ∙ alone.stripped)) alone
 read-alone text question (Err (failure.Parse error)) alone answers =
-    answers.2.0 alone.one.tree
-    (subst (λ bytes. HasTree bytes alone.one.tree) (sym alone.stripped) alone.one.has_tree)
+    not_both answers.2 (rw alone.stripped (HasOneTree-tree alone.reads.has))
 read-alone text question (Err (failure.Memory error)) alone answers = tt

@@ -6,8 +6,8 @@ use Rattle.cfgx_callers.proofs.auditing.audit.Goals as goal
 pub returns : goal.returns
 returns g c =
     let read = c.in_ok-expression.ensures in
-    let tree = read.2.0.tree in (
-      read.2.0,
+    let tree = read.2.tree in (
+      read.2,
       c.in_ok-verdicts_of.ensures tree
-          (subst (λ text. HasTree text tree) (sym read.0) read.2.0.has_tree),
+          (subst (λ text. HasTree text tree) (sym read.0) read.2.reads.has),
     )

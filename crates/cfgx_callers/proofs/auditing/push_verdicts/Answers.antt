@@ -11,7 +11,7 @@ pub eval_lanes-requires : goal.eval_lanes-requires
 eval_lanes-requires g c =
     let found = c.in_ok-answers.ensures in (
       found.0.tree,
-      found.0.has_tree,
+      found.0.reads.has,
       ap length c.as_slice.ensures.value
           ∙ AllZip-long (InLanes g.T.TargetMatcher.answer c.args.rows.now)
           (asked found.0.tree) c.in_ok-answers.answers.items found.1,

@@ -9,6 +9,7 @@ use Rattle.cfgx_grammar.specs.Given.{AreAnswersTo}
 use Rattle.cfgx_grammar.specs.Question.{Question}
 use Rattle.cfgx_grammar.specs.Tree.{Tree, asked}
 use Rattle.cfgx_callers.proofs.filling.plan.Goals as goal
+use Rattle.cfgx_grammar.proofs.Answering.{only_tree}
 
 -- two vectors of truth values, or nothing
 abbrev Fillings : Type 0
@@ -28,8 +29,8 @@ AreFound-clauses : (text : List ℕ) (answers : List (Option Bool)) (found shown
     → AreFound text answers shown
 AreFound-clauses text answers found shown is given exact fillings =
     let one = exact.0 in
-    let many = given.2 ∙ ap (λ tree. length (asked tree)) (one.only given.0 given.1) in
-    let same = one.only fillings.0.tree fillings.0.has_tree in
+    let many = given.2 ∙ ap (λ tree. length (asked tree)) (only_tree one given.0 given.1) in
+    let same = only_tree one fillings.0.tree fillings.0.reads.has in
     record {
       one = one;
       exact = exact.1 answers many;
@@ -43,7 +44,7 @@ value_of_one : {text : List ℕ} {answers : List (Option Bool)} {shown : Filling
     → (one : HasOneTree text) × (value ≡ fold three_valued one.tree answers)
     → value ≡ fold three_valued found.one.tree answers
 value_of_one {answers = answers} found (one, is) =
-    is ∙ ap (λ tree. fold three_valued tree answers) (found.one.only one.tree one.has_tree)
+    is ∙ ap (λ tree. fold three_valued tree answers) (only_tree found.one one.tree one.reads.has)
 
 pub returns-in-Some : goal.returns-in-Some
 returns-in-Some c =
