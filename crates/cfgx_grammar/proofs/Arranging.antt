@@ -1,8 +1,9 @@
--- The questions of a function are those of its arranged members.
+-- The questions of a function are those of its arranged members, and its value is that of theirs.
 use Rattle.std.proofs.Common.{◌≡◌, Bool, ◌++◌, refl, append_assoc, arith}
 use Rattle.cfgx_grammar.specs.Question.{Question}
 use Rattle.cfgx_grammar.specs.Tree.{Tree, Trees, is_function, is_leaf, only, followed_by, arranged}
 use Rattle.cfgx_grammar.specs.Tree.{asked_by, asked_each}
+use Rattle.cfgx_grammar.specs.Fold.{Operations, value_of, values_by, values_of}
 
 asked_each-followed_by : (trees others : Trees Question) → asked_each (followed_by trees others) ≡
     asked_each trees ++ asked_each others
@@ -20,3 +21,20 @@ pub asked_each-arranged : (trees : Trees Question) → asked_by is_function tree
     ++ asked_by is_leaf trees ≡ asked_each (arranged trees)
 asked_each-arranged trees =
     rw (asked_each-followed_by, asked_each-only is_function, asked_each-only is_leaf) refl
+
+module _ {T : Type 0} (logic : Operations T) where
+  values_of-followed_by : (trees others : Trees T) → values_of logic (followed_by trees others)
+      ≡ values_of logic trees ++ values_of logic others
+  values_of-followed_by Trees.none others = refl
+  values_of-followed_by (Trees.more tree trees) others =
+      rw (values_of-followed_by trees others) refl
+
+  values_of-only : (test : Tree T → Bool) (trees : Trees T)
+      → values_of logic (only test trees) ≡ values_by logic test trees
+  values_of-only test Trees.none = refl
+  values_of-only test (Trees.more tree trees) = rw (← values_of-only test trees) (grind arith)
+
+  pub values_of-arranged : (trees : Trees T) → values_by logic is_function trees
+      ++ values_by logic is_leaf trees ≡ values_of logic (arranged trees)
+  values_of-arranged trees =
+      rw (values_of-followed_by, values_of-only is_function, values_of-only is_leaf) refl

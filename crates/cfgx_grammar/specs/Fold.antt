@@ -38,6 +38,10 @@ abbrev mutual
   values_by logic test (Trees.more tree trees) = if test tree
       then value_of logic tree ∷ values_by logic test trees else values_by logic test trees
 
+-- those of all the trees of a list
+abbrev pub values_of : {T : Type 0} → Operations T → Trees T → List T
+values_of logic trees = values_by logic (λ _. true) trees
+
 -- the first answer; each predicate has one
 abbrev pub first_or : {T : Type 0} → T → List T → T
 first_or otherwise [] = otherwise

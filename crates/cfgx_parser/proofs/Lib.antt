@@ -9,5 +9,4 @@ pub mod Reading
 pub mod Shapes
 pub mod Sizes
 pub mod Whole
-pub mod Worked
 pub mod spelled

@@ -1,15 +1,30 @@
 //! What holds of the values of all conditions: each function's clause is the law. Its body does
 //! nothing, and a caller that calls it knows the law.
-ghost use Rattle.std.specs.Prelude.{◌≡◌, ℕ, ◌<◌, Bool, List, map};
+ghost use Rattle.std.specs.Prelude.{◌≡◌, ℕ, ◌<◌, Bool, List, length, map};
 ghost use Rattle.std.specs.List.{AllByRecursion};
 ghost use Rattle.cfgx_syntax.specs.Kleene.{lane};
 ghost use Rattle.cfgx_grammar.specs.Filling.{three_valued};
-ghost use Rattle.cfgx_grammar.specs.Fold.{fold};
+ghost use Rattle.cfgx_grammar.specs.Fold.{answered, fold, list_value, value_of, values_of};
 ghost use Rattle.cfgx_grammar.specs.Mapping.{IsMap, Passes, is_apart, lane_valued};
 ghost use Rattle.cfgx_grammar.specs.Question.{Question};
-ghost use Rattle.cfgx_grammar.specs.Tree.{Tree};
+ghost use Rattle.cfgx_grammar.specs.Tree.{ListFunction, Tree, Trees, arranged, asked};
 
 use super::Logic;
+
+/// The value of a list is `list_value` of the values of its members as they are arranged: `all`
+/// joins them from the last back by `and` to `top`, and `any` by `or` to `bottom`.
+pub fn lists_are_joined_as_arranged<T: Logic>()
+    ensures { (function : ListFunction) (trees : Trees T)
+        → value_of T.Logic (Tree.list function trees)
+        ≡ list_value T.Logic function (values_of T.Logic (arranged trees)) }
+{}
+
+/// A tree over which answers are dealt out asks for just these answers, in their order, if there is
+/// one for each predicate. So `fold` is the value of the tree that asks for them.
+pub fn answered_trees_ask_their_answers<T: Logic>()
+    ensures { (tree : Tree Question) (answers : List T) → length answers ≡ length (asked tree)
+        → asked (answered T.Logic.top tree answers) ≡ answers }
+{}
 
 /// A map that takes each constant and each operation of one logic to that of another takes the
 /// value of a condition to its value over what the map makes of each answer. It has to do so for
