@@ -41,9 +41,9 @@ evaluated | 3 | all(a, any(b), c)
 "#;
 
 // The same of long texts, from which nothing is stripped: a front, a piece, how often it comes, a
-// back, and how many `)` follow.
+// back, and how many `)` follow. No run of the program reads a text that is only scanned.
 const LONG: &str = r#"
-read | U[`<key>` `all` `any` `not`] at 100000..100001 | \e | \u{20} | 100000 | 8 | 0
+scanned | U[`<key>` `all` `any` `not`] at 100000..100001 | \e | \u{20} | 100000 | 8 | 0
 read | U[`<key>` `all` `any` `not`] at 5000..5001 | \e | \u{20} | 5000 | 8 | 0
 read | UnclosedQuotes at 0..5001 | " | v | 5000 | \e | 0
 read | UnclosedParens at 3..200 | \e | not( | 40 | a | 39
@@ -71,7 +71,7 @@ any( | a, | 100000 | ) | 0
 // The calls with a text of this kind.
 fn calls_of(kind: &str) -> &'static [&'static str] {
     match kind {
-        "read" => &["parse", "from_str"],
+        "scanned" | "read" => &["parse", "from_str"],
         "copied" => &["parse", "from_str", "try_clone"],
         "evaluated" => &[
             "parse",
@@ -349,7 +349,8 @@ fn are_refused(alloc: Global, calls: &[&str], text: &str, plain: &Read) -> bool 
 // The same of runs of the program over the text, which end with this status.
 fn runs_are_refused(alloc: Global, text: &str, status: u8) -> bool {
     is_run_in_turns(alloc, &["parse", text], "", None, status)
-        && is_run_in_turns(alloc, &["eval", text, text], "", None, status)
+        && is_run_in_turns(alloc, &["eval", text, "a"], "", None, status)
+        && is_run_in_turns(alloc, &["eval", "a", text], "", None, status)
         && is_run_in_turns(alloc, &["target", IOS, text], "", None, status)
 }
 
@@ -360,7 +361,7 @@ fn is_right(alloc: Global, kind: &str, answer: &str, text: &str, original: &str)
     let status = if plain.is_ok() { 0 } else { 1 };
     is_plain(alloc, &plain, answer, original)
         && are_refused(alloc, calls_of(kind), text, &plain)
-        && runs_are_refused(alloc, text, status)
+        && (kind == "scanned" || runs_are_refused(alloc, text, status))
 }
 
 // The same of the fields of a row.
@@ -437,7 +438,8 @@ fn is_large(alloc: Global, parts: &[String]) -> bool {
 
 fn reads_and_copies<A: SmallAllocator>(alloc: A, text: &str) -> Result<bool, Failure<A>> {
     let expression = Expression::parse(alloc, text)?;
-    Ok(is_copied(alloc, &expression)?)
+    let copy = expression.try_clone(alloc)?;
+    Ok(copy == expression && copy.predicates().left() == expression.predicates().left())
 }
 
 #[test]
