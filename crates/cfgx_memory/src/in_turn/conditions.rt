@@ -17,7 +17,7 @@ use std::alloc::{AllocError, Global};
 // What is called with a text, what parsing it answers, which is its fault or the number of its
 // predicates, the text, and what it is stripped to if that is not the text. What is evaluated is
 // true if all its predicates are, false if all are false, and asks nothing of targets.
-const SHORT: &str = r#"
+const TEXTS: &str = r#"
 read | U[`<key>` `all` `any` `not`] at 2..3 | a 8 b
 read | UnopenedParens at 3..4 | key)
 read | UnclosedQuotes at 6..10 | key = "abc
@@ -38,11 +38,8 @@ copied | 8 | all(a, b, c, d, not(e), f, g, h)
 evaluated | 1 | a
 evaluated | 1 | cfg(key) | key
 evaluated | 3 | all(a, any(b), c)
-"#;
-
-// The same of long texts, from which nothing is stripped: a front, a piece, how often it comes, a
-// back, and how many `)` follow. No run of the program reads a text that is only scanned.
-const LONG: &str = r#"
+// Long texts, from which nothing is stripped: a front, a piece, how often it comes, a back, and
+// how many `)` follow. No run of the program reads a text that is only scanned.
 scanned | U[`<key>` `all` `any` `not`] at 100000..100001 | \e | \u{20} | 100000 | 8 | 0
 read | U[`<key>` `all` `any` `not`] at 5000..5001 | \e | \u{20} | 5000 | 8 | 0
 read | UnclosedQuotes at 0..5001 | " | v | 5000 | \e | 0
@@ -58,14 +55,11 @@ evaluated | 1 | \e | any( | 100 | a | 100
 evaluated | 1 | \e | not( | 100 | a | 100
 evaluated | 1 | all(a, | true, | 100 | ) | 0
 evaluated | 1 | any(a, | false, | 100 | ) | 0
-"#;
-
-// What is too large to be read in turns, by the parts of a long text.
-const LARGE: &str = r#"
-\e | k | 5000 | \e | 0
-\e | k | 100000 | \e | 0
-any( | a, | 100000 | ) | 0
-\e | not( | 100000 | a | 100000
+// What is too large to be read in turns is copied once.
+large | \e | k | 5000 | \e | 0
+large | \e | k | 100000 | \e | 0
+large | any( | a, | 100000 | ) | 0
+large | \e | not( | 100000 | a | 100000
 "#;
 
 // The calls with a text of this kind.
@@ -89,12 +83,20 @@ fn calls_of(kind: &str) -> &'static [&'static str] {
 /// What parsing answers.
 type Read<A = Global> = Result<Expression<A>, Failure<A>>;
 
+/// Whether the predicates of both are equal, in their order.
+pub(crate) fn ask_the_same<A: SmallAllocator, B: SmallAllocator>(
+    one: &Expression<A>,
+    other: &Expression<B>,
+) -> bool {
+    one.predicates().eq(other.predicates())
+}
+
 // Whether the texts are the same, and the predicates.
 fn are_alike<A: SmallAllocator, B: SmallAllocator>(
     one: &Expression<A>,
     other: &Expression<B>,
 ) -> bool {
-    one.original() == other.original() && one.predicates().eq(other.predicates())
+    one.original() == other.original() && ask_the_same(one, other)
 }
 
 // The first token of `a 8 b`, and the fault after it. Either this fault or a refused growth ends
@@ -356,33 +358,14 @@ fn runs_are_refused(alloc: Global, text: &str, status: u8) -> bool {
 
 // Whether parsing the text answers this, and each growth of each call with a text of this kind is
 // refused in turn.
-fn is_right(alloc: Global, kind: &str, answer: &str, text: &str, original: &str) -> bool {
+fn is_right(alloc: Global, fields: [&String; 4]) -> bool {
+    let [kind, answer, text, original] = fields;
+    let (kind, text) = (kind.as_str(), text.as_str());
     let plain = Expression::parse(alloc, text);
     let status = if plain.is_ok() { 0 } else { 1 };
-    is_plain(alloc, &plain, answer, original)
+    is_plain(alloc, &plain, answer.as_str(), original.as_str())
         && are_refused(alloc, calls_of(kind), text, &plain)
         && (kind == "scanned" || runs_are_refused(alloc, text, status))
-}
-
-// The same of the fields of a row.
-fn is_short(alloc: Global, fields: &[String]) -> bool {
-    match fields {
-        [kind, answer, text] => is_right(
-            alloc,
-            kind.as_str(),
-            answer.as_str(),
-            text.as_str(),
-            text.as_str(),
-        ),
-        [kind, answer, text, original] => is_right(
-            alloc,
-            kind.as_str(),
-            answer.as_str(),
-            text.as_str(),
-            original.as_str(),
-        ),
-        _ => false,
-    }
 }
 
 // The long text of these fields.
@@ -398,32 +381,24 @@ fn text_of(alloc: Global, fields: &[String]) -> Option<String> {
     }
 }
 
-fn is_long(alloc: Global, fields: &[String]) -> bool {
-    let [kind, answer, parts @ ..] = fields else {
-        return false;
-    };
-    match text_of(alloc, parts) {
-        Some(text) => is_right(
-            alloc,
-            kind.as_str(),
-            answer.as_str(),
-            text.as_str(),
-            text.as_str(),
-        ),
-        None => false,
+// The same of a row. The text of a large one is copied.
+fn is_row(alloc: Global, fields: &[String]) -> bool {
+    match fields {
+        [kind, answer, text] => is_right(alloc, [kind, answer, text, text]),
+        [kind, answer, text, original] => is_right(alloc, [kind, answer, text, original]),
+        [kind, parts @ ..] if kind.as_str() == "large" => is_large(alloc, parts),
+        [kind, answer, parts @ ..] => match text_of(alloc, parts) {
+            Some(text) => is_right(alloc, [kind, answer, &text, &text]),
+            None => false,
+        },
+        _ => false,
     }
 }
 
 #[test]
 fn each_growth_of_each_call_is_refused(rt: HostRuntime) {
     let alloc = rt.alloc();
-    assert_eq!(rt; passing(alloc, SHORT, |row| is_short(alloc, row)), Ok(20));
-}
-
-#[test]
-fn each_growth_of_each_call_on_a_long_text_is_refused(rt: HostRuntime) {
-    let alloc = rt.alloc();
-    assert_eq!(rt; passing(alloc, LONG, |row| is_long(alloc, row)), Ok(15));
+    assert_eq!(rt; passing(alloc, TEXTS, |row| is_row(alloc, row)), Ok(39));
 }
 
 // Whether an expression of the text of these parts is equal to its copy.
@@ -440,12 +415,6 @@ fn reads_and_copies<A: SmallAllocator>(alloc: A, text: &str) -> Result<bool, Fai
     let expression = Expression::parse(alloc, text)?;
     let copy = expression.try_clone(alloc)?;
     Ok(copy == expression && copy.predicates().left() == expression.predicates().left())
-}
-
-#[test]
-fn large_expressions_are_copied(rt: HostRuntime) {
-    let alloc = rt.alloc();
-    assert_eq!(rt; passing(alloc, LARGE, |row| is_large(alloc, row)), Ok(4));
 }
 
 // How many growths it takes to parse a key of so many bytes.

@@ -1,5 +1,4 @@
 //! Runs of the program, and wrong use, which takes no memory.
-use cfg_expr::targets::TargetTable;
 use cfgx_engine::engine::run;
 use cfgx_testing::heap::{Heap, empty_heap, growths, has_every_block};
 use cfgx_testing::refusing::EVERY;
@@ -69,78 +68,49 @@ pub(super) fn is_run_in_turns(
     is_plain && growths_of(alloc, words, &(input, status, written)).unwrap_or(0) > 0
 }
 
-// The status of a run, and its words.
-const COMMANDS: &str = r#"
-1 | parse | \e
-0 | eval | a
-0 | eval | all(a, any(b), c) | a | ?b | c
-0 | eval | any(target_os = "linux", feature = "a", not(a), not(b))\
+// How a run is made, its status, and its words, or for `pick` on the simulator its input and what
+// is written of it.
+const RUNS: &str = r#"
+in turns | 1 | parse | \e
+in turns | 0 | eval | a
+in turns | 0 | eval | all(a, any(b), c) | a | ?b | c
+in turns | 0 | eval | any(target_os = "linux", feature = "a", not(a), not(b))\
  | ?any(target_os = "linux", key = "v") | all(feature = "b", a, b, c, d, e, f)
-1 | eval | key) | a
-1 | eval | a | b | ?c | key)
-1 | eval | a | b | ?key) | c
-0 | target | aarch64-apple-ios | any(unix, a)
-0 | target | aarch64-apple-ios-sim | all(test, a, b, c, d, e)
-1 | target | aarch64-apple-ios | key)
-2 | target | nowhere | key)
+in turns | 1 | eval | key) | a
+in turns | 1 | eval | a | b | ?c | key)
+in turns | 1 | eval | a | b | ?key) | c
+in turns | 0 | target | aarch64-apple-ios | any(unix, a)
+in turns | 0 | target | aarch64-apple-ios-sim | all(test, a, b, c, d, e)
+in turns | 1 | target | aarch64-apple-ios | key)
+in turns | 2 | target | nowhere | key)
+pick | 0 | a\tcfg(target_abi = "sim")\nb\tany(windows, feature = "x")\n\
+c\tall(windows, feature = "x")\n\
+ | a\tyes\nb\tunknown\n\ttrue with 01\n\tfalse with 00\nc\tno\n
+pick | 1 | x | line 1: no tab\n
+pick | 1 | a\tunix\n\nb\tkey)\n | line 3:\nkey)\n   ^ unopened parens\n
+pick | 0 | m\tany(not(feature = "x"), target_os = "linux", test)\
+ | m\tunknown\n\ttrue with 001\n\tfalse with 100\n
+pick | 0 | \u{e9}\ttrue\r\n\r\n | \u{e9}\tyes\n
+pick | 0 | \e | \e
+// With no memory at all, the status of wrong use is the same.
+without | 2
+without | 2 | parse
+without | 2 | eval
+without | 2 | pick
+without | 2 | pick | a | b
+without | 2 | target | nowhere
+without | 3 | parse | a
+without | 3 | eval | a
+without | 3 | target | nowhere | )
 "#;
 
-// An input of `pick` on the simulator, what is written of it, and the status.
-const INPUTS: &str = r#"
-a\tcfg(target_abi = "sim")\nb\tany(windows, feature = "x")\nc\tall(windows, feature = "x")\n\
- | a\tyes\nb\tunknown\n\ttrue with 01\n\tfalse with 00\nc\tno\n | 0
-x | line 1: no tab\n | 1
-a\tunix\n\nb\tkey)\n | line 3:\nkey)\n   ^ unopened parens\n | 1
-m\tany(not(feature = "x"), target_os = "linux", test)\
- | m\tunknown\n\ttrue with 001\n\tfalse with 100\n | 0
-\u{e9}\ttrue\r\n\r\n | \u{e9}\tyes\n | 0
-\e | \e | 0
-"#;
-
-// The status of a run with no memory at all, and its words: that of wrong use is 2, as with memory.
-const WITHOUT: &str = "
-2
-2 | parse
-2 | eval
-2 | pick
-2 | pick | a | b
-2 | target | nowhere
-3 | parse | a
-3 | eval | a
-3 | target | nowhere | )
-";
-
-// The status and the words of a row.
-fn words_of<'a>(alloc: Global, fields: &'a [String]) -> Option<(u8, Vec<&'a str>)> {
-    let (status, others) = fields.split_first()?;
+// The words as texts.
+fn words_of<'a>(alloc: Global, fields: &'a [String]) -> Result<Vec<&'a str>, AllocError> {
     let mut words = Vec::new(alloc);
-    for field in others {
-        words.push(field.as_str()).ok()?;
+    for field in fields {
+        words.push(field.as_str())?;
     }
-    Some((status.parse::<u8>().ok()?, words))
-}
-
-fn is_command(alloc: Global, fields: &[String]) -> bool {
-    match words_of(alloc, fields) {
-        Some((status, words)) => is_run_in_turns(alloc, words.as_slice(), "", None, status),
-        None => false,
-    }
-}
-
-fn is_input(alloc: Global, fields: &[String]) -> bool {
-    let [input, written, status] = fields else {
-        return false;
-    };
-    match status.parse::<u8>() {
-        Ok(status) => is_run_in_turns(
-            alloc,
-            &["pick", SIM],
-            input.as_str(),
-            Some(written.as_str()),
-            status,
-        ),
-        Err(_) => false,
-    }
+    Ok(words)
 }
 
 // Whether a run with no memory at all ends with this status, and writes what that says.
@@ -154,35 +124,32 @@ fn is_without(alloc: Global, words: &[&str], status: u8) -> bool {
     ended == status && sink.bytes.as_slice() == written.as_bytes() && has_every_block(heap)
 }
 
-fn is_run_without(alloc: Global, fields: &[String]) -> bool {
-    match words_of(alloc, fields) {
-        Some((status, words)) => is_without(alloc, words.as_slice(), status),
-        None => false,
+// Whether a run that is made so ends so.
+fn is_right(alloc: Global, made: &str, status: u8, words: &[&str]) -> bool {
+    match (made, words) {
+        ("pick", [input, written]) => {
+            is_run_in_turns(alloc, &["pick", SIM], input, Some(*written), status)
+        }
+        ("in turns", _) => is_run_in_turns(alloc, words, "", None, status),
+        ("without", _) => is_without(alloc, words, status),
+        _ => false,
+    }
+}
+
+fn is_row(alloc: Global, fields: &[String]) -> bool {
+    let [made, status, words @ ..] = fields else {
+        return false;
+    };
+    match (status.parse::<u8>(), words_of(alloc, words)) {
+        (Ok(status), Ok(words)) => is_right(alloc, made.as_str(), status, words.as_slice()),
+        _ => false,
     }
 }
 
 #[test]
 fn each_growth_of_each_run_is_refused(rt: HostRuntime) {
     let alloc = rt.alloc();
-    assert_eq!(rt;
-        passing(alloc, COMMANDS, |row| is_command(alloc, row)),
-        Ok(11)
-    );
-}
-
-#[test]
-fn each_growth_of_each_run_of_pick_is_refused(rt: HostRuntime) {
-    let alloc = rt.alloc();
-    assert_eq!(rt; passing(alloc, INPUTS, |row| is_input(alloc, row)), Ok(6));
-}
-
-#[test]
-fn wrong_use_takes_no_memory(rt: HostRuntime) {
-    let alloc = rt.alloc();
-    assert_eq!(rt;
-        passing(alloc, WITHOUT, |row| is_run_without(alloc, row)),
-        Ok(9)
-    );
+    assert_eq!(rt; passing(alloc, RUNS, |row| is_row(alloc, row)), Ok(26));
 }
 
 #[test]
@@ -202,20 +169,14 @@ fn each_growth_of_a_deep_run_is_refused(rt: HostRuntime) -> Result<(), Fail> {
     Ok(())
 }
 
-// Whether a table can be made.
-fn makes_table(heap: Heap<'_>) -> Result<bool, AllocError> {
-    Ok(TargetTable::builtins(heap)?.rows().len() == 5)
-}
-
 const UNKNOWN: Ended<'static> = ("", 2, b"unknown triple\n");
 
-// An unknown triple is found before the text takes memory.
+// The table takes a block for its five rows, and each of them one for its families and one for its
+// widths. The text is not read.
 #[test]
 fn an_unknown_triple_takes_memory_for_the_table_alone(rt: HostRuntime) -> Result<(), Fail> {
     let long = repeated(rt.alloc(), "any(", "a,", 100, ")")?;
-    let of_run = growths_of(rt.alloc(), &["target", "nowhere", long.as_str()], &UNKNOWN);
-    let of_table = growths(rt.alloc(), |heap| makes_table(heap));
-    assert!(rt; of_table.is_some());
-    assert_eq!(rt; of_run, of_table);
+    let words = ["target", "nowhere", long.as_str()];
+    assert_eq!(rt; growths_of(rt.alloc(), &words, &UNKNOWN), Some(11));
     Ok(())
 }

@@ -1,5 +1,4 @@
 //! Lists, faults and rows, which are made and copied.
-use cfg_expr::error::HasAtomicParseError;
 use cfg_expr::memory::SmallAllocator;
 use cfg_expr::targets::{
     Abi, Arch, Endian, Env, Families, Family, HasAtomic, HasAtomicFailure, HasAtomics, Os, Panic,
@@ -7,42 +6,87 @@ use cfg_expr::targets::{
 };
 use cfgx_fields::Field;
 use cfgx_testing::heap::{empty_heap, has_every_block, is_refused_in_turns};
-use cfgx_testing::holding::{gives, holds};
+use cfgx_testing::holding::{gives, holds, prints};
 use std::alloc::{AllocError, Global};
+use std::fmt::Display;
 
-// Whether the list has the families of these names.
-fn are_families<A: SmallAllocator>(list: &Families<'_, A>, names: &[&str]) -> bool {
-    for (family, name) in list.as_slice().iter().zip(names) {
-        if family.as_str() != *name {
-            return false;
-        }
-    }
-    list.as_slice().len() == names.len()
+// Whether the list prints this, and is dropped then.
+fn given<T: Display + Drop>(global: Global, list: T, text: &str) -> bool {
+    prints(global, &list, text)
 }
 
-// The same of a list that is given away.
-fn has_families<A: SmallAllocator>(list: Families<'_, A>, names: &[&str]) -> bool {
-    let are_its = are_families(&list, names);
-    drop(list);
-    are_its
+// Whether the list and its copy print this.
+fn are_given<T: Display + Drop>(
+    global: Global,
+    list: T,
+    copy: Result<T, AllocError>,
+    text: &str,
+) -> Result<bool, AllocError> {
+    let stays = given(global, list, text);
+    Ok(given(global, copy?, text) && stays)
 }
 
-// The named lists.
-fn names_families<A: SmallAllocator>(alloc: A) -> Result<bool, AllocError> {
+// The named lists of families.
+fn names_families<A: SmallAllocator>(global: Global, alloc: A) -> Result<bool, AllocError> {
     Ok(
-        has_families(Families::unix(alloc)?, &["unix"])
-            && has_families(Families::unix_wasm(alloc)?, &["unix", "wasm"])
-            && has_families(Families::wasm(alloc)?, &["wasm"])
-            && has_families(Families::windows(alloc)?, &["windows"]),
+        given(global, Families::unix(alloc)?, "{unix}")
+            && given(global, Families::unix_wasm(alloc)?, "{unix, wasm}")
+            && given(global, Families::wasm(alloc)?, "{wasm}")
+            && given(global, Families::windows(alloc)?, "{windows}"),
     )
 }
 
-// A family that owns its text.
-fn family_of<'a, A: SmallAllocator + 'a>(
+// The named lists of widths.
+fn names_widths<A: SmallAllocator>(global: Global, alloc: A) -> Result<bool, AllocError> {
+    Ok(
+        given(
+            global,
+            HasAtomics::atomic_8_16_32_64_128_ptr(alloc)?,
+            "{8, 16, 32, 64, 128, ptr}",
+        ) && given(
+            global,
+            HasAtomics::atomic_8_16_32_64_ptr(alloc)?,
+            "{8, 16, 32, 64, ptr}",
+        ) && given(
+            global,
+            HasAtomics::atomic_8_16_32_ptr(alloc)?,
+            "{8, 16, 32, ptr}",
+        ),
+    )
+}
+
+// A list and its copy. One of the texts is empty.
+fn copies_families<A: SmallAllocator>(global: Global, alloc: A) -> Result<bool, AllocError> {
+    let list = families_of(alloc, &["wasm", "unix", "b", ""])?;
+    let copy = list.try_clone(alloc);
+    are_given(global, list, copy, "{, b, unix, wasm}")
+}
+
+fn copies_widths<A: SmallAllocator>(global: Global, alloc: A) -> Result<bool, AllocError> {
+    let list = HasAtomics::new(
+        alloc,
+        [HasAtomic::Pointer, HasAtomic::IntegerSize(8)]
+            .iter()
+            .copied(),
+    )?;
+    let copy = list.try_clone(alloc);
+    are_given(global, list, copy, "{8, ptr}")
+}
+
+// A list of 10,000 widths, and its copy.
+fn copies_many_widths<A: SmallAllocator>(alloc: A) -> Result<bool, AllocError> {
+    let list = HasAtomics::new(alloc, (0..10_000u16).map(HasAtomic::IntegerSize))?;
+    Ok(list.as_slice().len() == 10_000 && gives(list.try_clone(alloc), &list)?)
+}
+
+// Adds a family that owns its text.
+fn push_family<'a, A: SmallAllocator>(
     alloc: A,
+    families: &mut Vec<Family<'a, A>, A>,
     name: &str,
-) -> Result<Family<'a, A>, AllocError> {
-    Ok(Family::new(String::from_str(alloc, name)?))
+) -> Result<(), AllocError> {
+    families.push(Family::new(String::from_str(alloc, name)?))?;
+    Ok(())
 }
 
 // A list of families that own these texts.
@@ -52,90 +96,23 @@ fn families_of<'a, A: SmallAllocator + 'a>(
 ) -> Result<Families<'a, A>, AllocError> {
     let mut families = Vec::new(alloc);
     for name in names {
-        families.push(family_of(alloc, name)?)?;
+        push_family(alloc, &mut families, name)?;
     }
     Families::new(alloc, families.into_iter())
 }
 
-const SORTED: &[&str] = &["", "b", "unix", "wasm"];
-
-// A list and its copy. One of the texts is empty.
-fn copies_families<A: SmallAllocator>(alloc: A) -> Result<bool, AllocError> {
-    let list = families_of(alloc, &["wasm", "unix", "b", ""])?;
-    let copy = list.try_clone(alloc);
-    let stays = has_families(list, SORTED);
-    Ok(has_families(copy?, SORTED) && stays)
-}
-
-const UP_TO_128: &[HasAtomic] = &[
-    HasAtomic::IntegerSize(8),
-    HasAtomic::IntegerSize(16),
-    HasAtomic::IntegerSize(32),
-    HasAtomic::IntegerSize(64),
-    HasAtomic::IntegerSize(128),
-];
-
-// Whether these are so many widths of `UP_TO_128`, and that of a pointer.
-fn has_widths<A: SmallAllocator>(list: HasAtomics<A>, bits: usize) -> bool {
-    match list.as_slice().split_last() {
-        Some((last, widths)) => {
-            *last == HasAtomic::Pointer && widths.len() == bits && UP_TO_128.starts_with(widths)
-        }
-        None => false,
-    }
-}
-
-// The named lists.
-fn names_widths<A: SmallAllocator>(alloc: A) -> Result<bool, AllocError> {
-    Ok(
-        has_widths(HasAtomics::atomic_8_16_32_64_128_ptr(alloc)?, 5)
-            && has_widths(HasAtomics::atomic_8_16_32_64_ptr(alloc)?, 4)
-            && has_widths(HasAtomics::atomic_8_16_32_ptr(alloc)?, 3),
-    )
-}
-
-// A list and its copy.
-fn copies_widths<A: SmallAllocator>(alloc: A) -> Result<bool, AllocError> {
-    let items = [HasAtomic::Pointer, HasAtomic::IntegerSize(8)];
-    let list = HasAtomics::new(alloc, items.iter().copied())?;
-    let copy = list.try_clone(alloc);
-    let stays = has_widths(list, 1);
-    Ok(has_widths(copy?, 1) && stays)
-}
-
-// A list of 10,000 widths, and its copy.
-fn copies_many_widths<A: SmallAllocator>(alloc: A) -> Result<bool, AllocError> {
-    let list = HasAtomics::new(alloc, (0..10_000u16).map(HasAtomic::IntegerSize))?;
-    let copy = list.try_clone(alloc)?;
-    let are_all = copy.as_slice().len() == 10_000;
-    Ok(are_all && copy == list)
-}
-
-// A list of 10,000 families with owned texts, and its copy.
+// A list of 10,000 families that own their texts, and its copy.
 fn copies_many_families<A: SmallAllocator>(alloc: A) -> Result<bool, AllocError> {
-    let mut families = Vec::new(alloc);
-    for number in 0..10_000u16 {
-        families.push(Family::new(format!(in alloc; "{number}")?))?;
-    }
-    let list = Families::new(alloc, families.into_iter())?;
-    let copy = list.try_clone(alloc)?;
-    let are_all = copy.as_slice().len() == 10_000;
-    Ok(are_all && copy == list)
+    let list = families_of(alloc, &["unix"; 10_000])?;
+    Ok(list.as_slice().len() == 10_000 && gives(list.try_clone(alloc), &list)?)
 }
 
-// The fault of a text that is no width.
-fn no_width<A: SmallAllocator>(alloc: A) -> Result<Option<HasAtomicParseError<A>>, AllocError> {
-    match HasAtomic::read(alloc, "PTR") {
-        Ok(_) => Ok(None),
-        Err(HasAtomicFailure::Parse(error)) => Ok(Some(error)),
-        Err(HasAtomicFailure::Memory(error)) => Err(error),
-    }
-}
-
+// The fault of a text that is no width, and its copy.
 fn copies_a_fault<A: SmallAllocator>(alloc: A) -> Result<bool, AllocError> {
-    match &no_width(alloc)? {
-        Some(error) => gives(error.try_clone(alloc), error),
-        None => Ok(false),
+    match HasAtomic::read(alloc, "PTR") {
+        Ok(_) => Ok(false),
+        Err(HasAtomicFailure::Parse(error)) => gives(error.try_clone(alloc), &error),
+        Err(HasAtomicFailure::Memory(error)) => Err(error),
     }
 }
 
@@ -206,7 +183,7 @@ fn own_all<'a, A: SmallAllocator + 'a>(
     own_some(alloc, &mut row.vendor)?;
     own(alloc, &mut row.panic)?;
     row.families = families_of(alloc, &["wasm", "unix"])?;
-    row.has_atomics = HasAtomics::new(alloc, UP_TO_128.iter().copied())?;
+    row.has_atomics = HasAtomics::new(alloc, (0..10u16).map(HasAtomic::IntegerSize))?;
     Ok(())
 }
 
@@ -228,13 +205,13 @@ const CALLS: &[&str] = &[
     "copies of owned rows",
 ];
 
-// What the call answers.
-fn answer_to<A: SmallAllocator>(alloc: A, call: &str) -> Result<bool, AllocError> {
+// What the call answers. What it prints is printed to the other allocator.
+fn answer_to<A: SmallAllocator>(global: Global, alloc: A, call: &str) -> Result<bool, AllocError> {
     match call {
-        "families" => names_families(alloc),
-        "copies of families" => copies_families(alloc),
-        "widths" => names_widths(alloc),
-        "copies of widths" => copies_widths(alloc),
+        "families" => names_families(global, alloc),
+        "copies of families" => copies_families(global, alloc),
+        "widths" => names_widths(global, alloc),
+        "copies of widths" => copies_widths(global, alloc),
         "copies of many widths" => copies_many_widths(alloc),
         "copies of faults" => copies_a_fault(alloc),
         "copies of rows" => copies_a_row(alloc),
@@ -244,9 +221,10 @@ fn answer_to<A: SmallAllocator>(alloc: A, call: &str) -> Result<bool, AllocError
 
 #[test]
 fn each_growth_of_a_call_on_targets_is_refused(rt: HostRuntime) {
+    let alloc = rt.alloc();
     for call in CALLS {
         assert!(rt;
-            is_refused_in_turns(rt.alloc(), |heap| answer_to(heap, call)),
+            is_refused_in_turns(alloc, |heap| answer_to(alloc, heap, call)),
             "{call}"
         );
     }

@@ -1,8 +1,7 @@
 //! Conditions that are asked, compared, printed, spelled and evaluated, targets that they are asked
 //! of, and the logics and streams that stand beside them.
 use super::pair;
-use crate::in_turn::conditions::called;
-use cfg_expr::error::Failure;
+use crate::in_turn::conditions::{ask_the_same, called};
 use cfg_expr::expr::logic::Kleene64;
 use cfg_expr::expr::{Logic, Predicates, spell};
 use cfg_expr::memory::SmallAllocator;
@@ -11,7 +10,7 @@ use cfg_expr::{Expression, Predicate};
 use cfgx_engine::engine::{Counted, Sink};
 use cfgx_testing::heap::{Heap, empty_heap, has_every_block, holds_without_memory};
 use cfgx_testing::holding::{first_wrong, holds, prints};
-use std::alloc::Global;
+use std::alloc::{AllocError, Global};
 
 const TEXT: &str = "all(a, any(b), feature = \"a feature with a long name\")";
 
@@ -19,30 +18,15 @@ const OTHER: &str = "all(a, any(b), feature = \"a feature with a long name\"),";
 
 const FLAGS: &str = "all(a, any(b), c)";
 
-/// An expression, or why there is none.
-type Read<A> = Result<Expression<A>, Failure<A>>;
-
-// Whether the check holds of the expression of the text.
-fn holds_of<C>(heap: Heap<'_>, text: &str, check: C) -> bool
-where
-    C: Fn(&Expression<Heap<'_>>) -> bool,
-    requires { C.IsAlwaysCallable check }
-{
-    holds_without_memory(heap, Expression::parse(heap, text), check)
-}
-
-// Whether the expressions are equal, and whether their predicates are.
-fn compared<A: SmallAllocator>(one: &Expression<A>, other: &Expression<A>) -> (bool, bool) {
-    (one == other, one.predicates().eq(other.predicates()))
-}
-
-// Whether that is so of `TEXT` and another text.
-fn compare(heap: Heap<'_>, other: &str, wanted: (bool, bool)) -> bool {
+// Whether `TEXT` and the other text have equal expressions, and equal predicates.
+fn are_compared(heap: Heap<'_>, other: &str, wanted: (bool, bool)) -> bool {
     let read = pair(
         Expression::parse(heap, TEXT),
         Expression::parse(heap, other),
     );
-    holds_without_memory(heap, read, |two| compared(&two.0, &two.1) == wanted)
+    holds_without_memory(heap, read, |two| {
+        (two.0 == two.1) == wanted.0 && ask_the_same(&two.0, &two.1) == wanted.1
+    })
 }
 
 // Whether the predicate is this flag, or `feature`.
@@ -112,64 +96,77 @@ fn are_of_the_fourth<A: SmallAllocator>(
 }
 
 fn ask_for_the_fourth(heap: Heap<'_>) -> bool {
-    let expression = Expression::parse(heap, "target_abi = \"sim\"");
-    let table = TargetTable::builtins(heap);
-    match table {
-        Ok(table) => holds_without_memory(heap, expression, |one| {
-            are_of_the_fourth(one.predicates(), table.rows())
-        }),
-        Err(_) => false,
+    let read = Expression::parse(heap, "target_abi = \"sim\"").map_err(|_| AllocError);
+    let two = pair(read, TargetTable::builtins(heap));
+    holds_without_memory(
+        heap,
+        two,
+        |two| are_of_the_fourth(two.0.predicates(), two.1.rows()),
+    )
+}
+
+// Checks of expressions, and texts. Those that are evaluated have 31 or 32 bytes.
+const ASKED: &[(&str, &str)] = &[
+    ("text", TEXT),
+    ("predicates", TEXT),
+    ("spelling", "target_has_atomic = \"+00128\""),
+    ("eval", "any(a,a,a,a,a,a,a,a,a,a,a,a,a,a)"),
+    ("eval", "not(not(not(not(not(not(a))))))"),
+    ("eval", "all(all(),all(),all(),all(),a,a)"),
+    ("eval_lanes", "any(a,a,a,a,a,a,a,a,a,a,a,a,a,a)"),
+    ("eval_lanes", "not(not(not(not(not(not(a))))))"),
+    ("eval_lanes", "all(all(),all(),all(),all(),a,a)"),
+];
+
+// Whether the check holds of the expression.
+fn answers<A: SmallAllocator>(
+    global: Global,
+    alloc: A,
+    check: &str,
+    expression: &Expression<A>,
+) -> bool {
+    match check {
+        "text" => expression.original() == TEXT && prints(global, expression, TEXT),
+        "predicates" => are_of_text(expression.predicates()),
+        "spelling" => are_spelled(
+            global,
+            expression.predicates(),
+            b"target_has_atomic = \"128\"",
+        ),
+        call => holds(called(alloc, call, expression)),
     }
 }
 
-// Whether the condition is evaluated, also in lanes. The texts have 31 or 32 bytes.
-fn is_evaluated(heap: Heap<'_>, text: &str) -> bool {
-    holds_of(heap, text, |one| {
-        holds(called(heap, "eval", one)) && holds(called(heap, "eval_lanes", one))
-    })
-}
-
-// The first of the checks that does not hold.
-fn wrong_condition(alloc: Global, heap: Heap<'_>) -> Option<&'static str> {
-    first_wrong(&[
-        ("text", holds_of(heap, TEXT, |one| one.original() == TEXT)),
-        (
-            "printed",
-            holds_of(heap, TEXT, |one| prints(alloc, one, TEXT)),
-        ),
-        (
-            "predicates",
-            holds_of(heap, TEXT, |one| are_of_text(one.predicates())),
-        ),
-        ("equal", compare(heap, TEXT, (true, true))),
-        ("one comma more", compare(heap, OTHER, (false, true))),
-        ("other predicates", compare(heap, FLAGS, (false, false))),
-        (
-            "spelling",
-            holds_of(heap, "target_has_atomic = \"+00128\"", |one| {
-                are_spelled(alloc, one.predicates(), b"target_has_atomic = \"128\"")
-            }),
-        ),
-        ("targets", ask_for_the_fourth(heap)),
-        (
-            "wide",
-            is_evaluated(heap, "any(a,a,a,a,a,a,a,a,a,a,a,a,a,a)"),
-        ),
-        (
-            "deep",
-            is_evaluated(heap, "not(not(not(not(not(not(a))))))"),
-        ),
-        (
-            "empty lists",
-            is_evaluated(heap, "all(all(),all(),all(),all(),a,a)"),
-        ),
-    ])
+fn is_answered(alloc: Global, heap: Heap<'_>, check: &str, text: &str) -> bool {
+    let read = Expression::parse(heap, text);
+    holds_without_memory(heap, read, |one| answers(alloc, heap, check, one))
 }
 
 #[test]
 fn conditions_take_no_memory(rt: HostRuntime) {
     let heap = empty_heap(rt.alloc());
-    assert_eq!(rt; wrong_condition(rt.alloc(), &heap), None);
+    for (check, text) in ASKED {
+        assert!(rt;
+            is_answered(rt.alloc(), &heap, check, text),
+            "{check} of {text}"
+        );
+    }
+    assert!(rt; has_every_block(heap));
+}
+
+#[test]
+fn comparing_takes_no_memory(rt: HostRuntime) {
+    let heap = empty_heap(rt.alloc());
+    let wrong = first_wrong(&[
+        ("equal", are_compared(&heap, TEXT, (true, true))),
+        ("one comma more", are_compared(&heap, OTHER, (false, true))),
+        (
+            "other predicates",
+            are_compared(&heap, FLAGS, (false, false)),
+        ),
+        ("targets", ask_for_the_fourth(&heap)),
+    ]);
+    assert_eq!(rt; wrong, None);
     assert!(rt; has_every_block(heap));
 }
 

@@ -7,6 +7,7 @@ use cfg_expr::targets::{HasAtomic, HasAtomicFailure};
 use cfgx_testing::heap::{Heap, empty_heap, has_every_block, holds_without_memory};
 use cfgx_testing::holding::{first_wrong, prints};
 use cfgx_testing::refusing::EVERY;
+use cfgx_testing::rows::passing;
 use std::alloc::{AllocError, Allocator, Global};
 
 // The first items of `cfg(key = "v" 8)`: a token, where it stands, and how many bytes are left.
@@ -73,6 +74,54 @@ fn fault<'h>(heap: Heap<'h>, text: &str) -> Result<ParseError<Heap<'h>>, AllocEr
     }
 }
 
+// A text, its fault's description, and what that prints.
+const ROWS: &str = r#"
+not(a, b) | not() takes 1 predicate | \
+not(a, b)\n^^^^^^^^^ not() takes 1 predicate, found 2
+foo ( | unexpected term | foo (\n    ^ expected one of `=`, `,`, `)` here
+key) | unopened parens | key)\n   ^ unopened parens
+"#;
+
+// Whether the fault of the text is equal to itself and not to that of another text, and has this
+// description and prints this.
+fn is_told(alloc: Global, heap: Heap<'_>, text: &str, description: &str, printed: &str) -> bool {
+    let two = pair(
+        pair(fault(heap, text), fault(heap, text)),
+        fault(heap, "kei)"),
+    );
+    holds_without_memory(heap, two, |two| {
+        let (error, same) = (&two.0.0, &two.0.1);
+        error == same
+            && *error != two.1
+            && error.description() == description
+            && prints(alloc, error, printed)
+    })
+}
+
+fn is_row(alloc: Global, heap: Heap<'_>, fields: &[String]) -> bool {
+    match fields {
+        [text, description, printed] => is_told(
+            alloc,
+            heap,
+            text.as_str(),
+            description.as_str(),
+            printed.as_str(),
+        ),
+        _ => false,
+    }
+}
+
+#[test]
+fn faults_take_no_memory(rt: HostRuntime) {
+    let alloc = rt.alloc();
+    let heap = empty_heap(alloc);
+    assert_eq!(rt;
+        passing(alloc, ROWS, |row| is_row(alloc, &heap, row)),
+        Ok(3)
+    );
+    assert!(rt; has_every_block(heap));
+}
+
 // The fault of a text that is no width.
 fn no_width<'h>(heap: Heap<'h>) -> Result<HasAtomicParseError<Heap<'h>>, AllocError> {
     match HasAtomic::read(heap, "PTR") {
@@ -81,62 +130,26 @@ fn no_width<'h>(heap: Heap<'h>) -> Result<HasAtomicParseError<Heap<'h>>, AllocEr
     }
 }
 
-// Whether the fault of the text has this description, and prints this.
-fn is_told(alloc: Global, heap: Heap<'_>, text: &str, description: &str, printed: &str) -> bool {
-    holds_without_memory(heap, fault(heap, text), |error| {
-        error.description() == description && prints(alloc, error, printed)
-    })
-}
-
-// Whether the faults of the texts are equal or not.
-fn compare(heap: Heap<'_>, one: &str, other: &str, are_equal: bool) -> bool {
-    let faults = pair(fault(heap, one), fault(heap, other));
-    holds_without_memory(heap, faults, |two| (two.0 == two.1) == are_equal)
-}
-
-const NOT_ONE: &str = "not() takes 1 predicate, found 257";
-
-const NO_WIDTH: &str = "expected integer or \"ptr\", found PTR";
-
-// The first of the checks that does not hold.
-fn wrong_fault(alloc: Global, heap: Heap<'_>) -> Option<&'static str> {
-    first_wrong(&[
-        (
-            "not",
-            is_told(
-                alloc,
-                heap,
-                "not(a, b)",
-                "not() takes 1 predicate",
-                "not(a, b)\n^^^^^^^^^ not() takes 1 predicate, found 2",
-            ),
-        ),
-        (
-            "(",
-            is_told(
-                alloc,
-                heap,
-                "foo (",
-                "unexpected term",
-                "foo (\n    ^ expected one of `=`, `,`, `)` here",
-            ),
-        ),
-        ("equal faults", compare(heap, "key)", "key)", true)),
-        ("other faults", compare(heap, "key)", "kei)", false)),
-        (
-            "width",
-            holds_without_memory(heap, no_width(heap), |error| {
-                prints(alloc, error, NO_WIDTH)
-            }),
-        ),
-        ("reason", prints(alloc, &Reason::InvalidNot(257), NOT_ONE)),
-        ("other reasons", Reason::Unexpected(&[]) != Reason::Empty),
-    ])
+// Whether that fault prints this.
+fn prints_no_width(alloc: Global, heap: Heap<'_>, printed: &str) -> bool {
+    holds_without_memory(heap, no_width(heap), |error| prints(alloc, error, printed))
 }
 
 #[test]
-fn faults_take_no_memory(rt: HostRuntime) {
+fn reasons_and_widths(rt: HostRuntime) {
     let heap = empty_heap(rt.alloc());
-    assert_eq!(rt; wrong_fault(rt.alloc(), &heap), None);
+    let not_one = Reason::InvalidNot(257);
+    let wrong = first_wrong(&[
+        (
+            "width",
+            prints_no_width(rt.alloc(), &heap, "expected integer or \"ptr\", found PTR"),
+        ),
+        (
+            "reason",
+            prints(rt.alloc(), &not_one, "not() takes 1 predicate, found 257"),
+        ),
+        ("other reasons", Reason::Unexpected(&[]) != Reason::Empty),
+    ]);
+    assert_eq!(rt; wrong, None);
     assert!(rt; has_every_block(heap));
 }
