@@ -112,14 +112,14 @@ fn copies_families<A: SmallAllocator>(alloc: A) -> Result<bool, AllocError> {
 // A value of this kind, made and copied.
 fn copies<A: SmallAllocator>(alloc: A, kind: &str, text: &str) -> Result<bool, AllocError> {
     match kind {
-        "a triple" => copies_field::<TripleKind, A>(alloc, text),
-        "an ABI" => copies_field::<AbiKind, A>(alloc, text),
-        "an architecture" => copies_field::<ArchKind, A>(alloc, text),
-        "a vendor" => copies_field::<VendorKind, A>(alloc, text),
-        "a system" => copies_field::<OsKind, A>(alloc, text),
-        "a family" => copies_field::<FamilyKind, A>(alloc, text),
-        "an environment" => copies_field::<EnvKind, A>(alloc, text),
-        "a panic strategy" => copies_field::<PanicKind, A>(alloc, text),
+        "triple" => copies_field::<TripleKind, A>(alloc, text),
+        "abi" => copies_field::<AbiKind, A>(alloc, text),
+        "arch" => copies_field::<ArchKind, A>(alloc, text),
+        "vendor" => copies_field::<VendorKind, A>(alloc, text),
+        "os" => copies_field::<OsKind, A>(alloc, text),
+        "family" => copies_field::<FamilyKind, A>(alloc, text),
+        "env" => copies_field::<EnvKind, A>(alloc, text),
+        "a-panic-strategy" => copies_field::<PanicKind, A>(alloc, text),
         _ => copies_predicate(alloc, kind, text),
     }
 }
@@ -136,29 +136,15 @@ fn copies_borrowed<A: SmallAllocator>(alloc: A, kind: &str) -> Result<bool, Allo
     }
 }
 
-const KINDS: &[&str] = &[
-    "a triple",
-    "an ABI",
-    "an architecture",
-    "a vendor",
-    "a system",
-    "a family",
-    "an environment",
-    "a panic strategy",
-    "target_abi",
-    "target_arch",
-    "target_vendor",
-    "target_os",
-    "target_family",
-    "target_env",
-    "panic",
-];
+// The kinds of fields, and of predicates that have one.
+const KINDS: &str = "triple abi arch vendor os family env a-panic-strategy \
+    target_abi target_arch target_vendor target_os target_family target_env panic";
 
 // The first kind of which the owned text and its copy are not one growth each.
 fn first_wrong(alloc: Global, text: &str) -> Option<&'static str> {
-    for kind in KINDS {
+    for kind in KINDS.split(' ') {
         if growths(alloc, |heap| copies(heap, kind, text)) != Some(2) {
-            return Some(*kind);
+            return Some(kind);
         }
     }
     None

@@ -1,18 +1,23 @@
 //! Lists, faults and rows, which are made and copied.
 use cfg_expr::memory::SmallAllocator;
 use cfg_expr::targets::{
-    Abi, Arch, Endian, Env, Families, Family, HasAtomic, HasAtomicFailure, HasAtomics, Os, Panic,
-    TargetInfo, TargetTable, Triple, Vendor,
+    Arch, Endian, Families, Family, HasAtomic, HasAtomicFailure, HasAtomics, Panic, TargetInfo,
+    TargetTable, Triple,
 };
 use cfgx_fields::Field;
 use cfgx_testing::heap::{empty_heap, has_every_block, is_refused_in_turns};
 use cfgx_testing::holding::{gives, holds, prints};
+use cfgx_testing::rows::passing;
 use std::alloc::{AllocError, Global};
 use std::fmt::Display;
 
-// Whether the list prints this, and is dropped then.
-fn given<T: Display + Drop>(global: Global, list: T, text: &str) -> bool {
-    prints(global, &list, text)
+// Whether the list prints this.
+fn given<T: Display + Drop>(
+    global: Global,
+    list: Result<T, AllocError>,
+    text: &str,
+) -> Result<bool, AllocError> {
+    Ok(prints(global, &list?, text))
 }
 
 // Whether the list and its copy print this.
@@ -22,55 +27,30 @@ fn are_given<T: Display + Drop>(
     copy: Result<T, AllocError>,
     text: &str,
 ) -> Result<bool, AllocError> {
-    let stays = given(global, list, text);
-    Ok(given(global, copy?, text) && stays)
+    let stays = prints(global, &list, text);
+    Ok(given(global, copy, text)? && stays)
 }
 
-// The named lists of families.
-fn names_families<A: SmallAllocator>(global: Global, alloc: A) -> Result<bool, AllocError> {
-    Ok(
-        given(global, Families::unix(alloc)?, "{unix}")
-            && given(global, Families::unix_wasm(alloc)?, "{unix, wasm}")
-            && given(global, Families::wasm(alloc)?, "{wasm}")
-            && given(global, Families::windows(alloc)?, "{windows}"),
-    )
-}
-
-// The named lists of widths.
-fn names_widths<A: SmallAllocator>(global: Global, alloc: A) -> Result<bool, AllocError> {
-    Ok(
-        given(
-            global,
-            HasAtomics::atomic_8_16_32_64_128_ptr(alloc)?,
-            "{8, 16, 32, 64, 128, ptr}",
-        ) && given(
-            global,
-            HasAtomics::atomic_8_16_32_64_ptr(alloc)?,
-            "{8, 16, 32, 64, ptr}",
-        ) && given(
-            global,
-            HasAtomics::atomic_8_16_32_ptr(alloc)?,
-            "{8, 16, 32, ptr}",
-        ),
-    )
-}
-
-// A list and its copy. One of the texts is empty.
-fn copies_families<A: SmallAllocator>(global: Global, alloc: A) -> Result<bool, AllocError> {
+fn copies_families<A: SmallAllocator>(
+    global: Global,
+    alloc: A,
+    text: &str,
+) -> Result<bool, AllocError> {
     let list = families_of(alloc, &["wasm", "unix", "b", ""])?;
     let copy = list.try_clone(alloc);
-    are_given(global, list, copy, "{, b, unix, wasm}")
+    are_given(global, list, copy, text)
 }
 
-fn copies_widths<A: SmallAllocator>(global: Global, alloc: A) -> Result<bool, AllocError> {
-    let list = HasAtomics::new(
-        alloc,
-        [HasAtomic::Pointer, HasAtomic::IntegerSize(8)]
-            .iter()
-            .copied(),
-    )?;
+const UNSORTED: &[HasAtomic] = &[HasAtomic::Pointer, HasAtomic::IntegerSize(8)];
+
+fn copies_widths<A: SmallAllocator>(
+    global: Global,
+    alloc: A,
+    text: &str,
+) -> Result<bool, AllocError> {
+    let list = HasAtomics::new(alloc, UNSORTED.iter().copied())?;
     let copy = list.try_clone(alloc);
-    are_given(global, list, copy, "{8, ptr}")
+    are_given(global, list, copy, text)
 }
 
 // A list of 10,000 widths, and its copy.
@@ -136,11 +116,11 @@ fn copies_a_row<A: SmallAllocator>(alloc: A) -> Result<bool, AllocError> {
 fn borrowed_row<'a, A: SmallAllocator>(text: &'a str) -> TargetInfo<'a, A> {
     TargetInfo {
         triple: Triple::new_const(text),
-        os: Some(Os::new_const(text)),
-        abi: Some(Abi::new_const(text)),
+        os: None,
+        abi: None,
         arch: Arch::new_const(text),
-        env: Some(Env::new_const(text)),
-        vendor: Some(Vendor::new_const(text)),
+        env: None,
+        vendor: None,
         families: Families::new_const(&[]),
         pointer_width: 64,
         endian: Endian::big,
@@ -154,20 +134,17 @@ fn own<K: Drop, A: SmallAllocator>(
     alloc: A,
     field: &mut Field<'_, K, A>,
 ) -> Result<(), AllocError> {
-    let text = String::from_str(alloc, field.as_str())?;
-    *field = Field::new(text);
+    *field = Field::new(String::from_str(alloc, field.as_str())?);
     Ok(())
 }
 
-// The same of a field that is there.
-fn own_some<K: Drop, A: SmallAllocator>(
+// Makes the field own this text.
+fn fill<'a, K: Drop, A: SmallAllocator>(
     alloc: A,
-    field: &mut Option<Field<'_, K, A>>,
+    field: &mut Option<Field<'a, K, A>>,
 ) -> Result<(), AllocError> {
-    match field {
-        Some(field) => own(alloc, field),
-        None => Ok(()),
-    }
+    *field = Some(Field::new(String::from_str(alloc, "a text of seventeen")?));
+    Ok(())
 }
 
 // Makes the row own all its texts and lists.
@@ -176,11 +153,11 @@ fn own_all<'a, A: SmallAllocator + 'a>(
     row: &mut TargetInfo<'a, A>,
 ) -> Result<(), AllocError> {
     own(alloc, &mut row.triple)?;
-    own_some(alloc, &mut row.os)?;
-    own_some(alloc, &mut row.abi)?;
+    fill(alloc, &mut row.os)?;
+    fill(alloc, &mut row.abi)?;
     own(alloc, &mut row.arch)?;
-    own_some(alloc, &mut row.env)?;
-    own_some(alloc, &mut row.vendor)?;
+    fill(alloc, &mut row.env)?;
+    fill(alloc, &mut row.vendor)?;
     own(alloc, &mut row.panic)?;
     row.families = families_of(alloc, &["wasm", "unix"])?;
     row.has_atomics = HasAtomics::new(alloc, (0..10u16).map(HasAtomic::IntegerSize))?;
@@ -194,40 +171,61 @@ fn copies_an_owned_row<A: SmallAllocator>(alloc: A) -> Result<bool, AllocError> 
     gives(row.try_clone(alloc), &row)
 }
 
-const CALLS: &[&str] = &[
-    "families",
-    "copies of families",
-    "widths",
-    "copies of widths",
-    "copies of many widths",
-    "copies of faults",
-    "copies of rows",
-    "copies of owned rows",
-];
+// What is made, or made and copied, and what lists print.
+const CALLS: &str = r#"
+unix | {unix}
+unix and wasm | {unix, wasm}
+wasm | {wasm}
+windows | {windows}
+up to 128 | {8, 16, 32, 64, 128, ptr}
+up to 64 | {8, 16, 32, 64, ptr}
+up to 32 | {8, 16, 32, ptr}
+families | {, b, unix, wasm}
+widths | {8, ptr}
+many widths | \e
+a fault | \e
+a row | \e
+an owned row | \e
+"#;
 
 // What the call answers. What it prints is printed to the other allocator.
-fn answer_to<A: SmallAllocator>(global: Global, alloc: A, call: &str) -> Result<bool, AllocError> {
+fn answer_to<A: SmallAllocator>(
+    global: Global,
+    alloc: A,
+    call: &str,
+    text: &str,
+) -> Result<bool, AllocError> {
     match call {
-        "families" => names_families(global, alloc),
-        "copies of families" => copies_families(global, alloc),
-        "widths" => names_widths(global, alloc),
-        "copies of widths" => copies_widths(global, alloc),
-        "copies of many widths" => copies_many_widths(alloc),
-        "copies of faults" => copies_a_fault(alloc),
-        "copies of rows" => copies_a_row(alloc),
+        "unix" => given(global, Families::unix(alloc), text),
+        "unix and wasm" => given(global, Families::unix_wasm(alloc), text),
+        "wasm" => given(global, Families::wasm(alloc), text),
+        "windows" => given(global, Families::windows(alloc), text),
+        "up to 128" => given(global, HasAtomics::atomic_8_16_32_64_128_ptr(alloc), text),
+        "up to 64" => given(global, HasAtomics::atomic_8_16_32_64_ptr(alloc), text),
+        "up to 32" => given(global, HasAtomics::atomic_8_16_32_ptr(alloc), text),
+        "families" => copies_families(global, alloc, text),
+        "widths" => copies_widths(global, alloc, text),
+        "many widths" => copies_many_widths(alloc),
+        "a fault" => copies_a_fault(alloc),
+        "a row" => copies_a_row(alloc),
         _ => copies_an_owned_row(alloc),
     }
+}
+
+fn is_row(alloc: Global, fields: &[String]) -> bool {
+    let [call, text] = fields else {
+        return false;
+    };
+    is_refused_in_turns(
+        alloc,
+        |heap| answer_to(alloc, heap, call.as_str(), text.as_str()),
+    )
 }
 
 #[test]
 fn each_growth_of_a_call_on_targets_is_refused(rt: HostRuntime) {
     let alloc = rt.alloc();
-    for call in CALLS {
-        assert!(rt;
-            is_refused_in_turns(alloc, |heap| answer_to(alloc, heap, call)),
-            "{call}"
-        );
-    }
+    assert_eq!(rt; passing(alloc, CALLS, |row| is_row(alloc, row)), Ok(13));
 }
 
 #[test]

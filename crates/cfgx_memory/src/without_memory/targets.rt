@@ -113,15 +113,6 @@ fn place_of<A: SmallAllocator>(rows: Rows<'_, A>) -> Result<(Option<usize>, usiz
     }
 }
 
-// Whether the three rows of these numbers are refused there, and all are given back.
-fn are_refused_at(heap: Heap<'_>, numbers: &[usize], place: Option<usize>) -> bool {
-    let rows = rows(heap, numbers);
-    heap.refuse(EVERY);
-    let found = place_of(rows);
-    heap.refuse(0);
-    found == Ok((place, 3))
-}
-
 // Whether the first two rows are equal, and the third is above both.
 fn are_three_rows<A: SmallAllocator>(rows: &[TargetInfo<'_, A>]) -> bool {
     match rows {
@@ -130,12 +121,18 @@ fn are_three_rows<A: SmallAllocator>(rows: &[TargetInfo<'_, A>]) -> bool {
     }
 }
 
-fn are_ordered_rows(heap: Heap<'_>) -> bool {
-    holds_without_memory(
-        heap,
-        rows(heap, &[1, 1, 2]),
-        |rows| are_three_rows(rows.as_slice()),
-    )
+// Whether the three rows of these numbers are refused there, and all are given back; the first two
+// of them are equal and the third is above both if that is said.
+fn are_refused(heap: Heap<'_>, numbers: &[usize], place: Option<usize>, is_first: bool) -> bool {
+    let rows = rows(heap, numbers);
+    heap.refuse(EVERY);
+    let are_three = match &rows {
+        Ok(rows) => are_three_rows(rows.as_slice()) == is_first,
+        Err(_) => false,
+    };
+    let found = place_of(rows);
+    heap.refuse(0);
+    are_three && found == Ok((place, 3))
 }
 
 // Whether it is the table that is built in.
@@ -149,30 +146,25 @@ fn is_builtin<A: SmallAllocator>(table: &TargetTable<'_, A>) -> bool {
         && get_builtin_target_by_triple(table, "aarch64-apple").is_none()
 }
 
-// The first check on lists and rows that does not hold.
-fn wrong_list(alloc: Global, heap: Heap<'_>) -> Option<&'static str> {
-    first_wrong(&[
-        ("lists of widths", are_widths(alloc, heap)),
-        ("a number", is_read(heap, "+08", EIGHT)),
-        ("ptr", is_read(heap, "ptr", HasAtomic::Pointer)),
-        ("lists of families", are_families(alloc, heap)),
-        ("no family", is_empty(heap)),
-        ("a table", are_refused_at(heap, &[0, 2, 4], None)),
-        ("no table", are_refused_at(heap, &[0, 2, 2], Some(2))),
-        ("rows", are_ordered_rows(heap)),
-        (
-            "built in",
-            holds_without_memory(heap, TargetTable::builtins(heap), |table| {
-                is_builtin(table)
-            }),
-        ),
-    ])
-}
-
 #[test]
 fn lists_and_rows_take_no_memory(rt: HostRuntime) {
     let heap = empty_heap(rt.alloc());
-    assert_eq!(rt; wrong_list(rt.alloc(), &heap), None);
+    let table = TargetTable::builtins(&heap);
+    let wrong = first_wrong(&[
+        ("lists of widths", are_widths(rt.alloc(), &heap)),
+        ("a number", is_read(&heap, "+08", EIGHT)),
+        ("ptr", is_read(&heap, "ptr", HasAtomic::Pointer)),
+        ("lists of families", are_families(rt.alloc(), &heap)),
+        ("no family", is_empty(&heap)),
+        ("a table", are_refused(&heap, &[0, 2, 4], None, false)),
+        ("no table", are_refused(&heap, &[0, 2, 2], Some(2), false)),
+        ("equal rows", are_refused(&heap, &[1, 1, 2], Some(1), true)),
+        (
+            "built in",
+            holds_without_memory(&heap, table, |table| is_builtin(table)),
+        ),
+    ]);
+    assert_eq!(rt; wrong, None);
     assert!(rt; has_every_block(heap));
 }
 
