@@ -58,8 +58,8 @@ evaluated | 1 | any(a, | false, | 100 | ) | 0
 // What is too large to be read in turns is copied once.
 large | \e | k | 5000 | \e | 0
 large | \e | k | 100000 | \e | 0
-large | any( | a, | 100000 | ) | 0
-large | \e | not( | 100000 | a | 100000
+large | any( | a, | 50000 | ) | 0
+large | \e | not( | 50000 | a | 50000
 "#;
 
 const CALLS: &[&str] = &[
@@ -106,12 +106,12 @@ fn lexes<A: SmallAllocator>(alloc: A) -> Result<bool, AllocError> {
     let mut lexer = Lexer::new(alloc, "a 8 b");
     let is_first = matches!(lexer.next(), Some(Ok(item)) if item.token == Token::Key("a"));
     let second = lexer.next();
-    if !is_first || lexer.next().is_some() || lexer.next().is_some() {
+    if !is_first || lexer.next().is_some() || lexer.items_left_bound() > 0 {
         return Ok(false);
     }
     match second {
         Some(Err(Failure::Memory(error))) => Err(error),
-        Some(Err(Failure::Parse(error))) => Ok(error.original.as_str() == "a 8 b"),
+        Some(Err(Failure::Parse(error))) => Ok(error.span.start == 2 && error.span.end == 3),
         _ => Ok(false),
     }
 }
@@ -285,21 +285,11 @@ fn are_of<A: SmallAllocator>(sections: &[Section<A>], texts: &[&str]) -> bool {
     sections.len() == texts.len()
 }
 
-const VERDICTS: &[Verdict] = &[
-    Verdict::Unknown,
-    Verdict::No,
-    Verdict::Yes,
-    Verdict::Unknown,
-];
+const VERDICTS: &[Verdict] = &[Verdict::Unknown, Verdict::No, Verdict::Yes];
 
-// The verdicts on four sections, two of which have the text. The sections stay as they were.
+// The verdicts on three sections. The sections stay as they were.
 fn is_picked<A: SmallAllocator>(alloc: A, text: &str) -> Result<bool, AllocError> {
-    let texts = [
-        text,
-        "target_os = \"none\"",
-        "not(target_os = \"none\")",
-        text,
-    ];
+    let texts = [text, "windows", "not(windows)"];
     let sections = sections_of(alloc, &texts)?;
     let verdicts = pick(alloc, sections.as_slice(), &Nowhere);
     if !are_of(sections.as_slice(), &texts) {

@@ -5,7 +5,7 @@ use cfg_expr::error::{Failure, HasAtomicParseError, ParseError, Reason};
 use cfg_expr::expr::lexer::{Lexer, LexerToken, Token};
 use cfg_expr::targets::{HasAtomic, HasAtomicFailure};
 use cfgx_testing::heap::{Heap, empty_heap, has_every_block, holds_without_memory};
-use cfgx_testing::holding::{first_wrong, prints};
+use cfgx_testing::holding::prints;
 use cfgx_testing::refusing::EVERY;
 use cfgx_testing::rows::passing;
 use std::alloc::{AllocError, Allocator, Global};
@@ -51,19 +51,8 @@ fn gives_items<A: Allocator>(mut lexer: Lexer<'_, A>) -> bool {
 fn tokens_take_no_memory(rt: HostRuntime) {
     let heap = empty_heap(rt.alloc());
     heap.refuse(EVERY);
-    let wrong = first_wrong(&[
-        (
-            "items",
-            gives_items(Lexer::new(&heap, "cfg(key = \"v\" 8)")),
-        ),
-        ("equal tokens", Token::Key("a") == Token::Key("a")),
-        ("other tokens", Token::Any != Token::All),
-        (
-            "display",
-            prints(rt.alloc(), &Token::Key("a"), "Key(\"a\")"),
-        ),
-    ]);
-    assert_eq!(rt; wrong, None);
+    let are_given = gives_items(Lexer::new(&heap, "cfg(key = \"v\" 8)"));
+    assert!(rt; are_given && Token::Key("a") == Token::Key("a") && Token::Any != Token::All);
 }
 
 // The fault of the text.
@@ -83,7 +72,7 @@ key) | unopened parens | key)\n   ^ unopened parens
 "#;
 
 // Whether the fault of the text is equal to itself and not to that of another text, and has this
-// description and prints this.
+// description and prints this. No reason here is that of an empty text.
 fn is_told(alloc: Global, heap: Heap<'_>, text: &str, description: &str, printed: &str) -> bool {
     let two = pair(
         pair(fault(heap, text), fault(heap, text)),
@@ -93,6 +82,7 @@ fn is_told(alloc: Global, heap: Heap<'_>, text: &str, description: &str, printed
         let (error, same) = (&two.0.0, &two.0.1);
         error == same
             && *error != two.1
+            && error.reason != Reason::Empty
             && error.description() == description
             && prints(alloc, error, printed)
     })
@@ -136,20 +126,8 @@ fn prints_no_width(alloc: Global, heap: Heap<'_>, printed: &str) -> bool {
 }
 
 #[test]
-fn reasons_and_widths(rt: HostRuntime) {
+fn the_fault_of_a_width_takes_no_memory(rt: HostRuntime) {
     let heap = empty_heap(rt.alloc());
-    let not_one = Reason::InvalidNot(257);
-    let wrong = first_wrong(&[
-        (
-            "width",
-            prints_no_width(rt.alloc(), &heap, "expected integer or \"ptr\", found PTR"),
-        ),
-        (
-            "reason",
-            prints(rt.alloc(), &not_one, "not() takes 1 predicate, found 257"),
-        ),
-        ("other reasons", Reason::Unexpected(&[]) != Reason::Empty),
-    ]);
-    assert_eq!(rt; wrong, None);
-    assert!(rt; has_every_block(heap));
+    let printed = "expected integer or \"ptr\", found PTR";
+    assert!(rt; prints_no_width(rt.alloc(), &heap, printed) && has_every_block(heap));
 }
