@@ -8,3 +8,8 @@ mod fields;
 mod inputs;
 mod runs;
 mod targets;
+
+use std::alloc::AllocError;
+
+/// What a call answers.
+type Answer = Result<bool, AllocError>;

@@ -1,4 +1,5 @@
 //! Conditions that are read, copied and evaluated.
+use super::Answer;
 use super::runs::is_run_in_turns;
 use cfg_expr::error::{Failure, ParseError};
 use cfg_expr::expr::TargetMatcher;
@@ -62,47 +63,29 @@ large | any( | a, | 50000 | ) | 0
 large | \e | not( | 50000 | a | 50000
 "#;
 
-const CALLS: &[&str] = &[
-    "parse",
-    "from_str",
-    "try_clone",
-    "eval",
-    "polar_fillings",
-    "eval_lanes",
-    "pick",
-];
-
 // The calls with a text of this kind.
-fn calls_of(kind: &str) -> &'static [&'static str] {
+fn calls_of(kind: &str) -> &'static str {
     match kind {
-        "scanned" | "read" => &CALLS[..2],
-        "copied" => &CALLS[..3],
-        _ => CALLS,
+        "scanned" | "read" => "parse from_str",
+        "copied" => "parse from_str try_clone",
+        _ => "parse from_str try_clone eval polar_fillings eval_lanes pick",
     }
 }
 
 /// What parsing answers.
 type Read<A = Global> = Result<Expression<A>, Failure<A>>;
 
-/// Whether the predicates of both are equal, in their order.
-pub(crate) fn ask_the_same<A: SmallAllocator, B: SmallAllocator>(
-    one: &Expression<A>,
-    other: &Expression<B>,
-) -> bool {
-    one.predicates().eq(other.predicates())
-}
-
-// Whether the texts are the same, and the predicates.
+// Whether both have the same text, and the same predicates in their order.
 fn are_alike<A: SmallAllocator, B: SmallAllocator>(
     one: &Expression<A>,
     other: &Expression<B>,
 ) -> bool {
-    one.original() == other.original() && ask_the_same(one, other)
+    one.original() == other.original() && one.predicates().eq(other.predicates())
 }
 
 // The first token of `a 8 b`, and the fault after it. Either this fault or a refused growth ends
 // the lexer.
-fn lexes<A: SmallAllocator>(alloc: A) -> Result<bool, AllocError> {
+fn lexes<A: SmallAllocator>(alloc: A) -> Answer {
     let mut lexer = Lexer::new(alloc, "a 8 b");
     let is_first = matches!(lexer.next(), Some(Ok(item)) if item.token == Token::Key("a"));
     let second = lexer.next();
@@ -122,12 +105,7 @@ fn a_refused_growth_ends_the_lexer(rt: HostRuntime) {
 }
 
 // What the call answers for a text, of which this was read with memory.
-fn answer_to<A: SmallAllocator>(
-    alloc: A,
-    call: &str,
-    text: &str,
-    plain: &Read,
-) -> Result<bool, AllocError> {
+fn answer_to<A: SmallAllocator>(alloc: A, call: &str, text: &str, plain: &Read) -> Answer {
     let read = match call {
         "from_str" => Expression::from_str(alloc, text),
         _ => Expression::parse(alloc, text),
@@ -158,7 +136,7 @@ fn stays<A: SmallAllocator>(
     call: &str,
     expression: &Expression<A>,
     plain: &Read,
-) -> Result<bool, AllocError> {
+) -> Answer {
     let answer = called(alloc, call, expression);
     match plain {
         Ok(wanted) if are_alike(expression, wanted) => answer,
@@ -171,7 +149,7 @@ pub(crate) fn called<A: SmallAllocator>(
     alloc: A,
     call: &str,
     expression: &Expression<A>,
-) -> Result<bool, AllocError> {
+) -> Answer {
     match call {
         "try_clone" => is_copied(alloc, expression),
         "eval" => is_true(alloc, expression),
@@ -182,13 +160,13 @@ pub(crate) fn called<A: SmallAllocator>(
     }
 }
 
-fn is_copied<A: SmallAllocator>(alloc: A, expression: &Expression<A>) -> Result<bool, AllocError> {
+fn is_copied<A: SmallAllocator>(alloc: A, expression: &Expression<A>) -> Answer {
     let copy = expression.try_clone(alloc)?;
     Ok(copy == *expression && are_alike(&copy, expression))
 }
 
 // Whether the value is true, after each predicate was asked. Out of memory, none was asked.
-fn is_true<A: SmallAllocator>(alloc: A, expression: &Expression<A>) -> Result<bool, AllocError> {
+fn is_true<A: SmallAllocator>(alloc: A, expression: &Expression<A>) -> Answer {
     let mut count = 0usize;
     let value = expression.eval(
         alloc,
@@ -210,7 +188,7 @@ fn are(filling: &[bool], value: bool, count: usize) -> bool {
 
 // Whether there are two fillings, if no answer is known: all true makes the text true, and all
 // false makes it false. No text has more than 100 predicates.
-fn is_filled<A: SmallAllocator>(alloc: A, expression: &Expression<A>) -> Result<bool, AllocError> {
+fn is_filled<A: SmallAllocator>(alloc: A, expression: &Expression<A>) -> Answer {
     let count = expression.predicates().left();
     let answers = &[None; 100][..count.min(100)];
     if answers.len() != count {
@@ -226,7 +204,7 @@ fn is_filled<A: SmallAllocator>(alloc: A, expression: &Expression<A>) -> Result<
 
 // Whether the value over answers that are all the same is each of them: true in one lane, false in
 // another, and unknown in all others.
-fn is_each<A: SmallAllocator>(alloc: A, expression: &Expression<A>) -> Result<bool, AllocError> {
+fn is_each<A: SmallAllocator>(alloc: A, expression: &Expression<A>) -> Answer {
     let each = Kleene64::new(0b001, 0b010);
     let count = expression.predicates().left();
     let answers = &[each; 100][..count.min(100)];
@@ -288,7 +266,7 @@ fn are_of<A: SmallAllocator>(sections: &[Section<A>], texts: &[&str]) -> bool {
 const VERDICTS: &[Verdict] = &[Verdict::Unknown, Verdict::No, Verdict::Yes];
 
 // The verdicts on three sections. The sections stay as they were.
-fn is_picked<A: SmallAllocator>(alloc: A, text: &str) -> Result<bool, AllocError> {
+fn is_picked<A: SmallAllocator>(alloc: A, text: &str) -> Answer {
     let texts = [text, "windows", "not(windows)"];
     let sections = sections_of(alloc, &texts)?;
     let verdicts = pick(alloc, sections.as_slice(), &Nowhere);
@@ -322,8 +300,8 @@ fn is_told(alloc: Global, error: &ParseError, answer: &str) -> bool {
 }
 
 // Whether each growth of each of the calls is refused in turn.
-fn are_refused(alloc: Global, calls: &[&str], text: &str, plain: &Read) -> bool {
-    for call in calls {
+fn are_refused(alloc: Global, calls: &str, text: &str, plain: &Read) -> bool {
+    for call in calls.split(' ') {
         if !is_refused_in_turns(alloc, |heap| answer_to(heap, call, text, plain)) {
             return false;
         }

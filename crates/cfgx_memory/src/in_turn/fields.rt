@@ -1,4 +1,5 @@
 //! Copies of fields and predicates: only an owned text takes memory, and one growth.
+use super::Answer;
 use cfg_expr::TargetPredicate;
 use cfg_expr::memory::SmallAllocator;
 use cfg_expr::targets::{
@@ -20,7 +21,7 @@ fn are_copied<T: PartialEq + Drop>(
     borrowed: &T,
     of_owned: Result<T, AllocError>,
     of_borrowed: Result<T, AllocError>,
-) -> Result<bool, AllocError> {
+) -> Answer {
     if owned == borrowed && holds(gives(of_borrowed, owned)) {
         gives(of_owned, borrowed)
     } else {
@@ -29,7 +30,7 @@ fn are_copied<T: PartialEq + Drop>(
 }
 
 // Fields of this kind.
-fn copies_field<K: Drop, A: SmallAllocator>(alloc: A, text: &str) -> Result<bool, AllocError> {
+fn copies_field<K: Drop, A: SmallAllocator>(alloc: A, text: &str) -> Answer {
     let owned: Field<'_, K, A> = Field::new(String::from_str(alloc, text)?);
     let borrowed = Field::new_const(text);
     let of_owned = owned.try_clone(alloc);
@@ -67,11 +68,7 @@ fn borrowed<'a, A: SmallAllocator>(kind: &str, text: &'a str) -> TargetPredicate
 }
 
 // Predicates of the kind.
-fn copies_predicate<A: SmallAllocator>(
-    alloc: A,
-    kind: &str,
-    text: &str,
-) -> Result<bool, AllocError> {
+fn copies_predicate<A: SmallAllocator>(alloc: A, kind: &str, text: &str) -> Answer {
     let owned = owned(alloc, kind, text)?;
     let borrowed = borrowed(kind, text);
     let of_owned = owned.try_clone(alloc);
@@ -82,10 +79,7 @@ fn copies_predicate<A: SmallAllocator>(
 }
 
 // A predicate that has no text.
-fn copies_plain<A: SmallAllocator>(
-    alloc: A,
-    predicate: TargetPredicate<'_, A>,
-) -> Result<bool, AllocError> {
+fn copies_plain<A: SmallAllocator>(alloc: A, predicate: TargetPredicate<'_, A>) -> Answer {
     let is_copied = gives(predicate.try_clone(alloc), &predicate);
     drop(predicate);
     is_copied
@@ -94,13 +88,13 @@ fn copies_plain<A: SmallAllocator>(
 const WIDTHS: &[HasAtomic] = &[HasAtomic::IntegerSize(8), HasAtomic::Pointer];
 
 // Widths that are borrowed.
-fn copies_widths<A: SmallAllocator>(alloc: A) -> Result<bool, AllocError> {
+fn copies_widths<A: SmallAllocator>(alloc: A) -> Answer {
     let widths: HasAtomics<A> = HasAtomics::new_const(WIDTHS);
     Ok(widths.try_clone(alloc)?.as_slice() == WIDTHS)
 }
 
 // Families that are borrowed.
-fn copies_families<A: SmallAllocator>(alloc: A) -> Result<bool, AllocError> {
+fn copies_families<A: SmallAllocator>(alloc: A) -> Answer {
     let families = [Family::unix()];
     if !Families::is_sorted(&families) {
         return Ok(false);
@@ -110,7 +104,7 @@ fn copies_families<A: SmallAllocator>(alloc: A) -> Result<bool, AllocError> {
 }
 
 // A value of this kind, made and copied.
-fn copies<A: SmallAllocator>(alloc: A, kind: &str, text: &str) -> Result<bool, AllocError> {
+fn copies<A: SmallAllocator>(alloc: A, kind: &str, text: &str) -> Answer {
     match kind {
         "triple" => copies_field::<TripleKind, A>(alloc, text),
         "abi" => copies_field::<AbiKind, A>(alloc, text),
@@ -125,7 +119,7 @@ fn copies<A: SmallAllocator>(alloc: A, kind: &str, text: &str) -> Result<bool, A
 }
 
 // A value without an owned text.
-fn copies_borrowed<A: SmallAllocator>(alloc: A, kind: &str) -> Result<bool, AllocError> {
+fn copies_borrowed<A: SmallAllocator>(alloc: A, kind: &str) -> Answer {
     match kind {
         "big" => copies_plain(alloc, TargetPredicate::Endian(Endian::big)),
         "ptr" => copies_plain(alloc, TargetPredicate::HasAtomic(HasAtomic::Pointer)),

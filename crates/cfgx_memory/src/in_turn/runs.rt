@@ -1,11 +1,12 @@
 //! Runs of the program, and wrong use, which takes no memory.
+use super::Answer;
 use cfgx_engine::engine::run;
 use cfgx_testing::heap::{Heap, empty_heap, growths, has_every_block};
 use cfgx_testing::refusing::EVERY;
 use cfgx_testing::rows::passing;
 use cfgx_testing::streams::{ALL, Pieces, Recorder, USAGE, is_left_so, is_written};
-use cfgx_testing::texts::{nested, repeated};
-use cfgx_testing::triples::{SIM, TVOS};
+use cfgx_testing::texts::repeated;
+use cfgx_testing::triples::SIM;
 use std::alloc::{AllocError, Global};
 use std::test::Fail;
 
@@ -14,12 +15,7 @@ type Ended<'a> = (&'a str, u8, &'a [u8]);
 
 // Whether a run ended as it has to with memory, all its input read, or out of memory: what it read
 // then stays read, and its sink was not called.
-fn is_ended(
-    source: &Pieces<'_>,
-    sink: &Recorder,
-    status: u8,
-    wanted: &Ended<'_>,
-) -> Result<bool, AllocError> {
+fn is_ended(source: &Pieces<'_>, sink: &Recorder, status: u8, wanted: &Ended<'_>) -> Answer {
     let (input, wanted_status, written) = *wanted;
     if source.failures != 0 || !input.as_bytes().ends_with(source.left) {
         return Ok(false);
@@ -30,12 +26,7 @@ fn is_ended(
     Ok(is_written(sink, written) && status == wanted_status && source.left.is_empty())
 }
 
-fn is_run(
-    alloc: Global,
-    heap: Heap<'_>,
-    words: &[&str],
-    wanted: &Ended<'_>,
-) -> Result<bool, AllocError> {
+fn is_run(alloc: Global, heap: Heap<'_>, words: &[&str], wanted: &Ended<'_>) -> Answer {
     let mut source = Pieces::new(wanted.0.as_bytes(), ALL, 0);
     let mut sink = Recorder::new(alloc);
     let status = run(heap, words, &mut source, &mut sink);
@@ -83,6 +74,15 @@ in turns | 0 | target | aarch64-apple-ios | any(unix, a)
 in turns | 0 | target | aarch64-apple-ios-sim | all(test, a, b, c, d, e)
 in turns | 1 | target | aarch64-apple-ios | key)
 in turns | 2 | target | nowhere | key)
+// A wide run and a deep one.
+in turns | 0 | eval | any(a,a,a,a,a,a,a,a,a,a,a,a,a,a,a,a,a,a,a,a,a,a,a,a,a,a,a,a,a,a,a,a,a,a,a,a,\
+a,a,a,a,a,a,a,a,a,a,a,a,a,a,a,a,a,a,a,a,a,a,a,a,a,a,a,a,a,a,a,a,a,a,a,a,a,a,a,a,a,a,a,a,a,a,a,a,a,\
+a,a,a,a,a,a,a,a,a,a,a,a,a,a,a,) | ?any(b,b,b,b,b,b,b,b,b,b,b,b,b,b,b,b,b,b,b,b,b,b,b,b,b,b,b,b,b,b\
+,b,b,b,b,b,b,b,b,b,b,b,b,b,b,b,b,b,b,b,b,b,b,b,b,b,b,b,b,b,b,b,b,b,b,b,b,b,b,b,b,b,b,b,b,b,b,b,b,b\
+,b,b,b,b,b,b,b,b,b,b,b,b,b,b,b,b,b,b,b,b,b,)
+in turns | 0 | target | aarch64-apple-tvos | not(not(not(not(not(not(not(not(not(not(not(not(not(n\
+ot(not(not(not(not(not(not(not(not(not(not(not(not(not(not(not(not(not(not(not(not(not(not(not(not\
+(not(not(a))))))))))))))))))))))))))))))))))))))))
 pick | 0 | a\tcfg(target_abi = "sim")\nb\tany(windows, feature = "x")\n\
 c\tall(windows, feature = "x")\n\
  | a\tyes\nb\tunknown\n\ttrue with 01\n\tfalse with 00\nc\tno\n
@@ -149,24 +149,7 @@ fn is_row(alloc: Global, fields: &[String]) -> bool {
 #[test]
 fn each_growth_of_each_run_is_refused(rt: HostRuntime) {
     let alloc = rt.alloc();
-    assert_eq!(rt; passing(alloc, RUNS, |row| is_row(alloc, row)), Ok(26));
-}
-
-#[test]
-fn each_growth_of_a_wide_run_is_refused(rt: HostRuntime) -> Result<(), Fail> {
-    let wide = repeated(rt.alloc(), "any(", "a,", 100, ")")?;
-    let flag = repeated(rt.alloc(), "?any(", "b,", 100, ")")?;
-    let words = ["eval", wide.as_str(), flag.as_str()];
-    assert!(rt; is_run_in_turns(rt.alloc(), &words, "", None, 0));
-    Ok(())
-}
-
-#[test]
-fn each_growth_of_a_deep_run_is_refused(rt: HostRuntime) -> Result<(), Fail> {
-    let deep = nested(rt.alloc(), "not(", 40, "a")?;
-    let words = ["target", TVOS, deep.as_str()];
-    assert!(rt; is_run_in_turns(rt.alloc(), &words, "", None, 0));
-    Ok(())
+    assert_eq!(rt; passing(alloc, RUNS, |row| is_row(alloc, row)), Ok(28));
 }
 
 const UNKNOWN: Ended<'static> = ("", 2, b"unknown triple\n");

@@ -1,4 +1,5 @@
 //! Lists, faults and rows, which are made and copied.
+use super::Answer;
 use cfg_expr::memory::SmallAllocator;
 use cfg_expr::targets::{
     Arch, Endian, Families, Family, HasAtomic, HasAtomicFailure, HasAtomics, Panic, TargetInfo,
@@ -12,11 +13,7 @@ use std::alloc::{AllocError, Global};
 use std::fmt::Display;
 
 // Whether the list prints this.
-fn given<T: Display + Drop>(
-    global: Global,
-    list: Result<T, AllocError>,
-    text: &str,
-) -> Result<bool, AllocError> {
+fn given<T: Display + Drop>(global: Global, list: Result<T, AllocError>, text: &str) -> Answer {
     Ok(prints(global, &list?, text))
 }
 
@@ -26,16 +23,12 @@ fn are_given<T: Display + Drop>(
     list: T,
     copy: Result<T, AllocError>,
     text: &str,
-) -> Result<bool, AllocError> {
+) -> Answer {
     let stays = prints(global, &list, text);
     Ok(given(global, copy, text)? && stays)
 }
 
-fn copies_families<A: SmallAllocator>(
-    global: Global,
-    alloc: A,
-    text: &str,
-) -> Result<bool, AllocError> {
+fn copies_families<A: SmallAllocator>(global: Global, alloc: A, text: &str) -> Answer {
     let list = families_of(alloc, &["wasm", "unix", "b", ""])?;
     let copy = list.try_clone(alloc);
     are_given(global, list, copy, text)
@@ -43,18 +36,14 @@ fn copies_families<A: SmallAllocator>(
 
 const UNSORTED: &[HasAtomic] = &[HasAtomic::Pointer, HasAtomic::IntegerSize(8)];
 
-fn copies_widths<A: SmallAllocator>(
-    global: Global,
-    alloc: A,
-    text: &str,
-) -> Result<bool, AllocError> {
+fn copies_widths<A: SmallAllocator>(global: Global, alloc: A, text: &str) -> Answer {
     let list = HasAtomics::new(alloc, UNSORTED.iter().copied())?;
     let copy = list.try_clone(alloc);
     are_given(global, list, copy, text)
 }
 
 // A list of 10,000 widths, and its copy.
-fn copies_many_widths<A: SmallAllocator>(alloc: A) -> Result<bool, AllocError> {
+fn copies_many_widths<A: SmallAllocator>(alloc: A) -> Answer {
     let list = HasAtomics::new(alloc, (0..10_000u16).map(HasAtomic::IntegerSize))?;
     Ok(list.as_slice().len() == 10_000 && gives(list.try_clone(alloc), &list)?)
 }
@@ -82,13 +71,13 @@ fn families_of<'a, A: SmallAllocator + 'a>(
 }
 
 // A list of 10,000 families that own their texts, and its copy.
-fn copies_many_families<A: SmallAllocator>(alloc: A) -> Result<bool, AllocError> {
+fn copies_many_families<A: SmallAllocator>(alloc: A) -> Answer {
     let list = families_of(alloc, &["unix"; 10_000])?;
     Ok(list.as_slice().len() == 10_000 && gives(list.try_clone(alloc), &list)?)
 }
 
 // The fault of a text that is no width, and its copy.
-fn copies_a_fault<A: SmallAllocator>(alloc: A) -> Result<bool, AllocError> {
+fn copies_a_fault<A: SmallAllocator>(alloc: A) -> Answer {
     match HasAtomic::read(alloc, "PTR") {
         Ok(_) => Ok(false),
         Err(HasAtomicFailure::Parse(error)) => gives(error.try_clone(alloc), &error),
@@ -97,17 +86,14 @@ fn copies_a_fault<A: SmallAllocator>(alloc: A) -> Result<bool, AllocError> {
 }
 
 // Whether the copy of the first of five rows is equal to it.
-fn copies_the_first<A: SmallAllocator>(
-    alloc: A,
-    rows: &[TargetInfo<'_, A>],
-) -> Result<bool, AllocError> {
+fn copies_the_first<A: SmallAllocator>(alloc: A, rows: &[TargetInfo<'_, A>]) -> Answer {
     match rows {
         [row, _, _, _, _] => gives(row.try_clone(alloc), row),
         _ => Ok(false),
     }
 }
 
-fn copies_a_row<A: SmallAllocator>(alloc: A) -> Result<bool, AllocError> {
+fn copies_a_row<A: SmallAllocator>(alloc: A) -> Answer {
     let table = TargetTable::builtins(alloc)?;
     copies_the_first(alloc, table.rows())
 }
@@ -165,7 +151,7 @@ fn own_all<'a, A: SmallAllocator + 'a>(
 }
 
 // A row that owns all its texts and lists, and its copy.
-fn copies_an_owned_row<A: SmallAllocator>(alloc: A) -> Result<bool, AllocError> {
+fn copies_an_owned_row<A: SmallAllocator>(alloc: A) -> Answer {
     let mut row = borrowed_row("a text of seventeen");
     own_all(alloc, &mut row)?;
     gives(row.try_clone(alloc), &row)
@@ -189,12 +175,7 @@ an owned row | \e
 "#;
 
 // What the call answers. What it prints is printed to the other allocator.
-fn answer_to<A: SmallAllocator>(
-    global: Global,
-    alloc: A,
-    call: &str,
-    text: &str,
-) -> Result<bool, AllocError> {
+fn answer_to<A: SmallAllocator>(global: Global, alloc: A, call: &str, text: &str) -> Answer {
     match call {
         "unix" => given(global, Families::unix(alloc), text),
         "unix and wasm" => given(global, Families::unix_wasm(alloc), text),

@@ -1,7 +1,7 @@
 //! Conditions that are asked, compared, printed, spelled and evaluated, targets that they are asked
 //! of, and the logics and streams that stand beside them.
 use super::pair;
-use crate::in_turn::conditions::{ask_the_same, called};
+use crate::in_turn::conditions::called;
 use cfg_expr::expr::logic::Kleene64;
 use cfg_expr::expr::{Logic, Predicates, spell};
 use cfg_expr::memory::SmallAllocator;
@@ -24,7 +24,7 @@ fn are_compared(heap: Heap<'_>, other: &str, wanted: (bool, bool)) -> bool {
         Expression::parse(heap, other),
     );
     holds_without_memory(heap, read, |two| {
-        (two.0 == two.1) == wanted.0 && ask_the_same(&two.0, &two.1) == wanted.1
+        (two.0 == two.1) == wanted.0 && two.0.predicates().eq(two.1.predicates()) == wanted.1
     })
 }
 
