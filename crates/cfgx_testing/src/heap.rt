@@ -20,10 +20,11 @@ pub fn has_every_block(heap: Refusing<Bump>) -> bool {
 // No call here needs so many growths.
 const MOST_GROWTHS: u64 = 1000;
 
-/// How many growths the call takes. It answers that it is out of memory with the first of them
-/// refused, with the second, and so on, and true when it is made again; it is true once none is
-/// refused; and every block is back at the end of each turn. If one of that is not so, this is
-/// `None`.
+/// How many growths the call takes.
+///
+/// With the first of them refused it must answer that it is out of memory, and true when it is made
+/// again; then with the second refused, and so on. Once none is refused it must answer true, and
+/// every block must be back at the end of each turn. Otherwise this is `None`.
 pub fn growths<C>(alloc: Global, call: C) -> Option<u64>
 where
     C: Fn(&Refusing<Bump>) -> Result<bool, AllocError>,
@@ -44,7 +45,7 @@ where
     None
 }
 
-/// Whether the call takes memory, and each of its growths is refused in turn as above.
+/// Whether the call takes memory and passes the test of `growths`.
 pub fn is_refused_in_turns<C>(alloc: Global, call: C) -> bool
 where
     C: Fn(&Refusing<Bump>) -> Result<bool, AllocError>,

@@ -26,8 +26,6 @@ mod generated;
 #[cfg(test)]
 mod holding;
 #[cfg(test)]
-mod in_turn;
-#[cfg(test)]
 mod input;
 #[cfg(test)]
 mod lanes;
@@ -44,8 +42,6 @@ mod program;
 #[cfg(test)]
 mod questions;
 #[cfg(test)]
-pub mod refusing;
-#[cfg(test)]
 pub mod respelling;
 #[cfg(test)]
 mod rust_crate;
@@ -58,8 +54,4 @@ mod targets;
 #[cfg(test)]
 mod tokens;
 #[cfg(test)]
-mod turns;
-#[cfg(test)]
 mod verdicts;
-#[cfg(test)]
-mod without_memory;

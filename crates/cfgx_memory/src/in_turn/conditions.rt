@@ -130,7 +130,7 @@ fn is_fault<A: SmallAllocator>(error: &ParseError<A>, plain: &Read) -> bool {
     }
 }
 
-// The same of the expression that was read. Whatever the call answers, it stays as it was.
+// What the call answers for an expression, which stays as it was.
 fn stays<A: SmallAllocator>(
     alloc: A,
     call: &str,
@@ -181,7 +181,7 @@ fn is_true<A: SmallAllocator>(alloc: A, expression: &Expression<A>) -> Answer {
     }
 }
 
-// Whether it is so many times this value.
+// Whether the filling has this value, this many times.
 fn are(filling: &[bool], value: bool, count: usize) -> bool {
     filling.len() == count && !filling.contains(&!value)
 }
@@ -309,7 +309,7 @@ fn are_refused(alloc: Global, calls: &str, text: &str, plain: &Read) -> bool {
     true
 }
 
-// The same of runs of the program over the text, which end with this status.
+// Whether each growth of runs of the program over the text is refused, which end with this status.
 fn runs_are_refused(alloc: Global, text: &str, status: u8) -> bool {
     is_run_in_turns(alloc, &["parse", text], "", None, status)
         && is_run_in_turns(alloc, &["eval", text, "a"], "", None, status)
@@ -342,7 +342,7 @@ fn text_of(alloc: Global, fields: &[String]) -> Option<String> {
     }
 }
 
-// The same of a row. The text of a large one is copied.
+// Whether a row is right. The expression of a large text is copied once.
 fn is_row(alloc: Global, fields: &[String]) -> bool {
     match fields {
         [kind, answer, text] => is_right(alloc, [kind, answer, text, text]),
@@ -388,7 +388,7 @@ fn growths_of_a_key(alloc: Global, length: usize) -> Option<u64> {
     )
 }
 
-// That of the copy of the text, and from 48 bytes on that of room for its nodes.
+// The copy of the text takes one, and from 48 bytes on the nodes take another.
 #[test]
 fn nodes_of_a_short_text_take_no_memory(rt: HostRuntime) {
     for (length, wanted) in [(1, 1), (47, 1), (48, 2)] {

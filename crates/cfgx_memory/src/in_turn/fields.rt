@@ -15,7 +15,7 @@ use std::alloc::{AllocError, Global};
 use std::test::Fail;
 
 // Whether an owned value and a borrowed one of the same text are equal to each other's copies. The
-// copy of the borrowed one is free.
+// copy of the borrowed one takes no memory.
 fn are_copied<T: PartialEq + Drop>(
     owned: &T,
     borrowed: &T,
@@ -62,7 +62,7 @@ fn owned<'a, A: SmallAllocator>(
     Ok(of_kind!(kind, new, text))
 }
 
-// The same with a text that is borrowed.
+// A predicate of the kind that borrows its text.
 fn borrowed<'a, A: SmallAllocator>(kind: &str, text: &'a str) -> TargetPredicate<'a, A> {
     of_kind!(kind, new_const, text)
 }

@@ -1,5 +1,4 @@
-//! Conditions that are asked, compared, printed, spelled and evaluated, targets that they are asked
-//! of, and the logics and streams that stand beside them.
+//! Conditions that are asked, compared, printed, spelled and evaluated, and the logics.
 use super::pair;
 use crate::in_turn::conditions::called;
 use cfg_expr::expr::logic::Kleene64;
@@ -60,10 +59,10 @@ fn are_spelled(alloc: Global, predicates: Predicates<'_>, spelling: &[u8]) -> bo
 
 // Whether the predicate is true of the fourth of five rows alone, one by one and in lanes.
 fn is_of_the_fourth<A: SmallAllocator>(
-    predicate: &Predicate<'_>,
+    predicate: Option<Predicate<'_>>,
     rows: &[TargetInfo<'_, A>],
 ) -> bool {
-    let Predicate::Target(target) = predicate else {
+    let Some(Predicate::Target(target)) = &predicate else {
         return false;
     };
     for (place, row) in rows.iter().enumerate() {
@@ -71,32 +70,14 @@ fn is_of_the_fourth<A: SmallAllocator>(
             return false;
         }
     }
-    rows.len() <= 64 && target.lanes(rows) == Kleene64::new(0b01000, 0b10111)
-}
-
-// Whether each predicate is so, of which there is at least one.
-fn are_of_the_fourth<A: SmallAllocator>(
-    predicates: Predicates<'_>,
-    rows: &[TargetInfo<'_, A>],
-) -> bool {
-    for predicate in predicates {
-        let is_met = is_of_the_fourth(&predicate, rows);
-        drop(predicate);
-        if !is_met {
-            return false;
-        }
-    }
-    rows.len() == 5
+    rows.len() == 5 && target.lanes(rows) == Kleene64::new(0b01000, 0b10111)
 }
 
 fn ask_for_the_fourth(heap: Heap<'_>) -> bool {
     let read = Expression::parse(heap, "target_abi = \"sim\"").map_err(|_| AllocError);
-    let two = pair(read, TargetTable::builtins(heap));
-    holds_without_memory(
-        heap,
-        two,
-        |two| are_of_the_fourth(two.0.predicates(), two.1.rows()),
-    )
+    holds_without_memory(heap, pair(read, TargetTable::builtins(heap)), |two| {
+        is_of_the_fourth(two.0.predicates().next(), two.1.rows())
+    })
 }
 
 // Checks of expressions, and texts. Those that are evaluated have 31 or 32 bytes.
@@ -175,7 +156,7 @@ fn is_logic<T: Logic + Copy + PartialEq>() -> bool {
         && no.not() == yes
 }
 
-// The same with an answer that is unknown.
+// Whether that holds of a logic with an unknown answer too.
 fn has_unknown<T: Logic + Copy + PartialEq>(unknown: T) -> bool {
     is_logic::<T>()
         && unknown.not() == unknown

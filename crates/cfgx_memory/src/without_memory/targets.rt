@@ -80,7 +80,7 @@ fn are_sorted(families: [Family<'_>; 2]) -> bool {
     are_sorted
 }
 
-// Copies of those of the rows that have these numbers.
+// Copies of the rows with these numbers.
 fn copies_of<'a, A: SmallAllocator + 'a>(
     alloc: A,
     all: &[TargetInfo<'a, A>],
@@ -98,7 +98,7 @@ fn copies_of<'a, A: SmallAllocator + 'a>(
 /// Rows, or out of memory.
 type Rows<'a, A> = Result<Vec<TargetInfo<'a, A>, A>, AllocError>;
 
-// The same of the rows that are built in.
+// Copies of the rows that are built in and have these numbers.
 fn rows<'a, A: SmallAllocator + 'a>(alloc: A, numbers: &[usize]) -> Rows<'a, A> {
     let table = TargetTable::builtins(alloc)?;
     copies_of(alloc, table.rows(), numbers)
@@ -120,8 +120,8 @@ fn are_three_rows<A: SmallAllocator>(rows: &[TargetInfo<'_, A>]) -> bool {
     }
 }
 
-// Whether the three rows of these numbers are refused there, and all are given back; the first two
-// of them are equal and the third is above both if that is said.
+// Whether the three rows of these numbers are refused at this place and handed back, and whether
+// the first two are equal and the third is above both.
 fn are_refused(heap: Heap<'_>, numbers: &[usize], place: Option<usize>, is_first: bool) -> bool {
     let rows = rows(heap, numbers);
     heap.refuse(EVERY);
