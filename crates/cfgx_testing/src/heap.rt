@@ -1,6 +1,6 @@
-//! Each growth of a call refused in turn, and each block given back.
+//! Each growth of a call refused in turn, or all of them, and each block given back.
 use crate::holding::holds;
-use crate::refusing::Refusing;
+use crate::refusing::{EVERY, Refusing};
 use bumpalo::Bump;
 use std::alloc::{AllocError, Global};
 
@@ -20,24 +20,56 @@ pub fn has_every_block(heap: Refusing<Bump>) -> bool {
 // No call here needs so many growths.
 const MOST_GROWTHS: u64 = 1000;
 
-/// Whether the call answers that it is out of memory with its first growth refused, with its
-/// second, and so on, and true when it is made again; whether it is true once none is refused, and
-/// at least one was before; and whether every block was back at the end of each turn.
+/// How many growths the call takes.
+///
+/// With the first of them refused it must answer that it is out of memory, and true when it is made
+/// again; then with the second refused, and so on. Once none is refused it must answer true, and
+/// every block must be back at the end of each turn. Otherwise this is `None`.
+pub fn growths<C>(alloc: Global, call: C) -> Option<u64>
+where
+    C: Fn(&Refusing<Bump>) -> Result<bool, AllocError>,
+    requires { C.IsAlwaysCallable call }
+{
+    for turn in 0..MOST_GROWTHS {
+        let heap = empty_heap(alloc);
+        heap.refuse(turn.saturating_add(1));
+        let answer = call(&heap);
+        if !heap.has_refused() {
+            let is_right = holds(answer) && has_every_block(heap);
+            return if is_right { Some(turn) } else { None };
+        }
+        if answer.is_ok() || !holds(call(&heap)) || !has_every_block(heap) {
+            return None;
+        }
+    }
+    None
+}
+
+/// Whether the call takes memory and passes the test of `growths`.
 pub fn is_refused_in_turns<C>(alloc: Global, call: C) -> bool
 where
     C: Fn(&Refusing<Bump>) -> Result<bool, AllocError>,
     requires { C.IsAlwaysCallable call }
 {
-    for turn in 1..MOST_GROWTHS {
-        let heap = empty_heap(alloc);
-        heap.refuse(turn);
-        let answer = call(&heap);
-        if !heap.has_refused() {
-            return turn > 1 && holds(answer) && has_every_block(heap);
-        }
-        if answer.is_ok() || !holds(call(&heap)) || !has_every_block(heap) {
-            return false;
-        }
-    }
-    false
+    growths(alloc, call).unwrap_or(0) > 0
+}
+
+/// Whether the check holds of a value that was made with memory, with every growth refused. After
+/// it the heap refuses nothing, so that the next value can be made.
+pub fn holds_without_memory<T: Drop, E: Drop, C>(
+    heap: Heap<'_>,
+    made: Result<T, E>,
+    check: C,
+) -> bool
+where
+    C: Fn(&T) -> bool,
+    requires { C.IsAlwaysCallable check }
+{
+    heap.refuse(EVERY);
+    let is_held = match &made {
+        Ok(value) => check(value),
+        Err(_) => false,
+    };
+    heap.refuse(0);
+    is_held
 }

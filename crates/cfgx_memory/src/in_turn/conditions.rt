@@ -1,0 +1,401 @@
+//! Conditions that are read, copied and evaluated.
+use super::Answer;
+use super::runs::is_run_in_turns;
+use cfg_expr::error::{Failure, ParseError};
+use cfg_expr::expr::TargetMatcher;
+use cfg_expr::expr::lexer::{Lexer, Token};
+use cfg_expr::expr::logic::Kleene64;
+use cfg_expr::memory::SmallAllocator;
+use cfg_expr::{Expression, Predicate, TargetPredicate};
+use cfgx_engine::resolve::{Section, Verdict, pick};
+use cfgx_testing::heap::{empty_heap, growths, has_every_block, is_refused_in_turns};
+use cfgx_testing::holding::holds;
+use cfgx_testing::rows::{passing, told};
+use cfgx_testing::texts::repeated;
+use cfgx_testing::triples::IOS;
+use std::alloc::{AllocError, Global};
+
+// What is called with a text, what parsing it answers, which is its fault or the number of its
+// predicates, the text, and what it is stripped to if that is not the text. What is evaluated is
+// true if all its predicates are, false if all are false, and asks nothing of targets.
+const TEXTS: &str = r#"
+read | U[`<key>` `all` `any` `not`] at 2..3 | a 8 b
+read | UnopenedParens at 3..4 | key)
+read | UnclosedQuotes at 6..10 | key = "abc
+read | U[`"<value>"`] at 5..5 | key =
+read | U[] at 8..9 | unix = "x"
+read | InvalidHasAtomic at 21..26 | target_has_atomic = "65536"
+read | InvalidNot(2) at 0..17 | not(a, key = "v")
+read | InvalidNot(2) at 0..9 | cfg(not(a, b)) | not(a, b)
+read | MultipleRootPredicates at 0..10 | key1, key2
+copied | 0 | all()
+copied | 0 | cfg(all()) | all()
+copied | 0 | cfg( all() ) |  all()\u{20}
+copied | 1 | not(key = "v")
+copied | 2 | cfg(any(unix, key = "\u{e9}",,),) | any(unix, key = "\u{e9}",,),
+copied | 3 | all(feature = "a", not(unix), key = "v")
+copied | 3 | any(target_pointer_width = "64", target_endian = "big", panic = "a")
+copied | 8 | all(a, b, c, d, not(e), f, g, h)
+evaluated | 1 | a
+evaluated | 1 | cfg(key) | key
+evaluated | 3 | all(a, any(b), c)
+// Long texts, from which nothing is stripped: a front, a piece, how often it comes, a back, and
+// how many `)` follow. No run of the program reads a text that is only scanned.
+scanned | U[`<key>` `all` `any` `not`] at 100000..100001 | \e | \u{20} | 100000 | 8 | 0
+read | U[`<key>` `all` `any` `not`] at 5000..5001 | \e | \u{20} | 5000 | 8 | 0
+read | UnclosedQuotes at 0..5001 | " | v | 5000 | \e | 0
+read | UnclosedParens at 3..200 | \e | not( | 40 | a | 39
+copied | 80 | all( | key = "v", unix, | 40 | ) | 0
+evaluated | 1 | \e | k | 1000 | \e | 0
+evaluated | 1 | key = " | v | 1000 | " | 0
+evaluated | 80 | all( | any(a, b), | 40 | ) | 0
+evaluated | 1 | \e | not( | 40 | a | 40
+evaluated | 1 | any(a, | false, | 40 | ) | 0
+evaluated | 100 | any( | a, | 100 | ) | 0
+evaluated | 1 | \e | any( | 100 | a | 100
+evaluated | 1 | \e | not( | 100 | a | 100
+evaluated | 1 | all(a, | true, | 100 | ) | 0
+evaluated | 1 | any(a, | false, | 100 | ) | 0
+// What is too large to be read in turns is copied once.
+large | \e | k | 5000 | \e | 0
+large | \e | k | 100000 | \e | 0
+large | any( | a, | 50000 | ) | 0
+large | \e | not( | 50000 | a | 50000
+"#;
+
+// The calls with a text of this kind.
+fn calls_of(kind: &str) -> &'static str {
+    match kind {
+        "scanned" | "read" => "parse from_str",
+        "copied" => "parse from_str try_clone",
+        _ => "parse from_str try_clone eval polar_fillings eval_lanes pick",
+    }
+}
+
+/// What parsing answers.
+type Read<A = Global> = Result<Expression<A>, Failure<A>>;
+
+// Whether both have the same text, and the same predicates in their order.
+fn are_alike<A: SmallAllocator, B: SmallAllocator>(
+    one: &Expression<A>,
+    other: &Expression<B>,
+) -> bool {
+    one.original() == other.original() && one.predicates().eq(other.predicates())
+}
+
+// The first token of `a 8 b`, and the fault after it. Either this fault or a refused growth ends
+// the lexer.
+fn lexes<A: SmallAllocator>(alloc: A) -> Answer {
+    let mut lexer = Lexer::new(alloc, "a 8 b");
+    let is_first = matches!(lexer.next(), Some(Ok(item)) if item.token == Token::Key("a"));
+    let second = lexer.next();
+    if !is_first || lexer.next().is_some() || lexer.items_left_bound() > 0 {
+        return Ok(false);
+    }
+    match second {
+        Some(Err(Failure::Memory(error))) => Err(error),
+        Some(Err(Failure::Parse(error))) => Ok(error.span.start == 2 && error.span.end == 3),
+        _ => Ok(false),
+    }
+}
+
+#[test]
+fn a_refused_growth_ends_the_lexer(rt: HostRuntime) {
+    assert!(rt; is_refused_in_turns(rt.alloc(), |heap| lexes(heap)));
+}
+
+// What the call answers for a text, of which this was read with memory.
+fn answer_to<A: SmallAllocator>(alloc: A, call: &str, text: &str, plain: &Read) -> Answer {
+    let read = match call {
+        "from_str" => Expression::from_str(alloc, text),
+        _ => Expression::parse(alloc, text),
+    };
+    match read {
+        Ok(expression) => stays(alloc, call, &expression, plain),
+        Err(Failure::Parse(error)) => Ok(is_fault(&error, plain)),
+        Err(Failure::Memory(error)) => Err(error),
+    }
+}
+
+// Whether it is the fault of the text.
+fn is_fault<A: SmallAllocator>(error: &ParseError<A>, plain: &Read) -> bool {
+    match plain {
+        Err(Failure::Parse(fault)) => {
+            error.original.as_str() == fault.original.as_str()
+                && error.span.start == fault.span.start
+                && error.span.end == fault.span.end
+                && error.reason == fault.reason
+        }
+        _ => false,
+    }
+}
+
+// What the call answers for an expression, which stays as it was.
+fn stays<A: SmallAllocator>(
+    alloc: A,
+    call: &str,
+    expression: &Expression<A>,
+    plain: &Read,
+) -> Answer {
+    let answer = called(alloc, call, expression);
+    match plain {
+        Ok(wanted) if are_alike(expression, wanted) => answer,
+        _ => Ok(false),
+    }
+}
+
+/// Whether the call on the expression gives its plain answer.
+pub(crate) fn called<A: SmallAllocator>(
+    alloc: A,
+    call: &str,
+    expression: &Expression<A>,
+) -> Answer {
+    match call {
+        "try_clone" => is_copied(alloc, expression),
+        "eval" => is_true(alloc, expression),
+        "polar_fillings" => is_filled(alloc, expression),
+        "eval_lanes" => is_each(alloc, expression),
+        "pick" => is_picked(alloc, expression.original()),
+        _ => Ok(true),
+    }
+}
+
+fn is_copied<A: SmallAllocator>(alloc: A, expression: &Expression<A>) -> Answer {
+    let copy = expression.try_clone(alloc)?;
+    Ok(copy == *expression && are_alike(&copy, expression))
+}
+
+// Whether the value is true, after each predicate was asked. Out of memory, none was asked.
+fn is_true<A: SmallAllocator>(alloc: A, expression: &Expression<A>) -> Answer {
+    let mut count = 0usize;
+    let value = expression.eval(
+        alloc,
+        &mut |_predicate: &Predicate<'_>| {
+            count = count.saturating_add(1);
+            true
+        },
+    );
+    match value {
+        Err(_) if count > 0 => Ok(false),
+        value => Ok(value? && count == expression.predicates().left()),
+    }
+}
+
+// Whether the filling has this value, this many times.
+fn are(filling: &[bool], value: bool, count: usize) -> bool {
+    filling.len() == count && !filling.contains(&!value)
+}
+
+// Whether there are two fillings, if no answer is known: all true makes the text true, and all
+// false makes it false. No text has more than 100 predicates.
+fn is_filled<A: SmallAllocator>(alloc: A, expression: &Expression<A>) -> Answer {
+    let count = expression.predicates().left();
+    let answers = &[None; 100][..count.min(100)];
+    if answers.len() != count {
+        return Ok(false);
+    }
+    match expression.polar_fillings(alloc, answers)? {
+        Some((with_true, with_false)) => {
+            Ok(are(with_true.as_slice(), true, count) && are(with_false.as_slice(), false, count))
+        }
+        None => Ok(false),
+    }
+}
+
+// Whether the value over answers that are all the same is each of them: true in one lane, false in
+// another, and unknown in all others.
+fn is_each<A: SmallAllocator>(alloc: A, expression: &Expression<A>) -> Answer {
+    let each = Kleene64::new(0b001, 0b010);
+    let count = expression.predicates().left();
+    let answers = &[each; 100][..count.min(100)];
+    if answers.len() != count {
+        return Ok(false);
+    }
+    Ok(expression.eval_lanes(alloc, answers)? == each)
+}
+
+/// A target that meets no predicate.
+struct Nowhere;
+
+impl TargetMatcher for Nowhere {
+    ghost use Rattle.std.specs.Prelude.{false};
+
+    ghost answer = { λ _ _. false };
+
+    fn matches(&self, _predicate: &TargetPredicate<'_>) -> bool {
+        false
+    }
+}
+
+/// Sections, and who has their memory.
+type Sections<A> = Vec<Section<A>, A>;
+
+// Adds a section whose name is its condition.
+fn push_section<A: SmallAllocator>(
+    alloc: A,
+    sections: &mut Sections<A>,
+    text: &str,
+) -> Result<(), AllocError> {
+    let Ok(condition) = Expression::parse(alloc, text) else {
+        return Err(AllocError);
+    };
+    let name = String::from_str(alloc, text)?;
+    sections.push(Section { name, condition })?;
+    Ok(())
+}
+
+// A section for each text.
+fn sections_of<A: SmallAllocator>(alloc: A, texts: &[&str]) -> Result<Sections<A>, AllocError> {
+    let mut sections = Vec::new(alloc);
+    for text in texts {
+        push_section(alloc, &mut sections, text)?;
+    }
+    Ok(sections)
+}
+
+// Whether these are the sections of the texts.
+fn are_of<A: SmallAllocator>(sections: &[Section<A>], texts: &[&str]) -> bool {
+    for (section, text) in sections.iter().zip(texts) {
+        if section.name.as_str() != *text || section.condition.original() != *text {
+            return false;
+        }
+    }
+    sections.len() == texts.len()
+}
+
+const VERDICTS: &[Verdict] = &[Verdict::Unknown, Verdict::No, Verdict::Yes];
+
+// The verdicts on three sections. The sections stay as they were.
+fn is_picked<A: SmallAllocator>(alloc: A, text: &str) -> Answer {
+    let texts = [text, "windows", "not(windows)"];
+    let sections = sections_of(alloc, &texts)?;
+    let verdicts = pick(alloc, sections.as_slice(), &Nowhere);
+    if !are_of(sections.as_slice(), &texts) {
+        return Ok(false);
+    }
+    let again = pick(alloc, sections.as_slice(), &Nowhere);
+    Ok(verdicts?.as_slice() == VERDICTS && again?.as_slice() == VERDICTS)
+}
+
+// Whether parsing the text answered this.
+fn is_plain(alloc: Global, plain: &Read, answer: &str, original: &str) -> bool {
+    match plain {
+        Ok(expression) => {
+            expression.original() == original
+                && answer.parse::<usize>().ok() == Some(expression.predicates().left())
+        }
+        Err(Failure::Parse(error)) => {
+            error.original.as_str() == original && is_told(alloc, error, answer)
+        }
+        Err(Failure::Memory(_)) => false,
+    }
+}
+
+// Whether rows write the fault so.
+fn is_told(alloc: Global, error: &ParseError, answer: &str) -> bool {
+    match told(alloc, error) {
+        Ok(text) => text.as_str() == answer,
+        Err(_) => false,
+    }
+}
+
+// Whether each growth of each of the calls is refused in turn.
+fn are_refused(alloc: Global, calls: &str, text: &str, plain: &Read) -> bool {
+    for call in calls.split(' ') {
+        if !is_refused_in_turns(alloc, |heap| answer_to(heap, call, text, plain)) {
+            return false;
+        }
+    }
+    true
+}
+
+// Whether each growth of runs of the program over the text is refused, which end with this status.
+fn runs_are_refused(alloc: Global, text: &str, status: u8) -> bool {
+    is_run_in_turns(alloc, &["parse", text], "", None, status)
+        && is_run_in_turns(alloc, &["eval", text, "a"], "", None, status)
+        && is_run_in_turns(alloc, &["eval", "a", text], "", None, status)
+        && is_run_in_turns(alloc, &["target", IOS, text], "", None, status)
+}
+
+// Whether parsing the text answers this, and each growth of each call with a text of this kind is
+// refused in turn.
+fn is_right(alloc: Global, fields: [&String; 4]) -> bool {
+    let [kind, answer, text, original] = fields;
+    let (kind, text) = (kind.as_str(), text.as_str());
+    let plain = Expression::parse(alloc, text);
+    let status = if plain.is_ok() { 0 } else { 1 };
+    is_plain(alloc, &plain, answer.as_str(), original.as_str())
+        && are_refused(alloc, calls_of(kind), text, &plain)
+        && (kind == "scanned" || runs_are_refused(alloc, text, status))
+}
+
+// The long text of these fields.
+fn text_of(alloc: Global, fields: &[String]) -> Option<String> {
+    match fields {
+        [front, piece, times, back, closed] => {
+            let times = times.parse::<usize>().ok()?;
+            let closed = closed.parse::<usize>().ok()?;
+            let text = repeated(alloc, front.as_str(), piece.as_str(), times, back.as_str()).ok()?;
+            repeated(alloc, text.as_str(), ")", closed, "").ok()
+        }
+        _ => None,
+    }
+}
+
+// Whether a row is right. The expression of a large text is copied once.
+fn is_row(alloc: Global, fields: &[String]) -> bool {
+    match fields {
+        [kind, answer, text] => is_right(alloc, [kind, answer, text, text]),
+        [kind, answer, text, original] => is_right(alloc, [kind, answer, text, original]),
+        [kind, parts @ ..] if kind.as_str() == "large" => is_large(alloc, parts),
+        [kind, answer, parts @ ..] => match text_of(alloc, parts) {
+            Some(text) => is_right(alloc, [kind, answer, &text, &text]),
+            None => false,
+        },
+        _ => false,
+    }
+}
+
+#[test]
+fn each_growth_of_each_call_is_refused(rt: HostRuntime) {
+    let alloc = rt.alloc();
+    assert_eq!(rt; passing(alloc, TEXTS, |row| is_row(alloc, row)), Ok(39));
+}
+
+// Whether an expression of the text of these parts is equal to its copy.
+fn is_large(alloc: Global, parts: &[String]) -> bool {
+    let heap = empty_heap(alloc);
+    let is_copied = match text_of(alloc, parts) {
+        Some(text) => holds(reads_and_copies(&heap, text.as_str())),
+        None => false,
+    };
+    is_copied && has_every_block(heap)
+}
+
+fn reads_and_copies<A: SmallAllocator>(alloc: A, text: &str) -> Result<bool, Failure<A>> {
+    let expression = Expression::parse(alloc, text)?;
+    let copy = expression.try_clone(alloc)?;
+    Ok(copy == expression && copy.predicates().left() == expression.predicates().left())
+}
+
+// How many growths it takes to parse a key of so many bytes.
+fn growths_of_a_key(alloc: Global, length: usize) -> Option<u64> {
+    let text = repeated(alloc, "", "k", length, "").ok()?;
+    let plain = Expression::parse(alloc, text.as_str());
+    growths(
+        alloc,
+        |heap| answer_to(heap, "parse", text.as_str(), &plain),
+    )
+}
+
+// The copy of the text takes one, and from 48 bytes on the nodes take another.
+#[test]
+fn nodes_of_a_short_text_take_no_memory(rt: HostRuntime) {
+    for (length, wanted) in [(1, 1), (47, 1), (48, 2)] {
+        assert_eq!(rt;
+            growths_of_a_key(rt.alloc(), length),
+            Some(wanted),
+            "{length} bytes"
+        );
+    }
+}

@@ -1,0 +1,73 @@
+//! An input that is read whole: the room doubles, from 64 KiB on, and every byte is given back.
+use super::Answer;
+use cfgx_engine::engine::{Input, Stop, read_input};
+use cfgx_testing::heap::{Heap, empty_heap, growths, has_every_block};
+use cfgx_testing::streams::Pieces;
+use std::alloc::{AllocError, Allocator, Global};
+
+// The most bytes of a call.
+const EACH: usize = 65_536;
+
+// Whether these bytes were read.
+fn is_read<A: Allocator>(answer: Result<Input<A>, Stop>, bytes: &[u8]) -> bool {
+    match answer {
+        Ok(Input::Bytes(read)) => read.as_slice() == bytes,
+        _ => false,
+    }
+}
+
+// Reads the bytes. Out of memory, no call of the source has failed, and what was read stays read:
+// reading again gives what follows it.
+fn reads(alloc: Global, heap: Heap<'_>, bytes: &[u8]) -> Answer {
+    let mut source = Pieces::new(bytes, EACH, 0);
+    let answer = read_input(heap, &mut source);
+    if !matches!(answer, Err(Stop::Memory)) {
+        return Ok(is_read(answer, bytes) && source.left.is_empty());
+    }
+    let left = source.left;
+    if source.failures > 0 || !bytes.ends_with(left) {
+        return Ok(false);
+    }
+    if is_read(read_input(alloc, &mut source), left) {
+        Err(AllocError)
+    } else {
+        Ok(false)
+    }
+}
+
+// How many bytes are read, and in how many growths.
+const LENGTHS: &[(usize, u64)] = &[(0, 1), (10, 1), (300_000, 4)];
+
+fn growths_of(alloc: Global, length: usize) -> Option<u64> {
+    let bytes = vec![in alloc; b'-'; length].ok()?;
+    growths(alloc, |heap| reads(alloc, heap, bytes.as_slice()))
+}
+
+#[test]
+fn each_growth_of_an_input_is_refused(rt: HostRuntime) {
+    for (length, wanted) in LENGTHS {
+        assert_eq!(rt;
+            growths_of(rt.alloc(), *length),
+            Some(*wanted),
+            "{length} bytes"
+        );
+    }
+}
+
+// Whether the failed read of this number is answered, and gives back the bytes that were read.
+fn is_given_back(alloc: Global, failing_read: u64) -> bool {
+    let heap = empty_heap(alloc);
+    let mut source = Pieces::new(b"0123456789", 3, failing_read);
+    let is_stopped = matches!(read_input(&heap, &mut source), Err(Stop::Device));
+    is_stopped && has_every_block(heap)
+}
+
+#[test]
+fn a_failed_read_gives_back_its_bytes(rt: HostRuntime) {
+    for failing_read in 1..=5 {
+        assert!(rt;
+            is_given_back(rt.alloc(), failing_read),
+            "read {failing_read}"
+        );
+    }
+}

@@ -1,0 +1,29 @@
+//! Calls that take no memory, with every growth refused: each gives its plain answer.
+//!
+//! What such a call is given is made with memory first.
+mod conditions;
+mod faults;
+mod targets;
+
+use std::hash::{DefaultHasher, Hash, Hasher};
+
+// Two values, if both were made.
+fn pair<T: Drop, U: Drop, E: Drop>(one: Result<T, E>, other: Result<U, E>) -> Result<(T, U), E> {
+    let one = one?;
+    Ok((one, other?))
+}
+
+fn hash_of<T: Hash>(value: &T) -> u64 {
+    let mut state = DefaultHasher::new();
+    value.hash(&mut state);
+    state.finish()
+}
+
+// Whether the first two are equal and hash alike, and the third is above both.
+fn are_ordered<T: Ord + Hash>(one: &T, same: &T, above: &T) -> bool {
+    one == same
+        && one != above
+        && one.cmp(same).is_eq()
+        && one.cmp(above).is_lt()
+        && hash_of(one) == hash_of(same)
+}

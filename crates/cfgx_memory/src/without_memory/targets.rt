@@ -1,0 +1,182 @@
+//! Byte orders, widths, lists, rows and tables.
+use super::{are_ordered, pair};
+use cfg_expr::memory::SmallAllocator;
+use cfg_expr::targets::{
+    Endian, Families, Family, HasAtomic, HasAtomics, TargetInfo, TargetTable,
+    get_builtin_target_by_triple,
+};
+use cfgx_testing::heap::{Heap, empty_heap, has_every_block, holds_without_memory};
+use cfgx_testing::holding::{first_wrong, gives, holds, prints};
+use cfgx_testing::refusing::EVERY;
+use cfgx_testing::triples::{DARWIN, TVOS};
+use std::alloc::{AllocError, Global};
+
+const EIGHT: HasAtomic = HasAtomic::IntegerSize(8);
+
+const SORTED: &[HasAtomic] = &[EIGHT, HasAtomic::Pointer];
+
+const POINTER: &[HasAtomic] = &[HasAtomic::Pointer];
+
+const UNSORTED: &[HasAtomic] = &[HasAtomic::Pointer, EIGHT];
+
+// Whether these are two lists of the same two widths, one of which was not in order.
+fn are_two_widths<A: SmallAllocator>(
+    alloc: Global,
+    list: &HasAtomics<A>,
+    same: &HasAtomics<A>,
+) -> bool {
+    are_ordered(list, same, &HasAtomics::new_const(POINTER))
+        && list.as_slice() == SORTED
+        && HasAtomics::<A>::new_const(SORTED) == *list
+        && list.contains(EIGHT)
+        && !list.contains(HasAtomic::IntegerSize(16))
+        && prints(alloc, list, "{8, ptr}")
+}
+
+fn are_widths(alloc: Global, heap: Heap<'_>) -> bool {
+    let one = HasAtomics::new(heap, SORTED.iter().copied());
+    let two = pair(one, HasAtomics::new(heap, UNSORTED.iter().copied()));
+    holds_without_memory(heap, two, |two| are_two_widths(alloc, &two.0, &two.1))
+}
+
+// Whether the text is read as this width.
+fn is_read(heap: Heap<'_>, text: &str, width: HasAtomic) -> bool {
+    heap.refuse(EVERY);
+    let is_read = holds(gives(HasAtomic::read(heap, text), &width));
+    heap.refuse(0);
+    is_read
+}
+
+// Whether these are lists of two families, of the same two, and of one that is above.
+fn are_two_families<A: SmallAllocator>(
+    alloc: Global,
+    list: &Families<'_, A>,
+    same: &Families<'_, A>,
+    above: &Families<'_, A>,
+) -> bool {
+    are_ordered(list, same, above)
+        && list.as_slice().len() == 2
+        && list.contains(&Family::unix())
+        && list.contains(&Family::wasm())
+        && !list.contains(&Family::windows())
+        && prints(alloc, list, "{unix, wasm}")
+}
+
+fn are_families(alloc: Global, heap: Heap<'_>) -> bool {
+    let two = pair(Families::unix_wasm(heap), Families::unix_wasm(heap));
+    let three = pair(two, Families::wasm(heap));
+    holds_without_memory(heap, three, |three| {
+        are_two_families(alloc, &three.0.0, &three.0.1, &three.1)
+    })
+}
+
+fn is_empty<A: SmallAllocator>(_alloc: A) -> bool {
+    Families::<'_, A>::new_const(&[]).as_slice().is_empty()
+}
+
+fn are_sorted(families: [Family<'_>; 2]) -> bool {
+    let are_sorted = Families::<Global>::is_sorted(&families);
+    drop(families);
+    are_sorted
+}
+
+// Copies of the rows with these numbers.
+fn copies_of<'a, A: SmallAllocator + 'a>(
+    alloc: A,
+    all: &[TargetInfo<'a, A>],
+    numbers: &[usize],
+) -> Result<Vec<TargetInfo<'a, A>, A>, AllocError> {
+    let mut rows = Vec::new(alloc);
+    for number in numbers {
+        if let Some(row) = all.get(*number) {
+            rows.push(row.try_clone(alloc)?)?;
+        }
+    }
+    Ok(rows)
+}
+
+/// Rows, or out of memory.
+type Rows<'a, A> = Result<Vec<TargetInfo<'a, A>, A>, AllocError>;
+
+// Copies of the rows that are built in and have these numbers.
+fn rows<'a, A: SmallAllocator + 'a>(alloc: A, numbers: &[usize]) -> Rows<'a, A> {
+    let table = TargetTable::builtins(alloc)?;
+    copies_of(alloc, table.rows(), numbers)
+}
+
+// The place at which the rows are refused, and how many there are, if they are no table.
+fn place_of<A: SmallAllocator>(rows: Rows<'_, A>) -> Result<(Option<usize>, usize), AllocError> {
+    match TargetTable::from_rows(rows?) {
+        Ok(table) => Ok((None, table.rows().len())),
+        Err(error) => Ok((Some(error.index), error.rows.len())),
+    }
+}
+
+// Whether the first two rows are equal, and the third is above both.
+fn are_three_rows<A: SmallAllocator>(rows: &[TargetInfo<'_, A>]) -> bool {
+    match rows {
+        [one, same, above] => are_ordered(one, same, above),
+        _ => false,
+    }
+}
+
+// Whether the three rows of these numbers are refused at this place and handed back, and whether
+// the first two are equal and the third is above both.
+fn are_refused(heap: Heap<'_>, numbers: &[usize], place: Option<usize>, is_first: bool) -> bool {
+    let rows = rows(heap, numbers);
+    heap.refuse(EVERY);
+    let are_three = match &rows {
+        Ok(rows) => are_three_rows(rows.as_slice()) == is_first,
+        Err(_) => false,
+    };
+    let found = place_of(rows);
+    heap.refuse(0);
+    are_three && found == Ok((place, 3))
+}
+
+// Whether it is the table that is built in.
+fn is_builtin<A: SmallAllocator>(table: &TargetTable<'_, A>) -> bool {
+    let starts = match table.rows() {
+        [row, _, _, _, _] => row.triple.as_str() == DARWIN,
+        _ => false,
+    };
+    starts
+        && get_builtin_target_by_triple(table, TVOS).is_some()
+        && get_builtin_target_by_triple(table, "aarch64-apple").is_none()
+}
+
+#[test]
+fn lists_and_rows_take_no_memory(rt: HostRuntime) {
+    let heap = empty_heap(rt.alloc());
+    let table = TargetTable::builtins(&heap);
+    let wrong = first_wrong(&[
+        ("lists of widths", are_widths(rt.alloc(), &heap)),
+        ("a number", is_read(&heap, "+08", EIGHT)),
+        ("ptr", is_read(&heap, "ptr", HasAtomic::Pointer)),
+        ("lists of families", are_families(rt.alloc(), &heap)),
+        ("no family", is_empty(&heap)),
+        ("a table", are_refused(&heap, &[0, 2, 4], None, false)),
+        ("no table", are_refused(&heap, &[0, 2, 2], Some(2), false)),
+        ("equal rows", are_refused(&heap, &[1, 1, 2], Some(1), true)),
+        (
+            "built in",
+            holds_without_memory(&heap, table, |table| is_builtin(table)),
+        ),
+    ]);
+    assert_eq!(rt; wrong, None);
+    assert!(rt; has_every_block(heap));
+}
+
+#[test]
+fn orders(rt: HostRuntime) {
+    let wrong = first_wrong(&[
+        ("widths", are_ordered(&EIGHT, &EIGHT, &HasAtomic::Pointer)),
+        (
+            "byte orders",
+            are_ordered(&Endian::big, &Endian::big, &Endian::little),
+        ),
+        ("families", are_sorted([Family::unix(), Family::wasm()])),
+        ("others", !are_sorted([Family::wasm(), Family::unix()])),
+    ]);
+    assert_eq!(rt; wrong, None);
+}
