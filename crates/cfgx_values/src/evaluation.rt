@@ -1,0 +1,6 @@
+//! Values of conditions, and the fillings that show why they are unknown.
+mod alike;
+pub(crate) mod answers;
+mod fillings;
+mod logics;
+mod one_by_one;
