@@ -2,5 +2,6 @@
 mod alike;
 pub(crate) mod answers;
 mod fillings;
+mod generated;
 mod logics;
 mod one_by_one;
