@@ -26,8 +26,9 @@ all() | 111111
 any() | 000000
 target_abi = "sim" | 00010?"#;
 
-/// The same of five rows that are made by hand, if what is not asked of targets is true: a bare
-/// one, iOS, Windows of two vendors, and macOS.
+/// A condition, and its values on five rows that are made by hand and in the lanes past them, if
+/// what is not asked of targets is true. The rows are a bare one, iOS, Windows of two vendors, and
+/// macOS.
 const BY_HAND: &str = r#"target_os = "none" | 10000?
 target_os = "" | 00000?
 target_os = "ios" | 01000?
@@ -86,8 +87,7 @@ fn lanes_on(
     }
 }
 
-// The same of a predicate that is given away. It is dropped by name, since what goes out of scope
-// is dear to prove.
+// Takes the predicate, and drops it by name, since what goes out of scope is dear to prove.
 fn taken_lanes(
     predicate: Predicate<'_>,
     rows: &[TargetInfo<'_>],

@@ -73,7 +73,7 @@ fn are_texts<K: Drop>(
     Ok(are_texts && stand_for_texts(alloc, (&borrowed, &owned), one, other))
 }
 
-// The same of each field type.
+// Whether that holds for each field type.
 fn are_all_texts(
     alloc: Global,
     heap: Heap<'_>,
