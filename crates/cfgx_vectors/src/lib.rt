@@ -13,11 +13,7 @@ mod errors;
 pub mod evaluating;
 #[cfg(test)]
 mod faults;
-#[cfg(test)]
-mod fields;
 pub mod filling;
-#[cfg(test)]
-mod generated;
 #[cfg(test)]
 mod holding;
 #[cfg(test)]
@@ -25,19 +21,13 @@ mod in_turn;
 #[cfg(test)]
 mod input;
 #[cfg(test)]
-mod lanes;
-#[cfg(test)]
 mod lexer;
-#[cfg(test)]
-mod named;
 #[cfg(test)]
 mod nodes;
 #[cfg(test)]
 mod picking;
 #[cfg(test)]
 mod program;
-#[cfg(test)]
-mod questions;
 #[cfg(test)]
 pub mod refusing;
 #[cfg(test)]
@@ -47,12 +37,8 @@ mod spelling;
 #[cfg(test)]
 mod streams;
 #[cfg(test)]
-mod targets;
-#[cfg(test)]
 mod tokens;
 #[cfg(test)]
 mod turns;
-#[cfg(test)]
-mod verdicts;
 #[cfg(test)]
 mod without_memory;

@@ -3,16 +3,15 @@
 //! as it has to, and what is refused has a fault in the text, which prints.
 //!
 //! What is dear to prove where it goes out of scope is dropped by name.
-pub(crate) mod agreeing;
+mod agreeing;
 mod making;
 mod numbers;
 
-use crate::accepted::are_one;
-use crate::holding::holds;
 use agreeing::agrees_in_each_lane;
 use cfg_expr::error::{Failure, ParseError};
 use cfg_expr::expr::{Predicates, spell};
 use cfg_expr::{Expression, Predicate};
+use cfgx_testing::holding::holds;
 use making::made;
 use numbers::Numbers;
 use std::alloc::{AllocError, Global};
@@ -23,44 +22,56 @@ fn is_printed(alloc: Global, expression: &Expression) -> Result<bool, Failure> {
     Ok(Expression::parse(alloc, printed.as_str())? == *expression)
 }
 
-// Whether the spelling is parsed to this predicate alone.
-fn is_read_alone(
-    alloc: Global,
-    predicate: &Predicate<'_>,
-    spelling: &[u8],
-) -> Result<bool, Failure> {
-    let Ok(text) = str::from_utf8(spelling) else {
-        return Ok(false);
-    };
-    let expression = Expression::parse(alloc, text)?;
-    Ok(are_one(expression.predicates(), predicate))
-}
-
-fn is_spelled(alloc: Global, predicate: &Predicate<'_>) -> bool {
-    let mut bytes = Vec::new(alloc);
-    spell(predicate, &mut bytes).is_ok() && holds(is_read_alone(alloc, predicate, bytes.as_slice()))
-}
-
-// The same of a predicate that is given away.
-fn has_spelling(alloc: Global, predicate: Predicate<'_>) -> bool {
-    let is_spelled = is_spelled(alloc, &predicate);
+// Writes the spelling of the predicate and a comma. What goes out of scope is dropped by name.
+fn push_spelling(spellings: &mut Vec<u8>, predicate: Predicate<'_>) -> bool {
+    let is_written = spell(&predicate, spellings).is_ok() && spellings.push(b',').is_ok();
     drop(predicate);
-    is_spelled
+    is_written
 }
 
-fn are_spelled(alloc: Global, predicates: Predicates<'_>) -> bool {
+// The spellings of the predicates, as members of `all`.
+fn spellings(alloc: Global, predicates: Predicates<'_>) -> Option<Vec<u8>> {
+    let mut spellings = Vec::from_slice(alloc, b"all(").ok()?;
     for predicate in predicates {
-        if !has_spelling(alloc, predicate) {
+        if !push_spelling(&mut spellings, predicate) {
+            return None;
+        }
+    }
+    spellings.push(b')').ok()?;
+    Some(spellings)
+}
+
+fn is_same(one: Predicate<'_>, other: Option<Predicate<'_>>) -> bool {
+    let is_same = match &other {
+        Some(other) => one == *other,
+        None => false,
+    };
+    drop(one);
+    drop(other);
+    is_same
+}
+
+fn are_same(predicates: Predicates<'_>, mut others: Predicates<'_>) -> bool {
+    for predicate in predicates {
+        if !is_same(predicate, others.next()) {
             return false;
         }
     }
-    true
+    others.left() == 0
+}
+
+// Whether the spellings of the predicates are parsed to the same predicates.
+fn are_spelled(alloc: Global, expression: &Expression) -> Option<bool> {
+    let spellings = spellings(alloc, expression.predicates())?;
+    let text = str::from_utf8(spellings.as_slice()).ok()?;
+    let spelled = Expression::parse(alloc, text).ok()?;
+    Some(are_same(expression.predicates(), spelled.predicates()))
 }
 
 // Whether an accepted text is right in all that is said of it.
 fn is_expression(alloc: Global, numbers: &mut Numbers, expression: &Expression) -> bool {
     holds(is_printed(alloc, expression))
-        && are_spelled(alloc, expression.predicates())
+        && are_spelled(alloc, expression) == Some(true)
         && holds(agrees_in_each_lane(alloc, numbers, expression))
 }
 

@@ -2,76 +2,24 @@
 use super::numbers::Numbers;
 use std::alloc::{AllocError, Global};
 
-// What may stand in a text in any order.
-const TOKENS: &[&str] = &[
-    "a",
-    "_b1",
-    "unix",
-    "test",
-    "key",
-    "all",
-    "any",
-    "not",
-    "feature",
-    "target_os",
-    "=",
-    "(",
-    ")",
-    ",",
-    "\"v\"",
-    "\"\"",
-    "\"",
-    " ",
-    "\u{3000}",
-    "all(",
-    "any(",
-    "not(",
-    ")",
-    ")",
-    ",",
-    "cfg(",
-    "8",
-    "\u{e9}",
-];
+// What may stand in a text in any order, divided by `|` as all texts here.
+const TOKENS: &str = "a|_b1|unix|test|key|all|any|not|feature|target_os|=|(|)|,|\"v\"|\"\"|\"| |\
+    \u{3000}|all(|any(|not(|)|)|,|cfg(|8|\u{e9}";
 
 // Conditions that are one predicate, or ask none.
-const LEAVES: &[&str] = &[
-    "true",
-    "false",
-    "a",
-    "b",
-    "key",
-    "unix",
-    "windows",
-    "test",
-    "debug_assertions",
-    "proc_macro",
-    "feature = \"\"",
-    "feature=\"x-y\"",
-    "key = \"\u{e9}\n\"",
-    "panic = \"abort\"",
-    "target_abi = \"sim\"",
-    "target_arch = \"x86\"",
-    "target_endian = \"big\"",
-    "target_env = \"gnu\"",
-    "target_family = \"wasm\"",
-    "target_feature = \"sse4.2\"",
-    "target_has_atomic = \"+08\"",
-    "target_has_atomic = \"ptr\"",
-    "target_os = \"\"",
-    "target_pointer_width = \"064\"",
-    "target_vendor = \"apple\"",
-    "all()",
-    "any()",
-    "not(all())",
-];
+const LEAVES: &str = "true|false|a|b|key|unix|windows|test|debug_assertions|proc_macro|\
+    feature = \"\"|feature=\"x-y\"|key = \"\u{e9}\n\"|panic = \"abort\"|target_abi = \"sim\"|\
+    target_arch = \"x86\"|target_endian = \"big\"|target_env = \"gnu\"|target_family = \"wasm\"|\
+    target_feature = \"sse4.2\"|target_has_atomic = \"+08\"|target_has_atomic = \"ptr\"|\
+    target_os = \"\"|target_pointer_width = \"064\"|target_vendor = \"apple\"|all()|any()|\
+    not(all())";
 
 // What may stand before the first member of a function, and what after its last one.
-const FRONTS: &[&str] = &["", " ", "\n\t", "\u{a0}"];
+const FRONTS: &str = "| |\n\t|\u{a0}";
 
-const BACKS: &[&str] = &["", "", ",", " , ,"];
+const BACKS: &str = "||,| , ,";
 
-const FUNCTIONS: &[&str] = &["all(", "any(", "all (", "any\u{3000}("];
+const FUNCTIONS: &str = "all(|any(|all (|any\u{3000}(";
 
 fn push_tokens(numbers: &mut Numbers, text: &mut String) -> Result<(), AllocError> {
     for _token in 0..numbers.below(12) {
@@ -112,19 +60,11 @@ fn with_members(alloc: Global, numbers: &mut Numbers, inner: &str) -> Result<Str
     Ok(text)
 }
 
-// Writes a condition alone, and what closes its `not`.
-fn push_alone(numbers: &mut Numbers, text: &mut String, inner: &str) -> Result<(), AllocError> {
-    text.push_str(numbers.one_of(FRONTS))?;
-    text.push_str(inner)?;
-    text.push_str(numbers.one_of(BACKS))?;
-    text.push_str(")")
-}
-
 // A `not` round a condition.
 fn negated(alloc: Global, numbers: &mut Numbers, inner: &str) -> Result<String, AllocError> {
-    let mut text = String::from_str(alloc, "not(")?;
-    push_alone(numbers, &mut text, inner)?;
-    Ok(text)
+    let front = numbers.one_of(FRONTS);
+    let back = numbers.one_of(BACKS);
+    format!(in alloc; "not({front}{inner}{back})")
 }
 
 // A condition with up to five functions, one in another.
@@ -142,10 +82,8 @@ fn condition(alloc: Global, numbers: &mut Numbers) -> Result<String, AllocError>
 
 // A condition between `cfg(` and `)`.
 fn wrapped(alloc: Global, numbers: &mut Numbers) -> Result<String, AllocError> {
-    let mut text = String::from_str(alloc, "cfg(")?;
-    text.push_str(condition(alloc, numbers)?.as_str())?;
-    text.push_str(")")?;
-    Ok(text)
+    let inner = condition(alloc, numbers)?;
+    format!(in alloc; "cfg({inner})")
 }
 
 // Writes a text, in which one token stands in the place of the characters from `start` to `end`.

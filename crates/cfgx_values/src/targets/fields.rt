@@ -1,13 +1,10 @@
-//! The eight field types: what no clause says of them. No call takes memory but the copy of an
-//! owned text, which gives its error if its one growth is refused; and the clauses mean the
-//! texts, the order and the printing of Rust's `str`.
-
-use crate::holding::{all_hold, gives, holds};
-use crate::refusing::EVERY;
-use crate::turns::{Heap, empty_heap, has_every_block};
+//! A field of each type compares, hashes and prints as its text does, and takes no memory.
 use cfgx_fields::{
     AbiKind, ArchKind, EnvKind, FamilyKind, Field, OsKind, PanicKind, TripleKind, VendorKind,
 };
+use cfgx_testing::heap::{Heap, empty_heap, has_every_block};
+use cfgx_testing::holding::holds;
+use cfgx_testing::refusing::EVERY;
 use std::alloc::{AllocError, Global};
 use std::fmt::Display;
 use std::hash::{DefaultHasher, Hash, Hasher};
@@ -15,19 +12,10 @@ use std::test::Fail;
 
 /// Texts in the order of their bytes: the longer `aa` stands below `b`, and letters past ASCII
 /// above all others.
-const RISING: &[&str] = &[
-    "",
-    "Z",
-    "a",
-    "a text of a field that is not a short one",
-    "a text of a field that stands behind it",
-    "aa",
-    "b",
-    "é",
-    "日本",
-];
+const RISING: &str = "|Z|a|a text of a field that is not a short one|\
+    a text of a field that stands behind it|aa|b|é|日本";
 
-pub(crate) fn hash_of<T: Hash>(value: &T) -> u64 {
+pub(super) fn hash_of<T: Hash>(value: &T) -> u64 {
     let mut state = DefaultHasher::new();
     value.hash(&mut state);
     state.finish()
@@ -37,7 +25,7 @@ pub(crate) fn hash_of<T: Hash>(value: &T) -> u64 {
 fn compare_as_texts<T: Ord + Hash>(one: &T, other: &T, i: usize, j: usize) -> bool {
     (one == other) == (i == j)
         && one.cmp(other) == i.cmp(&j)
-        && (i != j || hash_of(one) == hash_of(other))
+        && (hash_of(one) == hash_of(other)) == (i == j)
 }
 
 // Whether the field prints as the text does.
@@ -85,7 +73,7 @@ fn are_texts<K: Drop>(
     Ok(are_texts && stand_for_texts(alloc, (&borrowed, &owned), one, other))
 }
 
-// The same of each field type.
+// Whether that holds for each field type.
 fn are_all_texts(
     alloc: Global,
     heap: Heap<'_>,
@@ -107,60 +95,14 @@ fn are_all_texts(
 #[test]
 fn each_field_is_a_text(rt: HostRuntime) -> Result<(), Fail> {
     let heap = empty_heap(rt.alloc());
-    for (i, one) in RISING.iter().enumerate() {
-        for (j, other) in RISING.iter().enumerate() {
+    for (i, one) in RISING.split('|').enumerate() {
+        for (j, other) in RISING.split('|').enumerate() {
             assert!(rt;
-                are_all_texts(rt.alloc(), &heap, (i, *one), (j, *other))?,
-                "{one} and {other}"
+                are_all_texts(rt.alloc(), &heap, (i, one), (j, other))?,
+                "{one} {other}"
             );
         }
     }
-    assert!(rt; has_every_block(heap));
+    assert!(rt; has_every_block(heap) && RISING.split('|').count() == 9);
     Ok(())
-}
-
-/// Whether the copy was refused, by the refusal that lay ahead.
-pub(crate) fn is_refused<T: Drop>(copy: Result<T, AllocError>, heap: Heap<'_>) -> bool {
-    copy.is_err() && heap.has_refused()
-}
-
-// Whether a borrowed field is copied with no growth, and an owned one of the same text with one
-// growth; if that is refused, so is the copy, and the field stays.
-fn are_copied<'h, K: Drop>(
-    borrowed: &Field<'static, K, Heap<'h>>,
-    owned: &Field<'static, K, Heap<'h>>,
-    heap: Heap<'h>,
-) -> bool {
-    let is_free = holds(gives(borrowed.try_clone(heap), borrowed));
-    heap.refuse(1);
-    let is_refused = is_refused(owned.try_clone(heap), heap);
-    let stays = owned == borrowed;
-    heap.refuse(2);
-    let is_copied = holds(gives(owned.try_clone(heap), borrowed));
-    is_free && is_refused && stays && is_copied && !heap.has_refused()
-}
-
-fn is_copied<K: Drop>(heap: Heap<'_>) -> Result<bool, AllocError> {
-    let text = owned(heap, "é")?;
-    let owned = Field::<'static, K, Heap<'_>>::new(text);
-    Ok(are_copied(&Field::new_const("é"), &owned, heap))
-}
-
-#[test]
-fn each_copy_may_be_refused(rt: HostRuntime) {
-    let heap = empty_heap(rt.alloc());
-    all_hold(
-        &rt,
-        &[
-            ("a triple", holds(is_copied::<TripleKind>(&heap))),
-            ("an ABI", holds(is_copied::<AbiKind>(&heap))),
-            ("an architecture", holds(is_copied::<ArchKind>(&heap))),
-            ("a vendor", holds(is_copied::<VendorKind>(&heap))),
-            ("a system", holds(is_copied::<OsKind>(&heap))),
-            ("a family", holds(is_copied::<FamilyKind>(&heap))),
-            ("an environment", holds(is_copied::<EnvKind>(&heap))),
-            ("a panic strategy", holds(is_copied::<PanicKind>(&heap))),
-        ],
-    );
-    assert!(rt; has_every_block(heap));
 }

@@ -25,11 +25,9 @@ impl Numbers {
         self.next() as usize % bound.max(1)
     }
 
-    /// One of the texts.
-    pub(super) fn one_of(&mut self, texts: &'static [&'static str]) -> &'static str {
-        match texts.get(self.below(texts.len())) {
-            Some(text) => *text,
-            None => "",
-        }
+    /// One of the texts, which are divided by `|`.
+    pub(super) fn one_of(&mut self, texts: &'static str) -> &'static str {
+        let place = self.below(texts.split('|').count());
+        texts.split('|').nth(place).unwrap_or("")
     }
 }

@@ -1,0 +1,10 @@
+-- A target of which two things are known.
+use Rattle.std.specs.Prelude.{ℕ, Bool, false, List, ◌==◌}
+use Rattle.std.specs.Str.{bytes_eq}
+use Rattle.cfgx_grammar.specs.Question.{TargetQuestion}
+
+-- whether a board of this system and these bits meets a predicate: it knows nothing of others
+abbrev pub board_meets : List ℕ → ℕ → TargetQuestion → Bool
+board_meets os pointer_width (TargetQuestion.os text) = bytes_eq os text
+board_meets os pointer_width (TargetQuestion.pointer_width bits) = pointer_width == bits
+board_meets os pointer_width _ = false

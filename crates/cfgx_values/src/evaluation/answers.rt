@@ -1,0 +1,146 @@
+//! The values of a condition over one list of answers, however they are asked for.
+use cfg_expr::expr::Logic;
+use cfg_expr::expr::logic::Kleene64;
+use cfg_expr::{Expression, Predicate};
+use std::alloc::{AllocError, Global};
+
+/// What a digit of a row stands for: `1`, `0`, or anything else for unknown.
+pub(crate) fn answer_of(digit: u8) -> Option<bool> {
+    match digit {
+        b'1' => Some(true),
+        b'0' => Some(false),
+        _ => None,
+    }
+}
+
+/// The same answer in each lane.
+pub(crate) fn in_each(answer: Option<bool>) -> Kleene64 {
+    match answer {
+        Some(true) => Kleene64::top(),
+        Some(false) => Kleene64::bottom(),
+        None => Kleene64::new(0, 0),
+    }
+}
+
+/// Whether the digits stand for the lanes, one for each, and the last one for all others.
+pub(crate) fn are_lanes(lanes: Kleene64, digits: &[u8]) -> bool {
+    for i in 0..64 {
+        let digit = digits.get(i).or(digits.last());
+        if lanes.lane(i) != digit.copied().and_then(answer_of) {
+            return false;
+        }
+    }
+    true
+}
+
+/// The value over the answers, one after another.
+pub(crate) fn value_with<T: Logic + Copy>(
+    alloc: Global,
+    expression: &Expression,
+    answers: &[T],
+    otherwise: T,
+) -> Result<T, AllocError> {
+    let mut left = answers.iter();
+    let mut answer = |_predicate: &Predicate<'_>| left.next().copied().unwrap_or(otherwise);
+    expression.eval(alloc, &mut answer)
+}
+
+/// The value in lanes, if there is one answer for each predicate.
+pub(crate) fn value_in_lanes(
+    alloc: Global,
+    expression: &Expression,
+    answers: &[Kleene64],
+) -> Option<Kleene64> {
+    if expression.predicates().left() == answers.len() {
+        expression.eval_lanes(alloc, answers).ok()
+    } else {
+        None
+    }
+}
+
+// Whether it has each answer that is known.
+fn is_filling(filling: &[bool], answers: &[Option<bool>]) -> bool {
+    for (value, answer) in filling.iter().zip(answers) {
+        if answer.unwrap_or(*value) != *value {
+            return false;
+        }
+    }
+    filling.len() == answers.len()
+}
+
+// Whether this is a filling of the answers that leads to the value.
+fn leads_to(
+    alloc: Global,
+    expression: &Expression,
+    answers: &[Option<bool>],
+    filling: &[bool],
+    value: bool,
+) -> Result<bool, AllocError> {
+    let found = value_with(alloc, expression, filling, !value)?;
+    Ok(found == value && is_filling(filling, answers))
+}
+
+// Whether these are fillings of the answers that lead to true and to false.
+fn lead_to_both(
+    alloc: Global,
+    expression: &Expression,
+    answers: &[Option<bool>],
+    with_true: &[bool],
+    with_false: &[bool],
+) -> Result<bool, AllocError> {
+    Ok(
+        leads_to(alloc, expression, answers, with_true, true)?
+            && leads_to(alloc, expression, answers, with_false, false)?,
+    )
+}
+
+/// Whether there are two fillings exactly if the value is unknown, one for each truth value.
+pub(crate) fn are_fillings(
+    alloc: Global,
+    expression: &Expression,
+    answers: &[Option<bool>],
+    value: Option<bool>,
+) -> Result<bool, AllocError> {
+    if expression.predicates().left() != answers.len() {
+        return Ok(false);
+    }
+    match expression.polar_fillings(alloc, answers)? {
+        Some((with_true, with_false)) if value.is_none() => lead_to_both(
+            alloc,
+            expression,
+            answers,
+            with_true.as_slice(),
+            with_false.as_slice(),
+        ),
+        Some(_) => Ok(false),
+        None => Ok(value.is_some()),
+    }
+}
+
+// Whether the value over these answers in each lane is this one in each lane.
+fn agrees_in_lanes(
+    alloc: Global,
+    expression: &Expression,
+    answers: &[Option<bool>],
+    value: Option<bool>,
+) -> Result<bool, AllocError> {
+    let mut lanes = Vec::with_capacity(alloc, answers.len())?;
+    for answer in answers {
+        lanes.push(in_each(*answer))?;
+    }
+    Ok(value_in_lanes(alloc, expression, lanes.as_slice()) == Some(in_each(value)))
+}
+
+/// Whether this is the value over the answers, by each of the three calls.
+pub(crate) fn agree(
+    alloc: Global,
+    expression: &Expression,
+    answers: &[Option<bool>],
+    value: Option<bool>,
+) -> Result<bool, AllocError> {
+    Ok(
+        value_with(alloc, expression, answers, None)? == value
+            && agrees_in_lanes(alloc, expression, answers, value)?
+            && are_fillings(alloc, expression, answers, value)?,
+    )
+}

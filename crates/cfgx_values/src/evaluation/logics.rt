@@ -1,0 +1,88 @@
+//! Logics of which no law holds, and the lanes of `Kleene64`.
+use cfg_expr::expr::Logic;
+use cfg_expr::expr::logic::Kleene64;
+use cfg_expr::{Expression, Predicate};
+use cfgx_testing::holding::first_wrong;
+use std::alloc::Global;
+
+/// A logic whose `and` is its second value, and whose `or` is its first one.
+#[derive(Clone, Copy, PartialEq, Debug)]
+struct Sided(u64);
+
+impl Logic for Sided {
+    ghost use Rattle.std.proofs.Common.{lit≤};
+
+    ghost top = { record { 0 = 1 } };
+
+    ghost bottom = { record { 0 = 2 } };
+
+    ghost and = { λ one other. other };
+
+    ghost or = { λ one other. one };
+
+    ghost not = { λ one. one };
+
+    ghost small = { (lit≤ tt, lit≤ tt) };
+
+    fn top() -> Sided {
+        Sided(1)
+    }
+
+    fn bottom() -> Sided {
+        Sided(2)
+    }
+
+    fn and(self, other: Sided) -> Sided {
+        other
+    }
+
+    fn or(self, _other: Sided) -> Sided {
+        self
+    }
+
+    fn not(self) -> Sided {
+        self
+    }
+}
+
+// The value if `a` is 5, `b` is 7, and all else is 9, and how many questions it takes.
+fn value(alloc: Global, text: &str) -> Option<(Sided, usize)> {
+    let expression = Expression::parse(alloc, text).ok()?;
+    let mut count = 0usize;
+    let mut answer = |predicate: &Predicate<'_>| {
+        count = count.saturating_add(1);
+        match predicate {
+            Predicate::Flag("a") => Sided(5),
+            Predicate::Flag("b") => Sided(7),
+            _ => Sided(9),
+        }
+    };
+    let value: Sided = expression.eval(alloc, &mut answer).ok()?;
+    Some((value, count))
+}
+
+// The answer to `a` is joined last. What `any` joins never counts, and is asked all the same.
+#[test]
+fn no_law_is_needed(rt: HostRuntime) {
+    assert_eq!(rt; value(rt.alloc(), "all(a, b, c)"), Some((Sided(5), 3)));
+    assert_eq!(rt; value(rt.alloc(), "any(a, b)"), Some((Sided(2), 2)));
+}
+
+#[test]
+fn lanes_are_joined_one_by_one(rt: HostRuntime) {
+    let three = Kleene64::new(0b001, 0b010);
+    let wrong = first_wrong(&[
+        ("lane 0", three.lane(0) == Some(true)),
+        ("lane 1", three.lane(1) == Some(false)),
+        ("lane 2", three.lane(2).is_none()),
+        ("lane 63", three.lane(63).is_none()),
+        ("and", three.and(three.not()) == Kleene64::new(0, 0b011)),
+        ("or", three.or(three.not()) == Kleene64::new(0b011, 0)),
+        (
+            "true lanes",
+            three.is_true() == 0b001 && three.is_false() == 0b010,
+        ),
+        ("other lanes", three != Kleene64::new(1, 0)),
+    ]);
+    assert_eq!(rt; wrong, None);
+}

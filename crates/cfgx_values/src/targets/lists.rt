@@ -1,0 +1,128 @@
+//! Lists of families and of widths, the readers of widths and of byte orders, and what they print.
+use cfg_expr::error::Reason;
+use cfg_expr::targets::{
+    Abi, Endian, Families, Family, HasAtomic, HasAtomicFailure, HasAtomics, Os, rustc_version,
+};
+use cfgx_testing::holding::{first_wrong, holds, prints};
+use cfgx_testing::rows::passing;
+use std::alloc::{AllocError, Global};
+
+/// Names of families, and what their list prints.
+const FAMILIES: &str = r#"
+wasm unix | {unix, wasm}
+unix unix | {unix, unix}
+j a i b h c g d f e | {a, b, c, d, e, f, g, h, i, j}
+\e | {}
+"#;
+
+fn families_of<'a>(alloc: Global, names: &'a str) -> Result<Vec<Family<'a>>, AllocError> {
+    let mut families = Vec::new(alloc);
+    for name in names.split_whitespace() {
+        families.push(Family::new_const(name))?;
+    }
+    Ok(families)
+}
+
+// Whether the list of these families prints the text.
+fn lists(alloc: Global, names: &str, text: &str) -> Result<bool, AllocError> {
+    let families = families_of(alloc, names)?;
+    let list = Families::new(alloc, families.into_iter())?;
+    Ok(prints(alloc, &list, text))
+}
+
+fn is_list(alloc: Global, row: &[String]) -> bool {
+    match row {
+        [names, text] => holds(lists(alloc, names.as_str(), text.as_str())),
+        _ => false,
+    }
+}
+
+#[test]
+fn lists_of_families_are_sorted(rt: HostRuntime) {
+    let rows = passing(rt.alloc(), FAMILIES, |row| is_list(rt.alloc(), row));
+    assert_eq!(rt; rows, Ok(4));
+}
+
+const EIGHT: HasAtomic = HasAtomic::IntegerSize(8);
+
+const POINTER_FIRST: &[HasAtomic] = &[HasAtomic::Pointer, HasAtomic::IntegerSize(64), EIGHT];
+
+fn lists_widths(alloc: Global) -> Result<bool, AllocError> {
+    let list = HasAtomics::new(alloc, POINTER_FIRST.iter().copied())?;
+    Ok(prints(alloc, &list, "{8, 64, ptr}"))
+}
+
+/// Texts of widths, and what these print, or `no` if the text is none.
+const WIDTHS: &str = r#"
++8 | 8
+0 | 0
+64 | 64
++64 | 64
+064 | 64
++0000000064 | 64
+65535 | 65535
+ptr | ptr
+65536 | no
+PTR | no
+\e | no
++ | no
+-0 | no
+++1 | no
+\u{20}64 | no
+6 4 | no
+0x40 | no
+٣ | no
+ptr\u{20} | no
++ptr | no
+more bytes than any width is written with, and more than a short text has | no
+"#;
+
+// Whether the text is read as the width that prints this, or refused by a fault that prints it.
+fn reads(alloc: Global, text: &str, printed: &str) -> Result<bool, AllocError> {
+    match HasAtomic::read(alloc, text) {
+        Ok(width) => Ok(prints(alloc, &width, printed)),
+        Err(HasAtomicFailure::Parse(error)) if printed == "no" => {
+            let fault = format!(in alloc; "expected integer or \"ptr\", found {text}")?;
+            Ok(prints(alloc, &error, fault.as_str()))
+        }
+        Err(_) => Ok(false),
+    }
+}
+
+fn is_read(alloc: Global, row: &[String]) -> bool {
+    match row {
+        [text, printed] => holds(reads(alloc, text.as_str(), printed.as_str())),
+        _ => false,
+    }
+}
+
+#[test]
+fn widths_are_read(rt: HostRuntime) {
+    let rows = passing(rt.alloc(), WIDTHS, |row| is_read(rt.alloc(), row));
+    assert_eq!(rt; rows, Ok(21));
+}
+
+#[test]
+fn widths_are_sorted_and_byte_orders_read(rt: HostRuntime) {
+    let both = Reason::Unexpected(&["big", "little"]);
+    let wrong = first_wrong(&[
+        ("printed", holds(lists_widths(rt.alloc()))),
+        (
+            "falling",
+            !HasAtomics::is_sorted(&[HasAtomic::Pointer, EIGHT]),
+        ),
+        ("level", HasAtomics::is_sorted(&[EIGHT, EIGHT])),
+        ("nothing", HasAtomics::is_sorted(&[])),
+        ("big", "big".parse::<Endian>() == Ok(Endian::big)),
+        ("little", "little".parse::<Endian>() == Ok(Endian::little)),
+        ("Big", "Big".parse::<Endian>() == Err(both)),
+    ]);
+    assert_eq!(rt; wrong, None);
+}
+
+#[test]
+fn what_rust_knows_of_targets(rt: HostRuntime) {
+    assert!(rt; prints(rt.alloc(), &Abi::<Global>::vec_extabi(), "vec-extabi"));
+    assert!(rt; prints(rt.alloc(), &Os::<Global>::solid_asp3(), "solid_asp3"));
+    assert!(rt; rustc_version() == "1.99.0");
+}
