@@ -9,8 +9,6 @@ pub mod auditing;
 #[cfg(test)]
 pub mod calling;
 #[cfg(test)]
-mod commands;
-#[cfg(test)]
 mod deep;
 #[cfg(test)]
 mod errors;
@@ -28,8 +26,6 @@ mod holding;
 #[cfg(test)]
 mod in_turn;
 #[cfg(test)]
-mod input;
-#[cfg(test)]
 mod lanes;
 #[cfg(test)]
 mod lexer;
@@ -37,8 +33,6 @@ mod lexer;
 mod named;
 #[cfg(test)]
 mod nodes;
-#[cfg(test)]
-mod picking;
 #[cfg(test)]
 mod program;
 #[cfg(test)]
@@ -51,8 +45,6 @@ pub mod respelling;
 mod rust_crate;
 #[cfg(test)]
 mod spelling;
-#[cfg(test)]
-mod streams;
 #[cfg(test)]
 mod targets;
 #[cfg(test)]
