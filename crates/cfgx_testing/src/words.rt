@@ -93,10 +93,12 @@ fn is_run(alloc: Global, row: &[String]) -> bool {
     let [status, written, words @ ..] = row else {
         return false;
     };
-    words_of(alloc, words).is_ok_and(
-        |words| status.parse().is_ok_and(
-            |status| is_answer(alloc, words.as_slice(), status, written.as_str())),
-    )
+    words_of(alloc, words).is_ok_and(|words| status.parse().is_ok_and(|status| is_answer(
+        alloc,
+        words.as_slice(),
+        status,
+        written.as_str(),
+    )))
 }
 
 /// How many rows the table has, if a run with the words of each row ends and writes as the row
