@@ -158,8 +158,8 @@ aarch64-apple-ios-sim | 0 | SECTIONS | VERDICTS
 aarch64-apple-ios | 0 | SECTIONS | a\tno\nb\tunknown\n\ttrue with 01\n\tfalse with 00\nc\tno\n
 aarch64-apple-darwin | 0 | a\ttarget_os = "macos"\nb\ttarget_abi = ""\nc\ttarget_os = "ios" | \
 a\tyes\nb\tyes\nc\tno\n
-aarch64-apple-ios-macabi | 0 | a\ttarget_env = "macabi"\nb\ttarget_abi = ""\nc\ttarget_os = "ios" | \
-a\tyes\nb\tno\nc\tyes\n
+aarch64-apple-ios-macabi | 0 | \
+a\ttarget_env = "macabi"\nb\ttarget_abi = ""\nc\ttarget_os = "ios" | a\tyes\nb\tno\nc\tyes\n
 aarch64-apple-tvos | 0 | a\ttarget_os = "tvos"\nb\tall(feature = "x", unix) | \
 a\tyes\nb\tunknown\n\ttrue with 11\n\tfalse with 01\n
 aarch64-apple-ios | 0 | a\tunix | a\tyes\n
