@@ -9,3 +9,4 @@ pub mod rows;
 pub mod streams;
 pub mod texts;
 pub mod triples;
+pub mod words;

@@ -47,6 +47,9 @@ pub struct Pieces<'a> {
     pub reads: u64,
     /// How many of them failed
     pub failures: u64,
+    has_ended: bool,
+    /// Whether a read was of an empty buffer, or came after one that failed or met the end
+    pub is_misused: bool,
 }
 
 impl Pieces<'_> {
@@ -60,7 +63,14 @@ impl Pieces<'_> {
             failing_read,
             reads: 0,
             failures: 0,
+            has_ended: false,
+            is_misused: false,
         }
+    }
+
+    /// Whether all was read, with no failed call.
+    pub fn is_read_whole(&self) -> bool {
+        self.left.is_empty() && self.failures == 0 && !self.is_misused
     }
 }
 
@@ -74,9 +84,12 @@ impl io::Read for Pieces<'_> {
         ensures kept { self.new.failures ≡ self.old.failures }
     {
         self.reads = self.reads.saturating_add(1);
+        self.is_misused |= buffer.is_empty() || self.has_ended;
         if self.reads == self.failing_read {
+            self.has_ended = true;
             return Err(interrupted());
         }
+        self.has_ended = self.left.is_empty();
         let count = buffer.len().min(self.each.max(1)).min(self.left.len());
         let (front, beyond) = self.left.split_at(count);
         buffer[..count].copy_from_slice(front);
@@ -96,6 +109,30 @@ impl Source for Pieces<'_> {
             self.failures += 1;
         }
         answer
+    }
+}
+
+/// A source of so many bytes, which are what the buffer holds, at most `each` of them a call.
+#[derive(Drop)]
+pub struct Counting {
+    /// How many bytes are still to come
+    pub left: usize,
+    /// The most bytes of a call
+    pub each: usize,
+}
+
+impl Source for Counting {
+    ghost use Rattle.std.specs.Prelude.{None};
+
+    ghost failures = { λ _. 0 };
+
+    // So it says no more than how many there are: the bytes that are read are proved.
+    ghost unread = { λ _. None };
+
+    fn read(&mut self, buffer: &mut [u8]) -> io::Result<usize> {
+        let count = buffer.len().min(self.each).min(self.left);
+        self.left -= count;
+        Ok(count)
     }
 }
 

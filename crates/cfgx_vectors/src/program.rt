@@ -1,78 +1,69 @@
-//! What a run of the program writes, and its status.
-use crate::streams::{USAGE, is_answer};
+//! Runs of the program: what they write, their statuses, and the calls of their streams.
+mod counted;
+mod eval;
+mod failing;
+mod input;
+mod long;
+mod parse;
+mod pick;
+mod reading;
+mod target;
+mod usage;
 
-const ROWS: &[(&[&str], &str, u8)] = &[
-    (&["parse", "all(a, any(b), c)"], "b\na\nc\n", 0),
-    (&["parse", "cfg(key)"], "key\n", 0),
-    (&["parse", "cfg(unix)"], "target_family = \"unix\"\n", 0),
-    (&["parse", "all()"], "", 0),
-    (
-        &["parse", "not(a, b)"],
-        "not(a, b)\n^^^^^^^^^ not() takes 1 predicate, found 2\n",
-        1,
-    ),
-    (&["parse", "key)"], "key)\n   ^ unopened parens\n", 1),
-    (&["parse", "not(key"], "not(key\n   - unclosed parens\n", 1),
-    (
-        &["parse", "foo ("],
-        "foo (\n    ^ expected one of `=`, `,`, `)` here\n",
-        1,
-    ),
-    (
-        &["parse", "key ="],
-        "key =\n      expected a `\"<value>\"` here\n",
-        1,
-    ),
-    (
-        &["parse", "a, target_os"],
-        "a, target_os\n   ^^^^^^^^^ expected a `= \"<target_cfg_value>\"` here\n",
-        1,
-    ),
-    (
-        &["parse", "cfg(a) b"],
-        "cfg(a) b\n   ^ expected one of `=`, `,`, `)` here\n",
-        1,
-    ),
-    (&["parse", "cfg(b))"], "b)\n ^ unopened parens\n", 1),
-    (
-        &["parse", "key = \"abc"],
-        "key = \"abc\n      - unclosed quotes\n",
-        1,
-    ),
-    (
-        &["parse", "unix = \"x\""],
-        "unix = \"x\"\n        ^ the term was not expected here\n",
-        1,
-    ),
-    (
-        &["parse", "target_endian = \"Big\""],
-        "target_endian = \"Big\"\n                 ^^^ invalid integer\n",
-        1,
-    ),
-    (
-        &["parse", "target_has_atomic = \"8x\""],
-        "target_has_atomic = \"8x\"\n                     ^^ expected integer or \"ptr\"\n",
-        1,
-    ),
-    (
-        &["parse", "a,é"],
-        "a,é\n  ^ expected one of `<key>`, `all`, `any`, `not` here\n",
-        1,
-    ),
-    (&["parse", ""], "\n empty expression\n", 1),
-    (&["parse"], USAGE, 2),
-    (&[], USAGE, 2),
-    (&["parse", "a", "b"], USAGE, 2),
-    (&["Parse", "a"], USAGE, 2),
-    (&["pick", "aarch64-apple-ios"], "", 0),
-    (&["pick", "nowhere"], "unknown triple\n", 2),
-    (&["pick", ""], "unknown triple\n", 2),
-    (&["Pick", "aarch64-apple-ios"], USAGE, 2),
+use cfgx_engine::engine::run;
+use cfgx_testing::streams::{Pieces, Recorder, is_written};
+use cfgx_testing::words::passing_texts;
+use std::alloc::Global;
+
+// Rows of runs that read nothing.
+const UNREAD: &[&str] = &[
+    parse::RUNS,
+    eval::VALUES,
+    eval::FAULTS,
+    target::VALUES,
+    target::FAULTS,
+    usage::WRONG_USE,
+    usage::UNKNOWN_TRIPLES,
 ];
 
-#[test]
-fn writes_its_output_and_ends_with_its_status(rt: HostRuntime) {
-    for (words, written, status) in ROWS {
-        assert!(rt; is_answer(rt.alloc(), words, *status, written), "{words:?}");
-    }
+// The status, an input of each kind, and what is written of it on the simulator.
+const KINDS: &str = r#"
+0 | SECTIONS | VERDICTS
+1 | x | line 1: no tab\n
+1 | a\tunix\n\nb\tkey)\n | line 3:\nkey)\n   ^ unopened parens\n
+0 | m\tany(not(feature = "x"), target_os = "linux", test) | \
+m\tunknown\n\ttrue with 001\n\tfalse with 100\n
+0 | é\ttrue\r\n\r\n | é\tyes\n
+0 | \e | \e
+"#;
+
+// Whether a run of `pick` over the input, of which each read gives and each write takes at most
+// `each` bytes, reads it to its end, writes this, and ends with this status.
+fn is_picked(alloc: Global, triple: &str, each: usize, input: &[u8], ended: (&str, u8)) -> bool {
+    let (written, status) = ended;
+    let mut source = Pieces::new(input, each, 0);
+    let mut sink = Recorder::new(alloc);
+    sink.each = each;
+    let found = run(alloc, &["pick", triple], &mut source, &mut sink);
+    is_written(&sink, written.as_bytes()) && found == status && source.is_read_whole()
+}
+
+// The same of a row: the status, the input, and what is written.
+fn is_row_picked(alloc: Global, triple: &str, each: usize, row: &[String]) -> bool {
+    let [status, input, written] = row else {
+        return false;
+    };
+    let input = input.as_bytes();
+    status.parse().is_ok_and(|status| is_picked(
+        alloc,
+        triple,
+        each,
+        input,
+        (written.as_str(), status),
+    ))
+}
+
+// How many rows the table has, if each is picked so; otherwise the first that is not.
+fn passing_inputs(alloc: Global, triple: &str, each: usize, table: &str) -> Result<usize, String> {
+    passing_texts(alloc, table, |row| is_row_picked(alloc, triple, each, row))
 }

@@ -1,0 +1,192 @@
+//! The first failed call of a stream is the last call of both streams.
+use super::{KINDS, UNREAD};
+use cfgx_engine::engine::run;
+use cfgx_testing::streams::{ALL, Pieces, Recorder, is_left_so};
+use cfgx_testing::triples::SIM;
+use cfgx_testing::words::{passing_texts, words_of};
+use std::alloc::Global;
+
+// What the sink is set to, the status, what is written, how many calls there are of `write` and of
+// `flush`, the input, and the words.
+const ENDINGS: &str = r#"
+\e | 0 | b\na\nc\n | 1 1 | \e | parse | all(a, any(b), c)
+each=1 | 0 | b\na\nc\n | 6 1 | \e | parse | all(a, any(b), c)
+each=4 | 0 | b\na\nc\n | 2 1 | \e | parse | all(a, any(b), c)
+each=2 failing=2 | 3 | b\n | 2 0 | \e | parse | all(a, any(b), c)
+room=4 | 3 | b\na\n | 2 0 | \e | parse | all(a, any(b), c)
+flush=1 | 3 | b\na\nc\n | 1 1 | \e | parse | all(a, any(b), c)
+each=1 flush=1 | 3 | b\na\nc\n | 6 1 | \e | parse | all(a, any(b), c)
+\e | 0 | \e | 0 1 | \e | parse | all()
+flush=1 | 3 | \e | 0 1 | \e | parse | all()
+failing=1 | 3 | \e | 1 0 | \e | parse | key)
+\e | 0 | VERDICTS | 1 1 | SECTIONS | pick | aarch64-apple-ios-sim
+each=1 | 0 | VERDICTS | 50 1 | SECTIONS | pick | aarch64-apple-ios-sim
+each=7 | 0 | VERDICTS | 8 1 | SECTIONS | pick | aarch64-apple-ios-sim
+each=7 failing=3 | 3 | a\tyes\nb\tunknow | 3 0 | SECTIONS | pick | aarch64-apple-ios-sim
+room=6 | 3 | a\tyes\n | 2 0 | SECTIONS | pick | aarch64-apple-ios-sim
+failing=1 | 3 | \e | 1 0 | SECTIONS | pick | aarch64-apple-ios-sim
+flush=1 | 3 | VERDICTS | 1 1 | SECTIONS | pick | aarch64-apple-ios-sim
+each=1 flush=1 | 3 | VERDICTS | 50 1 | SECTIONS | pick | aarch64-apple-ios-sim
+failing=1 | 0 | \e | 0 1 | \e | pick | aarch64-apple-ios-sim
+flush=1 | 3 | \e | 0 1 | \e | pick | aarch64-apple-ios-sim
+failing=1 | 3 | \e | 1 0 | x | pick | aarch64-apple-ios-sim
+flush=1 | 3 | line 1: no tab\n | 1 1 | x | pick | aarch64-apple-ios-sim
+// A write that takes no byte has failed.
+empty=1 | 3 | \e | 1 0 | \e | parse | all(a, any(b), c)
+each=2 empty=2 | 3 | b\n | 2 0 | \e | parse | all(a, any(b), c)
+each=7 empty=3 | 3 | a\tyes\nb\tunknow | 3 0 | SECTIONS | pick | aarch64-apple-ios-sim
+"#;
+
+// A sink with these settings, such as `each=7` if it takes at most seven bytes a call.
+fn sink_of(alloc: Global, settings: &str) -> Option<Recorder> {
+    let mut sink = Recorder::new(alloc);
+    for setting in settings.split_whitespace() {
+        let (name, number) = setting.split_once('=')?;
+        let number = number.parse::<usize>().ok()?;
+        match name {
+            "each" => sink.each = number,
+            "room" => sink.room = number,
+            "failing" => sink.failing_write = number as u64,
+            "empty" => sink.empty_write = number as u64,
+            "flush" => sink.is_flush_failing = true,
+            _ => return None,
+        }
+    }
+    Some(sink)
+}
+
+// Whether a run over the input leaves the sink so. Only the sink fails.
+fn leaves_so(alloc: Global, words: &[&str], row: &[String]) -> Option<bool> {
+    let [settings, status, written, calls, input, ..] = row else {
+        return None;
+    };
+    let (writes, flushes) = calls.split_once(' ')?;
+    let calls = (writes.parse().ok()?, flushes.parse().ok()?);
+    let mut sink = sink_of(alloc, settings.as_str())?;
+    if sink.failures > 0 {
+        return None;
+    }
+    let mut source = Pieces::new(input.as_bytes(), ALL, 0);
+    let found = run(alloc, words, &mut source, &mut sink);
+    let failures = if found == 3 { 1 } else { 0 };
+    let is_left = is_left_so(&sink, written.as_bytes(), calls, failures);
+    Some(is_left && status.parse() == Ok(found) && source.is_read_whole())
+}
+
+fn ends_so(alloc: Global, row: &[String]) -> bool {
+    let [_, _, _, _, _, words @ ..] = row else {
+        return false;
+    };
+    words_of(alloc, words).is_ok_and(|words| leaves_so(alloc, words.as_slice(), row) == Some(true))
+}
+
+#[test]
+fn no_call_follows_a_failed_one(rt: HostRuntime) {
+    let alloc = rt.alloc();
+    let passed = passing_texts(alloc, ENDINGS, |row| ends_so(alloc, row));
+    assert_eq!(rt; passed, Ok(25));
+}
+
+// Whether a run over the input whose write of this number fails, counted from 0, ends with status
+// 3 and has written these bytes of the output, one a call.
+fn ends_at_write(
+    alloc: Global,
+    words: &[&str],
+    input: &str,
+    failing: usize,
+    written: &[u8],
+) -> bool {
+    let mut source = Pieces::new(input.as_bytes(), ALL, 0);
+    let mut sink = Recorder::new(alloc);
+    sink.each = 1;
+    sink.failing_write = (failing as u64).saturating_add(1);
+    let status = run(alloc, words, &mut source, &mut sink);
+    let is_left = is_left_so(&sink, written, (sink.failing_write, 0), 1);
+    is_left && status == 3 && source.is_read_whole()
+}
+
+// Whether each write of this output that fails ends the run: what went out is to be the bytes
+// before it, and nothing is to be written after them, nor flushed.
+fn ends_at_each_write(alloc: Global, words: &[&str], input: &str, output: &[u8]) -> bool {
+    for failing in 0..output.len() {
+        if !ends_at_write(alloc, words, input, failing, &output[..failing]) {
+            return false;
+        }
+    }
+    true
+}
+
+fn writes_fail_in_turn(alloc: Global, row: &[String]) -> bool {
+    let [_, written, words @ ..] = row else {
+        return false;
+    };
+    words_of(alloc, words).is_ok_and(|words| ends_at_each_write(
+        alloc,
+        words.as_slice(),
+        "",
+        written.as_bytes(),
+    ))
+}
+
+#[test]
+fn no_call_follows_a_failed_write(rt: HostRuntime) {
+    let alloc = rt.alloc();
+    for table in UNREAD {
+        let passed = passing_texts(alloc, table, |row| writes_fail_in_turn(alloc, row));
+        assert!(rt; passed.is_ok(), "{passed:?}");
+    }
+}
+
+fn writes_of_pick_fail_in_turn(alloc: Global, row: &[String]) -> bool {
+    let [_, input, written] = row else {
+        return false;
+    };
+    ends_at_each_write(alloc, &["pick", SIM], input.as_str(), written.as_bytes())
+}
+
+#[test]
+fn no_call_follows_a_failed_write_of_pick(rt: HostRuntime) {
+    let alloc = rt.alloc();
+    let passed = passing_texts(alloc, KINDS, |row| writes_of_pick_fail_in_turn(alloc, row));
+    assert_eq!(rt; passed, Ok(6));
+}
+
+// Whether a run over the input whose read of this number fails ends with status 3, reads no more,
+// and calls a sink that would fail too not once.
+fn ends_at_read(alloc: Global, input: &[u8], failing: u64, left: &[u8]) -> bool {
+    let mut source = Pieces::new(input, 3, failing);
+    let mut sink = Recorder::new(alloc);
+    sink.failing_write = 1;
+    sink.is_flush_failing = true;
+    let status = run(alloc, &["pick", SIM], &mut source, &mut sink);
+    let calls = (source.reads, source.failures);
+    is_left_so(&sink, b"", (0, 0), 0) && status == 3 && calls == (failing, 1) && source.left == left
+}
+
+// Whether each read of the input that fails ends the run. Each has three bytes, and the last one
+// meets the end.
+fn ends_at_each_read(alloc: Global, input: &[u8]) -> bool {
+    let mut left = input;
+    for failing in 1..u64::MAX {
+        if !ends_at_read(alloc, input, failing, left) {
+            return false;
+        }
+        if left.is_empty() {
+            return true;
+        }
+        left = &left[left.len().min(3)..];
+    }
+    false
+}
+
+fn reads_fail_in_turn(alloc: Global, row: &[String]) -> bool {
+    row.get(1)
+        .is_some_and(|input| ends_at_each_read(alloc, input.as_bytes()))
+}
+
+#[test]
+fn no_call_follows_a_failed_read(rt: HostRuntime) {
+    let alloc = rt.alloc();
+    let passed = passing_texts(alloc, KINDS, |row| reads_fail_in_turn(alloc, row));
+    assert_eq!(rt; passed, Ok(6));
+}

@@ -1,0 +1,93 @@
+//! Only `pick` reads, to the end of its input and no further. No write is of an empty slice.
+use super::{KINDS, UNREAD, passing_inputs};
+use cfgx_engine::engine::run;
+use cfgx_testing::streams::{ALL, Pieces, Recorder, is_written};
+use cfgx_testing::triples::SIM;
+use cfgx_testing::words::{SECTIONS, passing_texts, words_of};
+use std::alloc::Global;
+
+// Whether the run reads nothing of an input, whose first read would fail, and writes one byte a
+// call.
+fn is_unread(alloc: Global, words: &[&str], input: &[u8], ended: (&str, &str)) -> bool {
+    let (status, written) = ended;
+    let mut source = Pieces::new(input, ALL, 1);
+    let mut sink = Recorder::new(alloc);
+    sink.each = 1;
+    let found = run(alloc, words, &mut source, &mut sink);
+    let calls = (source.reads, sink.writes);
+    let is_ended = status.parse() == Ok(found) && is_written(&sink, written.as_bytes());
+    is_ended && calls == (0, written.len() as u64)
+}
+
+// The same of an input of each kind.
+fn reads_nothing(alloc: Global, words: &[&str], ended: (&str, &str)) -> bool {
+    [SECTIONS.as_bytes(), b"", b"\xff", b"x"]
+        .iter()
+        .all(|input| is_unread(alloc, words, input, ended))
+}
+
+fn is_row_unread(alloc: Global, row: &[String]) -> bool {
+    let [status, written, words @ ..] = row else {
+        return false;
+    };
+    let ended = (status.as_str(), written.as_str());
+    words_of(alloc, words).is_ok_and(|words| reads_nothing(alloc, words.as_slice(), ended))
+}
+
+#[test]
+fn other_words_read_nothing(rt: HostRuntime) {
+    let alloc = rt.alloc();
+    for table in UNREAD {
+        let passed = passing_texts(alloc, table, |row| is_row_unread(alloc, row));
+        assert!(rt; passed.is_ok(), "{passed:?}");
+    }
+}
+
+#[test]
+fn no_empty_slice_is_written(rt: HostRuntime) {
+    for each in [1, 2, 3, 7] {
+        assert_eq!(rt;
+            passing_inputs(rt.alloc(), SIM, each, KINDS),
+            Ok(6),
+            "{each} bytes a call"
+        );
+    }
+}
+
+// How many bytes a read has at most, an input, and how many reads there are: the last one meets the
+// end.
+const READS: &str = r#"
+1 | \e | 1
+7 | \e | 1
+1 | \n | 2
+7 | \n | 2
+1 | a\tunix\n | 8
+2 | a\tunix\n | 5
+3 | a\tunix\n | 4
+6 | a\tunix\n | 3
+7 | a\tunix\n | 2
+8 | a\tunix\n | 2
+7 | x | 2
+1 | x\n\n | 4
+"#;
+
+// Whether a run of `pick` over the input makes so many reads, none of them after the end.
+fn has_reads(alloc: Global, row: &[String]) -> bool {
+    let [each, input, reads] = row else {
+        return false;
+    };
+    let each = each.parse().unwrap_or(0);
+    let mut source = Pieces::new(input.as_bytes(), each, 0);
+    let mut sink = Recorder::new(alloc);
+    let status = run(alloc, &["pick", SIM], &mut source, &mut sink);
+    status < 2 && source.is_read_whole() && reads.parse() == Ok(source.reads)
+}
+
+#[test]
+fn nothing_is_read_after_the_end(rt: HostRuntime) {
+    let alloc = rt.alloc();
+    assert_eq!(rt;
+        passing_texts(alloc, READS, |row| has_reads(alloc, row)),
+        Ok(12)
+    );
+}
