@@ -105,6 +105,30 @@ where
     if row.is_empty() { Ok(rows) } else { Err(row) }
 }
 
+/// The same of rows of two fields.
+pub fn passing_pairs<F>(alloc: Global, table: &str, check: F) -> Result<usize, String>
+where
+    F: Fn(&str, &str) -> bool,
+    requires { F.IsAlwaysCallable check }
+{
+    passing(alloc, table, |row| match row {
+        [one, other] => check(one.as_str(), other.as_str()),
+        _ => false,
+    })
+}
+
+/// The same of rows of three fields.
+pub fn passing_threes<F>(alloc: Global, table: &str, check: F) -> Result<usize, String>
+where
+    F: Fn(&str, &str, &str) -> bool,
+    requires { F.IsAlwaysCallable check }
+{
+    passing(alloc, table, |row| match row {
+        [one, other, third] => check(one.as_str(), other.as_str(), third.as_str()),
+        _ => false,
+    })
+}
+
 // The name of a reason, without its number and its terms.
 fn name_of(reason: Reason) -> &'static str {
     match reason {

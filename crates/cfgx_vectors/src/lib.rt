@@ -3,21 +3,13 @@
 #![tactic(auto)]
 
 #[cfg(test)]
-mod accepted;
-#[cfg(test)]
 pub mod auditing;
 #[cfg(test)]
 pub mod calling;
 #[cfg(test)]
 mod commands;
 #[cfg(test)]
-mod deep;
-#[cfg(test)]
-mod errors;
-#[cfg(test)]
 pub mod evaluating;
-#[cfg(test)]
-mod faults;
 #[cfg(test)]
 mod fields;
 pub mod filling;
@@ -32,11 +24,7 @@ mod input;
 #[cfg(test)]
 mod lanes;
 #[cfg(test)]
-mod lexer;
-#[cfg(test)]
 mod named;
-#[cfg(test)]
-mod nodes;
 #[cfg(test)]
 mod picking;
 #[cfg(test)]
@@ -48,15 +36,13 @@ pub mod refusing;
 #[cfg(test)]
 pub mod respelling;
 #[cfg(test)]
-mod rust_crate;
+mod rules;
 #[cfg(test)]
-mod spelling;
+mod rust_crate;
 #[cfg(test)]
 mod streams;
 #[cfg(test)]
 mod targets;
-#[cfg(test)]
-mod tokens;
 #[cfg(test)]
 mod turns;
 #[cfg(test)]
