@@ -12,28 +12,10 @@ mod spelling;
 mod stripping;
 mod tokens;
 
-use cfg_expr::Expression;
-use cfg_expr::error::{Failure, ParseError};
-use cfgx_testing::rows::{passing_pairs, told};
+use cfgx_testing::rows::{has_fault, passing_pairs};
 use cfgx_testing::streams::is_answer;
 use std::alloc::Global;
 use std::ops::Range;
-
-// Whether rows tell the fault so, and this is its stripped text.
-fn is_fault(alloc: Global, error: &ParseError, original: &str, wanted: &str) -> bool {
-    match told(alloc, error) {
-        Ok(told) => told.as_str() == wanted && error.original.as_str() == original,
-        Err(_) => false,
-    }
-}
-
-/// Whether the text is faulty, rows tell its fault so, and it is stripped to `original`.
-fn has_fault(alloc: Global, text: &str, original: &str, wanted: &str) -> bool {
-    match Expression::parse(alloc, text) {
-        Err(Failure::Parse(error)) => is_fault(alloc, &error, original, wanted),
-        _ => false,
-    }
-}
 
 /// How many texts of the table have their faults, or its first row that is wrong.
 fn faulty(alloc: Global, table: &str) -> Result<usize, String> {

@@ -1,10 +1,9 @@
 //! Deep, wide and long texts end in an answer.
-use super::has_fault;
 use cfg_expr::Expression;
 use cfg_expr::error::Failure;
 use cfg_expr::expr::Predicates;
 use cfgx_testing::holding::{holds, prints};
-use cfgx_testing::rows::passing;
+use cfgx_testing::rows::{has_fault, passing};
 use cfgx_testing::streams::is_answer;
 use cfgx_testing::texts::repeated;
 use std::alloc::{AllocError, Global};

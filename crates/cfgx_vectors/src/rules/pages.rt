@@ -1,9 +1,9 @@
 //! Tables of `docs/RULES.md`, word for word, which `.ci/examples` compares with the page.
+use super::is_accepted;
 use super::predicates::asks;
-use super::{has_fault, is_accepted};
 use cfgx_engine::engine::run;
 use cfgx_testing::holding::holds;
-use cfgx_testing::rows::{passing_pairs, passing_threes};
+use cfgx_testing::rows::{has_fault, passing_pairs, passing_threes};
 use cfgx_testing::streams::{ALL, Pieces, Recorder, is_written};
 use cfgx_testing::triples::SIM;
 use std::alloc::{AllocError, Global};
@@ -45,7 +45,7 @@ const FAULTS: &str = r#"
 | the empty text | `Empty` at 0..0 | 9 |
 "#;
 
-// The fault of a cell, as rows tell it: no back quotes stand around its name, and no comment follows.
+// The fault of a cell as rows tell it, with no back quotes around its name and no comment.
 fn fault_of(alloc: Global, cell: &str) -> Result<String, AllocError> {
     let fault = cell.split(';').next().unwrap_or(cell);
     fault.trim_start_matches('`').replace(alloc, "` at", " at")

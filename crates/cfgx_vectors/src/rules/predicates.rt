@@ -1,10 +1,10 @@
 //! Predicates and literals: what a key means alone and with a value.
-use super::{accepted, faulty, has_fault};
+use super::{accepted, faulty};
 use cfg_expr::error::Failure;
 use cfg_expr::expr::Predicates;
 use cfg_expr::{Expression, Predicate, TargetPredicate};
 use cfgx_testing::holding::holds;
-use cfgx_testing::rows::{passing, passing_pairs};
+use cfgx_testing::rows::{has_fault, passing, passing_pairs};
 use std::alloc::{AllocError, Global};
 
 // Texts, and what they ask.

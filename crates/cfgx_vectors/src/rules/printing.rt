@@ -1,8 +1,8 @@
 //! What a fault prints, written out by hand from the rules of the format.
-use super::{is_fault, span_of};
+use super::span_of;
 use cfg_expr::error::{Failure, ParseError, Reason};
 use cfgx_testing::holding::{gives, prints};
-use cfgx_testing::rows::passing_threes;
+use cfgx_testing::rows::{is_fault, passing_threes};
 use std::alloc::{AllocError, Global};
 use std::ops::Range;
 use std::test::Fail;
@@ -37,8 +37,8 @@ key" | UnopenedQuotes at 3..4 | key"\n   ^ unopened quotes
 foo ( | U[`=` `,` `)`] at 4..5 | foo (\n    ^ expected one of `=`, `,`, `)` here
 key = | U[`"<value>"`] at 5..5 | key =\n      expected a `"<value>"` here
 not(a, b) | InvalidNot(2) at 0..9 | not(a, b)\n^^^^^^^^^ not() takes 1 predicate, found 2
-a, target_os | U[`= "<target_cfg_value>"`] at 3..12 | a, target_os\n   ^^^^^^^^^ expected a `= "<tar\
-get_cfg_value>"` here
+a, target_os | U[`= "<target_cfg_value>"`] at 3..12 | a, target_os\n   ^^^^^^^^^ expected a `= "<t\
+arget_cfg_value>"` here
 \e | Empty at 0..0 | \n empty expression
 éx | U[] at 2..3 | éx\n  ^ the term was not expected here
 ab | Empty at 1..0 | ab\n  empty expression

@@ -1,9 +1,8 @@
 //! Stripping: the outer `cfg( )` is taken off once, and spans count the bytes of what is left.
-use super::has_fault;
 use cfg_expr::Expression;
 use cfg_expr::error::Failure;
 use cfgx_testing::holding::{holds, prints};
-use cfgx_testing::rows::{passing_pairs, passing_threes};
+use cfgx_testing::rows::{has_fault, passing_pairs, passing_threes};
 use std::alloc::Global;
 use std::test::Fail;
 
