@@ -4,7 +4,8 @@
 //! the row goes on in the next one. The fields of a row are divided by ` | `. In a field `\n`,
 //! `\t`, `\r`, `\0` and `\\` stand for what they are in Rust, `\u{a0}` for the character of that
 //! number, and `\e` for nothing, so that a field can be empty.
-use cfg_expr::error::{ParseError, Reason};
+use cfg_expr::Expression;
+use cfg_expr::error::{Failure, ParseError, Reason};
 use std::alloc::{AllocError, Global};
 
 // The character that stands after a backslash, or nothing for `e`.
@@ -105,6 +106,30 @@ where
     if row.is_empty() { Ok(rows) } else { Err(row) }
 }
 
+/// The same of rows of two fields.
+pub fn passing_pairs<F>(alloc: Global, table: &str, check: F) -> Result<usize, String>
+where
+    F: Fn(&str, &str) -> bool,
+    requires { F.IsAlwaysCallable check }
+{
+    passing(alloc, table, |row| match row {
+        [one, other] => check(one.as_str(), other.as_str()),
+        _ => false,
+    })
+}
+
+/// The same of rows of three fields.
+pub fn passing_threes<F>(alloc: Global, table: &str, check: F) -> Result<usize, String>
+where
+    F: Fn(&str, &str, &str) -> bool,
+    requires { F.IsAlwaysCallable check }
+{
+    passing(alloc, table, |row| match row {
+        [one, other, third] => check(one.as_str(), other.as_str(), third.as_str()),
+        _ => false,
+    })
+}
+
 // The name of a reason, without its number and its terms.
 fn name_of(reason: Reason) -> &'static str {
     match reason {
@@ -147,5 +172,21 @@ pub fn told(alloc: Global, error: &ParseError) -> Result<String, AllocError> {
             format!(in alloc; "{name}{terms} at {start}..{end}")
         }
         _ => format!(in alloc; "{name} at {start}..{end}"),
+    }
+}
+
+/// Whether rows tell the fault so, and this is its stripped text.
+pub fn is_fault(alloc: Global, error: &ParseError, original: &str, wanted: &str) -> bool {
+    match told(alloc, error) {
+        Ok(told) => told.as_str() == wanted && error.original.as_str() == original,
+        Err(_) => false,
+    }
+}
+
+/// Whether the text is faulty, rows tell its fault so, and it is stripped to `original`.
+pub fn has_fault(alloc: Global, text: &str, original: &str, wanted: &str) -> bool {
+    match Expression::parse(alloc, text) {
+        Err(Failure::Parse(error)) => is_fault(alloc, &error, original, wanted),
+        _ => false,
     }
 }

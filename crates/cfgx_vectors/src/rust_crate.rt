@@ -1,96 +1,118 @@
 //! What the Rust crate cfg-expr 0.20.10 answers to texts of all shapes.
 //!
-//! A row is a text, a bar, and what `cfgx parse` writes. A backslash at the end of a line says that
-//! the row goes on in the next one. Elsewhere `\n`, `\t`, `\r`, `\0` and `\\` stand for what they
-//! are in Rust, and `\N` for U+0085.
-//!
 //! No row is left out. The tables have no text that this crate answers otherwise on purpose: one
 //! with several functions at its root or with more than 255 functions in a list, and an accepted
 //! one with a bare `true` or `false`.
-use crate::streams::is_answer;
-use std::alloc::{AllocError, Global};
-use std::process::Abort;
-use std::test::Fail;
+mod accepts;
+mod judged;
+mod neighbours;
+mod no_token;
 
-mod accepted_1;
-mod refused_1;
-mod refused_2;
-mod refused_3;
+use crate::rules::{accepted, is_accepted, span_of};
+use cfgx_testing::rows::{passing, passing_pairs};
+use cfgx_testing::streams::is_answer;
+use cfgx_testing::texts::repeated;
+use std::alloc::Global;
 
-// What stands after a backslash, as the character that it means.
-fn meant(c: char) -> char {
-    match c {
-        'n' => '\n',
-        't' => '\t',
-        'r' => '\r',
-        '0' => '\0',
-        'N' => '\u{85}',
-        other => other,
+// Whether each text of the row asks nothing.
+fn ask_nothing(alloc: Global, texts: &[String]) -> bool {
+    texts
+        .iter()
+        .all(|text| is_accepted(alloc, text.as_str(), ""))
+}
+
+// Whether each text of the row is spelled as it stands.
+fn are_alone(alloc: Global, texts: &[String]) -> bool {
+    texts
+        .iter()
+        .all(|text| is_accepted(alloc, text.as_str(), text.as_str()))
+}
+
+// How many fields the table has.
+fn fields_in(table: &str) -> usize {
+    let mut fields = 0usize;
+    for row in table.lines().skip(1) {
+        fields = fields.saturating_add(row.split(" | ").count());
+    }
+    fields
+}
+
+#[test]
+fn accepts_texts_that_ask_nothing(rt: HostRuntime) {
+    let rows = passing(
+        rt.alloc(),
+        accepts::NOTHING,
+        |row| ask_nothing(rt.alloc(), row),
+    );
+    assert_eq!(rt; (rows, fields_in(accepts::NOTHING)), (Ok(2), 13));
+}
+
+#[test]
+fn accepts_texts_that_are_spelled_as_they_stand(rt: HostRuntime) {
+    let rows = passing(rt.alloc(), accepts::ALONE, |row| are_alone(rt.alloc(), row));
+    assert_eq!(rt; (rows, fields_in(accepts::ALONE)), (Ok(31), 154));
+}
+
+#[test]
+fn accepts_the_other_texts(rt: HostRuntime) {
+    assert_eq!(rt; accepted(rt.alloc(), accepts::OTHERS), Ok(352));
+}
+
+// What is printed for a text with these bytes at fault. The message begins with its mark.
+fn printed(alloc: Global, text: &str, span: &str, message: &str) -> Option<String> {
+    let inner = text
+        .strip_prefix("cfg(")
+        .and_then(|rest| rest.strip_suffix(')'));
+    let span = span_of(span)?;
+    let (mark, reason) = message.split_once(' ')?;
+    let spaces = repeated(alloc, inner.unwrap_or(text), "", 0, "\n").ok()?;
+    let spaces = repeated(alloc, spaces.as_str(), " ", span.start, "").ok()?;
+    let marks = repeated(alloc, "", mark, span.end.saturating_sub(span.start), " ").ok()?;
+    format!(in alloc; "{spaces}{marks}{reason}\n").ok()
+}
+
+// Whether this is printed for a text with these bytes at fault.
+fn is_refused(alloc: Global, text: &str, span: &str, message: &str) -> bool {
+    match printed(alloc, text, span, message) {
+        Some(written) => is_answer(alloc, &["parse", text], 1, written.as_str()),
+        None => false,
     }
 }
 
-// The text that a field of a row stands for.
-fn unescaped(alloc: Global, field: &str) -> Result<String, AllocError> {
-    let mut text = String::new(alloc);
-    let mut is_after_backslash = false;
-    for c in field.chars() {
-        if is_after_backslash {
-            text.push(meant(c))?;
-            is_after_backslash = false;
-        } else if c == '\\' {
-            is_after_backslash = true;
-        } else {
-            text.push(c)?;
-        }
+// How many texts stand below this heading, or the first that is wrong.
+fn refused_with(alloc: Global, group: &str) -> Result<usize, String> {
+    let (heading, rows) = group.trim_start().split_once(":\n").unwrap_or(("", group));
+    let Ok(message) = heading.replace(alloc, "\\\n", "") else {
+        return Err(String::new(alloc));
+    };
+    let message = message.as_str();
+    passing_pairs(
+        alloc,
+        rows,
+        |text, span| is_refused(alloc, text, span, message),
+    )
+}
+
+// How many refused texts the table has, or the first that is wrong.
+fn refused(alloc: Global, table: &str) -> Result<usize, String> {
+    let mut texts = 0usize;
+    for group in table.split("\n\n") {
+        texts = texts.saturating_add(refused_with(alloc, group)?);
     }
-    Ok(text)
-}
-
-// Whether a run of the row's text ends with this status and writes what the row says.
-fn is_as_said(alloc: Global, row: &str, status: u8) -> Result<bool, &'static str> {
-    let (field, written) = row.split_once('|').ok_or("a row without a bar")?;
-    let text = unescaped(alloc, field).map_err(|_| "out of memory")?;
-    let written = unescaped(alloc, written).map_err(|_| "out of memory")?;
-    Ok(is_answer(alloc, &["parse", text.as_str()], status, written.as_str()))
-}
-
-// Runs the rows of a table, and answers how many there were.
-fn run_rows(rt: &impl Abort, alloc: Global, table: &str, status: u8) -> Result<usize, Fail> {
-    let mut rows = 0usize;
-    let mut row = String::new(alloc);
-    for line in table.lines().skip(1) {
-        let front = line.strip_suffix('\\');
-        row.push_str(front.unwrap_or(line))?;
-        if front.is_none() {
-            assert!(rt; is_as_said(alloc, row.as_str(), status)?, "{row}");
-            row.clear();
-            rows = rows.saturating_add(1);
-        }
-    }
-    Ok(rows)
+    Ok(texts)
 }
 
 #[test]
-fn accepts_the_same_texts(rt: HostRuntime) -> Result<(), Fail> {
-    let rows = run_rows(&rt, rt.alloc(), accepted_1::ROWS, 0)?;
-    assert_eq!(rt; rows, 519);
-    Ok(())
+fn refuses_where_no_token_can_start(rt: HostRuntime) {
+    assert_eq!(rt; refused(rt.alloc(), no_token::ROWS), Ok(683));
 }
 
 #[test]
-fn refuses_the_same_texts(rt: HostRuntime) -> Result<(), Fail> {
-    assert_eq!(rt; run_rows(&rt, rt.alloc(), refused_1::ROWS, 1)?, 662);
-    Ok(())
+fn refuses_tokens_after_others(rt: HostRuntime) {
+    assert_eq!(rt; refused(rt.alloc(), neighbours::ROWS), Ok(595));
 }
 
 #[test]
-fn refuses_the_same_longer_texts(rt: HostRuntime) -> Result<(), Fail> {
-    assert_eq!(rt; run_rows(&rt, rt.alloc(), refused_2::ROWS, 1)?, 436);
-    Ok(())
-}
-
-#[test]
-fn refuses_the_same_longest_texts(rt: HostRuntime) -> Result<(), Fail> {
-    assert_eq!(rt; run_rows(&rt, rt.alloc(), refused_3::ROWS, 1)?, 345);
-    Ok(())
+fn refuses_what_is_judged_later(rt: HostRuntime) {
+    assert_eq!(rt; refused(rt.alloc(), judged::ROWS), Ok(165));
 }

@@ -7,7 +7,7 @@ use Rattle.std.specs.Char.{is_not_whitespace}
 use Rattle.std.proofs.lemmas.Str.{char_from_byte, NoCharPasses-byte}
 use Rattle.cfgx_syntax.specs.Items.{starts_token}
 use Rattle.cfgx_syntax.specs.Token.{is_quote}
-use Rattle.cfgx_vectors.proofs.tokens.excluded.Goals as goal
+use Rattle.cfgx_vectors.proofs.rules.definitions.excluded.Goals as goal
 
 pub returns : goal.returns
 returns c = record {

@@ -1,6 +1,6 @@
 use Rattle.std.proofs.Common.{refl}
 use Rattle.cfgx_syntax.specs.Stripping.{strip}
-use Rattle.cfgx_vectors.proofs.tokens.stripped.Goals as goal
+use Rattle.cfgx_vectors.proofs.rules.definitions.stripped.Goals as goal
 
 pub returns : goal.returns
 unfolding strip

@@ -5,7 +5,7 @@ use Rattle.std.specs.Prelude.{codes}
 use Rattle.std.specs.Char.{encode_utf8}
 use Rattle.cfgx_syntax.specs.Items.{IsBlank, Stands}
 use Rattle.cfgx_syntax.specs.Token.{Token}
-use Rattle.cfgx_vectors.proofs.tokens.listed.Goals as goal
+use Rattle.cfgx_vectors.proofs.rules.definitions.listed.Goals as goal
 
 no_gap : IsBlank []
 no_gap = ([], refl, tt)

@@ -1,0 +1,230 @@
+//! Predicates and literals: what a key means alone and with a value.
+use super::{accepted, faulty};
+use cfg_expr::error::Failure;
+use cfg_expr::expr::Predicates;
+use cfg_expr::{Expression, Predicate, TargetPredicate};
+use cfgx_testing::holding::holds;
+use cfgx_testing::rows::{has_fault, passing, passing_pairs};
+use std::alloc::{AllocError, Global};
+
+// Texts, and what they ask.
+const VALUES: &str = r#"
+cfg(unix) | target_family = "unix"
+windows | target_family = "windows"
+test | test
+debug_assertions | debug_assertions
+proc_macro | proc_macro
+feature = "" | feature = ""
+feature="a-b" | feature = "a-b"
+panic = "unwind" | panic = "unwind"
+panic = "" | panic = ""
+target_abi = "sim" | target_abi = "sim"
+target_arch = "x86" | target_arch = "x86"
+target_os = "" | target_os = ""
+target_family = "unix" | target_family = "unix"
+target_env = "Msvc" | target_env = "Msvc"
+target_vendor = " pc " | target_vendor = " pc "
+target_feature = "sse4.2" | target_feature = "sse4.2"
+target_endian = "big" | target_endian = "big"
+target_endian = "little" | target_endian = "little"
+target_has_atomic = "128" | target_has_atomic = "128"
+target_has_atomic = "65535" | target_has_atomic = "65535"
+target_has_atomic = "ptr" | target_has_atomic = "ptr"
+target_has_atomic = "+08" | target_has_atomic = "8"
+target_pointer_width = "255" | target_pointer_width = "255"
+target_pointer_width = "0" | target_pointer_width = "0"
+target_pointer_width = "64" | target_pointer_width = "64"
+target_pointer_width = "+64" | target_pointer_width = "64"
+target_pointer_width = "064" | target_pointer_width = "64"
+target_pointer_width = "+0000000064" | target_pointer_width = "64"
+key = "é" | key = "é"
+key = ") = (," | key = ") = (,"
+Unix = "x" | Unix = "x"
+not(not(not(key = "value",))) | key = "value"
+key = "a\nb" | key = "a\nb"
+"#;
+
+#[test]
+fn ask_their_predicates(rt: HostRuntime) {
+    assert_eq!(rt; accepted(rt.alloc(), VALUES), Ok(33));
+}
+
+// Literals ask nothing. Keys that look like them are flags.
+const LITERALS: &str = r#"
+true | \e
+false, | \e
+cfg(true) | \e
+not(false) | \e
+True | True
+true_ | true_
+any(False, falsey) | False\nfalsey
+key = "true" | key = "true"
+"#;
+
+#[test]
+fn literals_ask_nothing(rt: HostRuntime) {
+    assert_eq!(rt; accepted(rt.alloc(), LITERALS), Ok(8));
+}
+
+// Texts, and their one predicate.
+const TYPED: &str = r#"
+key = "a\nb" | KeyValue { key: key, val: a\\nb }
+feature = "" | Feature()
+target_feature = "x" | TargetFeature(x)
+test | Test
+debug_assertions | DebugAssertions
+proc_macro | ProcMacro
+cfg(key) | Flag(key)
+target_abi = "sim" | Target(Abi(sim))
+target_arch = "x" | Target(Arch(x))
+target_endian = "big" | Target(Endian(big))
+target_env = "" | Target(Env())
+unix | Target(Family(unix))
+target_has_atomic = "128" | Target(HasAtomic(IntegerSize(128)))
+target_os = "x" | Target(Os(x))
+panic = "abort" | Target(Panic(abort))
+target_pointer_width = "+064" | Target(PointerWidth(64))
+target_vendor = "x" | Target(Vendor(x))
+"#;
+
+// A predicate on the target as pages write it.
+fn target_as_told(alloc: Global, target: &TargetPredicate<'_>) -> Result<String, AllocError> {
+    let (name, text) = match target {
+        TargetPredicate::Abi(text) => ("Abi", text.as_str()),
+        TargetPredicate::Arch(text) => ("Arch", text.as_str()),
+        TargetPredicate::Env(text) => ("Env", text.as_str()),
+        TargetPredicate::Family(text) => ("Family", text.as_str()),
+        TargetPredicate::Os(text) => ("Os", text.as_str()),
+        TargetPredicate::Panic(text) => ("Panic", text.as_str()),
+        TargetPredicate::Vendor(text) => ("Vendor", text.as_str()),
+        number => return format!(in alloc; "Target({number:?})"),
+    };
+    format!(in alloc; "Target({name}({text}))")
+}
+
+// A predicate as pages write it: as `Debug` prints it, without quotes.
+fn as_told(alloc: Global, predicate: &Predicate<'_>) -> Result<String, AllocError> {
+    match predicate {
+        Predicate::Target(target) => target_as_told(alloc, target),
+        other => format!(in alloc; "{other:?}")?
+            .as_str()
+            .replace(alloc, "\"", ""),
+    }
+}
+
+// Whether one predicate is to come, and is written so.
+fn are_one(alloc: Global, mut predicates: Predicates<'_>, wanted: &str) -> bool {
+    let told = match predicates.next() {
+        Some(predicate) => as_told(alloc, &predicate),
+        None => return false,
+    };
+    told.is_ok_and(|told| told.as_str() == wanted) && predicates.left() == 0
+}
+
+/// Whether the text asks one predicate, which pages write so.
+pub(super) fn asks(alloc: Global, text: &str, wanted: &str) -> Result<bool, Failure> {
+    let expression = Expression::parse(alloc, text)?;
+    Ok(are_one(alloc, expression.predicates(), wanted))
+}
+
+#[test]
+fn ask_by_their_types(rt: HostRuntime) {
+    let rows = passing_pairs(rt.alloc(), TYPED, |text, wanted| {
+        holds(asks(rt.alloc(), text, wanted))
+    });
+    assert_eq!(rt; rows, Ok(17));
+}
+
+// Texts with a faulty predicate, at its key or at the inside of its value.
+const FAULTS: &str = r#"
+unix = "x" | U[] at 8..9
+unix = "" | U[] at 8..8
+false = "" | U[] at 9..9
+not(a, true = "x") | InvalidNot(2) at 0..18
+all(false = "x", true) | U[] at 13..14
+windows = "x" | U[] at 11..12
+test = "x" | U[] at 8..9
+debug_assertions = "x" | U[] at 20..21
+proc_macro = "x" | U[] at 14..15
+any(unix = "x", not()) | U[] at 12..13
+feature | U[`= "<feature_name>"`] at 0..7
+ feature , | U[`= "<feature_name>"`] at 1..8
+not(feature, x) | U[`= "<feature_name>"`] at 4..11
+not(feature) | U[`= "<feature_name>"`] at 4..11
+panic | U[`= "<panic_strategy>"`] at 0..5
+all(panic,) | U[`= "<panic_strategy>"`] at 4..9
+target_abi | U[`= "<target_cfg_value>"`] at 0..10
+target_feature | U[`= "<target_cfg_value>"`] at 0..14
+target_ | U[`= "<target_cfg_value>"`] at 0..7
+target_foo | U[`= "<target_cfg_value>"`] at 0..10
+target_ = "x" | U[`target_arch` `target_feature` `target_os` `target_family` `target_env` `target_e\
+ndian` `target_has_atomic` `target_pointer_width` `target_vendor`] at 0..7
+target_foo = "x" | U[`target_arch` `target_feature` `target_os` `target_family` `target_env` `targe\
+t_endian` `target_has_atomic` `target_pointer_width` `target_vendor`] at 0..10
+target_OS = "x" | U[`target_arch` `target_feature` `target_os` `target_family` `target_env` `target\
+_endian` `target_has_atomic` `target_pointer_width` `target_vendor`] at 0..9
+target_endian = "" | InvalidInteger at 17..17
+target_pointer_width = "256" | InvalidInteger at 24..27
+target_pointer_width = "ptr" | InvalidInteger at 24..27
+target_has_atomic = "65536" | InvalidHasAtomic at 21..26
+target_has_atomic = "Ptr" | InvalidHasAtomic at 21..24
+"#;
+
+#[test]
+fn refuse_what_a_key_cannot_mean(rt: HostRuntime) {
+    assert_eq!(rt; faulty(rt.alloc(), FAULTS), Ok(28));
+}
+
+// Values that write no number.
+const NO_NUMBERS: &str = r#"
+\e
++
+-0
+++1
+ 64
+6 4
+64 \e
+0x40
+٣
+6_4
+99999999999999999999
+"#;
+
+// Whether the key with this value has this fault at the value.
+fn is_refused(alloc: Global, key: &str, value: &str, reason: &str) -> bool {
+    let start = key.len().saturating_add(4);
+    let end = start.saturating_add(value.len());
+    let Ok(text) = format!(in alloc; "{key} = \"{value}\"") else {
+        return false;
+    };
+    match format!(in alloc; "{reason} at {start}..{end}") {
+        Ok(fault) => has_fault(alloc, text.as_str(), text.as_str(), fault.as_str()),
+        Err(_) => false,
+    }
+}
+
+// Whether the value of a row is no width and no size of an atomic.
+fn is_no_number(alloc: Global, row: &[String]) -> bool {
+    let [value] = row else {
+        return false;
+    };
+    is_refused(
+        alloc,
+        "target_pointer_width",
+        value.as_str(),
+        "InvalidInteger",
+    ) && is_refused(
+        alloc,
+        "target_has_atomic",
+        value.as_str(),
+        "InvalidHasAtomic",
+    )
+}
+
+#[test]
+fn no_number_is_no_width(rt: HostRuntime) {
+    assert_eq!(rt;
+        passing(rt.alloc(), NO_NUMBERS, |row| is_no_number(rt.alloc(), row)),
+        Ok(11)
+    );
+}

@@ -1,0 +1,271 @@
+//! How a predicate is spelled, by a writer that takes all or little a call, or that fails.
+use cfg_expr::error::Failure;
+use cfg_expr::expr::{Predicates, spell};
+use cfg_expr::{Expression, Predicate};
+use cfgx_testing::holding::holds;
+use cfgx_testing::rows::passing_pairs;
+use cfgx_testing::texts::repeated;
+use std::alloc::Global;
+use std::io::{self, ErrorKind, Write};
+
+// No limit.
+const ALL: usize = usize::MAX;
+
+// A writer in memory that takes at most `each` bytes a call, and `room` bytes in all. It counts its
+// calls, and that of the number `failing`, counted from 1, fails with an error of this kind.
+#[derive(Drop)]
+struct Slow {
+    bytes: Vec<u8>,
+    each: usize,
+    room: usize,
+    calls: usize,
+    failing: usize,
+    kind: ErrorKind,
+    has_failed: bool,
+    // Whether a call was of an empty slice, or came after a failed one.
+    is_misused: bool,
+}
+
+impl Slow {
+    // A writer that never fails.
+    fn new(alloc: Global, each: usize) -> Slow {
+        Slow {
+            bytes: Vec::new(alloc),
+            each,
+            room: ALL,
+            calls: 0,
+            failing: 0,
+            kind: ErrorKind::Other,
+            has_failed: false,
+            is_misused: false,
+        }
+    }
+}
+
+impl Write for Slow {
+    fn write(&mut self, bytes: &[u8]) -> io::Result<usize> {
+        self.calls = self.calls.saturating_add(1);
+        self.is_misused |= bytes.is_empty() || self.has_failed;
+        if self.calls == self.failing {
+            self.has_failed = true;
+            return Err(io::Error::from(self.kind));
+        }
+        let left = self.room.saturating_sub(self.bytes.len());
+        let taken = bytes.len().min(self.each).min(left);
+        self.has_failed |= taken == 0;
+        match self.bytes.extend_from_slice(&bytes[..taken]) {
+            Ok(()) => Ok(taken),
+            Err(_) => Err(io::Error::from(ErrorKind::OutOfMemory)),
+        }
+    }
+
+    fn flush(&mut self) -> io::Result<()> {
+        Ok(())
+    }
+}
+
+// Texts, and the spellings of their predicates one after the other.
+const ROWS: &str = r#"
+unix | target_family = "unix"
+windows | target_family = "windows"
+all(test, debug_assertions, proc_macro) | testdebug_assertionsproc_macro
+feature="" | feature = ""
+target_feature = "sse4.2" | target_feature = "sse4.2"
+panic="abort" | panic = "abort"
+any(target_abi = "", target_arch="x86") | target_abi = ""target_arch = "x86"
+target_os = "linux" | target_os = "linux"
+target_env = "gnu" | target_env = "gnu"
+target_vendor = "apple" | target_vendor = "apple"
+all(target_endian="big", target_endian="little") | target_endian = "big"target_endian = "little"
+target_has_atomic = "+08" | target_has_atomic = "8"
+target_has_atomic = "65535" | target_has_atomic = "65535"
+target_has_atomic = "ptr" | target_has_atomic = "ptr"
+target_pointer_width = "+064" | target_pointer_width = "64"
+all(target_pointer_width = "0", target_pointer_width = "255") | target_pointer_width = "0"target_po\
+inter_width = "255"
+loom | loom
+key="a\nb" | key = "a\nb"
+"#;
+
+// Spells the predicates of the text, and answers the kind of the error that ended this, if any.
+fn spell_each(alloc: Global, text: &str, writer: &mut Slow) -> Result<Option<ErrorKind>, Failure> {
+    let expression = Expression::parse(alloc, text)?;
+    Ok(spell_all(expression.predicates(), writer))
+}
+
+fn spell_all(predicates: Predicates<'_>, writer: &mut Slow) -> Option<ErrorKind> {
+    for predicate in predicates {
+        if let Err(error) = spell_one(predicate, writer) {
+            return Some(error.kind());
+        }
+    }
+    None
+}
+
+// Spells a predicate, which is dropped by name, since what goes out of scope is dear to prove.
+fn spell_one(predicate: Predicate<'_>, writer: &mut Slow) -> io::Result<()> {
+    let spelled = spell(&predicate, writer);
+    drop(predicate);
+    spelled
+}
+
+// Whether the text is spelled so by calls that take at most `each` bytes, none of an empty slice.
+fn is_spelled(alloc: Global, text: &str, spelled: &str, each: usize) -> Result<bool, Failure> {
+    let mut writer = Slow::new(alloc, each);
+    let error = spell_each(alloc, text, &mut writer)?;
+    let are_all_used = each > 1 || writer.calls == spelled.len();
+    Ok(
+        error.is_none()
+            && are_all_used
+            && !writer.is_misused
+            && writer.bytes.as_slice() == spelled.as_bytes(),
+    )
+}
+
+// Whether it is so if the writer takes all, or a few bytes, or one a call.
+fn is_spelled_by_any(alloc: Global, text: &str, spelled: &str) -> bool {
+    [1, 3, ALL]
+        .iter()
+        .all(|each| holds(is_spelled(alloc, text, spelled, *each)))
+}
+
+#[test]
+fn spells_each_kind_of_predicate(rt: HostRuntime) {
+    let rows = passing_pairs(rt.alloc(), ROWS, |text, spelled| {
+        is_spelled_by_any(rt.alloc(), text, spelled)
+    });
+    assert_eq!(rt; rows, Ok(18));
+}
+
+// What stands before and after a text of 5,000 bytes in a predicate.
+const LONG: &str = r#"
+\e | \e
+\e |  = "v"
+key = " | "
+feature = " | "
+target_feature = " | "
+panic = " | "
+target_abi = " | "
+target_arch = " | "
+target_os = " | "
+target_family = " | "
+target_env = " | "
+target_vendor = " | "
+"#;
+
+// Whether the predicate is spelled as its text, in which 5,000 bytes stand between these two.
+fn is_long(alloc: Global, front: &str, back: &str) -> bool {
+    match repeated(alloc, front, "x", 5_000, back) {
+        Ok(text) => is_spelled_by_any(alloc, text.as_str(), text.as_str()),
+        Err(_) => false,
+    }
+}
+
+#[test]
+fn spells_long_texts(rt: HostRuntime) {
+    let rows = passing_pairs(
+        rt.alloc(),
+        LONG,
+        |front, back| is_long(rt.alloc(), front, back),
+    );
+    assert_eq!(rt; rows, Ok(12));
+}
+
+// No text asks such a flag, so only a caller can make it.
+#[test]
+fn a_flag_that_is_read_as_a_literal(rt: HostRuntime) {
+    let mut writer = Slow::new(rt.alloc(), 1);
+    assert!(rt; spell_one(Predicate::Flag("true"), &mut writer).is_ok());
+    assert_eq!(rt; writer.bytes.as_slice(), b"true".as_slice());
+}
+
+// Whether the writer has this beginning of the spelling, and no call came after a failed one.
+fn has_front(writer: &Slow, spelled: &str, length: usize) -> bool {
+    writer.bytes.len() == length
+        && spelled.as_bytes().starts_with(writer.bytes.as_slice())
+        && !writer.is_misused
+}
+
+// Whether a beginning of the spelling was written, this many bytes, if no more have room.
+fn stops_after(alloc: Global, text: &str, spelled: &str, room: usize) -> Result<bool, Failure> {
+    let mut writer = Slow::new(alloc, 4);
+    writer.room = room;
+    let error = spell_each(alloc, text, &mut writer)?;
+    Ok(error == Some(ErrorKind::WriteZero) && has_front(&writer, spelled, room))
+}
+
+// Whether it stops so at each place.
+fn stops_at_each(alloc: Global, text: &str, spelled: &str) -> bool {
+    (0..spelled.len()).all(|room| holds(stops_after(alloc, text, spelled, room)))
+}
+
+#[test]
+fn stops_where_the_writer_takes_nothing(rt: HostRuntime) {
+    let rows = passing_pairs(rt.alloc(), ROWS, |text, spelled| {
+        stops_at_each(rt.alloc(), text, spelled)
+    });
+    assert_eq!(rt; rows, Ok(18));
+}
+
+const KINDS: [ErrorKind; 3] = [
+    ErrorKind::Interrupted,
+    ErrorKind::BrokenPipe,
+    ErrorKind::WouldBlock,
+];
+
+// Whether a spelling whose call of this number fails, of calls that take one byte, ends with the
+// writer's own error at that call, after the bytes of the calls before it.
+fn fails_at(
+    alloc: Global,
+    (text, spelled): (&str, &str),
+    failing: usize,
+    kind: ErrorKind,
+) -> Result<bool, Failure> {
+    let mut writer = Slow::new(alloc, 1);
+    writer.failing = failing;
+    writer.kind = kind;
+    let error = spell_each(alloc, text, &mut writer)?;
+    let is_last = error == Some(kind) && writer.calls == failing;
+    Ok(is_last && has_front(&writer, spelled, failing.saturating_sub(1)))
+}
+
+// Whether each call that fails, with each of the kinds, ends the spelling so.
+fn fails_at_each(alloc: Global, text: &str, spelled: &str) -> bool {
+    for failing in 1..=spelled.len() {
+        for kind in KINDS {
+            if !holds(fails_at(alloc, (text, spelled), failing, kind)) {
+                return false;
+            }
+        }
+    }
+    true
+}
+
+#[test]
+fn a_failed_call_is_the_last(rt: HostRuntime) {
+    let rows = passing_pairs(rt.alloc(), ROWS, |text, spelled| {
+        fails_at_each(rt.alloc(), text, spelled)
+    });
+    assert_eq!(rt; rows, Ok(18));
+}
+
+// Whether both texts ask the same predicates.
+fn ask_the_same(alloc: Global, text: &str, other: &str) -> Result<bool, Failure> {
+    let one = Expression::parse(alloc, text)?;
+    let other = Expression::parse(alloc, other)?;
+    Ok(one.predicates().eq(other.predicates()))
+}
+
+// Whether the spelling asks the predicate that the text asks, if it is one.
+fn is_read_again(alloc: Global, text: &str, spelled: &str) -> bool {
+    let has_several = text.starts_with("all(") || text.starts_with("any(");
+    has_several || holds(ask_the_same(alloc, text, spelled))
+}
+
+#[test]
+fn a_spelling_is_read_as_its_predicate(rt: HostRuntime) {
+    let rows = passing_pairs(rt.alloc(), ROWS, |text, spelled| {
+        is_read_again(rt.alloc(), text, spelled)
+    });
+    assert_eq!(rt; rows, Ok(18));
+}

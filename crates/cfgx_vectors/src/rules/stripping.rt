@@ -1,0 +1,98 @@
+//! Stripping: the outer `cfg( )` is taken off once, and spans count the bytes of what is left.
+use cfg_expr::Expression;
+use cfg_expr::error::Failure;
+use cfgx_testing::holding::{holds, prints};
+use cfgx_testing::rows::{has_fault, passing_pairs, passing_threes};
+use std::alloc::Global;
+use std::test::Fail;
+
+// Texts, and what they are stripped to.
+const ORIGINALS: &str = r#"
+key | key
+cfg(key) | key
+cfg( key ) |  key \e
+cfg(key,,) | key,,
+cfg(all()) | all()
+cfg( all() ) |  all() \e
+ all( )  |  all( ) \e
+cfg | cfg
+a | a
+all(a, any(b), c) | all(a, any(b), c)
+cfg(any(unix, key = "é",,),) | any(unix, key = "é",,),
+all(a, b, c, d, not(e), f, g, h) | all(a, b, c, d, not(e), f, g, h)
+"#;
+
+// Whether the text is stripped to this one, which its expression prints.
+fn is_stripped_to(alloc: Global, text: &str, original: &str) -> Result<bool, Failure> {
+    let expression = Expression::parse(alloc, text)?;
+    Ok(prints(alloc, &expression, original) && expression.original() == original)
+}
+
+#[test]
+fn keep_and_print_the_stripped_text(rt: HostRuntime) {
+    let rows = passing_pairs(rt.alloc(), ORIGINALS, |text, original| {
+        holds(is_stripped_to(rt.alloc(), text, original))
+    });
+    assert_eq!(rt; rows, Ok(12));
+}
+
+// Faulty texts, their faults, and what they are stripped to.
+const FAULTS: &str = r#"
+cfg() | Empty at 0..0 | \e
+cfg( ) | Empty at 0..1 |  \e
+cfg(a b) | U[`=` `,` `)`] at 2..3 | a b
+cfg(cfg(a)) | U[`=` `,` `)`] at 3..4 | cfg(a)
+cfg(not(a, b)) | InvalidNot(2) at 0..9 | not(a, b)
+cfg(unix = "x") | U[] at 8..9 | unix = "x"
+"#;
+
+#[test]
+fn count_from_the_stripped_text(rt: HostRuntime) {
+    let rows = passing_threes(rt.alloc(), FAULTS, |text, fault, original| {
+        has_fault(rt.alloc(), text, original, fault)
+    });
+    assert_eq!(rt; rows, Ok(6));
+}
+
+// Two texts, and whether their expressions are equal.
+const PAIRS: &str = r#"
+key | key | equal
+cfg(key) | key | equal
+key | key, | different
+"#;
+
+// Whether the text has an expression that is equal to this one.
+fn is_equal(alloc: Global, expression: &Expression, text: &str) -> Result<bool, Failure> {
+    let other = Expression::parse(alloc, text)?;
+    Ok(*expression == other)
+}
+
+// Whether two texts have equal expressions.
+fn are_equal(alloc: Global, one: &str, other: &str) -> Result<bool, Failure> {
+    let expression = Expression::parse(alloc, one)?;
+    is_equal(alloc, &expression, other)
+}
+
+// Whether the expressions of two texts are as a row says.
+fn are_as_said(alloc: Global, one: &str, other: &str, wanted: &str) -> bool {
+    match are_equal(alloc, one, other) {
+        Ok(are_equal) => wanted == if are_equal { "equal" } else { "different" },
+        Err(_) => false,
+    }
+}
+
+#[test]
+fn are_equal_by_their_stripped_texts(rt: HostRuntime) {
+    let rows = passing_threes(rt.alloc(), PAIRS, |one, other, wanted| {
+        are_as_said(rt.alloc(), one, other, wanted)
+    });
+    assert_eq!(rt; rows, Ok(3));
+}
+
+#[test]
+fn debug_shows_the_stripped_text(rt: HostRuntime) -> Result<(), Fail> {
+    let expression = Expression::parse(rt.alloc(), "cfg(all(a))")?;
+    let shown = format!(in rt.alloc(); "{expression:?}")?;
+    assert!(rt; shown.as_str() == "Expression(\"all(a)\")");
+    Ok(())
+}
