@@ -1,7 +1,16 @@
-//! Tests that take long if they are not built by LLVM.
+//! Tests that take long if they are not built by LLVM: deep, wide and long texts, inputs of 16 MiB,
+//! generated texts, and values over every list of answers.
 #![tactic(auto)]
 
 #[cfg(test)]
+mod alike;
+#[cfg(test)]
+mod deep;
+#[cfg(test)]
+mod generated;
+#[cfg(test)]
 mod input;
+#[cfg(test)]
+mod one_by_one;
 #[cfg(test)]
 mod text;

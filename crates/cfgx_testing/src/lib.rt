@@ -2,6 +2,7 @@
 //! that fail where they are told to, long texts, and tables of rows as text.
 #![tactic(auto)]
 
+pub mod answers;
 pub mod heap;
 pub mod holding;
 pub mod refusing;

@@ -1,5 +1,4 @@
 //! The rules of texts: a file for each heading of `docs/RULES.md`, and `pages` for its tables.
-mod deep;
 mod definitions;
 mod faults;
 mod grammar;

@@ -9,7 +9,7 @@ mod neighbours;
 mod no_token;
 
 use crate::rules::{accepted, is_accepted, span_of};
-use cfgx_testing::rows::{passing, passing_pairs};
+use cfgx_testing::rows::passing;
 use cfgx_testing::streams::is_answer;
 use cfgx_testing::texts::repeated;
 use std::alloc::Global;
@@ -28,11 +28,15 @@ fn are_alone(alloc: Global, texts: &[String]) -> bool {
         .all(|text| is_accepted(alloc, text.as_str(), text.as_str()))
 }
 
-// How many fields the table has.
+// How many fields the rows of the table have.
 fn fields_in(table: &str) -> usize {
     let mut fields = 0usize;
-    for row in table.lines().skip(1) {
-        fields = fields.saturating_add(row.split(" | ").count());
+    let mut goes_on = true;
+    for line in table.lines() {
+        let bars = line.split(" | ").count().saturating_sub(1);
+        let first = usize::from(!goes_on && !line.is_empty());
+        fields = fields.saturating_add(bars).saturating_add(first);
+        goes_on = line.ends_with('\\');
     }
     fields
 }
@@ -79,21 +83,29 @@ fn is_refused(alloc: Global, text: &str, span: &str, message: &str) -> bool {
     }
 }
 
-// How many texts stand below this heading, or the first that is wrong.
+// Whether each text of the row, after the bytes at fault, is refused there with this message.
+fn are_refused(alloc: Global, row: &[String], message: &str) -> bool {
+    match row.split_first() {
+        Some((span, texts)) => {
+            !texts.is_empty()
+                && texts.iter().all(|text| is_refused(alloc, text.as_str(), span.as_str(), message))
+        }
+        None => false,
+    }
+}
+
+// How many texts stand below this heading, or the first row that is wrong.
 fn refused_with(alloc: Global, group: &str) -> Result<usize, String> {
     let (heading, rows) = group.trim_start().split_once(":\n").unwrap_or(("", group));
     let Ok(message) = heading.replace(alloc, "\\\n", "") else {
         return Err(String::new(alloc));
     };
     let message = message.as_str();
-    passing_pairs(
-        alloc,
-        rows,
-        |text, span| is_refused(alloc, text, span, message),
-    )
+    let found = passing(alloc, rows, |row| are_refused(alloc, row, message))?;
+    Ok(fields_in(rows).saturating_sub(found))
 }
 
-// How many refused texts the table has, or the first that is wrong.
+// How many refused texts the table has, or the first row that is wrong.
 fn refused(alloc: Global, table: &str) -> Result<usize, String> {
     let mut texts = 0usize;
     for group in table.split("\n\n") {

@@ -1,7 +1,7 @@
 //! Values over answers of which some may be unknown, and the two fillings of an unknown value.
-use super::answers::{agree, answer_of, value_in_lanes};
 use cfg_expr::Expression;
 use cfg_expr::expr::logic::Kleene64;
+use cfgx_testing::answers::{agree, answer_of, value_in_lanes};
 use cfgx_testing::rows::passing;
 use cfgx_testing::texts::repeated;
 use std::alloc::{AllocError, Global};

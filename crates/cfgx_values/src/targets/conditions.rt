@@ -1,10 +1,10 @@
 //! Conditions on targets, by `eval` on each and in lanes.
 use super::rows::{bare, darwin, ios, windows};
-use crate::evaluation::answers::{answer_of, are_lanes, in_each, value_in_lanes};
 use cfg_expr::expr::logic::Kleene64;
 use cfg_expr::expr::{Predicates, TargetMatcher};
 use cfg_expr::targets::{TargetInfo, TargetTable, Vendor};
 use cfg_expr::{Expression, Predicate};
+use cfgx_testing::answers::{answer_of, are_lanes, in_each, value_in_lanes};
 use cfgx_testing::rows::passing;
 use std::alloc::{AllocError, Global};
 use std::test::Fail;

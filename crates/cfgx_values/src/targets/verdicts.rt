@@ -1,12 +1,12 @@
 //! The verdicts of `pick` on sections, by rows that are built in and by a target of one's own.
 use super::conditions::BUILT_IN;
-use crate::evaluation::answers::answer_of;
 use cfg_expr::error::Failure;
 use cfg_expr::expr::TargetMatcher;
 use cfg_expr::memory::SmallAllocator;
 use cfg_expr::targets::TargetTable;
 use cfg_expr::{Expression, TargetPredicate};
 use cfgx_engine::resolve::{Section, Verdict, pick};
+use cfgx_testing::answers::answer_of;
 use cfgx_testing::holding::holds;
 use cfgx_testing::texts::repeated;
 use std::alloc::Global;

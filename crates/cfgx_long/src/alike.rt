@@ -1,7 +1,7 @@
 //! Values of conditions of which each predicate has the same answer, in short, wide and deep texts.
-use super::answers::{agree, answer_of, are_lanes, value_in_lanes, value_with};
 use cfg_expr::expr::logic::Kleene64;
 use cfg_expr::{Expression, Predicate};
+use cfgx_testing::answers::{agree, answer_of, are_lanes, value_in_lanes, value_with};
 use cfgx_testing::rows::passing;
 use cfgx_testing::texts::repeated;
 use std::alloc::{AllocError, Global};

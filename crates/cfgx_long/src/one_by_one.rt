@@ -1,6 +1,6 @@
 //! The fillings of all short conditions over all answers, one by one.
-use super::answers::agree;
 use cfg_expr::{Expression, Predicate};
+use cfgx_testing::answers::agree;
 use std::alloc::{AllocError, Global};
 use std::process::Abort;
 use std::test::Fail;

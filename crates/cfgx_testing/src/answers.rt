@@ -5,7 +5,7 @@ use cfg_expr::{Expression, Predicate};
 use std::alloc::{AllocError, Global};
 
 /// What a digit of a row stands for: `1`, `0`, or anything else for unknown.
-pub(crate) fn answer_of(digit: u8) -> Option<bool> {
+pub fn answer_of(digit: u8) -> Option<bool> {
     match digit {
         b'1' => Some(true),
         b'0' => Some(false),
@@ -14,7 +14,7 @@ pub(crate) fn answer_of(digit: u8) -> Option<bool> {
 }
 
 /// The same answer in each lane.
-pub(crate) fn in_each(answer: Option<bool>) -> Kleene64 {
+pub fn in_each(answer: Option<bool>) -> Kleene64 {
     match answer {
         Some(true) => Kleene64::top(),
         Some(false) => Kleene64::bottom(),
@@ -23,7 +23,7 @@ pub(crate) fn in_each(answer: Option<bool>) -> Kleene64 {
 }
 
 /// Whether the digits stand for the lanes, one for each, and the last one for all others.
-pub(crate) fn are_lanes(lanes: Kleene64, digits: &[u8]) -> bool {
+pub fn are_lanes(lanes: Kleene64, digits: &[u8]) -> bool {
     for i in 0..64 {
         let digit = digits.get(i).or(digits.last());
         if lanes.lane(i) != digit.copied().and_then(answer_of) {
@@ -34,7 +34,7 @@ pub(crate) fn are_lanes(lanes: Kleene64, digits: &[u8]) -> bool {
 }
 
 /// The value over the answers, one after another.
-pub(crate) fn value_with<T: Logic + Copy>(
+pub fn value_with<T: Logic + Copy>(
     alloc: Global,
     expression: &Expression,
     answers: &[T],
@@ -46,7 +46,7 @@ pub(crate) fn value_with<T: Logic + Copy>(
 }
 
 /// The value in lanes, if there is one answer for each predicate.
-pub(crate) fn value_in_lanes(
+pub fn value_in_lanes(
     alloc: Global,
     expression: &Expression,
     answers: &[Kleene64],
@@ -95,7 +95,7 @@ fn lead_to_both(
 }
 
 /// Whether there are two fillings exactly if the value is unknown, one for each truth value.
-pub(crate) fn are_fillings(
+pub fn are_fillings(
     alloc: Global,
     expression: &Expression,
     answers: &[Option<bool>],
@@ -132,7 +132,7 @@ fn agrees_in_lanes(
 }
 
 /// Whether this is the value over the answers, by each of the three calls.
-pub(crate) fn agree(
+pub fn agree(
     alloc: Global,
     expression: &Expression,
     answers: &[Option<bool>],

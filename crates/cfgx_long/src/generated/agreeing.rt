@@ -1,9 +1,9 @@
 //! The values of a condition in each lane of one list of answers, however they are asked for.
 use super::numbers::Numbers;
-use crate::evaluation::answers::{agree, value_in_lanes, value_with};
 use cfg_expr::Expression;
 use cfg_expr::expr::Logic;
 use cfg_expr::expr::logic::Kleene64;
+use cfgx_testing::answers::{agree, value_in_lanes, value_with};
 use std::alloc::{AllocError, Global};
 
 // Answers of which some lanes are true, some false, and some unknown.
