@@ -1,8 +1,7 @@
 -- The innermost list, of the function on top of the stack or of the root, as it is changed.
-use Rattle.std.proofs.Common.{◌≡◌, ◌+◌, List, [], ◌∷◌, ◌++◌, reverse, refl, ap}
-use Rattle.std.proofs.lemmas.List.{reverse-append}
+use Rattle.std.proofs.Common.{◌≡◌, ◌+◌, List, [], ◌∷◌, refl, ap}
 use Rattle.cfgx_grammar.specs.parsing.Step.{over_top, root_more}
-use Rattle.cfgx_parser.specs.parsing.Fields.{open_of, opens_in, roots_in, counted_around}
+use Rattle.cfgx_parser.specs.parsing.Fields.{open_of, opens_in, roots_in}
 use Rattle.cfgx_parser.specs.parsing.State.{OpenFunction}
 use Rattle.cfgx_parser.specs.declared.parser.FuncAndSpan.{FuncAndSpan}
 use Rattle.cfgx_parser.specs.declared.parser.OpenList.{OpenList}
@@ -24,9 +23,3 @@ module _ (list changed : OpenList) where
       → roots_in changed functions ≡ root_more (opens_in list functions) (roots_in list functions)
   roots-more is [] = is
   roots-more is (top ∷ rest) = refl
-
--- a function on top of the stack, and the list around it
-pub counted_around-push : (functions : List FuncAndSpan) (top : FuncAndSpan)
-    → counted_around (reverse (functions ++ top ∷ []))
-    ≡ top.around.members + 1 + counted_around (reverse functions)
-counted_around-push functions top = rw (reverse-append functions (top ∷ [])) refl
