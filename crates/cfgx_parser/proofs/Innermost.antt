@@ -1,7 +1,6 @@
 -- The innermost list, of the function on top of the stack or of the root, as it is changed.
-use Rattle.std.proofs.Common.{◌≡◌, ◌+◌, ◌<◌, ◌^◌, List, [], ◌∷◌, refl, ap}
+use Rattle.std.proofs.Common.{◌≡◌, ◌+◌, List, [], ◌∷◌, refl, ap}
 use Rattle.cfgx_grammar.specs.parsing.Step.{over_top, root_more}
-use Rattle.cfgx_parser.specs.parsing.Bounded.{TopHasRoom}
 use Rattle.cfgx_parser.specs.parsing.Fields.{open_of, opens_in, roots_in}
 use Rattle.cfgx_parser.specs.parsing.State.{OpenFunction}
 use Rattle.cfgx_parser.specs.declared.parser.FuncAndSpan.{FuncAndSpan}
@@ -24,10 +23,3 @@ module _ (list changed : OpenList) where
       → roots_in changed functions ≡ root_more (opens_in list functions) (roots_in list functions)
   roots-more is [] = is
   roots-more is (top ∷ rest) = refl
-
--- one more member of it can be counted
-pub has_room-innermost : (list : OpenList) (functions : List FuncAndSpan)
-    → TopHasRoom (opens_in list functions) → roots_in list functions + 1 < 2 ^ 64
-    → list.members + 1 < 2 ^ 64
-has_room-innermost list [] top root = root
-has_room-innermost list (outer ∷ rest) top root = top

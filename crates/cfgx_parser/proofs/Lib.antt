@@ -1,5 +1,4 @@
 pub mod Asked
-pub mod Bounded
 pub mod Innermost
 pub mod Kept
 pub mod Lanes

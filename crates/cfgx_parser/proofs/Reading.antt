@@ -13,19 +13,16 @@ use Rattle.cfgx_grammar.proofs.Reading.{Continues, Continues-step, Continues-ref
 use Rattle.cfgx_grammar.proofs.Reading.{Continues-ended}
 use Rattle.cfgx_parser.specs.parsing.State.{ParserState}
 use Rattle.cfgx_grammar.specs.parsing.Step.{step, conclude}
-use Rattle.cfgx_parser.specs.parsing.Bounded.{IsBounded}
 use Rattle.cfgx_parser.specs.parsing.Parser.{state_at, state_of, FailsAs, GivesAt, Ends, ReadsAll}
 use Rattle.cfgx_parser.specs.parsing.Fields.{last_of}
 use Rattle.cfgx_parser.specs.declared.parser.LastToken.{LastToken}
 use Rattle.cfgx_parser.specs.declared.parser.Parser.{Parser}
-use Rattle.cfgx_parser.proofs.Bounded.{IsHeld-step}
 
 -- where the reader stands; the parser keeps of the last token what tells what may follow it
 pub record LeadsTo {A : Type 0} (lexer now : LexerState) (old : Parser A) (last : LastToken)
     (parser : Parser A) : Type 0 where
   pub token : Option spelled.Token
   pub kept : last_of token ≡ last
-  pub bounded : IsBounded (state_of {A = A} parser)
   pub text : now.text ≡ lexer.text
   pub continues : Continues lexer.text lexer.place (state_of {A = A} old) now.place
       (state_at {A = A} token parser)
@@ -50,22 +47,13 @@ module _ {A : Type 0} {lexer now : LexerState} {old before : Parser A} {last : L
   pub LeadsTo-read : (next : LexerState) (lexed : LexerToken) → GivesItem now (item_of lexed) next
       → GivesAt {A = A} (Some (token_of lexed.token)) (Ok tt) after (step from (item_of lexed))
       → LeadsTo {A = A} lexer next old (last_of (Some (token_of lexed.token))) after
-  LeadsTo-read next lexed gives (state, steps, reaches) =
-      let item = item_of lexed in
-      let goes = rw reaches.is at steps in
-      let held = IsHeld-step from _ item goes
-      (record { counts = l.bounded.held.counts; marks = l.bounded.held.marks }) in
-      rw gives.goes_on (record {
-        token = Some (token_of lexed.token);
-        kept = refl;
-        bounded = record {
-          held = record { counts = held.counts; marks = held.marks };
-          fits = reaches.fits;
-        };
-        text = l.text;
-        continues = Continues-step lexer.text lexer.place now.place (state_of {A = A} old) from _
-            item l.continues (rw l.text at gives.stands) goes;
-      })
+  LeadsTo-read next lexed gives steps = rw gives.goes_on (record {
+    token = Some (token_of lexed.token);
+    kept = refl;
+    text = l.text;
+    continues = Continues-step lexer.text lexer.place now.place (state_of {A = A} old) from _
+        (item_of lexed) l.continues (rw l.text at gives.stands) steps;
+  })
 
   -- a token that is refused
   pub ReadsAll-read : (next : LexerState) (item : Item) (failure : Failure A)

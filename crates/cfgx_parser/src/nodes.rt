@@ -1,5 +1,5 @@
 //! The nodes in which a `Parsed` keeps its tree.
-ghost use Rattle.std.specs.Prelude.{◌≡◌, ◌<◌, ◌≤◌, length, OnOk, IfOk};
+ghost use Rattle.std.specs.Prelude.{◌≡◌, ◌≤◌, length, OnOk, IfOk};
 
 use crate::function::Func;
 use cfgx_syntax::memory::SmallAllocator;
@@ -115,8 +115,8 @@ pub(crate) struct Writer<A: SmallAllocator> {
 
 impl<A: SmallAllocator> Writer<A> {
     ghost use Rattle.cfgx_parser.specs.nodes.Node.{nothing, mark_of, with_leaf, with_function};
-    ghost use Rattle.cfgx_parser.specs.nodes.Node.{with_list_ended, with_function_ended};
-    ghost use Rattle.cfgx_parser.specs.nodes.Writer.{written_of, Fits};
+    ghost use Rattle.cfgx_parser.specs.nodes.Node.{with_list_ended, with_function_ended, completed};
+    ghost use Rattle.cfgx_parser.specs.nodes.Writer.{written_of, KeepsNodes};
 
     /// A writer that has written nothing, for a text of so many bytes.
     pub(crate) fn new(alloc: A, len: usize) -> Result<Self, AllocError>
@@ -130,50 +130,47 @@ impl<A: SmallAllocator> Writer<A> {
         })
     }
 
-    /// Where a function would begin.
-    pub(crate) fn mark(&self) -> Mark
-        ensures { result ≡ mark_of (written_of self.now) }
-    {
-        Mark {
-            node: self.nodes.len(),
-            leaves: self.leaves.len(),
-        }
-    }
-
     /// Writes a predicate or a literal of the innermost list. A literal is not asked.
     pub(crate) fn leaf(&mut self, leaf: ExprNode) -> Result<(), AllocError>
         ensures written { OnOk result
             (written_of self.new ≡ with_leaf leaf (written_of self.old)) }
-        ensures fits { OnOk result (Fits (written_of self.new)) }
+        ensures kept { KeepsNodes (written_of self.old) (written_of self.new) }
     {
-        let place = self.nodes.len();
-        if matches!(leaf, ExprNode::Predicate(_)) {
+        let is_asked = matches!(leaf, ExprNode::Predicate(_));
+        self.nodes.push(leaf)?;
+        let place = self.nodes.len() - 1;
+        if is_asked {
             self.leaves.push(place)?;
         }
-        self.nodes.push(leaf)?;
-        let _fits = self.nodes.len();
         Ok(())
     }
 
     /// Writes the node of a function that has begun. What it holds is known at the function's end.
-    pub(crate) fn function(&mut self) -> Result<(), AllocError>
+    ///
+    /// The result is where the function began.
+    pub(crate) fn function(&mut self) -> Result<Mark, AllocError>
+        ensures mark { IfOk result (λ mark. mark ≡ mark_of (written_of self.old)) }
         ensures written { OnOk result
             (written_of self.new ≡ with_function (written_of self.old)) }
-        ensures fits { OnOk result (Fits (written_of self.new)) }
+        ensures kept { KeepsNodes (written_of self.old) (written_of self.new) }
     {
-        self.nodes.push(ExprNode::Fn {
+        let begun = ExprNode::Fn {
             func: Func::Not,
             len: 0,
-        })?;
-        let _fits = self.nodes.len();
-        Ok(())
+        };
+        self.nodes.push(begun)?;
+        let node = self.nodes.len() - 1;
+        let leaves = self.leaves.len();
+        Ok(Mark { node, leaves })
     }
 
     /// Ends a list: its own predicates, which come after the first `leaves`, are asked next.
     #[inline(always)]
     pub(crate) fn end_list(&mut self, leaves: usize) -> Result<(), AllocError>
         requires { leaves ≤ length (written_of self.old).leaves }
-        ensures { OnOk result (written_of self.new ≡ with_list_ended leaves (written_of self.old)) }
+        ensures written { OnOk result
+            (written_of self.new ≡ with_list_ended leaves (written_of self.old)) }
+        ensures kept { KeepsNodes (written_of self.old) (written_of self.new) }
     {
         self.index
             .extend_from_slice(&self.leaves.as_slice()[leaves..])?;
@@ -181,15 +178,25 @@ impl<A: SmallAllocator> Writer<A> {
         Ok(())
     }
 
+    /// Completes the node of a function, of which no more members come.
+    #[inline(always)]
+    fn complete(&mut self, place: usize, func: Func)
+        ensures { written_of self.new ≡ completed place func (written_of self.old) }
+    {
+        let nodes = self.nodes.len();
+        if place < nodes {
+            let len = nodes - place;
+            self.nodes[place] = ExprNode::Fn { func, len };
+        }
+    }
+
     /// Ends the function that began at the mark.
     pub(crate) fn end_function(&mut self, mark: Mark, func: Func) -> Result<(), AllocError>
-        requires node { mark.node < length (written_of self.old).nodes }
-        requires leaves { mark.leaves ≤ length (written_of self.old).leaves }
-        ensures { OnOk result
+        ensures written { OnOk result
             (written_of self.new ≡ with_function_ended mark func (written_of self.old)) }
+        ensures kept { KeepsNodes (written_of self.old) (written_of self.new) }
     {
-        let len = self.nodes.len() - mark.node;
-        self.nodes[mark.node] = ExprNode::Fn { func, len };
+        self.complete(mark.node, func);
         if mark.leaves < self.leaves.len() {
             self.end_list(mark.leaves)?;
         }

@@ -1,17 +1,15 @@
 //! From a text to the nodes of its tree, in one pass.
-ghost use Rattle.std.specs.Prelude.{◌≡◌, ◌+◌, ◌≤◌, length, ◌<◌, ◌↔◌, ◌≢◌, [], true, option_map};
+ghost use Rattle.std.specs.Prelude.{◌≡◌, ◌+◌, ◌≤◌, ◌^◌, length, ◌<◌, ◌↔◌, ◌≢◌, [], true, option_map};
 ghost use Rattle.std.specs.Prelude.{map, reverse, IsTrue, OnOk, IfOk, Err};
 ghost use Rattle.cfgx_syntax.specs.Error.{cause_of, unexpected};
 ghost use Rattle.cfgx_syntax.specs.Lexer.{token_of, item_of};
 ghost use Rattle.cfgx_grammar.specs.Neighbours.{next, expected};
-ghost use Rattle.cfgx_parser.specs.nodes.Writer.{Fits, written_of};
 ghost use Rattle.cfgx_parser.specs.parsing.State.{counted};
 ghost use Rattle.cfgx_grammar.specs.FirstFault.{refusal, lacks_value};
 ghost use Rattle.cfgx_grammar.specs.parsing.Step.{with_member, predicate_ended, has_room};
 ghost use Rattle.cfgx_grammar.specs.parsing.Step.{apply, step, unclosed, one_root, conclude};
 ghost use Rattle.cfgx_parser.specs.parsing.Fields.{function_of, open_of, empty_list};
-ghost use Rattle.cfgx_parser.specs.parsing.Fields.{last_of, token_like};
-ghost use Rattle.cfgx_parser.specs.parsing.Parser.{shown};
+ghost use Rattle.cfgx_parser.specs.parsing.Fields.{last_of, token_like, shown, counted_around};
 
 use crate::classification::{Pending, Word, classify};
 use crate::function::{Func, FuncKind};
@@ -144,6 +142,11 @@ pub(crate) struct Parser<'a, A: SmallAllocator> {
     pending: Option<Pending<'a>>,
     /// What is wrong, once that was found
     fault: Option<Fault>,
+    /// Each open function, and each member that has ended, has a node
+    ghost bounded: { list.members + counted_around (reverse func_stack.items)
+        ≤ length writer.nodes.items },
+    /// A number can count the nodes
+    ghost countable: { length writer.nodes.items < 2 ^ 64 },
 }
 
 /// Whether the token may stand after the last one, or at the start.
@@ -230,7 +233,6 @@ impl<'a, A: SmallAllocator> Parser<'a, A> {
     ghost use Rattle.cfgx_parser.specs.parsing.Parser.{parens_opened, value_added, IsQuoted};
     ghost use Rattle.cfgx_parser.specs.parsing.Parser.{closed_at, concluded, HaltsAs, Says};
     ghost use Rattle.cfgx_parser.specs.parsing.Parser.{Reads, Finishes, ReadsAll};
-    ghost use Rattle.cfgx_parser.specs.parsing.Bounded.{IsBounded, HasRoom};
 
     /// A parser that has read nothing of a text of so many bytes.
     ///
@@ -276,7 +278,8 @@ impl<'a, A: SmallAllocator> Parser<'a, A> {
 
     /// Counts a member that has ended in the innermost list.
     fn count_member(&mut self)
-        requires { HasRoom (state_of self.old) }
+        requires { self.old.list.members + counted_around (reverse self.old.func_stack.items)
+            < length self.old.writer.nodes.items }
         ensures counted { state_of self.new ≡ with_member (state_of self.old) }
         ensures functions { self.new.func_stack.items ≡ self.old.func_stack.items }
     {
@@ -285,7 +288,6 @@ impl<'a, A: SmallAllocator> Parser<'a, A> {
 
     /// Writes the predicate or literal that has begun.
     fn write_leaf(&mut self) -> Result<(), Halt>
-        requires { Fits (written_of self.old.writer) }
         ensures { WritesPending self.old self.new result }
     {
         let Some(pending) = &self.pending else {
@@ -302,7 +304,6 @@ impl<'a, A: SmallAllocator> Parser<'a, A> {
 
     /// The same, and cheaper if none has begun, as is often so at a `)`.
     fn write_pending(&mut self) -> Result<(), Halt>
-        requires { Fits (written_of self.old.writer) }
         ensures { WritesPending self.old self.new result }
     {
         if self.pending.is_none() {
@@ -313,7 +314,6 @@ impl<'a, A: SmallAllocator> Parser<'a, A> {
 
     /// Ends the predicate or literal that has begun, if one has.
     fn end_predicate(&mut self) -> Result<(), Halt>
-        requires { IsBounded (state_of self.old) }
         ensures answer { Gives result self.new (predicate_ended (state_of self.old)) }
         ensures functions { OnOk result
             (self.new.func_stack.items ≡ self.old.func_stack.items) }
@@ -329,8 +329,7 @@ impl<'a, A: SmallAllocator> Parser<'a, A> {
     fn open(&mut self, kind: FuncKind, span: Span) -> Result<(), AllocError>
         ensures { OnOk result (Opens self.old self.new (function_of kind) span) }
     {
-        let mark = self.writer.mark();
-        self.writer.function()?;
+        let mark = self.writer.function()?;
         self.func_stack.push(FuncAndSpan {
             kind,
             span,
@@ -343,7 +342,6 @@ impl<'a, A: SmallAllocator> Parser<'a, A> {
 
     /// Closes the innermost function at a `)`, which stands at the span.
     fn close(&mut self, span: Span) -> Result<(), Halt>
-        requires { IsBounded (state_of self.old) }
         ensures { Gives result self.new (closed_at (state_of self.old) span) }
     {
         let Some(top) = self.func_stack.pop() else {
@@ -376,7 +374,6 @@ impl<'a, A: SmallAllocator> Parser<'a, A> {
 
     /// What a token does if it may stand there.
     fn apply(&mut self, lexed: LexerToken<'a>) -> Result<(), Halt>
-        requires bounded { IsBounded (state_of self.old) }
         requires quoted { IsQuoted lexed }
         ensures { Gives result self.new
             (apply (state_of self.old) (item_of lexed.entry) (token_of lexed.entry.token)) }
@@ -408,7 +405,6 @@ impl<'a, A: SmallAllocator> Parser<'a, A> {
 
     /// Reads one token after the last one, or at the start.
     fn read(&mut self, last: LastToken, lexed: LexerToken<'a>) -> Result<(), Halt>
-        requires bounded { IsBounded (state_of self.old) }
         requires quoted { IsQuoted lexed }
         ensures { Reads last lexed.entry self.old self.new result }
     {
@@ -421,8 +417,7 @@ impl<'a, A: SmallAllocator> Parser<'a, A> {
     /// Ends a text of so many bytes whose functions all have ended. One member has to stand at
     /// the root.
     fn one_root(&mut self, len: usize) -> Result<(), Halt>
-        requires fits { Fits (written_of self.old.writer) }
-        requires closed { self.old.func_stack.items ≡ [] }
+        requires { self.old.func_stack.items ≡ [] }
         ensures { Gives result self.new (one_root len (state_of self.old)) }
     {
         match self.list.members {
@@ -434,7 +429,6 @@ impl<'a, A: SmallAllocator> Parser<'a, A> {
 
     /// Ends a text of so many bytes in which no value is missing.
     fn end_root(&mut self, len: usize) -> Result<(), Halt>
-        requires { IsBounded (state_of self.old) }
         ensures { Gives result self.new (concluded (state_of self.old) len) }
     {
         if let Some(top) = self.func_stack.last() {
@@ -447,7 +441,6 @@ impl<'a, A: SmallAllocator> Parser<'a, A> {
 
     /// Ends a text of so many bytes after its last token, and completes its nodes.
     fn finish(&mut self, last: LastToken, len: usize) -> Result<(), Halt>
-        requires { IsBounded (state_of self.old) }
         ensures { Finishes last len self.old self.new result }
     {
         if lacks_value(last) {
@@ -460,7 +453,6 @@ impl<'a, A: SmallAllocator> Parser<'a, A> {
     ///
     /// The error is the first fault of the text, or that the call is out of memory.
     pub(crate) fn read_all(&mut self, alloc: A, lexer: Lexer<'a, A>) -> Result<(), Failure<A>>
-        requires { IsBounded (state_of self.old) }
         ensures { ReadsAll lexer.entry self.old self.new result }
     {
         let text = lexer.original();

@@ -48,10 +48,11 @@ with_list_ended leaves w = record w {
       ++ drop leaves w.leaves;
 }
 
+-- with the node of a function completed, of which no more members come
+abbrev pub completed : ℕ → Func → Written → Written
+completed place func w =
+    record w { nodes = set w.nodes place (node.Fn func (length w.nodes - place)) }
+
 -- with the function ended that began at the mark
 abbrev pub with_function_ended : Mark → Func → Written → Written
-with_function_ended mark func w =
-    with_list_ended mark.leaves (record w {
-      nodes =
-          set w.nodes mark.node (node.Fn func (length w.nodes - mark.node));
-    })
+with_function_ended mark func w = with_list_ended mark.leaves (completed mark.node func w)

@@ -1,5 +1,5 @@
 -- The state that the parser's fields keep.
-use Rattle.std.specs.Prelude.{ℕ, List, [], ◌∷◌, Option, Some, None}
+use Rattle.std.specs.Prelude.{ℕ, ◌+◌, List, [], ◌∷◌, Option, Some, None}
 use Rattle.std.specs.Prelude.{option_map, Result, Ok, Err}
 use Rattle.std.specs.declared.ops.Range.{Range}
 use Rattle.cfgx_syntax.specs.Error.{Refusal, unexpected, cause_of}
@@ -14,6 +14,7 @@ use Rattle.cfgx_parser.specs.declared.function.FuncKind.TheVariants as kind
 use Rattle.cfgx_parser.specs.declared.classification.Word as code_word
 use Rattle.cfgx_parser.specs.declared.classification.Pending as code_pending
 use Rattle.cfgx_parser.specs.declared.nodes.ExprNode.{ExprNode}
+use Rattle.cfgx_parser.specs.declared.parser.Fault.{Fault}
 use Rattle.cfgx_parser.specs.declared.parser.FuncAndSpan.{FuncAndSpan}
 use Rattle.cfgx_parser.specs.declared.parser.OpenList.{OpenList}
 use Rattle.cfgx_parser.specs.declared.parser.LastToken.{LastToken}
@@ -78,6 +79,15 @@ opens_in list (top ∷ rest) = open_of top list ∷ opens_in top.around rest
 abbrev pub roots_in : OpenList → List FuncAndSpan → ℕ
 roots_in list [] = list.members
 roots_in list (top ∷ rest) = roots_in top.around rest
+
+-- how many functions are open, and how many members have ended in the lists in which they stand
+abbrev pub counted_around : List FuncAndSpan → ℕ
+counted_around [] = 0
+counted_around (top ∷ rest) = top.around.members + 1 + counted_around rest
+
+-- a fault that was noted, as the steps show it
+abbrev pub shown : Fault → Refusal
+shown fault = refusal (cause_of fault.reason) fault.span.start fault.span.end
 
 -- what the parser keeps of the last token
 abbrev pub last_of : Option spelled.Token → LastToken

@@ -1,13 +1,12 @@
 -- What the parser's functions say: they compute the steps.
-use Rattle.std.specs.Prelude.{◌≡◌, ℕ, ◌+◌, ◌-◌, ◌≤◌, List, reverse, option_map}
+use Rattle.std.specs.Prelude.{◌≡◌, ℕ, ◌+◌, ◌-◌, ◌≤◌, List, length, reverse, option_map}
 use Rattle.std.specs.Prelude.{Option, Some, None, Result, Ok, Err}
 use Rattle.std.specs.declared.ops.Range.{Range}
 use Rattle.cfgx_syntax.specs.Token as spelled
 use Rattle.cfgx_syntax.specs.Items.{Item, Ending, ItemsFrom}
 use Rattle.cfgx_syntax.specs.LexerState.{LexerState}
 use Rattle.cfgx_syntax.specs.Lexer.{token_of, item_of}
-use Rattle.cfgx_syntax.specs.Error.{Refusal, cause_of, fault_in, fault_of}
-use Rattle.cfgx_grammar.specs.FirstFault.{refusal}
+use Rattle.cfgx_syntax.specs.Error.{Refusal, fault_in, fault_of}
 use Rattle.cfgx_parser.specs.declared.parser.Fault.{Fault}
 use Rattle.cfgx_parser.specs.declared.parser.Halt.{Halt}
 use Rattle.cfgx_parser.specs.declared.parser.Halt.TheVariants as halt
@@ -16,14 +15,14 @@ use Rattle.cfgx_syntax.specs.declared.error.Failure.TheVariants as failure
 use Rattle.cfgx_syntax.specs.declared.lexer.LexerToken.{LexerToken}
 use Rattle.cfgx_syntax.specs.declared.lexer.Token.{Token}
 use Rattle.cfgx_syntax.specs.declared.lexer.Token.TheVariants as given
-use Rattle.cfgx_parser.specs.nodes.Writer.{Fits, written_of}
+use Rattle.cfgx_parser.specs.nodes.Writer.{written_of}
 use Rattle.cfgx_grammar.specs.parsing.State.{Function, Pending}
 use Rattle.cfgx_parser.specs.nodes.Node.{Written, with_leaf}
 use Rattle.cfgx_parser.specs.parsing.State.{ParserState, classified}
 use Rattle.cfgx_grammar.specs.parsing.Step.{opened, closed_by, concluded_by, result_map}
 use Rattle.cfgx_grammar.specs.parsing.Step.{answer_from, over_top, with_parens, step, conclude}
 use Rattle.cfgx_grammar.specs.LastPredicate.{with_value, word_of}
-use Rattle.cfgx_parser.specs.parsing.Fields.{opens_in, roots_in, pending_of, last_of}
+use Rattle.cfgx_parser.specs.parsing.Fields.{opens_in, roots_in, pending_of, last_of, shown}
 use Rattle.cfgx_parser.specs.declared.parser.LastToken.{LastToken}
 use Rattle.cfgx_parser.specs.declared.parser.Parser.{Parser}
 
@@ -39,10 +38,6 @@ state_at last p = record {
 
 abbrev pub state_of : {A : Type 0} → Parser A → ParserState
 state_of {A} p = state_at {A = A} None p
-
--- a fault that was noted, as the steps show it
-abbrev pub shown : Fault → Refusal
-shown fault = refusal (cause_of fault.reason) fault.span.start fault.span.end
 
 -- a parser that halts at a fault has noted the one that the steps show
 abbrev pub HaltsAs : {A : Type 0} → Halt → Parser A → Result ParserState Refusal → Type 0
@@ -61,17 +56,10 @@ abbrev pub Says : {A : Type 0} → List ℕ → Halt → Parser A → Failure A 
 Says {A} text h parser failure = (answer : Result ParserState Refusal)
     → HaltsAs {A = A} h parser answer → FailsAs text failure answer
 
--- the parser went on to a state
-pub record Reaches {A : Type 0} (last : Option spelled.Token) (new : Parser A) (state : ParserState)
-    : Type 0 where
-  pub is : state ≡ state_at {A = A} last new
-  pub fits : Fits (written_of new.writer)
-
 -- the answer of a function that goes one step, to a token that is the last one then
 abbrev pub GivesAt : {A : Type 0} → Option spelled.Token → Result (Unit {0}) Halt → Parser A
     → Result ParserState Refusal → Type 0
-GivesAt {A} last (Ok done) new answer = (state : ParserState) × (answer ≡ Ok state)
-    × Reaches {A = A} last new state
+GivesAt {A} last (Ok done) new answer = answer ≡ Ok (state_at {A = A} last new)
 GivesAt {A} last (Err halt) new answer = HaltsAs {A = A} halt new answer
 
 abbrev pub Gives : {A : Type 0} → Result (Unit {0}) Halt → Parser A → Result ParserState Refusal
@@ -82,8 +70,8 @@ abbrev pub item_at : Range ℕ → Item
 item_at span = record { token = spelled.Token.comma; start = span.start; end = span.end }
 
 abbrev pub Opens : {A : Type 0} → Parser A → Parser A → Function → Range ℕ → Type 0
-Opens {A} old new function span = Reaches {A = A} None new
-    (opened (state_of {A = A} old) function (item_at span))
+Opens {A} old new function span =
+    state_of {A = A} new ≡ opened (state_of {A = A} old) function (item_at span)
 
 -- the state without its predicate, and with what was written
 abbrev pub settled : ParserState → Written → ParserState
@@ -95,11 +83,17 @@ pending_written None s = Ok (settled s s.written)
 pending_written (Some p) s = result_map (λ leaf. settled s (with_leaf leaf s.written))
     (classified p)
 
+-- how many predicates have begun
+abbrev pub pending_count : {X : Type 0} → Option X → ℕ
+pending_count None = 0
+pending_count (Some p) = 1
+
 -- it is written, and no more changes
 pub record Wrote {A : Type 0} (old new : Parser A) : Type 0 where
   pub written : pending_written (state_of {A = A} old).pending (state_of {A = A} old)
       ≡ Ok (settled (state_of {A = A} old) (written_of new.writer))
-  pub fits : Fits (written_of new.writer)
+  pub one_more : length (written_of old.writer).nodes + pending_count old.pending
+      ≤ length (written_of new.writer).nodes
   pub none : new.pending ≡ None
   pub functions : new.func_stack.items ≡ old.func_stack.items
   pub list : new.list ≡ old.list

@@ -3,6 +3,3 @@ use Rattle.cfgx_parser.proofs.nodes.Writer.function.Goals as goal
 
 pub returns-clause-written : goal.returns-clause-written
 returns-clause-written g c = rw (c.in_ok-push.ensures.ok) refl
-
-pub returns-clause-fits : goal.returns-clause-fits
-returns-clause-fits g c = rw (← c.len-fits.ensures.value) c.len-fits.type_inv

@@ -10,8 +10,8 @@ none : (functions seen : List FuncAndSpan) → seen ≡ functions → false ≡ 
 none [] seen is few = refl
 none (top ∷ rest) seen is few = absurd (omega (arith, ap length is, ltb-false _ _ (sym few)))
 
-pub one_root-requires-clause-closed : goal.one_root-requires-clause-closed
-one_root-requires-clause-closed g c =
+pub one_root-requires : goal.one_root-requires
+one_root-requires g c =
     c.in_ok-end_predicate.ensures.functions
     ∙ none c.args.self.now.func_stack.items _ c.deref.ensures c.in_default.ensures.item.0
 
@@ -19,5 +19,4 @@ pub returns : goal.returns
 returns g c =
     let closed = none c.args.self.now.func_stack.items _ c.deref.ensures c.in_default.ensures.item.0
     in
-    let ended = c.in_ok-end_predicate.ensures.answer in
-    rw (closed, ended.1, ended.2.is) c.one_root.ensures
+    rw (closed, c.in_ok-end_predicate.ensures.answer) c.one_root.ensures
