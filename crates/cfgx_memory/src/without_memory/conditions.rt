@@ -1,13 +1,14 @@
 //! Conditions that are asked, compared, printed, spelled and evaluated, and the logics.
-use super::pair;
 use crate::in_turn::conditions::called;
+use cfg_expr::error::Failure;
 use cfg_expr::expr::logic::Kleene64;
 use cfg_expr::expr::{Logic, Predicates, spell};
 use cfg_expr::memory::SmallAllocator;
 use cfg_expr::targets::{TargetInfo, TargetTable};
 use cfg_expr::{Expression, Predicate};
-use cfgx_testing::heap::{Heap, empty_heap, has_every_block, holds_without_memory};
+use cfgx_testing::heap::{Heap, empty_heap, has_every_block};
 use cfgx_testing::holding::{first_wrong, holds, prints};
+use cfgx_testing::refusing::EVERY;
 use std::alloc::{AllocError, Global};
 
 const TEXT: &str = "all(a, any(b), feature = \"a feature with a long name\")";
@@ -16,15 +17,30 @@ const OTHER: &str = "all(a, any(b), feature = \"a feature with a long name\"),";
 
 const FLAGS: &str = "all(a, any(b), c)";
 
+/// An expression, or why there is none.
+type Read<A> = Result<Expression<A>, Failure<A>>;
+
+// What parsing the text answers with memory, and every growth after it refused.
+fn read<'h>(heap: Heap<'h>, text: &str) -> Read<Heap<'h>> {
+    heap.refuse(0);
+    let read = Expression::parse(heap, text);
+    heap.refuse(EVERY);
+    read
+}
+
+// Whether the expressions are equal, and their predicates.
+fn are_equal<A: SmallAllocator>(one: Read<A>, other: Read<A>, wanted: (bool, bool)) -> bool {
+    match (&one, &other) {
+        (Ok(one), Ok(other)) => {
+            (one == other) == wanted.0 && one.predicates().eq(other.predicates()) == wanted.1
+        }
+        _ => false,
+    }
+}
+
 // Whether `TEXT` and the other text have equal expressions, and equal predicates.
 fn are_compared(heap: Heap<'_>, other: &str, wanted: (bool, bool)) -> bool {
-    let read = pair(
-        Expression::parse(heap, TEXT),
-        Expression::parse(heap, other),
-    );
-    holds_without_memory(heap, read, |two| {
-        (two.0 == two.1) == wanted.0 && two.0.predicates().eq(two.1.predicates()) == wanted.1
-    })
+    are_equal(read(heap, TEXT), read(heap, other), wanted)
 }
 
 // Whether the predicate is this flag, or `feature`.
@@ -73,11 +89,22 @@ fn is_of_the_fourth<A: SmallAllocator>(
     rows.len() == 5 && target.lanes(rows) == Kleene64::new(0b01000, 0b10111)
 }
 
+fn is_asked_of_the_fourth<A: SmallAllocator>(
+    read: Read<A>,
+    table: Result<TargetTable<'_, A>, AllocError>,
+) -> bool {
+    match (&read, &table) {
+        (Ok(expression), Ok(table)) => {
+            is_of_the_fourth(expression.predicates().next(), table.rows())
+        }
+        _ => false,
+    }
+}
+
 fn ask_for_the_fourth(heap: Heap<'_>) -> bool {
-    let read = Expression::parse(heap, "target_abi = \"sim\"").map_err(|_| AllocError);
-    holds_without_memory(heap, pair(read, TargetTable::builtins(heap)), |two| {
-        is_of_the_fourth(two.0.predicates().next(), two.1.rows())
-    })
+    heap.refuse(0);
+    let table = TargetTable::builtins(heap);
+    is_asked_of_the_fourth(read(heap, "target_abi = \"sim\""), table)
 }
 
 // Checks of expressions, and texts. Those that are evaluated have 31 or 32 bytes.
@@ -112,9 +139,15 @@ fn answers<A: SmallAllocator>(
     }
 }
 
+fn is_right<A: SmallAllocator>(global: Global, alloc: A, check: &str, read: Read<A>) -> bool {
+    match &read {
+        Ok(expression) => answers(global, alloc, check, expression),
+        Err(_) => false,
+    }
+}
+
 fn is_answered(alloc: Global, heap: Heap<'_>, check: &str, text: &str) -> bool {
-    let read = Expression::parse(heap, text);
-    holds_without_memory(heap, read, |one| answers(alloc, heap, check, one))
+    is_right(alloc, heap, check, read(heap, text))
 }
 
 #[test]
