@@ -1,7 +1,7 @@
 //! A counted stream makes one call of the stream inside for each of its own, and counts those that
 //! fail.
+use crate::asserting::all_hold;
 use cfgx_engine::engine::streams::{Counted, Sink, Source, write_whole};
-use cfgx_testing::holding::first_wrong;
 use cfgx_testing::streams::{Pieces, interrupted};
 use std::io;
 
@@ -69,7 +69,7 @@ fn a_counted_writer_counts_its_failed_writes(rt: HostRuntime) {
         ("no room", write(&mut sink, b"e") == (Some(0), 1)),
         ("a flush", flush(&mut sink) == (true, 1)),
     ];
-    assert_eq!(rt; first_wrong(&checks), None);
+    all_hold(&rt, &checks);
 }
 
 // A counted writer in memory gets the whole output.
@@ -84,7 +84,7 @@ fn a_counted_writer_takes_the_whole(rt: HostRuntime) {
         ("no room", second == (false, 1)),
         ("what is written", room == *b"hello\n"),
     ];
-    assert_eq!(rt; first_wrong(&checks), None);
+    all_hold(&rt, &checks);
 }
 
 // A stream whose first calls of each kind, so many of them, fail and whose later ones do not. It
@@ -154,7 +154,7 @@ fn a_counted_writer_counts_errors(rt: HostRuntime) {
         ("a whole text", whole(&mut sink, b"a") == (false, 3)),
         ("its flush", whole(&mut sink, b"") == (false, 4)),
     ];
-    assert_eq!(rt; first_wrong(&checks), None);
+    all_hold(&rt, &checks);
 }
 
 #[test]
@@ -174,7 +174,7 @@ fn a_counted_stream_tries_no_call_again(rt: HostRuntime) {
         ("a flush", flush(&mut counted) == (true, 3)),
         ("two calls each", calls(&counted) == (2, 2, 2)),
     ];
-    assert_eq!(rt; first_wrong(&checks), None);
+    all_hold(&rt, &checks);
 }
 
 #[test]
@@ -186,5 +186,5 @@ fn a_counted_writer_tries_no_empty_write_again(rt: HostRuntime) {
         ("a write", write(&mut sink, b"ab") == (Some(2), 1)),
         ("two calls", calls(&sink) == (0, 2, 0)),
     ];
-    assert_eq!(rt; first_wrong(&checks), None);
+    all_hold(&rt, &checks);
 }

@@ -1,4 +1,5 @@
 //! `cfgx eval` writes the value of its text by its flags, or the fault of its first faulty text.
+use crate::asserting::passed;
 use cfgx_testing::words::passing_runs;
 
 pub(super) const VALUES: &str = r#"
@@ -55,7 +56,7 @@ pub(super) const VALUES: &str = r#"
 
 #[test]
 fn values_by_flags(rt: HostRuntime) {
-    assert_eq!(rt; passing_runs(rt.alloc(), VALUES), Ok(43));
+    passed(&rt, passing_runs(rt.alloc(), VALUES), 43);
 }
 
 pub(super) const FAULTS: &str = r#"
@@ -79,5 +80,5 @@ pub(super) const FAULTS: &str = r#"
 
 #[test]
 fn the_first_faulty_text_counts(rt: HostRuntime) {
-    assert_eq!(rt; passing_runs(rt.alloc(), FAULTS), Ok(16));
+    passed(&rt, passing_runs(rt.alloc(), FAULTS), 16);
 }

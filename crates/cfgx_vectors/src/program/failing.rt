@@ -1,5 +1,6 @@
 //! The first failed call of a stream is the last call of both streams.
 use super::{KINDS, UNREAD};
+use crate::asserting::passed;
 use cfgx_engine::engine::run;
 use cfgx_testing::streams::{ALL, Pieces, Recorder, is_left_so};
 use cfgx_testing::triples::SIM;
@@ -83,8 +84,8 @@ fn ends_so(alloc: Global, row: &[String]) -> bool {
 #[test]
 fn no_call_follows_a_failed_one(rt: HostRuntime) {
     let alloc = rt.alloc();
-    let passed = passing_texts(alloc, ENDINGS, |row| ends_so(alloc, row));
-    assert_eq!(rt; passed, Ok(25));
+    let rows = passing_texts(alloc, ENDINGS, |row| ends_so(alloc, row));
+    passed(&rt, rows, 25);
 }
 
 // Whether a run over the input whose write of this number fails, counted from 0, ends with status
@@ -132,8 +133,8 @@ fn writes_fail_in_turn(alloc: Global, row: &[String]) -> bool {
 fn no_call_follows_a_failed_write(rt: HostRuntime) {
     let alloc = rt.alloc();
     for table in UNREAD {
-        let passed = passing_texts(alloc, table, |row| writes_fail_in_turn(alloc, row));
-        assert!(rt; passed.is_ok(), "{passed:?}");
+        let rows = passing_texts(alloc, table, |row| writes_fail_in_turn(alloc, row));
+        assert!(rt; rows.is_ok(), "{rows:?}");
     }
 }
 
@@ -147,8 +148,8 @@ fn writes_of_pick_fail_in_turn(alloc: Global, row: &[String]) -> bool {
 #[test]
 fn no_call_follows_a_failed_write_of_pick(rt: HostRuntime) {
     let alloc = rt.alloc();
-    let passed = passing_texts(alloc, KINDS, |row| writes_of_pick_fail_in_turn(alloc, row));
-    assert_eq!(rt; passed, Ok(6));
+    let rows = passing_texts(alloc, KINDS, |row| writes_of_pick_fail_in_turn(alloc, row));
+    passed(&rt, rows, 6);
 }
 
 // Whether a run over the input whose read of this number fails ends with status 3, reads no more,
@@ -187,6 +188,6 @@ fn reads_fail_in_turn(alloc: Global, row: &[String]) -> bool {
 #[test]
 fn no_call_follows_a_failed_read(rt: HostRuntime) {
     let alloc = rt.alloc();
-    let passed = passing_texts(alloc, KINDS, |row| reads_fail_in_turn(alloc, row));
-    assert_eq!(rt; passed, Ok(6));
+    let rows = passing_texts(alloc, KINDS, |row| reads_fail_in_turn(alloc, row));
+    passed(&rt, rows, 6);
 }

@@ -1,5 +1,6 @@
 //! Runs over long, wide and deep texts and inputs end in an answer.
 use super::passing_inputs;
+use crate::asserting::passed;
 use cfgx_testing::streams::ALL;
 use cfgx_testing::triples::SIM;
 use cfgx_testing::words::passing_runs;
@@ -25,7 +26,7 @@ const RUNS: &str = r#"
 
 #[test]
 fn many_predicates_and_many_flags(rt: HostRuntime) {
-    assert_eq!(rt; passing_runs(rt.alloc(), RUNS), Ok(14));
+    passed(&rt, passing_runs(rt.alloc(), RUNS), 14);
 }
 
 // The status, the input, and what is written of it on the simulator.
@@ -49,5 +50,5 @@ const INPUTS: &str = r#"
 
 #[test]
 fn many_lines_and_long_ones(rt: HostRuntime) {
-    assert_eq!(rt; passing_inputs(rt.alloc(), SIM, ALL, INPUTS), Ok(14));
+    passed(&rt, passing_inputs(rt.alloc(), SIM, ALL, INPUTS), 14);
 }

@@ -1,4 +1,5 @@
 //! `cfgx parse` writes the predicates of its text, one a line, or what its fault prints.
+use crate::asserting::passed;
 use cfgx_testing::words::passing_runs;
 
 pub(super) const RUNS: &str = r#"
@@ -26,5 +27,5 @@ target_has_atomic = "8x"
 
 #[test]
 fn predicates_and_faults(rt: HostRuntime) {
-    assert_eq!(rt; passing_runs(rt.alloc(), RUNS), Ok(19));
+    passed(&rt, passing_runs(rt.alloc(), RUNS), 19);
 }

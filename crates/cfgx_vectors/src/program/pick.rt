@@ -1,5 +1,6 @@
 //! `cfgx pick` writes the verdicts on the sections of its input, or the input's first fault.
 use super::{is_picked, is_row_picked, passing_inputs};
+use crate::asserting::passed;
 use cfgx_testing::streams::ALL;
 use cfgx_testing::triples::{IOS, SIM};
 use cfgx_testing::words::passing_texts;
@@ -70,7 +71,7 @@ const LINES: &str = r#"
 
 #[test]
 fn an_input_has_lines(rt: HostRuntime) {
-    assert_eq!(rt; passing_inputs(rt.alloc(), SIM, ALL, LINES), Ok(51));
+    passed(&rt, passing_inputs(rt.alloc(), SIM, ALL, LINES), 51);
 }
 
 // What the simulator decides, and what it does not decide, with the fillings that show it.
@@ -119,7 +120,7 @@ n\tunknown\n\ttrue with 1001\n\tfalse with 0101\n
 
 #[test]
 fn verdicts_with_their_fillings(rt: HostRuntime) {
-    assert_eq!(rt; passing_inputs(rt.alloc(), SIM, ALL, CONDITIONS), Ok(34));
+    passed(&rt, passing_inputs(rt.alloc(), SIM, ALL, CONDITIONS), 34);
 }
 
 const FAULTS: &str = r#"
@@ -145,7 +146,7 @@ const FAULTS: &str = r#"
 
 #[test]
 fn the_first_faulty_line_is_written(rt: HostRuntime) {
-    assert_eq!(rt; passing_inputs(rt.alloc(), SIM, ALL, FAULTS), Ok(15));
+    passed(&rt, passing_inputs(rt.alloc(), SIM, ALL, FAULTS), 15);
 }
 
 // A triple, and a row as above.
@@ -176,8 +177,8 @@ fn is_picked_on(alloc: Global, row: &[String]) -> bool {
 #[test]
 fn verdicts_on_targets(rt: HostRuntime) {
     let alloc = rt.alloc();
-    let passed = passing_texts(alloc, ON_TARGETS, |row| is_picked_on(alloc, row));
-    assert_eq!(rt; passed, Ok(10));
+    let rows = passing_texts(alloc, ON_TARGETS, |row| is_picked_on(alloc, row));
+    passed(&rt, rows, 10);
 }
 
 // Inputs that are not UTF-8, wherever a faulty line stands.

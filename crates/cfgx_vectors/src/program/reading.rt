@@ -1,5 +1,6 @@
 //! Only `pick` reads, to the end of its input and no further. No write is of an empty slice.
 use super::{KINDS, UNREAD, passing_inputs};
+use crate::asserting::passed;
 use cfgx_engine::engine::run;
 use cfgx_testing::streams::{ALL, Pieces, Recorder, is_written};
 use cfgx_testing::triples::SIM;
@@ -38,8 +39,8 @@ fn is_row_unread(alloc: Global, row: &[String]) -> bool {
 fn other_words_read_nothing(rt: HostRuntime) {
     let alloc = rt.alloc();
     for table in UNREAD {
-        let passed = passing_texts(alloc, table, |row| is_row_unread(alloc, row));
-        assert!(rt; passed.is_ok(), "{passed:?}");
+        let rows = passing_texts(alloc, table, |row| is_row_unread(alloc, row));
+        assert!(rt; rows.is_ok(), "{rows:?}");
     }
 }
 
@@ -86,8 +87,9 @@ fn has_reads(alloc: Global, row: &[String]) -> bool {
 #[test]
 fn nothing_is_read_after_the_end(rt: HostRuntime) {
     let alloc = rt.alloc();
-    assert_eq!(rt;
+    passed(
+        &rt,
         passing_texts(alloc, READS, |row| has_reads(alloc, row)),
-        Ok(12)
+        12,
     );
 }

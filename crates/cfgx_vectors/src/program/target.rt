@@ -1,4 +1,5 @@
 //! `cfgx target` writes the value of its text on its target, or what the fault of the text prints.
+use crate::asserting::passed;
 use cfgx_testing::streams::is_answer;
 use cfgx_testing::triples::{DARWIN, IOS, MACABI, SIM, TVOS};
 use cfgx_testing::words::{passing_runs, passing_texts};
@@ -41,7 +42,7 @@ pub(super) const VALUES: &str = r#"
 
 #[test]
 fn values_on_targets(rt: HostRuntime) {
-    assert_eq!(rt; passing_runs(rt.alloc(), VALUES), Ok(31));
+    passed(&rt, passing_runs(rt.alloc(), VALUES), 31);
 }
 
 // The value on every target, and the text.
@@ -67,8 +68,8 @@ fn is_everywhere(alloc: Global, triple: &str, row: &[String]) -> bool {
 fn values_on_every_target(rt: HostRuntime) {
     let alloc = rt.alloc();
     for triple in [DARWIN, IOS, MACABI, SIM, TVOS] {
-        let passed = passing_texts(alloc, EVERYWHERE, |row| is_everywhere(alloc, triple, row));
-        assert_eq!(rt; passed, Ok(2), "{triple}");
+        let rows = passing_texts(alloc, EVERYWHERE, |row| is_everywhere(alloc, triple, row));
+        assert!(rt; rows == Ok(2), "{triple}");
     }
 }
 
@@ -81,5 +82,5 @@ pub(super) const FAULTS: &str = r#"
 
 #[test]
 fn faults_of_texts(rt: HostRuntime) {
-    assert_eq!(rt; passing_runs(rt.alloc(), FAULTS), Ok(4));
+    passed(&rt, passing_runs(rt.alloc(), FAULTS), 4);
 }

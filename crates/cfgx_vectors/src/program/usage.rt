@@ -1,4 +1,5 @@
 //! Words that no command has, and triples that no target has.
+use crate::asserting::passed;
 use cfgx_testing::words::passing_runs;
 
 pub(super) const WRONG_USE: &str = r#"
@@ -21,7 +22,7 @@ pub(super) const WRONG_USE: &str = r#"
 
 #[test]
 fn wrong_use(rt: HostRuntime) {
-    assert_eq!(rt; passing_runs(rt.alloc(), WRONG_USE), Ok(15));
+    passed(&rt, passing_runs(rt.alloc(), WRONG_USE), 15);
 }
 
 pub(super) const UNKNOWN_TRIPLES: &str = r#"
@@ -39,5 +40,5 @@ pub(super) const UNKNOWN_TRIPLES: &str = r#"
 
 #[test]
 fn a_triple_is_looked_up_before_a_text(rt: HostRuntime) {
-    assert_eq!(rt; passing_runs(rt.alloc(), UNKNOWN_TRIPLES), Ok(10));
+    passed(&rt, passing_runs(rt.alloc(), UNKNOWN_TRIPLES), 10);
 }

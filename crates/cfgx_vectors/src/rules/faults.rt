@@ -1,5 +1,6 @@
 //! The order of the questions: the first fault of a text that may have several.
 use super::faulty;
+use crate::asserting::passed;
 
 // A `)` while no function is open, and one that closes a `not` with another number of members
 // than 1.
@@ -54,15 +55,15 @@ a, b, c | MultipleRootPredicates at 0..7
 
 #[test]
 fn at_a_paren(rt: HostRuntime) {
-    assert_eq!(rt; faulty(rt.alloc(), AT_A_PAREN), Ok(10));
+    passed(&rt, faulty(rt.alloc(), AT_A_PAREN), 10);
 }
 
 #[test]
 fn at_an_end_too_early(rt: HostRuntime) {
-    assert_eq!(rt; faulty(rt.alloc(), CUT_SHORT), Ok(15));
+    passed(&rt, faulty(rt.alloc(), CUT_SHORT), 15);
 }
 
 #[test]
 fn at_an_end_with_no_root_or_several(rt: HostRuntime) {
-    assert_eq!(rt; faulty(rt.alloc(), ROOTS), Ok(13));
+    passed(&rt, faulty(rt.alloc(), ROOTS), 13);
 }

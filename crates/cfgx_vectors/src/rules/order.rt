@@ -1,5 +1,6 @@
 //! The order of the predicates: those inside nested functions first, and of each list in turn.
 use super::accepted;
+use crate::asserting::passed;
 use cfg_expr::error::Failure;
 use cfg_expr::expr::Predicates;
 use cfg_expr::{Expression, Predicate};
@@ -29,7 +30,7 @@ re = "a"\ntarget_has_atomic = "8"\nkey = "v"
 
 #[test]
 fn ask_the_inner_lists_first(rt: HostRuntime) {
-    assert_eq!(rt; accepted(rt.alloc(), ROWS), Ok(13));
+    passed(&rt, accepted(rt.alloc(), ROWS), 13);
 }
 
 // Texts, and what each call for the next predicate gives until the end came twice: how many are to
@@ -76,7 +77,7 @@ fn count_what_is_to_come(rt: HostRuntime) {
     let rows = passing_pairs(rt.alloc(), CALLS, |text, wanted| {
         holds(come(rt.alloc(), text, wanted))
     });
-    assert_eq!(rt; rows, Ok(2));
+    passed(&rt, rows, 2);
 }
 
 // Texts, the lengths of the trees of their nodes, and the places that are asked. No caller of an
@@ -127,5 +128,5 @@ fn nodes_have_their_lengths_and_places(rt: HostRuntime) {
     let rows = passing_pairs(rt.alloc(), NODES, |text, wanted| {
         holds(leaves(rt.alloc(), text, wanted))
     });
-    assert_eq!(rt; rows, Ok(5));
+    passed(&rt, rows, 5);
 }

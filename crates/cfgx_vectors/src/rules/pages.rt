@@ -1,6 +1,7 @@
 //! Tables of `docs/RULES.md`, word for word, which `.ci/examples` compares with the page.
 use super::is_accepted;
 use super::predicates::asks;
+use crate::asserting::passed;
 use cfgx_engine::engine::run;
 use cfgx_testing::holding::holds;
 use cfgx_testing::rows::{has_fault, passing_pairs, passing_threes};
@@ -65,7 +66,7 @@ fn texts_have_their_faults(rt: HostRuntime) {
     let rows = passing_threes(rt.alloc(), FAULTS, |text, fault, _question| {
         is_faulty(rt.alloc(), text, fault)
     });
-    assert_eq!(rt; rows, Ok(29));
+    passed(&rt, rows, 29);
 }
 
 const SPELLINGS: &str = r#"
@@ -101,7 +102,7 @@ fn predicates_have_their_spellings(rt: HostRuntime) {
     let rows = passing_pairs(rt.alloc(), SPELLINGS, |predicate, spelling| {
         is_spelling(rt.alloc(), predicate, spelling)
     });
-    assert_eq!(rt; rows, Ok(19));
+    passed(&rt, rows, 19);
 }
 
 const PICKED: &str = r#"
@@ -151,5 +152,5 @@ fn inputs_are_picked_from(rt: HostRuntime) {
     let rows = passing_pairs(rt.alloc(), PICKED, |cell, printed| {
         is_printed(rt.alloc(), cell, printed)
     });
-    assert_eq!(rt; rows, Ok(6));
+    passed(&rt, rows, 6);
 }

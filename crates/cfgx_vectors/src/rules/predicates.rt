@@ -1,5 +1,6 @@
 //! Predicates and literals: what a key means alone and with a value.
 use super::{accepted, faulty};
+use crate::asserting::passed;
 use cfg_expr::error::Failure;
 use cfg_expr::expr::Predicates;
 use cfg_expr::{Expression, Predicate, TargetPredicate};
@@ -46,7 +47,7 @@ key = "a\nb" | key = "a\nb"
 
 #[test]
 fn ask_their_predicates(rt: HostRuntime) {
-    assert_eq!(rt; accepted(rt.alloc(), VALUES), Ok(33));
+    passed(&rt, accepted(rt.alloc(), VALUES), 33);
 }
 
 // Literals ask nothing. Keys that look like them are flags.
@@ -63,7 +64,7 @@ key = "true" | key = "true"
 
 #[test]
 fn literals_ask_nothing(rt: HostRuntime) {
-    assert_eq!(rt; accepted(rt.alloc(), LITERALS), Ok(8));
+    passed(&rt, accepted(rt.alloc(), LITERALS), 8);
 }
 
 // Texts, and their one predicate.
@@ -132,7 +133,7 @@ fn ask_by_their_types(rt: HostRuntime) {
     let rows = passing_pairs(rt.alloc(), TYPED, |text, wanted| {
         holds(asks(rt.alloc(), text, wanted))
     });
-    assert_eq!(rt; rows, Ok(17));
+    passed(&rt, rows, 17);
 }
 
 // Texts with a faulty predicate, at its key or at the inside of its value.
@@ -172,7 +173,7 @@ target_has_atomic = "Ptr" | InvalidHasAtomic at 21..24
 
 #[test]
 fn refuse_what_a_key_cannot_mean(rt: HostRuntime) {
-    assert_eq!(rt; faulty(rt.alloc(), FAULTS), Ok(28));
+    passed(&rt, faulty(rt.alloc(), FAULTS), 28);
 }
 
 // Values that write no number.
@@ -223,8 +224,9 @@ fn is_no_number(alloc: Global, row: &[String]) -> bool {
 
 #[test]
 fn no_number_is_no_width(rt: HostRuntime) {
-    assert_eq!(rt;
+    passed(
+        &rt,
         passing(rt.alloc(), NO_NUMBERS, |row| is_no_number(rt.alloc(), row)),
-        Ok(11)
+        11,
     );
 }

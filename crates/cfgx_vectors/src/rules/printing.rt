@@ -1,5 +1,6 @@
 //! What a fault prints, written out by hand from the rules of the format.
 use super::span_of;
+use crate::asserting::passed;
 use cfg_expr::error::{Failure, ParseError, Reason};
 use cfgx_testing::holding::{gives, prints};
 use cfgx_testing::rows::{is_fault, passing_threes};
@@ -106,7 +107,7 @@ fn each_reason_has_its_texts(rt: HostRuntime) {
     let rows = passing_threes(rt.alloc(), REASONS, |name, text, description| {
         has_texts(rt.alloc(), name, text, description)
     });
-    assert_eq!(rt; rows, Ok(15));
+    passed(&rt, rows, 15);
 }
 
 // Whether the fault that rows tell so prints this.
@@ -122,7 +123,7 @@ fn a_fault_prints_its_text_its_marks_and_its_reason(rt: HostRuntime) {
     let rows = passing_threes(rt.alloc(), PRINTED, |text, fault, printed| {
         is_printed(rt.alloc(), text, fault, printed)
     });
-    assert_eq!(rt; rows, Ok(11));
+    passed(&rt, rows, 11);
 }
 
 #[test]

@@ -1,4 +1,5 @@
 //! How a predicate is spelled, by a writer that takes all or little a call, or that fails.
+use crate::asserting::passed;
 use cfg_expr::error::Failure;
 use cfg_expr::expr::{Predicates, spell};
 use cfg_expr::{Expression, Predicate};
@@ -134,7 +135,7 @@ fn spells_each_kind_of_predicate(rt: HostRuntime) {
     let rows = passing_pairs(rt.alloc(), ROWS, |text, spelled| {
         is_spelled_by_any(rt.alloc(), text, spelled)
     });
-    assert_eq!(rt; rows, Ok(18));
+    passed(&rt, rows, 18);
 }
 
 // What stands before and after a text of 5,000 bytes in a predicate.
@@ -168,7 +169,7 @@ fn spells_long_texts(rt: HostRuntime) {
         LONG,
         |front, back| is_long(rt.alloc(), front, back),
     );
-    assert_eq!(rt; rows, Ok(12));
+    passed(&rt, rows, 12);
 }
 
 // No text asks such a flag, so only a caller can make it.
@@ -204,7 +205,7 @@ fn stops_where_the_writer_takes_nothing(rt: HostRuntime) {
     let rows = passing_pairs(rt.alloc(), ROWS, |text, spelled| {
         stops_at_each(rt.alloc(), text, spelled)
     });
-    assert_eq!(rt; rows, Ok(18));
+    passed(&rt, rows, 18);
 }
 
 const KINDS: [ErrorKind; 3] = [
@@ -246,7 +247,7 @@ fn a_failed_call_is_the_last(rt: HostRuntime) {
     let rows = passing_pairs(rt.alloc(), ROWS, |text, spelled| {
         fails_at_each(rt.alloc(), text, spelled)
     });
-    assert_eq!(rt; rows, Ok(18));
+    passed(&rt, rows, 18);
 }
 
 // Whether both texts ask the same predicates.
@@ -267,5 +268,5 @@ fn a_spelling_is_read_as_its_predicate(rt: HostRuntime) {
     let rows = passing_pairs(rt.alloc(), ROWS, |text, spelled| {
         is_read_again(rt.alloc(), text, spelled)
     });
-    assert_eq!(rt; rows, Ok(18));
+    passed(&rt, rows, 18);
 }

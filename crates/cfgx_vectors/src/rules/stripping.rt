@@ -1,4 +1,5 @@
 //! Stripping: the outer `cfg( )` is taken off once, and spans count the bytes of what is left.
+use crate::asserting::passed;
 use cfg_expr::Expression;
 use cfg_expr::error::Failure;
 use cfgx_testing::holding::{holds, prints};
@@ -33,7 +34,7 @@ fn keep_and_print_the_stripped_text(rt: HostRuntime) {
     let rows = passing_pairs(rt.alloc(), ORIGINALS, |text, original| {
         holds(is_stripped_to(rt.alloc(), text, original))
     });
-    assert_eq!(rt; rows, Ok(12));
+    passed(&rt, rows, 12);
 }
 
 // Faulty texts, their faults, and what they are stripped to.
@@ -51,7 +52,7 @@ fn count_from_the_stripped_text(rt: HostRuntime) {
     let rows = passing_threes(rt.alloc(), FAULTS, |text, fault, original| {
         has_fault(rt.alloc(), text, original, fault)
     });
-    assert_eq!(rt; rows, Ok(6));
+    passed(&rt, rows, 6);
 }
 
 // Two texts, and whether their expressions are equal.
@@ -86,7 +87,7 @@ fn are_equal_by_their_stripped_texts(rt: HostRuntime) {
     let rows = passing_threes(rt.alloc(), PAIRS, |one, other, wanted| {
         are_as_said(rt.alloc(), one, other, wanted)
     });
-    assert_eq!(rt; rows, Ok(3));
+    passed(&rt, rows, 3);
 }
 
 #[test]

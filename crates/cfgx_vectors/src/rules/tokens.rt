@@ -1,5 +1,6 @@
 //! Tokens: the items of a text, the white space between them, and lexical faults.
 use super::{accepted, faulty};
+use crate::asserting::passed;
 use cfg_expr::error::{Failure, ParseError};
 use cfg_expr::expr::lexer::{Lexer, LexerToken};
 use cfgx_testing::rows::{passing, told};
@@ -112,9 +113,10 @@ fn has_items(alloc: Global, row: &[String]) -> bool {
 
 #[test]
 fn gives_every_item(rt: HostRuntime) {
-    assert_eq!(rt;
+    passed(
+        &rt,
         passing(rt.alloc(), ITEMS, |row| has_items(rt.alloc(), row)),
-        Ok(12)
+        12,
     );
 }
 
@@ -130,7 +132,7 @@ all(\n\ta,\r\n\tb\n)\n | a\nb
 
 #[test]
 fn white_space_stands_anywhere(rt: HostRuntime) {
-    assert_eq!(rt; accepted(rt.alloc(), WHITE_SPACE), Ok(7));
+    passed(&rt, accepted(rt.alloc(), WHITE_SPACE), 7);
 }
 
 const FAULTS: &str = r#"
@@ -159,5 +161,5 @@ key = "é | UnclosedQuotes at 6..9
 
 #[test]
 fn refuse_what_starts_no_token(rt: HostRuntime) {
-    assert_eq!(rt; faulty(rt.alloc(), FAULTS), Ok(21));
+    passed(&rt, faulty(rt.alloc(), FAULTS), 21);
 }
