@@ -1,4 +1,5 @@
 //! Deep, wide and long texts end in an answer.
+use crate::asserting::passed;
 use cfg_expr::Expression;
 use cfg_expr::error::Failure;
 use cfg_expr::expr::Predicates;
@@ -49,9 +50,10 @@ fn is_faulty(alloc: Global, row: &[String]) -> bool {
 
 #[test]
 fn faults_of_deep_and_wide_texts(rt: HostRuntime) {
-    assert_eq!(rt;
+    passed(
+        &rt,
         passing(rt.alloc(), FAULTS, |row| is_faulty(rt.alloc(), row)),
-        Ok(14)
+        14,
     );
 }
 
@@ -86,9 +88,10 @@ fn is_accepted(alloc: Global, row: &[String]) -> bool {
 
 #[test]
 fn predicates_of_deep_and_wide_texts(rt: HostRuntime) {
-    assert_eq!(rt;
+    passed(
+        &rt,
         passing(rt.alloc(), ACCEPTED, |row| is_accepted(rt.alloc(), row)),
-        Ok(5)
+        5,
     );
 }
 

@@ -5,6 +5,8 @@
 #[cfg(test)]
 mod alike;
 #[cfg(test)]
+mod asserting;
+#[cfg(test)]
 mod deep;
 #[cfg(test)]
 mod generated;

@@ -1,6 +1,7 @@
 //! Conditions that are read, copied and evaluated.
 use super::Answer;
 use super::runs::is_run_in_turns;
+use crate::asserting::passed;
 use cfg_expr::error::{Failure, ParseError};
 use cfg_expr::expr::TargetMatcher;
 use cfg_expr::expr::lexer::{Lexer, Token};
@@ -359,7 +360,7 @@ fn is_row(alloc: Global, fields: &[String]) -> bool {
 #[test]
 fn each_growth_of_each_call_is_refused(rt: HostRuntime) {
     let alloc = rt.alloc();
-    assert_eq!(rt; passing(alloc, TEXTS, |row| is_row(alloc, row)), Ok(39));
+    passed(&rt, passing(alloc, TEXTS, |row| is_row(alloc, row)), 39);
 }
 
 // Whether an expression of the text of these parts is equal to its copy.

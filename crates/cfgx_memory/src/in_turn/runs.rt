@@ -1,5 +1,6 @@
 //! Runs of the program, and wrong use, which takes no memory.
 use super::Answer;
+use crate::asserting::passed;
 use cfgx_engine::engine::run;
 use cfgx_testing::heap::{Heap, empty_heap, growths, has_every_block};
 use cfgx_testing::refusing::EVERY;
@@ -149,7 +150,7 @@ fn is_row(alloc: Global, fields: &[String]) -> bool {
 #[test]
 fn each_growth_of_each_run_is_refused(rt: HostRuntime) {
     let alloc = rt.alloc();
-    assert_eq!(rt; passing(alloc, RUNS, |row| is_row(alloc, row)), Ok(28));
+    passed(&rt, passing(alloc, RUNS, |row| is_row(alloc, row)), 28);
 }
 
 const UNKNOWN: Ended<'static> = ("", 2, b"unknown triple\n");

@@ -1,5 +1,6 @@
 //! Tokens, faults, and what they print.
 use super::pair;
+use crate::asserting::passed;
 use cfg_expr::Expression;
 use cfg_expr::error::{Failure, HasAtomicParseError, ParseError, Reason};
 use cfg_expr::expr::lexer::{Lexer, LexerToken, Token};
@@ -105,9 +106,10 @@ fn is_row(alloc: Global, heap: Heap<'_>, fields: &[String]) -> bool {
 fn faults_take_no_memory(rt: HostRuntime) {
     let alloc = rt.alloc();
     let heap = empty_heap(alloc);
-    assert_eq!(rt;
+    passed(
+        &rt,
         passing(alloc, ROWS, |row| is_row(alloc, &heap, row)),
-        Ok(3)
+        3,
     );
     assert!(rt; has_every_block(heap));
 }

@@ -1,12 +1,13 @@
 //! Byte orders, widths, lists, rows and tables.
 use super::{are_ordered, pair};
+use crate::asserting::all_hold;
 use cfg_expr::memory::SmallAllocator;
 use cfg_expr::targets::{
     Endian, Families, Family, HasAtomic, HasAtomics, TargetInfo, TargetTable,
     get_builtin_target_by_triple,
 };
 use cfgx_testing::heap::{Heap, empty_heap, has_every_block, holds_without_memory};
-use cfgx_testing::holding::{first_wrong, gives, holds, prints};
+use cfgx_testing::holding::{gives, holds, prints};
 use cfgx_testing::refusing::EVERY;
 use cfgx_testing::triples::{DARWIN, TVOS};
 use std::alloc::{AllocError, Global};
@@ -149,34 +150,38 @@ fn is_builtin<A: SmallAllocator>(table: &TargetTable<'_, A>) -> bool {
 fn lists_and_rows_take_no_memory(rt: HostRuntime) {
     let heap = empty_heap(rt.alloc());
     let table = TargetTable::builtins(&heap);
-    let wrong = first_wrong(&[
-        ("lists of widths", are_widths(rt.alloc(), &heap)),
-        ("a number", is_read(&heap, "+08", EIGHT)),
-        ("ptr", is_read(&heap, "ptr", HasAtomic::Pointer)),
-        ("lists of families", are_families(rt.alloc(), &heap)),
-        ("no family", is_empty(&heap)),
-        ("a table", are_refused(&heap, &[0, 2, 4], None, false)),
-        ("no table", are_refused(&heap, &[0, 2, 2], Some(2), false)),
-        ("equal rows", are_refused(&heap, &[1, 1, 2], Some(1), true)),
-        (
-            "built in",
-            holds_without_memory(&heap, table, |table| is_builtin(table)),
-        ),
-    ]);
-    assert_eq!(rt; wrong, None);
+    all_hold(
+        &rt,
+        &[
+            ("lists of widths", are_widths(rt.alloc(), &heap)),
+            ("a number", is_read(&heap, "+08", EIGHT)),
+            ("ptr", is_read(&heap, "ptr", HasAtomic::Pointer)),
+            ("lists of families", are_families(rt.alloc(), &heap)),
+            ("no family", is_empty(&heap)),
+            ("a table", are_refused(&heap, &[0, 2, 4], None, false)),
+            ("no table", are_refused(&heap, &[0, 2, 2], Some(2), false)),
+            ("equal rows", are_refused(&heap, &[1, 1, 2], Some(1), true)),
+            (
+                "built in",
+                holds_without_memory(&heap, table, |table| is_builtin(table)),
+            ),
+        ],
+    );
     assert!(rt; has_every_block(heap));
 }
 
 #[test]
 fn orders(rt: HostRuntime) {
-    let wrong = first_wrong(&[
-        ("widths", are_ordered(&EIGHT, &EIGHT, &HasAtomic::Pointer)),
-        (
-            "byte orders",
-            are_ordered(&Endian::big, &Endian::big, &Endian::little),
-        ),
-        ("families", are_sorted([Family::unix(), Family::wasm()])),
-        ("others", !are_sorted([Family::wasm(), Family::unix()])),
-    ]);
-    assert_eq!(rt; wrong, None);
+    all_hold(
+        &rt,
+        &[
+            ("widths", are_ordered(&EIGHT, &EIGHT, &HasAtomic::Pointer)),
+            (
+                "byte orders",
+                are_ordered(&Endian::big, &Endian::big, &Endian::little),
+            ),
+            ("families", are_sorted([Family::unix(), Family::wasm()])),
+            ("others", !are_sorted([Family::wasm(), Family::unix()])),
+        ],
+    );
 }

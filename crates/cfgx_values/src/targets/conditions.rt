@@ -1,5 +1,6 @@
 //! Conditions on targets, by `eval` on each and in lanes.
 use super::rows::{bare, darwin, ios, windows};
+use crate::asserting::passed;
 use cfg_expr::expr::logic::Kleene64;
 use cfg_expr::expr::{Predicates, TargetMatcher};
 use cfg_expr::targets::{TargetInfo, TargetTable, Vendor};
@@ -189,7 +190,7 @@ fn right(
 #[test]
 fn values_on_rows_that_are_built_in(rt: HostRuntime) -> Result<(), Fail> {
     let table = TargetTable::builtins(rt.alloc())?;
-    assert_eq!(rt; right(rt.alloc(), BUILT_IN, table.rows(), None), Ok(14));
+    passed(&rt, right(rt.alloc(), BUILT_IN, table.rows(), None), 14);
     Ok(())
 }
 
@@ -206,17 +207,19 @@ fn rows_by_hand(alloc: Global) -> Result<Vec<TargetInfo<'static>>, AllocError> {
 #[test]
 fn values_on_rows_that_are_made_by_hand(rt: HostRuntime) -> Result<(), Fail> {
     let rows = rows_by_hand(rt.alloc())?;
-    assert_eq!(rt;
+    passed(
+        &rt,
         right(rt.alloc(), BY_HAND, rows.as_slice(), Some(true)),
-        Ok(27)
+        27,
     );
     Ok(())
 }
 
 #[test]
 fn values_on_no_row(rt: HostRuntime) {
-    assert_eq!(rt;
+    passed(
+        &rt,
         right(rt.alloc(), "target_abi = \"sim\" | ?", &[], None),
-        Ok(1)
+        1,
     );
 }

@@ -1,9 +1,10 @@
 //! Lists of families and of widths, the readers of widths and of byte orders, and what they print.
+use crate::asserting::{all_hold, passed};
 use cfg_expr::error::Reason;
 use cfg_expr::targets::{
     Abi, Endian, Families, Family, HasAtomic, HasAtomicFailure, HasAtomics, Os, rustc_version,
 };
-use cfgx_testing::holding::{first_wrong, holds, prints};
+use cfgx_testing::holding::{holds, prints};
 use cfgx_testing::rows::passing;
 use std::alloc::{AllocError, Global};
 
@@ -40,7 +41,7 @@ fn is_list(alloc: Global, row: &[String]) -> bool {
 #[test]
 fn lists_of_families_are_sorted(rt: HostRuntime) {
     let rows = passing(rt.alloc(), FAMILIES, |row| is_list(rt.alloc(), row));
-    assert_eq!(rt; rows, Ok(4));
+    passed(&rt, rows, 4);
 }
 
 const EIGHT: HasAtomic = HasAtomic::IntegerSize(8);
@@ -99,25 +100,27 @@ fn is_read(alloc: Global, row: &[String]) -> bool {
 #[test]
 fn widths_are_read(rt: HostRuntime) {
     let rows = passing(rt.alloc(), WIDTHS, |row| is_read(rt.alloc(), row));
-    assert_eq!(rt; rows, Ok(21));
+    passed(&rt, rows, 21);
 }
 
 #[test]
 fn widths_are_sorted_and_byte_orders_read(rt: HostRuntime) {
     let both = Reason::Unexpected(&["big", "little"]);
-    let wrong = first_wrong(&[
-        ("printed", holds(lists_widths(rt.alloc()))),
-        (
-            "falling",
-            !HasAtomics::is_sorted(&[HasAtomic::Pointer, EIGHT]),
-        ),
-        ("level", HasAtomics::is_sorted(&[EIGHT, EIGHT])),
-        ("nothing", HasAtomics::is_sorted(&[])),
-        ("big", "big".parse::<Endian>() == Ok(Endian::big)),
-        ("little", "little".parse::<Endian>() == Ok(Endian::little)),
-        ("Big", "Big".parse::<Endian>() == Err(both)),
-    ]);
-    assert_eq!(rt; wrong, None);
+    all_hold(
+        &rt,
+        &[
+            ("printed", holds(lists_widths(rt.alloc()))),
+            (
+                "falling",
+                !HasAtomics::is_sorted(&[HasAtomic::Pointer, EIGHT]),
+            ),
+            ("level", HasAtomics::is_sorted(&[EIGHT, EIGHT])),
+            ("nothing", HasAtomics::is_sorted(&[])),
+            ("big", "big".parse::<Endian>() == Ok(Endian::big)),
+            ("little", "little".parse::<Endian>() == Ok(Endian::little)),
+            ("Big", "Big".parse::<Endian>() == Err(both)),
+        ],
+    );
 }
 
 #[test]

@@ -1,5 +1,6 @@
 //! Tables of rows with increasing triples, and the rows that are found in them.
 use super::rows::bare;
+use crate::asserting::passed;
 use cfg_expr::targets::{TargetInfo, TargetTable, get_builtin_target_by_triple};
 use cfgx_testing::rows::passing;
 use std::alloc::{AllocError, Global};
@@ -57,7 +58,7 @@ fn is_table(alloc: Global, row: &[String]) -> bool {
 #[test]
 fn tables_have_increasing_triples(rt: HostRuntime) {
     let rows = passing(rt.alloc(), TABLES, |row| is_table(rt.alloc(), row));
-    assert_eq!(rt; rows, Ok(6));
+    passed(&rt, rows, 6);
 }
 
 const BUILT_IN: &str = "aarch64-apple-darwin aarch64-apple-ios aarch64-apple-ios-macabi \
