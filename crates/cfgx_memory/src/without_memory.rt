@@ -7,12 +7,6 @@ mod targets;
 
 use std::hash::{DefaultHasher, Hash, Hasher};
 
-// Two values, if both were made.
-fn pair<T: Drop, U: Drop, E: Drop>(one: Result<T, E>, other: Result<U, E>) -> Result<(T, U), E> {
-    let one = one?;
-    Ok((one, other?))
-}
-
 fn hash_of<T: Hash>(value: &T) -> u64 {
     let mut state = DefaultHasher::new();
     value.hash(&mut state);

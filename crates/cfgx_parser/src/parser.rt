@@ -1,5 +1,6 @@
 //! From a text to the nodes of its tree, in one pass.
-ghost use Rattle.std.specs.Prelude.{◌≡◌, ◌+◌, ◌≤◌, ◌^◌, length, ◌<◌, ◌↔◌, ◌≢◌, [], true, option_map};
+ghost use Rattle.std.specs.Prelude.{◌≡◌, ◌+◌, ◌≤◌, ◌^◌, length, ◌<◌, ◌↔◌, ◌≢◌, [], true};
+ghost use Rattle.std.specs.Prelude.{option_map};
 ghost use Rattle.std.specs.Prelude.{map, reverse, IsTrue, OnOk, IfOk, Err};
 ghost use Rattle.cfgx_syntax.specs.Error.{cause_of, unexpected};
 ghost use Rattle.cfgx_syntax.specs.Lexer.{token_of, item_of};

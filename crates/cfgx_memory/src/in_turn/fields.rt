@@ -93,14 +93,22 @@ fn copies_widths<A: SmallAllocator>(alloc: A) -> Answer {
     Ok(widths.try_clone(alloc)?.as_slice() == WIDTHS)
 }
 
+fn is_list_copied<A: SmallAllocator>(alloc: A, list: &Families<'_, A>) -> Answer {
+    gives(list.try_clone(alloc), list)
+}
+
+fn are_copied<'f, A: SmallAllocator>(alloc: A, families: &'f [Family<'f, A>]) -> Answer {
+    if !Families::is_sorted(families) {
+        return Ok(false);
+    }
+    let list = Families::new_const(families);
+    is_list_copied(alloc, &list)
+}
+
 // Families that are borrowed.
 fn copies_families<A: SmallAllocator>(alloc: A) -> Answer {
     let families = [Family::unix()];
-    if !Families::is_sorted(&families) {
-        return Ok(false);
-    }
-    let list = Families::new_const(&families);
-    gives(list.try_clone(alloc), &list)
+    are_copied(alloc, &families)
 }
 
 // A value of this kind, made and copied.

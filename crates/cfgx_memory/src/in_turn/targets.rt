@@ -71,9 +71,21 @@ fn families_of<'a, A: SmallAllocator + 'a>(
     Families::new(alloc, families.into_iter())
 }
 
-// A list of 10,000 families that own their texts, and its copy.
+// A list of so many families that own the same text.
+fn many_families<'a, A: SmallAllocator + 'a>(
+    alloc: A,
+    count: usize,
+) -> Result<Families<'a, A>, AllocError> {
+    let mut families = Vec::new(alloc);
+    for _place in 0..count {
+        push_family(alloc, &mut families, "unix")?;
+    }
+    Families::new(alloc, families.into_iter())
+}
+
+// A list of 10,000 families, and its copy.
 fn copies_many_families<A: SmallAllocator>(alloc: A) -> Answer {
-    let list = families_of(alloc, &["unix"; 10_000])?;
+    let list = many_families(alloc, 10_000)?;
     Ok(list.as_slice().len() == 10_000 && gives(list.try_clone(alloc), &list)?)
 }
 
@@ -151,10 +163,16 @@ fn own_all<'a, A: SmallAllocator + 'a>(
     Ok(())
 }
 
-// A row that owns all its texts and lists, and its copy.
-fn copies_an_owned_row<A: SmallAllocator>(alloc: A) -> Answer {
+// A row that owns all its texts and lists.
+fn owned_row<'a, A: SmallAllocator + 'a>(alloc: A) -> Result<TargetInfo<'a, A>, AllocError> {
     let mut row = borrowed_row("a text of seventeen");
     own_all(alloc, &mut row)?;
+    Ok(row)
+}
+
+// Such a row, and its copy.
+fn copies_an_owned_row<A: SmallAllocator>(alloc: A) -> Answer {
+    let row = owned_row(alloc)?;
     gives(row.try_clone(alloc), &row)
 }
 

@@ -1,5 +1,4 @@
 //! Tokens, faults, and what they print.
-use super::pair;
 use crate::asserting::passed;
 use cfg_expr::Expression;
 use cfg_expr::error::{Failure, HasAtomicParseError, ParseError, Reason};
@@ -72,32 +71,38 @@ foo ( | unexpected term | foo (\n    ^ expected one of `=`, `,`, `)` here
 key) | unopened parens | key)\n   ^ unopened parens
 "#;
 
-// Whether the fault of the text is equal to itself and not to that of another text, and has this
-// description and prints this. No reason here is that of an empty text.
-fn is_told(alloc: Global, heap: Heap<'_>, text: &str, description: &str, printed: &str) -> bool {
-    let two = pair(
-        pair(fault(heap, text), fault(heap, text)),
-        fault(heap, "kei)"),
-    );
-    holds_without_memory(heap, two, |two| {
-        let (error, same) = (&two.0.0, &two.0.1);
-        error == same
-            && *error != two.1
-            && error.reason != Reason::Empty
-            && error.description() == description
-            && prints(alloc, error, printed)
-    })
+// Whether the fault of the text has this description and prints this. No reason here is that of an
+// empty text.
+fn is_shown(alloc: Global, heap: Heap<'_>, text: &str, description: &str, printed: &str) -> bool {
+    heap.refuse(0);
+    let Ok(error) = fault(heap, text) else {
+        return false;
+    };
+    heap.refuse(EVERY);
+    error.reason != Reason::Empty
+        && error.description() == description
+        && prints(alloc, &error, printed)
+}
+
+// Whether the fault of the text is equal to itself, and not to that of another text.
+fn is_compared(heap: Heap<'_>, text: &str) -> bool {
+    heap.refuse(0);
+    let (Ok(one), Ok(same)) = (fault(heap, text), fault(heap, text)) else {
+        return false;
+    };
+    let Ok(other) = fault(heap, "kei)") else {
+        return false;
+    };
+    heap.refuse(EVERY);
+    one == same && one != other
 }
 
 fn is_row(alloc: Global, heap: Heap<'_>, fields: &[String]) -> bool {
     match fields {
-        [text, description, printed] => is_told(
-            alloc,
-            heap,
-            text.as_str(),
-            description.as_str(),
-            printed.as_str(),
-        ),
+        [text, description, printed] => {
+            let (text, printed) = (text.as_str(), printed.as_str());
+            is_shown(alloc, heap, text, description.as_str(), printed) && is_compared(heap, text)
+        }
         _ => false,
     }
 }

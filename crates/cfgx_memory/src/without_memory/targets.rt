@@ -1,5 +1,5 @@
 //! Byte orders, widths, lists, rows and tables.
-use super::{are_ordered, pair};
+use super::are_ordered;
 use crate::asserting::all_hold;
 use cfg_expr::memory::SmallAllocator;
 use cfg_expr::targets::{
@@ -34,10 +34,12 @@ fn are_two_widths<A: SmallAllocator>(
         && prints(alloc, list, "{8, ptr}")
 }
 
-fn are_widths(alloc: Global, heap: Heap<'_>) -> bool {
-    let one = HasAtomics::new(heap, SORTED.iter().copied());
-    let two = pair(one, HasAtomics::new(heap, UNSORTED.iter().copied()));
-    holds_without_memory(heap, two, |two| are_two_widths(alloc, &two.0, &two.1))
+fn are_widths(alloc: Global, heap: Heap<'_>) -> Result<bool, AllocError> {
+    heap.refuse(0);
+    let list = HasAtomics::new(heap, SORTED.iter().copied())?;
+    let same = HasAtomics::new(heap, UNSORTED.iter().copied())?;
+    heap.refuse(EVERY);
+    Ok(are_two_widths(alloc, &list, &same))
 }
 
 // Whether the text is read as this width.
@@ -49,11 +51,11 @@ fn is_read(heap: Heap<'_>, text: &str, width: HasAtomic) -> bool {
 }
 
 // Whether these are lists of two families, of the same two, and of one that is above.
-fn are_two_families<A: SmallAllocator>(
+fn are_two_families<'f, A: SmallAllocator>(
     alloc: Global,
-    list: &Families<'_, A>,
-    same: &Families<'_, A>,
-    above: &Families<'_, A>,
+    list: &Families<'f, A>,
+    same: &Families<'f, A>,
+    above: &Families<'f, A>,
 ) -> bool {
     are_ordered(list, same, above)
         && list.as_slice().len() == 2
@@ -63,12 +65,33 @@ fn are_two_families<A: SmallAllocator>(
         && prints(alloc, list, "{unix, wasm}")
 }
 
-fn are_families(alloc: Global, heap: Heap<'_>) -> bool {
-    let two = pair(Families::unix_wasm(heap), Families::unix_wasm(heap));
-    let three = pair(two, Families::wasm(heap));
-    holds_without_memory(heap, three, |three| {
-        are_two_families(alloc, &three.0.0, &three.0.1, &three.1)
-    })
+/// A list, or out of memory.
+type Made<'f, A> = Result<Families<'f, A>, AllocError>;
+
+// The same of the lists that were made.
+fn are_made<A: SmallAllocator>(
+    alloc: Global,
+    list: Made<'_, A>,
+    same: Made<'_, A>,
+    above: Made<'_, A>,
+) -> Result<bool, AllocError> {
+    let list = list?;
+    let same = same?;
+    let above = above?;
+    let are_two = are_two_families(alloc, &list, &same, &above);
+    drop(list);
+    drop(same);
+    drop(above);
+    Ok(are_two)
+}
+
+fn are_families(alloc: Global, heap: Heap<'_>) -> Result<bool, AllocError> {
+    heap.refuse(0);
+    let list = Families::unix_wasm(heap);
+    let same = Families::unix_wasm(heap);
+    let above = Families::wasm(heap);
+    heap.refuse(EVERY);
+    are_made(alloc, list, same, above)
 }
 
 fn is_empty<A: SmallAllocator>(_alloc: A) -> bool {
@@ -124,6 +147,7 @@ fn are_three_rows<A: SmallAllocator>(rows: &[TargetInfo<'_, A>]) -> bool {
 // Whether the three rows of these numbers are refused at this place and handed back, and whether
 // the first two are equal and the third is above both.
 fn are_refused(heap: Heap<'_>, numbers: &[usize], place: Option<usize>, is_first: bool) -> bool {
+    heap.refuse(0);
     let rows = rows(heap, numbers);
     heap.refuse(EVERY);
     let are_three = match &rows {
@@ -153,10 +177,10 @@ fn lists_and_rows_take_no_memory(rt: HostRuntime) {
     all_hold(
         &rt,
         &[
-            ("lists of widths", are_widths(rt.alloc(), &heap)),
+            ("lists of widths", holds(are_widths(rt.alloc(), &heap))),
             ("a number", is_read(&heap, "+08", EIGHT)),
             ("ptr", is_read(&heap, "ptr", HasAtomic::Pointer)),
-            ("lists of families", are_families(rt.alloc(), &heap)),
+            ("lists of families", holds(are_families(rt.alloc(), &heap))),
             ("no family", is_empty(&heap)),
             ("a table", are_refused(&heap, &[0, 2, 4], None, false)),
             ("no table", are_refused(&heap, &[0, 2, 2], Some(2), false)),

@@ -1,5 +1,5 @@
-// What `==` of reasons, faults and failures means. The contract of each function is the law, and nothing
-// calls it.
+// What `==` of reasons, faults and failures means. The contract of each function is the law, and
+// nothing calls it.
 ghost use Rattle.std.specs.Prelude.{◌≡◌, ◌↔◌, IsTrue};
 ghost use Rattle.cfgx_syntax.specs.Error.{cause_of, failure_of, fault_of};
 

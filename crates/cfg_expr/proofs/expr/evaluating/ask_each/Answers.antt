@@ -20,7 +20,8 @@ ask-answer-requires g c =
     let asks = c.predicates-predicate-items.ensures.asked in
     let all = c.into_iter-predicate-iterator.ensures.into_iter_gives ∙ asks.1 in
     Asking-may c.loop-predicate.invariant c.in-Some.ensures.steps
-    (subst (MayAskEach g.EP.FnMut c.args.ep.now) (sym all) (c.requires asks.0.tree asks.0.reads.has))
+    (subst (MayAskEach g.EP.FnMut c.args.ep.now) (sym all)
+    (c.requires asks.0.tree asks.0.reads.has))
 
 pub loop-predicate-preserved : goal.loop-predicate-preserved
 loop-predicate-preserved g c =
