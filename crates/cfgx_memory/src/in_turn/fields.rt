@@ -97,7 +97,7 @@ fn is_list_copied<A: SmallAllocator>(alloc: A, list: &Families<'_, A>) -> Answer
     gives(list.try_clone(alloc), list)
 }
 
-fn are_copied<'f, A: SmallAllocator>(alloc: A, families: &'f [Family<'f, A>]) -> Answer {
+fn are_families_copied<'f, A: SmallAllocator>(alloc: A, families: &'f [Family<'f, A>]) -> Answer {
     if !Families::is_sorted(families) {
         return Ok(false);
     }
@@ -108,7 +108,7 @@ fn are_copied<'f, A: SmallAllocator>(alloc: A, families: &'f [Family<'f, A>]) ->
 // Families that are borrowed.
 fn copies_families<A: SmallAllocator>(alloc: A) -> Answer {
     let families = [Family::unix()];
-    are_copied(alloc, &families)
+    are_families_copied(alloc, &families)
 }
 
 // A value of this kind, made and copied.
