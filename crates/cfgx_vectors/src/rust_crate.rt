@@ -32,7 +32,7 @@ fn are_alone(alloc: Global, texts: &[String]) -> bool {
 // How many fields the rows of the table have.
 fn fields_in(table: &str) -> usize {
     let mut fields = 0usize;
-    let mut goes_on = true;
+    let mut goes_on = false;
     for line in table.lines() {
         let bars = line.split(" | ").count().saturating_sub(1);
         let first = usize::from(!goes_on && !line.is_empty());
