@@ -56,7 +56,7 @@ abbrev pub Refuses : List ℕ → Output → Type 0
 Refuses text output = (fault : Refusal) × ReadsAs (strip text) (Err fault)
     × (output ≡ fault_output (fault_in (strip text) fault))
 
--- the same of the first of the texts that reads as one
+-- one of the texts reads as a fault, which is written; each text before it has a tree
 abbrev pub RefusesFirst : List (List ℕ) → Output → Type 0
 RefusesFirst [] output = ⊥
 RefusesFirst (text ∷ others) output =

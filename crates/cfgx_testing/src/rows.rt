@@ -106,7 +106,7 @@ where
     if row.is_empty() { Ok(rows) } else { Err(row) }
 }
 
-/// The same of rows of two fields.
+/// How many rows of the table passed, each of two fields, or the first row that did not.
 pub fn passing_pairs<F>(alloc: Global, table: &str, check: F) -> Result<usize, String>
 where
     F: Fn(&str, &str) -> bool,
@@ -118,7 +118,7 @@ where
     })
 }
 
-/// The same of rows of three fields.
+/// How many rows of the table passed, each of three fields, or the first row that did not.
 pub fn passing_threes<F>(alloc: Global, table: &str, check: F) -> Result<usize, String>
 where
     F: Fn(&str, &str, &str) -> bool,

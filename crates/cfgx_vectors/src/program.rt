@@ -48,7 +48,7 @@ fn is_picked(alloc: Global, triple: &str, each: usize, input: &[u8], ended: (&st
     is_written(&sink, written.as_bytes()) && found == status && source.is_read_whole()
 }
 
-// The same of a row: the status, the input, and what is written.
+// Whether `pick` runs as the row says: its status, its input, and what it writes.
 fn is_row_picked(alloc: Global, triple: &str, each: usize, row: &[String]) -> bool {
     let [status, input, written] = row else {
         return false;

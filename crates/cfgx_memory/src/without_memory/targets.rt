@@ -68,7 +68,7 @@ fn are_two_families<'f, A: SmallAllocator>(
 /// A list, or out of memory.
 type Made<'f, A> = Result<Families<'f, A>, AllocError>;
 
-// The same of the lists that were made.
+// Whether these are such lists, if each of them was made.
 fn are_made<A: SmallAllocator>(
     alloc: Global,
     list: Made<'_, A>,

@@ -13,7 +13,7 @@ fn read<S: io::Read>(source: &mut Counted<S>, buffer: &mut [u8]) -> (Option<usiz
     (Source::read(source, buffer).ok(), source.failures())
 }
 
-// The same of a write.
+// What a write answers, and how many calls have failed by then.
 fn write<S: io::Write>(sink: &mut Counted<S>, bytes: &[u8]) -> (Option<usize>, u64) {
     if sink.failures() == u64::MAX {
         return (None, u64::MAX);
@@ -21,7 +21,7 @@ fn write<S: io::Write>(sink: &mut Counted<S>, bytes: &[u8]) -> (Option<usize>, u
     (Sink::write(sink, bytes).ok(), sink.failures())
 }
 
-// The same of a flush.
+// Whether a flush succeeds, and how many calls have failed by then.
 fn flush<S: io::Write>(sink: &mut Counted<S>) -> (bool, u64) {
     if sink.failures() == u64::MAX {
         return (false, u64::MAX);
@@ -29,7 +29,7 @@ fn flush<S: io::Write>(sink: &mut Counted<S>) -> (bool, u64) {
     (Sink::flush(sink).is_ok(), sink.failures())
 }
 
-// The same of bytes that are written whole.
+// Whether the bytes are written whole, and how many calls have failed by then.
 fn whole<S: io::Write>(sink: &mut Counted<S>, bytes: &[u8]) -> (bool, u64) {
     if sink.failures() == u64::MAX {
         return (false, u64::MAX);

@@ -20,7 +20,7 @@ fn is_unread(alloc: Global, words: &[&str], input: &[u8], ended: (&str, &str)) -
     is_ended && calls == (0, written.len() as u64)
 }
 
-// The same of an input of each kind.
+// Whether the run reads nothing of an input of any kind.
 fn reads_nothing(alloc: Global, words: &[&str], ended: (&str, &str)) -> bool {
     [SECTIONS.as_bytes(), b"", b"\xff", b"x"]
         .iter()
