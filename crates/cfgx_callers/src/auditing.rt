@@ -125,7 +125,7 @@ mod tests {
     use cfg_expr::error::Failure;
     use cfg_expr::targets::{TargetInfo, TargetTable};
     use cfgx_testing::holding::holds;
-    use cfgx_testing::rows::passing;
+    use cfgx_testing::rows::check_rows;
     use std::alloc::{AllocError, Global};
     use std::test::Fail;
 
@@ -182,17 +182,19 @@ all() | 11111
         }
     }
 
-    // How many texts have the right verdicts on so many rows.
-    fn right(alloc: Global, count: usize) -> Result<usize, AllocError> {
-        let rows = rows_in_turn(alloc, count)?;
+    // Checks the verdicts of the texts on so many rows.
+    fn check_audited(alloc: Global, count: usize) -> Result<(), String> {
+        let Ok(rows) = rows_in_turn(alloc, count) else {
+            return Err(String::new(alloc));
+        };
         let rows = rows.as_slice();
-        Ok(passing(alloc, AUDITED, |row| is_right(alloc, rows, row)).unwrap_or(0))
+        check_rows(alloc, AUDITED, 6, |row| is_right(alloc, rows, row))
     }
 
     #[test]
-    fn rows_are_audited_in_pieces(rt: HostRuntime) -> Result<(), Fail> {
+    fn rows_are_audited_in_pieces(rt: HostRuntime) -> Result<(), String> {
         for count in [0, 1, 64, 65, 130] {
-            assert_eq!(rt; right(rt.alloc(), count)?, 6, "{count}");
+            check_audited(rt.alloc(), count)?;
         }
         Ok(())
     }

@@ -117,7 +117,7 @@ mod tests {
     use cfg_expr::error::Failure;
     use cfg_expr::{Expression, Predicate};
     use cfgx_testing::holding::{gives, holds};
-    use cfgx_testing::rows::passing;
+    use cfgx_testing::rows::check_rows;
     use cfgx_testing::texts::nested;
     use std::alloc::{AllocError, Global};
     use std::test::Fail;
@@ -146,12 +146,8 @@ all(a, b) | a | \e | false
     }
 
     #[test]
-    fn values_by_a_list_of_flags(rt: HostRuntime) {
-        let alloc = rt.alloc();
-        assert_eq!(rt;
-            passing(alloc, BY_FLAGS, |row| has_value(alloc, row)),
-            Ok(5)
-        );
+    fn values_by_a_list_of_flags(rt: HostRuntime) -> Result<(), String> {
+        check_rows(rt.alloc(), BY_FLAGS, 5, |row| has_value(rt.alloc(), row))
     }
 
     // Texts, the terms that join their predicates, and how many questions are asked. The last
@@ -201,9 +197,8 @@ all() | T | 0
     }
 
     #[test]
-    fn terms_are_written_and_questions_counted(rt: HostRuntime) {
-        let alloc = rt.alloc();
-        assert_eq!(rt; passing(alloc, TERMS, |row| is_joined(alloc, row)), Ok(11));
+    fn terms_are_written_and_questions_counted(rt: HostRuntime) -> Result<(), String> {
+        check_rows(rt.alloc(), TERMS, 11, |row| is_joined(rt.alloc(), row))
     }
 
     const SIXTY_FOUR: &str = "!!!!!!!!!!!!!!!!!!!!!!!!!!!!!!!!!!!!!!!!!!!!!!!!!!!!!!!!!!!!!!!!";

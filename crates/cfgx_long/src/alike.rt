@@ -1,9 +1,8 @@
 //! Values of conditions of which each predicate has the same answer, in short, wide and deep texts.
-use crate::asserting::passed;
 use cfg_expr::expr::logic::Kleene64;
 use cfg_expr::{Expression, Predicate};
 use cfgx_testing::answers::{agree, answer_of, are_lanes, value_in_lanes, value_with};
-use cfgx_testing::rows::passing;
+use cfgx_testing::rows::check_rows;
 use cfgx_testing::texts::repeated;
 use std::alloc::{AllocError, Global};
 
@@ -154,13 +153,13 @@ fn is_short(alloc: Global, row: &[String]) -> Option<bool> {
 }
 
 #[test]
-fn values_of_short_texts(rt: HostRuntime) {
-    let rows = passing(
+fn values_of_short_texts(rt: HostRuntime) -> Result<(), String> {
+    check_rows(
         rt.alloc(),
         SHORT,
+        30,
         |row| is_short(rt.alloc(), row) == Some(true),
-    );
-    passed(&rt, rows, 30);
+    )
 }
 
 // The text of the first five fields.
@@ -182,11 +181,11 @@ fn is_long(alloc: Global, row: &[String]) -> Option<bool> {
 }
 
 #[test]
-fn values_of_wide_and_deep_texts(rt: HostRuntime) {
-    let rows = passing(
+fn values_of_wide_and_deep_texts(rt: HostRuntime) -> Result<(), String> {
+    check_rows(
         rt.alloc(),
         LONG,
+        7,
         |row| is_long(rt.alloc(), row) == Some(true),
-    );
-    passed(&rt, rows, 7);
+    )
 }

@@ -1,10 +1,9 @@
 //! Deep, wide and long texts end in an answer.
-use crate::asserting::passed;
 use cfg_expr::Expression;
 use cfg_expr::error::Failure;
 use cfg_expr::expr::Predicates;
 use cfgx_testing::holding::{holds, prints};
-use cfgx_testing::rows::{has_fault, passing};
+use cfgx_testing::rows::{check_rows, has_fault};
 use cfgx_testing::streams::is_answer;
 use cfgx_testing::texts::repeated;
 use std::alloc::{AllocError, Global};
@@ -49,12 +48,8 @@ fn is_faulty(alloc: Global, row: &[String]) -> bool {
 }
 
 #[test]
-fn faults_of_deep_and_wide_texts(rt: HostRuntime) {
-    passed(
-        &rt,
-        passing(rt.alloc(), FAULTS, |row| is_faulty(rt.alloc(), row)),
-        14,
-    );
+fn faults_of_deep_and_wide_texts(rt: HostRuntime) -> Result<(), String> {
+    check_rows(rt.alloc(), FAULTS, 14, |row| is_faulty(rt.alloc(), row))
 }
 
 // Accepted texts of such parts, and how many predicates they ask.
@@ -87,12 +82,8 @@ fn is_accepted(alloc: Global, row: &[String]) -> bool {
 }
 
 #[test]
-fn predicates_of_deep_and_wide_texts(rt: HostRuntime) {
-    passed(
-        &rt,
-        passing(rt.alloc(), ACCEPTED, |row| is_accepted(rt.alloc(), row)),
-        5,
-    );
+fn predicates_of_deep_and_wide_texts(rt: HostRuntime) -> Result<(), String> {
+    check_rows(rt.alloc(), ACCEPTED, 5, |row| is_accepted(rt.alloc(), row))
 }
 
 // Whether the fault far after the start prints as many spaces.

@@ -5,8 +5,6 @@
 #[cfg(test)]
 mod alike;
 #[cfg(test)]
-mod asserting;
-#[cfg(test)]
 mod deep;
 #[cfg(test)]
 mod generated;

@@ -4,8 +4,6 @@
 #[cfg(test)]
 mod allocator;
 #[cfg(test)]
-mod asserting;
-#[cfg(test)]
 mod in_turn;
 #[cfg(test)]
 mod without_memory;

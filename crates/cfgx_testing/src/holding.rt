@@ -17,14 +17,14 @@ pub fn gives<T: PartialEq + Drop, E: Drop>(answer: Result<T, E>, wanted: &T) -> 
     Ok(answer? == *wanted)
 }
 
-/// The name of the first of some checks that does not hold.
-pub fn first_wrong<'a>(checks: &[(&'a str, bool)]) -> Option<&'a str> {
+/// Checks what has names. The error is the name of the first check that does not hold.
+pub fn all_hold<'a>(checks: &[(&'a str, bool)]) -> Result<(), &'a str> {
     for (name, is_held) in checks {
         if !*is_held {
-            return Some(*name);
+            return Err(*name);
         }
     }
-    None
+    Ok(())
 }
 
 /// Whether the value prints this text.

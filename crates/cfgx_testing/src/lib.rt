@@ -3,6 +3,7 @@
 #![tactic(auto)]
 
 pub mod answers;
+pub mod fillings;
 pub mod heap;
 pub mod holding;
 pub mod refusing;

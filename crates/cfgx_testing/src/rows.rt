@@ -78,12 +78,13 @@ where
     }
 }
 
-/// How many rows the table has, if each can be taken apart and its fields pass the check; otherwise
-/// the first row of which that is not so.
-pub fn passing<F>(alloc: Global, table: &str, check: F) -> Result<usize, String>
+/// How many rows the table has, if each can be taken apart and its fields pass the check.
+///
+/// The error is the first row of which that is not so.
+pub fn passing<F>(alloc: Global, table: &str, check: &F) -> Result<usize, String>
 where
     F: Fn(&[String]) -> bool,
-    requires { F.IsAlwaysCallable check }
+    requires { F.IsAlwaysCallable check.now }
 {
     let mut rows = 0usize;
     let mut row = String::new(alloc);
@@ -96,7 +97,7 @@ where
             return Err(row);
         }
         if front.is_none() {
-            if !passes(alloc, row.as_str(), &check) {
+            if !passes(alloc, row.as_str(), check) {
                 return Err(row);
             }
             row.clear();
@@ -106,25 +107,48 @@ where
     if row.is_empty() { Ok(rows) } else { Err(row) }
 }
 
-/// How many rows of the table passed, each of two fields, or the first row that did not.
-pub fn passing_pairs<F>(alloc: Global, table: &str, check: F) -> Result<usize, String>
+/// Checks a number. The error tells it if it is not the wanted one.
+pub fn check_count(alloc: Global, found: usize, wanted: usize) -> Result<(), String> {
+    if found == wanted {
+        return Ok(());
+    }
+    match format!(in alloc; "{found} in place of {wanted}") {
+        Ok(told) => Err(told),
+        Err(_) => Err(String::new(alloc)),
+    }
+}
+
+/// Checks a table of so many rows.
+///
+/// The error is the first row that cannot be taken apart or whose fields do not pass the check, or
+/// how many rows the table has.
+pub fn check_rows<F>(alloc: Global, table: &str, rows: usize, check: F) -> Result<(), String>
+where
+    F: Fn(&[String]) -> bool,
+    requires { F.IsAlwaysCallable check }
+{
+    check_count(alloc, passing(alloc, table, &check)?, rows)
+}
+
+/// As [`check_rows`], of rows of two fields.
+pub fn check_pairs<F>(alloc: Global, table: &str, rows: usize, check: F) -> Result<(), String>
 where
     F: Fn(&str, &str) -> bool,
     requires { F.IsAlwaysCallable check }
 {
-    passing(alloc, table, |row| match row {
+    check_rows(alloc, table, rows, |row| match row {
         [one, other] => check(one.as_str(), other.as_str()),
         _ => false,
     })
 }
 
-/// How many rows of the table passed, each of three fields, or the first row that did not.
-pub fn passing_threes<F>(alloc: Global, table: &str, check: F) -> Result<usize, String>
+/// As [`check_rows`], of rows of three fields.
+pub fn check_threes<F>(alloc: Global, table: &str, rows: usize, check: F) -> Result<(), String>
 where
     F: Fn(&str, &str, &str) -> bool,
     requires { F.IsAlwaysCallable check }
 {
-    passing(alloc, table, |row| match row {
+    check_rows(alloc, table, rows, |row| match row {
         [one, other, third] => check(one.as_str(), other.as_str(), third.as_str()),
         _ => false,
     })

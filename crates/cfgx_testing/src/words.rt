@@ -2,7 +2,7 @@
 //!
 //! A field that is `USAGE`, `SECTIONS` or `VERDICTS` stands for the text of that name. In a field
 //! `~piece~times~` stands for the piece so many times, and a `\0` divides words.
-use crate::rows::passing;
+use crate::rows::check_rows;
 use crate::streams::{USAGE, is_answer};
 use std::alloc::{AllocError, Global};
 
@@ -67,14 +67,13 @@ where
     }
 }
 
-/// How many rows the table has, if the texts of each row pass the check; otherwise the first row of
-/// which that is not so.
-pub fn passing_texts<F>(alloc: Global, table: &str, check: F) -> Result<usize, String>
+/// As [`check_rows`], of rows whose fields stand for texts.
+pub fn check_texts<F>(alloc: Global, table: &str, rows: usize, check: F) -> Result<(), String>
 where
     F: Fn(&[String]) -> bool,
     requires { F.IsAlwaysCallable check }
 {
-    passing(alloc, table, |row| passes(alloc, row, &check))
+    check_rows(alloc, table, rows, |row| passes(alloc, row, &check))
 }
 
 /// The words that texts are.
@@ -101,8 +100,7 @@ fn is_run(alloc: Global, row: &[String]) -> bool {
     )))
 }
 
-/// How many rows the table has, if a run with the words of each row ends and writes as the row
-/// says; otherwise the first row of which that is not so.
-pub fn passing_runs(alloc: Global, table: &str) -> Result<usize, String> {
-    passing_texts(alloc, table, |row| is_run(alloc, row))
+/// As [`check_rows`]: a run with the words of each row ends and writes as the row says.
+pub fn check_runs(alloc: Global, table: &str, rows: usize) -> Result<(), String> {
+    check_texts(alloc, table, rows, |row| is_run(alloc, row))
 }

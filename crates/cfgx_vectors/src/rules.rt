@@ -11,16 +11,17 @@ mod spelling;
 mod stripping;
 mod tokens;
 
-use cfgx_testing::rows::{has_fault, passing_pairs};
+use cfgx_testing::rows::{check_pairs, has_fault};
 use cfgx_testing::streams::is_answer;
 use std::alloc::Global;
 use std::ops::Range;
 
-/// How many texts of the table have their faults, or its first row that is wrong.
-fn faulty(alloc: Global, table: &str) -> Result<usize, String> {
-    passing_pairs(
+/// Checks a table of so many texts and their faults.
+fn check_faulty(alloc: Global, table: &str, rows: usize) -> Result<(), String> {
+    check_pairs(
         alloc,
         table,
+        rows,
         |text, fault| has_fault(alloc, text, text, fault),
     )
 }
@@ -34,11 +35,12 @@ pub(crate) fn is_accepted(alloc: Global, text: &str, predicates: &str) -> bool {
     }
 }
 
-/// How many texts of the table ask their predicates, or its first row that is wrong.
-pub(crate) fn accepted(alloc: Global, table: &str) -> Result<usize, String> {
-    passing_pairs(
+/// Checks a table of so many texts and the predicates that they ask.
+pub(crate) fn check_accepted(alloc: Global, table: &str, rows: usize) -> Result<(), String> {
+    check_pairs(
         alloc,
         table,
+        rows,
         |text, predicates| is_accepted(alloc, text, predicates),
     )
 }

@@ -8,9 +8,8 @@ mod judged;
 mod neighbours;
 mod no_token;
 
-use crate::asserting::passed;
-use crate::rules::{accepted, is_accepted, span_of};
-use cfgx_testing::rows::passing;
+use crate::rules::{check_accepted, is_accepted, span_of};
+use cfgx_testing::rows::{check_count, check_rows, passing};
 use cfgx_testing::streams::is_answer;
 use cfgx_testing::texts::repeated;
 use std::alloc::Global;
@@ -43,24 +42,22 @@ fn fields_in(table: &str) -> usize {
 }
 
 #[test]
-fn accepts_texts_that_ask_nothing(rt: HostRuntime) {
-    let rows = passing(
-        rt.alloc(),
-        accepts::NOTHING,
-        |row| ask_nothing(rt.alloc(), row),
-    );
-    assert_eq!(rt; (rows, fields_in(accepts::NOTHING)), (Ok(2), 13));
+fn accepts_texts_that_ask_nothing(rt: HostRuntime) -> Result<(), String> {
+    let alloc = rt.alloc();
+    check_rows(alloc, accepts::NOTHING, 2, |row| ask_nothing(alloc, row))?;
+    check_count(alloc, fields_in(accepts::NOTHING), 13)
 }
 
 #[test]
-fn accepts_texts_that_are_spelled_as_they_stand(rt: HostRuntime) {
-    let rows = passing(rt.alloc(), accepts::ALONE, |row| are_alone(rt.alloc(), row));
-    assert_eq!(rt; (rows, fields_in(accepts::ALONE)), (Ok(31), 154));
+fn accepts_texts_that_are_spelled_as_they_stand(rt: HostRuntime) -> Result<(), String> {
+    let alloc = rt.alloc();
+    check_rows(alloc, accepts::ALONE, 31, |row| are_alone(alloc, row))?;
+    check_count(alloc, fields_in(accepts::ALONE), 154)
 }
 
 #[test]
-fn accepts_the_other_texts(rt: HostRuntime) {
-    passed(&rt, accepted(rt.alloc(), accepts::OTHERS), 352);
+fn accepts_the_other_texts(rt: HostRuntime) -> Result<(), String> {
+    check_accepted(rt.alloc(), accepts::OTHERS, 352)
 }
 
 // What is printed for a text with these bytes at fault. The message begins with its mark.
@@ -102,30 +99,34 @@ fn refused_with(alloc: Global, group: &str) -> Result<usize, String> {
         return Err(String::new(alloc));
     };
     let message = message.as_str();
-    let found = passing(alloc, rows, |row| are_refused(alloc, row, message))?;
+    let found = passing(
+        alloc,
+        rows,
+        &|row: &[String]| are_refused(alloc, row, message),
+    )?;
     Ok(fields_in(rows).saturating_sub(found))
 }
 
-// How many refused texts the table has, or the first row that is wrong.
-fn refused(alloc: Global, table: &str) -> Result<usize, String> {
+// Checks a table of so many refused texts.
+fn check_refused(alloc: Global, table: &str, wanted: usize) -> Result<(), String> {
     let mut texts = 0usize;
     for group in table.split("\n\n") {
         texts = texts.saturating_add(refused_with(alloc, group)?);
     }
-    Ok(texts)
+    check_count(alloc, texts, wanted)
 }
 
 #[test]
-fn refuses_where_no_token_can_start(rt: HostRuntime) {
-    passed(&rt, refused(rt.alloc(), no_token::ROWS), 683);
+fn refuses_where_no_token_can_start(rt: HostRuntime) -> Result<(), String> {
+    check_refused(rt.alloc(), no_token::ROWS, 683)
 }
 
 #[test]
-fn refuses_tokens_after_others(rt: HostRuntime) {
-    passed(&rt, refused(rt.alloc(), neighbours::ROWS), 595);
+fn refuses_tokens_after_others(rt: HostRuntime) -> Result<(), String> {
+    check_refused(rt.alloc(), neighbours::ROWS, 595)
 }
 
 #[test]
-fn refuses_what_is_judged_later(rt: HostRuntime) {
-    passed(&rt, refused(rt.alloc(), judged::ROWS), 165);
+fn refuses_what_is_judged_later(rt: HostRuntime) -> Result<(), String> {
+    check_refused(rt.alloc(), judged::ROWS, 165)
 }

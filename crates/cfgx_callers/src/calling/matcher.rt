@@ -32,7 +32,7 @@ mod tests {
     use cfg_expr::error::Failure;
     use cfg_expr::{Expression, Predicate};
     use cfgx_testing::holding::{gives, holds};
-    use cfgx_testing::rows::passing;
+    use cfgx_testing::rows::check_pairs;
     use std::alloc::Global;
 
     // The value on a board of 16 bits without an operating system. Only the target answers.
@@ -61,22 +61,10 @@ any(unix, target_arch = "avr", target_vendor = "none") | false
 all(target_os = "none", not(target_env = "none")) | true
 "#;
 
-    fn is_met_so(alloc: Global, row: &[String]) -> bool {
-        match row {
-            [text, value] => {
-                let wanted = value.as_str() == "true";
-                holds(gives(value_on_board(alloc, text.as_str()), &wanted))
-            }
-            _ => false,
-        }
-    }
-
     #[test]
-    fn a_board_meets_its_predicates(rt: HostRuntime) {
-        let alloc = rt.alloc();
-        assert_eq!(rt;
-            passing(alloc, ON_BOARD, |row| is_met_so(alloc, row)),
-            Ok(6)
-        );
+    fn a_board_meets_its_predicates(rt: HostRuntime) -> Result<(), String> {
+        check_pairs(rt.alloc(), ON_BOARD, 6, |text, value| {
+            holds(gives(value_on_board(rt.alloc(), text), &(value == "true")))
+        })
     }
 }

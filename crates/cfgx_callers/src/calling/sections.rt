@@ -25,11 +25,21 @@ pub fn verdicts_on(
 #[cfg(test)]
 mod tests {
     use super::{Board, Verdict, verdicts_on};
+    use cfg_expr::error::Failure;
+    use cfgx_testing::answers::answer_of;
+    use cfgx_testing::holding::holds;
+    use cfgx_testing::rows::check_pairs;
+    use std::alloc::Global;
     use std::test::Fail;
 
     const BARE: Board<'static> = Board {
         os: "none",
         pointer_width: 16,
+    };
+
+    const LINUX: Board<'static> = Board {
+        os: "linux",
+        pointer_width: 64,
     };
 
     const MANIFEST: &[(&str, &str)] = &[
@@ -48,6 +58,66 @@ mod tests {
         let wanted = [Verdict::Yes, Verdict::No, Verdict::Unknown, Verdict::No];
         assert!(rt; verdicts.as_slice() == wanted.as_slice(), "{verdicts:?}");
         Ok(())
+    }
+
+    // Conditions, and their values on these two boards. A board meets nothing else on the target,
+    // and nothing is known of what is not on the target.
+    const ON_BOARDS: &str = r#"
+target_os = "none" | 10
+not(target_os = "none") | 01
+target_pointer_width = "64" | 01
+all(target_os = "none", target_pointer_width = "16") | 10
+unix | 00
+not(any(windows, target_vendor = "unknown")) | 11
+test | ??
+not(debug_assertions) | ??
+proc_macro | ??
+flag | ??
+key = "v" | ??
+any(target_os = "linux", feature = "x") | ?1
+all(target_os = "linux", feature = "x") | 0?
+any(a, not(a)) | ??
+true | 11
+any(a, true) | 11
+all(a, false) | 00
+any() | 00
+any(a, not(a)) | ??
+"#;
+
+    fn verdict_of(digit: u8) -> Verdict {
+        match answer_of(digit) {
+            Some(true) => Verdict::Yes,
+            Some(false) => Verdict::No,
+            None => Verdict::Unknown,
+        }
+    }
+
+    // Whether the board says of a section with this condition what the digit stands for.
+    fn has_verdict(
+        alloc: Global,
+        board: &Board<'_>,
+        text: &str,
+        digit: u8,
+    ) -> Result<bool, Failure> {
+        let verdicts = verdicts_on(alloc, board, &[("", text)])?;
+        Ok(verdicts.as_slice() == [verdict_of(digit)].as_slice())
+    }
+
+    fn are_verdicts(alloc: Global, text: &str, digits: &str) -> bool {
+        match digits.as_bytes() {
+            [one, other] => {
+                holds(has_verdict(alloc, &BARE, text, *one))
+                    && holds(has_verdict(alloc, &LINUX, text, *other))
+            }
+            _ => false,
+        }
+    }
+
+    #[test]
+    fn verdicts_on_boards(rt: HostRuntime) -> Result<(), String> {
+        check_pairs(rt.alloc(), ON_BOARDS, 19, |text, digits| {
+            are_verdicts(rt.alloc(), text, digits)
+        })
     }
 
     #[test]

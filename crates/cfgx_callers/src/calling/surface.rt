@@ -13,7 +13,7 @@ use cfgx_engine::engine::laws::has_one_output;
 use cfgx_engine::engine::streams::write_whole;
 use cfgx_syntax::stripping::strip;
 use cfgx_targets::reading::{read_endian, read_has_atomic, read_u8, read_u16};
-use cfgx_testing::holding::{first_wrong, holds};
+use cfgx_testing::holding::{all_hold, holds};
 use std::alloc::{AllocError, Global};
 use std::str::FromStr;
 use std::test::Fail;
@@ -43,9 +43,10 @@ fn widths_are_asked_for_members(rt: HostRuntime) -> Result<(), Fail> {
     Ok(())
 }
 
-// The first reader that does not read this.
-fn first_misread(alloc: Global) -> Option<&'static str> {
-    first_wrong(&[
+#[test]
+fn values_are_read(rt: HostRuntime) -> Result<(), &'static str> {
+    let alloc = rt.alloc();
+    all_hold(&[
         ("+255", read_u8("+255") == Some(255)),
         ("256", read_u8("256").is_none()),
         ("65535", read_u16("65535") == Some(65_535)),
@@ -59,11 +60,6 @@ fn first_misread(alloc: Global) -> Option<&'static str> {
         ("8", is_eight(alloc, "8")),
         ("no width", is_no_width(alloc, "")),
     ])
-}
-
-#[test]
-fn values_are_read(rt: HostRuntime) {
-    assert_eq!(rt; first_misread(rt.alloc()), None);
 }
 
 fn are_read_alike(alloc: Global, one: &str, other: &str) -> bool {

@@ -1,7 +1,6 @@
 //! Conditions that are read, copied and evaluated.
 use super::Answer;
 use super::runs::is_run_in_turns;
-use crate::asserting::passed;
 use cfg_expr::error::{Failure, ParseError};
 use cfg_expr::expr::TargetMatcher;
 use cfg_expr::expr::lexer::{Lexer, Token};
@@ -11,7 +10,7 @@ use cfg_expr::{Expression, Predicate, TargetPredicate};
 use cfgx_engine::resolve::{Section, Verdict, pick};
 use cfgx_testing::heap::{empty_heap, growths, has_every_block, is_refused_in_turns};
 use cfgx_testing::holding::holds;
-use cfgx_testing::rows::{passing, told};
+use cfgx_testing::rows::{check_rows, told};
 use cfgx_testing::texts::repeated;
 use cfgx_testing::triples::IOS;
 use std::alloc::{AllocError, Global};
@@ -358,9 +357,9 @@ fn is_row(alloc: Global, fields: &[String]) -> bool {
 }
 
 #[test]
-fn each_growth_of_each_call_is_refused(rt: HostRuntime) {
+fn each_growth_of_each_call_is_refused(rt: HostRuntime) -> Result<(), String> {
     let alloc = rt.alloc();
-    passed(&rt, passing(alloc, TEXTS, |row| is_row(alloc, row)), 39);
+    check_rows(alloc, TEXTS, 39, |row| is_row(alloc, row))
 }
 
 // Whether an expression of the text of these parts is equal to its copy.

@@ -1,10 +1,9 @@
 //! Runs of the program, and wrong use, which takes no memory.
 use super::Answer;
-use crate::asserting::passed;
 use cfgx_engine::engine::run;
 use cfgx_testing::heap::{Heap, empty_heap, growths, has_every_block};
 use cfgx_testing::refusing::EVERY;
-use cfgx_testing::rows::passing;
+use cfgx_testing::rows::check_rows;
 use cfgx_testing::streams::{ALL, Pieces, Recorder, USAGE, is_left_so, is_written};
 use cfgx_testing::texts::repeated;
 use cfgx_testing::triples::SIM;
@@ -148,9 +147,9 @@ fn is_row(alloc: Global, fields: &[String]) -> bool {
 }
 
 #[test]
-fn each_growth_of_each_run_is_refused(rt: HostRuntime) {
+fn each_growth_of_each_run_is_refused(rt: HostRuntime) -> Result<(), String> {
     let alloc = rt.alloc();
-    passed(&rt, passing(alloc, RUNS, |row| is_row(alloc, row)), 28);
+    check_rows(alloc, RUNS, 28, |row| is_row(alloc, row))
 }
 
 const UNKNOWN: Ended<'static> = ("", 2, b"unknown triple\n");

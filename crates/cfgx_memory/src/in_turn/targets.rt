@@ -1,6 +1,5 @@
 //! Lists, faults and rows, which are made and copied.
 use super::Answer;
-use crate::asserting::passed;
 use cfg_expr::memory::SmallAllocator;
 use cfg_expr::targets::{
     Arch, Endian, Families, Family, HasAtomic, HasAtomicFailure, HasAtomics, Panic, TargetInfo,
@@ -9,7 +8,7 @@ use cfg_expr::targets::{
 use cfgx_fields::Field;
 use cfgx_testing::heap::{empty_heap, has_every_block, is_refused_in_turns};
 use cfgx_testing::holding::{gives, holds, prints};
-use cfgx_testing::rows::passing;
+use cfgx_testing::rows::check_rows;
 use std::alloc::{AllocError, Global};
 use std::fmt::Display;
 
@@ -223,9 +222,9 @@ fn is_row(alloc: Global, fields: &[String]) -> bool {
 }
 
 #[test]
-fn each_growth_of_a_call_on_targets_is_refused(rt: HostRuntime) {
+fn each_growth_of_a_call_on_targets_is_refused(rt: HostRuntime) -> Result<(), String> {
     let alloc = rt.alloc();
-    passed(&rt, passing(alloc, CALLS, |row| is_row(alloc, row)), 13);
+    check_rows(alloc, CALLS, 13, |row| is_row(alloc, row))
 }
 
 #[test]

@@ -1,5 +1,4 @@
 //! Conditions that are asked, compared, printed, spelled and evaluated, and the logics.
-use crate::asserting::all_hold;
 use crate::in_turn::conditions::called;
 use cfg_expr::error::Failure;
 use cfg_expr::expr::logic::Kleene64;
@@ -8,7 +7,7 @@ use cfg_expr::memory::SmallAllocator;
 use cfg_expr::targets::{TargetInfo, TargetTable};
 use cfg_expr::{Expression, Predicate};
 use cfgx_testing::heap::{Heap, empty_heap, has_every_block};
-use cfgx_testing::holding::{holds, prints};
+use cfgx_testing::holding::{all_hold, holds, prints};
 use cfgx_testing::refusing::EVERY;
 use std::alloc::{AllocError, Global};
 
@@ -164,21 +163,19 @@ fn conditions_take_no_memory(rt: HostRuntime) {
 }
 
 #[test]
-fn comparing_takes_no_memory(rt: HostRuntime) {
+fn comparing_takes_no_memory(rt: HostRuntime) -> Result<(), &'static str> {
     let heap = empty_heap(rt.alloc());
-    all_hold(
-        &rt,
-        &[
-            ("equal", are_compared(&heap, TEXT, (true, true))),
-            ("one comma more", are_compared(&heap, OTHER, (false, true))),
-            (
-                "other predicates",
-                are_compared(&heap, FLAGS, (false, false)),
-            ),
-            ("targets", ask_for_the_fourth(&heap)),
-        ],
-    );
+    all_hold(&[
+        ("equal", are_compared(&heap, TEXT, (true, true))),
+        ("one comma more", are_compared(&heap, OTHER, (false, true))),
+        (
+            "other predicates",
+            are_compared(&heap, FLAGS, (false, false)),
+        ),
+        ("targets", ask_for_the_fourth(&heap)),
+    ])?;
     assert!(rt; has_every_block(heap));
+    Ok(())
 }
 
 // Whether the operations of a logic are what they are in Rust.

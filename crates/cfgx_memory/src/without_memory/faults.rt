@@ -1,5 +1,4 @@
 //! Tokens, faults, and what they print.
-use crate::asserting::passed;
 use cfg_expr::Expression;
 use cfg_expr::error::{Failure, HasAtomicParseError, ParseError, Reason};
 use cfg_expr::expr::lexer::{Lexer, LexerToken, Token};
@@ -7,7 +6,7 @@ use cfg_expr::targets::{HasAtomic, HasAtomicFailure};
 use cfgx_testing::heap::{Heap, empty_heap, has_every_block, holds_without_memory};
 use cfgx_testing::holding::prints;
 use cfgx_testing::refusing::EVERY;
-use cfgx_testing::rows::passing;
+use cfgx_testing::rows::check_rows;
 use std::alloc::{AllocError, Allocator, Global};
 
 // The first items of `cfg(key = "v" 8)`: a token, where it stands, and how many bytes are left.
@@ -108,15 +107,12 @@ fn is_row(alloc: Global, heap: Heap<'_>, fields: &[String]) -> bool {
 }
 
 #[test]
-fn faults_take_no_memory(rt: HostRuntime) {
+fn faults_take_no_memory(rt: HostRuntime) -> Result<(), String> {
     let alloc = rt.alloc();
     let heap = empty_heap(alloc);
-    passed(
-        &rt,
-        passing(alloc, ROWS, |row| is_row(alloc, &heap, row)),
-        3,
-    );
+    check_rows(alloc, ROWS, 3, |row| is_row(alloc, &heap, row))?;
     assert!(rt; has_every_block(heap));
+    Ok(())
 }
 
 // The fault of a text that is no width.

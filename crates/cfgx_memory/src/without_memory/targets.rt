@@ -1,13 +1,12 @@
 //! Byte orders, widths, lists, rows and tables.
 use super::are_ordered;
-use crate::asserting::all_hold;
 use cfg_expr::memory::SmallAllocator;
 use cfg_expr::targets::{
     Endian, Families, Family, HasAtomic, HasAtomics, TargetInfo, TargetTable,
     get_builtin_target_by_triple,
 };
 use cfgx_testing::heap::{Heap, empty_heap, has_every_block, holds_without_memory};
-use cfgx_testing::holding::{gives, holds, prints};
+use cfgx_testing::holding::{all_hold, gives, holds, prints};
 use cfgx_testing::refusing::EVERY;
 use cfgx_testing::triples::{DARWIN, TVOS};
 use std::alloc::{AllocError, Global};
@@ -171,41 +170,36 @@ fn is_builtin<A: SmallAllocator>(table: &TargetTable<'_, A>) -> bool {
 }
 
 #[test]
-fn lists_and_rows_take_no_memory(rt: HostRuntime) {
+fn lists_and_rows_take_no_memory(rt: HostRuntime) -> Result<(), &'static str> {
     let heap = empty_heap(rt.alloc());
     let table = TargetTable::builtins(&heap);
-    all_hold(
-        &rt,
-        &[
-            ("lists of widths", holds(are_widths(rt.alloc(), &heap))),
-            ("a number", is_read(&heap, "+08", EIGHT)),
-            ("ptr", is_read(&heap, "ptr", HasAtomic::Pointer)),
-            ("lists of families", holds(are_families(rt.alloc(), &heap))),
-            ("no family", is_empty(&heap)),
-            ("a table", are_refused(&heap, &[0, 2, 4], None, false)),
-            ("no table", are_refused(&heap, &[0, 2, 2], Some(2), false)),
-            ("equal rows", are_refused(&heap, &[1, 1, 2], Some(1), true)),
-            (
-                "built in",
-                holds_without_memory(&heap, table, |table| is_builtin(table)),
-            ),
-        ],
-    );
+    all_hold(&[
+        ("lists of widths", holds(are_widths(rt.alloc(), &heap))),
+        ("a number", is_read(&heap, "+08", EIGHT)),
+        ("ptr", is_read(&heap, "ptr", HasAtomic::Pointer)),
+        ("lists of families", holds(are_families(rt.alloc(), &heap))),
+        ("no family", is_empty(&heap)),
+        ("a table", are_refused(&heap, &[0, 2, 4], None, false)),
+        ("no table", are_refused(&heap, &[0, 2, 2], Some(2), false)),
+        ("equal rows", are_refused(&heap, &[1, 1, 2], Some(1), true)),
+        (
+            "built in",
+            holds_without_memory(&heap, table, |table| is_builtin(table)),
+        ),
+    ])?;
     assert!(rt; has_every_block(heap));
+    Ok(())
 }
 
 #[test]
-fn orders(rt: HostRuntime) {
-    all_hold(
-        &rt,
-        &[
-            ("widths", are_ordered(&EIGHT, &EIGHT, &HasAtomic::Pointer)),
-            (
-                "byte orders",
-                are_ordered(&Endian::big, &Endian::big, &Endian::little),
-            ),
-            ("families", are_sorted([Family::unix(), Family::wasm()])),
-            ("others", !are_sorted([Family::wasm(), Family::unix()])),
-        ],
-    );
+fn orders() -> Result<(), &'static str> {
+    all_hold(&[
+        ("widths", are_ordered(&EIGHT, &EIGHT, &HasAtomic::Pointer)),
+        (
+            "byte orders",
+            are_ordered(&Endian::big, &Endian::big, &Endian::little),
+        ),
+        ("families", are_sorted([Family::unix(), Family::wasm()])),
+        ("others", !are_sorted([Family::wasm(), Family::unix()])),
+    ])
 }

@@ -1,8 +1,8 @@
 //! Logics of which no law holds, and the lanes of `Kleene64`.
-use crate::asserting::all_hold;
 use cfg_expr::expr::Logic;
 use cfg_expr::expr::logic::Kleene64;
 use cfg_expr::{Expression, Predicate};
+use cfgx_testing::holding::all_hold;
 use std::alloc::Global;
 
 /// A logic whose `and` is its second value, and whose `or` is its first one.
@@ -69,22 +69,19 @@ fn no_law_is_needed(rt: HostRuntime) {
 }
 
 #[test]
-fn lanes_are_joined_one_by_one(rt: HostRuntime) {
+fn lanes_are_joined_one_by_one() -> Result<(), &'static str> {
     let three = Kleene64::new(0b001, 0b010);
-    all_hold(
-        &rt,
-        &[
-            ("lane 0", three.lane(0) == Some(true)),
-            ("lane 1", three.lane(1) == Some(false)),
-            ("lane 2", three.lane(2).is_none()),
-            ("lane 63", three.lane(63).is_none()),
-            ("and", three.and(three.not()) == Kleene64::new(0, 0b011)),
-            ("or", three.or(three.not()) == Kleene64::new(0b011, 0)),
-            (
-                "true lanes",
-                three.is_true() == 0b001 && three.is_false() == 0b010,
-            ),
-            ("other lanes", three != Kleene64::new(1, 0)),
-        ],
-    );
+    all_hold(&[
+        ("lane 0", three.lane(0) == Some(true)),
+        ("lane 1", three.lane(1) == Some(false)),
+        ("lane 2", three.lane(2).is_none()),
+        ("lane 63", three.lane(63).is_none()),
+        ("and", three.and(three.not()) == Kleene64::new(0, 0b011)),
+        ("or", three.or(three.not()) == Kleene64::new(0b011, 0)),
+        (
+            "true lanes",
+            three.is_true() == 0b001 && three.is_false() == 0b010,
+        ),
+        ("other lanes", three != Kleene64::new(1, 0)),
+    ])
 }

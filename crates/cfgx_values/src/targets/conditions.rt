@@ -1,12 +1,11 @@
 //! Conditions on targets, by `eval` on each and in lanes.
 use super::rows::{bare, darwin, ios, windows};
-use crate::asserting::passed;
 use cfg_expr::expr::logic::Kleene64;
 use cfg_expr::expr::{Predicates, TargetMatcher};
 use cfg_expr::targets::{TargetInfo, TargetTable, Vendor};
 use cfg_expr::{Expression, Predicate};
 use cfgx_testing::answers::{answer_of, are_lanes, in_each, value_in_lanes};
-use cfgx_testing::rows::passing;
+use cfgx_testing::rows::check_pairs;
 use std::alloc::{AllocError, Global};
 use std::test::Fail;
 
@@ -172,25 +171,23 @@ fn is_right(
     Some(are_plain && are_values_in_lanes(alloc, &expression, rows, otherwise, digits).ok()?)
 }
 
-// How many conditions of the table have their values on the rows.
-fn right(
+// Checks a table of so many conditions, whose values on the rows it has.
+fn check_values(
     alloc: Global,
     table: &str,
     rows: &[TargetInfo<'_>],
     otherwise: Option<bool>,
-) -> Result<usize, String> {
-    passing(alloc, table, |row| match row {
-        [text, digits] => {
-            is_right(alloc, rows, otherwise, text.as_str(), digits.as_bytes()) == Some(true)
-        }
-        _ => false,
+    wanted: usize,
+) -> Result<(), String> {
+    check_pairs(alloc, table, wanted, |text, digits| {
+        is_right(alloc, rows, otherwise, text, digits.as_bytes()) == Some(true)
     })
 }
 
 #[test]
 fn values_on_rows_that_are_built_in(rt: HostRuntime) -> Result<(), Fail> {
     let table = TargetTable::builtins(rt.alloc())?;
-    passed(&rt, right(rt.alloc(), BUILT_IN, table.rows(), None), 14);
+    check_values(rt.alloc(), BUILT_IN, table.rows(), None, 14)?;
     Ok(())
 }
 
@@ -207,19 +204,11 @@ fn rows_by_hand(alloc: Global) -> Result<Vec<TargetInfo<'static>>, AllocError> {
 #[test]
 fn values_on_rows_that_are_made_by_hand(rt: HostRuntime) -> Result<(), Fail> {
     let rows = rows_by_hand(rt.alloc())?;
-    passed(
-        &rt,
-        right(rt.alloc(), BY_HAND, rows.as_slice(), Some(true)),
-        27,
-    );
+    check_values(rt.alloc(), BY_HAND, rows.as_slice(), Some(true), 27)?;
     Ok(())
 }
 
 #[test]
-fn values_on_no_row(rt: HostRuntime) {
-    passed(
-        &rt,
-        right(rt.alloc(), "target_abi = \"sim\" | ?", &[], None),
-        1,
-    );
+fn values_on_no_row(rt: HostRuntime) -> Result<(), String> {
+    check_values(rt.alloc(), "target_abi = \"sim\" | ?", &[], None, 1)
 }

@@ -1,11 +1,10 @@
 //! Lists of families and of widths, the readers of widths and of byte orders, and what they print.
-use crate::asserting::{all_hold, passed};
 use cfg_expr::error::Reason;
 use cfg_expr::targets::{
     Abi, Endian, Families, Family, HasAtomic, HasAtomicFailure, HasAtomics, Os, rustc_version,
 };
-use cfgx_testing::holding::{holds, prints};
-use cfgx_testing::rows::passing;
+use cfgx_testing::holding::{all_hold, holds, prints};
+use cfgx_testing::rows::check_rows;
 use std::alloc::{AllocError, Global};
 
 /// Names of families, and what their list prints.
@@ -39,9 +38,8 @@ fn is_list(alloc: Global, row: &[String]) -> bool {
 }
 
 #[test]
-fn lists_of_families_are_sorted(rt: HostRuntime) {
-    let rows = passing(rt.alloc(), FAMILIES, |row| is_list(rt.alloc(), row));
-    passed(&rt, rows, 4);
+fn lists_of_families_are_sorted(rt: HostRuntime) -> Result<(), String> {
+    check_rows(rt.alloc(), FAMILIES, 4, |row| is_list(rt.alloc(), row))
 }
 
 const EIGHT: HasAtomic = HasAtomic::IntegerSize(8);
@@ -98,29 +96,25 @@ fn is_read(alloc: Global, row: &[String]) -> bool {
 }
 
 #[test]
-fn widths_are_read(rt: HostRuntime) {
-    let rows = passing(rt.alloc(), WIDTHS, |row| is_read(rt.alloc(), row));
-    passed(&rt, rows, 21);
+fn widths_are_read(rt: HostRuntime) -> Result<(), String> {
+    check_rows(rt.alloc(), WIDTHS, 21, |row| is_read(rt.alloc(), row))
 }
 
 #[test]
-fn widths_are_sorted_and_byte_orders_read(rt: HostRuntime) {
+fn widths_are_sorted_and_byte_orders_read(rt: HostRuntime) -> Result<(), &'static str> {
     let both = Reason::Unexpected(&["big", "little"]);
-    all_hold(
-        &rt,
-        &[
-            ("printed", holds(lists_widths(rt.alloc()))),
-            (
-                "falling",
-                !HasAtomics::is_sorted(&[HasAtomic::Pointer, EIGHT]),
-            ),
-            ("level", HasAtomics::is_sorted(&[EIGHT, EIGHT])),
-            ("nothing", HasAtomics::is_sorted(&[])),
-            ("big", "big".parse::<Endian>() == Ok(Endian::big)),
-            ("little", "little".parse::<Endian>() == Ok(Endian::little)),
-            ("Big", "Big".parse::<Endian>() == Err(both)),
-        ],
-    );
+    all_hold(&[
+        ("printed", holds(lists_widths(rt.alloc()))),
+        (
+            "falling",
+            !HasAtomics::is_sorted(&[HasAtomic::Pointer, EIGHT]),
+        ),
+        ("level", HasAtomics::is_sorted(&[EIGHT, EIGHT])),
+        ("nothing", HasAtomics::is_sorted(&[])),
+        ("big", "big".parse::<Endian>() == Ok(Endian::big)),
+        ("little", "little".parse::<Endian>() == Ok(Endian::little)),
+        ("Big", "Big".parse::<Endian>() == Err(both)),
+    ])
 }
 
 #[test]

@@ -1,6 +1,6 @@
 //! The named values of the field types have their texts: all but one are spelled as their function.
 use cfgx_fields::{Abi, Arch, Env, Family, Field, Os, Panic, Vendor};
-use cfgx_testing::holding::first_wrong;
+use cfgx_testing::holding::all_hold;
 use cfgx_testing::refusing::Refusing;
 use std::alloc::{Allocator, Global};
 
@@ -14,10 +14,8 @@ fn is_text<K: Drop, A: Allocator>(field: Field<'_, K, A>, text: &str) -> bool {
 
 // How many values there are, or the name of the first one that has another text.
 fn count<'a>(values: &[(&'a str, bool)]) -> Result<usize, &'a str> {
-    match first_wrong(values) {
-        Some(name) => Err(name),
-        None => Ok(values.len()),
-    }
+    all_hold(values)?;
+    Ok(values.len())
 }
 
 macro_rules! named {

@@ -1,8 +1,7 @@
 //! Tables of rows with increasing triples, and the rows that are found in them.
 use super::rows::bare;
-use crate::asserting::passed;
 use cfg_expr::targets::{TargetInfo, TargetTable, get_builtin_target_by_triple};
-use cfgx_testing::rows::passing;
+use cfgx_testing::rows::check_rows;
 use std::alloc::{AllocError, Global};
 use std::test::Fail;
 
@@ -56,9 +55,8 @@ fn is_table(alloc: Global, row: &[String]) -> bool {
 }
 
 #[test]
-fn tables_have_increasing_triples(rt: HostRuntime) {
-    let rows = passing(rt.alloc(), TABLES, |row| is_table(rt.alloc(), row));
-    passed(&rt, rows, 6);
+fn tables_have_increasing_triples(rt: HostRuntime) -> Result<(), String> {
+    check_rows(rt.alloc(), TABLES, 6, |row| is_table(rt.alloc(), row))
 }
 
 const BUILT_IN: &str = "aarch64-apple-darwin aarch64-apple-ios aarch64-apple-ios-macabi \

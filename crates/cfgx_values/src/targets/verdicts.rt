@@ -1,69 +1,16 @@
-//! The verdicts of `pick` on sections, by rows that are built in and by a target of one's own.
+//! The verdicts of `pick` on sections, by rows that are built in.
 use super::conditions::BUILT_IN;
+use cfg_expr::Expression;
 use cfg_expr::error::Failure;
 use cfg_expr::expr::TargetMatcher;
 use cfg_expr::memory::SmallAllocator;
 use cfg_expr::targets::TargetTable;
-use cfg_expr::{Expression, TargetPredicate};
 use cfgx_engine::resolve::{Section, Verdict, pick};
 use cfgx_testing::answers::answer_of;
 use cfgx_testing::holding::holds;
 use cfgx_testing::texts::repeated;
 use std::alloc::Global;
 use std::test::Fail;
-
-/// A target of which two things are known.
-#[derive(Drop)]
-struct Board {
-    os: &'static str,
-    pointer_width: u8,
-}
-
-impl TargetMatcher for Board {
-    ghost use Rattle.cfgx_values.specs.Board.{board_meets};
-
-    ghost answer = { λ board. board_meets board.os.now board.pointer_width };
-
-    fn matches(&self, tp: &TargetPredicate<'_>) -> bool {
-        match tp {
-            TargetPredicate::Os(os) => self.os == os.as_str(),
-            TargetPredicate::PointerWidth(bits) => self.pointer_width == *bits,
-            _ => false,
-        }
-    }
-}
-
-const BARE: Board = Board {
-    os: "none",
-    pointer_width: 16,
-};
-
-const LINUX: Board = Board {
-    os: "linux",
-    pointer_width: 64,
-};
-
-/// A condition, and its values on these two boards. A board meets nothing else on the target, and
-/// nothing is known of what is not on the target.
-const ON_BOARDS: &str = r#"target_os = "none" | 10
-not(target_os = "none") | 01
-target_pointer_width = "64" | 01
-all(target_os = "none", target_pointer_width = "16") | 10
-unix | 00
-not(any(windows, target_vendor = "unknown")) | 11
-test | ??
-not(debug_assertions) | ??
-proc_macro | ??
-flag | ??
-key = "v" | ??
-any(target_os = "linux", feature = "x") | ?1
-all(target_os = "linux", feature = "x") | 0?
-any(a, not(a)) | ??
-true | 11
-any(a, true) | 11
-all(a, false) | 00
-any() | 00
-any(a, not(a)) | ??"#;
 
 /// Sections, and who has their memory.
 type Sections<A> = Vec<Section<A>, A>;
@@ -180,30 +127,30 @@ fn verdicts_by_rows_that_are_built_in(rt: HostRuntime) -> Result<(), Fail> {
     Ok(())
 }
 
+// Three conditions, and their values on macOS.
+const THREE: &str = r#"target_os = "macos" | 1
+feature = "x" | ?
+not(target_os = "macos") | 0
+"#;
+
+// Whether the sections of three conditions, so many times, have their verdicts on macOS.
+fn are_on_macos(alloc: Global, times: usize, is_named: bool) -> Result<bool, Failure> {
+    let table = TargetTable::builtins(alloc)?;
+    let text = repeated(alloc, "", THREE, times, "")?;
+    match table.rows().first() {
+        Some(row) => is_picked(alloc, row, text.as_str(), 0, is_named),
+        None => Ok(false),
+    }
+}
+
 #[test]
-fn verdicts_by_a_target_of_ones_own(rt: HostRuntime) {
-    assert!(rt; holds(is_picked(rt.alloc(), &BARE, ON_BOARDS, 0, true)));
-    assert!(rt; holds(is_picked(rt.alloc(), &LINUX, ON_BOARDS, 1, true)));
-    assert!(rt; holds(is_picked(rt.alloc(), &LINUX, "", 1, true)));
+fn verdicts_on_any_number_of_sections(rt: HostRuntime) {
+    for times in [0, 1, 6_667] {
+        assert!(rt; holds(are_on_macos(rt.alloc(), times, true)), "{times}");
+    }
 }
 
 #[test]
 fn verdicts_on_sections_without_a_name(rt: HostRuntime) {
-    assert!(rt; holds(is_picked(rt.alloc(), &LINUX, ON_BOARDS, 1, false)));
-}
-
-const THREE: &str = r#"target_os = "linux" | 1
-feature = "x" | ?
-not(target_os = "linux") | 0
-"#;
-
-// Whether so many times three sections have their verdicts.
-fn are_many_picked(alloc: Global, times: usize) -> Result<bool, Failure> {
-    let table = repeated(alloc, "", THREE, times, "")?;
-    is_picked(alloc, &LINUX, table.as_str(), 0, true)
-}
-
-#[test]
-fn verdicts_on_many_sections(rt: HostRuntime) {
-    assert!(rt; holds(are_many_picked(rt.alloc(), 6_667)));
+    assert!(rt; holds(are_on_macos(rt.alloc(), 1, false)));
 }

@@ -1,7 +1,7 @@
 //! A counted stream makes one call of the stream inside for each of its own, and counts those that
 //! fail.
-use crate::asserting::all_hold;
 use cfgx_engine::engine::streams::{Counted, Sink, Source, write_whole};
+use cfgx_testing::holding::all_hold;
 use cfgx_testing::streams::{Pieces, interrupted};
 use std::io;
 
@@ -59,7 +59,7 @@ fn a_counted_reader_counts_its_failed_reads(rt: HostRuntime) {
 
 // A writer in memory of so many bytes takes none once it is full: a failed write.
 #[test]
-fn a_counted_writer_counts_its_failed_writes(rt: HostRuntime) {
+fn a_counted_writer_counts_its_failed_writes() -> Result<(), &'static str> {
     let mut room = [0u8; 4];
     let mut sink = Counted::new(&mut room[..]);
     let checks = [
@@ -69,12 +69,12 @@ fn a_counted_writer_counts_its_failed_writes(rt: HostRuntime) {
         ("no room", write(&mut sink, b"e") == (Some(0), 1)),
         ("a flush", flush(&mut sink) == (true, 1)),
     ];
-    all_hold(&rt, &checks);
+    all_hold(&checks)
 }
 
 // A counted writer in memory gets the whole output.
 #[test]
-fn a_counted_writer_takes_the_whole(rt: HostRuntime) {
+fn a_counted_writer_takes_the_whole() -> Result<(), &'static str> {
     let mut room = [0u8; 6];
     let mut sink = Counted::new(&mut room[..]);
     let first = whole(&mut sink, b"hello\n");
@@ -84,7 +84,7 @@ fn a_counted_writer_takes_the_whole(rt: HostRuntime) {
         ("no room", second == (false, 1)),
         ("what is written", room == *b"hello\n"),
     ];
-    all_hold(&rt, &checks);
+    all_hold(&checks)
 }
 
 // A stream whose first calls of each kind, so many of them, fail and whose later ones do not. It
@@ -146,7 +146,7 @@ impl io::Write for FirstFail {
 }
 
 #[test]
-fn a_counted_writer_counts_errors(rt: HostRuntime) {
+fn a_counted_writer_counts_errors() -> Result<(), &'static str> {
     let mut sink = first_fail(u64::MAX, false);
     let checks = [
         ("a write", write(&mut sink, b"a") == (None, 1)),
@@ -154,11 +154,11 @@ fn a_counted_writer_counts_errors(rt: HostRuntime) {
         ("a whole text", whole(&mut sink, b"a") == (false, 3)),
         ("its flush", whole(&mut sink, b"") == (false, 4)),
     ];
-    all_hold(&rt, &checks);
+    all_hold(&checks)
 }
 
 #[test]
-fn a_counted_stream_tries_no_call_again(rt: HostRuntime) {
+fn a_counted_stream_tries_no_call_again() -> Result<(), &'static str> {
     let mut counted = first_fail(1, false);
     let mut buffer = [0u8; 4];
     let checks = [
@@ -174,11 +174,11 @@ fn a_counted_stream_tries_no_call_again(rt: HostRuntime) {
         ("a flush", flush(&mut counted) == (true, 3)),
         ("two calls each", calls(&counted) == (2, 2, 2)),
     ];
-    all_hold(&rt, &checks);
+    all_hold(&checks)
 }
 
 #[test]
-fn a_counted_writer_tries_no_empty_write_again(rt: HostRuntime) {
+fn a_counted_writer_tries_no_empty_write_again() -> Result<(), &'static str> {
     let mut sink = first_fail(1, true);
     let checks = [
         ("no byte", write(&mut sink, b"ab") == (Some(0), 1)),
@@ -186,5 +186,5 @@ fn a_counted_writer_tries_no_empty_write_again(rt: HostRuntime) {
         ("a write", write(&mut sink, b"ab") == (Some(2), 1)),
         ("two calls", calls(&sink) == (0, 2, 0)),
     ];
-    all_hold(&rt, &checks);
+    all_hold(&checks)
 }

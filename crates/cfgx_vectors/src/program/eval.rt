@@ -1,6 +1,5 @@
 //! `cfgx eval` writes the value of its text by its flags, or the fault of its first faulty text.
-use crate::asserting::passed;
-use cfgx_testing::words::passing_runs;
+use cfgx_testing::words::check_runs;
 
 pub(super) const VALUES: &str = r#"
 0 | true\n | eval | all(a, not(b)) | a
@@ -55,8 +54,8 @@ pub(super) const VALUES: &str = r#"
 "#;
 
 #[test]
-fn values_by_flags(rt: HostRuntime) {
-    passed(&rt, passing_runs(rt.alloc(), VALUES), 43);
+fn values_by_flags(rt: HostRuntime) -> Result<(), String> {
+    check_runs(rt.alloc(), VALUES, 43)
 }
 
 pub(super) const FAULTS: &str = r#"
@@ -79,6 +78,6 @@ pub(super) const FAULTS: &str = r#"
 "#;
 
 #[test]
-fn the_first_faulty_text_counts(rt: HostRuntime) {
-    passed(&rt, passing_runs(rt.alloc(), FAULTS), 16);
+fn the_first_faulty_text_counts(rt: HostRuntime) -> Result<(), String> {
+    check_runs(rt.alloc(), FAULTS, 16)
 }

@@ -1,10 +1,9 @@
 //! The first failed call of a stream is the last call of both streams.
 use super::{KINDS, UNREAD};
-use crate::asserting::passed;
 use cfgx_engine::engine::run;
 use cfgx_testing::streams::{ALL, Pieces, Recorder, is_left_so};
 use cfgx_testing::triples::SIM;
-use cfgx_testing::words::{passing_texts, words_of};
+use cfgx_testing::words::{check_texts, words_of};
 use std::alloc::Global;
 
 // What the sink is set to, the status, what is written, how many calls there are of `write` and of
@@ -82,10 +81,9 @@ fn ends_so(alloc: Global, row: &[String]) -> bool {
 }
 
 #[test]
-fn no_call_follows_a_failed_one(rt: HostRuntime) {
+fn no_call_follows_a_failed_one(rt: HostRuntime) -> Result<(), String> {
     let alloc = rt.alloc();
-    let rows = passing_texts(alloc, ENDINGS, |row| ends_so(alloc, row));
-    passed(&rt, rows, 25);
+    check_texts(alloc, ENDINGS, 25, |row| ends_so(alloc, row))
 }
 
 // Whether a run over the input whose write of this number fails, counted from 0, ends with status
@@ -130,12 +128,12 @@ fn writes_fail_in_turn(alloc: Global, row: &[String]) -> bool {
 }
 
 #[test]
-fn no_call_follows_a_failed_write(rt: HostRuntime) {
+fn no_call_follows_a_failed_write(rt: HostRuntime) -> Result<(), String> {
     let alloc = rt.alloc();
-    for table in UNREAD {
-        let rows = passing_texts(alloc, table, |row| writes_fail_in_turn(alloc, row));
-        assert!(rt; rows.is_ok(), "{rows:?}");
+    for (table, rows) in UNREAD {
+        check_texts(alloc, table, *rows, |row| writes_fail_in_turn(alloc, row))?;
     }
+    Ok(())
 }
 
 fn writes_of_pick_fail_in_turn(alloc: Global, row: &[String]) -> bool {
@@ -146,10 +144,14 @@ fn writes_of_pick_fail_in_turn(alloc: Global, row: &[String]) -> bool {
 }
 
 #[test]
-fn no_call_follows_a_failed_write_of_pick(rt: HostRuntime) {
+fn no_call_follows_a_failed_write_of_pick(rt: HostRuntime) -> Result<(), String> {
     let alloc = rt.alloc();
-    let rows = passing_texts(alloc, KINDS, |row| writes_of_pick_fail_in_turn(alloc, row));
-    passed(&rt, rows, 6);
+    check_texts(
+        alloc,
+        KINDS,
+        6,
+        |row| writes_of_pick_fail_in_turn(alloc, row),
+    )
 }
 
 // Whether a run over the input whose read of this number fails ends with status 3, reads no more,
@@ -186,8 +188,7 @@ fn reads_fail_in_turn(alloc: Global, row: &[String]) -> bool {
 }
 
 #[test]
-fn no_call_follows_a_failed_read(rt: HostRuntime) {
+fn no_call_follows_a_failed_read(rt: HostRuntime) -> Result<(), String> {
     let alloc = rt.alloc();
-    let rows = passing_texts(alloc, KINDS, |row| reads_fail_in_turn(alloc, row));
-    passed(&rt, rows, 6);
+    check_texts(alloc, KINDS, 6, |row| reads_fail_in_turn(alloc, row))
 }

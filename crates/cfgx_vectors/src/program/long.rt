@@ -1,9 +1,8 @@
 //! Runs over long, wide and deep texts and inputs end in an answer.
-use super::passing_inputs;
-use crate::asserting::passed;
+use super::check_inputs;
 use cfgx_testing::streams::ALL;
 use cfgx_testing::triples::SIM;
-use cfgx_testing::words::passing_runs;
+use cfgx_testing::words::check_runs;
 
 const RUNS: &str = r#"
 0 | ~a\n~20000~ | parse | all(~a,~20000~)
@@ -25,8 +24,8 @@ const RUNS: &str = r#"
 "#;
 
 #[test]
-fn many_predicates_and_many_flags(rt: HostRuntime) {
-    passed(&rt, passing_runs(rt.alloc(), RUNS), 14);
+fn many_predicates_and_many_flags(rt: HostRuntime) -> Result<(), String> {
+    check_runs(rt.alloc(), RUNS, 14)
 }
 
 // The status, the input, and what is written of it on the simulator.
@@ -49,6 +48,6 @@ const INPUTS: &str = r#"
 "#;
 
 #[test]
-fn many_lines_and_long_ones(rt: HostRuntime) {
-    passed(&rt, passing_inputs(rt.alloc(), SIM, ALL, INPUTS), 14);
+fn many_lines_and_long_ones(rt: HostRuntime) -> Result<(), String> {
+    check_inputs(rt.alloc(), SIM, ALL, INPUTS, 14)
 }

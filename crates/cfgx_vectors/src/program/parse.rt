@@ -1,6 +1,5 @@
 //! `cfgx parse` writes the predicates of its text, one a line, or what its fault prints.
-use crate::asserting::passed;
-use cfgx_testing::words::passing_runs;
+use cfgx_testing::words::check_runs;
 
 pub(super) const RUNS: &str = r#"
 0 | b\na\nc\n | parse | all(a, any(b), c)
@@ -26,6 +25,6 @@ target_has_atomic = "8x"
 "#;
 
 #[test]
-fn predicates_and_faults(rt: HostRuntime) {
-    passed(&rt, passing_runs(rt.alloc(), RUNS), 19);
+fn predicates_and_faults(rt: HostRuntime) -> Result<(), String> {
+    check_runs(rt.alloc(), RUNS, 19)
 }

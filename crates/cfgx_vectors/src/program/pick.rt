@@ -1,9 +1,8 @@
 //! `cfgx pick` writes the verdicts on the sections of its input, or the input's first fault.
-use super::{is_picked, is_row_picked, passing_inputs};
-use crate::asserting::passed;
+use super::{check_inputs, is_picked, is_row_picked};
 use cfgx_testing::streams::ALL;
 use cfgx_testing::triples::{IOS, SIM};
-use cfgx_testing::words::passing_texts;
+use cfgx_testing::words::check_texts;
 use std::alloc::Global;
 
 // The status, the input, and what is written.
@@ -70,8 +69,8 @@ const LINES: &str = r#"
 "#;
 
 #[test]
-fn an_input_has_lines(rt: HostRuntime) {
-    passed(&rt, passing_inputs(rt.alloc(), SIM, ALL, LINES), 51);
+fn an_input_has_lines(rt: HostRuntime) -> Result<(), String> {
+    check_inputs(rt.alloc(), SIM, ALL, LINES, 51)
 }
 
 // What the simulator decides, and what it does not decide, with the fillings that show it.
@@ -119,8 +118,8 @@ n\tunknown\n\ttrue with 1001\n\tfalse with 0101\n
 "#;
 
 #[test]
-fn verdicts_with_their_fillings(rt: HostRuntime) {
-    passed(&rt, passing_inputs(rt.alloc(), SIM, ALL, CONDITIONS), 34);
+fn verdicts_with_their_fillings(rt: HostRuntime) -> Result<(), String> {
+    check_inputs(rt.alloc(), SIM, ALL, CONDITIONS, 34)
 }
 
 const FAULTS: &str = r#"
@@ -145,8 +144,8 @@ const FAULTS: &str = r#"
 "#;
 
 #[test]
-fn the_first_faulty_line_is_written(rt: HostRuntime) {
-    passed(&rt, passing_inputs(rt.alloc(), SIM, ALL, FAULTS), 15);
+fn the_first_faulty_line_is_written(rt: HostRuntime) -> Result<(), String> {
+    check_inputs(rt.alloc(), SIM, ALL, FAULTS, 15)
 }
 
 // A triple, and a row as above.
@@ -175,10 +174,9 @@ fn is_picked_on(alloc: Global, row: &[String]) -> bool {
 }
 
 #[test]
-fn verdicts_on_targets(rt: HostRuntime) {
+fn verdicts_on_targets(rt: HostRuntime) -> Result<(), String> {
     let alloc = rt.alloc();
-    let rows = passing_texts(alloc, ON_TARGETS, |row| is_picked_on(alloc, row));
-    passed(&rt, rows, 10);
+    check_texts(alloc, ON_TARGETS, 10, |row| is_picked_on(alloc, row))
 }
 
 // Inputs that are not UTF-8, wherever a faulty line stands.

@@ -1,10 +1,9 @@
 //! Only `pick` reads, to the end of its input and no further. No write is of an empty slice.
-use super::{KINDS, UNREAD, passing_inputs};
-use crate::asserting::passed;
+use super::{KINDS, UNREAD, check_inputs};
 use cfgx_engine::engine::run;
 use cfgx_testing::streams::{ALL, Pieces, Recorder, is_written};
 use cfgx_testing::triples::SIM;
-use cfgx_testing::words::{SECTIONS, passing_texts, words_of};
+use cfgx_testing::words::{SECTIONS, check_texts, words_of};
 use std::alloc::Global;
 
 // Whether the run reads nothing of an input, whose first read would fail, and writes one byte a
@@ -36,23 +35,20 @@ fn is_row_unread(alloc: Global, row: &[String]) -> bool {
 }
 
 #[test]
-fn other_words_read_nothing(rt: HostRuntime) {
+fn other_words_read_nothing(rt: HostRuntime) -> Result<(), String> {
     let alloc = rt.alloc();
-    for table in UNREAD {
-        let rows = passing_texts(alloc, table, |row| is_row_unread(alloc, row));
-        assert!(rt; rows.is_ok(), "{rows:?}");
+    for (table, rows) in UNREAD {
+        check_texts(alloc, table, *rows, |row| is_row_unread(alloc, row))?;
     }
+    Ok(())
 }
 
 #[test]
-fn no_empty_slice_is_written(rt: HostRuntime) {
+fn no_empty_slice_is_written(rt: HostRuntime) -> Result<(), String> {
     for each in [1, 2, 3, 7] {
-        assert_eq!(rt;
-            passing_inputs(rt.alloc(), SIM, each, KINDS),
-            Ok(6),
-            "{each} bytes a call"
-        );
+        check_inputs(rt.alloc(), SIM, each, KINDS, 6)?;
     }
+    Ok(())
 }
 
 // How many bytes a read has at most, an input, and how many reads there are: the last one meets the
@@ -85,11 +81,7 @@ fn has_reads(alloc: Global, row: &[String]) -> bool {
 }
 
 #[test]
-fn nothing_is_read_after_the_end(rt: HostRuntime) {
+fn nothing_is_read_after_the_end(rt: HostRuntime) -> Result<(), String> {
     let alloc = rt.alloc();
-    passed(
-        &rt,
-        passing_texts(alloc, READS, |row| has_reads(alloc, row)),
-        12,
-    );
+    check_texts(alloc, READS, 12, |row| has_reads(alloc, row))
 }

@@ -1,8 +1,7 @@
 //! `cfgx target` writes the value of its text on its target, or what the fault of the text prints.
-use crate::asserting::passed;
 use cfgx_testing::streams::is_answer;
 use cfgx_testing::triples::{DARWIN, IOS, MACABI, SIM, TVOS};
-use cfgx_testing::words::{passing_runs, passing_texts};
+use cfgx_testing::words::{check_runs, check_texts};
 use std::alloc::Global;
 
 pub(super) const VALUES: &str = r#"
@@ -41,8 +40,8 @@ pub(super) const VALUES: &str = r#"
 "#;
 
 #[test]
-fn values_on_targets(rt: HostRuntime) {
-    passed(&rt, passing_runs(rt.alloc(), VALUES), 31);
+fn values_on_targets(rt: HostRuntime) -> Result<(), String> {
+    check_runs(rt.alloc(), VALUES, 31)
 }
 
 // The value on every target, and the text.
@@ -65,12 +64,17 @@ fn is_everywhere(alloc: Global, triple: &str, row: &[String]) -> bool {
 }
 
 #[test]
-fn values_on_every_target(rt: HostRuntime) {
+fn values_on_every_target(rt: HostRuntime) -> Result<(), String> {
     let alloc = rt.alloc();
     for triple in [DARWIN, IOS, MACABI, SIM, TVOS] {
-        let rows = passing_texts(alloc, EVERYWHERE, |row| is_everywhere(alloc, triple, row));
-        assert!(rt; rows == Ok(2), "{triple}");
+        check_texts(
+            alloc,
+            EVERYWHERE,
+            2,
+            |row| is_everywhere(alloc, triple, row),
+        )?;
     }
+    Ok(())
 }
 
 pub(super) const FAULTS: &str = r#"
@@ -81,6 +85,6 @@ pub(super) const FAULTS: &str = r#"
 "#;
 
 #[test]
-fn faults_of_texts(rt: HostRuntime) {
-    passed(&rt, passing_runs(rt.alloc(), FAULTS), 4);
+fn faults_of_texts(rt: HostRuntime) -> Result<(), String> {
+    check_runs(rt.alloc(), FAULTS, 4)
 }

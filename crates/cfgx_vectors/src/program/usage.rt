@@ -1,6 +1,5 @@
 //! Words that no command has, and triples that no target has.
-use crate::asserting::passed;
-use cfgx_testing::words::passing_runs;
+use cfgx_testing::words::check_runs;
 
 pub(super) const WRONG_USE: &str = r#"
 2 | USAGE | parse
@@ -21,8 +20,8 @@ pub(super) const WRONG_USE: &str = r#"
 "#;
 
 #[test]
-fn wrong_use(rt: HostRuntime) {
-    passed(&rt, passing_runs(rt.alloc(), WRONG_USE), 15);
+fn wrong_use(rt: HostRuntime) -> Result<(), String> {
+    check_runs(rt.alloc(), WRONG_USE, 15)
 }
 
 pub(super) const UNKNOWN_TRIPLES: &str = r#"
@@ -39,6 +38,6 @@ pub(super) const UNKNOWN_TRIPLES: &str = r#"
 "#;
 
 #[test]
-fn a_triple_is_looked_up_before_a_text(rt: HostRuntime) {
-    passed(&rt, passing_runs(rt.alloc(), UNKNOWN_TRIPLES), 10);
+fn a_triple_is_looked_up_before_a_text(rt: HostRuntime) -> Result<(), String> {
+    check_runs(rt.alloc(), UNKNOWN_TRIPLES, 10)
 }

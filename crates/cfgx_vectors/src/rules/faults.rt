@@ -1,6 +1,5 @@
 //! The order of the questions: the first fault of a text that may have several.
-use super::faulty;
-use crate::asserting::passed;
+use super::check_faulty;
 
 // A `)` while no function is open, and one that closes a `not` with another number of members
 // than 1.
@@ -54,16 +53,16 @@ a, b, c | MultipleRootPredicates at 0..7
 "#;
 
 #[test]
-fn at_a_paren(rt: HostRuntime) {
-    passed(&rt, faulty(rt.alloc(), AT_A_PAREN), 10);
+fn at_a_paren(rt: HostRuntime) -> Result<(), String> {
+    check_faulty(rt.alloc(), AT_A_PAREN, 10)
 }
 
 #[test]
-fn at_an_end_too_early(rt: HostRuntime) {
-    passed(&rt, faulty(rt.alloc(), CUT_SHORT), 15);
+fn at_an_end_too_early(rt: HostRuntime) -> Result<(), String> {
+    check_faulty(rt.alloc(), CUT_SHORT, 15)
 }
 
 #[test]
-fn at_an_end_with_no_root_or_several(rt: HostRuntime) {
-    passed(&rt, faulty(rt.alloc(), ROOTS), 13);
+fn at_an_end_with_no_root_or_several(rt: HostRuntime) -> Result<(), String> {
+    check_faulty(rt.alloc(), ROOTS, 13)
 }

@@ -1,6 +1,5 @@
 //! The grammar: texts that are accepted, and what they ask.
-use super::accepted;
-use crate::asserting::passed;
+use super::check_accepted;
 
 const ROWS: &str = r#"
 a | a
@@ -35,6 +34,6 @@ any(any(), all(), a) | a
 "#;
 
 #[test]
-fn accepts_lists_with_commas(rt: HostRuntime) {
-    passed(&rt, accepted(rt.alloc(), ROWS), 29);
+fn accepts_lists_with_commas(rt: HostRuntime) -> Result<(), String> {
+    check_accepted(rt.alloc(), ROWS, 29)
 }

@@ -1,6 +1,5 @@
 //! What may follow what: the list of terms at a token that may not follow the one before it.
-use super::faulty;
-use crate::asserting::passed;
+use super::check_faulty;
 
 const ROWS: &str = r#"
 cfg(key)  | U[`=` `,` `)`] at 3..4
@@ -32,6 +31,6 @@ true() | U[`=` `,` `)`] at 4..5
 "#;
 
 #[test]
-fn lists_what_may_come_next(rt: HostRuntime) {
-    passed(&rt, faulty(rt.alloc(), ROWS), 26);
+fn lists_what_may_come_next(rt: HostRuntime) -> Result<(), String> {
+    check_faulty(rt.alloc(), ROWS, 26)
 }

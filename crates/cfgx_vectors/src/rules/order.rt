@@ -1,13 +1,12 @@
 //! The order of the predicates: those inside nested functions first, and of each list in turn.
-use super::accepted;
-use crate::asserting::passed;
+use super::check_accepted;
 use cfg_expr::error::Failure;
 use cfg_expr::expr::Predicates;
 use cfg_expr::{Expression, Predicate};
 use cfgx_parser::nodes::ExprNode;
 use cfgx_parser::parsed::parse;
 use cfgx_testing::holding::holds;
-use cfgx_testing::rows::passing_pairs;
+use cfgx_testing::rows::check_pairs;
 use std::alloc::{AllocError, Global};
 
 const ROWS: &str = r#"
@@ -29,8 +28,8 @@ re = "a"\ntarget_has_atomic = "8"\nkey = "v"
 "#;
 
 #[test]
-fn ask_the_inner_lists_first(rt: HostRuntime) {
-    passed(&rt, accepted(rt.alloc(), ROWS), 13);
+fn ask_the_inner_lists_first(rt: HostRuntime) -> Result<(), String> {
+    check_accepted(rt.alloc(), ROWS, 13)
 }
 
 // Texts, and what each call for the next predicate gives until the end came twice: how many are to
@@ -73,11 +72,10 @@ fn come(alloc: Global, text: &str, wanted: &str) -> Result<bool, Failure> {
 }
 
 #[test]
-fn count_what_is_to_come(rt: HostRuntime) {
-    let rows = passing_pairs(rt.alloc(), CALLS, |text, wanted| {
+fn count_what_is_to_come(rt: HostRuntime) -> Result<(), String> {
+    check_pairs(rt.alloc(), CALLS, 2, |text, wanted| {
         holds(come(rt.alloc(), text, wanted))
-    });
-    passed(&rt, rows, 2);
+    })
 }
 
 // Texts, the lengths of the trees of their nodes, and the places that are asked. No caller of an
@@ -124,9 +122,8 @@ fn leaves(alloc: Global, text: &str, wanted: &str) -> Result<bool, Failure> {
 }
 
 #[test]
-fn nodes_have_their_lengths_and_places(rt: HostRuntime) {
-    let rows = passing_pairs(rt.alloc(), NODES, |text, wanted| {
+fn nodes_have_their_lengths_and_places(rt: HostRuntime) -> Result<(), String> {
+    check_pairs(rt.alloc(), NODES, 5, |text, wanted| {
         holds(leaves(rt.alloc(), text, wanted))
-    });
-    passed(&rt, rows, 5);
+    })
 }

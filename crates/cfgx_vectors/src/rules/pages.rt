@@ -1,10 +1,9 @@
 //! Tables of `docs/RULES.md`, word for word, which `.ci/examples` compares with the page.
 use super::is_accepted;
 use super::predicates::asks;
-use crate::asserting::passed;
 use cfgx_engine::engine::run;
 use cfgx_testing::holding::holds;
-use cfgx_testing::rows::{has_fault, passing_pairs, passing_threes};
+use cfgx_testing::rows::{check_pairs, check_threes, has_fault};
 use cfgx_testing::streams::{ALL, Pieces, Recorder, is_written};
 use cfgx_testing::triples::SIM;
 use std::alloc::{AllocError, Global};
@@ -62,11 +61,10 @@ fn is_faulty(alloc: Global, text: &str, fault: &str) -> bool {
 }
 
 #[test]
-fn texts_have_their_faults(rt: HostRuntime) {
-    let rows = passing_threes(rt.alloc(), FAULTS, |text, fault, _question| {
+fn texts_have_their_faults(rt: HostRuntime) -> Result<(), String> {
+    check_threes(rt.alloc(), FAULTS, 29, |text, fault, _question| {
         is_faulty(rt.alloc(), text, fault)
-    });
-    passed(&rt, rows, 29);
+    })
 }
 
 const SPELLINGS: &str = r#"
@@ -98,11 +96,10 @@ fn is_spelling(alloc: Global, predicate: &str, spelling: &str) -> bool {
 }
 
 #[test]
-fn predicates_have_their_spellings(rt: HostRuntime) {
-    let rows = passing_pairs(rt.alloc(), SPELLINGS, |predicate, spelling| {
+fn predicates_have_their_spellings(rt: HostRuntime) -> Result<(), String> {
+    check_pairs(rt.alloc(), SPELLINGS, 19, |predicate, spelling| {
         is_spelling(rt.alloc(), predicate, spelling)
-    });
-    passed(&rt, rows, 19);
+    })
 }
 
 const PICKED: &str = r#"
@@ -148,9 +145,8 @@ fn is_printed(alloc: Global, cell: &str, printed: &str) -> bool {
 }
 
 #[test]
-fn inputs_are_picked_from(rt: HostRuntime) {
-    let rows = passing_pairs(rt.alloc(), PICKED, |cell, printed| {
+fn inputs_are_picked_from(rt: HostRuntime) -> Result<(), String> {
+    check_pairs(rt.alloc(), PICKED, 6, |cell, printed| {
         is_printed(rt.alloc(), cell, printed)
-    });
-    passed(&rt, rows, 6);
+    })
 }

@@ -1,11 +1,10 @@
 //! Predicates and literals: what a key means alone and with a value.
-use super::{accepted, faulty};
-use crate::asserting::passed;
+use super::{check_accepted, check_faulty};
 use cfg_expr::error::Failure;
 use cfg_expr::expr::Predicates;
 use cfg_expr::{Expression, Predicate, TargetPredicate};
 use cfgx_testing::holding::holds;
-use cfgx_testing::rows::{has_fault, passing, passing_pairs};
+use cfgx_testing::rows::{check_pairs, check_rows, has_fault};
 use std::alloc::{AllocError, Global};
 
 // Texts, and what they ask.
@@ -46,8 +45,8 @@ key = "a\nb" | key = "a\nb"
 "#;
 
 #[test]
-fn ask_their_predicates(rt: HostRuntime) {
-    passed(&rt, accepted(rt.alloc(), VALUES), 33);
+fn ask_their_predicates(rt: HostRuntime) -> Result<(), String> {
+    check_accepted(rt.alloc(), VALUES, 33)
 }
 
 // Literals ask nothing. Keys that look like them are flags.
@@ -63,8 +62,8 @@ key = "true" | key = "true"
 "#;
 
 #[test]
-fn literals_ask_nothing(rt: HostRuntime) {
-    passed(&rt, accepted(rt.alloc(), LITERALS), 8);
+fn literals_ask_nothing(rt: HostRuntime) -> Result<(), String> {
+    check_accepted(rt.alloc(), LITERALS, 8)
 }
 
 // Texts, and their one predicate.
@@ -129,11 +128,10 @@ pub(super) fn asks(alloc: Global, text: &str, wanted: &str) -> Result<bool, Fail
 }
 
 #[test]
-fn ask_by_their_types(rt: HostRuntime) {
-    let rows = passing_pairs(rt.alloc(), TYPED, |text, wanted| {
+fn ask_by_their_types(rt: HostRuntime) -> Result<(), String> {
+    check_pairs(rt.alloc(), TYPED, 17, |text, wanted| {
         holds(asks(rt.alloc(), text, wanted))
-    });
-    passed(&rt, rows, 17);
+    })
 }
 
 // Texts with a faulty predicate, at its key or at the inside of its value.
@@ -172,8 +170,8 @@ target_has_atomic = "Ptr" | InvalidHasAtomic at 21..24
 "#;
 
 #[test]
-fn refuse_what_a_key_cannot_mean(rt: HostRuntime) {
-    passed(&rt, faulty(rt.alloc(), FAULTS), 28);
+fn refuse_what_a_key_cannot_mean(rt: HostRuntime) -> Result<(), String> {
+    check_faulty(rt.alloc(), FAULTS, 28)
 }
 
 // Values that write no number.
@@ -223,10 +221,11 @@ fn is_no_number(alloc: Global, row: &[String]) -> bool {
 }
 
 #[test]
-fn no_number_is_no_width(rt: HostRuntime) {
-    passed(
-        &rt,
-        passing(rt.alloc(), NO_NUMBERS, |row| is_no_number(rt.alloc(), row)),
+fn no_number_is_no_width(rt: HostRuntime) -> Result<(), String> {
+    check_rows(
+        rt.alloc(),
+        NO_NUMBERS,
         11,
-    );
+        |row| is_no_number(rt.alloc(), row),
+    )
 }

@@ -1,9 +1,8 @@
 //! What a fault prints, written out by hand from the rules of the format.
 use super::span_of;
-use crate::asserting::passed;
 use cfg_expr::error::{Failure, ParseError, Reason};
 use cfgx_testing::holding::{gives, prints};
-use cfgx_testing::rows::{is_fault, passing_threes};
+use cfgx_testing::rows::{check_threes, is_fault};
 use std::alloc::{AllocError, Global};
 use std::ops::Range;
 use std::test::Fail;
@@ -103,11 +102,10 @@ fn has_texts(alloc: Global, name: &str, text: &str, description: &str) -> bool {
 }
 
 #[test]
-fn each_reason_has_its_texts(rt: HostRuntime) {
-    let rows = passing_threes(rt.alloc(), REASONS, |name, text, description| {
+fn each_reason_has_its_texts(rt: HostRuntime) -> Result<(), String> {
+    check_threes(rt.alloc(), REASONS, 15, |name, text, description| {
         has_texts(rt.alloc(), name, text, description)
-    });
-    passed(&rt, rows, 15);
+    })
 }
 
 // Whether the fault that rows tell so prints this.
@@ -119,11 +117,10 @@ fn is_printed(alloc: Global, text: &str, fault: &str, printed: &str) -> bool {
 }
 
 #[test]
-fn a_fault_prints_its_text_its_marks_and_its_reason(rt: HostRuntime) {
-    let rows = passing_threes(rt.alloc(), PRINTED, |text, fault, printed| {
+fn a_fault_prints_its_text_its_marks_and_its_reason(rt: HostRuntime) -> Result<(), String> {
+    check_threes(rt.alloc(), PRINTED, 11, |text, fault, printed| {
         is_printed(rt.alloc(), text, fault, printed)
-    });
-    passed(&rt, rows, 11);
+    })
 }
 
 #[test]

@@ -1,10 +1,9 @@
 //! How a predicate is spelled, by a writer that takes all or little a call, or that fails.
-use crate::asserting::passed;
 use cfg_expr::error::Failure;
 use cfg_expr::expr::{Predicates, spell};
 use cfg_expr::{Expression, Predicate};
 use cfgx_testing::holding::holds;
-use cfgx_testing::rows::passing_pairs;
+use cfgx_testing::rows::check_pairs;
 use cfgx_testing::texts::repeated;
 use std::alloc::Global;
 use std::io::{self, ErrorKind, Write};
@@ -131,11 +130,10 @@ fn is_spelled_by_any(alloc: Global, text: &str, spelled: &str) -> bool {
 }
 
 #[test]
-fn spells_each_kind_of_predicate(rt: HostRuntime) {
-    let rows = passing_pairs(rt.alloc(), ROWS, |text, spelled| {
+fn spells_each_kind_of_predicate(rt: HostRuntime) -> Result<(), String> {
+    check_pairs(rt.alloc(), ROWS, 18, |text, spelled| {
         is_spelled_by_any(rt.alloc(), text, spelled)
-    });
-    passed(&rt, rows, 18);
+    })
 }
 
 // What stands before and after a text of 5,000 bytes in a predicate.
@@ -163,13 +161,13 @@ fn is_long(alloc: Global, front: &str, back: &str) -> bool {
 }
 
 #[test]
-fn spells_long_texts(rt: HostRuntime) {
-    let rows = passing_pairs(
+fn spells_long_texts(rt: HostRuntime) -> Result<(), String> {
+    check_pairs(
         rt.alloc(),
         LONG,
+        12,
         |front, back| is_long(rt.alloc(), front, back),
-    );
-    passed(&rt, rows, 12);
+    )
 }
 
 // No text asks such a flag, so only a caller can make it.
@@ -201,11 +199,10 @@ fn stops_at_each(alloc: Global, text: &str, spelled: &str) -> bool {
 }
 
 #[test]
-fn stops_where_the_writer_takes_nothing(rt: HostRuntime) {
-    let rows = passing_pairs(rt.alloc(), ROWS, |text, spelled| {
+fn stops_where_the_writer_takes_nothing(rt: HostRuntime) -> Result<(), String> {
+    check_pairs(rt.alloc(), ROWS, 18, |text, spelled| {
         stops_at_each(rt.alloc(), text, spelled)
-    });
-    passed(&rt, rows, 18);
+    })
 }
 
 const KINDS: [ErrorKind; 3] = [
@@ -243,11 +240,10 @@ fn fails_at_each(alloc: Global, text: &str, spelled: &str) -> bool {
 }
 
 #[test]
-fn a_failed_call_is_the_last(rt: HostRuntime) {
-    let rows = passing_pairs(rt.alloc(), ROWS, |text, spelled| {
+fn a_failed_call_is_the_last(rt: HostRuntime) -> Result<(), String> {
+    check_pairs(rt.alloc(), ROWS, 18, |text, spelled| {
         fails_at_each(rt.alloc(), text, spelled)
-    });
-    passed(&rt, rows, 18);
+    })
 }
 
 // Whether both texts ask the same predicates.
@@ -264,9 +260,8 @@ fn is_read_again(alloc: Global, text: &str, spelled: &str) -> bool {
 }
 
 #[test]
-fn a_spelling_is_read_as_its_predicate(rt: HostRuntime) {
-    let rows = passing_pairs(rt.alloc(), ROWS, |text, spelled| {
+fn a_spelling_is_read_as_its_predicate(rt: HostRuntime) -> Result<(), String> {
+    check_pairs(rt.alloc(), ROWS, 18, |text, spelled| {
         is_read_again(rt.alloc(), text, spelled)
-    });
-    passed(&rt, rows, 18);
+    })
 }

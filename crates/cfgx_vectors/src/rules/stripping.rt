@@ -1,9 +1,8 @@
 //! Stripping: the outer `cfg( )` is taken off once, and spans count the bytes of what is left.
-use crate::asserting::passed;
 use cfg_expr::Expression;
 use cfg_expr::error::Failure;
 use cfgx_testing::holding::{holds, prints};
-use cfgx_testing::rows::{has_fault, passing_pairs, passing_threes};
+use cfgx_testing::rows::{check_pairs, check_threes, has_fault};
 use std::alloc::Global;
 use std::test::Fail;
 
@@ -30,11 +29,10 @@ fn is_stripped_to(alloc: Global, text: &str, original: &str) -> Result<bool, Fai
 }
 
 #[test]
-fn keep_and_print_the_stripped_text(rt: HostRuntime) {
-    let rows = passing_pairs(rt.alloc(), ORIGINALS, |text, original| {
+fn keep_and_print_the_stripped_text(rt: HostRuntime) -> Result<(), String> {
+    check_pairs(rt.alloc(), ORIGINALS, 12, |text, original| {
         holds(is_stripped_to(rt.alloc(), text, original))
-    });
-    passed(&rt, rows, 12);
+    })
 }
 
 // Faulty texts, their faults, and what they are stripped to.
@@ -48,11 +46,10 @@ cfg(unix = "x") | U[] at 8..9 | unix = "x"
 "#;
 
 #[test]
-fn count_from_the_stripped_text(rt: HostRuntime) {
-    let rows = passing_threes(rt.alloc(), FAULTS, |text, fault, original| {
+fn count_from_the_stripped_text(rt: HostRuntime) -> Result<(), String> {
+    check_threes(rt.alloc(), FAULTS, 6, |text, fault, original| {
         has_fault(rt.alloc(), text, original, fault)
-    });
-    passed(&rt, rows, 6);
+    })
 }
 
 // Two texts, and whether their expressions are equal.
@@ -83,11 +80,10 @@ fn are_as_said(alloc: Global, one: &str, other: &str, wanted: &str) -> bool {
 }
 
 #[test]
-fn are_equal_by_their_stripped_texts(rt: HostRuntime) {
-    let rows = passing_threes(rt.alloc(), PAIRS, |one, other, wanted| {
+fn are_equal_by_their_stripped_texts(rt: HostRuntime) -> Result<(), String> {
+    check_threes(rt.alloc(), PAIRS, 3, |one, other, wanted| {
         are_as_said(rt.alloc(), one, other, wanted)
-    });
-    passed(&rt, rows, 3);
+    })
 }
 
 #[test]

@@ -1,9 +1,8 @@
 //! Tokens: the items of a text, the white space between them, and lexical faults.
-use super::{accepted, faulty};
-use crate::asserting::passed;
+use super::{check_accepted, check_faulty};
 use cfg_expr::error::{Failure, ParseError};
 use cfg_expr::expr::lexer::{Lexer, LexerToken};
-use cfgx_testing::rows::{passing, told};
+use cfgx_testing::rows::{check_rows, told};
 use std::alloc::{AllocError, Global};
 
 // Texts, how many bytes they are stripped to, and their items: each token as it prints, where it
@@ -112,12 +111,8 @@ fn has_items(alloc: Global, row: &[String]) -> bool {
 }
 
 #[test]
-fn gives_every_item(rt: HostRuntime) {
-    passed(
-        &rt,
-        passing(rt.alloc(), ITEMS, |row| has_items(rt.alloc(), row)),
-        12,
-    );
+fn gives_every_item(rt: HostRuntime) -> Result<(), String> {
+    check_rows(rt.alloc(), ITEMS, 12, |row| has_items(rt.alloc(), row))
 }
 
 const WHITE_SPACE: &str = r#"
@@ -131,8 +126,8 @@ all(\n\ta,\r\n\tb\n)\n | a\nb
 "#;
 
 #[test]
-fn white_space_stands_anywhere(rt: HostRuntime) {
-    passed(&rt, accepted(rt.alloc(), WHITE_SPACE), 7);
+fn white_space_stands_anywhere(rt: HostRuntime) -> Result<(), String> {
+    check_accepted(rt.alloc(), WHITE_SPACE, 7)
 }
 
 const FAULTS: &str = r#"
@@ -160,6 +155,6 @@ key = "é | UnclosedQuotes at 6..9
 "#;
 
 #[test]
-fn refuse_what_starts_no_token(rt: HostRuntime) {
-    passed(&rt, faulty(rt.alloc(), FAULTS), 21);
+fn refuse_what_starts_no_token(rt: HostRuntime) -> Result<(), String> {
+    check_faulty(rt.alloc(), FAULTS, 21)
 }
