@@ -9,7 +9,21 @@ mod inputs;
 mod runs;
 mod targets;
 
-use std::alloc::AllocError;
+use cfgx_testing::holding::{gives, holds, prints};
+use std::alloc::{AllocError, Global};
+use std::fmt::Display;
 
 /// What a call answers.
 type Answer = Result<bool, AllocError>;
+
+// Whether what was made is equal to its copy.
+fn is_copied<T, A, F>(alloc: A, made: Result<T, AllocError>, copy: F) -> Answer
+where
+    T: PartialEq + Drop,
+    A: Copy + Drop,
+    F: Fn(&T, A) -> Result<T, AllocError>,
+    requires { F.IsAlwaysCallable copy }
+{
+    let value = made?;
+    gives(copy(&value, alloc), &value)
+}

@@ -10,14 +10,14 @@ use cfg_expr::{Expression, Predicate, TargetPredicate};
 use cfgx_engine::resolve::{Section, Verdict, pick};
 use cfgx_testing::heap::{empty_heap, growths, has_every_block, is_refused_in_turns};
 use cfgx_testing::holding::holds;
-use cfgx_testing::rows::{check_rows, told};
-use cfgx_testing::texts::repeated;
+use cfgx_testing::rows::is_fault;
 use cfgx_testing::triples::IOS;
+use cfgx_testing::words::check_texts;
 use std::alloc::{AllocError, Global};
 
-// What is called with a text, what parsing it answers, which is its fault or the number of its
-// predicates, the text, and what it is stripped to if that is not the text. What is evaluated is
-// true if all its predicates are, false if all are false, and asks nothing of targets.
+// How it is called with a text, what parsing the text answers, which is its fault or the number of
+// its predicates, the text, and what it is stripped to if that is not the text. What is evaluated
+// is true if all its predicates are, false if all are false, and asks nothing of targets.
 const TEXTS: &str = r#"
 read | U[`<key>` `all` `any` `not`] at 2..3 | a 8 b
 read | UnopenedParens at 3..4 | key)
@@ -39,28 +39,31 @@ copied | 8 | all(a, b, c, d, not(e), f, g, h)
 evaluated | 1 | a
 evaluated | 1 | cfg(key) | key
 evaluated | 3 | all(a, any(b), c)
-// Long texts, from which nothing is stripped: a front, a piece, how often it comes, a back, and
-// how many `)` follow. No run of the program reads a text that is only scanned.
-scanned | U[`<key>` `all` `any` `not`] at 100000..100001 | \e | \u{20} | 100000 | 8 | 0
-read | U[`<key>` `all` `any` `not`] at 5000..5001 | \e | \u{20} | 5000 | 8 | 0
-read | UnclosedQuotes at 0..5001 | " | v | 5000 | \e | 0
-read | UnclosedParens at 3..200 | \e | not( | 40 | a | 39
-copied | 80 | all( | key = "v", unix, | 40 | ) | 0
-evaluated | 1 | \e | k | 1000 | \e | 0
-evaluated | 1 | key = " | v | 1000 | " | 0
-evaluated | 80 | all( | any(a, b), | 40 | ) | 0
-evaluated | 1 | \e | not( | 40 | a | 40
-evaluated | 1 | any(a, | false, | 40 | ) | 0
-evaluated | 100 | any( | a, | 100 | ) | 0
-evaluated | 1 | \e | any( | 100 | a | 100
-evaluated | 1 | \e | not( | 100 | a | 100
-evaluated | 1 | all(a, | true, | 100 | ) | 0
-evaluated | 1 | any(a, | false, | 100 | ) | 0
+// Long texts. No run of the program reads a text that is only scanned.
+scanned | U[`<key>` `all` `any` `not`] at 100000..100001 | ~\u{20}~100000~8
+read | U[`<key>` `all` `any` `not`] at 5000..5001 | ~\u{20}~5000~8
+read | UnclosedQuotes at 0..5001 | "~v~5000~
+read | UnclosedParens at 3..200 | ~not(~40~a~)~39~
+copied | 80 | all(~key = "v", unix,~40~)
+evaluated | 1 | ~k~1000~
+evaluated | 1 | key = "~v~1000~"
+evaluated | 80 | all(~any(a, b),~40~)
+evaluated | 1 | ~not(~40~a~)~40~
+evaluated | 1 | any(a,~false,~40~)
+evaluated | 100 | any(~a,~100~)
+evaluated | 1 | ~any(~100~a~)~100~
+evaluated | 1 | ~not(~100~a~)~100~
+evaluated | 1 | all(a,~true,~100~)
+evaluated | 1 | any(a,~false,~100~)
 // What is too large to be read in turns is copied once.
-large | \e | k | 5000 | \e | 0
-large | \e | k | 100000 | \e | 0
-large | any( | a, | 50000 | ) | 0
-large | \e | not( | 50000 | a | 50000
+large | 1 | ~k~5000~
+large | 1 | ~k~100000~
+large | 50000 | any(~a,~50000~)
+large | 1 | ~not(~50000~a~)~50000~
+// To parse a text, its copy takes one growth, and from 48 bytes on the nodes take another.
+parsed in 1 | 1 | ~k~1~
+parsed in 1 | 1 | ~k~47~
+parsed in 2 | 1 | ~k~48~
 "#;
 
 // The calls with a text of this kind.
@@ -104,42 +107,31 @@ fn a_refused_growth_ends_the_lexer(rt: HostRuntime) {
     assert!(rt; is_refused_in_turns(rt.alloc(), |heap| lexes(heap)));
 }
 
-// What the call answers for a text, of which this was read with memory.
+// Whether the faults are equal.
+fn are_same<A: SmallAllocator>(error: &ParseError<A>, fault: &ParseError) -> bool {
+    error.original.as_str() == fault.original.as_str()
+        && error.span == fault.span
+        && error.reason == fault.reason
+}
+
+// What the call answers for a text, of which this was read with memory. An expression stays as it
+// was.
 fn answer_to<A: SmallAllocator>(alloc: A, call: &str, text: &str, plain: &Read) -> Answer {
     let read = match call {
         "from_str" => Expression::from_str(alloc, text),
         _ => Expression::parse(alloc, text),
     };
-    match read {
-        Ok(expression) => stays(alloc, call, &expression, plain),
-        Err(Failure::Parse(error)) => Ok(is_fault(&error, plain)),
-        Err(Failure::Memory(error)) => Err(error),
-    }
-}
-
-// Whether it is the fault of the text.
-fn is_fault<A: SmallAllocator>(error: &ParseError<A>, plain: &Read) -> bool {
-    match plain {
-        Err(Failure::Parse(fault)) => {
-            error.original.as_str() == fault.original.as_str()
-                && error.span.start == fault.span.start
-                && error.span.end == fault.span.end
-                && error.reason == fault.reason
+    match (&read, plain) {
+        (Ok(expression), Ok(wanted)) => {
+            let answer = called(alloc, call, expression);
+            if are_alike(expression, wanted) {
+                answer
+            } else {
+                Ok(false)
+            }
         }
-        _ => false,
-    }
-}
-
-// What the call answers for an expression, which stays as it was.
-fn stays<A: SmallAllocator>(
-    alloc: A,
-    call: &str,
-    expression: &Expression<A>,
-    plain: &Read,
-) -> Answer {
-    let answer = called(alloc, call, expression);
-    match plain {
-        Ok(wanted) if are_alike(expression, wanted) => answer,
+        (Err(Failure::Parse(error)), Err(Failure::Parse(fault))) => Ok(are_same(error, fault)),
+        (Err(Failure::Memory(_)), _) => Err(AllocError),
         _ => Ok(false),
     }
 }
@@ -190,10 +182,9 @@ fn are(filling: &[bool], value: bool, count: usize) -> bool {
 // false makes it false. No text has more than 100 predicates.
 fn is_filled<A: SmallAllocator>(alloc: A, expression: &Expression<A>) -> Answer {
     let count = expression.predicates().left();
-    let answers = &[None; 100][..count.min(100)];
-    if answers.len() != count {
+    let Some(answers) = [None; 100].get(..count) else {
         return Ok(false);
-    }
+    };
     match expression.polar_fillings(alloc, answers)? {
         Some((with_true, with_false)) => {
             Ok(are(with_true.as_slice(), true, count) && are(with_false.as_slice(), false, count))
@@ -207,11 +198,10 @@ fn is_filled<A: SmallAllocator>(alloc: A, expression: &Expression<A>) -> Answer 
 fn is_each<A: SmallAllocator>(alloc: A, expression: &Expression<A>) -> Answer {
     let each = Kleene64::new(0b001, 0b010);
     let count = expression.predicates().left();
-    let answers = &[each; 100][..count.min(100)];
-    if answers.len() != count {
-        return Ok(false);
+    match [each; 100].get(..count) {
+        Some(answers) => Ok(expression.eval_lanes(alloc, answers)? == each),
+        None => Ok(false),
     }
-    Ok(expression.eval_lanes(alloc, answers)? == each)
 }
 
 /// A target that meets no predicate.
@@ -284,25 +274,20 @@ fn is_plain(alloc: Global, plain: &Read, answer: &str, original: &str) -> bool {
             expression.original() == original
                 && answer.parse::<usize>().ok() == Some(expression.predicates().left())
         }
-        Err(Failure::Parse(error)) => {
-            error.original.as_str() == original && is_told(alloc, error, answer)
-        }
+        Err(Failure::Parse(error)) => is_fault(alloc, error, original, answer),
         Err(Failure::Memory(_)) => false,
     }
 }
 
-// Whether rows write the fault so.
-fn is_told(alloc: Global, error: &ParseError, answer: &str) -> bool {
-    match told(alloc, error) {
-        Ok(text) => text.as_str() == answer,
-        Err(_) => false,
-    }
+// How many growths the call takes.
+fn growths_of(alloc: Global, call: &str, text: &str, plain: &Read) -> Option<u64> {
+    growths(alloc, |heap| answer_to(heap, call, text, plain))
 }
 
 // Whether each growth of each of the calls is refused in turn.
 fn are_refused(alloc: Global, calls: &str, text: &str, plain: &Read) -> bool {
     for call in calls.split(' ') {
-        if !is_refused_in_turns(alloc, |heap| answer_to(heap, call, text, plain)) {
+        if growths_of(alloc, call, text, plain).unwrap_or(0) == 0 {
             return false;
         }
     }
@@ -311,91 +296,45 @@ fn are_refused(alloc: Global, calls: &str, text: &str, plain: &Read) -> bool {
 
 // Whether each growth of runs of the program over the text is refused, which end with this status.
 fn runs_are_refused(alloc: Global, text: &str, status: u8) -> bool {
-    is_run_in_turns(alloc, &["parse", text], "", None, status)
-        && is_run_in_turns(alloc, &["eval", text, "a"], "", None, status)
-        && is_run_in_turns(alloc, &["eval", "a", text], "", None, status)
-        && is_run_in_turns(alloc, &["target", IOS, text], "", None, status)
+    is_run_in_turns(alloc, &["parse", text], status)
+        && is_run_in_turns(alloc, &["eval", text, "a"], status)
+        && is_run_in_turns(alloc, &["eval", "a", text], status)
+        && is_run_in_turns(alloc, &["target", IOS, text], status)
 }
 
-// Whether parsing the text answers this, and each growth of each call with a text of this kind is
-// refused in turn.
-fn is_right(alloc: Global, fields: [&String; 4]) -> bool {
-    let [kind, answer, text, original] = fields;
-    let (kind, text) = (kind.as_str(), text.as_str());
-    let plain = Expression::parse(alloc, text);
+// Whether an expression of the text is equal to its copy.
+fn is_copied_once(alloc: Global, text: &str, plain: &Read) -> bool {
+    let heap = empty_heap(alloc);
+    holds(answer_to(&heap, "try_clone", text, plain)) && has_every_block(heap)
+}
+
+// Whether each growth of each call with a text of this kind is refused in turn.
+fn is_kind(alloc: Global, kind: &str, text: &str, plain: &Read) -> bool {
     let status = if plain.is_ok() { 0 } else { 1 };
-    is_plain(alloc, &plain, answer.as_str(), original.as_str())
-        && are_refused(alloc, calls_of(kind), text, &plain)
-        && (kind == "scanned" || runs_are_refused(alloc, text, status))
-}
-
-// The long text of these fields.
-fn text_of(alloc: Global, fields: &[String]) -> Option<String> {
-    match fields {
-        [front, piece, times, back, closed] => {
-            let times = times.parse::<usize>().ok()?;
-            let closed = closed.parse::<usize>().ok()?;
-            let text = repeated(alloc, front.as_str(), piece.as_str(), times, back.as_str()).ok()?;
-            repeated(alloc, text.as_str(), ")", closed, "").ok()
+    match kind {
+        "parsed in 1" => growths_of(alloc, "parse", text, plain) == Some(1),
+        "parsed in 2" => growths_of(alloc, "parse", text, plain) == Some(2),
+        "large" => is_copied_once(alloc, text, plain),
+        "scanned" => are_refused(alloc, calls_of(kind), text, plain),
+        _ => {
+            are_refused(alloc, calls_of(kind), text, plain) && runs_are_refused(alloc, text, status)
         }
-        _ => None,
     }
 }
 
-// Whether a row is right. The expression of a large text is copied once.
 fn is_row(alloc: Global, fields: &[String]) -> bool {
-    match fields {
-        [kind, answer, text] => is_right(alloc, [kind, answer, text, text]),
-        [kind, answer, text, original] => is_right(alloc, [kind, answer, text, original]),
-        [kind, parts @ ..] if kind.as_str() == "large" => is_large(alloc, parts),
-        [kind, answer, parts @ ..] => match text_of(alloc, parts) {
-            Some(text) => is_right(alloc, [kind, answer, &text, &text]),
-            None => false,
-        },
-        _ => false,
-    }
+    let (kind, answer, text, original) = match fields {
+        [kind, answer, text] => (kind, answer, text, text),
+        [kind, answer, text, original] => (kind, answer, text, original),
+        _ => return false,
+    };
+    let plain = Expression::parse(alloc, text.as_str());
+    is_plain(alloc, &plain, answer.as_str(), original.as_str())
+        && is_kind(alloc, kind.as_str(), text.as_str(), &plain)
 }
 
 #[test]
 fn each_growth_of_each_call_is_refused(rt: HostRuntime) -> Result<(), String> {
     let alloc = rt.alloc();
-    check_rows(alloc, TEXTS, 39, |row| is_row(alloc, row))
-}
-
-// Whether an expression of the text of these parts is equal to its copy.
-fn is_large(alloc: Global, parts: &[String]) -> bool {
-    let heap = empty_heap(alloc);
-    let is_copied = match text_of(alloc, parts) {
-        Some(text) => holds(reads_and_copies(&heap, text.as_str())),
-        None => false,
-    };
-    is_copied && has_every_block(heap)
-}
-
-fn reads_and_copies<A: SmallAllocator>(alloc: A, text: &str) -> Result<bool, Failure<A>> {
-    let expression = Expression::parse(alloc, text)?;
-    let copy = expression.try_clone(alloc)?;
-    Ok(copy == expression && copy.predicates().left() == expression.predicates().left())
-}
-
-// How many growths it takes to parse a key of so many bytes.
-fn growths_of_a_key(alloc: Global, length: usize) -> Option<u64> {
-    let text = repeated(alloc, "", "k", length, "").ok()?;
-    let plain = Expression::parse(alloc, text.as_str());
-    growths(
-        alloc,
-        |heap| answer_to(heap, "parse", text.as_str(), &plain),
-    )
-}
-
-// The copy of the text takes one, and from 48 bytes on the nodes take another.
-#[test]
-fn nodes_of_a_short_text_take_no_memory(rt: HostRuntime) {
-    for (length, wanted) in [(1, 1), (47, 1), (48, 2)] {
-        assert_eq!(rt;
-            growths_of_a_key(rt.alloc(), length),
-            Some(wanted),
-            "{length} bytes"
-        );
-    }
+    check_texts(alloc, TEXTS, 42, |row| is_row(alloc, row))
 }

@@ -1,5 +1,5 @@
 //! Copies of fields and predicates: only an owned text takes memory, and one growth.
-use super::Answer;
+use super::{Answer, is_copied};
 use cfg_expr::TargetPredicate;
 use cfg_expr::memory::SmallAllocator;
 use cfg_expr::targets::{
@@ -16,99 +16,46 @@ use std::test::Fail;
 
 // Whether an owned value and a borrowed one of the same text are equal to each other's copies. The
 // copy of the borrowed one takes no memory.
-fn are_copied<T: PartialEq + Drop>(
-    owned: &T,
-    borrowed: &T,
-    of_owned: Result<T, AllocError>,
-    of_borrowed: Result<T, AllocError>,
-) -> Answer {
-    if owned == borrowed && holds(gives(of_borrowed, owned)) {
-        gives(of_owned, borrowed)
-    } else {
-        Ok(false)
-    }
+fn are_copied<T, A, F>(alloc: A, owned: T, borrowed: T, copy: F) -> Answer
+where
+    T: PartialEq + Drop,
+    A: Copy + Drop,
+    F: Fn(&T, A) -> Result<T, AllocError>,
+    requires { F.IsAlwaysCallable copy }
+{
+    let are_alike = owned == borrowed && holds(gives(copy(&borrowed, alloc), &owned));
+    let is_copied = gives(copy(&owned, alloc), &borrowed);
+    if are_alike { is_copied } else { Ok(false) }
 }
 
 // Fields of this kind.
 fn copies_field<K: Drop, A: SmallAllocator>(alloc: A, text: &str) -> Answer {
     let owned: Field<'_, K, A> = Field::new(String::from_str(alloc, text)?);
-    let borrowed = Field::new_const(text);
-    let of_owned = owned.try_clone(alloc);
-    are_copied(&owned, &borrowed, of_owned, borrowed.try_clone(alloc))
-}
-
-// The predicate of the kind with this text, which the constructor makes a field.
-macro_rules! of_kind {
-    ($kind:ident, $new:ident, $text:ident) => {
-        match $kind {
-            "target_abi" => TargetPredicate::Abi(Abi::$new($text)),
-            "target_arch" => TargetPredicate::Arch(Arch::$new($text)),
-            "target_vendor" => TargetPredicate::Vendor(Vendor::$new($text)),
-            "target_os" => TargetPredicate::Os(Os::$new($text)),
-            "target_family" => TargetPredicate::Family(Family::$new($text)),
-            "target_env" => TargetPredicate::Env(Env::$new($text)),
-            _ => TargetPredicate::Panic(Panic::$new($text)),
-        }
-    };
-}
-
-// A predicate of the kind that owns its text.
-fn owned<'a, A: SmallAllocator>(
-    alloc: A,
-    kind: &str,
-    text: &str,
-) -> Result<TargetPredicate<'a, A>, AllocError> {
-    let text = String::from_str(alloc, text)?;
-    Ok(of_kind!(kind, new, text))
-}
-
-// A predicate of the kind that borrows its text.
-fn borrowed<'a, A: SmallAllocator>(kind: &str, text: &'a str) -> TargetPredicate<'a, A> {
-    of_kind!(kind, new_const, text)
+    are_copied(alloc, owned, Field::new_const(text), Field::try_clone)
 }
 
 // Predicates of the kind.
+macro_rules! copies_predicate {
+    ($kind:ident $alloc:ident $text:ident) => {
+        are_copied(
+            $alloc,
+            TargetPredicate::$kind($kind::new(String::from_str($alloc, $text)?)),
+            TargetPredicate::$kind($kind::new_const($text)),
+            TargetPredicate::try_clone,
+        )
+    };
+}
+
 fn copies_predicate<A: SmallAllocator>(alloc: A, kind: &str, text: &str) -> Answer {
-    let owned = owned(alloc, kind, text)?;
-    let borrowed = borrowed(kind, text);
-    let of_owned = owned.try_clone(alloc);
-    let are_copied = are_copied(&owned, &borrowed, of_owned, borrowed.try_clone(alloc));
-    drop(owned);
-    drop(borrowed);
-    are_copied
-}
-
-// A predicate that has no text.
-fn copies_plain<A: SmallAllocator>(alloc: A, predicate: TargetPredicate<'_, A>) -> Answer {
-    let is_copied = gives(predicate.try_clone(alloc), &predicate);
-    drop(predicate);
-    is_copied
-}
-
-const WIDTHS: &[HasAtomic] = &[HasAtomic::IntegerSize(8), HasAtomic::Pointer];
-
-// Widths that are borrowed.
-fn copies_widths<A: SmallAllocator>(alloc: A) -> Answer {
-    let widths: HasAtomics<A> = HasAtomics::new_const(WIDTHS);
-    Ok(widths.try_clone(alloc)?.as_slice() == WIDTHS)
-}
-
-fn is_list_copied<A: SmallAllocator>(alloc: A, list: &Families<'_, A>) -> Answer {
-    gives(list.try_clone(alloc), list)
-}
-
-fn are_families_copied<'f, A: SmallAllocator>(alloc: A, families: &'f [Family<'f, A>]) -> Answer {
-    if !Families::is_sorted(families) {
-        return Ok(false);
+    match kind {
+        "target_abi" => copies_predicate!(Abi alloc text),
+        "target_arch" => copies_predicate!(Arch alloc text),
+        "target_vendor" => copies_predicate!(Vendor alloc text),
+        "target_os" => copies_predicate!(Os alloc text),
+        "target_family" => copies_predicate!(Family alloc text),
+        "target_env" => copies_predicate!(Env alloc text),
+        _ => copies_predicate!(Panic alloc text),
     }
-    let list = Families::new_const(families);
-    is_list_copied(alloc, &list)
-}
-
-// Families that are borrowed.
-fn copies_families<A: SmallAllocator>(alloc: A) -> Answer {
-    let families = [Family::unix()];
-    are_families_copied(alloc, &families)
 }
 
 // A value of this kind, made and copied.
@@ -126,16 +73,38 @@ fn copies<A: SmallAllocator>(alloc: A, kind: &str, text: &str) -> Answer {
     }
 }
 
+const WIDTHS: &[HasAtomic] = &[HasAtomic::IntegerSize(8), HasAtomic::Pointer];
+
+// Widths that are borrowed.
+fn copies_widths<A: SmallAllocator>(alloc: A) -> Answer {
+    let widths: HasAtomics<A> = HasAtomics::new_const(WIDTHS);
+    Ok(widths.try_clone(alloc)?.as_slice() == WIDTHS)
+}
+
+// Families that are borrowed.
+fn copies_families<A: SmallAllocator>(alloc: A, families: &[Family<'_, A>]) -> Answer {
+    if Families::is_sorted(families) {
+        is_copied(
+            alloc,
+            Ok(Families::new_const(families)),
+            Families::try_clone,
+        )
+    } else {
+        Ok(false)
+    }
+}
+
 // A value without an owned text.
 fn copies_borrowed<A: SmallAllocator>(alloc: A, kind: &str) -> Answer {
-    match kind {
-        "big" => copies_plain(alloc, TargetPredicate::Endian(Endian::big)),
-        "ptr" => copies_plain(alloc, TargetPredicate::HasAtomic(HasAtomic::Pointer)),
-        "8" => copies_plain(alloc, TargetPredicate::HasAtomic(HasAtomic::IntegerSize(8))),
-        "64" => copies_plain(alloc, TargetPredicate::PointerWidth(64)),
-        "widths" => copies_widths(alloc),
-        _ => copies_families(alloc),
-    }
+    let predicate = match kind {
+        "big" => TargetPredicate::Endian(Endian::big),
+        "ptr" => TargetPredicate::HasAtomic(HasAtomic::Pointer),
+        "8" => TargetPredicate::HasAtomic(HasAtomic::IntegerSize(8)),
+        "64" => TargetPredicate::PointerWidth(64),
+        "widths" => return copies_widths(alloc),
+        _ => return copies_families(alloc, &[Family::unix()]),
+    };
+    is_copied(alloc, Ok(predicate), TargetPredicate::try_clone)
 }
 
 // The kinds of fields, and of predicates that have one.

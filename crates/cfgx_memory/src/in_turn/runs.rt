@@ -1,21 +1,20 @@
 //! Runs of the program, and wrong use, which takes no memory.
 use super::Answer;
+use cfg_expr::memory::SmallAllocator;
 use cfgx_engine::engine::run;
-use cfgx_testing::heap::{Heap, empty_heap, growths, has_every_block};
+use cfgx_testing::heap::{empty_heap, growths, has_every_block};
 use cfgx_testing::refusing::EVERY;
-use cfgx_testing::rows::check_rows;
-use cfgx_testing::streams::{ALL, Pieces, Recorder, USAGE, is_left_so, is_written};
-use cfgx_testing::texts::repeated;
+use cfgx_testing::streams::{ALL, Ended, Pieces, Recorder, USAGE, is_left_so, is_written};
 use cfgx_testing::triples::SIM;
+use cfgx_testing::words::{check_texts, words_of};
 use std::alloc::{AllocError, Global};
-use std::test::Fail;
 
 /// An input, the status of a run over it, and what it writes.
-type Ended<'a> = (&'a str, u8, &'a [u8]);
+type Wanted<'a> = (&'a str, u8, &'a [u8]);
 
 // Whether a run ended as it has to with memory, all its input read, or out of memory: what it read
 // then stays read, and its sink was not called.
-fn is_ended(source: &Pieces<'_>, sink: &Recorder, status: u8, wanted: &Ended<'_>) -> Answer {
+fn is_ended(source: &Pieces<'_>, sink: &Recorder, status: u8, wanted: &Wanted<'_>) -> Answer {
     let (input, wanted_status, written) = *wanted;
     if source.failures != 0 || !input.as_bytes().ends_with(source.left) {
         return Ok(false);
@@ -26,37 +25,29 @@ fn is_ended(source: &Pieces<'_>, sink: &Recorder, status: u8, wanted: &Ended<'_>
     Ok(is_written(sink, written) && status == wanted_status && source.left.is_empty())
 }
 
-fn is_run(alloc: Global, heap: Heap<'_>, words: &[&str], wanted: &Ended<'_>) -> Answer {
+fn is_run<A: SmallAllocator>(
+    global: Global,
+    alloc: A,
+    words: &[&str],
+    wanted: &Wanted<'_>,
+) -> Answer {
     let mut source = Pieces::new(wanted.0.as_bytes(), ALL, 0);
-    let mut sink = Recorder::new(alloc);
-    let status = run(heap, words, &mut source, &mut sink);
+    let mut sink = Recorder::new(global);
+    let status = run(alloc, words, &mut source, &mut sink);
     is_ended(&source, &sink, status, wanted)
 }
 
 // How many growths a run takes that ends so, each of which is refused in turn.
-fn growths_of(alloc: Global, words: &[&str], wanted: &Ended<'_>) -> Option<u64> {
-    growths(alloc, |heap| is_run(alloc, heap, words, wanted))
+fn growths_of(alloc: Global, words: &[&str], wanted: &Wanted<'_>) -> u64 {
+    growths(alloc, |heap| is_run(alloc, heap, words, wanted)).unwrap_or(0)
 }
 
-/// Whether each growth of such a run is refused in turn. It writes what a run with memory does,
-/// which is this, if it is known.
-pub(super) fn is_run_in_turns(
-    alloc: Global,
-    words: &[&str],
-    input: &str,
-    known: Option<&str>,
-    status: u8,
-) -> bool {
-    let mut source = Pieces::new(input.as_bytes(), ALL, 0);
+/// Whether each growth of a run that ends with this status is refused in turn. It writes what a run
+/// with memory does.
+pub(super) fn is_run_in_turns(alloc: Global, words: &[&str], status: u8) -> bool {
     let mut sink = Recorder::new(alloc);
-    let ended = run(alloc, words, &mut source, &mut sink);
-    let written = sink.bytes.as_slice();
-    let known = match known {
-        Some(known) => known.as_bytes(),
-        None => written,
-    };
-    let is_plain = ended == status && known == written;
-    is_plain && growths_of(alloc, words, &(input, status, written)).unwrap_or(0) > 0
+    let ended = run(alloc, words, &mut Ended, &mut sink);
+    ended == status && growths_of(alloc, words, &("", status, sink.bytes.as_slice())) > 0
 }
 
 // How a run is made, its status, and its words, or for `pick` on the simulator its input and what
@@ -75,17 +66,12 @@ in turns | 0 | target | aarch64-apple-ios-sim | all(test, a, b, c, d, e)
 in turns | 1 | target | aarch64-apple-ios | key)
 in turns | 2 | target | nowhere | key)
 // A wide run and a deep one.
-in turns | 0 | eval | any(a,a,a,a,a,a,a,a,a,a,a,a,a,a,a,a,a,a,a,a,a,a,a,a,a,a,a,a,a,a,a,a,a,a,a,a,\
-a,a,a,a,a,a,a,a,a,a,a,a,a,a,a,a,a,a,a,a,a,a,a,a,a,a,a,a,a,a,a,a,a,a,a,a,a,a,a,a,a,a,a,a,a,a,a,a,a,\
-a,a,a,a,a,a,a,a,a,a,a,a,a,a,a,) | ?any(b,b,b,b,b,b,b,b,b,b,b,b,b,b,b,b,b,b,b,b,b,b,b,b,b,b,b,b,b,b\
-,b,b,b,b,b,b,b,b,b,b,b,b,b,b,b,b,b,b,b,b,b,b,b,b,b,b,b,b,b,b,b,b,b,b,b,b,b,b,b,b,b,b,b,b,b,b,b,b,b\
-,b,b,b,b,b,b,b,b,b,b,b,b,b,b,b,b,b,b,b,b,b,)
-in turns | 0 | target | aarch64-apple-tvos | not(not(not(not(not(not(not(not(not(not(not(not(not(n\
-ot(not(not(not(not(not(not(not(not(not(not(not(not(not(not(not(not(not(not(not(not(not(not(not(not\
-(not(not(a))))))))))))))))))))))))))))))))))))))))
-pick | 0 | a\tcfg(target_abi = "sim")\nb\tany(windows, feature = "x")\n\
-c\tall(windows, feature = "x")\n\
- | a\tyes\nb\tunknown\n\ttrue with 01\n\tfalse with 00\nc\tno\n
+in turns | 0 | eval | any(~a,~100~) | ?any(~b,~100~)
+in turns | 0 | target | aarch64-apple-tvos | ~not(~40~a~)~40~
+// The table takes a block for its five rows, and each of them one for its families and one for its
+// widths. The text is not read. What is written comes in front of the words.
+in 11 turns | 2 | unknown triple\n | target | nowhere | any(~a,~100~)
+pick | 0 | SECTIONS | VERDICTS
 pick | 1 | x | line 1: no tab\n
 pick | 1 | a\tunix\n\nb\tkey)\n | line 3:\nkey)\n   ^ unopened parens\n
 pick | 0 | m\tany(not(feature = "x"), target_os = "linux", test)\
@@ -104,22 +90,12 @@ without | 3 | eval | a
 without | 3 | target | nowhere | )
 "#;
 
-// The words as texts.
-fn words_of<'a>(alloc: Global, fields: &'a [String]) -> Result<Vec<&'a str>, AllocError> {
-    let mut words = Vec::new(alloc);
-    for field in fields {
-        words.push(field.as_str())?;
-    }
-    Ok(words)
-}
-
 // Whether a run with no memory at all ends with this status, and writes what that says.
 fn is_without(alloc: Global, words: &[&str], status: u8) -> bool {
     let heap = empty_heap(alloc);
     heap.refuse(EVERY);
-    let mut source = Pieces::new(b"", ALL, 0);
     let mut sink = Recorder::new(alloc);
-    let ended = run(&heap, words, &mut source, &mut sink);
+    let ended = run(&heap, words, &mut Ended, &mut sink);
     let written = if status == 2 { USAGE } else { "" };
     ended == status && sink.bytes.as_slice() == written.as_bytes() && has_every_block(heap)
 }
@@ -127,10 +103,13 @@ fn is_without(alloc: Global, words: &[&str], status: u8) -> bool {
 // Whether a run that is made so ends so.
 fn is_right(alloc: Global, made: &str, status: u8, words: &[&str]) -> bool {
     match (made, words) {
-        ("pick", [input, written]) => {
-            is_run_in_turns(alloc, &["pick", SIM], input, Some(*written), status)
+        ("in turns", _) => is_run_in_turns(alloc, words, status),
+        ("in 11 turns", [written, words @ ..]) => {
+            growths_of(alloc, words, &("", status, written.as_bytes())) == 11
         }
-        ("in turns", _) => is_run_in_turns(alloc, words, "", None, status),
+        ("pick", [input, written]) => {
+            growths_of(alloc, &["pick", SIM], &(*input, status, written.as_bytes())) > 0
+        }
         ("without", _) => is_without(alloc, words, status),
         _ => false,
     }
@@ -149,17 +128,5 @@ fn is_row(alloc: Global, fields: &[String]) -> bool {
 #[test]
 fn each_growth_of_each_run_is_refused(rt: HostRuntime) -> Result<(), String> {
     let alloc = rt.alloc();
-    check_rows(alloc, RUNS, 28, |row| is_row(alloc, row))
-}
-
-const UNKNOWN: Ended<'static> = ("", 2, b"unknown triple\n");
-
-// The table takes a block for its five rows, and each of them one for its families and one for its
-// widths. The text is not read.
-#[test]
-fn an_unknown_triple_takes_memory_for_the_table_alone(rt: HostRuntime) -> Result<(), Fail> {
-    let long = repeated(rt.alloc(), "any(", "a,", 100, ")")?;
-    let words = ["target", "nowhere", long.as_str()];
-    assert_eq!(rt; growths_of(rt.alloc(), &words, &UNKNOWN), Some(11));
-    Ok(())
+    check_texts(alloc, RUNS, 29, |row| is_row(alloc, row))
 }
