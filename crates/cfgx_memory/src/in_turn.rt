@@ -7,11 +7,10 @@ pub(crate) mod conditions;
 mod fields;
 mod inputs;
 mod runs;
-mod targets;
+pub(crate) mod targets;
 
-use cfgx_testing::holding::{gives, holds, prints};
-use std::alloc::{AllocError, Global};
-use std::fmt::Display;
+use cfgx_testing::holding::gives;
+use std::alloc::AllocError;
 
 /// What a call answers.
 type Answer = Result<bool, AllocError>;

@@ -66,15 +66,6 @@ parsed in 1 | 1 | ~k~47~
 parsed in 2 | 1 | ~k~48~
 "#;
 
-// The calls with a text of this kind.
-fn calls_of(kind: &str) -> &'static str {
-    match kind {
-        "scanned" | "read" => "parse from_str",
-        "copied" => "parse from_str try_clone",
-        _ => "parse from_str try_clone eval polar_fillings eval_lanes pick",
-    }
-}
-
 /// What parsing answers.
 type Read<A = Global> = Result<Expression<A>, Failure<A>>;
 
@@ -220,25 +211,20 @@ impl TargetMatcher for Nowhere {
 /// Sections, and who has their memory.
 type Sections<A> = Vec<Section<A>, A>;
 
-// Adds a section whose name is its condition.
-fn push_section<A: SmallAllocator>(
-    alloc: A,
-    sections: &mut Sections<A>,
-    text: &str,
-) -> Result<(), AllocError> {
-    let Ok(condition) = Expression::parse(alloc, text) else {
-        return Err(AllocError);
-    };
+// A section whose name is its condition.
+fn section_of<A: SmallAllocator>(alloc: A, text: &str) -> Result<Section<A>, AllocError> {
     let name = String::from_str(alloc, text)?;
-    sections.push(Section { name, condition })?;
-    Ok(())
+    match Expression::parse(alloc, text) {
+        Ok(condition) => Ok(Section { name, condition }),
+        Err(_) => Err(AllocError),
+    }
 }
 
 // A section for each text.
 fn sections_of<A: SmallAllocator>(alloc: A, texts: &[&str]) -> Result<Sections<A>, AllocError> {
     let mut sections = Vec::new(alloc);
     for text in texts {
-        push_section(alloc, &mut sections, text)?;
+        sections.push(section_of(alloc, text)?)?;
     }
     Ok(sections)
 }
@@ -310,16 +296,17 @@ fn is_copied_once(alloc: Global, text: &str, plain: &Read) -> bool {
 
 // Whether each growth of each call with a text of this kind is refused in turn.
 fn is_kind(alloc: Global, kind: &str, text: &str, plain: &Read) -> bool {
+    let calls = match kind {
+        "parsed in 1" => return growths_of(alloc, "parse", text, plain) == Some(1),
+        "parsed in 2" => return growths_of(alloc, "parse", text, plain) == Some(2),
+        "large" => return is_copied_once(alloc, text, plain),
+        "scanned" | "read" => "parse from_str",
+        "copied" => "parse from_str try_clone",
+        _ => "parse from_str try_clone eval polar_fillings eval_lanes pick",
+    };
     let status = if plain.is_ok() { 0 } else { 1 };
-    match kind {
-        "parsed in 1" => growths_of(alloc, "parse", text, plain) == Some(1),
-        "parsed in 2" => growths_of(alloc, "parse", text, plain) == Some(2),
-        "large" => is_copied_once(alloc, text, plain),
-        "scanned" => are_refused(alloc, calls_of(kind), text, plain),
-        _ => {
-            are_refused(alloc, calls_of(kind), text, plain) && runs_are_refused(alloc, text, status)
-        }
-    }
+    are_refused(alloc, calls, text, plain)
+        && (kind == "scanned" || runs_are_refused(alloc, text, status))
 }
 
 fn is_row(alloc: Global, fields: &[String]) -> bool {

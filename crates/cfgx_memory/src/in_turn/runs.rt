@@ -25,14 +25,9 @@ fn is_ended(source: &Pieces<'_>, sink: &Recorder, status: u8, wanted: &Wanted<'_
     Ok(is_written(sink, written) && status == wanted_status && source.left.is_empty())
 }
 
-fn is_run<A: SmallAllocator>(
-    global: Global,
-    alloc: A,
-    words: &[&str],
-    wanted: &Wanted<'_>,
-) -> Answer {
+fn is_run<A: SmallAllocator>(out: Global, alloc: A, words: &[&str], wanted: &Wanted<'_>) -> Answer {
     let mut source = Pieces::new(wanted.0.as_bytes(), ALL, 0);
-    let mut sink = Recorder::new(global);
+    let mut sink = Recorder::new(out);
     let status = run(alloc, words, &mut source, &mut sink);
     is_ended(&source, &sink, status, wanted)
 }

@@ -1,235 +1,198 @@
 //! Lists, faults and rows, which are made and copied.
-use super::Answer;
+use super::{Answer, is_copied};
+use cfg_expr::error::HasAtomicParseError;
 use cfg_expr::memory::SmallAllocator;
 use cfg_expr::targets::{
-    Arch, Endian, Families, Family, HasAtomic, HasAtomicFailure, HasAtomics, Panic, TargetInfo,
-    TargetTable, Triple,
+    Families, Family, HasAtomic, HasAtomicFailure, HasAtomics, TargetInfo, TargetTable,
 };
 use cfgx_fields::Field;
 use cfgx_testing::heap::{empty_heap, has_every_block, is_refused_in_turns};
 use cfgx_testing::holding::{gives, holds, prints};
-use cfgx_testing::rows::check_rows;
+use cfgx_testing::rows::check_pairs;
+use cfgx_testing::texts::repeated;
 use std::alloc::{AllocError, Global};
 use std::fmt::Display;
+use std::test::Fail;
 
-// Whether the list prints this.
-fn given<T: Display + Drop>(global: Global, list: Result<T, AllocError>, text: &str) -> Answer {
-    Ok(prints(global, &list?, text))
+// Whether what was made is equal to its copy, and both print this.
+fn are_given<T, A, F>(out: Global, alloc: A, made: Made<T>, text: &str, copy: F) -> Answer
+where
+    T: PartialEq + Display + Drop,
+    A: Copy + Drop,
+    F: Fn(&T, A) -> Result<T, AllocError>,
+    requires { F.IsAlwaysCallable copy }
+{
+    let value = made?;
+    let copy = copy(&value, alloc)?;
+    Ok(copy == value && prints(out, &copy, text) && prints(out, &value, text))
 }
 
-// Whether the list and its copy print this.
-fn are_given<T: Display + Drop>(
-    global: Global,
-    list: T,
-    copy: Result<T, AllocError>,
-    text: &str,
-) -> Answer {
-    let stays = prints(global, &list, text);
-    Ok(given(global, copy, text)? && stays)
-}
-
-fn copies_families<A: SmallAllocator>(global: Global, alloc: A, text: &str) -> Answer {
-    let list = families_of(alloc, &["wasm", "unix", "b", ""])?;
-    let copy = list.try_clone(alloc);
-    are_given(global, list, copy, text)
-}
+/// What is made, or out of memory.
+type Made<T> = Result<T, AllocError>;
 
 const UNSORTED: &[HasAtomic] = &[HasAtomic::Pointer, HasAtomic::IntegerSize(8)];
 
-fn copies_widths<A: SmallAllocator>(global: Global, alloc: A, text: &str) -> Answer {
-    let list = HasAtomics::new(alloc, UNSORTED.iter().copied())?;
-    let copy = list.try_clone(alloc);
-    are_given(global, list, copy, text)
+// A list of the widths in front of this one.
+fn widths<A: SmallAllocator>(alloc: A, end: u16) -> Made<HasAtomics<A>> {
+    HasAtomics::new(alloc, (0..end).map(HasAtomic::IntegerSize))
 }
 
 // A list of 10,000 widths, and its copy.
 fn copies_many_widths<A: SmallAllocator>(alloc: A) -> Answer {
-    let list = HasAtomics::new(alloc, (0..10_000u16).map(HasAtomic::IntegerSize))?;
+    let list = widths(alloc, 10_000)?;
     Ok(list.as_slice().len() == 10_000 && gives(list.try_clone(alloc), &list)?)
 }
 
-// Adds a family that owns its text.
-fn push_family<'a, A: SmallAllocator>(
-    alloc: A,
-    families: &mut Vec<Family<'a, A>, A>,
-    name: &str,
-) -> Result<(), AllocError> {
-    families.push(Family::new(String::from_str(alloc, name)?))?;
-    Ok(())
+// A field that owns this text.
+fn owned<'a, K, A: SmallAllocator>(alloc: A, text: &str) -> Made<Field<'a, K, A>> {
+    Ok(Field::new(String::from_str(alloc, text)?))
 }
 
-// A list of families that own these texts.
-fn families_of<'a, A: SmallAllocator + 'a>(
-    alloc: A,
-    names: &[&str],
-) -> Result<Families<'a, A>, AllocError> {
+// A list of families that own these texts, which spaces divide.
+fn families<'a, A: SmallAllocator + 'a>(alloc: A, names: &str) -> Made<Families<'a, A>> {
     let mut families = Vec::new(alloc);
-    for name in names {
-        push_family(alloc, &mut families, name)?;
-    }
-    Families::new(alloc, families.into_iter())
-}
-
-// A list of so many families that own the same text.
-fn many_families<'a, A: SmallAllocator + 'a>(
-    alloc: A,
-    count: usize,
-) -> Result<Families<'a, A>, AllocError> {
-    let mut families = Vec::new(alloc);
-    for _place in 0..count {
-        push_family(alloc, &mut families, "unix")?;
+    for name in names.split(' ') {
+        families.push(owned(alloc, name)?)?;
     }
     Families::new(alloc, families.into_iter())
 }
 
 // A list of 10,000 families, and its copy.
-fn copies_many_families<A: SmallAllocator>(alloc: A) -> Answer {
-    let list = many_families(alloc, 10_000)?;
+fn copies_many_families<A: SmallAllocator>(alloc: A, names: &str) -> Answer {
+    let list = families(alloc, names)?;
     Ok(list.as_slice().len() == 10_000 && gives(list.try_clone(alloc), &list)?)
 }
 
-// The fault of a text that is no width, and its copy.
-fn copies_a_fault<A: SmallAllocator>(alloc: A) -> Answer {
+/// The fault of a text that is no width.
+pub(crate) fn no_width<A: SmallAllocator>(alloc: A) -> Made<HasAtomicParseError<A>> {
     match HasAtomic::read(alloc, "PTR") {
-        Ok(_) => Ok(false),
-        Err(HasAtomicFailure::Parse(error)) => gives(error.try_clone(alloc), &error),
-        Err(HasAtomicFailure::Memory(error)) => Err(error),
+        Err(HasAtomicFailure::Parse(error)) => Ok(error),
+        _ => Err(AllocError),
     }
 }
 
-// Whether the copy of the first of five rows is equal to it.
-fn copies_the_first<A: SmallAllocator>(alloc: A, rows: &[TargetInfo<'_, A>]) -> Answer {
+/// What that fault prints.
+pub(crate) const NO_WIDTH: &str = "expected integer or \"ptr\", found PTR";
+
+const TEXT: &str = "a text of seventeen";
+
+// Makes the row own all its texts and lists.
+fn own_all<'a, A: SmallAllocator + 'a>(alloc: A, row: &mut TargetInfo<'a, A>) -> Made<()> {
+    row.triple = owned(alloc, TEXT)?;
+    row.os = Some(owned(alloc, TEXT)?);
+    row.abi = Some(owned(alloc, TEXT)?);
+    row.arch = owned(alloc, TEXT)?;
+    row.env = Some(owned(alloc, TEXT)?);
+    row.vendor = Some(owned(alloc, TEXT)?);
+    row.panic = owned(alloc, TEXT)?;
+    row.families = families(alloc, "wasm unix")?;
+    row.has_atomics = widths(alloc, 10)?;
+    Ok(())
+}
+
+// A copy of the row that owns all its texts and lists.
+fn owned_row<'a, A: SmallAllocator + 'a>(
+    alloc: A,
+    row: &TargetInfo<'a, A>,
+) -> Made<TargetInfo<'a, A>> {
+    let mut copy = row.try_clone(alloc)?;
+    own_all(alloc, &mut copy)?;
+    Ok(copy)
+}
+
+// Whether the copy of the first of five rows is equal to it, and to a copy of itself.
+fn copies_the_first<A: SmallAllocator>(
+    alloc: A,
+    rows: &[TargetInfo<'_, A>],
+    is_owned: bool,
+) -> Answer {
     match rows {
+        [row, _, _, _, _] if is_owned => {
+            is_copied(alloc, owned_row(alloc, row), TargetInfo::try_clone)
+        }
         [row, _, _, _, _] => gives(row.try_clone(alloc), row),
         _ => Ok(false),
     }
 }
 
-fn copies_a_row<A: SmallAllocator>(alloc: A) -> Answer {
+// Rows that own their lists alone, or all.
+fn copies_a_row<A: SmallAllocator>(alloc: A, is_owned: bool) -> Answer {
     let table = TargetTable::builtins(alloc)?;
-    copies_the_first(alloc, table.rows())
+    copies_the_first(alloc, table.rows(), is_owned)
 }
 
-// A row that owns nothing.
-fn borrowed_row<'a, A: SmallAllocator>(text: &'a str) -> TargetInfo<'a, A> {
-    TargetInfo {
-        triple: Triple::new_const(text),
-        os: None,
-        abi: None,
-        arch: Arch::new_const(text),
-        env: None,
-        vendor: None,
-        families: Families::new_const(&[]),
-        pointer_width: 64,
-        endian: Endian::big,
-        has_atomics: HasAtomics::new_const(&[]),
-        panic: Panic::new_const(text),
-    }
-}
-
-// Makes the field own its text.
-fn own<K: Drop, A: SmallAllocator>(
-    alloc: A,
-    field: &mut Field<'_, K, A>,
-) -> Result<(), AllocError> {
-    *field = Field::new(String::from_str(alloc, field.as_str())?);
-    Ok(())
-}
-
-// Makes the field own this text.
-fn fill<'a, K: Drop, A: SmallAllocator>(
-    alloc: A,
-    field: &mut Option<Field<'a, K, A>>,
-) -> Result<(), AllocError> {
-    *field = Some(Field::new(String::from_str(alloc, "a text of seventeen")?));
-    Ok(())
-}
-
-// Makes the row own all its texts and lists.
-fn own_all<'a, A: SmallAllocator + 'a>(
-    alloc: A,
-    row: &mut TargetInfo<'a, A>,
-) -> Result<(), AllocError> {
-    own(alloc, &mut row.triple)?;
-    fill(alloc, &mut row.os)?;
-    fill(alloc, &mut row.abi)?;
-    own(alloc, &mut row.arch)?;
-    fill(alloc, &mut row.env)?;
-    fill(alloc, &mut row.vendor)?;
-    own(alloc, &mut row.panic)?;
-    row.families = families_of(alloc, &["wasm", "unix"])?;
-    row.has_atomics = HasAtomics::new(alloc, (0..10u16).map(HasAtomic::IntegerSize))?;
-    Ok(())
-}
-
-// A row that owns all its texts and lists.
-fn owned_row<'a, A: SmallAllocator + 'a>(alloc: A) -> Result<TargetInfo<'a, A>, AllocError> {
-    let mut row = borrowed_row("a text of seventeen");
-    own_all(alloc, &mut row)?;
-    Ok(row)
-}
-
-// Such a row, and its copy.
-fn copies_an_owned_row<A: SmallAllocator>(alloc: A) -> Answer {
-    let row = owned_row(alloc)?;
-    gives(row.try_clone(alloc), &row)
-}
-
-// What is made, or made and copied, and what lists print.
+// What is made and copied, and what it prints.
 const CALLS: &str = r#"
 unix | {unix}
 unix and wasm | {unix, wasm}
 wasm | {wasm}
 windows | {windows}
+families | {, b, unix, wasm}
 up to 128 | {8, 16, 32, 64, 128, ptr}
 up to 64 | {8, 16, 32, 64, ptr}
 up to 32 | {8, 16, 32, ptr}
-families | {, b, unix, wasm}
 widths | {8, ptr}
 many widths | \e
-a fault | \e
+a fault | expected integer or "ptr", found PTR
 a row | \e
 an owned row | \e
 "#;
 
-// What the call answers. What it prints is printed to the other allocator.
-fn answer_to<A: SmallAllocator>(global: Global, alloc: A, call: &str, text: &str) -> Answer {
-    match call {
-        "unix" => given(global, Families::unix(alloc), text),
-        "unix and wasm" => given(global, Families::unix_wasm(alloc), text),
-        "wasm" => given(global, Families::wasm(alloc), text),
-        "windows" => given(global, Families::windows(alloc), text),
-        "up to 128" => given(global, HasAtomics::atomic_8_16_32_64_128_ptr(alloc), text),
-        "up to 64" => given(global, HasAtomics::atomic_8_16_32_64_ptr(alloc), text),
-        "up to 32" => given(global, HasAtomics::atomic_8_16_32_ptr(alloc), text),
-        "families" => copies_families(global, alloc, text),
-        "widths" => copies_widths(global, alloc, text),
-        "many widths" => copies_many_widths(alloc),
-        "a fault" => copies_a_fault(alloc),
-        "a row" => copies_a_row(alloc),
-        _ => copies_an_owned_row(alloc),
-    }
+fn copies_families<A: SmallAllocator>(out: Global, alloc: A, call: &str, text: &str) -> Answer {
+    let made = match call {
+        "unix" => Families::unix(alloc),
+        "unix and wasm" => Families::unix_wasm(alloc),
+        "wasm" => Families::wasm(alloc),
+        "windows" => Families::windows(alloc),
+        _ => families(alloc, "wasm unix b "),
+    };
+    are_given(out, alloc, made, text, Families::try_clone)
 }
 
-fn is_row(alloc: Global, fields: &[String]) -> bool {
-    let [call, text] = fields else {
-        return false;
+fn copies_widths<A: SmallAllocator>(out: Global, alloc: A, call: &str, text: &str) -> Answer {
+    let made = match call {
+        "up to 128" => HasAtomics::atomic_8_16_32_64_128_ptr(alloc),
+        "up to 64" => HasAtomics::atomic_8_16_32_64_ptr(alloc),
+        "up to 32" => HasAtomics::atomic_8_16_32_ptr(alloc),
+        _ => HasAtomics::new(alloc, UNSORTED.iter().copied()),
     };
-    is_refused_in_turns(
-        alloc,
-        |heap| answer_to(alloc, heap, call.as_str(), text.as_str()),
-    )
+    are_given(out, alloc, made, text, HasAtomics::try_clone)
+}
+
+// What the call answers. What it prints is printed to the other allocator.
+fn answer_to<A: SmallAllocator>(out: Global, alloc: A, call: &str, text: &str) -> Answer {
+    match call {
+        "up to 128" | "up to 64" | "up to 32" | "widths" => copies_widths(out, alloc, call, text),
+        "many widths" => copies_many_widths(alloc),
+        "a fault" => are_given(
+            out,
+            alloc,
+            no_width(alloc),
+            text,
+            HasAtomicParseError::try_clone,
+        ),
+        "a row" => copies_a_row(alloc, false),
+        "an owned row" => copies_a_row(alloc, true),
+        _ => copies_families(out, alloc, call, text),
+    }
 }
 
 #[test]
 fn each_growth_of_a_call_on_targets_is_refused(rt: HostRuntime) -> Result<(), String> {
     let alloc = rt.alloc();
-    check_rows(alloc, CALLS, 13, |row| is_row(alloc, row))
+    check_pairs(
+        alloc,
+        CALLS,
+        13,
+        |call, text| is_refused_in_turns(alloc, |heap| answer_to(alloc, heap, call, text)),
+    )
 }
 
 #[test]
-fn many_families_are_copied(rt: HostRuntime) {
+fn many_families_are_copied(rt: HostRuntime) -> Result<(), Fail> {
+    let names = repeated(rt.alloc(), "unix", " unix", 9_999, "")?;
     let heap = empty_heap(rt.alloc());
-    assert!(rt; holds(copies_many_families(&heap)));
+    assert!(rt; holds(copies_many_families(&heap, names.as_str())));
     assert!(rt; has_every_block(heap));
+    Ok(())
 }
