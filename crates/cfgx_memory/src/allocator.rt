@@ -4,34 +4,23 @@ use cfgx_testing::holding::holds;
 use cfgx_testing::refusing::Refusing;
 use std::alloc::{AllocError, Global};
 use std::mem::forget;
-use std::test::Fail;
 
-const BYTES: u8 = 100;
-
-// A list that starts with no block and outgrows each block that it gets.
-fn filled(heap: &Refusing<Global>) -> Result<Vec<u8, &Refusing<Global>>, AllocError> {
+// Whether 100 bytes are pushed to a list that starts with no block and outgrows each that it gets.
+fn is_filled(heap: &Refusing<Global>) -> Result<bool, AllocError> {
     let mut bytes = Vec::new(heap);
-    for byte in 0..BYTES {
+    for byte in 0..100u8 {
         bytes.push(byte)?;
     }
-    Ok(bytes)
-}
-
-// How many bytes were pushed, and 0 if a growth was refused.
-fn count(heap: &Refusing<Global>) -> usize {
-    match filled(heap) {
-        Ok(bytes) => bytes.len(),
-        Err(_) => 0,
-    }
+    Ok(bytes.len() == 100)
 }
 
 #[test]
 fn each_growth_is_refused_in_turn(rt: HostRuntime) {
     let heap = Refusing::new(rt.alloc());
     let mut refused = 0u64;
-    for n in 1..=u64::from(BYTES) {
+    for n in 1..=100 {
         heap.refuse(n);
-        if count(&heap) == 100 {
+        if holds(is_filled(&heap)) {
             break;
         }
         assert!(rt; heap.has_refused(), "growth {n}");
@@ -56,13 +45,12 @@ fn is_refused_the_second(heap: &Refusing<Global>) -> Result<bool, AllocError> {
 #[test]
 fn only_one_growth_is_refused(rt: HostRuntime) {
     let heap = Refusing::new(rt.alloc());
-    assert!(rt; heap.has_refused());
-    assert!(rt; count(&heap) == 100);
+    assert!(rt; heap.has_refused() && holds(is_filled(&heap)));
     heap.refuse(2);
     assert!(rt; holds(is_refused_the_second(&heap)));
     heap.refuse(1);
     heap.refuse(0);
-    assert!(rt; count(&heap) == 100);
+    assert!(rt; holds(is_filled(&heap)));
 }
 
 // Whether a block is known to be out if its list is forgotten, and to be back if it is
@@ -79,8 +67,7 @@ fn is_told(alloc: Global, is_forgotten: bool) -> Result<bool, AllocError> {
 }
 
 #[test]
-fn a_block_that_is_out_is_told(rt: HostRuntime) -> Result<(), Fail> {
-    assert!(rt; is_told(rt.alloc(), true)?);
-    assert!(rt; is_told(rt.alloc(), false)?);
-    Ok(())
+fn a_block_that_is_out_is_told(rt: HostRuntime) {
+    assert!(rt; holds(is_told(rt.alloc(), true)));
+    assert!(rt; holds(is_told(rt.alloc(), false)));
 }

@@ -67,7 +67,7 @@ parsed in 2 | 1 | ~k~48~
 "#;
 
 /// What parsing answers.
-type Read<A = Global> = Result<Expression<A>, Failure<A>>;
+pub(crate) type Read<A = Global> = Result<Expression<A>, Failure<A>>;
 
 // Whether both have the same text, and the same predicates in their order.
 fn are_alike<A: SmallAllocator, B: SmallAllocator>(
@@ -128,17 +128,13 @@ fn answer_to<A: SmallAllocator>(alloc: A, call: &str, text: &str, plain: &Read) 
 }
 
 /// Whether the call on the expression gives its plain answer.
-pub(crate) fn called<A: SmallAllocator>(
-    alloc: A,
-    call: &str,
-    expression: &Expression<A>,
-) -> Answer {
+pub(crate) fn called<A: SmallAllocator>(alloc: A, call: &str, condition: &Expression<A>) -> Answer {
     match call {
-        "try_clone" => is_copied(alloc, expression),
-        "eval" => is_true(alloc, expression),
-        "polar_fillings" => is_filled(alloc, expression),
-        "eval_lanes" => is_each(alloc, expression),
-        "pick" => is_picked(alloc, expression.original()),
+        "try_clone" => is_copied(alloc, condition),
+        "eval" => is_true(alloc, condition),
+        "polar_fillings" => is_filled(alloc, condition),
+        "eval_lanes" => is_each(alloc, condition),
+        "pick" => is_picked(alloc, condition.original()),
         _ => Ok(true),
     }
 }

@@ -5,9 +5,6 @@ use cfgx_testing::heap::{Heap, empty_heap, growths, has_every_block};
 use cfgx_testing::streams::Pieces;
 use std::alloc::{AllocError, Allocator, Global};
 
-// The most bytes of a call.
-const EACH: usize = 65_536;
-
 // Whether these bytes were read.
 fn is_read<A: Allocator>(answer: Result<Input<A>, Stop>, bytes: &[u8]) -> bool {
     match answer {
@@ -19,24 +16,20 @@ fn is_read<A: Allocator>(answer: Result<Input<A>, Stop>, bytes: &[u8]) -> bool {
 // Reads the bytes. Out of memory, no call of the source has failed, and what was read stays read:
 // reading again gives what follows it.
 fn reads(alloc: Global, heap: Heap<'_>, bytes: &[u8]) -> Answer {
-    let mut source = Pieces::new(bytes, EACH, 0);
+    let mut source = Pieces::new(bytes, 65_536, 0);
     let answer = read_input(heap, &mut source);
-    if !matches!(answer, Err(Stop::Memory)) {
-        return Ok(is_read(answer, bytes) && source.left.is_empty());
-    }
     let left = source.left;
-    if source.failures > 0 || !bytes.ends_with(left) {
-        return Ok(false);
-    }
-    if is_read(read_input(alloc, &mut source), left) {
+    if !matches!(answer, Err(Stop::Memory)) {
+        Ok(is_read(answer, bytes) && left.is_empty())
+    } else if source.failures == 0
+        && bytes.ends_with(left)
+        && is_read(read_input(alloc, &mut source), left)
+    {
         Err(AllocError)
     } else {
         Ok(false)
     }
 }
-
-// How many bytes are read, and in how many growths.
-const LENGTHS: &[(usize, u64)] = &[(0, 1), (10, 1), (300_000, 4)];
 
 fn growths_of(alloc: Global, length: usize) -> Option<u64> {
     let bytes = vec![in alloc; b'-'; length].ok()?;
@@ -45,12 +38,9 @@ fn growths_of(alloc: Global, length: usize) -> Option<u64> {
 
 #[test]
 fn each_growth_of_an_input_is_refused(rt: HostRuntime) {
-    for (length, wanted) in LENGTHS {
-        assert_eq!(rt;
-            growths_of(rt.alloc(), *length),
-            Some(*wanted),
-            "{length} bytes"
-        );
+    for (length, wanted) in [(0, 1), (10, 1), (300_000, 4)] {
+        let found = growths_of(rt.alloc(), length);
+        assert_eq!(rt; found, Some(wanted), "{length} bytes");
     }
 }
 
@@ -64,10 +54,7 @@ fn is_given_back(alloc: Global, failing_read: u64) -> bool {
 
 #[test]
 fn a_failed_read_gives_back_its_bytes(rt: HostRuntime) {
-    for failing_read in 1..=5 {
-        assert!(rt;
-            is_given_back(rt.alloc(), failing_read),
-            "read {failing_read}"
-        );
+    for read in 1..=5 {
+        assert!(rt; is_given_back(rt.alloc(), read), "read {read}");
     }
 }

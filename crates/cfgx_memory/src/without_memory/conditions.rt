@@ -1,24 +1,15 @@
 //! Conditions that are asked, compared, printed, spelled and evaluated, and the logics.
-use crate::in_turn::conditions::called;
-use cfg_expr::error::Failure;
+use crate::in_turn::conditions::{Read, called};
 use cfg_expr::expr::logic::Kleene64;
 use cfg_expr::expr::{Logic, Predicates, spell};
 use cfg_expr::memory::SmallAllocator;
 use cfg_expr::targets::{TargetInfo, TargetTable};
 use cfg_expr::{Expression, Predicate};
-use cfgx_testing::heap::{Heap, empty_heap, has_every_block};
-use cfgx_testing::holding::{all_hold, holds, prints};
+use cfgx_testing::heap::{Heap, empty_heap, has_every_block, holds_without_memory};
+use cfgx_testing::holding::{holds, prints};
 use cfgx_testing::refusing::EVERY;
-use std::alloc::{AllocError, Global};
-
-const TEXT: &str = "all(a, any(b), feature = \"a feature with a long name\")";
-
-const OTHER: &str = "all(a, any(b), feature = \"a feature with a long name\"),";
-
-const FLAGS: &str = "all(a, any(b), c)";
-
-/// An expression, or why there is none.
-type Read<A> = Result<Expression<A>, Failure<A>>;
+use cfgx_testing::rows::check_pairs;
+use std::alloc::Global;
 
 // What parsing the text answers with memory, and every growth after it refused.
 fn read<'h>(heap: Heap<'h>, text: &str) -> Read<Heap<'h>> {
@@ -32,15 +23,10 @@ fn read<'h>(heap: Heap<'h>, text: &str) -> Read<Heap<'h>> {
 fn are_equal<A: SmallAllocator>(one: Read<A>, other: Read<A>, wanted: (bool, bool)) -> bool {
     match (&one, &other) {
         (Ok(one), Ok(other)) => {
-            (one == other) == wanted.0 && one.predicates().eq(other.predicates()) == wanted.1
+            (one == other, one.predicates().eq(other.predicates())) == wanted
         }
         _ => false,
     }
-}
-
-// Whether `TEXT` and the other text have equal expressions, and equal predicates.
-fn are_compared(heap: Heap<'_>, other: &str, wanted: (bool, bool)) -> bool {
-    are_equal(read(heap, TEXT), read(heap, other), wanted)
 }
 
 // Whether the predicate is this flag, or `feature`.
@@ -89,91 +75,82 @@ fn is_of_the_fourth<A: SmallAllocator>(
     rows.len() == 5 && target.lanes(rows) == Kleene64::new(0b01000, 0b10111)
 }
 
-fn is_asked_of_the_fourth<A: SmallAllocator>(
-    read: Read<A>,
-    table: Result<TargetTable<'_, A>, AllocError>,
-) -> bool {
-    match (&read, &table) {
-        (Ok(expression), Ok(table)) => {
-            is_of_the_fourth(expression.predicates().next(), table.rows())
-        }
-        _ => false,
-    }
-}
-
-fn ask_for_the_fourth(heap: Heap<'_>) -> bool {
-    heap.refuse(0);
-    let table = TargetTable::builtins(heap);
-    is_asked_of_the_fourth(read(heap, "target_abi = \"sim\""), table)
-}
-
-// Checks of expressions, and texts. Those that are evaluated have 31 or 32 bytes.
-const ASKED: &[(&str, &str)] = &[
-    ("text", TEXT),
-    ("predicates", TEXT),
-    ("spelling", "target_has_atomic = \"+00128\""),
-    ("eval", "any(a,a,a,a,a,a,a,a,a,a,a,a,a,a)"),
-    ("eval", "not(not(not(not(not(not(a))))))"),
-    ("eval", "all(all(),all(),all(),all(),a,a)"),
-    ("eval_lanes", "any(a,a,a,a,a,a,a,a,a,a,a,a,a,a)"),
-    ("eval_lanes", "not(not(not(not(not(not(a))))))"),
-    ("eval_lanes", "all(all(),all(),all(),all(),a,a)"),
-];
-
-// Whether the check holds of the expression.
-fn answers<A: SmallAllocator>(
-    global: Global,
-    alloc: A,
-    check: &str,
-    expression: &Expression<A>,
-) -> bool {
-    match check {
-        "text" => expression.original() == TEXT && prints(global, expression, TEXT),
-        "predicates" => are_of_text(expression.predicates()),
-        "spelling" => are_spelled(
-            global,
-            expression.predicates(),
-            b"target_has_atomic = \"128\"",
-        ),
-        call => holds(called(alloc, call, expression)),
-    }
-}
-
-fn is_right<A: SmallAllocator>(global: Global, alloc: A, check: &str, read: Read<A>) -> bool {
+// Whether that is so of the first predicate.
+fn is_asked<A: SmallAllocator>(read: Read<A>, rows: &[TargetInfo<'_, A>]) -> bool {
     match &read {
-        Ok(expression) => answers(global, alloc, check, expression),
+        Ok(expression) => is_of_the_fourth(expression.predicates().next(), rows),
         Err(_) => false,
     }
 }
 
-fn is_answered(alloc: Global, heap: Heap<'_>, check: &str, text: &str) -> bool {
-    is_right(alloc, heap, check, read(heap, text))
+fn is_asked_without_memory(heap: Heap<'_>, text: &str) -> bool {
+    heap.refuse(0);
+    holds_without_memory(
+        heap,
+        TargetTable::builtins(heap),
+        |table| is_asked(read(heap, text), table.rows()),
+    )
 }
 
-#[test]
-fn conditions_take_no_memory(rt: HostRuntime) {
-    let heap = empty_heap(rt.alloc());
-    for (check, text) in ASKED {
-        assert!(rt;
-            is_answered(rt.alloc(), &heap, check, text),
-            "{check} of {text}"
-        );
+const TEXT: &str = "all(a, any(b), feature = \"a feature with a long name\")";
+
+// Checks of expressions, and texts. The first four have the predicates of `TEXT`, and are compared
+// with it. What is evaluated has 31 or 32 bytes.
+const ASKED: &str = r#"
+text | all(a, any(b), feature = "a feature with a long name")
+predicates | all(a, any(b), feature = "a feature with a long name")
+equal | all(a, any(b), feature = "a feature with a long name")
+one comma more | all(a, any(b), feature = "a feature with a long name"),
+other predicates | all(a, any(b), c)
+of the fourth | target_abi = "sim"
+spelling | target_has_atomic = "+00128"
+eval | any(a,a,a,a,a,a,a,a,a,a,a,a,a,a)
+eval | not(not(not(not(not(not(a))))))
+eval | all(all(),all(),all(),all(),a,a)
+eval_lanes | any(a,a,a,a,a,a,a,a,a,a,a,a,a,a)
+eval_lanes | not(not(not(not(not(not(a))))))
+eval_lanes | all(all(),all(),all(),all(),a,a)
+"#;
+
+const SPELLING: &[u8] = b"target_has_atomic = \"128\"";
+
+// Whether the check holds of the expression.
+fn answers<A: SmallAllocator>(out: Global, alloc: A, check: &str, asked: &Expression<A>) -> bool {
+    match check {
+        "text" => asked.original() == TEXT && prints(out, asked, TEXT),
+        "predicates" => are_of_text(asked.predicates()),
+        "spelling" => are_spelled(out, asked.predicates(), SPELLING),
+        call => holds(called(alloc, call, asked)),
     }
-    assert!(rt; has_every_block(heap));
+}
+
+fn is_right<A: SmallAllocator>(out: Global, alloc: A, check: &str, read: Read<A>) -> bool {
+    match &read {
+        Ok(expression) => answers(out, alloc, check, expression),
+        Err(_) => false,
+    }
+}
+
+fn is_row(alloc: Global, heap: Heap<'_>, check: &str, text: &str) -> bool {
+    match check {
+        "equal" => are_equal(read(heap, TEXT), read(heap, text), (true, true)),
+        "one comma more" => are_equal(read(heap, TEXT), read(heap, text), (false, true)),
+        "other predicates" => are_equal(read(heap, TEXT), read(heap, text), (false, false)),
+        "of the fourth" => is_asked_without_memory(heap, text),
+        _ => is_right(alloc, heap, check, read(heap, text)),
+    }
 }
 
 #[test]
-fn comparing_takes_no_memory(rt: HostRuntime) -> Result<(), &'static str> {
-    let heap = empty_heap(rt.alloc());
-    all_hold(&[
-        ("equal", are_compared(&heap, TEXT, (true, true))),
-        ("one comma more", are_compared(&heap, OTHER, (false, true))),
-        (
-            "other predicates",
-            are_compared(&heap, FLAGS, (false, false)),
-        ),
-        ("targets", ask_for_the_fourth(&heap)),
-    ])?;
+fn conditions_take_no_memory(rt: HostRuntime) -> Result<(), String> {
+    let alloc = rt.alloc();
+    let heap = empty_heap(alloc);
+    check_pairs(
+        alloc,
+        ASKED,
+        13,
+        |check, text| is_row(alloc, &heap, check, text),
+    )?;
     assert!(rt; has_every_block(heap));
     Ok(())
 }
@@ -181,22 +158,22 @@ fn comparing_takes_no_memory(rt: HostRuntime) -> Result<(), &'static str> {
 // Whether the operations of a logic are what they are in Rust.
 fn is_logic<T: Logic + Copy + PartialEq>() -> bool {
     let (yes, no) = (T::top(), T::bottom());
-    yes.and(yes) == yes
-        && yes.and(no) == no
-        && no.or(no) == no
-        && no.or(yes) == yes
-        && yes.not() == no
-        && no.not() == yes
+    let found = [
+        yes.and(yes),
+        yes.and(no),
+        no.or(no),
+        no.or(yes),
+        yes.not(),
+        no.not(),
+    ];
+    found.as_slice() == [yes, no, no, yes, no, yes].as_slice()
 }
 
 // Whether that holds of a logic with an unknown answer too.
-fn has_unknown<T: Logic + Copy + PartialEq>(unknown: T) -> bool {
-    is_logic::<T>()
-        && unknown.not() == unknown
-        && unknown.and(T::top()) == unknown
-        && unknown.and(T::bottom()) == T::bottom()
-        && unknown.or(T::top()) == T::top()
-        && unknown.or(T::bottom()) == unknown
+fn has_unknown<T: Logic + Copy + PartialEq>(it: T) -> bool {
+    let (yes, no) = (T::top(), T::bottom());
+    let found = [it.not(), it.and(yes), it.and(no), it.or(yes), it.or(no)];
+    is_logic::<T>() && found.as_slice() == [it, it, no, yes, it].as_slice()
 }
 
 #[test]

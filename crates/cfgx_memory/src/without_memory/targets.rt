@@ -10,6 +10,27 @@ use cfgx_testing::holding::{all_hold, gives, holds, prints};
 use cfgx_testing::refusing::EVERY;
 use cfgx_testing::triples::{DARWIN, TVOS};
 use std::alloc::{AllocError, Global};
+use std::hash::Hash;
+
+/// Two lists, and one that is above both; each may be out of memory.
+type Lists<T> = [Result<T, AllocError>; 3];
+
+// Whether such lists were made, and with every growth refused the first two are equal, the third is
+// above both, and the check holds of the first two.
+fn are_lists<T, C>(heap: Heap<'_>, lists: Lists<T>, check: C) -> bool
+where
+    T: Ord + Hash + Drop,
+    C: Fn(&T) -> bool,
+    requires { C.IsAlwaysCallable check }
+{
+    heap.refuse(EVERY);
+    let are_right = match &lists {
+        [Ok(list), Ok(same), Ok(above)] => are_ordered(list, same, above) && check(list),
+        _ => false,
+    };
+    heap.refuse(0);
+    are_right
+}
 
 const EIGHT: HasAtomic = HasAtomic::IntegerSize(8);
 
@@ -19,26 +40,25 @@ const POINTER: &[HasAtomic] = &[HasAtomic::Pointer];
 
 const UNSORTED: &[HasAtomic] = &[HasAtomic::Pointer, EIGHT];
 
-// Whether these are two lists of the same two widths, one of which was not in order.
-fn are_two_widths<A: SmallAllocator>(
-    alloc: Global,
-    list: &HasAtomics<A>,
-    same: &HasAtomics<A>,
-) -> bool {
-    are_ordered(list, same, &HasAtomics::new_const(POINTER))
-        && list.as_slice() == SORTED
+// Whether these are the two widths.
+fn are_two_widths<A: SmallAllocator>(alloc: Global, list: &HasAtomics<A>) -> bool {
+    list.as_slice() == SORTED
         && HasAtomics::<A>::new_const(SORTED) == *list
         && list.contains(EIGHT)
         && !list.contains(HasAtomic::IntegerSize(16))
         && prints(alloc, list, "{8, ptr}")
 }
 
-fn are_widths(alloc: Global, heap: Heap<'_>) -> Result<bool, AllocError> {
-    heap.refuse(0);
-    let list = HasAtomics::new(heap, SORTED.iter().copied())?;
-    let same = HasAtomics::new(heap, UNSORTED.iter().copied())?;
-    heap.refuse(EVERY);
-    Ok(are_two_widths(alloc, &list, &same))
+// Whether two widths make such lists, if one of them is not in order.
+fn are_widths(alloc: Global, heap: Heap<'_>) -> bool {
+    let list = HasAtomics::new(heap, SORTED.iter().copied());
+    let same = HasAtomics::new(heap, UNSORTED.iter().copied());
+    let above = Ok(HasAtomics::new_const(POINTER));
+    are_lists(
+        heap,
+        [list, same, above],
+        |list| are_two_widths(alloc, list),
+    )
 }
 
 // Whether the text is read as this width.
@@ -49,48 +69,19 @@ fn is_read(heap: Heap<'_>, text: &str, width: HasAtomic) -> bool {
     is_read
 }
 
-// Whether these are lists of two families, of the same two, and of one that is above.
-fn are_two_families<'f, A: SmallAllocator>(
-    alloc: Global,
-    list: &Families<'f, A>,
-    same: &Families<'f, A>,
-    above: &Families<'f, A>,
-) -> bool {
-    are_ordered(list, same, above)
-        && list.as_slice().len() == 2
+// Whether these are the two families.
+fn are_two_families<A: SmallAllocator>(alloc: Global, list: &Families<'_, A>) -> bool {
+    list.as_slice().len() == 2
         && list.contains(&Family::unix())
         && list.contains(&Family::wasm())
         && !list.contains(&Family::windows())
         && prints(alloc, list, "{unix, wasm}")
 }
 
-/// A list, or out of memory.
-type Made<'f, A> = Result<Families<'f, A>, AllocError>;
-
-// Whether these are such lists, if each of them was made.
-fn are_made<A: SmallAllocator>(
-    alloc: Global,
-    list: Made<'_, A>,
-    same: Made<'_, A>,
-    above: Made<'_, A>,
-) -> Result<bool, AllocError> {
-    let list = list?;
-    let same = same?;
-    let above = above?;
-    let are_two = are_two_families(alloc, &list, &same, &above);
-    drop(list);
-    drop(same);
-    drop(above);
-    Ok(are_two)
-}
-
-fn are_families(alloc: Global, heap: Heap<'_>) -> Result<bool, AllocError> {
-    heap.refuse(0);
-    let list = Families::unix_wasm(heap);
-    let same = Families::unix_wasm(heap);
-    let above = Families::wasm(heap);
-    heap.refuse(EVERY);
-    are_made(alloc, list, same, above)
+fn are_families(alloc: Global, heap: Heap<'_>) -> bool {
+    let (list, same) = (Families::unix_wasm(heap), Families::unix_wasm(heap));
+    let lists = [list, same, Families::wasm(heap)];
+    are_lists(heap, lists, |list| are_two_families(alloc, list))
 }
 
 fn is_empty<A: SmallAllocator>(_alloc: A) -> bool {
@@ -103,28 +94,19 @@ fn are_sorted(families: [Family<'_>; 2]) -> bool {
     are_sorted
 }
 
-// Copies of the rows with these numbers.
-fn copies_of<'a, A: SmallAllocator + 'a>(
-    alloc: A,
-    all: &[TargetInfo<'a, A>],
-    numbers: &[usize],
-) -> Result<Vec<TargetInfo<'a, A>, A>, AllocError> {
-    let mut rows = Vec::new(alloc);
-    for number in numbers {
-        if let Some(row) = all.get(*number) {
-            rows.push(row.try_clone(alloc)?)?;
-        }
-    }
-    Ok(rows)
-}
-
 /// Rows, or out of memory.
 type Rows<'a, A> = Result<Vec<TargetInfo<'a, A>, A>, AllocError>;
 
 // Copies of the rows that are built in and have these numbers.
 fn rows<'a, A: SmallAllocator + 'a>(alloc: A, numbers: &[usize]) -> Rows<'a, A> {
     let table = TargetTable::builtins(alloc)?;
-    copies_of(alloc, table.rows(), numbers)
+    let mut rows = Vec::new(alloc);
+    for number in numbers {
+        if let Some(row) = table.rows().get(*number) {
+            rows.push(row.try_clone(alloc)?)?;
+        }
+    }
+    Ok(rows)
 }
 
 // The place at which the rows are refused, and how many there are, if they are no table.
@@ -135,24 +117,23 @@ fn place_of<A: SmallAllocator>(rows: Rows<'_, A>) -> Result<(Option<usize>, usiz
     }
 }
 
-// Whether the first two rows are equal, and the third is above both.
-fn are_three_rows<A: SmallAllocator>(rows: &[TargetInfo<'_, A>]) -> bool {
+// Whether the first two of three rows are equal, and the third is above both.
+fn are_three_rows<A: SmallAllocator>(rows: &Rows<'_, A>) -> bool {
     match rows {
-        [one, same, above] => are_ordered(one, same, above),
-        _ => false,
+        Ok(rows) => match rows.as_slice() {
+            [one, same, above] => are_ordered(one, same, above),
+            _ => false,
+        },
+        Err(_) => false,
     }
 }
 
 // Whether the three rows of these numbers are refused at this place and handed back, and whether
 // the first two are equal and the third is above both.
 fn are_refused(heap: Heap<'_>, numbers: &[usize], place: Option<usize>, is_first: bool) -> bool {
-    heap.refuse(0);
     let rows = rows(heap, numbers);
     heap.refuse(EVERY);
-    let are_three = match &rows {
-        Ok(rows) => are_three_rows(rows.as_slice()) == is_first,
-        Err(_) => false,
-    };
+    let are_three = are_three_rows(&rows) == is_first;
     let found = place_of(rows);
     heap.refuse(0);
     are_three && found == Ok((place, 3))
@@ -174,10 +155,10 @@ fn lists_and_rows_take_no_memory(rt: HostRuntime) -> Result<(), &'static str> {
     let heap = empty_heap(rt.alloc());
     let table = TargetTable::builtins(&heap);
     all_hold(&[
-        ("lists of widths", holds(are_widths(rt.alloc(), &heap))),
+        ("lists of widths", are_widths(rt.alloc(), &heap)),
         ("a number", is_read(&heap, "+08", EIGHT)),
         ("ptr", is_read(&heap, "ptr", HasAtomic::Pointer)),
-        ("lists of families", holds(are_families(rt.alloc(), &heap))),
+        ("lists of families", are_families(rt.alloc(), &heap)),
         ("no family", is_empty(&heap)),
         ("a table", are_refused(&heap, &[0, 2, 4], None, false)),
         ("no table", are_refused(&heap, &[0, 2, 2], Some(2), false)),
@@ -196,7 +177,7 @@ fn orders() -> Result<(), &'static str> {
     all_hold(&[
         ("widths", are_ordered(&EIGHT, &EIGHT, &HasAtomic::Pointer)),
         (
-            "byte orders",
+            "orders",
             are_ordered(&Endian::big, &Endian::big, &Endian::little),
         ),
         ("families", are_sorted([Family::unix(), Family::wasm()])),
