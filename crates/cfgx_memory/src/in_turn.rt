@@ -9,20 +9,10 @@ mod inputs;
 mod runs;
 pub(crate) mod targets;
 
-use cfgx_testing::holding::gives;
 use std::alloc::AllocError;
 
-/// What a call answers.
-type Answer = Result<bool, AllocError>;
+/// What is made, or out of memory.
+type Made<T> = Result<T, AllocError>;
 
-// Whether what was made is equal to its copy.
-fn is_copied<T, A, F>(alloc: A, made: Result<T, AllocError>, copy: F) -> Answer
-where
-    T: PartialEq + Drop,
-    A: Copy + Drop,
-    F: Fn(&T, A) -> Result<T, AllocError>,
-    requires { F.IsAlwaysCallable copy }
-{
-    let value = made?;
-    gives(copy(&value, alloc), &value)
-}
+/// What a call answers.
+type Answer = Made<bool>;

@@ -1,6 +1,6 @@
 //! Conditions that are read, copied and evaluated.
-use super::Answer;
 use super::runs::is_run_in_turns;
+use super::{Answer, Made};
 use cfg_expr::error::{Failure, ParseError};
 use cfg_expr::expr::TargetMatcher;
 use cfg_expr::expr::lexer::{Lexer, Token};
@@ -204,11 +204,8 @@ impl TargetMatcher for Nowhere {
     }
 }
 
-/// Sections, and who has their memory.
-type Sections<A> = Vec<Section<A>, A>;
-
 // A section whose name is its condition.
-fn section_of<A: SmallAllocator>(alloc: A, text: &str) -> Result<Section<A>, AllocError> {
+fn section_of<A: SmallAllocator>(alloc: A, text: &str) -> Made<Section<A>> {
     let name = String::from_str(alloc, text)?;
     match Expression::parse(alloc, text) {
         Ok(condition) => Ok(Section { name, condition }),
@@ -217,7 +214,7 @@ fn section_of<A: SmallAllocator>(alloc: A, text: &str) -> Result<Section<A>, All
 }
 
 // A section for each text.
-fn sections_of<A: SmallAllocator>(alloc: A, texts: &[&str]) -> Result<Sections<A>, AllocError> {
+fn sections_of<A: SmallAllocator>(alloc: A, texts: &[&str]) -> Made<Vec<Section<A>, A>> {
     let mut sections = Vec::new(alloc);
     for text in texts {
         sections.push(section_of(alloc, text)?)?;
@@ -235,8 +232,6 @@ fn are_of<A: SmallAllocator>(sections: &[Section<A>], texts: &[&str]) -> bool {
     sections.len() == texts.len()
 }
 
-const VERDICTS: &[Verdict] = &[Verdict::Unknown, Verdict::No, Verdict::Yes];
-
 // The verdicts on three sections. The sections stay as they were.
 fn is_picked<A: SmallAllocator>(alloc: A, text: &str) -> Answer {
     let texts = [text, "windows", "not(windows)"];
@@ -246,7 +241,8 @@ fn is_picked<A: SmallAllocator>(alloc: A, text: &str) -> Answer {
         return Ok(false);
     }
     let again = pick(alloc, sections.as_slice(), &Nowhere);
-    Ok(verdicts?.as_slice() == VERDICTS && again?.as_slice() == VERDICTS)
+    let wanted = [Verdict::Unknown, Verdict::No, Verdict::Yes];
+    Ok(verdicts?.as_slice() == wanted.as_slice() && again?.as_slice() == wanted.as_slice())
 }
 
 // Whether parsing the text answered this.

@@ -1,5 +1,6 @@
 //! Copies of fields and predicates: only an owned text takes memory, and one growth.
-use super::{Answer, is_copied};
+use super::targets::SORTED;
+use super::{Answer, Made};
 use cfg_expr::TargetPredicate;
 use cfg_expr::memory::SmallAllocator;
 use cfg_expr::targets::{
@@ -11,7 +12,7 @@ use cfgx_fields::{
 use cfgx_testing::heap::growths;
 use cfgx_testing::holding::{gives, holds};
 use cfgx_testing::texts::repeated;
-use std::alloc::{AllocError, Global};
+use std::alloc::Global;
 use std::test::Fail;
 
 // Whether an owned value and a borrowed one of the same text are equal to each other's copies. The
@@ -20,7 +21,7 @@ fn are_copied<T, A, F>(alloc: A, owned: T, borrowed: T, copy: F) -> Answer
 where
     T: PartialEq + Drop,
     A: Copy + Drop,
-    F: Fn(&T, A) -> Result<T, AllocError>,
+    F: Fn(&T, A) -> Made<T>,
     requires { F.IsAlwaysCallable copy }
 {
     let are_alike = owned == borrowed && holds(gives(copy(&borrowed, alloc), &owned));
@@ -73,25 +74,13 @@ fn copies<A: SmallAllocator>(alloc: A, kind: &str, text: &str) -> Answer {
     }
 }
 
-const WIDTHS: &[HasAtomic] = &[HasAtomic::IntegerSize(8), HasAtomic::Pointer];
-
-// Widths that are borrowed.
-fn copies_widths<A: SmallAllocator>(alloc: A) -> Answer {
-    let widths: HasAtomics<A> = HasAtomics::new_const(WIDTHS);
-    Ok(widths.try_clone(alloc)?.as_slice() == WIDTHS)
-}
-
 // Families that are borrowed.
-fn copies_families<A: SmallAllocator>(alloc: A, families: &[Family<'_, A>]) -> Answer {
-    if Families::is_sorted(families) {
-        is_copied(
-            alloc,
-            Ok(Families::new_const(families)),
-            Families::try_clone,
-        )
-    } else {
-        Ok(false)
+fn copies_families<'f, A: SmallAllocator>(alloc: A, families: &'f [Family<'f, A>]) -> Answer {
+    if !Families::is_sorted(families) {
+        return Ok(false);
     }
+    let list = Families::new_const(families);
+    gives(list.try_clone(alloc), &list)
 }
 
 // A value without an owned text.
@@ -101,10 +90,15 @@ fn copies_borrowed<A: SmallAllocator>(alloc: A, kind: &str) -> Answer {
         "ptr" => TargetPredicate::HasAtomic(HasAtomic::Pointer),
         "8" => TargetPredicate::HasAtomic(HasAtomic::IntegerSize(8)),
         "64" => TargetPredicate::PointerWidth(64),
-        "widths" => return copies_widths(alloc),
+        "widths" => {
+            let widths = HasAtomics::<A>::new_const(SORTED);
+            return Ok(widths.try_clone(alloc)?.as_slice() == SORTED);
+        }
         _ => return copies_families(alloc, &[Family::unix()]),
     };
-    is_copied(alloc, Ok(predicate), TargetPredicate::try_clone)
+    let is_copied = gives(predicate.try_clone(alloc), &predicate);
+    drop(predicate);
+    is_copied
 }
 
 // The kinds of fields, and of predicates that have one.

@@ -7,10 +7,7 @@ use std::alloc::{AllocError, Allocator, Global};
 
 // Whether these bytes were read.
 fn is_read<A: Allocator>(answer: Result<Input<A>, Stop>, bytes: &[u8]) -> bool {
-    match answer {
-        Ok(Input::Bytes(read)) => read.as_slice() == bytes,
-        _ => false,
-    }
+    matches!(&answer, Ok(Input::Bytes(read)) if read.as_slice() == bytes)
 }
 
 // Reads the bytes. Out of memory, no call of the source has failed, and what was read stays read:

@@ -12,24 +12,20 @@ use std::alloc::{AllocError, Global};
 /// An input, the status of a run over it, and what it writes.
 type Wanted<'a> = (&'a str, u8, &'a [u8]);
 
-// Whether a run ended as it has to with memory, all its input read, or out of memory: what it read
-// then stays read, and its sink was not called.
-fn is_ended(source: &Pieces<'_>, sink: &Recorder, status: u8, wanted: &Wanted<'_>) -> Answer {
-    let (input, wanted_status, written) = *wanted;
-    if source.failures != 0 || !input.as_bytes().ends_with(source.left) {
-        return Ok(false);
-    }
-    if status == 3 && is_left_so(sink, b"", (0, 0), 0) {
-        return Err(AllocError);
-    }
-    Ok(is_written(sink, written) && status == wanted_status && source.left.is_empty())
-}
-
+// A run that ends as it has to with memory, all its input read, or out of memory: what it read then
+// stays read, and its sink was not called.
 fn is_run<A: SmallAllocator>(out: Global, alloc: A, words: &[&str], wanted: &Wanted<'_>) -> Answer {
-    let mut source = Pieces::new(wanted.0.as_bytes(), ALL, 0);
+    let (input, wanted_status, written) = *wanted;
+    let mut source = Pieces::new(input.as_bytes(), ALL, 0);
     let mut sink = Recorder::new(out);
     let status = run(alloc, words, &mut source, &mut sink);
-    is_ended(&source, &sink, status, wanted)
+    if source.failures != 0 || !input.as_bytes().ends_with(source.left) {
+        Ok(false)
+    } else if status == 3 && is_left_so(&sink, b"", (0, 0), 0) {
+        Err(AllocError)
+    } else {
+        Ok(is_written(&sink, written) && status == wanted_status && source.left.is_empty())
+    }
 }
 
 // How many growths a run takes that ends so, each of which is refused in turn.

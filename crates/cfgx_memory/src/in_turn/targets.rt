@@ -1,6 +1,6 @@
 //! Lists, faults and rows, which are made and copied.
-use super::{Answer, is_copied};
-use cfg_expr::error::HasAtomicParseError;
+use super::{Answer, Made};
+use cfg_expr::error::HasAtomicParseError as NoWidth;
 use cfg_expr::memory::SmallAllocator;
 use cfg_expr::targets::{
     Families, Family, HasAtomic, HasAtomicFailure, HasAtomics, TargetInfo, TargetTable,
@@ -19,7 +19,7 @@ fn are_given<T, A, F>(out: Global, alloc: A, made: Made<T>, text: &str, copy: F)
 where
     T: PartialEq + Display + Drop,
     A: Copy + Drop,
-    F: Fn(&T, A) -> Result<T, AllocError>,
+    F: Fn(&T, A) -> Made<T>,
     requires { F.IsAlwaysCallable copy }
 {
     let value = made?;
@@ -27,10 +27,11 @@ where
     Ok(copy == value && prints(out, &copy, text) && prints(out, &value, text))
 }
 
-/// What is made, or out of memory.
-type Made<T> = Result<T, AllocError>;
+/// Two widths in their order.
+pub(crate) const SORTED: &[HasAtomic] = &[HasAtomic::IntegerSize(8), HasAtomic::Pointer];
 
-const UNSORTED: &[HasAtomic] = &[HasAtomic::Pointer, HasAtomic::IntegerSize(8)];
+/// The same two, not in order.
+pub(crate) const UNSORTED: &[HasAtomic] = &[HasAtomic::Pointer, HasAtomic::IntegerSize(8)];
 
 // A list of the widths in front of this one.
 fn widths<A: SmallAllocator>(alloc: A, end: u16) -> Made<HasAtomics<A>> {
@@ -64,7 +65,7 @@ fn copies_many_families<A: SmallAllocator>(alloc: A, names: &str) -> Answer {
 }
 
 /// The fault of a text that is no width.
-pub(crate) fn no_width<A: SmallAllocator>(alloc: A) -> Made<HasAtomicParseError<A>> {
+pub(crate) fn no_width<A: SmallAllocator>(alloc: A) -> Made<NoWidth<A>> {
     match HasAtomic::read(alloc, "PTR") {
         Err(HasAtomicFailure::Parse(error)) => Ok(error),
         _ => Err(AllocError),
@@ -90,35 +91,22 @@ fn own_all<'a, A: SmallAllocator + 'a>(alloc: A, row: &mut TargetInfo<'a, A>) ->
     Ok(())
 }
 
-// A copy of the row that owns all its texts and lists.
-fn owned_row<'a, A: SmallAllocator + 'a>(
-    alloc: A,
-    row: &TargetInfo<'a, A>,
-) -> Made<TargetInfo<'a, A>> {
-    let mut copy = row.try_clone(alloc)?;
-    own_all(alloc, &mut copy)?;
-    Ok(copy)
-}
-
-// Whether the copy of the first of five rows is equal to it, and to a copy of itself.
-fn copies_the_first<A: SmallAllocator>(
-    alloc: A,
-    rows: &[TargetInfo<'_, A>],
-    is_owned: bool,
-) -> Answer {
+// Whether the first of five rows is equal to its copy, and the copy, once it owns all, to its own.
+fn copies_the_first<A: SmallAllocator>(alloc: A, rows: &[TargetInfo<'_, A>]) -> Answer {
     match rows {
-        [row, _, _, _, _] if is_owned => {
-            is_copied(alloc, owned_row(alloc, row), TargetInfo::try_clone)
+        [row, _, _, _, _] => {
+            let mut copy = row.try_clone(alloc)?;
+            let is_equal = copy == *row;
+            own_all(alloc, &mut copy)?;
+            Ok(gives(copy.try_clone(alloc), &copy)? && is_equal)
         }
-        [row, _, _, _, _] => gives(row.try_clone(alloc), row),
         _ => Ok(false),
     }
 }
 
-// Rows that own their lists alone, or all.
-fn copies_a_row<A: SmallAllocator>(alloc: A, is_owned: bool) -> Answer {
+fn copies_a_row<A: SmallAllocator>(alloc: A) -> Answer {
     let table = TargetTable::builtins(alloc)?;
-    copies_the_first(alloc, table.rows(), is_owned)
+    copies_the_first(alloc, table.rows())
 }
 
 // What is made and copied, and what it prints.
@@ -135,7 +123,6 @@ widths | {8, ptr}
 many widths | \e
 a fault | expected integer or "ptr", found PTR
 a row | \e
-an owned row | \e
 "#;
 
 fn copies_families<A: SmallAllocator>(out: Global, alloc: A, call: &str, text: &str) -> Answer {
@@ -164,15 +151,8 @@ fn answer_to<A: SmallAllocator>(out: Global, alloc: A, call: &str, text: &str) -
     match call {
         "up to 128" | "up to 64" | "up to 32" | "widths" => copies_widths(out, alloc, call, text),
         "many widths" => copies_many_widths(alloc),
-        "a fault" => are_given(
-            out,
-            alloc,
-            no_width(alloc),
-            text,
-            HasAtomicParseError::try_clone,
-        ),
-        "a row" => copies_a_row(alloc, false),
-        "an owned row" => copies_a_row(alloc, true),
+        "a fault" => are_given(out, alloc, no_width(alloc), text, NoWidth::try_clone),
+        "a row" => copies_a_row(alloc),
         _ => copies_families(out, alloc, call, text),
     }
 }
@@ -183,7 +163,7 @@ fn each_growth_of_a_call_on_targets_is_refused(rt: HostRuntime) -> Result<(), St
     check_pairs(
         alloc,
         CALLS,
-        13,
+        12,
         |call, text| is_refused_in_turns(alloc, |heap| answer_to(alloc, heap, call, text)),
     )
 }

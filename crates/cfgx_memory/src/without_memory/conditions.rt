@@ -21,42 +21,24 @@ fn read<'h>(heap: Heap<'h>, text: &str) -> Read<Heap<'h>> {
 
 // Whether the expressions are equal, and their predicates.
 fn are_equal<A: SmallAllocator>(one: Read<A>, other: Read<A>, wanted: (bool, bool)) -> bool {
-    match (&one, &other) {
-        (Ok(one), Ok(other)) => {
-            (one == other, one.predicates().eq(other.predicates())) == wanted
-        }
-        _ => false,
-    }
+    matches!((&one, &other), (Ok(one), Ok(other))
+        if (one == other, one.predicates().eq(other.predicates())) == wanted)
 }
 
-// Whether the predicate is this flag, or `feature`.
-fn is_named(predicate: Option<Predicate<'_>>, name: &str) -> bool {
-    match &predicate {
-        Some(Predicate::Flag(flag)) => *flag == name,
-        Some(Predicate::Feature(_)) => name == "feature",
-        _ => false,
-    }
+// Adds the spelling of the next predicate.
+fn is_spelled(predicates: &mut Predicates<'_>, bytes: &mut Vec<u8>) -> bool {
+    matches!(predicates.next(), Some(predicate) if spell(&predicate, bytes).is_ok())
 }
 
-// Whether the predicates are those of `TEXT`.
-fn are_of_text(mut predicates: Predicates<'_>) -> bool {
-    for (left, name) in [(3, "b"), (2, "a"), (1, "feature")] {
-        if predicates.left() != left || !is_named(predicates.next(), name) {
+// Whether these numbers of predicates are left, one after another, which are spelled so.
+fn are_spelled(out: Global, mut asked: Predicates<'_>, left: &[usize], told: &str) -> bool {
+    let mut bytes = Vec::new(out);
+    for left in left {
+        if asked.left() != *left || !is_spelled(&mut asked, &mut bytes) {
             return false;
         }
     }
-    predicates.left() == 0 && predicates.next().is_none()
-}
-
-// Whether the predicates are spelled so, one after another.
-fn are_spelled(alloc: Global, predicates: Predicates<'_>, spelling: &[u8]) -> bool {
-    let mut bytes = Vec::new(alloc);
-    for predicate in predicates {
-        if spell(&predicate, &mut bytes).is_err() {
-            return false;
-        }
-    }
-    bytes.as_slice() == spelling
+    asked.left() == 0 && asked.next().is_none() && bytes.as_slice() == told.as_bytes()
 }
 
 // Whether the predicate is true of the fourth of five rows alone, one by one and in lanes.
@@ -76,26 +58,21 @@ fn is_of_the_fourth<A: SmallAllocator>(
 }
 
 // Whether that is so of the first predicate.
-fn is_asked<A: SmallAllocator>(read: Read<A>, rows: &[TargetInfo<'_, A>]) -> bool {
-    match &read {
-        Ok(expression) => is_of_the_fourth(expression.predicates().next(), rows),
-        Err(_) => false,
-    }
+fn is_asked<A: SmallAllocator>(read: Read<Heap<'_>>, table: &TargetTable<'_, A>) -> bool {
+    matches!(&read, Ok(asked) if is_of_the_fourth(asked.predicates().next(), table.rows()))
 }
 
-fn is_asked_without_memory(heap: Heap<'_>, text: &str) -> bool {
+// Whether that is so on the rows that are built in, with every growth refused.
+fn is_asked_of<A: SmallAllocator>(heap: Heap<'_>, alloc: A, text: &str) -> bool {
     heap.refuse(0);
-    holds_without_memory(
-        heap,
-        TargetTable::builtins(heap),
-        |table| is_asked(read(heap, text), table.rows()),
-    )
+    let table = TargetTable::builtins(alloc);
+    holds_without_memory(heap, table, |table| is_asked(read(heap, text), table))
 }
 
 const TEXT: &str = "all(a, any(b), feature = \"a feature with a long name\")";
 
-// Checks of expressions, and texts. The first four have the predicates of `TEXT`, and are compared
-// with it. What is evaluated has 31 or 32 bytes.
+// Checks of expressions, and texts. The first five are compared with `TEXT`, and what is evaluated
+// has 31 or 32 bytes.
 const ASKED: &str = r#"
 text | all(a, any(b), feature = "a feature with a long name")
 predicates | all(a, any(b), feature = "a feature with a long name")
@@ -112,23 +89,20 @@ eval_lanes | not(not(not(not(not(not(a))))))
 eval_lanes | all(all(),all(),all(),all(),a,a)
 "#;
 
-const SPELLING: &[u8] = b"target_has_atomic = \"128\"";
+const SPELLINGS: &str = "bafeature = \"a feature with a long name\"";
 
 // Whether the check holds of the expression.
 fn answers<A: SmallAllocator>(out: Global, alloc: A, check: &str, asked: &Expression<A>) -> bool {
     match check {
         "text" => asked.original() == TEXT && prints(out, asked, TEXT),
-        "predicates" => are_of_text(asked.predicates()),
-        "spelling" => are_spelled(out, asked.predicates(), SPELLING),
+        "predicates" => are_spelled(out, asked.predicates(), &[3, 2, 1], SPELLINGS),
+        "spelling" => are_spelled(out, asked.predicates(), &[1], "target_has_atomic = \"128\""),
         call => holds(called(alloc, call, asked)),
     }
 }
 
 fn is_right<A: SmallAllocator>(out: Global, alloc: A, check: &str, read: Read<A>) -> bool {
-    match &read {
-        Ok(expression) => answers(out, alloc, check, expression),
-        Err(_) => false,
-    }
+    matches!(&read, Ok(expression) if answers(out, alloc, check, expression))
 }
 
 fn is_row(alloc: Global, heap: Heap<'_>, check: &str, text: &str) -> bool {
@@ -136,7 +110,7 @@ fn is_row(alloc: Global, heap: Heap<'_>, check: &str, text: &str) -> bool {
         "equal" => are_equal(read(heap, TEXT), read(heap, text), (true, true)),
         "one comma more" => are_equal(read(heap, TEXT), read(heap, text), (false, true)),
         "other predicates" => are_equal(read(heap, TEXT), read(heap, text), (false, false)),
-        "of the fourth" => is_asked_without_memory(heap, text),
+        "of the fourth" => is_asked_of(heap, heap, text),
         _ => is_right(alloc, heap, check, read(heap, text)),
     }
 }
@@ -158,15 +132,8 @@ fn conditions_take_no_memory(rt: HostRuntime) -> Result<(), String> {
 // Whether the operations of a logic are what they are in Rust.
 fn is_logic<T: Logic + Copy + PartialEq>() -> bool {
     let (yes, no) = (T::top(), T::bottom());
-    let found = [
-        yes.and(yes),
-        yes.and(no),
-        no.or(no),
-        no.or(yes),
-        yes.not(),
-        no.not(),
-    ];
-    found.as_slice() == [yes, no, no, yes, no, yes].as_slice()
+    let found = [yes.and(yes), yes.and(no), no.or(no), no.or(yes)];
+    yes.not() == no && no.not() == yes && found.as_slice() == [yes, no, no, yes].as_slice()
 }
 
 // Whether that holds of a logic with an unknown answer too.

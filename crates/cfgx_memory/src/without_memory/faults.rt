@@ -17,17 +17,10 @@ const ITEMS: &[(Token<'static>, Range<usize>, usize)] = &[
     (Token::Value("v"), 6..9, 2),
 ];
 
-// Whether the item is this token at this place.
-fn is_item(item: &LexerToken<'_>, token: Token<'_>, span: &Range<usize>) -> bool {
-    item.token == token && item.span == *span
-}
-
-// Whether the item and its copy are.
+// Whether the item and its copy are this token at this place.
 fn are_items(item: &LexerToken<'_>, token: Token<'_>, span: &Range<usize>) -> bool {
-    match item.clone() {
-        Ok(copy) => is_item(item, token, span) && is_item(&copy, token, span),
-        Err(_) => false,
-    }
+    let is_item = item.token == token && item.span == *span;
+    is_item && matches!(item.clone(), Ok(copy) if copy.token == token && copy.span == *span)
 }
 
 // Whether the lexer strips the text, and gives its first items.
@@ -36,10 +29,7 @@ fn gives_items<A: Allocator>(mut lexer: Lexer<'_, A>) -> bool {
         return false;
     }
     for (token, span, left) in ITEMS {
-        let is_given = match lexer.next() {
-            Some(Ok(item)) => are_items(&item, *token, span),
-            _ => false,
-        };
+        let is_given = matches!(lexer.next(), Some(Ok(item)) if are_items(&item, *token, span));
         if !is_given || lexer.items_left_bound() != *left {
             return false;
         }
@@ -81,12 +71,14 @@ fn is_row(alloc: Global, heap: Heap<'_>, text: &str, told: &str, printed: &str) 
     heap.refuse(0);
     let faults = (fault(heap, text), fault(heap, text), fault(heap, "kei)"));
     heap.refuse(EVERY);
-    match &faults {
-        (Ok(one), Ok(same), Ok(other)) => {
-            one == same && one != other && is_shown(alloc, one, told, printed)
-        }
-        _ => false,
-    }
+    matches!(&faults, (Ok(one), Ok(same), Ok(other))
+        if one == same && one != other && is_shown(alloc, one, told, printed))
+}
+
+// Whether the fault of a text that is no width prints what it has to.
+fn prints_no_width(alloc: Global, heap: Heap<'_>) -> bool {
+    heap.refuse(0);
+    holds_without_memory(heap, no_width(heap), |error| prints(alloc, error, NO_WIDTH))
 }
 
 #[test]
@@ -99,17 +91,6 @@ fn faults_take_no_memory(rt: HostRuntime) -> Result<(), String> {
         3,
         |text, told, printed| is_row(alloc, &heap, text, told, printed),
     )?;
-    assert!(rt; has_every_block(heap));
+    assert!(rt; prints_no_width(alloc, &heap) && has_every_block(heap));
     Ok(())
-}
-
-// Whether the fault of a text that is no width prints what it has to.
-fn prints_no_width(alloc: Global, heap: Heap<'_>) -> bool {
-    holds_without_memory(heap, no_width(heap), |error| prints(alloc, error, NO_WIDTH))
-}
-
-#[test]
-fn the_fault_of_a_width_takes_no_memory(rt: HostRuntime) {
-    let heap = empty_heap(rt.alloc());
-    assert!(rt; prints_no_width(rt.alloc(), &heap) && has_every_block(heap));
 }

@@ -1,5 +1,6 @@
 //! Byte orders, widths, lists, rows and tables.
 use super::are_ordered;
+use crate::in_turn::targets::{SORTED, UNSORTED};
 use cfg_expr::memory::SmallAllocator;
 use cfg_expr::targets::{
     Endian, Families, Family, HasAtomic, HasAtomics, TargetInfo, TargetTable,
@@ -16,7 +17,7 @@ use std::hash::Hash;
 type Lists<T> = [Result<T, AllocError>; 3];
 
 // Whether such lists were made, and with every growth refused the first two are equal, the third is
-// above both, and the check holds of the first two.
+// above both, and the check holds of the first.
 fn are_lists<T, C>(heap: Heap<'_>, lists: Lists<T>, check: C) -> bool
 where
     T: Ord + Hash + Drop,
@@ -24,21 +25,15 @@ where
     requires { C.IsAlwaysCallable check }
 {
     heap.refuse(EVERY);
-    let are_right = match &lists {
-        [Ok(list), Ok(same), Ok(above)] => are_ordered(list, same, above) && check(list),
-        _ => false,
-    };
+    let are_right = matches!(&lists, [Ok(list), Ok(same), Ok(above)]
+        if are_ordered(list, same, above) && check(list));
     heap.refuse(0);
     are_right
 }
 
 const EIGHT: HasAtomic = HasAtomic::IntegerSize(8);
 
-const SORTED: &[HasAtomic] = &[EIGHT, HasAtomic::Pointer];
-
 const POINTER: &[HasAtomic] = &[HasAtomic::Pointer];
-
-const UNSORTED: &[HasAtomic] = &[HasAtomic::Pointer, EIGHT];
 
 // Whether these are the two widths.
 fn are_two_widths<A: SmallAllocator>(alloc: Global, list: &HasAtomics<A>) -> bool {
@@ -50,15 +45,11 @@ fn are_two_widths<A: SmallAllocator>(alloc: Global, list: &HasAtomics<A>) -> boo
 }
 
 // Whether two widths make such lists, if one of them is not in order.
-fn are_widths(alloc: Global, heap: Heap<'_>) -> bool {
-    let list = HasAtomics::new(heap, SORTED.iter().copied());
-    let same = HasAtomics::new(heap, UNSORTED.iter().copied());
-    let above = Ok(HasAtomics::new_const(POINTER));
-    are_lists(
-        heap,
-        [list, same, above],
-        |list| are_two_widths(alloc, list),
-    )
+fn are_widths<A: SmallAllocator>(out: Global, heap: Heap<'_>, alloc: A) -> bool {
+    let list = HasAtomics::new(alloc, SORTED.iter().copied());
+    let same = HasAtomics::new(alloc, UNSORTED.iter().copied());
+    let lists = [list, same, Ok(HasAtomics::new_const(POINTER))];
+    are_lists(heap, lists, |list| are_two_widths(out, list))
 }
 
 // Whether the text is read as this width.
@@ -69,23 +60,20 @@ fn is_read(heap: Heap<'_>, text: &str, width: HasAtomic) -> bool {
     is_read
 }
 
-// Whether these are the two families.
+// Whether these are the two families, and a list of none is empty.
 fn are_two_families<A: SmallAllocator>(alloc: Global, list: &Families<'_, A>) -> bool {
     list.as_slice().len() == 2
         && list.contains(&Family::unix())
         && list.contains(&Family::wasm())
         && !list.contains(&Family::windows())
         && prints(alloc, list, "{unix, wasm}")
+        && Families::<'_, A>::new_const(&[]).as_slice().is_empty()
 }
 
-fn are_families(alloc: Global, heap: Heap<'_>) -> bool {
-    let (list, same) = (Families::unix_wasm(heap), Families::unix_wasm(heap));
-    let lists = [list, same, Families::wasm(heap)];
-    are_lists(heap, lists, |list| are_two_families(alloc, list))
-}
-
-fn is_empty<A: SmallAllocator>(_alloc: A) -> bool {
-    Families::<'_, A>::new_const(&[]).as_slice().is_empty()
+fn are_families<A: SmallAllocator>(out: Global, heap: Heap<'_>, alloc: A) -> bool {
+    let (list, same) = (Families::unix_wasm(alloc), Families::unix_wasm(alloc));
+    let lists = [list, same, Families::wasm(alloc)];
+    are_lists(heap, lists, |list| are_two_families(out, list))
 }
 
 fn are_sorted(families: [Family<'_>; 2]) -> bool {
@@ -94,19 +82,28 @@ fn are_sorted(families: [Family<'_>; 2]) -> bool {
     are_sorted
 }
 
+// Copies of the rows with these numbers.
+fn copies_of<'a, A: SmallAllocator + 'a>(
+    alloc: A,
+    all: &[TargetInfo<'a, A>],
+    numbers: &[usize],
+) -> Rows<'a, A> {
+    let mut rows = Vec::new(alloc);
+    for number in numbers {
+        if let Some(row) = all.get(*number) {
+            rows.push(row.try_clone(alloc)?)?;
+        }
+    }
+    Ok(rows)
+}
+
 /// Rows, or out of memory.
 type Rows<'a, A> = Result<Vec<TargetInfo<'a, A>, A>, AllocError>;
 
 // Copies of the rows that are built in and have these numbers.
 fn rows<'a, A: SmallAllocator + 'a>(alloc: A, numbers: &[usize]) -> Rows<'a, A> {
     let table = TargetTable::builtins(alloc)?;
-    let mut rows = Vec::new(alloc);
-    for number in numbers {
-        if let Some(row) = table.rows().get(*number) {
-            rows.push(row.try_clone(alloc)?)?;
-        }
-    }
-    Ok(rows)
+    copies_of(alloc, table.rows(), numbers)
 }
 
 // The place at which the rows are refused, and how many there are, if they are no table.
@@ -118,14 +115,8 @@ fn place_of<A: SmallAllocator>(rows: Rows<'_, A>) -> Result<(Option<usize>, usiz
 }
 
 // Whether the first two of three rows are equal, and the third is above both.
-fn are_three_rows<A: SmallAllocator>(rows: &Rows<'_, A>) -> bool {
-    match rows {
-        Ok(rows) => match rows.as_slice() {
-            [one, same, above] => are_ordered(one, same, above),
-            _ => false,
-        },
-        Err(_) => false,
-    }
+fn are_three_rows<A: SmallAllocator>(rows: &[TargetInfo<'_, A>]) -> bool {
+    matches!(rows, [one, same, above] if are_ordered(one, same, above))
 }
 
 // Whether the three rows of these numbers are refused at this place and handed back, and whether
@@ -133,7 +124,7 @@ fn are_three_rows<A: SmallAllocator>(rows: &Rows<'_, A>) -> bool {
 fn are_refused(heap: Heap<'_>, numbers: &[usize], place: Option<usize>, is_first: bool) -> bool {
     let rows = rows(heap, numbers);
     heap.refuse(EVERY);
-    let are_three = are_three_rows(&rows) == is_first;
+    let are_three = matches!(&rows, Ok(rows) if are_three_rows(rows.as_slice()) == is_first);
     let found = place_of(rows);
     heap.refuse(0);
     are_three && found == Ok((place, 3))
@@ -141,11 +132,7 @@ fn are_refused(heap: Heap<'_>, numbers: &[usize], place: Option<usize>, is_first
 
 // Whether it is the table that is built in.
 fn is_builtin<A: SmallAllocator>(table: &TargetTable<'_, A>) -> bool {
-    let starts = match table.rows() {
-        [row, _, _, _, _] => row.triple.as_str() == DARWIN,
-        _ => false,
-    };
-    starts
+    matches!(table.rows(), [row, _, _, _, _] if row.triple.as_str() == DARWIN)
         && get_builtin_target_by_triple(table, TVOS).is_some()
         && get_builtin_target_by_triple(table, "aarch64-apple").is_none()
 }
@@ -154,33 +141,21 @@ fn is_builtin<A: SmallAllocator>(table: &TargetTable<'_, A>) -> bool {
 fn lists_and_rows_take_no_memory(rt: HostRuntime) -> Result<(), &'static str> {
     let heap = empty_heap(rt.alloc());
     let table = TargetTable::builtins(&heap);
+    let (first, second) = (Endian::big, Endian::little);
     all_hold(&[
-        ("lists of widths", are_widths(rt.alloc(), &heap)),
+        ("widths", are_ordered(&EIGHT, &EIGHT, &HasAtomic::Pointer)),
+        ("orders", are_ordered(&first, &first, &second)),
+        ("sorted", are_sorted([Family::unix(), Family::wasm()])),
+        ("unsorted", !are_sorted([Family::wasm(), Family::unix()])),
+        ("lists of widths", are_widths(rt.alloc(), &heap, &heap)),
         ("a number", is_read(&heap, "+08", EIGHT)),
         ("ptr", is_read(&heap, "ptr", HasAtomic::Pointer)),
-        ("lists of families", are_families(rt.alloc(), &heap)),
-        ("no family", is_empty(&heap)),
+        ("lists of families", are_families(rt.alloc(), &heap, &heap)),
         ("a table", are_refused(&heap, &[0, 2, 4], None, false)),
         ("no table", are_refused(&heap, &[0, 2, 2], Some(2), false)),
         ("equal rows", are_refused(&heap, &[1, 1, 2], Some(1), true)),
-        (
-            "built in",
-            holds_without_memory(&heap, table, |table| is_builtin(table)),
-        ),
+        ("built in", holds_without_memory(&heap, table, is_builtin)),
     ])?;
     assert!(rt; has_every_block(heap));
     Ok(())
-}
-
-#[test]
-fn orders() -> Result<(), &'static str> {
-    all_hold(&[
-        ("widths", are_ordered(&EIGHT, &EIGHT, &HasAtomic::Pointer)),
-        (
-            "orders",
-            are_ordered(&Endian::big, &Endian::big, &Endian::little),
-        ),
-        ("families", are_sorted([Family::unix(), Family::wasm()])),
-        ("others", !are_sorted([Family::wasm(), Family::unix()])),
-    ])
 }
