@@ -11,45 +11,27 @@ use cfgx_testing::holding::{all_hold, gives, holds, prints};
 use cfgx_testing::refusing::EVERY;
 use cfgx_testing::triples::{DARWIN, TVOS};
 use std::alloc::{AllocError, Global};
-use std::hash::Hash;
-
-/// Two lists, and one that is above both; each may be out of memory.
-type Lists<T> = [Result<T, AllocError>; 3];
-
-// Whether such lists were made, and with every growth refused the first two are equal, the third is
-// above both, and the check holds of the first.
-fn are_lists<T, C>(heap: Heap<'_>, lists: Lists<T>, check: C) -> bool
-where
-    T: Ord + Hash + Drop,
-    C: Fn(&T) -> bool,
-    requires { C.IsAlwaysCallable check }
-{
-    heap.refuse(EVERY);
-    let are_right = matches!(&lists, [Ok(list), Ok(same), Ok(above)]
-        if are_ordered(list, same, above) && check(list));
-    heap.refuse(0);
-    are_right
-}
 
 const EIGHT: HasAtomic = HasAtomic::IntegerSize(8);
 
 const POINTER: &[HasAtomic] = &[HasAtomic::Pointer];
 
-// Whether these are the two widths.
-fn are_two_widths<A: SmallAllocator>(alloc: Global, list: &HasAtomics<A>) -> bool {
-    list.as_slice() == SORTED
+// Whether these are two lists of the same two widths, one of which was not in order.
+fn are_two<A: SmallAllocator>(out: Global, list: &HasAtomics<A>, same: &HasAtomics<A>) -> bool {
+    are_ordered(list, same, &HasAtomics::new_const(POINTER))
+        && list.as_slice() == SORTED
         && HasAtomics::<A>::new_const(SORTED) == *list
         && list.contains(EIGHT)
         && !list.contains(HasAtomic::IntegerSize(16))
-        && prints(alloc, list, "{8, ptr}")
+        && prints(out, list, "{8, ptr}")
 }
 
-// Whether two widths make such lists, if one of them is not in order.
-fn are_widths<A: SmallAllocator>(out: Global, heap: Heap<'_>, alloc: A) -> bool {
-    let list = HasAtomics::new(alloc, SORTED.iter().copied());
-    let same = HasAtomics::new(alloc, UNSORTED.iter().copied());
-    let lists = [list, same, Ok(HasAtomics::new_const(POINTER))];
-    are_lists(heap, lists, |list| are_two_widths(out, list))
+fn are_widths(alloc: Global, heap: Heap<'_>) -> Result<bool, AllocError> {
+    heap.refuse(0);
+    let list = HasAtomics::new(heap, SORTED.iter().copied())?;
+    let same = HasAtomics::new(heap, UNSORTED.iter().copied())?;
+    heap.refuse(EVERY);
+    Ok(are_two(alloc, &list, &same))
 }
 
 // Whether the text is read as this width.
@@ -60,9 +42,16 @@ fn is_read(heap: Heap<'_>, text: &str, width: HasAtomic) -> bool {
     is_read
 }
 
-// Whether these are the two families, and a list of none is empty.
-fn are_two_families<A: SmallAllocator>(alloc: Global, list: &Families<'_, A>) -> bool {
-    list.as_slice().len() == 2
+// Whether these are lists of two families, of the same two, and of one that is above. A list of
+// none is empty.
+fn are_two_families<'f, A: SmallAllocator>(
+    alloc: Global,
+    list: &Families<'f, A>,
+    same: &Families<'f, A>,
+    above: &Families<'f, A>,
+) -> bool {
+    are_ordered(list, same, above)
+        && list.as_slice().len() == 2
         && list.contains(&Family::unix())
         && list.contains(&Family::wasm())
         && !list.contains(&Family::windows())
@@ -70,10 +59,33 @@ fn are_two_families<A: SmallAllocator>(alloc: Global, list: &Families<'_, A>) ->
         && Families::<'_, A>::new_const(&[]).as_slice().is_empty()
 }
 
-fn are_families<A: SmallAllocator>(out: Global, heap: Heap<'_>, alloc: A) -> bool {
-    let (list, same) = (Families::unix_wasm(alloc), Families::unix_wasm(alloc));
-    let lists = [list, same, Families::wasm(alloc)];
-    are_lists(heap, lists, |list| are_two_families(out, list))
+/// A list, or out of memory.
+type Made<'f, A> = Result<Families<'f, A>, AllocError>;
+
+// Whether these are such lists, if each of them was made.
+fn are_made<A: SmallAllocator>(
+    alloc: Global,
+    list: Made<'_, A>,
+    same: Made<'_, A>,
+    above: Made<'_, A>,
+) -> Result<bool, AllocError> {
+    let list = list?;
+    let same = same?;
+    let above = above?;
+    let are_two = are_two_families(alloc, &list, &same, &above);
+    drop(list);
+    drop(same);
+    drop(above);
+    Ok(are_two)
+}
+
+fn are_families(alloc: Global, heap: Heap<'_>) -> Result<bool, AllocError> {
+    heap.refuse(0);
+    let list = Families::unix_wasm(heap);
+    let same = Families::unix_wasm(heap);
+    let above = Families::wasm(heap);
+    heap.refuse(EVERY);
+    are_made(alloc, list, same, above)
 }
 
 fn are_sorted(families: [Family<'_>; 2]) -> bool {
@@ -122,6 +134,7 @@ fn are_three_rows<A: SmallAllocator>(rows: &[TargetInfo<'_, A>]) -> bool {
 // Whether the three rows of these numbers are refused at this place and handed back, and whether
 // the first two are equal and the third is above both.
 fn are_refused(heap: Heap<'_>, numbers: &[usize], place: Option<usize>, is_first: bool) -> bool {
+    heap.refuse(0);
     let rows = rows(heap, numbers);
     heap.refuse(EVERY);
     let are_three = matches!(&rows, Ok(rows) if are_three_rows(rows.as_slice()) == is_first);
@@ -147,10 +160,10 @@ fn lists_and_rows_take_no_memory(rt: HostRuntime) -> Result<(), &'static str> {
         ("orders", are_ordered(&first, &first, &second)),
         ("sorted", are_sorted([Family::unix(), Family::wasm()])),
         ("unsorted", !are_sorted([Family::wasm(), Family::unix()])),
-        ("lists of widths", are_widths(rt.alloc(), &heap, &heap)),
+        ("lists of widths", holds(are_widths(rt.alloc(), &heap))),
         ("a number", is_read(&heap, "+08", EIGHT)),
         ("ptr", is_read(&heap, "ptr", HasAtomic::Pointer)),
-        ("lists of families", are_families(rt.alloc(), &heap, &heap)),
+        ("lists of families", holds(are_families(rt.alloc(), &heap))),
         ("a table", are_refused(&heap, &[0, 2, 4], None, false)),
         ("no table", are_refused(&heap, &[0, 2, 2], Some(2), false)),
         ("equal rows", are_refused(&heap, &[1, 1, 2], Some(1), true)),
