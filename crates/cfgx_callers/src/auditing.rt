@@ -13,8 +13,12 @@ ghost use Rattle.cfgx_callers.specs.Audits.{InLanes, first_lanes, verdict};
 use cfg_expr::error::Failure;
 use cfg_expr::expr::TargetMatcher;
 use cfg_expr::expr::logic::Kleene64;
+use cfg_expr::targets::{TargetInfo, TargetTable};
 use cfg_expr::{Expression, Predicate};
+use cfgx_testing::answers::answer_of;
+use cfgx_testing::rows::check_pairs;
 use std::alloc::{AllocError, Global};
+use std::test::Fail;
 
 /// What each row answers to a predicate: nothing is known of one that is not asked of targets.
 pub fn lanes_of<T: TargetMatcher>(predicate: &Predicate<'_>, rows: &[T]) -> Kleene64
@@ -119,19 +123,9 @@ pub fn audit<T: TargetMatcher>(
     Ok(verdicts_of(alloc, &expression, rows)?)
 }
 
-#[cfg(test)]
-mod tests {
-    use super::audit;
-    use cfg_expr::error::Failure;
-    use cfg_expr::targets::{TargetInfo, TargetTable};
-    use cfgx_testing::holding::holds;
-    use cfgx_testing::rows::check_rows;
-    use std::alloc::{AllocError, Global};
-    use std::test::Fail;
-
-    // Texts, and whether they are true of the five targets that are built in, `?` for unknown:
-    // those of macOS, of iOS, of iOS with the ABIs `macabi` and `sim`, and of tvOS.
-    const AUDITED: &str = r#"
+// Texts, and whether they are true of the five targets that are built in, `?` for unknown: those of
+// macOS, of iOS, of iOS with the ABIs `macabi` and `sim`, and of tvOS.
+const AUDITED: &str = r#"
 target_abi = "sim" | 00010
 any(target_abi = "sim", target_os = "macos") | 10010
 not(any(target_os = "ios", target_os = "tvos")) | 10000
@@ -140,62 +134,51 @@ any(target_env = "macabi", all(unix, not(test))) | ??1??
 all() | 11111
 "#;
 
-    // So many rows: those of the five targets in turn.
-    fn rows_in_turn(alloc: Global, count: usize) -> Result<Vec<TargetInfo<'static>>, AllocError> {
-        let table = TargetTable::builtins(alloc)?;
-        let mut rows = Vec::new(alloc);
-        for row in table.rows().iter().cycle().take(count) {
-            rows.push(row.try_clone(alloc)?)?;
-        }
-        Ok(rows)
+// So many rows: those of the five targets in turn.
+fn rows_in_turn(alloc: Global, count: usize) -> Result<Vec<TargetInfo<'static>>, AllocError> {
+    let table = TargetTable::builtins(alloc)?;
+    let mut rows = Vec::new(alloc);
+    for row in table.rows().iter().cycle().take(count) {
+        rows.push(row.try_clone(alloc)?)?;
     }
+    Ok(rows)
+}
 
-    // Whether each verdict is that of its target.
-    fn are(verdicts: &[Option<bool>], digits: &str) -> bool {
-        for (number, verdict) in verdicts.iter().enumerate() {
-            let digit = match verdict {
-                Some(true) => b'1',
-                Some(false) => b'0',
-                None => b'?',
-            };
-            if digits.as_bytes().get(number % 5) != Some(&digit) {
-                return false;
-            }
-        }
-        true
-    }
-
-    fn is_audited(
-        alloc: Global,
-        text: &str,
-        rows: &[TargetInfo<'_>],
-        digits: &str,
-    ) -> Result<bool, Failure> {
-        let verdicts = audit(alloc, text, rows)?;
-        Ok(verdicts.len() == rows.len() && are(verdicts.as_slice(), digits))
-    }
-
-    fn is_right(alloc: Global, rows: &[TargetInfo<'_>], row: &[String]) -> bool {
-        match row {
-            [text, digits] => holds(is_audited(alloc, text.as_str(), rows, digits.as_str())),
-            _ => false,
+// Whether each verdict is that of its target.
+fn are(verdicts: &[Option<bool>], digits: &[u8]) -> bool {
+    for (number, verdict) in verdicts.iter().enumerate() {
+        let digit = digits.get(number % 5).copied();
+        if digit.map(answer_of) != Some(*verdict) {
+            return false;
         }
     }
+    true
+}
 
-    // Checks the verdicts of the texts on so many rows.
-    fn check_audited(alloc: Global, count: usize) -> Result<(), String> {
-        let Ok(rows) = rows_in_turn(alloc, count) else {
-            return Err(String::new(alloc));
-        };
-        let rows = rows.as_slice();
-        check_rows(alloc, AUDITED, 6, |row| is_right(alloc, rows, row))
+fn is_audited(alloc: Global, text: &str, rows: &[TargetInfo<'_>], digits: &str) -> bool {
+    match audit(alloc, text, rows) {
+        Ok(verdicts) => verdicts.len() == rows.len() && are(verdicts.as_slice(), digits.as_bytes()),
+        Err(_) => false,
     }
+}
 
-    #[test]
-    fn rows_are_audited_in_pieces(rt: HostRuntime) -> Result<(), String> {
-        for count in [0, 1, 64, 65, 130] {
-            check_audited(rt.alloc(), count)?;
-        }
-        Ok(())
+// Checks the verdicts of the texts on so many rows.
+fn check_audited(alloc: Global, count: usize) -> Result<(), Fail> {
+    let rows = rows_in_turn(alloc, count)?;
+    let rows = rows.as_slice();
+    check_pairs(
+        alloc,
+        AUDITED,
+        6,
+        |text, digits| is_audited(alloc, text, rows, digits),
+    )?;
+    Ok(())
+}
+
+#[test]
+fn rows_are_audited_in_pieces(rt: HostRuntime) -> Result<(), Fail> {
+    for count in [0, 1, 64, 65, 130] {
+        check_audited(rt.alloc(), count)?;
     }
+    Ok(())
 }

@@ -1,5 +1,4 @@
 //! What a refusal says.
-
 use cfg_expr::Expression;
 use cfg_expr::error::Failure;
 use std::io;

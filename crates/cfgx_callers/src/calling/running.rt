@@ -1,5 +1,4 @@
 //! The program's engine over the streams of the process.
-
 use cfgx_engine::engine::{Counted, run};
 
 /// Runs `parse` and answers its status.

@@ -1,6 +1,5 @@
 //! Calls as one writes them in Rust, without a type that Rust would not ask for: those that stand
 //! in no example of the pages.
-
 use super::streams::Kept;
 use cfg_expr::error::{Failure, Reason};
 use cfg_expr::expr::Logic;
