@@ -2,12 +2,8 @@
 //! `eval_lanes` alone.
 ghost use Rattle.std.specs.Prelude.{◌≡◌, ◌++◌, ◌≤◌, length, map, IfOk};
 ghost use Rattle.std.specs.List.{AllZip};
-ghost use Rattle.cfgx_syntax.specs.Stripping.{strip};
-ghost use Rattle.cfgx_grammar.specs.Answer.{HasOneTree};
-ghost use Rattle.cfgx_grammar.specs.Grammar.{HasTree};
-ghost use Rattle.cfgx_grammar.specs.Question.{Question};
-ghost use Rattle.cfgx_grammar.specs.Tree.{Tree, asked};
-ghost use Rattle.cfgx_parser.specs.Predicate.{question_of};
+ghost use Rattle.cfg_expr.specs.Words.{HasOneTree, HasTree, Question, Tree, asked, strip};
+ghost use Rattle.cfg_expr.specs.Words.{question_of};
 ghost use Rattle.cfgx_callers.specs.Audits.{InLanes, first_lanes, verdict};
 
 use cfg_expr::error::Failure;
@@ -21,22 +17,14 @@ use std::alloc::{AllocError, Global};
 use std::test::Fail;
 
 /// What each row answers to a predicate: nothing is known of one that is not asked of targets.
-pub fn lanes_of<T: TargetMatcher>(predicate: &Predicate<'_>, rows: &[T]) -> Kleene64
-    requires { length rows.now ≤ 64 }
-    ensures { InLanes T.answer rows.now (question_of predicate.now) result }
-{
-    match predicate {
-        Predicate::Target(target) => target.lanes(rows),
-        _ => Kleene64::new(0, 0),
-    }
-}
-
-/// What each row answers to a predicate, which is dropped.
-fn taken_answer<T: TargetMatcher>(predicate: Predicate<'_>, rows: &[T]) -> Kleene64
+pub fn lanes_of<T: TargetMatcher>(predicate: Predicate<'_>, rows: &[T]) -> Kleene64
     requires { length rows.now ≤ 64 }
     ensures { InLanes T.answer rows.now (question_of predicate.entry) result }
 {
-    lanes_of(&predicate, rows)
+    match &predicate {
+        Predicate::Target(target) => target.lanes(rows),
+        _ => Kleene64::new(0, 0),
+    }
 }
 
 /// What the rows answer to each predicate of the condition.
@@ -51,17 +39,16 @@ pub fn answers_of<T: TargetMatcher>(
 {
     let mut answers = Vec::new(alloc);
     for predicate in expression.predicates() {
-        answers.push(taken_answer(predicate, rows))?;
+        answers.push(lanes_of(predicate, rows))?;
     }
     Ok(answers)
 }
 
+/// A value for each row, of which some may be unknown.
+pub type Verdicts = Vec<Option<bool>>;
+
 /// Adds what stands in so many lanes.
-fn push_lanes(
-    value: Kleene64,
-    count: usize,
-    verdicts: &mut Vec<Option<bool>>,
-) -> Result<(), AllocError>
+fn push_lanes(value: Kleene64, count: usize, verdicts: &mut Verdicts) -> Result<(), AllocError>
     requires { count ≤ 64 }
     ensures { IfOk result (λ _. verdicts.new.items
         ≡ verdicts.old.items ++ first_lanes count value) }
@@ -77,7 +64,7 @@ fn push_verdicts<T: TargetMatcher>(
     alloc: Global,
     expression: &Expression,
     rows: &[T],
-    verdicts: &mut Vec<Option<bool>>,
+    verdicts: &mut Verdicts,
 ) -> Result<(), AllocError>
     requires { length rows.now ≤ 64 }
     ensures { IfOk result (λ _. (tree : Tree Question) → HasTree expression.now tree
@@ -93,7 +80,7 @@ fn verdicts_of<T: TargetMatcher>(
     alloc: Global,
     expression: &Expression,
     rows: &[T],
-) -> Result<Vec<Option<bool>>, AllocError>
+) -> Result<Verdicts, AllocError>
     ensures { IfOk result (λ verdicts. (tree : Tree Question) → HasTree expression.now tree
         → verdicts.items ≡ map (verdict T.answer tree) rows.now) }
 {
@@ -111,11 +98,7 @@ fn verdicts_of<T: TargetMatcher>(
 /// asks for what no target answers.
 ///
 /// The error is the fault of the text, or that `alloc` refused memory.
-pub fn audit<T: TargetMatcher>(
-    alloc: Global,
-    text: &str,
-    rows: &[T],
-) -> Result<Vec<Option<bool>>, Failure>
+pub fn audit<T: TargetMatcher>(alloc: Global, text: &str, rows: &[T]) -> Result<Verdicts, Failure>
     ensures { IfOk result (λ verdicts. (one : HasOneTree (strip text.now))
         × (verdicts.items ≡ map (verdict T.answer one.tree) rows.now)) }
 {
@@ -166,12 +149,9 @@ fn is_audited(alloc: Global, text: &str, rows: &[TargetInfo<'_>], digits: &str) 
 fn check_audited(alloc: Global, count: usize) -> Result<(), Fail> {
     let rows = rows_in_turn(alloc, count)?;
     let rows = rows.as_slice();
-    check_pairs(
-        alloc,
-        AUDITED,
-        6,
-        |text, digits| is_audited(alloc, text, rows, digits),
-    )?;
+    check_pairs(alloc, AUDITED, 6, |text, digits| {
+        is_audited(alloc, text, rows, digits)
+    })?;
     Ok(())
 }
 

@@ -1,9 +1,7 @@
 //! Callers of `Expression::eval`, each proved by its contract alone.
 ghost use Rattle.std.specs.Prelude.{◌≡◌, ◌+◌, ◌^◌, ◌*◌, ◌%◌, ◌-◌, length, min, IfOk};
-ghost use Rattle.cfgx_grammar.specs.Answer.{HasOneTree};
-ghost use Rattle.cfgx_parser.specs.Predicate.{question_of};
-ghost use Rattle.cfgx_grammar.specs.Tree.{asked};
 ghost use Rattle.cfg_expr.specs.Evaluation.{IsValueBy};
+ghost use Rattle.cfg_expr.specs.Words.{HasOneTree, asked, question_of};
 ghost use Rattle.cfgx_callers.specs.Callers.{is_among, term_of};
 
 pub mod terms;
@@ -36,10 +34,8 @@ pub fn value_with_flags(
     ensures { IfOk result
         (IsValueBy ⟦<bool as Logic>⟧ expression.now (is_among flags.now)) }
 {
-    expression.eval(
-        alloc,
-        &mut |predicate: &Predicate<'_>| is_among(flags, predicate),
-    )
+    let mut answer = |predicate: &Predicate<'_>| is_among(flags, predicate);
+    expression.eval(alloc, &mut answer)
 }
 
 /// The term of a predicate: its name if it is a bare key of no other meaning, and else `?`.
@@ -165,37 +161,22 @@ fn numbers_of(alloc: Global, expression: &Expression) -> Result<Terms, AllocErro
     expression.eval(alloc, &mut answer)
 }
 
-// Whether the expression asks and joins what the row says.
-fn is_joined(alloc: Global, expression: &Expression, row: &[String]) -> Result<bool, AllocError> {
-    let count = questions_of(alloc, expression)?;
-    let terms = terms_of(alloc, expression)?;
-    let numbers = numbers_of(alloc, expression)?;
-    Ok(match row {
-        [wanted, names, calls] => {
-            wanted.parse() == Ok(count)
-                && terms.as_bytes() == names.as_bytes()
-                && numbers.as_bytes() == calls.as_bytes()
-        }
-        _ => false,
-    })
-}
-
+// Whether the text has what the row says.
 fn has_terms(alloc: Global, row: &[String]) -> Result<bool, Failure> {
-    let [text, wanted @ ..] = row else {
+    let [text, questions, names, calls] = row else {
         return Ok(false);
     };
     let expression = Expression::parse(alloc, text.as_str())?;
-    Ok(is_joined(alloc, &expression, wanted)?)
+    let count = questions_of(alloc, &expression)?;
+    let is_named = terms_of(alloc, &expression)?.as_bytes() == names.as_bytes();
+    let is_numbered = numbers_of(alloc, &expression)?.as_bytes() == calls.as_bytes();
+    Ok(questions.parse() == Ok(count) && is_named && is_numbered)
 }
 
 #[test]
 fn terms_are_written_and_questions_counted(rt: HostRuntime) -> Result<(), String> {
-    check_texts(
-        rt.alloc(),
-        TERMS,
-        12,
-        |row| holds(has_terms(rt.alloc(), row)),
-    )
+    let alloc = rt.alloc();
+    check_texts(alloc, TERMS, 12, |row| holds(has_terms(alloc, row)))
 }
 
 // The value if `a`, `b` and all else have these answers, and how many questions it takes.

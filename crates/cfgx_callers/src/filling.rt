@@ -1,11 +1,7 @@
 //! A planner over answers that may be unknown, proved by the contracts of `Expression` alone.
 ghost use Rattle.std.specs.Prelude.{◌≡◌, length, IfOk};
 ghost use Rattle.cfgx_grammar.specs.Given.{AreAnswersTo};
-ghost use Rattle.cfgx_grammar.specs.Answer.{HasOneTree};
-ghost use Rattle.cfgx_grammar.specs.Fold.{fold};
-ghost use Rattle.cfgx_grammar.specs.Grammar.{HasTree};
-ghost use Rattle.cfgx_grammar.specs.Question.{Question};
-ghost use Rattle.cfgx_grammar.specs.Tree.{Tree, asked};
+ghost use Rattle.cfg_expr.specs.Words.{HasOneTree, fold};
 ghost use Rattle.cfgx_callers.specs.Decisions.{IsSound};
 
 use crate::decision::Decision;
@@ -70,20 +66,13 @@ fn is_told(decision: &Decision, told: &str) -> bool {
 }
 
 // Whether this is the plan over these answers, of which there are as many as predicates.
-fn is_plan(
-    alloc: Global,
-    expression: &Expression,
-    answers: &[Option<bool>],
-    told: &str,
-) -> Result<bool, AllocError> {
-    let is_full = expression.predicates().left() == answers.len();
-    Ok(is_full && is_told(&plan(alloc, expression, answers)?, told))
-}
-
 fn is_planned(alloc: Global, text: &str, answers: &str, told: &str) -> Result<bool, Failure> {
     let expression = Expression::parse(alloc, text)?;
     let answers = answers_of(alloc, answers)?;
-    Ok(is_plan(alloc, &expression, answers.as_slice(), told)?)
+    if expression.predicates().left() != answers.len() {
+        return Ok(false);
+    }
+    Ok(is_told(&plan(alloc, &expression, answers.as_slice())?, told))
 }
 
 #[test]

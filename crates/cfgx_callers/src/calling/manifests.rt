@@ -34,17 +34,14 @@ fn sections_of(alloc: Global, dependencies: &[(&str, &str)]) -> Result<Vec<Secti
     Ok(sections)
 }
 
-// The blocks of input and output of `docs/MANIFESTS.md`, which `.ci/examples` compares with these
-// texts.
-
-/// A section for each dependency of the page's manifest.
+/// The input that the page shows. `.ci/examples` compares its blocks of text with these texts.
 pub const SECTIONS: &str = "dependencies.libc\tcfg(unix)\n\
     dependencies.signal-hook\tcfg(unix)\n\
     dependencies.notify\tcfg(any(windows, target_os = \"macos\"))\n\
     dependencies.objc2\tcfg(all(target_vendor = \"apple\", not(loom)))\n\
     dev-dependencies.loom\tcfg(loom)\n";
 
-/// What is written of them for the simulator.
+/// What is written of it for the simulator.
 pub const VERDICTS: &str = "dependencies.libc\tyes\n\
     dependencies.signal-hook\tyes\n\
     dependencies.notify\tno\n\
@@ -55,5 +52,5 @@ pub const VERDICTS: &str = "dependencies.libc\tyes\n\
     \ttrue with 1\n\
     \tfalse with 0\n";
 
-/// The predicates of one of them.
+/// The predicates of one of its conditions.
 pub const PREDICATES: &str = "loom\ntarget_vendor = \"apple\"\n";

@@ -11,8 +11,3 @@ pub fn report(rt: &HostRuntime, text: &str) -> io::Result<()> {
         Ok(expression) => println!(rt; "{}", expression.original()),
     }
 }
-
-#[test]
-fn refusals_are_printed(rt: HostRuntime) {
-    assert!(rt; report(&rt, "all(a, b").is_ok());
-}

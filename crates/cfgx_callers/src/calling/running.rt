@@ -7,8 +7,3 @@ pub fn run_parse(rt: &HostRuntime, text: &str) -> u8 {
     let mut writer = Counted::new(rt.stdout());
     run(rt.alloc(), &["parse", text], &mut reader, &mut writer)
 }
-
-#[test]
-fn the_engine_runs(rt: HostRuntime) {
-    assert!(rt; run_parse(&rt, "all(a, any(b), c)") == 0);
-}
