@@ -17,14 +17,22 @@ use std::alloc::{AllocError, Global};
 use std::test::Fail;
 
 /// What each row answers to a predicate: nothing is known of one that is not asked of targets.
-pub fn lanes_of<T: TargetMatcher>(predicate: Predicate<'_>, rows: &[T]) -> Kleene64
+pub fn lanes_of<T: TargetMatcher>(predicate: &Predicate<'_>, rows: &[T]) -> Kleene64
     requires { length rows.now ≤ 64 }
-    ensures { InLanes T.answer rows.now (question_of predicate.entry) result }
+    ensures { InLanes T.answer rows.now (question_of predicate.now) result }
 {
-    match &predicate {
+    match predicate {
         Predicate::Target(target) => target.lanes(rows),
         _ => Kleene64::new(0, 0),
     }
+}
+
+/// What each row answers to a predicate, which is dropped.
+fn taken_answer<T: TargetMatcher>(predicate: Predicate<'_>, rows: &[T]) -> Kleene64
+    requires { length rows.now ≤ 64 }
+    ensures { InLanes T.answer rows.now (question_of predicate.entry) result }
+{
+    lanes_of(&predicate, rows)
 }
 
 /// What the rows answer to each predicate of the condition.
@@ -39,7 +47,7 @@ pub fn answers_of<T: TargetMatcher>(
 {
     let mut answers = Vec::new(alloc);
     for predicate in expression.predicates() {
-        answers.push(lanes_of(predicate, rows))?;
+        answers.push(taken_answer(predicate, rows))?;
     }
     Ok(answers)
 }

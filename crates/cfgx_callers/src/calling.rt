@@ -1,6 +1,5 @@
 //! The examples of `README.md`, `docs/CALLING.md` and `docs/MANIFESTS.md`. Each block of Rust of
 //! these pages stands in one of these files as it is printed, and `.ci/examples` compares them.
-
 pub mod adapters;
 mod boards;
 pub mod closures;
@@ -22,26 +21,17 @@ mod surface;
 pub mod targets;
 pub mod unknown;
 
-use adapters::{asks_for_tests, first_flag};
 use boards::{BARE, both_say, needs};
 use cfg_expr::error::Failure;
 use cfg_expr::targets::TargetTable;
 use cfg_expr::{Expression, Predicate};
-use cfgx_engine::engine::run;
 use cfgx_testing::holding::holds;
 use cfgx_testing::rows::check_threes;
 use cfgx_testing::triples::{IOS, SIM};
 use closures::{count_asked, if_all_true, with_features};
-use lexing::end_of_tokens;
-use literals::decided;
-use logic::Cost;
 use manifests::{PREDICATES, SECTIONS, VERDICTS};
 use names::is_linux;
 use std::alloc::{AllocError, Global};
-use std::fmt::Debug;
-use streams::{Kept, Left};
-use targets::value_on;
-use unknown::outside_tests;
 
 // Examples, or targets for the example with targets; texts, and what the answers print.
 const ANSWERS: &str = r#"
@@ -111,7 +101,7 @@ manifests | none 16 | ["loom"]
 type Answer = Result<bool, Failure>;
 
 // Whether the value prints this.
-fn shows<T: Debug>(alloc: Global, value: &T, text: &str) -> bool {
+fn shows<T: std::fmt::Debug>(alloc: Global, value: &T, text: &str) -> bool {
     match format!(in alloc; "{value:?}") {
         Ok(shown) => shown.as_str() == text,
         Err(_) => false,
@@ -119,10 +109,10 @@ fn shows<T: Debug>(alloc: Global, value: &T, text: &str) -> bool {
 }
 
 // What the condition costs if a test costs 7, and all else 3.
-fn cost_of(alloc: Global, expression: &Expression) -> Result<Cost, AllocError> {
+fn cost_of(alloc: Global, expression: &Expression) -> Result<logic::Cost, AllocError> {
     let mut cost = |predicate: &Predicate<'_>| match predicate {
-        Predicate::Test => Cost(7),
-        _ => Cost(3),
+        Predicate::Test => logic::Cost(7),
+        _ => logic::Cost(3),
     };
     expression.eval(alloc, &mut cost)
 }
@@ -139,16 +129,21 @@ fn value_on_board(alloc: Global, expression: &Expression) -> Result<bool, AllocE
 // Whether the masks of the lanes of two targets, the true ones and the false ones, print this.
 fn has_masks(alloc: Global, text: &str, masks: &str) -> Answer {
     let table = TargetTable::builtins(alloc)?;
-    let lanes = rows::on_rows(alloc, text, &table.rows()[..2])?;
-    Ok(lanes.is_some_and(|value| shows(alloc, &(value.is_true(), value.is_false()), masks)))
+    match rows::on_rows(alloc, text, &table.rows()[..2])? {
+        Some(lanes) => Ok(shows(alloc, &(lanes.is_true(), lanes.is_false()), masks)),
+        None => Ok(false),
+    }
+}
+
+fn is_first_flag(expression: &Expression, name: &str) -> bool {
+    matches!(&adapters::first_flag(expression), Some(Predicate::Flag(flag)) if *flag == name)
 }
 
 // Whether an example that takes an expression answers this.
 fn is_answer_of(alloc: Global, example: &str, expression: &Expression, told: &str) -> Answer {
     Ok(match example {
-        "asks_for_tests" => shows(alloc, &asks_for_tests(expression), told),
-        "first_flag" =>
-            matches!(&first_flag(expression), Some(Predicate::Flag(flag)) if *flag == told),
+        "asks_for_tests" => shows(alloc, &adapters::asks_for_tests(expression), told),
+        "first_flag" => is_first_flag(expression, told),
         "if_all_true" => shows(alloc, &if_all_true(alloc, expression)?, told),
         "with_features" => shows(alloc, &with_features(alloc, expression, &["b", "a"])?, told),
         "count_asked" => shows(alloc, &count_asked(alloc, expression)?, told),
@@ -162,16 +157,16 @@ fn is_answer_of(alloc: Global, example: &str, expression: &Expression, told: &st
 fn is_answer(alloc: Global, example: &str, text: &str, told: &str) -> Answer {
     Ok(match example {
         "names" => shows(alloc, &is_linux(String::from_str(alloc, text)?), told),
-        "lexing" => shows(alloc, &end_of_tokens(alloc, text)?, told),
+        "lexing" => shows(alloc, &lexing::end_of_tokens(alloc, text)?, told),
         "features" => shows(alloc, &features::features(alloc, text)?, told),
-        "unknown" => shows(alloc, &outside_tests(alloc, text)?, told),
-        "literals" => shows(alloc, &decided(alloc, text)?, told),
+        "unknown" => shows(alloc, &unknown::outside_tests(alloc, text)?, told),
+        "literals" => shows(alloc, &literals::decided(alloc, text)?, told),
         "two fillings" => shows(alloc, &fillings::fillings(alloc, text, &[None; 2])?, told),
         "one filling" => shows(alloc, &fillings::fillings(alloc, text, &[None])?, told),
         "rows" => has_masks(alloc, text, told)?,
         "sections" => both_say(alloc, text, told)?,
         "manifests" => needs(alloc, text, told)?,
-        IOS | SIM | "nowhere" => shows(alloc, &value_on(alloc, text, example)?, told),
+        IOS | SIM | "nowhere" => shows(alloc, &targets::value_on(alloc, text, example)?, told),
         _ => is_answer_of(alloc, example, &Expression::parse(alloc, text)?, told)?,
     })
 }
@@ -192,10 +187,10 @@ fn examples_print(rt: HostRuntime) {
 // Whether a run over this input reads it all, ends with status 0 and writes this.
 fn is_written(alloc: Global, words: &[&str], input: &str, written: &str) -> bool {
     let left = input.as_bytes();
-    let mut source = Left { left };
+    let mut source = streams::Left { left };
     let bytes = Vec::new(alloc);
-    let mut sink = Kept { bytes, failures: 0 };
-    let status = run(alloc, words, &mut source, &mut sink);
+    let mut sink = streams::Kept { bytes, failures: 0 };
+    let status = cfgx_engine::engine::run(alloc, words, &mut source, &mut sink);
     sink.bytes.as_slice() == written.as_bytes() && status == 0 && source.left.is_empty()
 }
 

@@ -9,6 +9,7 @@ pub mod terms;
 use cfg_expr::error::Failure;
 use cfg_expr::expr::Logic;
 use cfg_expr::{Expression, Predicate};
+use cfgx_testing::answers::value_with;
 use cfgx_testing::holding::{gives, holds};
 use cfgx_testing::rows::check_threes;
 use cfgx_testing::words::check_texts;
@@ -179,27 +180,19 @@ fn terms_are_written_and_questions_counted(rt: HostRuntime) -> Result<(), String
     check_texts(alloc, TERMS, 12, |row| holds(has_terms(alloc, row)))
 }
 
-// The value if `a`, `b` and all else have these answers, and how many questions it takes.
-fn lawless_value(alloc: Global, text: &str, answers: [u64; 3]) -> Option<(Lawless, usize)> {
+// The value over these answers, one after another, and how many questions are asked.
+fn value_of(alloc: Global, text: &str, answers: &[Lawless]) -> Option<(Lawless, usize)> {
     let expression = Expression::parse(alloc, text).ok()?;
-    let mut count = 0usize;
-    let mut answer = |predicate: &Predicate<'_>| {
-        count = count.saturating_add(1);
-        match predicate {
-            Predicate::Flag("a") => Lawless(answers[0]),
-            Predicate::Flag("b") => Lawless(answers[1]),
-            _ => Lawless(answers[2]),
-        }
-    };
-    let value: Lawless = expression.eval(alloc, &mut answer).ok()?;
-    Some((value, count))
+    let value = value_with(alloc, &expression, answers, Lawless(0)).ok()?;
+    Some((value, questions_of(alloc, &expression).ok()?))
 }
 
-// `any(b)` is `bottom`, which is 2; then 3 * 1 + 30 = 33, 3 * 33 + 10 = 109, 3 * 109 + 2 = 329.
+// `any(b)` is `bottom`, which is 2; then 3 * 1 + 30 = 33, 3 * 33 + 10 = 109, 3 * 109 + 2 = 329. Of
+// two members, 3 * 1 + 7 = 10 and 3 * 10 + 5 = 35.
 #[test]
 fn the_last_member_is_joined_first(rt: HostRuntime) {
-    let value = lawless_value(rt.alloc(), "all(a, any(b), c)", [10, 20, 30]);
-    assert!(rt; value == Some((Lawless(329), 3)));
-    let value = lawless_value(rt.alloc(), "all(a, b)", [5, 7, 0]);
-    assert!(rt; value == Some((Lawless(35), 2)));
+    let answers = [Lawless(20), Lawless(10), Lawless(30)];
+    assert!(rt; value_of(rt.alloc(), "all(a, any(b), c)", &answers) == Some((Lawless(329), 3)));
+    let answers = [Lawless(5), Lawless(7)];
+    assert!(rt; value_of(rt.alloc(), "all(a, b)", &answers) == Some((Lawless(35), 2)));
 }

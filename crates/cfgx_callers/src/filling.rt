@@ -56,8 +56,7 @@ pub fn plan(
 // Whether the text says what the plan is.
 fn is_told(decision: &Decision, told: &str) -> bool {
     match decision {
-        Decision::Act(true) => told == "true",
-        Decision::Act(false) => told == "false",
+        Decision::Act(value) => told == if *value { "true" } else { "false" },
         Decision::Postpone {
             with_true,
             with_false,

@@ -16,13 +16,17 @@ use cfgx_testing::holding::holds;
 use std::alloc::{AllocError, Global};
 use std::str::FromStr;
 
+fn has_unix_and_not_windows(families: &Families<'_>) -> bool {
+    families.contains(&Family::unix()) && !families.contains(&Family::new_const("windows"))
+}
+
 fn has_families(alloc: Global) -> Result<bool, AllocError> {
     let families = Families::unix_wasm(alloc)?;
-    let has_unix = families.contains(&Family::unix());
-    let has_windows = families.contains(&Family::new_const("windows"));
-    let is_rising = Families::is_sorted(families.as_slice());
-    let is_falling = !Families::is_sorted(&[<Family<'_>>::wasm(), Family::unix()]);
-    Ok(has_unix && !has_windows && is_rising && is_falling)
+    Ok(has_unix_and_not_windows(&families) && Families::is_sorted(families.as_slice()))
+}
+
+fn is_sorted_with_wasm_first() -> bool {
+    Families::is_sorted(&[<Family<'_>>::wasm(), Family::unix()])
 }
 
 fn has_widths(alloc: Global) -> Result<bool, AllocError> {
@@ -30,12 +34,15 @@ fn has_widths(alloc: Global) -> Result<bool, AllocError> {
     Ok(widths.contains(HasAtomic::IntegerSize(8)) && !widths.contains(HasAtomic::IntegerSize(64)))
 }
 
-// Whether what reading answers is compared, a width is read, and what is none is refused.
-fn are_widths_read(alloc: Global) -> bool {
-    let no_width = HasAtomic::read(alloc, "");
+// A text is read alike twice, and no other text is.
+fn are_compared(alloc: Global) -> bool {
     HasAtomic::read(alloc, "x") == HasAtomic::read(alloc, "x")
         && HasAtomic::read(alloc, "x") != HasAtomic::read(alloc, "y")
-        && HasAtomic::read(alloc, "8") == Ok(HasAtomic::IntegerSize(8))
+}
+
+fn are_widths_read(alloc: Global) -> bool {
+    let no_width = HasAtomic::read(alloc, "");
+    HasAtomic::read(alloc, "8") == Ok(HasAtomic::IntegerSize(8))
         && matches!(no_width, Err(HasAtomicFailure::Parse(_)))
 }
 
@@ -46,10 +53,13 @@ fn is_made(alloc: Global) -> bool {
     }
 }
 
+fn is_linux(os: &Os<'_>) -> bool {
+    *os == Os::linux() && *os > Os::new_const("ios") && os.as_str() == "linux"
+}
+
 fn is_copied(alloc: Global) -> Result<bool, AllocError> {
     let os = Os::new(String::from_str(alloc, "linux")?);
-    let is_linux = os == Os::linux() && os > Os::new_const("ios") && os.as_str() == "linux";
-    Ok(is_linux && os.try_clone(alloc)? == os)
+    Ok(is_linux(&os) && os.try_clone(alloc)? == os)
 }
 
 #[test]
@@ -60,13 +70,11 @@ fn values_are_read_and_made(rt: HostRuntime) {
     assert!(rt; read_endian("big") == Some(Endian::big) && read_endian("Big").is_none());
     assert!(rt; read_has_atomic("ptr") == Some(HasAtomic::Pointer));
     assert!(rt; Endian::from_str("little") == Ok(Endian::little));
-    assert!(rt; are_widths_read(alloc));
-    assert!(rt; holds(has_families(alloc)));
-    assert!(rt; holds(has_widths(alloc)));
-    assert!(rt; holds(is_copied(alloc)));
+    assert!(rt; are_compared(alloc) && are_widths_read(alloc));
+    assert!(rt; holds(has_families(alloc)) && !is_sorted_with_wasm_first());
+    assert!(rt; holds(has_widths(alloc)) && holds(is_copied(alloc)));
     assert!(rt; strip("cfg(unix)") == "unix" && strip("unix") == "unix");
-    assert!(rt; Lexer::new(alloc, "cfg(unix)").original() == "unix");
-    assert!(rt; is_made(alloc));
+    assert!(rt; Lexer::new(alloc, "cfg(unix)").original() == "unix" && is_made(alloc));
 }
 
 // What only a proof has use for.

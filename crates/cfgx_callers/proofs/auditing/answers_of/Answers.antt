@@ -8,8 +8,8 @@ use Rattle.cfgx_callers.proofs.auditing.answers_of.Goals as goal
 pub loop-predicate-preserved : goal.loop-predicate-preserved
 loop-predicate-preserved g c =
     Answering-next (InLanes g.T.TargetMatcher.answer c.args.rows.now)
-    c.into_iter-predicate-iterator.result _ _ _ _ _ c.lanes_of.result c.in-Some.ensures.steps
-    c.in_ok-push.ensures.items c.lanes_of.ensures c.loop-predicate.invariant
+    c.into_iter-predicate-iterator.result _ _ _ _ _ c.taken_answer.result c.in-Some.ensures.steps
+    c.in_ok-push.ensures.items c.taken_answer.ensures c.loop-predicate.invariant
 
 pub returns : goal.returns
 returns g c =
