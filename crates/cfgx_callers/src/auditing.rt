@@ -2,19 +2,19 @@
 //! `eval_lanes` alone.
 ghost use Rattle.std.specs.Prelude.{◌≡◌, ◌++◌, ◌≤◌, length, map, IfOk};
 ghost use Rattle.std.specs.List.{AllZip};
-ghost use Rattle.cfgx_syntax.specs.Stripping.{strip};
-ghost use Rattle.cfgx_grammar.specs.Answer.{HasOneTree};
-ghost use Rattle.cfgx_grammar.specs.Grammar.{HasTree};
-ghost use Rattle.cfgx_grammar.specs.Question.{Question};
-ghost use Rattle.cfgx_grammar.specs.Tree.{Tree, asked};
-ghost use Rattle.cfgx_parser.specs.Predicate.{question_of};
+ghost use Rattle.cfg_expr.specs.Words.{HasOneTree, HasTree, Question, Tree, asked, strip};
+ghost use Rattle.cfg_expr.specs.Words.{question_of};
 ghost use Rattle.cfgx_callers.specs.Audits.{InLanes, first_lanes, verdict};
 
 use cfg_expr::error::Failure;
 use cfg_expr::expr::TargetMatcher;
 use cfg_expr::expr::logic::Kleene64;
+use cfg_expr::targets::{TargetInfo, TargetTable};
 use cfg_expr::{Expression, Predicate};
+use cfgx_testing::answers::answer_of;
+use cfgx_testing::rows::check_pairs;
 use std::alloc::{AllocError, Global};
+use std::test::Fail;
 
 /// What each row answers to a predicate: nothing is known of one that is not asked of targets.
 pub fn lanes_of<T: TargetMatcher>(predicate: &Predicate<'_>, rows: &[T]) -> Kleene64
@@ -52,12 +52,11 @@ pub fn answers_of<T: TargetMatcher>(
     Ok(answers)
 }
 
+/// A value for each row, of which some may be unknown.
+pub type Verdicts = Vec<Option<bool>>;
+
 /// Adds what stands in so many lanes.
-fn push_lanes(
-    value: Kleene64,
-    count: usize,
-    verdicts: &mut Vec<Option<bool>>,
-) -> Result<(), AllocError>
+fn push_lanes(value: Kleene64, count: usize, verdicts: &mut Verdicts) -> Result<(), AllocError>
     requires { count ≤ 64 }
     ensures { IfOk result (λ _. verdicts.new.items
         ≡ verdicts.old.items ++ first_lanes count value) }
@@ -73,7 +72,7 @@ fn push_verdicts<T: TargetMatcher>(
     alloc: Global,
     expression: &Expression,
     rows: &[T],
-    verdicts: &mut Vec<Option<bool>>,
+    verdicts: &mut Verdicts,
 ) -> Result<(), AllocError>
     requires { length rows.now ≤ 64 }
     ensures { IfOk result (λ _. (tree : Tree Question) → HasTree expression.now tree
@@ -89,7 +88,7 @@ fn verdicts_of<T: TargetMatcher>(
     alloc: Global,
     expression: &Expression,
     rows: &[T],
-) -> Result<Vec<Option<bool>>, AllocError>
+) -> Result<Verdicts, AllocError>
     ensures { IfOk result (λ verdicts. (tree : Tree Question) → HasTree expression.now tree
         → verdicts.items ≡ map (verdict T.answer tree) rows.now) }
 {
@@ -107,11 +106,7 @@ fn verdicts_of<T: TargetMatcher>(
 /// asks for what no target answers.
 ///
 /// The error is the fault of the text, or that `alloc` refused memory.
-pub fn audit<T: TargetMatcher>(
-    alloc: Global,
-    text: &str,
-    rows: &[T],
-) -> Result<Vec<Option<bool>>, Failure>
+pub fn audit<T: TargetMatcher>(alloc: Global, text: &str, rows: &[T]) -> Result<Verdicts, Failure>
     ensures { IfOk result (λ verdicts. (one : HasOneTree (strip text.now))
         × (verdicts.items ≡ map (verdict T.answer one.tree) rows.now)) }
 {
@@ -119,19 +114,9 @@ pub fn audit<T: TargetMatcher>(
     Ok(verdicts_of(alloc, &expression, rows)?)
 }
 
-#[cfg(test)]
-mod tests {
-    use super::audit;
-    use cfg_expr::error::Failure;
-    use cfg_expr::targets::{TargetInfo, TargetTable};
-    use cfgx_testing::holding::holds;
-    use cfgx_testing::rows::check_rows;
-    use std::alloc::{AllocError, Global};
-    use std::test::Fail;
-
-    // Texts, and whether they are true of the five targets that are built in, `?` for unknown:
-    // those of macOS, of iOS, of iOS with the ABIs `macabi` and `sim`, and of tvOS.
-    const AUDITED: &str = r#"
+// Texts, and whether they are true of the five targets that are built in, `?` for unknown: those of
+// macOS, of iOS, of iOS with the ABIs `macabi` and `sim`, and of tvOS.
+const AUDITED: &str = r#"
 target_abi = "sim" | 00010
 any(target_abi = "sim", target_os = "macos") | 10010
 not(any(target_os = "ios", target_os = "tvos")) | 10000
@@ -140,62 +125,48 @@ any(target_env = "macabi", all(unix, not(test))) | ??1??
 all() | 11111
 "#;
 
-    // So many rows: those of the five targets in turn.
-    fn rows_in_turn(alloc: Global, count: usize) -> Result<Vec<TargetInfo<'static>>, AllocError> {
-        let table = TargetTable::builtins(alloc)?;
-        let mut rows = Vec::new(alloc);
-        for row in table.rows().iter().cycle().take(count) {
-            rows.push(row.try_clone(alloc)?)?;
-        }
-        Ok(rows)
+// So many rows: those of the five targets in turn.
+fn rows_in_turn(alloc: Global, count: usize) -> Result<Vec<TargetInfo<'static>>, AllocError> {
+    let table = TargetTable::builtins(alloc)?;
+    let mut rows = Vec::new(alloc);
+    for row in table.rows().iter().cycle().take(count) {
+        rows.push(row.try_clone(alloc)?)?;
     }
+    Ok(rows)
+}
 
-    // Whether each verdict is that of its target.
-    fn are(verdicts: &[Option<bool>], digits: &str) -> bool {
-        for (number, verdict) in verdicts.iter().enumerate() {
-            let digit = match verdict {
-                Some(true) => b'1',
-                Some(false) => b'0',
-                None => b'?',
-            };
-            if digits.as_bytes().get(number % 5) != Some(&digit) {
-                return false;
-            }
-        }
-        true
-    }
-
-    fn is_audited(
-        alloc: Global,
-        text: &str,
-        rows: &[TargetInfo<'_>],
-        digits: &str,
-    ) -> Result<bool, Failure> {
-        let verdicts = audit(alloc, text, rows)?;
-        Ok(verdicts.len() == rows.len() && are(verdicts.as_slice(), digits))
-    }
-
-    fn is_right(alloc: Global, rows: &[TargetInfo<'_>], row: &[String]) -> bool {
-        match row {
-            [text, digits] => holds(is_audited(alloc, text.as_str(), rows, digits.as_str())),
-            _ => false,
+// Whether each verdict is that of its target.
+fn are(verdicts: &[Option<bool>], digits: &[u8]) -> bool {
+    for (number, verdict) in verdicts.iter().enumerate() {
+        let digit = digits.get(number % 5).copied();
+        if digit.map(answer_of) != Some(*verdict) {
+            return false;
         }
     }
+    true
+}
 
-    // Checks the verdicts of the texts on so many rows.
-    fn check_audited(alloc: Global, count: usize) -> Result<(), String> {
-        let Ok(rows) = rows_in_turn(alloc, count) else {
-            return Err(String::new(alloc));
-        };
-        let rows = rows.as_slice();
-        check_rows(alloc, AUDITED, 6, |row| is_right(alloc, rows, row))
+fn is_audited(alloc: Global, text: &str, rows: &[TargetInfo<'_>], digits: &str) -> bool {
+    match audit(alloc, text, rows) {
+        Ok(verdicts) => verdicts.len() == rows.len() && are(verdicts.as_slice(), digits.as_bytes()),
+        Err(_) => false,
     }
+}
 
-    #[test]
-    fn rows_are_audited_in_pieces(rt: HostRuntime) -> Result<(), String> {
-        for count in [0, 1, 64, 65, 130] {
-            check_audited(rt.alloc(), count)?;
-        }
-        Ok(())
+// Checks the verdicts of the texts on so many rows.
+fn check_audited(alloc: Global, count: usize) -> Result<(), Fail> {
+    let rows = rows_in_turn(alloc, count)?;
+    let rows = rows.as_slice();
+    check_pairs(alloc, AUDITED, 6, |text, digits| {
+        is_audited(alloc, text, rows, digits)
+    })?;
+    Ok(())
+}
+
+#[test]
+fn rows_are_audited_in_pieces(rt: HostRuntime) -> Result<(), Fail> {
+    for count in [0, 1, 64, 65, 130] {
+        check_audited(rt.alloc(), count)?;
     }
+    Ok(())
 }

@@ -1,7 +1,7 @@
 //! The examples of `README.md`, `docs/CALLING.md` and `docs/MANIFESTS.md`. Each block of Rust of
 //! these pages stands in one of these files as it is printed, and `.ci/examples` compares them.
-
 pub mod adapters;
+mod boards;
 pub mod closures;
 pub mod features;
 pub mod fillings;
@@ -17,7 +17,189 @@ pub mod rows;
 pub mod running;
 pub mod sections;
 pub mod streams;
-#[cfg(test)]
 mod surface;
 pub mod targets;
 pub mod unknown;
+
+use boards::{BARE, both_say, needs};
+use cfg_expr::error::Failure;
+use cfg_expr::targets::TargetTable;
+use cfg_expr::{Expression, Predicate};
+use cfgx_testing::holding::holds;
+use cfgx_testing::rows::check_threes;
+use cfgx_testing::triples::{IOS, SIM};
+use closures::{count_asked, if_all_true, with_features};
+use manifests::{PREDICATES, SECTIONS, VERDICTS};
+use names::is_linux;
+use std::alloc::{AllocError, Global};
+
+// Examples, or targets for the example with targets; texts, and what the answers print.
+const ANSWERS: &str = r#"
+// An owned text equals a borrowed one.
+names | linux | true
+names | Linux | false
+lexing | key = "v"\u{20} | 9
+features | all(feature = "a", any(feature = "b"), unix) | 2
+// A known answer may decide, and literals do.
+unknown | any(unix, not(test)) | Some(true)
+unknown | any(unix, test) | None
+literals | any(unix, true) | Some(true)
+literals | all(unix, not(true)) | Some(false)
+literals | all(unix, true) | None
+// A condition has a value on a target, and each row of a table its lane.
+aarch64-apple-ios | all(unix, not(target_abi = "sim")) | Some(true)
+aarch64-apple-ios-sim | all(unix, not(target_abi = "sim")) | Some(false)
+nowhere | all(unix, not(target_abi = "sim")) | None
+rows | not(unix) | (0, 3)
+// An unknown answer is filled both ways. Another number of answers is not filled.
+two fillings | any(a, not(a)) | Some(([false, true], [true, false]))
+one filling | any(a, not(a)) | None
+// Adapters, and closures of each kind.
+asks_for_tests | any(a, not(test)) | true
+asks_for_tests | any(a, tests) | false
+first_flag | all(a, not(b), test) | b
+if_all_true | all(feature = "a", not(test)) | false
+with_features | all(feature = "a", not(test)) | true
+count_asked | all(feature = "a", not(test)) | 2
+// Costs are joined, and a board meets its predicates.
+logic | all(a, not(test)) | 7
+logic | any(a, test) | 3
+logic | all() | 0
+matcher | target_os = "none" | true
+matcher | target_os = "linux" | false
+matcher | target_pointer_width = "16" | true
+matcher | target_pointer_width = "32" | false
+matcher | any(unix, target_arch = "avr", target_vendor = "none") | false
+matcher | all(target_os = "none", not(target_env = "none")) | true
+// Two boards say this of a section. They meet nothing else on the target, and nothing is known of
+// what is not on the target.
+sections | target_os = "none" | [Yes] [No]
+sections | not(target_os = "none") | [No] [Yes]
+sections | target_pointer_width = "64" | [No] [Yes]
+sections | all(target_os = "none", target_pointer_width = "16") | [Yes] [No]
+sections | unix | [No] [No]
+sections | not(any(windows, target_vendor = "unknown")) | [Yes] [Yes]
+sections | test | [Unknown] [Unknown]
+sections | not(debug_assertions) | [Unknown] [Unknown]
+sections | proc_macro | [Unknown] [Unknown]
+sections | flag | [Unknown] [Unknown]
+sections | key = "v" | [Unknown] [Unknown]
+sections | any(target_os = "linux", feature = "x") | [Unknown] [Yes]
+sections | all(target_os = "linux", feature = "x") | [No] [Unknown]
+sections | any(a, not(a)) | [Unknown] [Unknown]
+sections | true | [Yes] [Yes]
+sections | any(a, true) | [Yes] [Yes]
+sections | all(a, false) | [No] [No]
+sections | any() | [No] [No]
+// Boards may need these. They know nothing of families and vendors, and do not tell of flags.
+manifests | macos 64 | ["notify", "loom", "wide"]
+manifests | macos 32 | ["notify", "loom"]
+manifests | none 16 | ["loom"]
+"#;
+
+// Whether an example answers what its row says.
+type Answer = Result<bool, Failure>;
+
+// Whether the value prints this.
+fn shows<T: std::fmt::Debug>(alloc: Global, value: &T, text: &str) -> bool {
+    match format!(in alloc; "{value:?}") {
+        Ok(shown) => shown.as_str() == text,
+        Err(_) => false,
+    }
+}
+
+// What the condition costs if a test costs 7, and all else 3.
+fn cost_of(alloc: Global, expression: &Expression) -> Result<logic::Cost, AllocError> {
+    let mut cost = |predicate: &Predicate<'_>| match predicate {
+        Predicate::Test => logic::Cost(7),
+        _ => logic::Cost(3),
+    };
+    expression.eval(alloc, &mut cost)
+}
+
+// The value on a board of 16 bits without an operating system. Only the target answers.
+fn value_on_board(alloc: Global, expression: &Expression) -> Result<bool, AllocError> {
+    let mut answer = |predicate: &Predicate<'_>| match predicate {
+        Predicate::Target(target) => target.matches(&BARE),
+        _ => false,
+    };
+    expression.eval(alloc, &mut answer)
+}
+
+// Whether the masks of the lanes of two targets, the true ones and the false ones, print this.
+fn has_masks(alloc: Global, text: &str, masks: &str) -> Answer {
+    let table = TargetTable::builtins(alloc)?;
+    match rows::on_rows(alloc, text, &table.rows()[..2])? {
+        Some(lanes) => Ok(shows(alloc, &(lanes.is_true(), lanes.is_false()), masks)),
+        None => Ok(false),
+    }
+}
+
+fn is_first_flag(expression: &Expression, name: &str) -> bool {
+    matches!(&adapters::first_flag(expression), Some(Predicate::Flag(flag)) if *flag == name)
+}
+
+// Whether an example that takes an expression answers this.
+fn is_answer_of(alloc: Global, example: &str, expression: &Expression, told: &str) -> Answer {
+    Ok(match example {
+        "asks_for_tests" => shows(alloc, &adapters::asks_for_tests(expression), told),
+        "first_flag" => is_first_flag(expression, told),
+        "if_all_true" => shows(alloc, &if_all_true(alloc, expression)?, told),
+        "with_features" => shows(alloc, &with_features(alloc, expression, &["b", "a"])?, told),
+        "count_asked" => shows(alloc, &count_asked(alloc, expression)?, told),
+        "logic" => shows(alloc, &cost_of(alloc, expression)?.0, told),
+        "matcher" => shows(alloc, &value_on_board(alloc, expression)?, told),
+        _ => false,
+    })
+}
+
+// Whether an example answers this. Those that are not named take an expression.
+fn is_answer(alloc: Global, example: &str, text: &str, told: &str) -> Answer {
+    Ok(match example {
+        "names" => shows(alloc, &is_linux(String::from_str(alloc, text)?), told),
+        "lexing" => shows(alloc, &lexing::end_of_tokens(alloc, text)?, told),
+        "features" => shows(alloc, &features::features(alloc, text)?, told),
+        "unknown" => shows(alloc, &unknown::outside_tests(alloc, text)?, told),
+        "literals" => shows(alloc, &literals::decided(alloc, text)?, told),
+        "two fillings" => shows(alloc, &fillings::fillings(alloc, text, &[None; 2])?, told),
+        "one filling" => shows(alloc, &fillings::fillings(alloc, text, &[None])?, told),
+        "rows" => has_masks(alloc, text, told)?,
+        "sections" => both_say(alloc, text, told)?,
+        "manifests" => needs(alloc, text, told)?,
+        IOS | SIM | "nowhere" => shows(alloc, &targets::value_on(alloc, text, example)?, told),
+        _ => is_answer_of(alloc, example, &Expression::parse(alloc, text)?, told)?,
+    })
+}
+
+#[test]
+fn examples_answer(rt: HostRuntime) -> Result<(), String> {
+    check_threes(rt.alloc(), ANSWERS, 51, |example, text, told| {
+        holds(is_answer(rt.alloc(), example, text, told))
+    })
+}
+
+#[test]
+fn examples_print(rt: HostRuntime) {
+    assert!(rt; refusals::report(&rt, "all(a, b").is_ok());
+    assert!(rt; running::run_parse(&rt, "all(a, any(b), c)") == 0);
+}
+
+// Whether a run over this input reads it all, ends with status 0 and writes this.
+fn is_written(alloc: Global, words: &[&str], input: &str, written: &str) -> bool {
+    let left = input.as_bytes();
+    let mut source = streams::Left { left };
+    let bytes = Vec::new(alloc);
+    let mut sink = streams::Kept { bytes, failures: 0 };
+    let status = cfgx_engine::engine::run(alloc, words, &mut source, &mut sink);
+    sink.bytes.as_slice() == written.as_bytes() && status == 0 && source.left.is_empty()
+}
+
+// The streams of one's own, with what the pages show of runs.
+#[test]
+fn the_program_runs_over_streams(rt: HostRuntime) {
+    let alloc = rt.alloc();
+    let objc2 = "cfg(all(target_vendor = \"apple\", not(loom)))";
+    assert!(rt; is_written(alloc, &["parse", "all(a, any(b), c)"], "", "b\na\nc\n"));
+    assert!(rt; is_written(alloc, &["parse", objc2], "", PREDICATES));
+    assert!(rt; is_written(alloc, &["pick", SIM], SECTIONS, VERDICTS));
+}

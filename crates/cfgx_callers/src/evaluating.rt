@@ -1,15 +1,18 @@
 //! Callers of `Expression::eval`, each proved by its contract alone.
 ghost use Rattle.std.specs.Prelude.{◌≡◌, ◌+◌, ◌^◌, ◌*◌, ◌%◌, ◌-◌, length, min, IfOk};
-ghost use Rattle.cfgx_grammar.specs.Answer.{HasOneTree};
-ghost use Rattle.cfgx_parser.specs.Predicate.{question_of};
-ghost use Rattle.cfgx_grammar.specs.Tree.{asked};
 ghost use Rattle.cfg_expr.specs.Evaluation.{IsValueBy};
+ghost use Rattle.cfg_expr.specs.Words.{HasOneTree, asked, question_of};
 ghost use Rattle.cfgx_callers.specs.Callers.{is_among, term_of};
 
 pub mod terms;
 
+use cfg_expr::error::Failure;
 use cfg_expr::expr::Logic;
 use cfg_expr::{Expression, Predicate};
+use cfgx_testing::answers::value_with;
+use cfgx_testing::holding::{gives, holds};
+use cfgx_testing::rows::check_threes;
+use cfgx_testing::words::check_texts;
 use std::alloc::{AllocError, Global};
 use terms::Terms;
 
@@ -32,10 +35,8 @@ pub fn value_with_flags(
     ensures { IfOk result
         (IsValueBy ⟦<bool as Logic>⟧ expression.now (is_among flags.now)) }
 {
-    expression.eval(
-        alloc,
-        &mut |predicate: &Predicate<'_>| is_among(flags, predicate),
-    )
+    let mut answer = |predicate: &Predicate<'_>| is_among(flags, predicate);
+    expression.eval(alloc, &mut answer)
 }
 
 /// The term of a predicate: its name if it is a bare key of no other meaning, and else `?`.
@@ -110,139 +111,88 @@ impl Logic for Lawless {
     }
 }
 
-#[cfg(test)]
-mod tests {
-    use super::{Lawless, questions_of, terms_of, value_with_flags};
-    use crate::evaluating::terms::Terms;
-    use cfg_expr::error::Failure;
-    use cfg_expr::{Expression, Predicate};
-    use cfgx_testing::holding::{gives, holds};
-    use cfgx_testing::rows::check_rows;
-    use cfgx_testing::texts::nested;
-    use std::alloc::{AllocError, Global};
-    use std::test::Fail;
-
-    // Texts, two flags that are set, and the values.
-    const BY_FLAGS: &str = r#"
-all(a, not(test)) | a | \e | true
-all(a, not(test)) | test | \e | false
-any(a, b) | c | b | true
-any(a, feature = "b") | b | feature | false
-all(a, b) | a | \e | false
+// Texts, flags that are set, and the values.
+const BY_FLAGS: &str = r#"
+all(a, not(test)) | a | true
+all(a, not(test)) | test | false
+any(a, b) | c b | true
+any(a, feature = "b") | b feature | false
+all(a, b) | a | false
 "#;
 
-    // The value of the text with these flags.
-    fn value_by(alloc: Global, text: &str, flags: &[&str]) -> Result<bool, Failure> {
-        let expression = Expression::parse(alloc, text)?;
-        Ok(value_with_flags(alloc, &expression, flags)?)
-    }
+// The value of the text with these flags, two at most.
+fn value_by(alloc: Global, text: &str, flags: &str) -> Result<bool, Failure> {
+    let (one, other) = flags.split_once(' ').unwrap_or((flags, ""));
+    let expression = Expression::parse(alloc, text)?;
+    Ok(value_with_flags(alloc, &expression, &[one, other])?)
+}
 
-    fn has_value(alloc: Global, row: &[String]) -> bool {
-        let [text, one, other, value] = row else {
-            return false;
-        };
-        let value_is = value_by(alloc, text.as_str(), &[one.as_str(), other.as_str()]);
-        holds(gives(value_is, &(value.as_str() == "true")))
-    }
+#[test]
+fn values_by_a_list_of_flags(rt: HostRuntime) -> Result<(), String> {
+    check_threes(rt.alloc(), BY_FLAGS, 5, |text, flags, value| {
+        holds(gives(value_by(rt.alloc(), text, flags), &(value == "true")))
+    })
+}
 
-    #[test]
-    fn values_by_a_list_of_flags(rt: HostRuntime) -> Result<(), String> {
-        check_rows(rt.alloc(), BY_FLAGS, 5, |row| has_value(rt.alloc(), row))
-    }
-
-    // Texts, the terms that join their predicates, and how many questions are asked. The last
-    // member that is asked is joined first.
-    const TERMS: &str = r#"
-all(a, any(b), c) | (((T&c)&a)&(F|b)) | 3
-not(any(x)) | !(F|x) | 1
-any(a, all(b, not(c)), d) | (((F|d)|a)|((T&b)&!c)) | 4
-all(test) | (T&?) | 1
-true | T | 0
-not(false) | !F | 0
-all(a, true, any(b), false) | ((((T&F)&T)&a)&(F|b)) | 2
-any(true, not(a), false) | (((F|F)|T)|!a) | 1
-a | a | 1
-any(a, a, a) | (((F|a)|a)|a) | 3
-all() | T | 0
+// Texts, how many questions are asked, and the terms that join the predicates, by their names and
+// by the numbers of their calls. The last member that is asked is joined first.
+const TERMS: &str = r#"
+all(a, any(b), c) | 3 | (((T&c)&a)&(F|b)) | (((T&3)&2)&(F|1))
+not(any(x)) | 1 | !(F|x) | !(F|1)
+any(a, all(b, not(c)), d) | 4 | (((F|d)|a)|((T&b)&!c)) | (((F|4)|3)|((T&2)&!1))
+all(test) | 1 | (T&?) | (T&1)
+true | 0 | T | T
+not(false) | 0 | !F | !F
+all(a, true, any(b), false) | 2 | ((((T&F)&T)&a)&(F|b)) | ((((T&F)&T)&2)&(F|1))
+any(true, not(a), false) | 1 | (((F|F)|T)|!a) | (((F|F)|T)|!1)
+a | 1 | a | 1
+any(a, a, a) | 3 | (((F|a)|a)|a) | (((F|3)|2)|1)
+all() | 0 | T | T
+// What follows 64 bytes is cut off.
+~not(~100~a~)~100~ | 1 | ~!~64~ | ~!~64~
 "#;
 
-    // Whether the expression has these terms and this number of questions.
-    fn is_joined_so(
-        alloc: Global,
-        expression: &Expression,
-        terms: &str,
-        questions: Option<usize>,
-    ) -> Result<bool, AllocError> {
-        let count = questions_of(alloc, expression)?;
-        let joined = terms_of(alloc, expression)?;
-        Ok(joined.as_bytes() == terms.as_bytes() && questions == Some(count))
-    }
+// The terms of the calls' numbers.
+fn numbers_of(alloc: Global, expression: &Expression) -> Result<Terms, AllocError> {
+    let mut call = b'0';
+    let mut answer = |_predicate: &Predicate<'_>| {
+        call = call.saturating_add(1);
+        Terms::new(&[call])
+    };
+    expression.eval(alloc, &mut answer)
+}
 
-    fn has_terms(
-        alloc: Global,
-        text: &str,
-        terms: &str,
-        questions: Option<usize>,
-    ) -> Result<bool, Failure> {
-        let expression = Expression::parse(alloc, text)?;
-        Ok(is_joined_so(alloc, &expression, terms, questions)?)
-    }
+// Whether the text has what the row says.
+fn has_terms(alloc: Global, row: &[String]) -> Result<bool, Failure> {
+    let [text, questions, names, calls] = row else {
+        return Ok(false);
+    };
+    let expression = Expression::parse(alloc, text.as_str())?;
+    let count = questions_of(alloc, &expression)?;
+    let is_named = terms_of(alloc, &expression)?.as_bytes() == names.as_bytes();
+    let is_numbered = numbers_of(alloc, &expression)?.as_bytes() == calls.as_bytes();
+    Ok(questions.parse() == Ok(count) && is_named && is_numbered)
+}
 
-    fn is_joined(alloc: Global, row: &[String]) -> bool {
-        let [text, terms, questions] = row else {
-            return false;
-        };
-        let questions = questions.parse().ok();
-        holds(has_terms(alloc, text.as_str(), terms.as_str(), questions))
-    }
+#[test]
+fn terms_are_written_and_questions_counted(rt: HostRuntime) -> Result<(), String> {
+    let alloc = rt.alloc();
+    check_texts(alloc, TERMS, 12, |row| holds(has_terms(alloc, row)))
+}
 
-    #[test]
-    fn terms_are_written_and_questions_counted(rt: HostRuntime) -> Result<(), String> {
-        check_rows(rt.alloc(), TERMS, 11, |row| is_joined(rt.alloc(), row))
-    }
+// The value over these answers, one after another, and how many questions are asked.
+fn value_of(alloc: Global, text: &str, answers: &[Lawless]) -> Option<(Lawless, usize)> {
+    let expression = Expression::parse(alloc, text).ok()?;
+    let value = value_with(alloc, &expression, answers, Lawless(0)).ok()?;
+    Some((value, questions_of(alloc, &expression).ok()?))
+}
 
-    const SIXTY_FOUR: &str = "!!!!!!!!!!!!!!!!!!!!!!!!!!!!!!!!!!!!!!!!!!!!!!!!!!!!!!!!!!!!!!!!";
-
-    #[test]
-    fn what_follows_64_bytes_is_cut_off(rt: HostRuntime) -> Result<(), Fail> {
-        let deep = nested(rt.alloc(), "not(", 100, "a")?;
-        assert!(rt; has_terms(rt.alloc(), deep.as_str(), SIXTY_FOUR, Some(1))?);
-        Ok(())
-    }
-
-    // `any(b)` is `bottom`, which is 2; then 3 * 1 + 30 = 33, 3 * 33 + 10 = 109, 3 * 109 + 2 = 329.
-    #[test]
-    fn the_last_member_is_joined_first(rt: HostRuntime) -> Result<(), Fail> {
-        let expression = Expression::parse(rt.alloc(), "all(a, any(b), c)")?;
-        let mut answer = |predicate: &Predicate<'_>| match predicate {
-            Predicate::Flag("a") => Lawless(10),
-            Predicate::Flag("b") => Lawless(20),
-            _ => Lawless(30),
-        };
-        assert_eq!(rt; expression.eval(rt.alloc(), &mut answer)?, Lawless(329));
-        Ok(())
-    }
-
-    // The name of a flag and the number of the call.
-    fn numbered(predicate: &Predicate<'_>, call: u8) -> Terms {
-        let digit = b'0'.saturating_add(call);
-        match predicate {
-            Predicate::Flag("a") => Terms::new(&[b'a', digit]),
-            Predicate::Flag("b") => Terms::new(&[b'b', digit]),
-            _ => Terms::new(&[b'c', digit]),
-        }
-    }
-
-    #[test]
-    fn calls_come_in_order(rt: HostRuntime) -> Result<(), Fail> {
-        let expression = Expression::parse(rt.alloc(), "all(a, any(b), c)")?;
-        let mut calls = 0u8;
-        let mut answer = |predicate: &Predicate<'_>| {
-            calls = calls.saturating_add(1);
-            numbered(predicate, calls)
-        };
-        let terms: Terms = expression.eval(rt.alloc(), &mut answer)?;
-        assert!(rt; terms.as_bytes() == b"(((T&c3)&a2)&(F|b1))".as_slice() && calls == 3);
-        Ok(())
-    }
+// `any(b)` is `bottom`, which is 2; then 3 * 1 + 30 = 33, 3 * 33 + 10 = 109, 3 * 109 + 2 = 329. Of
+// two members, 3 * 1 + 7 = 10 and 3 * 10 + 5 = 35.
+#[test]
+fn the_last_member_is_joined_first(rt: HostRuntime) {
+    let answers = [Lawless(20), Lawless(10), Lawless(30)];
+    assert!(rt; value_of(rt.alloc(), "all(a, any(b), c)", &answers) == Some((Lawless(329), 3)));
+    let answers = [Lawless(5), Lawless(7)];
+    assert!(rt; value_of(rt.alloc(), "all(a, b)", &answers) == Some((Lawless(35), 2)));
 }

@@ -1,16 +1,16 @@
 //! A planner over answers that may be unknown, proved by the contracts of `Expression` alone.
 ghost use Rattle.std.specs.Prelude.{◌≡◌, length, IfOk};
 ghost use Rattle.cfgx_grammar.specs.Given.{AreAnswersTo};
-ghost use Rattle.cfgx_grammar.specs.Answer.{HasOneTree};
-ghost use Rattle.cfgx_grammar.specs.Fold.{fold};
-ghost use Rattle.cfgx_grammar.specs.Grammar.{HasTree};
-ghost use Rattle.cfgx_grammar.specs.Question.{Question};
-ghost use Rattle.cfgx_grammar.specs.Tree.{Tree, asked};
+ghost use Rattle.cfg_expr.specs.Words.{HasOneTree, fold};
 ghost use Rattle.cfgx_callers.specs.Decisions.{IsSound};
 
 use crate::decision::Decision;
+use cfg_expr::error::Failure;
 use cfg_expr::expr::Logic;
 use cfg_expr::{Expression, Predicate};
+use cfgx_testing::fillings::{FILLINGS, ROWS, answers_of, are_told};
+use cfgx_testing::holding::holds;
+use cfgx_testing::rows::check_threes;
 use std::alloc::{AllocError, Global};
 
 /// The value of the condition over the answers, one for each predicate.
@@ -53,52 +53,30 @@ pub fn plan(
     }
 }
 
-#[cfg(test)]
-mod tests {
-    use super::plan;
-    use crate::decision::Decision;
-    use cfg_expr::Expression;
-    use cfg_expr::error::Failure;
-    use cfgx_testing::fillings::{FILLINGS, ROWS, answers_of, are_told};
-    use cfgx_testing::holding::holds;
-    use cfgx_testing::rows::check_threes;
-    use std::alloc::{AllocError, Global};
-
-    // Whether the text says what the plan is.
-    fn is_told(decision: &Decision, told: &str) -> bool {
-        match decision {
-            Decision::Act(true) => told == "true",
-            Decision::Act(false) => told == "false",
-            Decision::Postpone {
-                with_true,
-                with_false,
-            } => are_told(with_true.as_slice(), with_false.as_slice(), told),
-        }
+// Whether the text says what the plan is.
+fn is_told(decision: &Decision, told: &str) -> bool {
+    match decision {
+        Decision::Act(value) => told == if *value { "true" } else { "false" },
+        Decision::Postpone {
+            with_true,
+            with_false,
+        } => are_told(with_true.as_slice(), with_false.as_slice(), told),
     }
+}
 
-    // Whether this is the plan over these answers, of which there are as many as predicates.
-    fn is_plan(
-        alloc: Global,
-        expression: &Expression,
-        answers: &[Option<bool>],
-        told: &str,
-    ) -> Result<bool, AllocError> {
-        if expression.predicates().left() != answers.len() {
-            return Ok(false);
-        }
-        Ok(is_told(&plan(alloc, expression, answers)?, told))
+// Whether this is the plan over these answers, of which there are as many as predicates.
+fn is_planned(alloc: Global, text: &str, answers: &str, told: &str) -> Result<bool, Failure> {
+    let expression = Expression::parse(alloc, text)?;
+    let answers = answers_of(alloc, answers)?;
+    if expression.predicates().left() != answers.len() {
+        return Ok(false);
     }
+    Ok(is_told(&plan(alloc, &expression, answers.as_slice())?, told))
+}
 
-    fn is_planned(alloc: Global, text: &str, answers: &str, told: &str) -> Result<bool, Failure> {
-        let expression = Expression::parse(alloc, text)?;
-        let answers = answers_of(alloc, answers)?;
-        Ok(is_plan(alloc, &expression, answers.as_slice(), told)?)
-    }
-
-    #[test]
-    fn plans_act_or_postpone(rt: HostRuntime) -> Result<(), String> {
-        check_threes(rt.alloc(), FILLINGS, ROWS, |text, answers, told| {
-            holds(is_planned(rt.alloc(), text, answers, told))
-        })
-    }
+#[test]
+fn plans_act_or_postpone(rt: HostRuntime) -> Result<(), String> {
+    check_threes(rt.alloc(), FILLINGS, ROWS, |text, answers, told| {
+        holds(is_planned(rt.alloc(), text, answers, told))
+    })
 }

@@ -8,6 +8,7 @@ use cfg_expr::error::Failure;
 use cfg_expr::expr::spell;
 use cfg_expr::{Expression, Predicate};
 use std::alloc::Global;
+use std::test::Fail;
 
 /// The expression of a text that asks one predicate alone. It is never refused for a fault.
 fn read_alone(alloc: Global, predicate: &Predicate<'_>, text: &str) -> Result<Expression, Failure>
@@ -34,44 +35,27 @@ pub fn read_again(alloc: Global, predicate: &Predicate<'_>) -> Option<Result<Exp
     Some(read_alone(alloc, predicate, text))
 }
 
-#[cfg(test)]
-mod tests {
-    use super::read_again;
-    use cfg_expr::error::Failure;
-    use cfg_expr::{Expression, Predicate};
-    use std::alloc::Global;
-    use std::test::Fail;
-
-    // Whether the expression is this text, which asks one predicate.
-    fn is_alone(again: Result<Expression, Failure>, text: &str) -> bool {
-        match again {
-            Ok(again) => again.original() == text && again.predicates().left() == 1,
-            Err(_) => false,
-        }
+// Whether the predicate is spelled, and its spelling is this text, which asks one predicate.
+fn is_read_as(alloc: Global, predicate: &Predicate<'_>, text: &str) -> bool
+    requires { IsRegular (question_of predicate.now) }
+{
+    match read_again(alloc, predicate) {
+        Some(Ok(again)) => again.original() == text && again.predicates().left() == 1,
+        _ => false,
     }
+}
 
-    // Whether the predicate is spelled, and its spelling is this text, which asks one predicate.
-    fn is_read_as(alloc: Global, predicate: &Predicate<'_>, text: &str) -> bool
-        requires { IsRegular (question_of predicate.now) }
-    {
-        match read_again(alloc, predicate) {
-            Some(again) => is_alone(again, text),
-            None => false,
-        }
+// Whether this holds of the first predicate of the expression.
+fn is_first_read_as(alloc: Global, expression: &Expression, text: &str) -> bool {
+    match expression.predicates().next() {
+        Some(predicate) => is_read_as(alloc, &predicate, text),
+        None => false,
     }
+}
 
-    // Whether this holds of the first predicate of the expression.
-    fn is_first_read_as(alloc: Global, expression: &Expression, text: &str) -> bool {
-        match expression.predicates().next() {
-            Some(predicate) => is_read_as(alloc, &predicate, text),
-            None => false,
-        }
-    }
-
-    #[test]
-    fn a_spelling_asks_its_predicate(rt: HostRuntime) -> Result<(), Fail> {
-        let expression = Expression::parse(rt.alloc(), "all(panic = \"abort\", unix)")?;
-        assert!(rt; is_first_read_as(rt.alloc(), &expression, "panic = \"abort\""));
-        Ok(())
-    }
+#[test]
+fn a_spelling_asks_its_predicate(rt: HostRuntime) -> Result<(), Fail> {
+    let expression = Expression::parse(rt.alloc(), "all(panic = \"abort\", unix)")?;
+    assert!(rt; is_first_read_as(rt.alloc(), &expression, "panic = \"abort\""));
+    Ok(())
 }

@@ -1,5 +1,4 @@
 //! What follows of the value, and closures of each kind.
-
 ghost use Rattle.std.specs.Prelude.{IfOk, true};
 ghost use Rattle.cfg_expr.specs.Evaluation.{IsValueBy};
 
@@ -40,28 +39,4 @@ pub fn count_asked(alloc: Global, expression: &Expression) -> Result<usize, Allo
         },
     )?;
     Ok(count)
-}
-
-#[cfg(test)]
-mod tests {
-    use super::{count_asked, if_all_true, with_features};
-    use cfg_expr::Expression;
-    use std::alloc::{AllocError, Global};
-    use std::test::Fail;
-
-    // Whether each closure answers what it is to answer of `all(feature = "a", not(test))`.
-    fn are_asked(alloc: Global, expression: &Expression) -> Result<bool, AllocError> {
-        Ok(
-            !if_all_true(alloc, expression)?
-                && with_features(alloc, expression, &["b", "a"])?
-                && count_asked(alloc, expression)? == 2,
-        )
-    }
-
-    #[test]
-    fn closures_of_each_kind_are_asked(rt: HostRuntime) -> Result<(), Fail> {
-        let expression = Expression::parse(rt.alloc(), "all(feature = \"a\", not(test))")?;
-        assert!(rt; are_asked(rt.alloc(), &expression)?);
-        Ok(())
-    }
 }

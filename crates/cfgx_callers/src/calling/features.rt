@@ -1,5 +1,4 @@
 //! Going over the predicates.
-
 use cfg_expr::error::Failure;
 use cfg_expr::{Expression, Predicate};
 use std::alloc::Global;
@@ -14,10 +13,4 @@ pub fn features(alloc: Global, text: &str) -> Result<usize, Failure> {
         }
     }
     Ok(found)
-}
-
-#[test]
-fn features_are_counted(rt: HostRuntime) {
-    let text = "all(feature = \"a\", any(feature = \"b\"), unix)";
-    assert!(rt; features(rt.alloc(), text).ok() == Some(2));
 }

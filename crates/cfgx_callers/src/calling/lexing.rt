@@ -1,5 +1,4 @@
 //! The tokens of a text.
-
 use cfg_expr::error::Failure;
 use cfg_expr::expr::lexer::{Lexer, LexerToken};
 use std::alloc::Global;
@@ -13,9 +12,4 @@ pub fn end_of_tokens(alloc: Global, text: &str) -> Result<usize, Failure> {
         end = span.end;
     }
     Ok(end)
-}
-
-#[test]
-fn tokens_have_ends(rt: HostRuntime) {
-    assert!(rt; end_of_tokens(rt.alloc(), "key = \"v\" ").ok() == Some(9));
 }

@@ -1,5 +1,4 @@
 //! A logic of one's own.
-
 use cfg_expr::expr::Logic;
 
 /// What a condition costs at most: `all` takes the most of its members, and `any` the least.
@@ -41,40 +40,5 @@ impl Logic for Cost {
 
     fn not(self) -> Cost {
         self
-    }
-}
-
-#[cfg(test)]
-mod tests {
-    use super::Cost;
-    use cfg_expr::error::Failure;
-    use cfg_expr::{Expression, Predicate};
-    use std::alloc::Global;
-
-    // What the condition costs if a test costs 7, and all else 3.
-    fn cost_of(alloc: Global, text: &str) -> Result<Cost, Failure> {
-        let expression = Expression::parse(alloc, text)?;
-        Ok(expression.eval(
-            alloc,
-            &mut |predicate: &Predicate<'_>| match predicate {
-                Predicate::Test => Cost(7),
-                _ => Cost(3),
-            },
-        )?)
-    }
-
-    // Whether it costs so much.
-    fn costs(alloc: Global, text: &str, wanted: u64) -> bool {
-        match cost_of(alloc, text) {
-            Ok(cost) => cost.0 == wanted,
-            Err(_) => false,
-        }
-    }
-
-    #[test]
-    fn costs_are_joined(rt: HostRuntime) {
-        assert!(rt; costs(rt.alloc(), "all(a, not(test))", 7));
-        assert!(rt; costs(rt.alloc(), "any(a, test)", 3));
-        assert!(rt; costs(rt.alloc(), "all()", 0));
     }
 }

@@ -1,5 +1,4 @@
 //! A whole program.
-
 use cfg_expr::error::Failure;
 use cfg_expr::expr::Predicates;
 use cfg_expr::{Expression, Predicate};

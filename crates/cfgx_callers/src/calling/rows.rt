@@ -1,5 +1,4 @@
 //! A condition over many targets at once.
-
 use cfg_expr::error::Failure;
 use cfg_expr::expr::logic::Kleene64;
 use cfg_expr::targets::TargetInfo;
@@ -39,23 +38,5 @@ fn lanes(predicate: Predicate<'_>, rows: &[TargetInfo]) -> Kleene64 {
     match &predicate {
         Predicate::Target(target) if rows.len() <= 64 => target.lanes(rows),
         _ => Kleene64::new(0, 0),
-    }
-}
-
-#[cfg(test)]
-mod tests {
-    use super::on_rows;
-    use cfg_expr::targets::TargetTable;
-    use std::test::Fail;
-
-    #[test]
-    fn each_row_has_its_lane(rt: HostRuntime) -> Result<(), Fail> {
-        let table = TargetTable::builtins(rt.alloc())?;
-        let rows = table.rows();
-        let Some(value) = on_rows(rt.alloc(), "not(unix)", &rows[..2])? else {
-            return Err(Fail::from("too many rows"));
-        };
-        assert!(rt; value.is_true() == 0b00 && value.is_false() == 0b11);
-        Ok(())
     }
 }

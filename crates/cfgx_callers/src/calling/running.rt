@@ -1,5 +1,4 @@
 //! The program's engine over the streams of the process.
-
 use cfgx_engine::engine::{Counted, run};
 
 /// Runs `parse` and answers its status.
@@ -7,9 +6,4 @@ pub fn run_parse(rt: &HostRuntime, text: &str) -> u8 {
     let mut reader = Counted::new(rt.stdin());
     let mut writer = Counted::new(rt.stdout());
     run(rt.alloc(), &["parse", text], &mut reader, &mut writer)
-}
-
-#[test]
-fn the_engine_runs(rt: HostRuntime) {
-    assert!(rt; run_parse(&rt, "all(a, any(b), c)") == 0);
 }

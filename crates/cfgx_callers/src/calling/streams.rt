@@ -1,5 +1,4 @@
 //! Streams of one's own.
-
 ghost use Rattle.std.specs.Prelude.{Some};
 
 use cfgx_engine::engine::{Sink, Source};
@@ -51,23 +50,5 @@ impl Sink for Kept {
 
     fn flush(&mut self) -> io::Result<()> {
         Ok(())
-    }
-}
-
-#[cfg(test)]
-mod tests {
-    use super::{Kept, Left};
-    use cfgx_engine::engine::run;
-
-    #[test]
-    fn the_program_runs_over_them(rt: HostRuntime) {
-        let mut source = Left { left: &[] };
-        let mut sink = Kept {
-            bytes: Vec::new(rt.alloc()),
-            failures: 0,
-        };
-        let words = ["parse", "all(a, any(b), c)"];
-        assert!(rt; run(rt.alloc(), &words, &mut source, &mut sink) == 0);
-        assert!(rt; sink.bytes.as_slice() == b"b\na\nc\n".as_slice());
     }
 }

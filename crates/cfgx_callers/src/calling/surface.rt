@@ -1,6 +1,5 @@
 //! Calls as one writes them in Rust, without a type that Rust would not ask for: those that stand
 //! in no example of the pages.
-
 use super::streams::Kept;
 use cfg_expr::error::{Failure, Reason};
 use cfg_expr::expr::Logic;
@@ -13,72 +12,38 @@ use cfgx_engine::engine::laws::has_one_output;
 use cfgx_engine::engine::streams::write_whole;
 use cfgx_syntax::stripping::strip;
 use cfgx_targets::reading::{read_endian, read_has_atomic, read_u8, read_u16};
-use cfgx_testing::holding::{all_hold, holds};
+use cfgx_testing::holding::holds;
 use std::alloc::{AllocError, Global};
 use std::str::FromStr;
-use std::test::Fail;
 
 fn has_unix_and_not_windows(families: &Families<'_>) -> bool {
     families.contains(&Family::unix()) && !families.contains(&Family::new_const("windows"))
+}
+
+fn has_families(alloc: Global) -> Result<bool, AllocError> {
+    let families = Families::unix_wasm(alloc)?;
+    Ok(has_unix_and_not_windows(&families) && Families::is_sorted(families.as_slice()))
 }
 
 fn is_sorted_with_wasm_first() -> bool {
     Families::is_sorted(&[<Family<'_>>::wasm(), Family::unix()])
 }
 
-#[test]
-fn families_are_asked_for_members(rt: HostRuntime) -> Result<(), Fail> {
-    let families = Families::unix_wasm(rt.alloc())?;
-    assert!(rt; has_unix_and_not_windows(&families));
-    assert!(rt; Families::is_sorted(families.as_slice()));
-    assert!(rt; !is_sorted_with_wasm_first());
-    Ok(())
+fn has_widths(alloc: Global) -> Result<bool, AllocError> {
+    let widths = HasAtomics::atomic_8_16_32_ptr(alloc)?;
+    Ok(widths.contains(HasAtomic::IntegerSize(8)) && !widths.contains(HasAtomic::IntegerSize(64)))
 }
 
-#[test]
-fn widths_are_asked_for_members(rt: HostRuntime) -> Result<(), Fail> {
-    let widths = HasAtomics::atomic_8_16_32_ptr(rt.alloc())?;
-    assert!(rt; widths.contains(HasAtomic::IntegerSize(8)));
-    assert!(rt; !widths.contains(HasAtomic::IntegerSize(64)));
-    Ok(())
+// A text is read alike twice, and no other text is.
+fn are_compared(alloc: Global) -> bool {
+    HasAtomic::read(alloc, "x") == HasAtomic::read(alloc, "x")
+        && HasAtomic::read(alloc, "x") != HasAtomic::read(alloc, "y")
 }
 
-#[test]
-fn values_are_read(rt: HostRuntime) -> Result<(), &'static str> {
-    let alloc = rt.alloc();
-    all_hold(&[
-        ("+255", read_u8("+255") == Some(255)),
-        ("256", read_u8("256").is_none()),
-        ("65535", read_u16("65535") == Some(65_535)),
-        ("65536", read_u16("65536").is_none()),
-        ("big", read_endian("big") == Some(Endian::big)),
-        ("Big", read_endian("Big").is_none()),
-        ("ptr", read_has_atomic("ptr") == Some(HasAtomic::Pointer)),
-        ("little", Endian::from_str("little") == Ok(Endian::little)),
-        ("x and x", are_read_alike(alloc, "x", "x")),
-        ("x and y", are_read_apart(alloc, "x", "y")),
-        ("8", is_eight(alloc, "8")),
-        ("no width", is_no_width(alloc, "")),
-    ])
-}
-
-fn are_read_alike(alloc: Global, one: &str, other: &str) -> bool {
-    HasAtomic::read(alloc, one) == HasAtomic::read(alloc, other)
-}
-
-fn are_read_apart(alloc: Global, one: &str, other: &str) -> bool {
-    HasAtomic::read(alloc, one) != HasAtomic::read(alloc, other)
-}
-
-fn is_eight(alloc: Global, text: &str) -> bool {
-    HasAtomic::read(alloc, text) == Ok(HasAtomic::IntegerSize(8))
-}
-
-fn is_no_width(alloc: Global, text: &str) -> bool {
-    matches!(
-        HasAtomic::read(alloc, text),
-        Err(HasAtomicFailure::Parse(_))
-    )
+fn are_widths_read(alloc: Global) -> bool {
+    let no_width = HasAtomic::read(alloc, "");
+    HasAtomic::read(alloc, "8") == Ok(HasAtomic::IntegerSize(8))
+        && matches!(no_width, Err(HasAtomicFailure::Parse(_)))
 }
 
 fn is_made(alloc: Global) -> bool {
@@ -88,12 +53,28 @@ fn is_made(alloc: Global) -> bool {
     }
 }
 
+fn is_linux(os: &Os<'_>) -> bool {
+    *os == Os::linux() && *os > Os::new_const("ios") && os.as_str() == "linux"
+}
+
+fn is_copied(alloc: Global) -> Result<bool, AllocError> {
+    let os = Os::new(String::from_str(alloc, "linux")?);
+    Ok(is_linux(&os) && os.try_clone(alloc)? == os)
+}
+
 #[test]
-fn texts_are_stripped(rt: HostRuntime) {
-    assert!(rt; strip("cfg(unix)") == "unix");
-    assert!(rt; strip("unix") == "unix");
-    assert!(rt; Lexer::new(rt.alloc(), "cfg(unix)").original() == "unix");
-    assert!(rt; is_made(rt.alloc()));
+fn values_are_read_and_made(rt: HostRuntime) {
+    let alloc = rt.alloc();
+    assert!(rt; read_u8("+255") == Some(255) && read_u8("256").is_none());
+    assert!(rt; read_u16("65535") == Some(65_535) && read_u16("65536").is_none());
+    assert!(rt; read_endian("big") == Some(Endian::big) && read_endian("Big").is_none());
+    assert!(rt; read_has_atomic("ptr") == Some(HasAtomic::Pointer));
+    assert!(rt; Endian::from_str("little") == Ok(Endian::little));
+    assert!(rt; are_compared(alloc) && are_widths_read(alloc));
+    assert!(rt; holds(has_families(alloc)) && !is_sorted_with_wasm_first());
+    assert!(rt; holds(has_widths(alloc)) && holds(is_copied(alloc)));
+    assert!(rt; strip("cfg(unix)") == "unix" && strip("unix") == "unix");
+    assert!(rt; Lexer::new(alloc, "cfg(unix)").original() == "unix" && is_made(alloc));
 }
 
 // What only a proof has use for.
@@ -108,8 +89,7 @@ fn call_laws() {
 #[test]
 fn logics_are_joined(rt: HostRuntime) {
     call_laws();
-    assert!(rt; bool::top().and(true));
-    assert!(rt; !bool::bottom().or(false));
+    assert!(rt; bool::top().and(true) && !bool::bottom().or(false));
     assert!(rt; Logic::and(None, Some(false)) == Some(false));
     assert!(rt; Logic::or(None, Some(false)).is_none());
     assert!(rt; Kleene64::top().not() == Kleene64::bottom());
@@ -117,25 +97,8 @@ fn logics_are_joined(rt: HostRuntime) {
 
 #[test]
 fn bytes_are_written(rt: HostRuntime) {
-    let mut sink = Kept {
-        bytes: Vec::new(rt.alloc()),
-        failures: 0,
-    };
+    let bytes = Vec::new(rt.alloc());
+    let mut sink = Kept { bytes, failures: 0 };
     let is_written = write_whole(&mut sink, b"true\n");
     assert!(rt; is_written && sink.bytes.as_slice() == b"true\n".as_slice());
-}
-
-fn is_linux(os: &Os<'_>) -> bool {
-    *os == Os::linux() && *os > Os::new_const("ios") && os.as_str() == "linux"
-}
-
-fn is_copied(alloc: Global, os: &Os<'_>) -> Result<bool, AllocError> {
-    Ok(os.try_clone(alloc)? == *os)
-}
-
-#[test]
-fn fields_are_copied(rt: HostRuntime) -> Result<(), Fail> {
-    let os = Os::new(String::from_str(rt.alloc(), "linux")?);
-    assert!(rt; is_linux(&os) && holds(is_copied(rt.alloc(), &os)));
-    Ok(())
 }

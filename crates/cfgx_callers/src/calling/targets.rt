@@ -1,5 +1,4 @@
 //! The value on a built-in target.
-
 use cfg_expr::error::Failure;
 use cfg_expr::targets::{TargetTable, get_builtin_target_by_triple};
 use cfg_expr::{Expression, Predicate};
@@ -20,12 +19,4 @@ pub fn value_on(alloc: Global, text: &str, triple: &str) -> Result<Option<bool>,
         },
     )?;
     Ok(value)
-}
-
-#[test]
-fn a_condition_has_a_value_on_a_target(rt: HostRuntime) {
-    let text = "all(unix, not(target_abi = \"sim\"))";
-    assert!(rt; value_on(rt.alloc(), text, "aarch64-apple-ios").ok() == Some(Some(true)));
-    assert!(rt; value_on(rt.alloc(), text, "aarch64-apple-ios-sim").ok() == Some(Some(false)));
-    assert!(rt; value_on(rt.alloc(), text, "nowhere").ok() == Some(None));
 }
