@@ -75,10 +75,11 @@ pub(crate) fn is_picked(
 
 // Whether `pick` runs as the row says.
 fn is_row_picked(alloc: Global, each: usize, row: &[String]) -> bool {
-    let [status, input, written, triple @ ..] = row else {
-        return false;
+    let (status, input, written, triple) = match row {
+        [status, input, written] => (status, input, written, SIM),
+        [status, input, written, triple] => (status, input, written, triple.as_str()),
+        _ => return false,
     };
-    let triple = triple.first().map_or(SIM, |triple| triple.as_str());
     let input = input.as_bytes();
     status.parse().is_ok_and(|status| is_picked(
         alloc,

@@ -69,12 +69,9 @@ pub(crate) fn is_accepted(alloc: Global, text: &str, predicates: &str) -> bool {
 fn accepted_texts_ask_their_predicates(rt: HostRuntime) -> Result<(), String> {
     let alloc = rt.alloc();
     for (table, rows) in ACCEPTED {
-        check_pairs(
-            alloc,
-            table,
-            *rows,
-            |text, predicates| is_accepted(alloc, text, predicates),
-        )?;
+        check_pairs(alloc, table, *rows, |text, predicates| {
+            is_accepted(alloc, text, predicates)
+        })?;
     }
     Ok(())
 }

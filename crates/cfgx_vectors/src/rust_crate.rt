@@ -4,10 +4,10 @@
 //! with several functions at its root or with more than 255 functions in a list, and an accepted
 //! one with a bare `true` or `false`.
 //!
-//! A row has several texts. A `^` in a text is a mark and no part of it. Of an accepted text what
-//! stands between two marks is a predicate: without a mark the whole text is one, and a mark alone
-//! says that it asks nothing. Of a refused text what stands between two marks is at fault, and after
-//! a mark alone one byte is.
+//! A row has several texts. A `^` in a text is a mark and no part of it. In an accepted text each
+//! predicate stands between two marks. Without a mark the whole text is one, and with a mark alone
+//! it asks nothing. In a refused text what is at fault stands between two marks. After a mark alone
+//! it is one byte.
 mod accepts;
 mod judged;
 mod neighbours;
@@ -20,13 +20,13 @@ use cfgx_testing::texts::repeated;
 use std::alloc::Global;
 
 // How many fields the rows of the table have, if they pass the check.
-fn passing_fields<F>(alloc: Global, table: &str, check: &F) -> Result<usize, String>
+fn passing_fields<F>(alloc: Global, table: &str, check: F) -> Result<usize, String>
 where
     F: Fn(&[String]) -> bool,
-    requires { F.IsAlwaysCallable check.now }
+    requires { F.IsAlwaysCallable check }
 {
     let bars = table.split(" | ").count().saturating_sub(1);
-    Ok(passing(alloc, table, check)?.saturating_add(bars))
+    Ok(passing(alloc, table, &check)?.saturating_add(bars))
 }
 
 // Whether the text without its marks asks what stands between them.
@@ -52,11 +52,7 @@ fn ask_marked(alloc: Global, row: &[String]) -> bool {
 #[test]
 fn accepts_texts_that_ask_what_is_marked(rt: HostRuntime) -> Result<(), String> {
     let alloc = rt.alloc();
-    let texts = passing_fields(
-        alloc,
-        accepts::MARKED,
-        &|row: &[String]| ask_marked(alloc, row),
-    )?;
+    let texts = passing_fields(alloc, accepts::MARKED, |row| ask_marked(alloc, row))?;
     check_count(alloc, texts, 388)
 }
 
@@ -71,11 +67,7 @@ fn ask_told(alloc: Global, row: &[String]) -> bool {
 #[test]
 fn accepts_the_other_texts(rt: HostRuntime) -> Result<(), String> {
     let alloc = rt.alloc();
-    let fields = passing_fields(
-        alloc,
-        accepts::OTHERS,
-        &|row: &[String]| ask_told(alloc, row),
-    )?;
+    let fields = passing_fields(alloc, accepts::OTHERS, |row| ask_told(alloc, row))?;
     check_count(alloc, fields, 2 * 131)
 }
 
@@ -120,11 +112,7 @@ fn refused_with(alloc: Global, group: &str) -> Result<usize, String> {
         return Err(String::new(alloc));
     };
     let message = message.as_str();
-    passing_fields(
-        alloc,
-        rows,
-        &|row: &[String]| are_refused(alloc, row, message),
-    )
+    passing_fields(alloc, rows, |row| are_refused(alloc, row, message))
 }
 
 // Checks a table of so many refused texts.

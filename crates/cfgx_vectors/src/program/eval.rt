@@ -1,4 +1,5 @@
 //! `cfgx eval` writes the value of its text by its flags, or the fault of its first faulty text.
+
 pub(super) const VALUES: &str = r#"
 0 | true\n | eval | all(a, not(b)) | a
 0 | unknown\n | eval | any(a, not(a)) | ?a
@@ -51,7 +52,7 @@ pub(super) const VALUES: &str = r#"
 0 | false\n | eval | target_os = "a" | target_env = "a"
 "#;
 
-// The first faulty text counts.
+/// The first faulty text counts.
 pub(super) const FAULTS: &str = r#"
 1 | key)\n   ^ unopened parens\n | eval | key)
 1 | \n empty expression\n | eval | \e

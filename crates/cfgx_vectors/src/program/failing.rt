@@ -165,7 +165,8 @@ fn ends_at_each_read(alloc: Global, input: &[u8]) -> bool {
     false
 }
 
-fn calls_of_pick_fail_in_turn(alloc: Global, row: &[String]) -> bool {
+// Whether each write and each read of a run of `pick` that fails is its last call.
+fn fail_in_turn(alloc: Global, row: &[String]) -> bool {
     let [_, input, written] = row else {
         return false;
     };
@@ -176,10 +177,5 @@ fn calls_of_pick_fail_in_turn(alloc: Global, row: &[String]) -> bool {
 #[test]
 fn no_call_follows_a_failed_one_of_pick(rt: HostRuntime) -> Result<(), String> {
     let alloc = rt.alloc();
-    check_texts(
-        alloc,
-        KINDS,
-        6,
-        |row| calls_of_pick_fail_in_turn(alloc, row),
-    )
+    check_texts(alloc, KINDS, 6, |row| fail_in_turn(alloc, row))
 }

@@ -28,11 +28,8 @@ fn is_device(alloc: Global, failing_read: u64, left: &[u8]) -> bool {
 
 #[test]
 fn a_failed_read_is_the_last_one(rt: HostRuntime) {
-    for (failing_read, left) in FAILING {
-        assert!(rt;
-            is_device(rt.alloc(), *failing_read, left),
-            "read {failing_read}"
-        );
+    for (read, left) in FAILING {
+        assert!(rt; is_device(rt.alloc(), *read, left), "read {read}");
     }
 }
 

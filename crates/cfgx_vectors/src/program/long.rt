@@ -25,7 +25,7 @@ fn many_predicates_and_many_flags(rt: HostRuntime) -> Result<(), String> {
     check_runs(rt.alloc(), RUNS, 14)
 }
 
-// Many lines, and long ones.
+/// Many lines, and long ones.
 pub(super) const INPUTS: &str = r#"
 0 | ~n\tunix\n~20000~ | ~n\tyes\n~20000~
 0 | ~n\ta\r\n~40000~ | ~n\tunknown\n\ttrue with 1\n\tfalse with 0\n~40000~

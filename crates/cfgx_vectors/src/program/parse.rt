@@ -1,4 +1,5 @@
 //! `cfgx parse` writes the predicates of its text, one a line, or what its fault prints.
+
 pub(super) const RUNS: &str = r#"
 0 | b\na\nc\n | parse | all(a, any(b), c)
 0 | key\n | parse | cfg(key)

@@ -4,7 +4,7 @@ use cfgx_testing::streams::ALL;
 use cfgx_testing::triples::{IOS, SIM};
 use std::alloc::Global;
 
-// What a line is.
+/// What a line is.
 pub(super) const LINES: &str = r#"
 // The last line may lack its line feed.
 0 | a\tunix | a\tyes\n
@@ -67,7 +67,7 @@ pub(super) const LINES: &str = r#"
 1 | a\t\t\n | line 1:\n\t\n^ empty expression\n
 "#;
 
-// What the simulator decides, and what it does not decide, with the fillings that show it.
+/// What the simulator decides, and what it does not decide, with the fillings that show it.
 pub(super) const CONDITIONS: &str = r#"
 0 | n\ttrue\n | n\tyes\n
 0 | n\tfalse\n | n\tno\n
@@ -132,7 +132,7 @@ pub(super) const FAULTS: &str = r#"
 1 | a\tb\tc\n | line 1:\nb\tc\n  ^ expected one of `=`, `,`, `)` here\n
 "#;
 
-// Verdicts on other targets too.
+/// Verdicts on other targets too.
 pub(super) const ON_TARGETS: &str = r#"
 0 | m\tany(not(feature = "x"), target_os = "linux", test) | \
 m\tunknown\n\ttrue with 001\n\tfalse with 100\n | aarch64-apple-darwin
@@ -167,13 +167,11 @@ const NOT_UTF8: &[&[u8]] = &[
 
 #[test]
 fn an_input_is_utf_8(rt: HostRuntime) {
+    let alloc = rt.alloc();
     let ended = ("input is not UTF-8\n", 1);
     for input in NOT_UTF8 {
         for triple in [SIM, IOS] {
-            assert!(rt;
-                is_picked(rt.alloc(), triple, ALL, input, ended),
-                "{input:?}"
-            );
+            assert!(rt; is_picked(alloc, triple, ALL, input, ended), "{input:?}");
         }
     }
 }

@@ -1,4 +1,5 @@
 //! Words that no command has, and triples that no target has.
+
 pub(super) const WRONG_USE: &str = r#"
 2 | USAGE | parse
 2 | USAGE
@@ -17,7 +18,7 @@ pub(super) const WRONG_USE: &str = r#"
 2 | USAGE | pick | aarch64-apple-ios | \e
 "#;
 
-// A triple is looked up before a text is read.
+/// A triple is looked up before a text is read.
 pub(super) const UNKNOWN_TRIPLES: &str = r#"
 2 | unknown triple\n | pick | nowhere
 2 | unknown triple\n | pick | \e

@@ -1,6 +1,7 @@
 //! The order of the questions: the first fault of a text that may have several.
-// A `)` while no function is open, and one that closes a `not` with another number of members
-// than 1.
+
+/// A `)` while no function is open, and one that closes a `not` with another number of members
+/// than 1.
 pub(super) const AT_A_PAREN: &str = r#"
 a) 8 | UnopenedParens at 1..2
 key) | UnopenedParens at 3..4
@@ -14,7 +15,7 @@ not(all(), any(a), b) | InvalidNot(3) at 0..21
 true) | UnopenedParens at 4..5
 "#;
 
-// The end after a `=`, and the end while a function is open.
+/// The end after a `=`, and the end while a function is open.
 pub(super) const CUT_SHORT: &str = r#"
 key = | U[`"<value>"`] at 5..5
 key =  | U[`"<value>"`] at 6..6
@@ -33,7 +34,7 @@ not(feature = "x" | UnclosedParens at 3..17
 all(true | UnclosedParens at 3..8
 "#;
 
-// The end with no root, and with several.
+/// The end with no root, and with several.
 pub(super) const NO_ROOT_OR_SEVERAL: &str = r#"
   | Empty at 0..1
 \n\t\n | Empty at 0..3

@@ -1,4 +1,5 @@
 //! The grammar: texts that are accepted, and what they ask.
+
 pub(super) const LISTS_WITH_COMMAS: &str = r#"
 a | a
 key, | key

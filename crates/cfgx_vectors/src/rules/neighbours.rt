@@ -1,4 +1,5 @@
 //! What may follow what: the list of terms at a token that may not follow the one before it.
+
 pub(super) const FAULTS: &str = r#"
 cfg(key)  | U[`=` `,` `)`] at 3..4
 any("x") | U[`<key>` `)` `all` `any` `not`] at 4..7

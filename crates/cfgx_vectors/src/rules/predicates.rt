@@ -6,7 +6,7 @@ use cfgx_testing::holding::holds;
 use cfgx_testing::rows::check_pairs;
 use std::alloc::{AllocError, Global};
 
-// Texts, and what they ask.
+/// Texts, and what they ask.
 pub(super) const VALUES: &str = r#"
 cfg(unix) | target_family = "unix"
 windows | target_family = "windows"
@@ -43,7 +43,7 @@ not(not(not(key = "value",))) | key = "value"
 key = "a\nb" | key = "a\nb"
 "#;
 
-// Literals ask nothing. Keys that look like them are flags.
+/// Literals ask nothing. Keys that look like them are flags.
 pub(super) const LITERALS: &str = r#"
 true | \e
 false, | \e
@@ -123,7 +123,7 @@ fn ask_by_their_types(rt: HostRuntime) -> Result<(), String> {
     })
 }
 
-// Texts with a faulty predicate, at its key or at the inside of its value.
+/// Texts with a faulty predicate, at its key or at the inside of its value.
 pub(super) const FAULTS: &str = r#"
 unix = "x" | U[] at 8..9
 unix = "" | U[] at 8..8

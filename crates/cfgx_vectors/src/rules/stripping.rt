@@ -35,7 +35,7 @@ fn keep_and_print_the_stripped_text(rt: HostRuntime) -> Result<(), String> {
     })
 }
 
-// Faulty texts, their faults, and what they are stripped to.
+/// Faulty texts, their faults, and what they are stripped to.
 pub(super) const FAULTS: &str = r#"
 cfg() | Empty at 0..0 | \e
 cfg( ) | Empty at 0..1 |  \e

@@ -110,7 +110,7 @@ fn gives_every_item(rt: HostRuntime) -> Result<(), String> {
     check_rows(rt.alloc(), ITEMS, 12, |row| has_items(rt.alloc(), row))
 }
 
-// White space stands anywhere.
+/// White space stands anywhere.
 pub(super) const WHITE_SPACE: &str = r#"
 \u{a0}key | key
 \u{3000}key | key
@@ -121,7 +121,7 @@ all(\n\ta,\r\n\tb\n)\n | a\nb
 \u{3000}all\u{2003}(\u{a0}a\u{2028},\u{85}b\u{1680})\u{202f} | a\nb
 "#;
 
-// What starts no token, and what may not stand first.
+/// What starts no token, and what may not stand first.
 pub(super) const FAULTS: &str = r#"
 , | U[`<key>` `all` `any` `not`] at 0..1
 ) | U[`<key>` `all` `any` `not`] at 0..1
