@@ -3,93 +3,106 @@
 //! No row is left out. The tables have no text that this crate answers otherwise on purpose: one
 //! with several functions at its root or with more than 255 functions in a list, and an accepted
 //! one with a bare `true` or `false`.
+//!
+//! A row has several texts. A `^` in a text is a mark and no part of it. In an accepted text each
+//! predicate stands between two marks. Without a mark the whole text is one, and with a mark alone
+//! it asks nothing. In a refused text what is at fault stands between two marks. After a mark alone
+//! it is one byte.
 mod accepts;
 mod judged;
 mod neighbours;
 mod no_token;
 
-use crate::rules::{check_accepted, is_accepted, span_of};
-use cfgx_testing::rows::{check_count, check_rows, passing};
+use crate::rules::is_accepted;
+use cfgx_testing::rows::{check_count, passing};
 use cfgx_testing::streams::is_answer;
 use cfgx_testing::texts::repeated;
 use std::alloc::Global;
 
-// Whether each text of the row asks nothing.
-fn ask_nothing(alloc: Global, texts: &[String]) -> bool {
-    texts
-        .iter()
-        .all(|text| is_accepted(alloc, text.as_str(), ""))
+// How many fields the rows of the table have, if they pass the check.
+fn passing_fields<F>(alloc: Global, table: &str, check: F) -> Result<usize, String>
+where
+    F: Fn(&[String]) -> bool,
+    requires { F.IsAlwaysCallable check }
+{
+    let bars = table.split(" | ").count().saturating_sub(1);
+    Ok(passing(alloc, table, &check)?.saturating_add(bars))
 }
 
-// Whether each text of the row is spelled as it stands.
-fn are_alone(alloc: Global, texts: &[String]) -> bool {
-    texts
-        .iter()
-        .all(|text| is_accepted(alloc, text.as_str(), text.as_str()))
-}
-
-// How many fields the rows of the table have.
-fn fields_in(table: &str) -> usize {
-    let mut fields = 0usize;
-    let mut goes_on = false;
-    for line in table.lines() {
-        let bars = line.split(" | ").count().saturating_sub(1);
-        let first = usize::from(!goes_on && !line.is_empty());
-        fields = fields.saturating_add(bars).saturating_add(first);
-        goes_on = line.ends_with('\\');
+// Whether the text without its marks asks what stands between them.
+fn asks_marked(alloc: Global, marked: &str) -> Option<bool> {
+    let text = marked.replace(alloc, "^", "").ok()?;
+    let first = usize::from(marked.contains('^'));
+    let mut asked = String::new(alloc);
+    for (place, part) in marked.split('^').enumerate() {
+        if place % 2 == first && !part.is_empty() {
+            asked.push_str(part).ok()?;
+            asked.push_str("\n").ok()?;
+        }
     }
-    fields
+    Some(is_answer(alloc, &["parse", text.as_str()], 0, asked.as_str()))
+}
+
+// Whether each text of the row asks what is marked in it.
+fn ask_marked(alloc: Global, row: &[String]) -> bool {
+    row.iter()
+        .all(|marked| asks_marked(alloc, marked.as_str()) == Some(true))
 }
 
 #[test]
-fn accepts_texts_that_ask_nothing(rt: HostRuntime) -> Result<(), String> {
+fn accepts_texts_that_ask_what_is_marked(rt: HostRuntime) -> Result<(), String> {
     let alloc = rt.alloc();
-    check_rows(alloc, accepts::NOTHING, 2, |row| ask_nothing(alloc, row))?;
-    check_count(alloc, fields_in(accepts::NOTHING), 13)
+    let texts = passing_fields(alloc, accepts::MARKED, |row| ask_marked(alloc, row))?;
+    check_count(alloc, texts, 388)
 }
 
-#[test]
-fn accepts_texts_that_are_spelled_as_they_stand(rt: HostRuntime) -> Result<(), String> {
-    let alloc = rt.alloc();
-    check_rows(alloc, accepts::ALONE, 31, |row| are_alone(alloc, row))?;
-    check_count(alloc, fields_in(accepts::ALONE), 154)
+// Whether each text of the row asks the predicates that stand after it.
+fn ask_told(alloc: Global, row: &[String]) -> bool {
+    row.chunks(2).all(|pair| match pair {
+        [text, predicates] => is_accepted(alloc, text.as_str(), predicates.as_str()),
+        _ => false,
+    })
 }
 
 #[test]
 fn accepts_the_other_texts(rt: HostRuntime) -> Result<(), String> {
-    check_accepted(rt.alloc(), accepts::OTHERS, 352)
+    let alloc = rt.alloc();
+    let fields = passing_fields(alloc, accepts::OTHERS, |row| ask_told(alloc, row))?;
+    check_count(alloc, fields, 2 * 131)
 }
 
-// What is printed for a text with these bytes at fault. The message begins with its mark.
-fn printed(alloc: Global, text: &str, span: &str, message: &str) -> Option<String> {
+// What is printed for a stripped text. The message begins with its mark.
+fn printed(
+    alloc: Global,
+    text: &str,
+    start: usize,
+    length: usize,
+    message: &str,
+) -> Option<String> {
+    let (mark, reason) = message.split_once(' ')?;
+    let spaces = repeated(alloc, "\n", " ", start, "").ok()?;
+    let marks = repeated(alloc, "", mark, length, " ").ok()?;
+    format!(in alloc; "{text}{spaces}{marks}{reason}\n").ok()
+}
+
+// Whether the text without its marks is refused there with this message.
+fn is_refused(alloc: Global, marked: &str, message: &str) -> Option<bool> {
+    let text = marked.replace(alloc, "^", "").ok()?;
+    let text = text.as_str();
+    let (front, rest) = marked.split_once('^')?;
+    let length = rest.split_once('^').map_or(1, |(fault, _)| fault.len());
     let inner = text
         .strip_prefix("cfg(")
         .and_then(|rest| rest.strip_suffix(')'));
-    let span = span_of(span)?;
-    let (mark, reason) = message.split_once(' ')?;
-    let spaces = repeated(alloc, inner.unwrap_or(text), "", 0, "\n").ok()?;
-    let spaces = repeated(alloc, spaces.as_str(), " ", span.start, "").ok()?;
-    let marks = repeated(alloc, "", mark, span.end.saturating_sub(span.start), " ").ok()?;
-    format!(in alloc; "{spaces}{marks}{reason}\n").ok()
+    let taken = if inner.is_some() { 4 } else { 0 };
+    let start = front.len().saturating_sub(taken);
+    let written = printed(alloc, inner.unwrap_or(text), start, length, message)?;
+    Some(is_answer(alloc, &["parse", text], 1, written.as_str()))
 }
 
-// Whether this is printed for a text with these bytes at fault.
-fn is_refused(alloc: Global, text: &str, span: &str, message: &str) -> bool {
-    match printed(alloc, text, span, message) {
-        Some(written) => is_answer(alloc, &["parse", text], 1, written.as_str()),
-        None => false,
-    }
-}
-
-// Whether each text of the row, after the bytes at fault, is refused there with this message.
+// Whether each text of the row is refused with this message where it is marked.
 fn are_refused(alloc: Global, row: &[String], message: &str) -> bool {
-    match row.split_first() {
-        Some((span, texts)) => {
-            !texts.is_empty()
-                && texts.iter().all(|text| is_refused(alloc, text.as_str(), span.as_str(), message))
-        }
-        None => false,
-    }
+    row.iter().all(|marked| is_refused(alloc, marked.as_str(), message) == Some(true))
 }
 
 // How many texts stand below this heading, or the first row that is wrong.
@@ -99,12 +112,7 @@ fn refused_with(alloc: Global, group: &str) -> Result<usize, String> {
         return Err(String::new(alloc));
     };
     let message = message.as_str();
-    let found = passing(
-        alloc,
-        rows,
-        &|row: &[String]| are_refused(alloc, row, message),
-    )?;
-    Ok(fields_in(rows).saturating_sub(found))
+    passing_fields(alloc, rows, |row| are_refused(alloc, row, message))
 }
 
 // Checks a table of so many refused texts.

@@ -159,20 +159,17 @@ fn a_counted_writer_counts_errors() -> Result<(), &'static str> {
 
 #[test]
 fn a_counted_stream_tries_no_call_again() -> Result<(), &'static str> {
-    let mut counted = first_fail(1, false);
-    let mut buffer = [0u8; 4];
+    let mut stream = first_fail(1, false);
+    let mut bytes = [0u8; 4];
     let checks = [
-        (
-            "a failed read",
-            read(&mut counted, &mut buffer) == (None, 1),
-        ),
-        ("a failed write", write(&mut counted, b"ab") == (None, 2)),
-        ("a failed flush", flush(&mut counted) == (false, 3)),
-        ("one call each", calls(&counted) == (1, 1, 1)),
-        ("a read", read(&mut counted, &mut buffer) == (Some(0), 3)),
-        ("a write", write(&mut counted, b"ab") == (Some(2), 3)),
-        ("a flush", flush(&mut counted) == (true, 3)),
-        ("two calls each", calls(&counted) == (2, 2, 2)),
+        ("a failed read", read(&mut stream, &mut bytes) == (None, 1)),
+        ("a failed write", write(&mut stream, b"ab") == (None, 2)),
+        ("a failed flush", flush(&mut stream) == (false, 3)),
+        ("one call each", calls(&stream) == (1, 1, 1)),
+        ("a read", read(&mut stream, &mut bytes) == (Some(0), 3)),
+        ("a write", write(&mut stream, b"ab") == (Some(2), 3)),
+        ("a flush", flush(&mut stream) == (true, 3)),
+        ("two calls each", calls(&stream) == (2, 2, 2)),
     ];
     all_hold(&checks)
 }

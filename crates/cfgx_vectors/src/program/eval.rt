@@ -1,5 +1,4 @@
 //! `cfgx eval` writes the value of its text by its flags, or the fault of its first faulty text.
-use cfgx_testing::words::check_runs;
 
 pub(super) const VALUES: &str = r#"
 0 | true\n | eval | all(a, not(b)) | a
@@ -53,11 +52,7 @@ pub(super) const VALUES: &str = r#"
 0 | false\n | eval | target_os = "a" | target_env = "a"
 "#;
 
-#[test]
-fn values_by_flags(rt: HostRuntime) -> Result<(), String> {
-    check_runs(rt.alloc(), VALUES, 43)
-}
-
+/// The first faulty text counts.
 pub(super) const FAULTS: &str = r#"
 1 | key)\n   ^ unopened parens\n | eval | key)
 1 | \n empty expression\n | eval | \e
@@ -76,8 +71,3 @@ pub(super) const FAULTS: &str = r#"
 1 | key)\n   ^ unopened parens\n | eval | a | ?key) | b)
 1 | b)\n ^ unopened parens\n | eval | a | a | ?a | b) | c)
 "#;
-
-#[test]
-fn the_first_faulty_text_counts(rt: HostRuntime) -> Result<(), String> {
-    check_runs(rt.alloc(), FAULTS, 16)
-}

@@ -55,29 +55,44 @@ fn sink_of(alloc: Global, settings: &str) -> Option<Recorder> {
     Some(sink)
 }
 
-// Whether a run over the input leaves the sink so. Only the sink fails.
-fn leaves_so(alloc: Global, words: &[&str], row: &[String]) -> Option<bool> {
+// Whether a run over the input ends with this status, and leaves the sink with these bytes and
+// these calls. Only the sink fails.
+fn leaves_so(
+    alloc: Global,
+    words: &[&str],
+    input: &str,
+    mut sink: Recorder,
+    (status, written, calls): (u8, &[u8], (u64, u64)),
+) -> bool {
+    if sink.failures > 0 {
+        return false;
+    }
+    let mut source = Pieces::new(input.as_bytes(), ALL, 0);
+    let found = run(alloc, words, &mut source, &mut sink);
+    is_left_so(&sink, written, calls, u64::from(found == 3))
+        && found == status
+        && source.is_read_whole()
+}
+
+// Whether a run with these words leaves the sink as the row says.
+fn leaves_as_told(alloc: Global, words: &[&str], row: &[String]) -> Option<bool> {
     let [settings, status, written, calls, input, ..] = row else {
         return None;
     };
     let (writes, flushes) = calls.split_once(' ')?;
     let calls = (writes.parse().ok()?, flushes.parse().ok()?);
-    let mut sink = sink_of(alloc, settings.as_str())?;
-    if sink.failures > 0 {
-        return None;
-    }
-    let mut source = Pieces::new(input.as_bytes(), ALL, 0);
-    let found = run(alloc, words, &mut source, &mut sink);
-    let failures = if found == 3 { 1 } else { 0 };
-    let is_left = is_left_so(&sink, written.as_bytes(), calls, failures);
-    Some(is_left && status.parse() == Ok(found) && source.is_read_whole())
+    let left = (status.parse().ok()?, written.as_bytes(), calls);
+    let sink = sink_of(alloc, settings.as_str())?;
+    Some(leaves_so(alloc, words, input.as_str(), sink, left))
 }
 
 fn ends_so(alloc: Global, row: &[String]) -> bool {
     let [_, _, _, _, _, words @ ..] = row else {
         return false;
     };
-    words_of(alloc, words).is_ok_and(|words| leaves_so(alloc, words.as_slice(), row) == Some(true))
+    words_of(alloc, words).is_ok_and(|words| {
+        leaves_as_told(alloc, words.as_slice(), row) == Some(true)
+    })
 }
 
 #[test]
@@ -86,29 +101,15 @@ fn no_call_follows_a_failed_one(rt: HostRuntime) -> Result<(), String> {
     check_texts(alloc, ENDINGS, 25, |row| ends_so(alloc, row))
 }
 
-// Whether a run over the input whose write of this number fails, counted from 0, ends with status
-// 3 and has written these bytes of the output, one a call.
-fn ends_at_write(
-    alloc: Global,
-    words: &[&str],
-    input: &str,
-    failing: usize,
-    written: &[u8],
-) -> bool {
-    let mut source = Pieces::new(input.as_bytes(), ALL, 0);
-    let mut sink = Recorder::new(alloc);
-    sink.each = 1;
-    sink.failing_write = (failing as u64).saturating_add(1);
-    let status = run(alloc, words, &mut source, &mut sink);
-    let is_left = is_left_so(&sink, written, (sink.failing_write, 0), 1);
-    is_left && status == 3 && source.is_read_whole()
-}
-
-// Whether each write of this output that fails ends the run: what went out is to be the bytes
-// before it, and nothing is to be written after them, nor flushed.
+// Whether each write of this output that fails ends the run with status 3: what went out, a byte a
+// call, is to be the bytes before it, and nothing is to be written after them, nor flushed.
 fn ends_at_each_write(alloc: Global, words: &[&str], input: &str, output: &[u8]) -> bool {
-    for failing in 0..output.len() {
-        if !ends_at_write(alloc, words, input, failing, &output[..failing]) {
+    for written in 0..output.len() {
+        let mut sink = Recorder::new(alloc);
+        sink.each = 1;
+        sink.failing_write = (written as u64).saturating_add(1);
+        let left = (3, &output[..written], (sink.failing_write, 0));
+        if !leaves_so(alloc, words, input, sink, left) {
             return false;
         }
     }
@@ -134,24 +135,6 @@ fn no_call_follows_a_failed_write(rt: HostRuntime) -> Result<(), String> {
         check_texts(alloc, table, *rows, |row| writes_fail_in_turn(alloc, row))?;
     }
     Ok(())
-}
-
-fn writes_of_pick_fail_in_turn(alloc: Global, row: &[String]) -> bool {
-    let [_, input, written] = row else {
-        return false;
-    };
-    ends_at_each_write(alloc, &["pick", SIM], input.as_str(), written.as_bytes())
-}
-
-#[test]
-fn no_call_follows_a_failed_write_of_pick(rt: HostRuntime) -> Result<(), String> {
-    let alloc = rt.alloc();
-    check_texts(
-        alloc,
-        KINDS,
-        6,
-        |row| writes_of_pick_fail_in_turn(alloc, row),
-    )
 }
 
 // Whether a run over the input whose read of this number fails ends with status 3, reads no more,
@@ -182,13 +165,17 @@ fn ends_at_each_read(alloc: Global, input: &[u8]) -> bool {
     false
 }
 
-fn reads_fail_in_turn(alloc: Global, row: &[String]) -> bool {
-    row.get(1)
-        .is_some_and(|input| ends_at_each_read(alloc, input.as_bytes()))
+// Whether each write and each read of a run of `pick` that fails is its last call.
+fn fail_in_turn(alloc: Global, row: &[String]) -> bool {
+    let [_, input, written] = row else {
+        return false;
+    };
+    ends_at_each_write(alloc, &["pick", SIM], input.as_str(), written.as_bytes())
+        && ends_at_each_read(alloc, input.as_bytes())
 }
 
 #[test]
-fn no_call_follows_a_failed_read(rt: HostRuntime) -> Result<(), String> {
+fn no_call_follows_a_failed_one_of_pick(rt: HostRuntime) -> Result<(), String> {
     let alloc = rt.alloc();
-    check_texts(alloc, KINDS, 6, |row| reads_fail_in_turn(alloc, row))
+    check_texts(alloc, KINDS, 6, |row| fail_in_turn(alloc, row))
 }

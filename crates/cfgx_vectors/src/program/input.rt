@@ -3,22 +3,6 @@ use cfgx_engine::engine::{Input, Stop, read_input};
 use cfgx_testing::streams::{Counting, Pieces};
 use std::alloc::Global;
 
-// Whether the answer is these bytes.
-fn is_read(answer: &Result<Input, Stop>, bytes: &[u8]) -> bool {
-    match answer {
-        Ok(Input::Bytes(read)) => read.as_slice() == bytes,
-        _ => false,
-    }
-}
-
-// Whether a failed call stopped the reading.
-fn is_stopped(answer: &Result<Input, Stop>) -> bool {
-    match answer {
-        Ok(_) => false,
-        Err(found) => *found == Stop::Device,
-    }
-}
-
 const TEN: &[u8] = b"0123456789";
 
 // The failing read of ten bytes in pieces of three, and the bytes that are then still to come. The
@@ -34,26 +18,29 @@ const FAILING: &[(u64, &[u8])] = &[
 // Whether the failed read is answered, and is the last one.
 fn is_device(alloc: Global, failing_read: u64, left: &[u8]) -> bool {
     let mut source = Pieces::new(TEN, 3, failing_read);
-    let answer = read_input(alloc, &mut source);
+    let is_stopped = match read_input(alloc, &mut source) {
+        Ok(_) => false,
+        Err(found) => found == Stop::Device,
+    };
     let calls = (source.reads, source.failures);
-    is_stopped(&answer) && calls == (failing_read, 1) && source.left == left
+    is_stopped && calls == (failing_read, 1) && source.left == left
 }
 
 #[test]
 fn a_failed_read_is_the_last_one(rt: HostRuntime) {
-    for (failing_read, left) in FAILING {
-        assert!(rt;
-            is_device(rt.alloc(), *failing_read, left),
-            "read {failing_read}"
-        );
+    for (read, left) in FAILING {
+        assert!(rt; is_device(rt.alloc(), *read, left), "read {read}");
     }
 }
 
 // Whether all these bytes are read, to the end, in so many calls.
 fn is_read_whole(alloc: Global, bytes: &[u8], each: usize, reads: u64) -> bool {
     let mut source = Pieces::new(bytes, each, 0);
-    let answer = read_input(alloc, &mut source);
-    is_read(&answer, bytes) && source.is_read_whole() && source.reads == reads
+    let is_read = match read_input(alloc, &mut source) {
+        Ok(Input::Bytes(read)) => read.as_slice() == bytes,
+        _ => false,
+    };
+    is_read && source.is_read_whole() && source.reads == reads
 }
 
 // How many calls read no byte of ten in pieces of three, one byte, two bytes, and so on.

@@ -1,7 +1,4 @@
 //! Runs over long, wide and deep texts and inputs end in an answer.
-use super::check_inputs;
-use cfgx_testing::streams::ALL;
-use cfgx_testing::triples::SIM;
 use cfgx_testing::words::check_runs;
 
 const RUNS: &str = r#"
@@ -28,8 +25,8 @@ fn many_predicates_and_many_flags(rt: HostRuntime) -> Result<(), String> {
     check_runs(rt.alloc(), RUNS, 14)
 }
 
-// The status, the input, and what is written of it on the simulator.
-const INPUTS: &str = r#"
+/// Many lines, and long ones.
+pub(super) const INPUTS: &str = r#"
 0 | ~n\tunix\n~20000~ | ~n\tyes\n~20000~
 0 | ~n\ta\r\n~40000~ | ~n\tunknown\n\ttrue with 1\n\tfalse with 0\n~40000~
 1 | ~n\tunix\n~5000~n\tkey) | line 5001:\nkey)\n   ^ unopened parens\n
@@ -46,8 +43,3 @@ const INPUTS: &str = r#"
 0 | n\t~not(~10000~a~)~10000~\n | n\tunknown\n\ttrue with 1\n\tfalse with 0\n
 0 | n\t~not(~10001~a~)~10001~\n | n\tunknown\n\ttrue with 0\n\tfalse with 1\n
 "#;
-
-#[test]
-fn many_lines_and_long_ones(rt: HostRuntime) -> Result<(), String> {
-    check_inputs(rt.alloc(), SIM, ALL, INPUTS, 14)
-}

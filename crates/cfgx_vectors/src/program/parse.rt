@@ -1,5 +1,4 @@
 //! `cfgx parse` writes the predicates of its text, one a line, or what its fault prints.
-use cfgx_testing::words::check_runs;
 
 pub(super) const RUNS: &str = r#"
 0 | b\na\nc\n | parse | all(a, any(b), c)
@@ -23,8 +22,3 @@ target_has_atomic = "8x"
 1 | \n empty expression\n | parse | \e
 0 | a\n | parse | a
 "#;
-
-#[test]
-fn predicates_and_faults(rt: HostRuntime) -> Result<(), String> {
-    check_runs(rt.alloc(), RUNS, 19)
-}

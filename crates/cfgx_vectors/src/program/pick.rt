@@ -1,12 +1,11 @@
 //! `cfgx pick` writes the verdicts on the sections of its input, or the input's first fault.
-use super::{check_inputs, is_picked, is_row_picked};
+use super::is_picked;
 use cfgx_testing::streams::ALL;
 use cfgx_testing::triples::{IOS, SIM};
-use cfgx_testing::words::check_texts;
 use std::alloc::Global;
 
-// The status, the input, and what is written.
-const LINES: &str = r#"
+/// What a line is.
+pub(super) const LINES: &str = r#"
 // The last line may lack its line feed.
 0 | a\tunix | a\tyes\n
 0 | a\tunix\n | a\tyes\n
@@ -68,13 +67,8 @@ const LINES: &str = r#"
 1 | a\t\t\n | line 1:\n\t\n^ empty expression\n
 "#;
 
-#[test]
-fn an_input_has_lines(rt: HostRuntime) -> Result<(), String> {
-    check_inputs(rt.alloc(), SIM, ALL, LINES, 51)
-}
-
-// What the simulator decides, and what it does not decide, with the fillings that show it.
-const CONDITIONS: &str = r#"
+/// What the simulator decides, and what it does not decide, with the fillings that show it.
+pub(super) const CONDITIONS: &str = r#"
 0 | n\ttrue\n | n\tyes\n
 0 | n\tfalse\n | n\tno\n
 0 | n\tnot(true)\n | n\tno\n
@@ -117,12 +111,7 @@ n\tunknown\n\ttrue with 1001\n\tfalse with 0101\n
 0 | n\tany(a, a, a,)\n | n\tunknown\n\ttrue with 111\n\tfalse with 000\n
 "#;
 
-#[test]
-fn verdicts_with_their_fillings(rt: HostRuntime) -> Result<(), String> {
-    check_inputs(rt.alloc(), SIM, ALL, CONDITIONS, 34)
-}
-
-const FAULTS: &str = r#"
+pub(super) const FAULTS: &str = r#"
 // Only the first faulty line is written.
 1 | a\tunix\nb\tkey)\nc\tunix\n | line 2:\nkey)\n   ^ unopened parens\n
 1 | a\tunix\nb\tfeature = "x"\nx\n | line 3: no tab\n
@@ -143,41 +132,23 @@ const FAULTS: &str = r#"
 1 | a\tb\tc\n | line 1:\nb\tc\n  ^ expected one of `=`, `,`, `)` here\n
 "#;
 
-#[test]
-fn the_first_faulty_line_is_written(rt: HostRuntime) -> Result<(), String> {
-    check_inputs(rt.alloc(), SIM, ALL, FAULTS, 15)
-}
-
-// A triple, and a row as above.
-const ON_TARGETS: &str = r#"
-aarch64-apple-darwin | 0 | m\tany(not(feature = "x"), target_os = "linux", test) | \
-m\tunknown\n\ttrue with 001\n\tfalse with 100\n
-aarch64-apple-ios | 0 | x\ttrue\r\n | x\tyes\n
-aarch64-apple-ios | 0 | \e | \e
-aarch64-apple-ios-sim | 0 | SECTIONS | VERDICTS
-aarch64-apple-ios | 0 | SECTIONS | a\tno\nb\tunknown\n\ttrue with 01\n\tfalse with 00\nc\tno\n
-aarch64-apple-darwin | 0 | a\ttarget_os = "macos"\nb\ttarget_abi = ""\nc\ttarget_os = "ios" | \
-a\tyes\nb\tyes\nc\tno\n
-aarch64-apple-ios-macabi | 0 | \
-a\ttarget_env = "macabi"\nb\ttarget_abi = ""\nc\ttarget_os = "ios" | a\tyes\nb\tno\nc\tyes\n
-aarch64-apple-tvos | 0 | a\ttarget_os = "tvos"\nb\tall(feature = "x", unix) | \
-a\tyes\nb\tunknown\n\ttrue with 11\n\tfalse with 01\n
-aarch64-apple-ios | 0 | a\tunix | a\tyes\n
-aarch64-apple-ios | 1 | a\tunix\n\nb\tkey) | line 3:\nkey)\n   ^ unopened parens\n
+/// Verdicts on other targets too.
+pub(super) const ON_TARGETS: &str = r#"
+0 | m\tany(not(feature = "x"), target_os = "linux", test) | \
+m\tunknown\n\ttrue with 001\n\tfalse with 100\n | aarch64-apple-darwin
+0 | x\ttrue\r\n | x\tyes\n | aarch64-apple-ios
+0 | \e | \e | aarch64-apple-ios
+0 | SECTIONS | VERDICTS | aarch64-apple-ios-sim
+0 | SECTIONS | a\tno\nb\tunknown\n\ttrue with 01\n\tfalse with 00\nc\tno\n | aarch64-apple-ios
+0 | a\ttarget_os = "macos"\nb\ttarget_abi = ""\nc\ttarget_os = "ios" | a\tyes\nb\tyes\nc\tno\n | \
+aarch64-apple-darwin
+0 | a\ttarget_env = "macabi"\nb\ttarget_abi = ""\nc\ttarget_os = "ios" | a\tyes\nb\tno\nc\tyes\n | \
+aarch64-apple-ios-macabi
+0 | a\ttarget_os = "tvos"\nb\tall(feature = "x", unix) | \
+a\tyes\nb\tunknown\n\ttrue with 11\n\tfalse with 01\n | aarch64-apple-tvos
+0 | a\tunix | a\tyes\n | aarch64-apple-ios
+1 | a\tunix\n\nb\tkey) | line 3:\nkey)\n   ^ unopened parens\n | aarch64-apple-ios
 "#;
-
-fn is_picked_on(alloc: Global, row: &[String]) -> bool {
-    match row.split_first() {
-        Some((triple, row)) => is_row_picked(alloc, triple.as_str(), ALL, row),
-        None => false,
-    }
-}
-
-#[test]
-fn verdicts_on_targets(rt: HostRuntime) -> Result<(), String> {
-    let alloc = rt.alloc();
-    check_texts(alloc, ON_TARGETS, 10, |row| is_picked_on(alloc, row))
-}
 
 // Inputs that are not UTF-8, wherever a faulty line stands.
 const NOT_UTF8: &[&[u8]] = &[
@@ -196,13 +167,11 @@ const NOT_UTF8: &[&[u8]] = &[
 
 #[test]
 fn an_input_is_utf_8(rt: HostRuntime) {
+    let alloc = rt.alloc();
     let ended = ("input is not UTF-8\n", 1);
     for input in NOT_UTF8 {
         for triple in [SIM, IOS] {
-            assert!(rt;
-                is_picked(rt.alloc(), triple, ALL, input, ended),
-                "{input:?}"
-            );
+            assert!(rt; is_picked(alloc, triple, ALL, input, ended), "{input:?}");
         }
     }
 }

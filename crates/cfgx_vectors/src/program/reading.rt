@@ -46,7 +46,7 @@ fn other_words_read_nothing(rt: HostRuntime) -> Result<(), String> {
 #[test]
 fn no_empty_slice_is_written(rt: HostRuntime) -> Result<(), String> {
     for each in [1, 2, 3, 7] {
-        check_inputs(rt.alloc(), SIM, each, KINDS, 6)?;
+        check_inputs(rt.alloc(), each, KINDS, 6)?;
     }
     Ok(())
 }

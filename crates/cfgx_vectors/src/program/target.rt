@@ -1,7 +1,7 @@
 //! `cfgx target` writes the value of its text on its target, or what the fault of the text prints.
+use cfgx_testing::rows::check_pairs;
 use cfgx_testing::streams::is_answer;
 use cfgx_testing::triples::{DARWIN, IOS, MACABI, SIM, TVOS};
-use cfgx_testing::words::{check_runs, check_texts};
 use std::alloc::Global;
 
 pub(super) const VALUES: &str = r#"
@@ -39,10 +39,12 @@ pub(super) const VALUES: &str = r#"
 0 | true\n | target | aarch64-apple-ios | unix
 "#;
 
-#[test]
-fn values_on_targets(rt: HostRuntime) -> Result<(), String> {
-    check_runs(rt.alloc(), VALUES, 31)
-}
+pub(super) const FAULTS: &str = r#"
+1 | key)\n   ^ unopened parens\n | target | aarch64-apple-ios | key)
+1 | a)\n ^ unopened parens\n | target | aarch64-apple-darwin | a)
+1 | \n empty expression\n | target | aarch64-apple-ios | \e
+1 | ?a\n^ expected one of `<key>`, `all`, `any`, `not` here\n | target | aarch64-apple-ios | ?a
+"#;
 
 // The value on every target, and the text.
 const EVERYWHERE: &str = r#"
@@ -55,36 +57,19 @@ false\n | any(target_arch = "x86_64", target_vendor = "unknown", windows, target
 target_os = "linux")
 "#;
 
-// Whether the texts have their values on the target.
-fn is_everywhere(alloc: Global, triple: &str, row: &[String]) -> bool {
-    let [value, text] = row else {
-        return false;
-    };
-    is_answer(alloc, &["target", triple, text.as_str()], 0, value.as_str())
+// Whether the text has this value on every target.
+fn is_everywhere(alloc: Global, value: &str, text: &str) -> bool {
+    [DARWIN, IOS, MACABI, SIM, TVOS].iter().all(|triple| is_answer(
+        alloc,
+        &["target", *triple, text],
+        0,
+        value,
+    ))
 }
 
 #[test]
 fn values_on_every_target(rt: HostRuntime) -> Result<(), String> {
-    let alloc = rt.alloc();
-    for triple in [DARWIN, IOS, MACABI, SIM, TVOS] {
-        check_texts(
-            alloc,
-            EVERYWHERE,
-            2,
-            |row| is_everywhere(alloc, triple, row),
-        )?;
-    }
-    Ok(())
-}
-
-pub(super) const FAULTS: &str = r#"
-1 | key)\n   ^ unopened parens\n | target | aarch64-apple-ios | key)
-1 | a)\n ^ unopened parens\n | target | aarch64-apple-darwin | a)
-1 | \n empty expression\n | target | aarch64-apple-ios | \e
-1 | ?a\n^ expected one of `<key>`, `all`, `any`, `not` here\n | target | aarch64-apple-ios | ?a
-"#;
-
-#[test]
-fn faults_of_texts(rt: HostRuntime) -> Result<(), String> {
-    check_runs(rt.alloc(), FAULTS, 4)
+    check_pairs(rt.alloc(), EVERYWHERE, 2, |value, text| {
+        is_everywhere(rt.alloc(), value, text)
+    })
 }

@@ -1,5 +1,4 @@
 //! Words that no command has, and triples that no target has.
-use cfgx_testing::words::check_runs;
 
 pub(super) const WRONG_USE: &str = r#"
 2 | USAGE | parse
@@ -19,11 +18,7 @@ pub(super) const WRONG_USE: &str = r#"
 2 | USAGE | pick | aarch64-apple-ios | \e
 "#;
 
-#[test]
-fn wrong_use(rt: HostRuntime) -> Result<(), String> {
-    check_runs(rt.alloc(), WRONG_USE, 15)
-}
-
+/// A triple is looked up before a text is read.
 pub(super) const UNKNOWN_TRIPLES: &str = r#"
 2 | unknown triple\n | pick | nowhere
 2 | unknown triple\n | pick | \e
@@ -36,8 +31,3 @@ pub(super) const UNKNOWN_TRIPLES: &str = r#"
 2 | unknown triple\n | target | aarch64-apple-tvos-sim | unix
 2 | unknown triple\n | target | aarch64-apple-io | unix
 "#;
-
-#[test]
-fn a_triple_is_looked_up_before_a_text(rt: HostRuntime) -> Result<(), String> {
-    check_runs(rt.alloc(), UNKNOWN_TRIPLES, 10)
-}

@@ -1,9 +1,8 @@
 //! The order of the questions: the first fault of a text that may have several.
-use super::check_faulty;
 
-// A `)` while no function is open, and one that closes a `not` with another number of members
-// than 1.
-const AT_A_PAREN: &str = r#"
+/// A `)` while no function is open, and one that closes a `not` with another number of members
+/// than 1.
+pub(super) const AT_A_PAREN: &str = r#"
 a) 8 | UnopenedParens at 1..2
 key) | UnopenedParens at 3..4
 all()) | UnopenedParens at 5..6
@@ -16,8 +15,8 @@ not(all(), any(a), b) | InvalidNot(3) at 0..21
 true) | UnopenedParens at 4..5
 "#;
 
-// The end after a `=`, and the end while a function is open.
-const CUT_SHORT: &str = r#"
+/// The end after a `=`, and the end while a function is open.
+pub(super) const CUT_SHORT: &str = r#"
 key = | U[`"<value>"`] at 5..5
 key =  | U[`"<value>"`] at 6..6
 all(key = | U[`"<value>"`] at 9..9
@@ -35,8 +34,8 @@ not(feature = "x" | UnclosedParens at 3..17
 all(true | UnclosedParens at 3..8
 "#;
 
-// No root, and several.
-const ROOTS: &str = r#"
+/// The end with no root, and with several.
+pub(super) const NO_ROOT_OR_SEVERAL: &str = r#"
   | Empty at 0..1
 \n\t\n | Empty at 0..3
 \u{a0}\u{3000} | Empty at 0..5
@@ -51,18 +50,3 @@ true, a | MultipleRootPredicates at 0..7
 false, true | MultipleRootPredicates at 0..11
 a, b, c | MultipleRootPredicates at 0..7
 "#;
-
-#[test]
-fn at_a_paren(rt: HostRuntime) -> Result<(), String> {
-    check_faulty(rt.alloc(), AT_A_PAREN, 10)
-}
-
-#[test]
-fn at_an_end_too_early(rt: HostRuntime) -> Result<(), String> {
-    check_faulty(rt.alloc(), CUT_SHORT, 15)
-}
-
-#[test]
-fn at_an_end_with_no_root_or_several(rt: HostRuntime) -> Result<(), String> {
-    check_faulty(rt.alloc(), ROOTS, 13)
-}

@@ -1,7 +1,6 @@
 //! The grammar: texts that are accepted, and what they ask.
-use super::check_accepted;
 
-const ROWS: &str = r#"
+pub(super) const LISTS_WITH_COMMAS: &str = r#"
 a | a
 key, | key
 key,, | key
@@ -32,8 +31,3 @@ not(not(a)) | a
 not(not(not(key,))) | key
 any(any(), all(), a) | a
 "#;
-
-#[test]
-fn accepts_lists_with_commas(rt: HostRuntime) -> Result<(), String> {
-    check_accepted(rt.alloc(), ROWS, 29)
-}

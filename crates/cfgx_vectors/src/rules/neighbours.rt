@@ -1,7 +1,6 @@
 //! What may follow what: the list of terms at a token that may not follow the one before it.
-use super::check_faulty;
 
-const ROWS: &str = r#"
+pub(super) const FAULTS: &str = r#"
 cfg(key)  | U[`=` `,` `)`] at 3..4
 any("x") | U[`<key>` `)` `all` `any` `not`] at 4..7
 all key | U[`(`] at 4..7
@@ -29,8 +28,3 @@ all(( | U[`<key>` `)` `all` `any` `not`] at 4..5
 true false | U[`=` `,` `)`] at 5..10
 true() | U[`=` `,` `)`] at 4..5
 "#;
-
-#[test]
-fn lists_what_may_come_next(rt: HostRuntime) -> Result<(), String> {
-    check_faulty(rt.alloc(), ROWS, 26)
-}

@@ -1,5 +1,4 @@
 //! The order of the predicates: those inside nested functions first, and of each list in turn.
-use super::check_accepted;
 use cfg_expr::error::Failure;
 use cfg_expr::expr::Predicates;
 use cfg_expr::{Expression, Predicate};
@@ -9,7 +8,7 @@ use cfgx_testing::holding::holds;
 use cfgx_testing::rows::check_pairs;
 use std::alloc::{AllocError, Global};
 
-const ROWS: &str = r#"
+pub(super) const INNER_LISTS_FIRST: &str = r#"
 all(a,,b) | a\nb
 all(a,b,,,) | a\nb
 any(a, a, a) | a\na\na
@@ -26,11 +25,6 @@ e4.2"
 all(feature = "a", not(unix), target_has_atomic = "+08", key = "v") | target_family = "unix"\nfeatu\
 re = "a"\ntarget_has_atomic = "8"\nkey = "v"
 "#;
-
-#[test]
-fn ask_the_inner_lists_first(rt: HostRuntime) -> Result<(), String> {
-    check_accepted(rt.alloc(), ROWS, 13)
-}
 
 // Texts, and what each call for the next predicate gives until the end came twice: how many are to
 // come before the call, and the flag that it gives.

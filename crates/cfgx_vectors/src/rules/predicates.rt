@@ -1,14 +1,13 @@
 //! Predicates and literals: what a key means alone and with a value.
-use super::{check_accepted, check_faulty};
 use cfg_expr::error::Failure;
 use cfg_expr::expr::Predicates;
 use cfg_expr::{Expression, Predicate, TargetPredicate};
 use cfgx_testing::holding::holds;
-use cfgx_testing::rows::{check_pairs, check_rows, has_fault};
+use cfgx_testing::rows::check_pairs;
 use std::alloc::{AllocError, Global};
 
-// Texts, and what they ask.
-const VALUES: &str = r#"
+/// Texts, and what they ask.
+pub(super) const VALUES: &str = r#"
 cfg(unix) | target_family = "unix"
 windows | target_family = "windows"
 test | test
@@ -44,13 +43,8 @@ not(not(not(key = "value",))) | key = "value"
 key = "a\nb" | key = "a\nb"
 "#;
 
-#[test]
-fn ask_their_predicates(rt: HostRuntime) -> Result<(), String> {
-    check_accepted(rt.alloc(), VALUES, 33)
-}
-
-// Literals ask nothing. Keys that look like them are flags.
-const LITERALS: &str = r#"
+/// Literals ask nothing. Keys that look like them are flags.
+pub(super) const LITERALS: &str = r#"
 true | \e
 false, | \e
 cfg(true) | \e
@@ -60,11 +54,6 @@ true_ | true_
 any(False, falsey) | False\nfalsey
 key = "true" | key = "true"
 "#;
-
-#[test]
-fn literals_ask_nothing(rt: HostRuntime) -> Result<(), String> {
-    check_accepted(rt.alloc(), LITERALS, 8)
-}
 
 // Texts, and their one predicate.
 const TYPED: &str = r#"
@@ -134,8 +123,8 @@ fn ask_by_their_types(rt: HostRuntime) -> Result<(), String> {
     })
 }
 
-// Texts with a faulty predicate, at its key or at the inside of its value.
-const FAULTS: &str = r#"
+/// Texts with a faulty predicate, at its key or at the inside of its value.
+pub(super) const FAULTS: &str = r#"
 unix = "x" | U[] at 8..9
 unix = "" | U[] at 8..8
 false = "" | U[] at 9..9
@@ -167,65 +156,27 @@ target_pointer_width = "256" | InvalidInteger at 24..27
 target_pointer_width = "ptr" | InvalidInteger at 24..27
 target_has_atomic = "65536" | InvalidHasAtomic at 21..26
 target_has_atomic = "Ptr" | InvalidHasAtomic at 21..24
+// No number is written so.
+target_pointer_width = "" | InvalidInteger at 24..24
+target_pointer_width = "+" | InvalidInteger at 24..25
+target_pointer_width = "-0" | InvalidInteger at 24..26
+target_pointer_width = "++1" | InvalidInteger at 24..27
+target_pointer_width = " 64" | InvalidInteger at 24..27
+target_pointer_width = "6 4" | InvalidInteger at 24..27
+target_pointer_width = "64 " | InvalidInteger at 24..27
+target_pointer_width = "0x40" | InvalidInteger at 24..28
+target_pointer_width = "٣" | InvalidInteger at 24..26
+target_pointer_width = "6_4" | InvalidInteger at 24..27
+target_pointer_width = "99999999999999999999" | InvalidInteger at 24..44
+target_has_atomic = "" | InvalidHasAtomic at 21..21
+target_has_atomic = "+" | InvalidHasAtomic at 21..22
+target_has_atomic = "-0" | InvalidHasAtomic at 21..23
+target_has_atomic = "++1" | InvalidHasAtomic at 21..24
+target_has_atomic = " 64" | InvalidHasAtomic at 21..24
+target_has_atomic = "6 4" | InvalidHasAtomic at 21..24
+target_has_atomic = "64 " | InvalidHasAtomic at 21..24
+target_has_atomic = "0x40" | InvalidHasAtomic at 21..25
+target_has_atomic = "٣" | InvalidHasAtomic at 21..23
+target_has_atomic = "6_4" | InvalidHasAtomic at 21..24
+target_has_atomic = "99999999999999999999" | InvalidHasAtomic at 21..41
 "#;
-
-#[test]
-fn refuse_what_a_key_cannot_mean(rt: HostRuntime) -> Result<(), String> {
-    check_faulty(rt.alloc(), FAULTS, 28)
-}
-
-// Values that write no number.
-const NO_NUMBERS: &str = r#"
-\e
-+
--0
-++1
- 64
-6 4
-64 \e
-0x40
-٣
-6_4
-99999999999999999999
-"#;
-
-// Whether the key with this value has this fault at the value.
-fn is_refused(alloc: Global, key: &str, value: &str, reason: &str) -> bool {
-    let start = key.len().saturating_add(4);
-    let end = start.saturating_add(value.len());
-    let Ok(text) = format!(in alloc; "{key} = \"{value}\"") else {
-        return false;
-    };
-    match format!(in alloc; "{reason} at {start}..{end}") {
-        Ok(fault) => has_fault(alloc, text.as_str(), text.as_str(), fault.as_str()),
-        Err(_) => false,
-    }
-}
-
-// Whether the value of a row is no width and no size of an atomic.
-fn is_no_number(alloc: Global, row: &[String]) -> bool {
-    let [value] = row else {
-        return false;
-    };
-    is_refused(
-        alloc,
-        "target_pointer_width",
-        value.as_str(),
-        "InvalidInteger",
-    ) && is_refused(
-        alloc,
-        "target_has_atomic",
-        value.as_str(),
-        "InvalidHasAtomic",
-    )
-}
-
-#[test]
-fn no_number_is_no_width(rt: HostRuntime) -> Result<(), String> {
-    check_rows(
-        rt.alloc(),
-        NO_NUMBERS,
-        11,
-        |row| is_no_number(rt.alloc(), row),
-    )
-}

@@ -1,5 +1,4 @@
 //! What a fault prints, written out by hand from the rules of the format.
-use super::span_of;
 use cfg_expr::error::{Failure, ParseError, Reason};
 use cfgx_testing::holding::{gives, prints};
 use cfgx_testing::rows::{check_threes, is_fault};
@@ -71,10 +70,9 @@ fn reason_of(name: &str) -> Option<Reason> {
     Some(reason)
 }
 
-// The fault that rows tell so, in this text.
-fn error_of(alloc: Global, text: &str, fault: &str) -> Option<ParseError> {
-    let (name, span) = fault.split_once(" at ")?;
-    let (reason, span) = (reason_of(name)?, span_of(span)?);
+// The fault in this text with the reason of this name.
+fn error_of(alloc: Global, text: &str, span: Range<usize>, name: &str) -> Option<ParseError> {
+    let reason = reason_of(name)?;
     let original = String::from_str(alloc, text).ok()?;
     Some(ParseError {
         original,
@@ -83,20 +81,10 @@ fn error_of(alloc: Global, text: &str, fault: &str) -> Option<ParseError> {
     })
 }
 
-// What a fault with this reason says of itself.
-fn described(alloc: Global, reason: Reason) -> &'static str {
-    let error = ParseError {
-        original: String::new(alloc),
-        span: 0..0,
-        reason,
-    };
-    error.description()
-}
-
 // Whether the reason of this name has these texts.
 fn has_texts(alloc: Global, name: &str, text: &str, description: &str) -> bool {
-    match reason_of(name) {
-        Some(reason) => { prints(alloc, &reason, text) && described(alloc, reason) == description }
+    match error_of(alloc, "", 0..0, name) {
+        Some(error) => { prints(alloc, &error.reason, text) && error.description() == description }
         None => false,
     }
 }
@@ -108,9 +96,16 @@ fn each_reason_has_its_texts(rt: HostRuntime) -> Result<(), String> {
     })
 }
 
+// The fault that rows tell so, in this text.
+fn error_as_told(alloc: Global, text: &str, fault: &str) -> Option<ParseError> {
+    let (name, span) = fault.split_once(" at ")?;
+    let (start, end) = span.split_once("..")?;
+    error_of(alloc, text, start.parse().ok()?..end.parse().ok()?, name)
+}
+
 // Whether the fault that rows tell so prints this.
 fn is_printed(alloc: Global, text: &str, fault: &str, printed: &str) -> bool {
-    match error_of(alloc, text, fault) {
+    match error_as_told(alloc, text, fault) {
         Some(error) => is_fault(alloc, &error, text, fault) && prints(alloc, &error, printed),
         None => false,
     }
@@ -134,11 +129,7 @@ fn equality_of_reasons_is_that_of_their_parts(rt: HostRuntime) {
 
 // The fault of a `)` that closes nothing.
 fn unopened(alloc: Global, text: &str, span: Range<usize>) -> Result<ParseError, AllocError> {
-    Ok(ParseError {
-        original: String::from_str(alloc, text)?,
-        span,
-        reason: Reason::UnopenedParens,
-    })
+    error_of(alloc, text, span, "UnopenedParens").ok_or(AllocError)
 }
 
 // Whether faults at these places of one text are equal.

@@ -2,60 +2,39 @@
 use cfg_expr::error::Failure;
 use cfg_expr::expr::{Predicates, spell};
 use cfg_expr::{Expression, Predicate};
+use cfgx_engine::engine::Sink;
 use cfgx_testing::holding::holds;
 use cfgx_testing::rows::check_pairs;
+use cfgx_testing::streams::{ALL, Recorder};
 use cfgx_testing::texts::repeated;
 use std::alloc::Global;
 use std::io::{self, ErrorKind, Write};
 
-// No limit.
-const ALL: usize = usize::MAX;
-
-// A writer in memory that takes at most `each` bytes a call, and `room` bytes in all. It counts its
-// calls, and that of the number `failing`, counted from 1, fails with an error of this kind.
+// A writer in memory, whose failed calls have an error of this kind.
 #[derive(Drop)]
 struct Slow {
-    bytes: Vec<u8>,
-    each: usize,
-    room: usize,
-    calls: usize,
-    failing: usize,
+    sink: Recorder,
     kind: ErrorKind,
-    has_failed: bool,
-    // Whether a call was of an empty slice, or came after a failed one.
-    is_misused: bool,
 }
 
-impl Slow {
-    // A writer that never fails.
-    fn new(alloc: Global, each: usize) -> Slow {
-        Slow {
-            bytes: Vec::new(alloc),
-            each,
-            room: ALL,
-            calls: 0,
-            failing: 0,
-            kind: ErrorKind::Other,
-            has_failed: false,
-            is_misused: false,
-        }
+// A writer that takes at most `each` bytes a call, and never fails.
+fn slow_writer(alloc: Global, each: usize) -> Slow {
+    let mut sink = Recorder::new(alloc);
+    sink.each = each;
+    Slow {
+        sink,
+        kind: ErrorKind::Other,
     }
 }
 
 impl Write for Slow {
     fn write(&mut self, bytes: &[u8]) -> io::Result<usize> {
-        self.calls = self.calls.saturating_add(1);
-        self.is_misused |= bytes.is_empty() || self.has_failed;
-        if self.calls == self.failing {
-            self.has_failed = true;
+        if self.sink.failures == u64::MAX {
             return Err(io::Error::from(self.kind));
         }
-        let left = self.room.saturating_sub(self.bytes.len());
-        let taken = bytes.len().min(self.each).min(left);
-        self.has_failed |= taken == 0;
-        match self.bytes.extend_from_slice(&bytes[..taken]) {
-            Ok(()) => Ok(taken),
-            Err(_) => Err(io::Error::from(ErrorKind::OutOfMemory)),
+        match Sink::write(&mut self.sink, bytes) {
+            Ok(taken) => Ok(taken),
+            Err(_) => Err(io::Error::from(self.kind)),
         }
     }
 
@@ -111,14 +90,14 @@ fn spell_one(predicate: Predicate<'_>, writer: &mut Slow) -> io::Result<()> {
 
 // Whether the text is spelled so by calls that take at most `each` bytes, none of an empty slice.
 fn is_spelled(alloc: Global, text: &str, spelled: &str, each: usize) -> Result<bool, Failure> {
-    let mut writer = Slow::new(alloc, each);
+    let mut writer = slow_writer(alloc, each);
     let error = spell_each(alloc, text, &mut writer)?;
-    let are_all_used = each > 1 || writer.calls == spelled.len();
+    let are_all_used = each > 1 || writer.sink.writes == spelled.len() as u64;
     Ok(
         error.is_none()
             && are_all_used
-            && !writer.is_misused
-            && writer.bytes.as_slice() == spelled.as_bytes(),
+            && !writer.sink.is_misused
+            && writer.sink.bytes.as_slice() == spelled.as_bytes(),
     )
 }
 
@@ -162,33 +141,29 @@ fn is_long(alloc: Global, front: &str, back: &str) -> bool {
 
 #[test]
 fn spells_long_texts(rt: HostRuntime) -> Result<(), String> {
-    check_pairs(
-        rt.alloc(),
-        LONG,
-        12,
-        |front, back| is_long(rt.alloc(), front, back),
-    )
+    let alloc = rt.alloc();
+    check_pairs(alloc, LONG, 12, |front, back| is_long(alloc, front, back))
 }
 
 // No text asks such a flag, so only a caller can make it.
 #[test]
 fn a_flag_that_is_read_as_a_literal(rt: HostRuntime) {
-    let mut writer = Slow::new(rt.alloc(), 1);
+    let mut writer = slow_writer(rt.alloc(), 1);
     assert!(rt; spell_one(Predicate::Flag("true"), &mut writer).is_ok());
-    assert_eq!(rt; writer.bytes.as_slice(), b"true".as_slice());
+    assert_eq!(rt; writer.sink.bytes.as_slice(), b"true".as_slice());
 }
 
 // Whether the writer has this beginning of the spelling, and no call came after a failed one.
 fn has_front(writer: &Slow, spelled: &str, length: usize) -> bool {
-    writer.bytes.len() == length
-        && spelled.as_bytes().starts_with(writer.bytes.as_slice())
-        && !writer.is_misused
+    writer.sink.bytes.len() == length
+        && spelled.as_bytes().starts_with(writer.sink.bytes.as_slice())
+        && !writer.sink.is_misused
 }
 
 // Whether a beginning of the spelling was written, this many bytes, if no more have room.
 fn stops_after(alloc: Global, text: &str, spelled: &str, room: usize) -> Result<bool, Failure> {
-    let mut writer = Slow::new(alloc, 4);
-    writer.room = room;
+    let mut writer = slow_writer(alloc, 4);
+    writer.sink.room = room;
     let error = spell_each(alloc, text, &mut writer)?;
     Ok(error == Some(ErrorKind::WriteZero) && has_front(&writer, spelled, room))
 }
@@ -219,11 +194,11 @@ fn fails_at(
     failing: usize,
     kind: ErrorKind,
 ) -> Result<bool, Failure> {
-    let mut writer = Slow::new(alloc, 1);
-    writer.failing = failing;
+    let mut writer = slow_writer(alloc, 1);
+    writer.sink.failing_write = failing as u64;
     writer.kind = kind;
     let error = spell_each(alloc, text, &mut writer)?;
-    let is_last = error == Some(kind) && writer.calls == failing;
+    let is_last = error == Some(kind) && writer.sink.writes == failing as u64;
     Ok(is_last && has_front(&writer, spelled, failing.saturating_sub(1)))
 }
 

@@ -2,7 +2,7 @@
 use cfg_expr::Expression;
 use cfg_expr::error::Failure;
 use cfgx_testing::holding::{holds, prints};
-use cfgx_testing::rows::{check_pairs, check_threes, has_fault};
+use cfgx_testing::rows::{check_pairs, check_threes};
 use std::alloc::Global;
 use std::test::Fail;
 
@@ -35,8 +35,8 @@ fn keep_and_print_the_stripped_text(rt: HostRuntime) -> Result<(), String> {
     })
 }
 
-// Faulty texts, their faults, and what they are stripped to.
-const FAULTS: &str = r#"
+/// Faulty texts, their faults, and what they are stripped to.
+pub(super) const FAULTS: &str = r#"
 cfg() | Empty at 0..0 | \e
 cfg( ) | Empty at 0..1 |  \e
 cfg(a b) | U[`=` `,` `)`] at 2..3 | a b
@@ -45,13 +45,6 @@ cfg(not(a, b)) | InvalidNot(2) at 0..9 | not(a, b)
 cfg(unix = "x") | U[] at 8..9 | unix = "x"
 "#;
 
-#[test]
-fn count_from_the_stripped_text(rt: HostRuntime) -> Result<(), String> {
-    check_threes(rt.alloc(), FAULTS, 6, |text, fault, original| {
-        has_fault(rt.alloc(), text, original, fault)
-    })
-}
-
 // Two texts, and whether their expressions are equal.
 const PAIRS: &str = r#"
 key | key | equal
@@ -59,30 +52,27 @@ cfg(key) | key | equal
 key | key, | different
 "#;
 
-// Whether the text has an expression that is equal to this one.
-fn is_equal(alloc: Global, expression: &Expression, text: &str) -> Result<bool, Failure> {
+// Whether the text has an expression, and that is equal to this one or is not, as is wanted.
+fn is_equal(
+    alloc: Global,
+    expression: &Expression,
+    text: &str,
+    wanted: bool,
+) -> Result<bool, Failure> {
     let other = Expression::parse(alloc, text)?;
-    Ok(*expression == other)
-}
-
-// Whether two texts have equal expressions.
-fn are_equal(alloc: Global, one: &str, other: &str) -> Result<bool, Failure> {
-    let expression = Expression::parse(alloc, one)?;
-    is_equal(alloc, &expression, other)
+    Ok((*expression == other) == wanted)
 }
 
 // Whether the expressions of two texts are as a row says.
-fn are_as_said(alloc: Global, one: &str, other: &str, wanted: &str) -> bool {
-    match are_equal(alloc, one, other) {
-        Ok(are_equal) => wanted == if are_equal { "equal" } else { "different" },
-        Err(_) => false,
-    }
+fn are_as_said(alloc: Global, one: &str, other: &str, wanted: &str) -> Result<bool, Failure> {
+    let expression = Expression::parse(alloc, one)?;
+    is_equal(alloc, &expression, other, wanted == "equal")
 }
 
 #[test]
 fn are_equal_by_their_stripped_texts(rt: HostRuntime) -> Result<(), String> {
     check_threes(rt.alloc(), PAIRS, 3, |one, other, wanted| {
-        are_as_said(rt.alloc(), one, other, wanted)
+        holds(are_as_said(rt.alloc(), one, other, wanted))
     })
 }
 

@@ -1,5 +1,4 @@
 //! Tokens: the items of a text, the white space between them, and lexical faults.
-use super::{check_accepted, check_faulty};
 use cfg_expr::error::{Failure, ParseError};
 use cfg_expr::expr::lexer::{Lexer, LexerToken};
 use cfgx_testing::rows::{check_rows, told};
@@ -39,14 +38,14 @@ fn item_as_told(alloc: Global, item: &LexerToken<'_>) -> Result<String, AllocErr
         return String::from_str(alloc, "another copy");
     }
     let (token, start, end) = (item.token, item.span.start, item.span.end);
-    format!(in alloc; "{token} at {start}..{end}")
+    format!(in alloc; "{token} at {start}..{end}, ")
 }
 
 // The fault, and the text in which it is.
 fn fault_as_told(alloc: Global, error: &ParseError) -> Result<String, AllocError> {
     let fault = told(alloc, error)?;
     let original = error.original.as_str();
-    format!(in alloc; "{fault} in {original}")
+    format!(in alloc; "{fault} in {original}, ")
 }
 
 // What the next call gives.
@@ -58,14 +57,19 @@ fn next_as_told(alloc: Global, lexer: &mut Lexer<'_>) -> Result<String, AllocErr
     }
 }
 
+// Whether a field tells this item and how many bytes are left after it.
+fn is_told(alloc: Global, item: &str, lexer: &Lexer<'_>, wanted: &str) -> bool {
+    let left = lexer.items_left_bound();
+    match format!(in alloc; "{item}{left} left") {
+        Ok(found) => found.as_str() == wanted,
+        Err(_) => false,
+    }
+}
+
 // Whether the next call gives this.
 fn gives(alloc: Global, lexer: &mut Lexer<'_>, wanted: &str) -> bool {
-    let Ok(next) = next_as_told(alloc, lexer) else {
-        return false;
-    };
-    let left = lexer.items_left_bound();
-    match format!(in alloc; "{next}, {left} left") {
-        Ok(found) => found.as_str() == wanted,
+    match next_as_told(alloc, lexer) {
+        Ok(next) => is_told(alloc, next.as_str(), lexer, wanted),
         Err(_) => false,
     }
 }
@@ -90,22 +94,13 @@ fn has_ended(lexer: &mut Lexer<'_>) -> bool {
     true
 }
 
-// Whether so many bytes are left.
-fn has_left(alloc: Global, lexer: &Lexer<'_>, wanted: &str) -> bool {
-    let left = lexer.items_left_bound();
-    match format!(in alloc; "{left} left") {
-        Ok(found) => found.as_str() == wanted,
-        Err(_) => false,
-    }
-}
-
 // Whether the text of a row has its items, and nothing comes after them.
 fn has_items(alloc: Global, row: &[String]) -> bool {
     let [text, before, items @ ..] = row else {
         return false;
     };
     let mut lexer = Lexer::new(alloc, text.as_str());
-    has_left(alloc, &lexer, before.as_str())
+    is_told(alloc, "", &lexer, before.as_str())
         && gives_all(alloc, &mut lexer, items)
         && has_ended(&mut lexer)
 }
@@ -115,7 +110,8 @@ fn gives_every_item(rt: HostRuntime) -> Result<(), String> {
     check_rows(rt.alloc(), ITEMS, 12, |row| has_items(rt.alloc(), row))
 }
 
-const WHITE_SPACE: &str = r#"
+/// White space stands anywhere.
+pub(super) const WHITE_SPACE: &str = r#"
 \u{a0}key | key
 \u{3000}key | key
 cfg(\u{a0}key\u{a0}) | key
@@ -125,12 +121,8 @@ all(\n\ta,\r\n\tb\n)\n | a\nb
 \u{3000}all\u{2003}(\u{a0}a\u{2028},\u{85}b\u{1680})\u{202f} | a\nb
 "#;
 
-#[test]
-fn white_space_stands_anywhere(rt: HostRuntime) -> Result<(), String> {
-    check_accepted(rt.alloc(), WHITE_SPACE, 7)
-}
-
-const FAULTS: &str = r#"
+/// What starts no token, and what may not stand first.
+pub(super) const FAULTS: &str = r#"
 , | U[`<key>` `all` `any` `not`] at 0..1
 ) | U[`<key>` `all` `any` `not`] at 0..1
 ( | U[`<key>` `all` `any` `not`] at 0..1
@@ -153,8 +145,3 @@ not(key = "value) | UnclosedQuotes at 10..17
 key = "é | UnclosedQuotes at 6..9
 "x" | U[`<key>` `all` `any` `not`] at 0..3
 "#;
-
-#[test]
-fn refuse_what_starts_no_token(rt: HostRuntime) -> Result<(), String> {
-    check_faulty(rt.alloc(), FAULTS, 21)
-}
