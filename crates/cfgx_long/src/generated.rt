@@ -42,10 +42,7 @@ fn spellings(alloc: Global, predicates: Predicates<'_>) -> Option<Vec<u8>> {
 }
 
 fn is_same(one: Predicate<'_>, other: Option<Predicate<'_>>) -> bool {
-    let is_same = match &other {
-        Some(other) => one == *other,
-        None => false,
-    };
+    let is_same = matches!(&other, Some(other) if one == *other);
     drop(one);
     drop(other);
     is_same
@@ -78,106 +75,51 @@ fn is_expression(alloc: Global, numbers: &mut Numbers, expression: &Expression) 
 // Whether the fault lies in the text, which it has a copy of, and prints.
 fn is_fault(alloc: Global, error: &ParseError, text: &str) -> Result<bool, AllocError> {
     let printed = format!(in alloc; "{error}")?;
-    Ok(
-        error.span.start <= error.span.end
-            && error.span.end <= error.original.len()
-            && text.contains(error.original.as_str())
-            && printed.as_str().starts_with(error.original.as_str()),
-    )
+    let (original, start, end) = (error.original.as_str(), error.span.start, error.span.end);
+    let is_inside = start <= end && end <= original.len() && text.contains(original);
+    Ok(is_inside && printed.as_str().starts_with(original))
 }
 
-/// What a text is.
-#[derive(Clone, Copy)]
-enum Seen {
-    /// It is accepted, and asks so many predicates.
-    Accepted(usize),
-    /// It has a fault.
-    Refused,
-    /// Something of it is wrong, or a call was out of memory.
-    Wrong,
-}
-
-fn look_at(alloc: Global, numbers: &mut Numbers, text: &str) -> Seen {
+// Whether the text is accepted, and whether it asks at least two predicates, as numbers to add up.
+// It is nothing if the text is not as it has to be.
+fn seen(alloc: Global, numbers: &mut Numbers, text: &str) -> Option<(usize, usize)> {
     match Expression::parse(alloc, text) {
         Ok(expression) if is_expression(alloc, numbers, &expression) => {
-            Seen::Accepted(expression.predicates().left())
+            Some((1, usize::from(expression.predicates().left() > 1)))
         }
-        Err(Failure::Parse(error)) if holds(is_fault(alloc, &error, text)) => Seen::Refused,
-        _ => Seen::Wrong,
-    }
-}
-
-// What the text is that the numbers make next.
-fn next_seen(alloc: Global, numbers: &mut Numbers) -> Seen {
-    match made(alloc, numbers) {
-        Ok(text) => look_at(alloc, numbers, text.as_str()),
-        Err(_) => Seen::Wrong,
-    }
-}
-
-/// How many texts were accepted, how many of these ask at least two predicates, how many were
-/// refused, and the number of the first one that is wrong.
-#[derive(Clone, Copy, Debug)]
-struct Counts {
-    accepted: usize,
-    asking: usize,
-    refused: usize,
-    wrong: Option<usize>,
-}
-
-// The counts over so many texts.
-fn counts_of(alloc: Global, seed: u64, texts: usize) -> Counts {
-    let mut numbers = Numbers::new(seed);
-    let mut counts = Counts {
-        accepted: 0,
-        asking: 0,
-        refused: 0,
-        wrong: None,
-    };
-    for number in 0..texts {
-        counts.add(number, next_seen(alloc, &mut numbers));
-    }
-    counts
-}
-
-impl Counts {
-    fn add(&mut self, number: usize, seen: Seen) {
-        match seen {
-            Seen::Accepted(asked) => {
-                self.accepted = self.accepted.saturating_add(1);
-                if asked > 1 {
-                    self.asking = self.asking.saturating_add(1);
-                }
-            }
-            Seen::Refused => self.refused = self.refused.saturating_add(1),
-            Seen::Wrong => self.wrong = self.wrong.or(Some(number)),
-        }
+        Err(Failure::Parse(error)) if holds(is_fault(alloc, &error, text)) => Some((0, 0)),
+        _ => None,
     }
 }
 
 // Texts of one seed.
 const TEXTS: usize = 2_500;
 
-// Whether nothing is wrong, and both sides are reached often.
-fn is_as_said(counts: Counts) -> bool {
-    counts.wrong.is_none()
-        && counts.accepted >= 500
-        && counts.asking >= 300
-        && counts.refused >= 500
+// How many texts are accepted, and how many of these ask at least two predicates. The error is the
+// first text that is not as it has to be.
+fn counts_of(alloc: Global, seed: u64) -> Result<(usize, usize), String> {
+    let mut numbers = Numbers::new(seed);
+    let (mut accepted, mut asking) = (0usize, 0usize);
+    for _text in 0..TEXTS {
+        let Ok(text) = made(alloc, &mut numbers) else {
+            return Err(String::new(alloc));
+        };
+        let Some((is_accepted, is_asking)) = seen(alloc, &mut numbers, text.as_str()) else {
+            return Err(text);
+        };
+        accepted = accepted.saturating_add(is_accepted);
+        asking = asking.saturating_add(is_asking);
+    }
+    Ok((accepted, asking))
 }
 
+// Some are refused and some accepted, at least 500 of each.
 #[test]
-fn the_first_texts_are_as_said(rt: HostRuntime) {
-    for seed in [1, 2] {
-        let counts = counts_of(rt.alloc(), seed, TEXTS);
-        assert!(rt; is_as_said(counts), "{counts:?}");
+fn texts_are_as_said(rt: HostRuntime) -> Result<(), String> {
+    for seed in 1..=4 {
+        let (accepted, asking) = counts_of(rt.alloc(), seed)?;
+        let are_enough = (500..=TEXTS - 500).contains(&accepted) && asking >= 300;
+        assert!(rt; are_enough, "{accepted} {asking}");
     }
-}
-
-#[test]
-fn the_other_texts_are_as_said(rt: HostRuntime) {
-    for seed in [3, 4] {
-        let counts = counts_of(rt.alloc(), seed, TEXTS);
-        assert!(rt; is_as_said(counts), "{counts:?}");
-    }
+    Ok(())
 }

@@ -1,7 +1,7 @@
 //! An input has at most 16,777,216 bytes, which is judged before anything else of it.
-use cfgx_engine::engine::{Input, read_input, run};
+use cfgx_engine::engine::{Input, read_input};
 use cfgx_testing::heap::{Heap, empty_heap, has_every_block};
-use cfgx_testing::streams::{ALL, Counting, Pieces, Recorder, is_written};
+use cfgx_testing::streams::{ALL, Counting, is_run_over};
 use cfgx_testing::triples::IOS;
 use std::alloc::{AllocError, Global};
 use std::test::Fail;
@@ -40,28 +40,20 @@ fn an_input_has_at_most_sixteen_mebibytes(rt: HostRuntime) {
 
 // How many line feeds an input has, what stands in place of the first one, what is written, and the
 // status. The length is judged before UTF-8.
-const JUDGED: &[(usize, u8, &str, u8)] = &[
-    (16_777_217, b'\n', "input too long\n", 1),
-    (16_777_217, b'\xff', "input too long\n", 1),
-    (16_777_216, b'\xff', "input is not UTF-8\n", 1),
-    (16_777_216, b'\n', "", 0),
+const JUDGED: &[(usize, u8, (&str, u8))] = &[
+    (16_777_217, b'\n', ("input too long\n", 1)),
+    (16_777_217, b'\xff', ("input too long\n", 1)),
+    (16_777_216, b'\xff', ("input is not UTF-8\n", 1)),
+    (16_777_216, b'\n', ("", 0)),
 ];
 
-// Whether a run of `pick` over the input reads all of it, writes this and ends with this status.
-fn is_picked(alloc: Global, input: &[u8], written: &str, status: u8) -> bool {
-    let mut source = Pieces::new(input, ALL, 0);
-    let mut sink = Recorder::new(alloc);
-    let found = run(alloc, &["pick", IOS], &mut source, &mut sink);
-    is_written(&sink, written.as_bytes()) && found == status && source.is_read_whole()
-}
-
-fn is_judged(alloc: Global, row: &(usize, u8, &str, u8)) -> Result<bool, AllocError> {
-    let (count, first, written, status) = row;
-    let mut input = vec![in alloc; b'\n'; *count]?;
+fn is_judged(alloc: Global, row: &(usize, u8, (&str, u8))) -> Result<bool, AllocError> {
+    let (count, first, ended) = *row;
+    let mut input = vec![in alloc; b'\n'; count]?;
     if let Some(byte) = input.first_mut() {
-        *byte = *first;
+        *byte = first;
     }
-    Ok(is_picked(alloc, input.as_slice(), written, *status))
+    Ok(is_run_over(alloc, &["pick", IOS], ALL, input.as_slice(), ended))
 }
 
 #[test]

@@ -12,5 +12,3 @@ mod generated;
 mod input;
 #[cfg(test)]
 mod one_by_one;
-#[cfg(test)]
-mod text;

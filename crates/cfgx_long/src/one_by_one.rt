@@ -1,8 +1,7 @@
 //! The fillings of all short conditions over all answers, one by one.
-use cfg_expr::{Expression, Predicate};
-use cfgx_testing::answers::agree;
+use cfg_expr::Expression;
+use cfgx_testing::answers::{Answer, agree, value_with};
 use std::alloc::{AllocError, Global};
-use std::process::Abort;
 use std::test::Fail;
 
 // The texts, those that are a `not` of one of them, and those that are a function of two.
@@ -28,13 +27,8 @@ fn all_texts(alloc: Global) -> Result<Vec<String>, AllocError> {
     grown(alloc, texts.as_slice())
 }
 
-// How many lists of answers there are for so many predicates, up to four, the most that a text has.
-fn cases_of(predicates: usize) -> usize {
-    [1, 3, 9, 27, 81].get(predicates).copied().unwrap_or(0)
-}
-
 // The answers of this number, which has one digit in base three for each of them.
-fn answers_of(alloc: Global, number: usize, count: usize) -> Result<Vec<Option<bool>>, AllocError> {
+fn answers_of(alloc: Global, number: usize, count: usize) -> Result<Vec<Answer>, AllocError> {
     let mut answers = Vec::with_capacity(alloc, count)?;
     let mut rest = number;
     for _place in 0..count {
@@ -45,72 +39,60 @@ fn answers_of(alloc: Global, number: usize, count: usize) -> Result<Vec<Option<b
 }
 
 // The value over `bool` if the bits of the number stand for the unknown answers.
-fn value_filled_by(
-    alloc: Global,
-    expression: &Expression,
-    answers: &[Option<bool>],
-    number: usize,
-) -> Result<bool, AllocError> {
-    let mut left = answers.iter();
-    let mut rest = number;
-    let mut answer = |_predicate: &Predicate<'_>| {
-        let bit = rest % 2 == 1;
+fn value(alloc: Global, expression: &Expression, answers: &[Answer], bits: usize) -> Option<bool> {
+    let mut rest = bits;
+    let mut filled = Vec::with_capacity(alloc, answers.len()).ok()?;
+    for answer in answers {
+        filled.push(answer.unwrap_or(rest % 2 == 1)).ok()?;
         rest /= 2;
-        left.next().copied().flatten().unwrap_or(bit)
-    };
-    expression.eval(alloc, &mut answer)
+    }
+    value_with(alloc, expression, filled.as_slice())
 }
 
-// The value to which all fillings lead, or nothing if they differ. Up to four bits fill them.
-fn common_value(
-    alloc: Global,
-    expression: &Expression,
-    answers: &[Option<bool>],
-) -> Result<Option<bool>, AllocError> {
-    let value = value_filled_by(alloc, expression, answers, 0)?;
-    for number in 1..1 << answers.len().min(4) {
-        if value_filled_by(alloc, expression, answers, number)? != value {
-            return Ok(None);
+// The value to which all fillings lead, or unknown if they differ. Up to four bits fill them.
+fn common_value(alloc: Global, expression: &Expression, answers: &[Answer]) -> Option<Answer> {
+    let first = value(alloc, expression, answers, 0)?;
+    for bits in 1..1 << answers.len().min(4) {
+        if value(alloc, expression, answers, bits)? != first {
+            return Some(None);
         }
     }
-    Ok(Some(value))
+    Some(Some(first))
 }
 
 // Whether the fillings one by one agree with the three calls over the answers of this number.
-fn agree_at(alloc: Global, expression: &Expression, number: usize) -> Result<bool, AllocError> {
-    let answers = answers_of(alloc, number, expression.predicates().left())?;
+fn agree_at(alloc: Global, expression: &Expression, number: usize) -> Option<bool> {
+    let answers = answers_of(alloc, number, expression.predicates().left()).ok()?;
     let value = common_value(alloc, expression, answers.as_slice())?;
-    agree(alloc, expression, answers.as_slice(), value)
+    Some(agree(alloc, expression, answers.as_slice(), value))
 }
 
-// The number of the first answers over which they do not agree, of so many.
-fn first_wrong(
-    alloc: Global,
-    expression: &Expression,
-    cases: usize,
-) -> Result<Option<usize>, AllocError> {
+// Whether they agree over each of so many lists of answers.
+fn agree_over(alloc: Global, expression: &Expression, cases: usize) -> bool {
     for number in 0..cases {
-        if !agree_at(alloc, expression, number)? {
-            return Ok(Some(number));
+        if agree_at(alloc, expression, number) != Some(true) {
+            return false;
         }
     }
-    Ok(None)
+    true
 }
 
-// Asserts that they agree over all answers to the text, and answers how many these are.
-fn agreeing(rt: &impl Abort, alloc: Global, text: &str) -> Result<usize, Fail> {
-    let expression = Expression::parse(alloc, text)?;
-    let cases = cases_of(expression.predicates().left());
-    let wrong = first_wrong(alloc, &expression, cases)?;
-    assert!(rt; wrong.is_none() && cases > 0, "answers {wrong:?} of {text}");
-    Ok(cases)
+// How many lists of answers there are to a text, if they agree over each. It asks up to four
+// predicates.
+fn agreeing(alloc: Global, text: &str) -> Option<usize> {
+    let expression = Expression::parse(alloc, text).ok()?;
+    let left = expression.predicates().left();
+    let cases = [1, 3, 9, 27, 81].get(left).copied().unwrap_or(0);
+    agree_over(alloc, &expression, cases).then_some(cases)
 }
 
 #[test]
 fn fillings_one_by_one(rt: HostRuntime) -> Result<(), Fail> {
     let mut cases = 0usize;
     for text in &all_texts(rt.alloc())? {
-        cases = cases.saturating_add(agreeing(&rt, rt.alloc(), text.as_str())?);
+        let found = agreeing(rt.alloc(), text.as_str()).unwrap_or(0);
+        assert!(rt; found > 0, "{text}");
+        cases = cases.saturating_add(found);
     }
     assert!(rt; cases > 5_000, "{cases} cases");
     Ok(())

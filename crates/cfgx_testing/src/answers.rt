@@ -1,11 +1,15 @@
 //! The values of a condition over one list of answers, however they are asked for.
+use crate::holding::holds;
 use cfg_expr::expr::Logic;
 use cfg_expr::expr::logic::Kleene64;
 use cfg_expr::{Expression, Predicate};
 use std::alloc::{AllocError, Global};
 
+/// True, false, or unknown.
+pub type Answer = Option<bool>;
+
 /// What a digit of a row stands for: `1`, `0`, or anything else for unknown.
-pub fn answer_of(digit: u8) -> Option<bool> {
+pub fn answer_of(digit: u8) -> Answer {
     match digit {
         b'1' => Some(true),
         b'0' => Some(false),
@@ -14,7 +18,7 @@ pub fn answer_of(digit: u8) -> Option<bool> {
 }
 
 /// The same answer in each lane.
-pub fn in_each(answer: Option<bool>) -> Kleene64 {
+pub fn in_each(answer: Answer) -> Kleene64 {
     match answer {
         Some(true) => Kleene64::top(),
         Some(false) => Kleene64::bottom(),
@@ -33,16 +37,20 @@ pub fn are_lanes(lanes: Kleene64, digits: &[u8]) -> bool {
     true
 }
 
-/// The value over the answers, one after another.
+/// The value over the answers, if one after another is asked for, and no more.
 pub fn value_with<T: Logic + Copy>(
     alloc: Global,
     expression: &Expression,
     answers: &[T],
-    otherwise: T,
-) -> Result<T, AllocError> {
-    let mut left = answers.iter();
-    let mut answer = |_predicate: &Predicate<'_>| left.next().copied().unwrap_or(otherwise);
-    expression.eval(alloc, &mut answer)
+) -> Option<T> {
+    let mut count = 0usize;
+    let mut answer = |_predicate: &Predicate<'_>| {
+        let answer = answers.get(count).copied();
+        count = count.saturating_add(1);
+        answer.unwrap_or(T::bottom())
+    };
+    let value = expression.eval(alloc, &mut answer).ok()?;
+    (count == answers.len()).then_some(value)
 }
 
 /// The value in lanes, if there is one answer for each predicate.
@@ -59,7 +67,7 @@ pub fn value_in_lanes(
 }
 
 // Whether it has each answer that is known.
-fn is_filling(filling: &[bool], answers: &[Option<bool>]) -> bool {
+fn is_filling(filling: &[bool], answers: &[Answer]) -> bool {
     for (value, answer) in filling.iter().zip(answers) {
         if answer.unwrap_or(*value) != *value {
             return false;
@@ -72,57 +80,40 @@ fn is_filling(filling: &[bool], answers: &[Option<bool>]) -> bool {
 fn leads_to(
     alloc: Global,
     expression: &Expression,
-    answers: &[Option<bool>],
+    answers: &[Answer],
     filling: &[bool],
     value: bool,
-) -> Result<bool, AllocError> {
-    let found = value_with(alloc, expression, filling, !value)?;
-    Ok(found == value && is_filling(filling, answers))
+) -> bool {
+    value_with(alloc, expression, filling) == Some(value) && is_filling(filling, answers)
 }
 
-// Whether these are fillings of the answers that lead to true and to false.
-fn lead_to_both(
+// Whether there are two fillings exactly if the value is unknown, one for each truth value.
+fn are_fillings(
     alloc: Global,
     expression: &Expression,
-    answers: &[Option<bool>],
-    with_true: &[bool],
-    with_false: &[bool],
-) -> Result<bool, AllocError> {
-    Ok(
-        leads_to(alloc, expression, answers, with_true, true)?
-            && leads_to(alloc, expression, answers, with_false, false)?,
-    )
-}
-
-/// Whether there are two fillings exactly if the value is unknown, one for each truth value.
-pub fn are_fillings(
-    alloc: Global,
-    expression: &Expression,
-    answers: &[Option<bool>],
-    value: Option<bool>,
+    answers: &[Answer],
+    value: Answer,
 ) -> Result<bool, AllocError> {
     if expression.predicates().left() != answers.len() {
         return Ok(false);
     }
-    match expression.polar_fillings(alloc, answers)? {
-        Some((with_true, with_false)) if value.is_none() => lead_to_both(
-            alloc,
-            expression,
-            answers,
-            with_true.as_slice(),
-            with_false.as_slice(),
-        ),
-        Some(_) => Ok(false),
-        None => Ok(value.is_some()),
-    }
+    let fillings = expression.polar_fillings(alloc, answers)?;
+    Ok(match &fillings {
+        Some((one, other)) => {
+            value.is_none()
+                && leads_to(alloc, expression, answers, one.as_slice(), true)
+                && leads_to(alloc, expression, answers, other.as_slice(), false)
+        }
+        None => value.is_some(),
+    })
 }
 
 // Whether the value over these answers in each lane is this one in each lane.
 fn agrees_in_lanes(
     alloc: Global,
     expression: &Expression,
-    answers: &[Option<bool>],
-    value: Option<bool>,
+    answers: &[Answer],
+    value: Answer,
 ) -> Result<bool, AllocError> {
     let mut lanes = Vec::with_capacity(alloc, answers.len())?;
     for answer in answers {
@@ -132,15 +123,8 @@ fn agrees_in_lanes(
 }
 
 /// Whether this is the value over the answers, by each of the three calls.
-pub fn agree(
-    alloc: Global,
-    expression: &Expression,
-    answers: &[Option<bool>],
-    value: Option<bool>,
-) -> Result<bool, AllocError> {
-    Ok(
-        value_with(alloc, expression, answers, None)? == value
-            && agrees_in_lanes(alloc, expression, answers, value)?
-            && are_fillings(alloc, expression, answers, value)?,
-    )
+pub fn agree(alloc: Global, expression: &Expression, answers: &[Answer], value: Answer) -> bool {
+    value_with(alloc, expression, answers) == Some(value)
+        && holds(agrees_in_lanes(alloc, expression, answers, value))
+        && holds(are_fillings(alloc, expression, answers, value))
 }

@@ -3,22 +3,13 @@
 //! A line that is empty or begins with `// ` is no row. A backslash at the end of a line says that
 //! the row goes on in the next one. The fields of a row are divided by ` | `. In a field `\n`,
 //! `\t`, `\r`, `\0` and `\\` stand for what they are in Rust, `\u{a0}` for the character of that
-//! number, and `\e` for nothing, so that a field can be empty.
+//! number, and `\e` for nothing, so that a field can be empty. `~piece~times~` stands for the piece
+//! so many times, and a field that is `USAGE`, `SECTIONS` or `VERDICTS` for the text of that name.
+use crate::streams::USAGE;
+use crate::words::{SECTIONS, VERDICTS};
 use cfg_expr::Expression;
 use cfg_expr::error::{Failure, ParseError, Reason};
 use std::alloc::{AllocError, Global};
-
-// The character that stands after a backslash, or nothing for `e`.
-fn meant(letter: char) -> Option<&'static str> {
-    match letter {
-        'n' => Some("\n"),
-        't' => Some("\t"),
-        'r' => Some("\r"),
-        '0' => Some("\0"),
-        'e' => Some(""),
-        _ => None,
-    }
-}
 
 // Adds what a piece after a backslash stands for, unless it is no escape.
 fn push_meant(text: &mut String, piece: &str) -> Option<()> {
@@ -29,41 +20,70 @@ fn push_meant(text: &mut String, piece: &str) -> Option<()> {
         return text.push_str(rest).ok();
     }
     let mut letters = piece.chars();
-    let meant = meant(letters.next()?)?;
+    let meant = match letters.next()? {
+        'n' => "\n",
+        't' => "\t",
+        'r' => "\r",
+        '0' => "\0",
+        'e' => "",
+        _ => return None,
+    };
     text.push_str(meant).ok()?;
     text.push_str(letters.as_str()).ok()
 }
 
-/// The text that a field stands for, or nothing if it has an escape of no meaning.
-pub fn unescaped(alloc: Global, field: &str) -> Option<String> {
-    let mut text = String::new(alloc);
-    let mut is_plain = true;
-    for piece in field.split('\\') {
-        if is_plain {
-            text.push_str(piece).ok()?;
-            is_plain = false;
-        } else if piece.is_empty() {
+// The text without escapes, or nothing if one has no meaning.
+fn unescaped(alloc: Global, field: &str) -> Option<String> {
+    let mut pieces = field.split('\\');
+    let mut text = String::from_str(alloc, pieces.next()?).ok()?;
+    while let Some(piece) = pieces.next() {
+        if piece.is_empty() {
             text.push('\\').ok()?;
-            is_plain = true;
+            text.push_str(pieces.next()?).ok()?;
         } else {
             push_meant(&mut text, piece)?;
         }
     }
-    if is_plain { None } else { Some(text) }
+    Some(text)
 }
 
-/// The fields of a row, or nothing if one has an escape of no meaning.
-pub fn fields_of(alloc: Global, row: &str) -> Option<Vec<String>> {
+// Adds the piece so many times.
+fn push_times(text: &mut String, piece: &str, times: &str) -> Option<()> {
+    for _time in 0..times.parse::<usize>().ok()? {
+        text.push_str(piece).ok()?;
+    }
+    Some(())
+}
+
+// The text with its pieces repeated, or nothing if one has no number.
+fn expanded(alloc: Global, field: &str) -> Option<String> {
+    let mut parts = field.split('~');
+    let mut text = String::from_str(alloc, parts.next()?).ok()?;
+    while let Some(piece) = parts.next() {
+        push_times(&mut text, piece, parts.next()?)?;
+        text.push_str(parts.next()?).ok()?;
+    }
+    Some(text)
+}
+
+// The text that a field stands for, or nothing if it has no meaning.
+fn text_of(alloc: Global, field: &str) -> Option<String> {
+    let field = match field {
+        "USAGE" => USAGE,
+        "SECTIONS" => SECTIONS,
+        "VERDICTS" => VERDICTS,
+        _ => return expanded(alloc, unescaped(alloc, field)?.as_str()),
+    };
+    String::from_str(alloc, field).ok()
+}
+
+// The texts that the fields of a row stand for, or nothing if one has no meaning.
+fn fields_of(alloc: Global, row: &str) -> Option<Vec<String>> {
     let mut fields = Vec::new(alloc);
     for field in row.split(" | ") {
-        fields.push(unescaped(alloc, field)?).ok()?;
+        fields.push(text_of(alloc, field)?).ok()?;
     }
     Some(fields)
-}
-
-// Whether the line is no row and no part of one.
-fn is_apart(line: &str) -> bool {
-    line.is_empty() || line.starts_with("// ")
 }
 
 // Whether the row can be taken apart, and its fields pass the check.
@@ -89,7 +109,7 @@ where
     let mut rows = 0usize;
     let mut row = String::new(alloc);
     for line in table.lines() {
-        if row.is_empty() && is_apart(line) {
+        if row.is_empty() && (line.is_empty() || line.starts_with("// ")) {
             continue;
         }
         let front = line.strip_suffix('\\');
@@ -112,10 +132,8 @@ pub fn check_count(alloc: Global, found: usize, wanted: usize) -> Result<(), Str
     if found == wanted {
         return Ok(());
     }
-    match format!(in alloc; "{found} in place of {wanted}") {
-        Ok(told) => Err(told),
-        Err(_) => Err(String::new(alloc)),
-    }
+    let told = format!(in alloc; "{found} in place of {wanted}");
+    Err(told.unwrap_or(String::new(alloc)))
 }
 
 /// Checks a table of so many rows.
@@ -154,24 +172,6 @@ where
     })
 }
 
-// The name of a reason, without its number and its terms.
-fn name_of(reason: Reason) -> &'static str {
-    match reason {
-        Reason::InvalidNot(_) => "InvalidNot",
-        Reason::InvalidCharacters => "InvalidCharacters",
-        Reason::UnclosedParens => "UnclosedParens",
-        Reason::UnopenedParens => "UnopenedParens",
-        Reason::UnclosedQuotes => "UnclosedQuotes",
-        Reason::UnopenedQuotes => "UnopenedQuotes",
-        Reason::Empty => "Empty",
-        Reason::Unexpected(_) => "U",
-        Reason::InvalidInteger => "InvalidInteger",
-        Reason::MultipleRootPredicates => "MultipleRootPredicates",
-        Reason::InvalidHasAtomic => "InvalidHasAtomic",
-        Reason::UnknownBuiltin => "UnknownBuiltin",
-    }
-}
-
 // The terms between back quotes and brackets.
 fn terms_of(alloc: Global, terms: &[&str]) -> Result<String, AllocError> {
     let mut text = String::from_str(alloc, "[")?;
@@ -187,15 +187,13 @@ fn terms_of(alloc: Global, terms: &[&str]) -> Result<String, AllocError> {
 /// A fault as rows and pages write it: `UnopenedParens at 3..4`, `InvalidNot(2) at 0..9`, and for
 /// `Unexpected` its terms, as in ``U[`=` `,` `)`] at 2..3``.
 pub fn told(alloc: Global, error: &ParseError) -> Result<String, AllocError> {
-    let name = name_of(error.reason);
     let (start, end) = (error.span.start, error.span.end);
     match error.reason {
-        Reason::InvalidNot(found) => format!(in alloc; "{name}({found}) at {start}..{end}"),
         Reason::Unexpected(terms) => {
             let terms = terms_of(alloc, terms)?;
-            format!(in alloc; "{name}{terms} at {start}..{end}")
+            format!(in alloc; "U{terms} at {start}..{end}")
         }
-        _ => format!(in alloc; "{name} at {start}..{end}"),
+        reason => format!(in alloc; "{reason:?} at {start}..{end}"),
     }
 }
 

@@ -226,12 +226,26 @@ pub fn is_written(sink: &Recorder, written: &[u8]) -> bool {
     sink.bytes.as_slice() == written && sink.failures == 0 && sink.flushes == 1 && !sink.is_misused
 }
 
-/// Whether a run with these words ends with this status, and writes this with one flush and no
-/// failed call.
-pub fn is_answer(alloc: Global, words: &[&str], status: u8, written: &str) -> bool {
+/// Whether a run with these words reads the input to its end, writes this with one flush and no
+/// failed call, and ends with this status. A read gives and a write takes at most `each` bytes.
+pub fn is_run_over(
+    alloc: Global,
+    words: &[&str],
+    each: usize,
+    input: &[u8],
+    ended: (&str, u8),
+) -> bool {
+    let mut source = Pieces::new(input, each, 0);
     let mut sink = Recorder::new(alloc);
-    let ended = run(alloc, words, &mut Ended, &mut sink);
-    is_written(&sink, written.as_bytes()) && ended == status
+    sink.each = each;
+    let status = run(alloc, words, &mut source, &mut sink);
+    is_written(&sink, ended.0.as_bytes()) && status == ended.1 && source.is_read_whole()
+}
+
+/// Whether a run with these words and no input ends with this status, and writes this with one
+/// flush and no failed call.
+pub fn is_answer(alloc: Global, words: &[&str], status: u8, written: &str) -> bool {
+    is_run_over(alloc, words, ALL, &[], (written, status))
 }
 
 /// Whether the sink had these calls, of which so many failed, and got these bytes: no call was of

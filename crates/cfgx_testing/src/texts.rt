@@ -22,13 +22,3 @@ pub fn nested(alloc: Global, name: &str, times: usize, inner: &str) -> Result<St
     let front = repeated(alloc, "", name, times, inner)?;
     repeated(alloc, front.as_str(), ")", times, "")
 }
-
-/// A front, a piece, how often it comes, a back, and how many `)` stand after that.
-pub type Parts = (&'static str, &'static str, usize, &'static str, usize);
-
-/// The text of these parts.
-pub fn written(alloc: Global, parts: &Parts) -> Result<String, AllocError> {
-    let (front, piece, times, back, closed) = *parts;
-    let text = repeated(alloc, front, piece, times, back)?;
-    repeated(alloc, text.as_str(), ")", closed, "")
-}

@@ -3,7 +3,7 @@ use super::numbers::Numbers;
 use cfg_expr::Expression;
 use cfg_expr::expr::Logic;
 use cfg_expr::expr::logic::Kleene64;
-use cfgx_testing::answers::{agree, value_in_lanes, value_with};
+use cfgx_testing::answers::{Answer, agree, value_in_lanes, value_with};
 use std::alloc::{AllocError, Global};
 
 // Answers of which some lanes are true, some false, and some unknown.
@@ -20,37 +20,21 @@ fn answer(numbers: &mut Numbers) -> Kleene64 {
     }
 }
 
-fn answers(
-    alloc: Global,
-    numbers: &mut Numbers,
-    count: usize,
-) -> Result<Vec<Kleene64>, AllocError> {
-    let mut answers = Vec::with_capacity(alloc, count)?;
-    for _answer in 0..count {
+fn answers(alloc: Global, numbers: &mut Numbers, n: usize) -> Result<Vec<Kleene64>, AllocError> {
+    let mut answers = Vec::with_capacity(alloc, n)?;
+    for _answer in 0..n {
         answers.push(answer(numbers))?;
     }
     Ok(answers)
 }
 
 // What stands in this lane of each answer.
-fn in_lane(alloc: Global, answers: &[Kleene64], i: usize) -> Result<Vec<Option<bool>>, AllocError> {
+fn in_lane(alloc: Global, answers: &[Kleene64], i: usize) -> Result<Vec<Answer>, AllocError> {
     let mut lane = Vec::with_capacity(alloc, answers.len())?;
     for answer in answers {
         lane.push(answer.lane(i.min(63)))?;
     }
     Ok(lane)
-}
-
-// Whether the value in this lane is that over what stands in this lane of each answer.
-fn agrees_in_lane(
-    alloc: Global,
-    expression: &Expression,
-    answers: &[Kleene64],
-    value: Kleene64,
-    i: usize,
-) -> Result<bool, AllocError> {
-    let lane = in_lane(alloc, answers, i)?;
-    agree(alloc, expression, lane.as_slice(), value.lane(i.min(63)))
 }
 
 // Whether this is the value by `eval` in all lanes at once, and in the first one, the last one and
@@ -61,12 +45,13 @@ fn is_value(
     answers: &[Kleene64],
     value: Kleene64,
 ) -> Result<bool, AllocError> {
-    for i in [0, 21, 42, 63] {
-        if !agrees_in_lane(alloc, expression, answers, value, i)? {
+    for i in [0usize, 21, 42, 63] {
+        let lane = in_lane(alloc, answers, i)?;
+        if !agree(alloc, expression, lane.as_slice(), value.lane(i.min(63))) {
             return Ok(false);
         }
     }
-    Ok(value_with(alloc, expression, answers, Kleene64::new(0, 0))? == value)
+    Ok(value_with(alloc, expression, answers) == Some(value))
 }
 
 /// Whether `eval`, `eval_lanes` and `polar_fillings` agree over answers of these numbers.

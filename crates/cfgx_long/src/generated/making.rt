@@ -21,11 +21,12 @@ const BACKS: &str = "||,| , ,";
 
 const FUNCTIONS: &str = "all(|any(|all (|any\u{3000}(";
 
-fn push_tokens(numbers: &mut Numbers, text: &mut String) -> Result<(), AllocError> {
+fn tokens(alloc: Global, numbers: &mut Numbers) -> Result<String, AllocError> {
+    let mut text = String::new(alloc);
     for _token in 0..numbers.below(12) {
         text.push_str(numbers.one_of(TOKENS))?;
     }
-    Ok(())
+    Ok(text)
 }
 
 // Writes so many members, each with a comma before or after it.
@@ -43,39 +44,31 @@ fn push_leaves(
     Ok(())
 }
 
-// Writes a condition with other members beside it, and what closes their function.
-fn push_members(numbers: &mut Numbers, text: &mut String, inner: &str) -> Result<(), AllocError> {
-    push_leaves(numbers, text, "", ",")?;
+// Writes a function round a condition, with other members beside it, but for `not`.
+fn push_function(numbers: &mut Numbers, text: &mut String, inner: &str) -> Result<(), AllocError> {
+    let is_list = numbers.below(3) > 0;
+    if is_list {
+        text.push_str(numbers.one_of(FUNCTIONS))?;
+        push_leaves(numbers, text, "", ",")?;
+    } else {
+        text.push_str("not(")?;
+    }
     text.push_str(numbers.one_of(FRONTS))?;
     text.push_str(inner)?;
-    push_leaves(numbers, text, ", ", "")?;
+    if is_list {
+        push_leaves(numbers, text, ", ", "")?;
+    }
     text.push_str(numbers.one_of(BACKS))?;
     text.push_str(")")
-}
-
-// A function round a condition, with other members beside it.
-fn with_members(alloc: Global, numbers: &mut Numbers, inner: &str) -> Result<String, AllocError> {
-    let mut text = String::from_str(alloc, numbers.one_of(FUNCTIONS))?;
-    push_members(numbers, &mut text, inner)?;
-    Ok(text)
-}
-
-// A `not` round a condition.
-fn negated(alloc: Global, numbers: &mut Numbers, inner: &str) -> Result<String, AllocError> {
-    let front = numbers.one_of(FRONTS);
-    let back = numbers.one_of(BACKS);
-    format!(in alloc; "not({front}{inner}{back})")
 }
 
 // A condition with up to five functions, one in another.
 fn condition(alloc: Global, numbers: &mut Numbers) -> Result<String, AllocError> {
     let mut text = String::from_str(alloc, numbers.one_of(LEAVES))?;
     for _function in 0..numbers.below(6) {
-        text = if numbers.below(3) == 0 {
-            negated(alloc, numbers, text.as_str())?
-        } else {
-            with_members(alloc, numbers, text.as_str())?
-        };
+        let mut outer = String::new(alloc);
+        push_function(numbers, &mut outer, text.as_str())?;
+        text = outer;
     }
     Ok(text)
 }
@@ -86,35 +79,21 @@ fn wrapped(alloc: Global, numbers: &mut Numbers) -> Result<String, AllocError> {
     format!(in alloc; "cfg({inner})")
 }
 
-// Writes a text, in which one token stands in the place of the characters from `start` to `end`.
-fn push_damaged(
-    text: &mut String,
-    whole: &str,
-    token: &str,
-    start: usize,
-    end: usize,
-) -> Result<(), AllocError> {
-    let mut is_written = false;
-    for (place, character) in whole.char_indices() {
-        if place >= start && !is_written {
-            text.push_str(token)?;
-            is_written = true;
-        }
-        if place < start || place >= end {
-            text.push(character)?;
-        }
-    }
-    Ok(())
-}
-
 // A condition in which one token stands in the place of some characters.
 fn damaged(alloc: Global, numbers: &mut Numbers) -> Result<String, AllocError> {
     let whole = condition(alloc, numbers)?;
     let start = numbers.below(whole.len());
     let end = start.saturating_add(numbers.below(4));
-    let token = numbers.one_of(TOKENS);
+    let mut token = Some(numbers.one_of(TOKENS));
     let mut text = String::new(alloc);
-    push_damaged(&mut text, whole.as_str(), token, start, end)?;
+    for (place, character) in whole.as_str().char_indices() {
+        if place >= start {
+            text.push_str(token.take().unwrap_or(""))?;
+        }
+        if place < start || place >= end {
+            text.push(character)?;
+        }
+    }
     Ok(text)
 }
 
@@ -126,30 +105,26 @@ fn character(numbers: &mut Numbers) -> Option<char> {
         2 => 0x11_0000,
         _ => 0x80,
     };
-    match u32::try_from(numbers.below(bound)) {
-        Ok(code) => char::from_u32(code),
-        Err(_) => None,
-    }
+    char::from_u32(u32::try_from(numbers.below(bound)).ok()?)
 }
 
-fn push_characters(numbers: &mut Numbers, text: &mut String) -> Result<(), AllocError> {
+fn characters(alloc: Global, numbers: &mut Numbers) -> Result<String, AllocError> {
+    let mut text = String::new(alloc);
     for _character in 0..numbers.below(10) {
         if let Some(character) = character(numbers) {
             text.push(character)?;
         }
     }
-    Ok(())
+    Ok(text)
 }
 
 /// The next text.
 pub(super) fn made(alloc: Global, numbers: &mut Numbers) -> Result<String, AllocError> {
-    let mut text = String::new(alloc);
     match numbers.below(6) {
-        0 => push_tokens(numbers, &mut text)?,
-        1 => push_characters(numbers, &mut text)?,
-        2 => return condition(alloc, numbers),
-        3 => return wrapped(alloc, numbers),
-        _ => return damaged(alloc, numbers),
+        0 => tokens(alloc, numbers),
+        1 => characters(alloc, numbers),
+        2 => condition(alloc, numbers),
+        3 => wrapped(alloc, numbers),
+        _ => damaged(alloc, numbers),
     }
-    Ok(text)
 }

@@ -6,7 +6,7 @@ use cfgx_testing::holding::all_hold;
 use std::alloc::Global;
 
 /// A logic whose `and` is its second value, and whose `or` is its first one.
-#[derive(Clone, Copy, PartialEq, Debug)]
+#[derive(Clone, Copy, PartialEq)]
 struct Sided(u64);
 
 impl Logic for Sided {
@@ -64,8 +64,8 @@ fn value(alloc: Global, text: &str) -> Option<(Sided, usize)> {
 // The answer to `a` is joined last. What `any` joins never counts, and is asked all the same.
 #[test]
 fn no_law_is_needed(rt: HostRuntime) {
-    assert_eq!(rt; value(rt.alloc(), "all(a, b, c)"), Some((Sided(5), 3)));
-    assert_eq!(rt; value(rt.alloc(), "any(a, b)"), Some((Sided(2), 2)));
+    assert!(rt; value(rt.alloc(), "all(a, b, c)") == Some((Sided(5), 3)));
+    assert!(rt; value(rt.alloc(), "any(a, b)") == Some((Sided(2), 2)));
 }
 
 #[test]
@@ -78,10 +78,8 @@ fn lanes_are_joined_one_by_one() -> Result<(), &'static str> {
         ("lane 63", three.lane(63).is_none()),
         ("and", three.and(three.not()) == Kleene64::new(0, 0b011)),
         ("or", three.or(three.not()) == Kleene64::new(0b011, 0)),
-        (
-            "true lanes",
-            three.is_true() == 0b001 && three.is_false() == 0b010,
-        ),
+        ("true lanes", three.is_true() == 0b001),
+        ("false lanes", three.is_false() == 0b010),
         ("other lanes", three != Kleene64::new(1, 0)),
     ])
 }

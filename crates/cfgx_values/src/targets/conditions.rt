@@ -1,10 +1,12 @@
 //! Conditions on targets, by `eval` on each and in lanes.
 use super::rows::{bare, darwin, ios, windows};
+use cfg_expr::error::Failure;
 use cfg_expr::expr::logic::Kleene64;
 use cfg_expr::expr::{Predicates, TargetMatcher};
 use cfg_expr::targets::{TargetInfo, TargetTable, Vendor};
 use cfg_expr::{Expression, Predicate};
-use cfgx_testing::answers::{answer_of, are_lanes, in_each, value_in_lanes};
+use cfgx_testing::answers::{Answer, answer_of, are_lanes, in_each, value_in_lanes};
+use cfgx_testing::holding::holds;
 use cfgx_testing::rows::check_pairs;
 use std::alloc::{AllocError, Global};
 use std::test::Fail;
@@ -63,12 +65,11 @@ target_feature = "fxsr", target_feature = "sse", target_feature = "sse2", \
 target_pointer_width = "32", target_endian = "little", not(target_vendor = "uwp"), \
 feature = "cool_thing",) | 00100?"#;
 
-// What a target answers, if what is not asked of targets has this answer.
-fn answer_on<T: TargetMatcher>(
-    predicate: &Predicate<'_>,
-    target: &T,
-    otherwise: Option<bool>,
-) -> Option<bool> {
+/// Rows, and what is answered if no target is asked.
+type Asked<'a> = (&'a [TargetInfo<'a>], Answer);
+
+// What a target answers.
+fn answer_on<T: TargetMatcher>(predicate: &Predicate<'_>, target: &T, otherwise: Answer) -> Answer {
     match predicate {
         Predicate::Target(asked) => Some(asked.matches(target)),
         _ => otherwise,
@@ -76,11 +77,7 @@ fn answer_on<T: TargetMatcher>(
 }
 
 // What at most 64 targets answer.
-fn lanes_on(
-    predicate: &Predicate<'_>,
-    rows: &[TargetInfo<'_>],
-    otherwise: Option<bool>,
-) -> Kleene64 {
+fn lanes_on(predicate: &Predicate<'_>, (rows, otherwise): Asked<'_>) -> Kleene64 {
     match predicate {
         Predicate::Target(asked) if rows.len() <= 64 => asked.lanes(rows),
         _ => in_each(otherwise),
@@ -88,12 +85,8 @@ fn lanes_on(
 }
 
 // Takes the predicate, and drops it by name, since what goes out of scope is dear to prove.
-fn taken_lanes(
-    predicate: Predicate<'_>,
-    rows: &[TargetInfo<'_>],
-    otherwise: Option<bool>,
-) -> Kleene64 {
-    let lanes = lanes_on(&predicate, rows, otherwise);
+fn taken_lanes(predicate: Predicate<'_>, asked: Asked<'_>) -> Kleene64 {
+    let lanes = lanes_on(&predicate, asked);
     drop(predicate);
     lanes
 }
@@ -102,92 +95,59 @@ fn taken_lanes(
 fn answers_on(
     alloc: Global,
     predicates: Predicates<'_>,
-    rows: &[TargetInfo<'_>],
-    otherwise: Option<bool>,
+    asked: Asked<'_>,
 ) -> Result<Vec<Kleene64>, AllocError> {
     let mut answers = Vec::new(alloc);
     for predicate in predicates {
-        answers.push(taken_lanes(predicate, rows, otherwise))?;
+        answers.push(taken_lanes(predicate, asked))?;
     }
     Ok(answers)
 }
 
-// The value on one target.
-fn value_on<T: TargetMatcher>(
-    alloc: Global,
-    expression: &Expression,
-    target: &T,
-    otherwise: Option<bool>,
-) -> Result<Option<bool>, AllocError> {
-    expression.eval(
-        alloc,
-        &mut |predicate: &Predicate<'_>| answer_on(predicate, target, otherwise),
-    )
-}
-
 // Whether the digits stand for the values on the rows, one by one.
-fn are_values(
-    alloc: Global,
-    expression: &Expression,
-    rows: &[TargetInfo<'_>],
-    otherwise: Option<bool>,
-    digits: &[u8],
-) -> Result<bool, AllocError> {
+fn are_values(alloc: Global, expression: &Expression, asked: Asked<'_>, digits: &[u8]) -> bool {
+    let (rows, otherwise) = asked;
     for (row, digit) in rows.iter().zip(digits) {
-        if value_on(alloc, expression, row, otherwise)? != answer_of(*digit) {
-            return Ok(false);
+        let mut answer = |predicate: &Predicate<'_>| answer_on(predicate, row, otherwise);
+        if expression.eval(alloc, &mut answer).ok() != Some(answer_of(*digit)) {
+            return false;
         }
     }
-    Ok(digits.len() == rows.len().saturating_add(1))
+    digits.len() == rows.len().saturating_add(1)
 }
 
 // Whether the digits stand for the values in lanes, by `eval` and by `eval_lanes`.
 fn are_values_in_lanes(
     alloc: Global,
     expression: &Expression,
-    rows: &[TargetInfo<'_>],
-    otherwise: Option<bool>,
+    asked: Asked<'_>,
     digits: &[u8],
 ) -> Result<bool, AllocError> {
-    let answers = answers_on(alloc, expression.predicates(), rows, otherwise)?;
-    let value: Kleene64 = expression.eval(
-        alloc,
-        &mut |predicate: &Predicate<'_>| lanes_on(predicate, rows, otherwise),
-    )?;
+    let answers = answers_on(alloc, expression.predicates(), asked)?;
+    let mut answer = |predicate: &Predicate<'_>| lanes_on(predicate, asked);
+    let value = expression.eval(alloc, &mut answer)?;
     let in_lanes = value_in_lanes(alloc, expression, answers.as_slice());
     Ok(in_lanes == Some(value) && are_lanes(value, digits))
 }
 
 // Whether the digits stand for the values of the condition.
-fn is_right(
-    alloc: Global,
-    rows: &[TargetInfo<'_>],
-    otherwise: Option<bool>,
-    text: &str,
-    digits: &[u8],
-) -> Option<bool> {
-    let expression = Expression::parse(alloc, text).ok()?;
-    let are_plain = are_values(alloc, &expression, rows, otherwise, digits).ok()?;
-    Some(are_plain && are_values_in_lanes(alloc, &expression, rows, otherwise, digits).ok()?)
+fn is_right(alloc: Global, asked: Asked<'_>, text: &str, digits: &[u8]) -> Result<bool, Failure> {
+    let expression = Expression::parse(alloc, text)?;
+    let are_plain = are_values(alloc, &expression, asked, digits);
+    Ok(are_plain && holds(are_values_in_lanes(alloc, &expression, asked, digits)))
 }
 
-// Checks a table of so many conditions, whose values on the rows it has.
-fn check_values(
-    alloc: Global,
-    table: &str,
-    rows: &[TargetInfo<'_>],
-    otherwise: Option<bool>,
-    wanted: usize,
-) -> Result<(), String> {
-    check_pairs(alloc, table, wanted, |text, digits| {
-        is_right(alloc, rows, otherwise, text, digits.as_bytes()) == Some(true)
+// Checks a table of so many conditions.
+fn check_values(alloc: Global, asked: Asked<'_>, table: &str, n: usize) -> Result<(), String> {
+    check_pairs(alloc, table, n, |text, digits| {
+        holds(is_right(alloc, asked, text, digits.as_bytes()))
     })
 }
 
 #[test]
 fn values_on_rows_that_are_built_in(rt: HostRuntime) -> Result<(), Fail> {
     let table = TargetTable::builtins(rt.alloc())?;
-    check_values(rt.alloc(), BUILT_IN, table.rows(), None, 14)?;
+    check_values(rt.alloc(), (table.rows(), None), BUILT_IN, 14)?;
     Ok(())
 }
 
@@ -204,11 +164,11 @@ fn rows_by_hand(alloc: Global) -> Result<Vec<TargetInfo<'static>>, AllocError> {
 #[test]
 fn values_on_rows_that_are_made_by_hand(rt: HostRuntime) -> Result<(), Fail> {
     let rows = rows_by_hand(rt.alloc())?;
-    check_values(rt.alloc(), BY_HAND, rows.as_slice(), Some(true), 27)?;
+    check_values(rt.alloc(), (rows.as_slice(), Some(true)), BY_HAND, 27)?;
     Ok(())
 }
 
 #[test]
 fn values_on_no_row(rt: HostRuntime) -> Result<(), String> {
-    check_values(rt.alloc(), "target_abi = \"sim\" | ?", &[], None, 1)
+    check_values(rt.alloc(), (&[], None), "target_abi = \"sim\" | ?", 1)
 }

@@ -5,28 +5,18 @@ use cfg_expr::targets::{
     Abi, Arch, Endian, Env, Families, HasAtomic, HasAtomics, Os, Panic, TargetInfo, Triple, Vendor,
 };
 use std::alloc::{AllocError, Global};
+use std::hash::Hash;
 use std::test::Fail;
 
-// Changes the triple, the system, the ABI, the architecture, the environment or the vendor.
-fn change_text(row: &mut TargetInfo<'static>, place: usize) {
+// Changes the field at this place.
+fn change(alloc: Global, row: &mut TargetInfo<'static>, place: usize) -> Result<(), AllocError> {
     match place {
         0 => row.triple = Triple::new_const("other"),
         1 => row.os = Some(Os::ios()),
         2 => row.abi = Some(Abi::sim()),
         3 => row.arch = Arch::arm(),
         4 => row.env = Some(Env::gnu()),
-        _ => row.vendor = Some(Vendor::apple()),
-    }
-}
-
-// Changes the families, the pointer width, the byte order, the widths of atomics or the panic
-// strategy.
-fn change_other(
-    alloc: Global,
-    row: &mut TargetInfo<'static>,
-    place: usize,
-) -> Result<(), AllocError> {
-    match place {
+        5 => row.vendor = Some(Vendor::apple()),
         6 => row.families = Families::unix(alloc)?,
         7 => row.pointer_width = 32,
         8 => row.endian = Endian::big,
@@ -39,12 +29,8 @@ fn change_other(
 // The hash of a bare row in which the field at this place is changed.
 fn hash_changed(alloc: Global, place: usize) -> Result<u64, AllocError> {
     let mut row = bare("bare");
-    if place < 6 {
-        change_text(&mut row, place);
-    } else {
-        change_other(alloc, &mut row, place)?;
-    }
-    Ok(hash_of(&row))
+    let changed = change(alloc, &mut row, place);
+    changed.and(Ok(hash_of(&row)))
 }
 
 #[test]
@@ -56,15 +42,22 @@ fn rows_with_one_other_field_hash_apart(rt: HostRuntime) -> Result<(), Fail> {
     Ok(())
 }
 
-// Whether a row that is made by hand and its copy hash alike.
+// The hash of what is made here.
+fn hash_of_made<T: Hash + Drop>(made: Result<T, AllocError>) -> Result<u64, AllocError> {
+    Ok(hash_of(&made?))
+}
+
+// Whether a row that is made by hand and its copy hash alike, and a bare one does not.
 fn is_copy_alike(alloc: Global) -> Result<bool, AllocError> {
     let row = ios(alloc)?;
+    let copied = hash_of_made(row.try_clone(alloc));
+    let bare = hash_of_made(Ok(bare("aarch64-apple-ios")));
     let hash = hash_of(&row);
-    Ok(hash == hash_of(&row.try_clone(alloc)?) && hash != hash_of(&bare("aarch64-apple-ios")))
+    Ok(copied == Ok(hash) && bare != Ok(hash))
 }
 
 // Whether two of the values hash alike exactly if they are the same.
-fn hash_as_they_are<T: std::hash::Hash + Eq>(values: &[T]) -> bool {
+fn hash_as_they_are<T: Hash + Eq>(values: &[T]) -> bool {
     for one in values {
         for other in values {
             if (hash_of(one) == hash_of(other)) != (one == other) {

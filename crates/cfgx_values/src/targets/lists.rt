@@ -4,7 +4,7 @@ use cfg_expr::targets::{
     Abi, Endian, Families, Family, HasAtomic, HasAtomicFailure, HasAtomics, Os, rustc_version,
 };
 use cfgx_testing::holding::{all_hold, holds, prints};
-use cfgx_testing::rows::check_rows;
+use cfgx_testing::rows::check_pairs;
 use std::alloc::{AllocError, Global};
 
 /// Names of families, and what their list prints.
@@ -30,24 +30,22 @@ fn lists(alloc: Global, names: &str, text: &str) -> Result<bool, AllocError> {
     Ok(prints(alloc, &list, text))
 }
 
-fn is_list(alloc: Global, row: &[String]) -> bool {
-    match row {
-        [names, text] => holds(lists(alloc, names.as_str(), text.as_str())),
-        _ => false,
-    }
-}
-
 #[test]
 fn lists_of_families_are_sorted(rt: HostRuntime) -> Result<(), String> {
-    check_rows(rt.alloc(), FAMILIES, 4, |row| is_list(rt.alloc(), row))
+    check_pairs(rt.alloc(), FAMILIES, 4, |names, text| {
+        holds(lists(rt.alloc(), names, text))
+    })
 }
 
 const EIGHT: HasAtomic = HasAtomic::IntegerSize(8);
 
-const POINTER_FIRST: &[HasAtomic] = &[HasAtomic::Pointer, HasAtomic::IntegerSize(64), EIGHT];
+const POINTER: HasAtomic = HasAtomic::Pointer;
 
 fn lists_widths(alloc: Global) -> Result<bool, AllocError> {
-    let list = HasAtomics::new(alloc, POINTER_FIRST.iter().copied())?;
+    let list = HasAtomics::new(
+        alloc,
+        [POINTER, HasAtomic::IntegerSize(64), EIGHT].into_iter(),
+    )?;
     Ok(prints(alloc, &list, "{8, 64, ptr}"))
 }
 
@@ -88,16 +86,11 @@ fn reads(alloc: Global, text: &str, printed: &str) -> Result<bool, AllocError> {
     }
 }
 
-fn is_read(alloc: Global, row: &[String]) -> bool {
-    match row {
-        [text, printed] => holds(reads(alloc, text.as_str(), printed.as_str())),
-        _ => false,
-    }
-}
-
 #[test]
 fn widths_are_read(rt: HostRuntime) -> Result<(), String> {
-    check_rows(rt.alloc(), WIDTHS, 21, |row| is_read(rt.alloc(), row))
+    check_pairs(rt.alloc(), WIDTHS, 21, |text, printed| {
+        holds(reads(rt.alloc(), text, printed))
+    })
 }
 
 #[test]
@@ -105,10 +98,7 @@ fn widths_are_sorted_and_byte_orders_read(rt: HostRuntime) -> Result<(), &'stati
     let both = Reason::Unexpected(&["big", "little"]);
     all_hold(&[
         ("printed", holds(lists_widths(rt.alloc()))),
-        (
-            "falling",
-            !HasAtomics::is_sorted(&[HasAtomic::Pointer, EIGHT]),
-        ),
+        ("falling", !HasAtomics::is_sorted(&[POINTER, EIGHT])),
         ("level", HasAtomics::is_sorted(&[EIGHT, EIGHT])),
         ("nothing", HasAtomics::is_sorted(&[])),
         ("big", "big".parse::<Endian>() == Ok(Endian::big)),

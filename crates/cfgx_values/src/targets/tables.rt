@@ -1,7 +1,7 @@
 //! Tables of rows with increasing triples, and the rows that are found in them.
 use super::rows::bare;
 use cfg_expr::targets::{TargetInfo, TargetTable, get_builtin_target_by_triple};
-use cfgx_testing::rows::check_rows;
+use cfgx_testing::rows::check_pairs;
 use std::alloc::{AllocError, Global};
 use std::test::Fail;
 
@@ -47,16 +47,11 @@ fn is_as_said(alloc: Global, triples: &str, place: &str) -> Option<bool> {
     }
 }
 
-fn is_table(alloc: Global, row: &[String]) -> bool {
-    match row {
-        [triples, place] => is_as_said(alloc, triples.as_str(), place.as_str()) == Some(true),
-        _ => false,
-    }
-}
-
 #[test]
 fn tables_have_increasing_triples(rt: HostRuntime) -> Result<(), String> {
-    check_rows(rt.alloc(), TABLES, 6, |row| is_table(rt.alloc(), row))
+    check_pairs(rt.alloc(), TABLES, 6, |triples, place| {
+        is_as_said(rt.alloc(), triples, place) == Some(true)
+    })
 }
 
 const BUILT_IN: &str = "aarch64-apple-darwin aarch64-apple-ios aarch64-apple-ios-macabi \

@@ -3,7 +3,6 @@ use super::conditions::BUILT_IN;
 use cfg_expr::Expression;
 use cfg_expr::error::Failure;
 use cfg_expr::expr::TargetMatcher;
-use cfg_expr::memory::SmallAllocator;
 use cfg_expr::targets::TargetTable;
 use cfgx_engine::resolve::{Section, Verdict, pick};
 use cfgx_testing::answers::answer_of;
@@ -12,33 +11,34 @@ use cfgx_testing::texts::repeated;
 use std::alloc::Global;
 use std::test::Fail;
 
-/// Sections, and who has their memory.
-type Sections<A> = Vec<Section<A>, A>;
-
 // Adds a section with this name and condition.
-fn push_section<A: SmallAllocator>(
-    alloc: A,
-    sections: &mut Sections<A>,
+fn push_section(
+    alloc: Global,
+    sections: &mut Vec<Section>,
     name: &str,
     condition: &str,
-) -> Result<(), Failure<A>> {
-    sections.push(Section {
-        name: String::from_str(alloc, name)?,
-        condition: Expression::parse(alloc, condition)?,
-    })?;
+) -> Result<(), Failure> {
+    let name = String::from_str(alloc, name)?;
+    let condition = Expression::parse(alloc, condition)?;
+    sections.push(Section { name, condition })?;
     Ok(())
 }
 
-// A section for each row, whose name is its condition, or nothing.
-fn sections_of<A: SmallAllocator>(
-    alloc: A,
-    table: &str,
-    is_named: bool,
-) -> Result<Sections<A>, Failure<A>> {
+/// Rows, the place of a target's values in them, and whether the name of a section is its
+/// condition, or nothing.
+type Told<'a> = (&'a str, usize, bool);
+
+// The name, the condition and the values of a row.
+fn taken_apart(row: &str, is_named: bool) -> (&str, &str, &str) {
+    let (condition, values) = row.split_once(" | ").unwrap_or((row, ""));
+    (if is_named { condition } else { "" }, condition, values)
+}
+
+// A section for each row.
+fn sections_of(alloc: Global, told: Told<'_>) -> Result<Vec<Section>, Failure> {
     let mut sections = Vec::new(alloc);
-    for line in table.lines() {
-        let (condition, _values) = line.split_once(" | ").unwrap_or((line, ""));
-        let name = if is_named { condition } else { "" };
+    for row in told.0.lines() {
+        let (name, condition, _values) = taken_apart(row, told.2);
         push_section(alloc, &mut sections, name, condition)?;
     }
     Ok(sections)
@@ -52,77 +52,35 @@ fn verdict_of(digit: Option<&u8>) -> Verdict {
     }
 }
 
-// Whether this is the section of the row, with the verdict of the target at this place.
-fn is_row<A: SmallAllocator>(
-    section: &Section<A>,
-    verdict: Verdict,
-    row: &str,
-    place: usize,
-    is_named: bool,
-) -> bool {
-    let Some((condition, values)) = row.split_once(" | ") else {
-        return false;
-    };
-    section.condition.original() == condition
-        && section.name.as_str() == if is_named { condition } else { "" }
-        && verdict == verdict_of(values.as_bytes().get(place))
-}
-
-// Whether the sections are those of the rows, with the verdicts of the target at this place.
-fn are_rows<A: SmallAllocator>(
-    sections: &[Section<A>],
-    verdicts: &[Verdict],
-    table: &str,
-    place: usize,
-    is_named: bool,
-) -> bool {
-    let mut lines = table.lines();
-    for (section, verdict) in sections.iter().zip(verdicts) {
-        if !is_row(
-            section,
-            *verdict,
-            lines.next().unwrap_or(""),
-            place,
-            is_named,
-        ) {
+// Whether the sections are those of the rows, with the verdicts of the target.
+fn are_rows(sections: &[Section], verdicts: &[Verdict], told: Told<'_>) -> bool {
+    let (table, place, is_named) = told;
+    for ((section, verdict), row) in sections.iter().zip(verdicts).zip(table.lines()) {
+        let (name, condition, values) = taken_apart(row, is_named);
+        if section.name.as_str() != name
+            || section.condition.original() != condition
+            || *verdict != verdict_of(values.as_bytes().get(place))
+        {
             return false;
         }
     }
-    lines.next().is_none() && sections.len() == verdicts.len()
+    sections.len() == verdicts.len() && verdicts.len() == table.lines().count()
 }
 
-// Whether the target says of the sections what the rows do at this place, twice, and leaves them
-// as they were.
-fn is_picked<A: SmallAllocator, M: TargetMatcher>(
-    alloc: A,
-    matcher: &M,
-    table: &str,
-    place: usize,
-    is_named: bool,
-) -> Result<bool, Failure<A>> {
-    let sections = sections_of(alloc, table, is_named)?;
-    let verdicts = pick(alloc, sections.as_slice(), matcher)?;
-    let again = pick(alloc, sections.as_slice(), matcher)?;
-    Ok(
-        verdicts == again
-            && are_rows(
-                sections.as_slice(),
-                verdicts.as_slice(),
-                table,
-                place,
-                is_named,
-            ),
-    )
+// Whether the target says of the sections what the rows do, twice, and leaves them as they were.
+fn is_picked<M: TargetMatcher>(alloc: Global, asked: &M, told: Told<'_>) -> Result<bool, Failure> {
+    let sections = sections_of(alloc, told)?;
+    let verdicts = pick(alloc, sections.as_slice(), asked)?;
+    let again = pick(alloc, sections.as_slice(), asked)?;
+    Ok(verdicts == again && are_rows(sections.as_slice(), verdicts.as_slice(), told))
 }
 
 #[test]
 fn verdicts_by_rows_that_are_built_in(rt: HostRuntime) -> Result<(), Fail> {
     let table = TargetTable::builtins(rt.alloc())?;
     for (place, row) in table.rows().iter().enumerate() {
-        assert!(rt;
-            holds(is_picked(rt.alloc(), row, BUILT_IN, place, true)),
-            "{place}"
-        );
+        let is_right = holds(is_picked(rt.alloc(), row, (BUILT_IN, place, true)));
+        assert!(rt; is_right, "{place}");
     }
     Ok(())
 }
@@ -138,19 +96,15 @@ fn are_on_macos(alloc: Global, times: usize, is_named: bool) -> Result<bool, Fai
     let table = TargetTable::builtins(alloc)?;
     let text = repeated(alloc, "", THREE, times, "")?;
     match table.rows().first() {
-        Some(row) => is_picked(alloc, row, text.as_str(), 0, is_named),
+        Some(row) => is_picked(alloc, row, (text.as_str(), 0, is_named)),
         None => Ok(false),
     }
 }
 
 #[test]
-fn verdicts_on_any_number_of_sections(rt: HostRuntime) {
-    for times in [0, 1, 6_667] {
-        assert!(rt; holds(are_on_macos(rt.alloc(), times, true)), "{times}");
+fn verdicts_on_any_number_of_sections_with_and_without_a_name(rt: HostRuntime) {
+    for (times, is_named) in [(0, true), (1, true), (6_667, true), (1, false)] {
+        let is_right = holds(are_on_macos(rt.alloc(), times, is_named));
+        assert!(rt; is_right, "{times} {is_named}");
     }
-}
-
-#[test]
-fn verdicts_on_sections_without_a_name(rt: HostRuntime) {
-    assert!(rt; holds(are_on_macos(rt.alloc(), 1, false)));
 }
