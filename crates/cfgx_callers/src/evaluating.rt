@@ -11,8 +11,7 @@ use cfg_expr::expr::Logic;
 use cfg_expr::{Expression, Predicate};
 use cfgx_testing::answers::value_with;
 use cfgx_testing::holding::{gives, holds};
-use cfgx_testing::rows::check_threes;
-use cfgx_testing::words::check_texts;
+use cfgx_testing::rows::{check_rows, check_threes};
 use std::alloc::{AllocError, Global};
 use terms::Terms;
 
@@ -177,13 +176,13 @@ fn has_terms(alloc: Global, row: &[String]) -> Result<bool, Failure> {
 #[test]
 fn terms_are_written_and_questions_counted(rt: HostRuntime) -> Result<(), String> {
     let alloc = rt.alloc();
-    check_texts(alloc, TERMS, 12, |row| holds(has_terms(alloc, row)))
+    check_rows(alloc, TERMS, 12, |row| holds(has_terms(alloc, row)))
 }
 
 // The value over these answers, one after another, and how many questions are asked.
 fn value_of(alloc: Global, text: &str, answers: &[Lawless]) -> Option<(Lawless, usize)> {
     let expression = Expression::parse(alloc, text).ok()?;
-    let value = value_with(alloc, &expression, answers, Lawless(0)).ok()?;
+    let value = value_with(alloc, &expression, answers)?;
     Some((value, questions_of(alloc, &expression).ok()?))
 }
 

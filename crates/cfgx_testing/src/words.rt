@@ -1,6 +1,5 @@
 //! Rows of runs of the program: `status | what is written | word | word ..`. A `\0` divides words.
 use crate::rows::check_rows;
-pub use crate::rows::check_rows as check_texts;
 use crate::streams::is_answer;
 use std::alloc::{AllocError, Global};
 

@@ -11,9 +11,10 @@ mod target;
 mod usage;
 
 use cfgx_engine::engine::run;
+use cfgx_testing::rows::check_rows;
 use cfgx_testing::streams::{ALL, Pieces, Recorder, is_written};
 use cfgx_testing::triples::SIM;
-use cfgx_testing::words::{check_runs, check_texts};
+use cfgx_testing::words::check_runs;
 use std::alloc::Global;
 
 // Tables of runs that read nothing, and how many rows they have.
@@ -92,7 +93,7 @@ fn is_row_picked(alloc: Global, each: usize, row: &[String]) -> bool {
 
 // Checks a table of so many runs of `pick`.
 fn check_inputs(alloc: Global, each: usize, table: &str, rows: usize) -> Result<(), String> {
-    check_texts(alloc, table, rows, |row| is_row_picked(alloc, each, row))
+    check_rows(alloc, table, rows, |row| is_row_picked(alloc, each, row))
 }
 
 #[test]

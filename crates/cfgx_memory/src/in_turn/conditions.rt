@@ -10,9 +10,8 @@ use cfg_expr::{Expression, Predicate, TargetPredicate};
 use cfgx_engine::resolve::{Section, Verdict, pick};
 use cfgx_testing::heap::{empty_heap, growths, has_every_block, is_refused_in_turns};
 use cfgx_testing::holding::holds;
-use cfgx_testing::rows::is_fault;
+use cfgx_testing::rows::{check_rows, is_fault};
 use cfgx_testing::triples::IOS;
-use cfgx_testing::words::check_texts;
 use std::alloc::{AllocError, Global};
 
 // How it is called with a text, what parsing the text answers, which is its fault or the number of
@@ -315,5 +314,5 @@ fn is_row(alloc: Global, fields: &[String]) -> bool {
 #[test]
 fn each_growth_of_each_call_is_refused(rt: HostRuntime) -> Result<(), String> {
     let alloc = rt.alloc();
-    check_texts(alloc, TEXTS, 42, |row| is_row(alloc, row))
+    check_rows(alloc, TEXTS, 42, |row| is_row(alloc, row))
 }

@@ -4,9 +4,10 @@ use cfg_expr::memory::SmallAllocator;
 use cfgx_engine::engine::run;
 use cfgx_testing::heap::{empty_heap, growths, has_every_block};
 use cfgx_testing::refusing::EVERY;
+use cfgx_testing::rows::check_rows;
 use cfgx_testing::streams::{ALL, Ended, Pieces, Recorder, USAGE, is_left_so, is_written};
 use cfgx_testing::triples::SIM;
-use cfgx_testing::words::{check_texts, words_of};
+use cfgx_testing::words::words_of;
 use std::alloc::{AllocError, Global};
 
 /// An input, the status of a run over it, and what it writes.
@@ -119,5 +120,5 @@ fn is_row(alloc: Global, fields: &[String]) -> bool {
 #[test]
 fn each_growth_of_each_run_is_refused(rt: HostRuntime) -> Result<(), String> {
     let alloc = rt.alloc();
-    check_texts(alloc, RUNS, 29, |row| is_row(alloc, row))
+    check_rows(alloc, RUNS, 29, |row| is_row(alloc, row))
 }

@@ -1,9 +1,10 @@
 //! The first failed call of a stream is the last call of both streams.
 use super::{KINDS, UNREAD};
 use cfgx_engine::engine::run;
+use cfgx_testing::rows::check_rows;
 use cfgx_testing::streams::{ALL, Pieces, Recorder, is_left_so};
 use cfgx_testing::triples::SIM;
-use cfgx_testing::words::{check_texts, words_of};
+use cfgx_testing::words::words_of;
 use std::alloc::Global;
 
 // What the sink is set to, the status, what is written, how many calls there are of `write` and of
@@ -98,7 +99,7 @@ fn ends_so(alloc: Global, row: &[String]) -> bool {
 #[test]
 fn no_call_follows_a_failed_one(rt: HostRuntime) -> Result<(), String> {
     let alloc = rt.alloc();
-    check_texts(alloc, ENDINGS, 25, |row| ends_so(alloc, row))
+    check_rows(alloc, ENDINGS, 25, |row| ends_so(alloc, row))
 }
 
 // Whether each write of this output that fails ends the run with status 3: what went out, a byte a
@@ -132,7 +133,7 @@ fn writes_fail_in_turn(alloc: Global, row: &[String]) -> bool {
 fn no_call_follows_a_failed_write(rt: HostRuntime) -> Result<(), String> {
     let alloc = rt.alloc();
     for (table, rows) in UNREAD {
-        check_texts(alloc, table, *rows, |row| writes_fail_in_turn(alloc, row))?;
+        check_rows(alloc, table, *rows, |row| writes_fail_in_turn(alloc, row))?;
     }
     Ok(())
 }
@@ -177,5 +178,5 @@ fn fail_in_turn(alloc: Global, row: &[String]) -> bool {
 #[test]
 fn no_call_follows_a_failed_one_of_pick(rt: HostRuntime) -> Result<(), String> {
     let alloc = rt.alloc();
-    check_texts(alloc, KINDS, 6, |row| fail_in_turn(alloc, row))
+    check_rows(alloc, KINDS, 6, |row| fail_in_turn(alloc, row))
 }

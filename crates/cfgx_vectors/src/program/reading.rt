@@ -1,9 +1,10 @@
 //! Only `pick` reads, to the end of its input and no further. No write is of an empty slice.
 use super::{KINDS, UNREAD, check_inputs};
 use cfgx_engine::engine::run;
+use cfgx_testing::rows::check_rows;
 use cfgx_testing::streams::{ALL, Pieces, Recorder, is_written};
 use cfgx_testing::triples::SIM;
-use cfgx_testing::words::{SECTIONS, check_texts, words_of};
+use cfgx_testing::words::{SECTIONS, words_of};
 use std::alloc::Global;
 
 // Whether the run reads nothing of an input, whose first read would fail, and writes one byte a
@@ -38,7 +39,7 @@ fn is_row_unread(alloc: Global, row: &[String]) -> bool {
 fn other_words_read_nothing(rt: HostRuntime) -> Result<(), String> {
     let alloc = rt.alloc();
     for (table, rows) in UNREAD {
-        check_texts(alloc, table, *rows, |row| is_row_unread(alloc, row))?;
+        check_rows(alloc, table, *rows, |row| is_row_unread(alloc, row))?;
     }
     Ok(())
 }
@@ -83,5 +84,5 @@ fn has_reads(alloc: Global, row: &[String]) -> bool {
 #[test]
 fn nothing_is_read_after_the_end(rt: HostRuntime) -> Result<(), String> {
     let alloc = rt.alloc();
-    check_texts(alloc, READS, 12, |row| has_reads(alloc, row))
+    check_rows(alloc, READS, 12, |row| has_reads(alloc, row))
 }
