@@ -1,5 +1,5 @@
 -- The flags of words, one word after another.
-use Rattle.std.proofs.Common.{◌≡◌, ◌≢◌, ℕ, List, [], ◌∷◌, ◌++◌, None, Err, codes, map, refl, ap}
+use Rattle.std.proofs.Common.{◌≡◌, ◌≢◌, ℕ, List, [], ◌∷◌, ◌++◌, None, Ok, Err, codes, map, refl, ap}
 use Rattle.std.proofs.Common.{◌<◌, ◌+◌, zero, suc, Bor, inl, inr, bytes_eq, length, get_or, take}
 use Rattle.std.proofs.Common.{arith}
 use Rattle.std.specs.List.{AllByRecursion}
@@ -9,14 +9,17 @@ use Rattle.std.proofs.lemmas.List.Elements.{All-from_recursion, All-push, filter
 use Rattle.std.proofs.lemmas.List.Elements.{recursion_from_All}
 use Rattle.std.proofs.lemmas.Slice.Eq.{bytes_eq-Decides}
 use Rattle.cfgx_syntax.specs.Stripping.{strip}
+use Rattle.cfgx_syntax.specs.Error.{Fault}
 use Rattle.cfgx_syntax.specs.declared.error.Failure.{Failure}
-use Rattle.cfgx_syntax.specs.declared.error.Failure.TheVariants as failure
-use Rattle.cfgx_grammar.specs.Answer.{Answers, HasOneTree}
-use Rattle.cfgx_engine.specs.Answer.{AddsFlag, AreFlags, BlamesFirst}
+use Rattle.cfgx_grammar.specs.Question.{Question}
+use Rattle.cfgx_grammar.specs.Tree.{Tree}
+use Rattle.cfgx_grammar.specs.Answer.{HasOneTree}
+use Rattle.cfgx_engine.specs.Answer.{AddsFlag, AreFlags, Fails}
 use Rattle.cfgx_engine.specs.Flags.{flag_text, unknown_text}
-use Rattle.cfgx_engine.specs.Output.{fault_output}
+use Rattle.cfgx_engine.specs.Readings.{GivesAll, IsReadAs}
 use Rattle.cfgx_engine.specs.Request.{texts}
 use Rattle.cfgx_engine.specs.declared.engine.flags.Flags.{Flags}
+use Rattle.cfgx_engine.proofs.OutputLemmas.{Fails-weaker}
 
 -- a word that begins with no `?` names true predicates
 pub unknown_text-unmarked : (word : List ℕ) → ((rest : List ℕ) → word ≢ 63 ∷ rest)
@@ -26,12 +29,25 @@ unknown_text-unmarked (byte ∷ rest) lacks =
     rw (false_from_ne_true (bytes_eq (byte ∷ []) (codes "?")) (λ is.
     lacks rest (ap (λ xs. xs ++ rest) ((bytes_eq-Decides (byte ∷ []) (codes "?")).0 is))))
 
--- what parsing a text answers blames that text
-pub BlamesFirst-parse : {A : Type 0} (text : List ℕ) (failed : Failure A)
-    → Answers {A = A} (strip text) (Err failed) → BlamesFirst {A = A} (text ∷ []) failed
-BlamesFirst-parse text (failure.Parse error) (fault, shown, reads) =
-    inl (fault, reads, ap fault_output shown)
-BlamesFirst-parse text (failure.Memory error) parsed = tt
+-- each flag that has one tree is read as it
+pub trees_of : (flags : List (List ℕ))
+    → AllByRecursion (λ flag. HasOneTree (strip (flag_text flag))) flags
+    → (trees : List (Tree Question)) × GivesAll IsReadAs (map flag_text flags) (Ok trees)
+trees_of [] each = ([], refl)
+trees_of (flag ∷ flags) each =
+    let others = trees_of flags each.1 in
+    (each.0.tree ∷ others.0, (each.0.reads, others.1))
+
+-- the fault of a word is the first, if the words in front of it have a tree each
+GivesAll-later : (words : List (Bor (List ℕ))) (i : ℕ) (d : Bor (List ℕ)) (fault : Fault)
+    → i < length words
+    → AllByRecursion (λ flag. HasOneTree (strip (flag_text flag))) (texts (take i words))
+    → IsReadAs (flag_text (get_or words i d).now) (Err fault)
+    → GivesAll IsReadAs (map flag_text (texts words)) (Err fault)
+GivesAll-later [] i d fault below each reads = absurd (omega arith)
+GivesAll-later (word ∷ words) zero d fault below each reads = inl reads
+GivesAll-later (word ∷ words) (suc i) d fault below each reads =
+    inr (each.0.tree, each.0.reads, GivesAll-later words i d fault (omega arith) each.1 reads)
 
 module _ {A : Type 0} where
   -- one word more
@@ -49,16 +65,11 @@ module _ {A : Type 0} where
         unknown_are = rw (filter_map-append, map-append, ← are.unknown_are) adds.unknown_are;
       })
 
-  -- what blames a word blames it after words that have a tree each
-  pub BlamesFirst-later : (words : List (Bor (List ℕ))) (i : ℕ) (d : Bor (List ℕ))
-      (failed : Failure A) → i < length words
+  -- a word fails after words that have a tree each
+  pub Fails-later : (words : List (Bor (List ℕ))) (i : ℕ) (d : Bor (List ℕ)) (failed : Failure A)
+      → i < length words
       → AllByRecursion (λ flag. HasOneTree (strip (flag_text flag))) (texts (take i words))
-      → BlamesFirst (flag_text (get_or words i d).now ∷ []) failed
-      → BlamesFirst (map flag_text (texts words)) failed
-  BlamesFirst-later words i d (failure.Memory error) below each blames = tt
-  BlamesFirst-later [] i d (failure.Parse error) below each blames = absurd (omega arith)
-  BlamesFirst-later (word ∷ words) zero d (failure.Parse error) below each (inl told) = inl told
-  BlamesFirst-later (word ∷ words) zero d (failure.Parse error) below each (inr none) =
-      absurd none.1
-  BlamesFirst-later (word ∷ words) (suc i) d (failure.Parse error) below each blames =
-      inr (each.0, BlamesFirst-later words i d (failure.Parse error) (omega arith) each.1 blames)
+      → Fails (λ fault. IsReadAs (flag_text (get_or words i d).now) (Err fault)) failed
+      → Fails (λ fault. GivesAll IsReadAs (map flag_text (texts words)) (Err fault)) failed
+  Fails-later words i d failed below each =
+      Fails-weaker _ _ failed (λ fault. GivesAll-later words i d fault below each)

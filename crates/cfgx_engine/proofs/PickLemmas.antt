@@ -1,8 +1,8 @@
 -- What `pick` writes, by what was read.
-use Rattle.std.proofs.Common.{sym, ◌≡◌, ◌++◌, ◌<◌, ℕ, List, [], length, refl, Option, Some, None}
-use Rattle.std.proofs.Common.{Ok, arith, length-append, append-nil, le-ltb, lt-ltb}
+use Rattle.std.proofs.Common.{sym, ◌≡◌, ◌++◌, ◌<◌, ℕ, Bool, List, [], length, refl, Option, Some}
+use Rattle.std.proofs.Common.{None, Ok, arith, length-append, append-nil, le-ltb, lt-ltb}
 use Rattle.std.specs.Io.KnownBytes.{Consumes, IsAtEnd, Keeps}
-use Rattle.cfgx_targets.specs.declared.info.TargetInfo.{TargetInfo}
+use Rattle.cfgx_grammar.specs.Question.{Question}
 use Rattle.cfgx_engine.specs.Answer.{PicksFrom}
 use Rattle.cfgx_engine.specs.Input.{ReadsInput, input_limit}
 use Rattle.cfgx_engine.specs.Output.{Output}
@@ -19,16 +19,16 @@ held (Some all) None front consumed = absurd consumed
 held (Some all) (Some left) front consumed = (left, sym consumed, λ ended. ended)
 
 -- what is written of an input that was read is what is written of what the source held
-pub PicksInput-read : {A B : Type 0} (row : TargetInfo A) (old new : Option (List ℕ))
-    (shown : Output) (given : Input B) → ReadsInput {A = B} old new (Ok given)
-    → PicksFrom row given shown → PicksInput row old shown
-PicksInput-read row old new shown (input.Bytes bytes) reads picks =
+pub PicksInput-read : {A : Type 0} (answer : Question → Option Bool) (old new : Option (List ℕ))
+    (shown : Output) (given : Input A) → ReadsInput {A = A} old new (Ok given)
+    → PicksFrom {A = A} answer given shown → PicksInput answer old shown
+PicksInput-read answer old new shown (input.Bytes bytes) reads picks =
     let all = held old new bytes.items reads.1 in (
       bytes.items,
       rw (all.2 reads.2, append-nil) at all.1,
       rw (le-ltb input_limit (length bytes.items) reads.0) picks,
     )
-PicksInput-read row old new shown input.TooLong reads picks =
+PicksInput-read answer old new shown input.TooLong reads picks =
     let all = held old new reads.0 reads.2 in
     let many : input_limit < length (reads.0 ++ all.0) =
     omega (arith, reads.1, length-append reads.0 all.0) in

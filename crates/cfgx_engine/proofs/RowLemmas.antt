@@ -1,18 +1,14 @@
 -- Rows of targets, whatever allocator their texts would be owned in.
-use Rattle.std.proofs.Common.{◌≡◌, arith, ℕ, Bool, List, [], ◌∷◌, ◌++◌, Option, map, find}
+use Rattle.std.proofs.Common.{◌≡◌, arith, ℕ, Bool, List, [], ◌∷◌, Option, map, find}
 use Rattle.std.proofs.Common.{option_map, bytes_eq, refl, ap, sym, ◌∙◌}
 use Rattle.std.proofs.Math.Path.{fun_ext}
 use Rattle.std.specs.declared.alloc.Global.{Global}
-use Rattle.cfgx_syntax.specs.Stripping.{strip}
 use Rattle.cfgx_targets.specs.Builtins.{builtin_rows}
 use Rattle.cfgx_targets.specs.Table.{row_with}
 use Rattle.cfgx_targets.specs.declared.info.TargetInfo.{TargetInfo}
 use Rattle.cfgx_grammar.specs.Question.{TargetQuestion}
-use Rattle.cfgx_grammar.specs.Tree.{asked}
-use Rattle.cfgx_grammar.specs.Answer.{HasOneTree}
 use Rattle.cfgx_grammar.specs.Matching.{meets}
 use Rattle.cfgx_engine.specs.Output.{answer_on}
-use Rattle.cfgx_engine.specs.Sections.{Line, PrintsLine, verdict_lines}
 use Rattle.cfgx_engine.specs.Verdicts.{answer_by}
 
 -- the same target as one whose texts would be owned in `Global`
@@ -54,15 +50,3 @@ meets-same row _ = refl
 pub answer_on-same : {A : Type 0} (row : TargetInfo A)
     → answer_on row ≡ answer_on (same_row {A = A} row)
 answer_on-same row = ap answer_by (fun_ext (meets-same row))
-
--- and so a line prints the same
-PrintsLine-each : {A : Type 0} (row : TargetInfo A) (line : Line)
-    → PrintsLine row line ≡ PrintsLine (same_row {A = A} row) line
-PrintsLine-each row (Line.section name condition) =
-    ap (λ (answer : _) (written : List ℕ). (one : HasOneTree (strip condition))
-    × (written ≡ name ++ verdict_lines one.tree (map answer (asked one.tree)))) (answer_on-same row)
-PrintsLine-each row _ = refl
-
-pub PrintsLine-same : {A : Type 0} (row : TargetInfo A)
-    → PrintsLine row ≡ PrintsLine (same_row {A = A} row)
-PrintsLine-same row = fun_ext (PrintsLine-each row)

@@ -6,18 +6,20 @@ use Rattle.std.specs.Str.{is_utf8}
 use Rattle.std.specs.Cow.{cow_slice_items}
 use Rattle.std.specs.List.{AllByRecursion}
 use Rattle.cfgx_syntax.specs.Stripping.{strip}
-use Rattle.cfgx_syntax.specs.Error.{fault_of}
+use Rattle.cfgx_syntax.specs.Error.{Fault, fault_of}
 use Rattle.cfgx_syntax.specs.declared.error.Failure.{Failure}
 use Rattle.cfgx_syntax.specs.declared.error.Failure.TheVariants as failure
 use Rattle.cfgx_grammar.specs.Answer.{HasOneTree}
 use Rattle.cfgx_grammar.specs.Filling.{polar}
+use Rattle.cfgx_grammar.specs.Question.{Question}
 use Rattle.cfgx_grammar.specs.Tree.{asked}
 use Rattle.cfgx_engine.specs.Flags.{flag_text, known_texts, unknown_texts}
-use Rattle.cfgx_engine.specs.Output.{Output, RefusesFirst, answer_on, fault_output, value_output}
+use Rattle.cfgx_engine.specs.Output.{Output, answer_on, fault_output, told, value_output}
 use Rattle.cfgx_engine.specs.Input.{input_limit}
 use Rattle.cfgx_engine.specs.Prints.{not_utf8, too_long}
+use Rattle.cfgx_engine.specs.Readings.{GivesAll, IsReadAs}
 use Rattle.cfgx_engine.specs.Request.{Request, texts}
-use Rattle.cfgx_engine.specs.Sections.{Line, PrintsLine, PrintsLines, TellsFault, line_of}
+use Rattle.cfgx_engine.specs.Sections.{Line, PrintsLine, PrintsLines, line_of}
 use Rattle.cfgx_engine.specs.Sections.{filling_line, line_fault, lines_of, verdict_lines}
 use Rattle.cfgx_engine.specs.declared.engine.answer.Answer.{Answer}
 use Rattle.cfgx_engine.specs.declared.engine.command.Command.{Command}
@@ -50,16 +52,16 @@ abbrev pub ShowsResult : {A : Type 0} → Result (Option Bool) (Failure A) → O
 ShowsResult (Ok value) output = output ≡ value_output value
 ShowsResult (Err failed) output = ShowsFailure failed output
 
--- a fault is that of the first of the texts that has no tree
-abbrev pub BlamesFirst : {A : Type 0} → List (List ℕ) → Failure A → Type 0
-BlamesFirst texts (failure.Parse error) = RefusesFirst texts (fault_output (fault_of error))
-BlamesFirst texts (failure.Memory error) = Unit {0}
+-- what is given is a value, or a fault in its place; out of memory it is nothing
+abbrev pub Gives : {T A : Type 0} → (Result T Fault → Type 0) → Result T (Failure A) → Type 0
+Gives Fits (Ok value) = Fits (Ok value)
+Gives Fits (Err (failure.Parse error)) = Fits (Err (fault_of error))
+Gives Fits (Err (failure.Memory error)) = Unit {0}
 
--- a value of which this holds, or a fault of the first of the texts that has no tree
-abbrev pub GivesValue : {A : Type 0} → (Option Bool → Type 0) → List (List ℕ)
-    → Result (Option Bool) (Failure A) → Type 0
-GivesValue IsValue texts (Ok value) = IsValue value
-GivesValue IsValue texts (Err failed) = BlamesFirst texts failed
+-- a failure is the fault of which this holds, or out of memory
+abbrev pub Fails : {A : Type 0} → (Fault → Type 0) → Failure A → Type 0
+Fails Fits (failure.Parse error) = Fits (fault_of error)
+Fails Fits (failure.Memory error) = Unit {0}
 
 -- the flag of a word, which has one tree, is added to those of its kind
 pub record AddsFlag {A : Type 0} (word : List ℕ) (old new : Flags A) : Type 0 where
@@ -73,22 +75,22 @@ pub record AreFlags {A : Type 0} (words : List (List ℕ)) (flags : Flags A) : T
   pub known_are : flags.known.items ≡ known_texts words
   pub unknown_are : flags.unknown.items ≡ unknown_texts words
 
--- the flags of the words, or a fault of the first word that has no tree
+-- the flags of the words, or the fault of the first word that has no tree
 abbrev pub ReadsFlags : {A : Type 0} → List (List ℕ) → Result (Flags A) (Failure A) → Type 0
 ReadsFlags words (Ok flags) = AreFlags words flags
-ReadsFlags words (Err failed) = BlamesFirst (map flag_text words) failed
+ReadsFlags words (Err failed) =
+    Fails (λ fault. GivesAll IsReadAs (map flag_text words) (Err fault)) failed
 
 -- the bytes of an input are no more than it may have
 abbrev pub IsShort : {A : Type 0} → Input A → Type 0
 IsShort (input.Bytes bytes) = length bytes.items ≤ input_limit
 IsShort input.TooLong = Unit {0}
 
--- what `pick` writes of an input that was read, if a target answers
-abbrev pub PicksFrom : {A B : Type 0} → TargetInfo A → Input B → Output → Type 0
-PicksFrom row (input.Bytes bytes) output =
-    MatchBool (is_utf8 bytes.items) (PrintsLines row (map line_of (lines_of bytes.items)) output)
-    (output ≡ not_utf8)
-PicksFrom row input.TooLong output = output ≡ too_long
+-- what `pick` writes of an input that was read if a target answers so
+abbrev pub PicksFrom : {A : Type 0} → (Question → Option Bool) → Input A → Output → Type 0
+PicksFrom answer (input.Bytes bytes) output = MatchBool (is_utf8 bytes.items)
+    (PrintsLines answer (map line_of (lines_of bytes.items)) output) (output ≡ not_utf8)
+PicksFrom answer input.TooLong output = output ≡ too_long
 
 -- what a line says, without where its texts lie in memory
 abbrev pub line_view : CodeLine → Line
@@ -111,13 +113,15 @@ AddsVerdict row condition old new = (one : HasOneTree condition)
     × (new ≡ old ++ verdict_lines one.tree (map (answer_on row) (asked one.tree)))
 
 -- What the line with this number prints is added, or what tells of its fault is answered.
-abbrev pub AddsLine : {A B : Type 0} → TargetInfo A → ℕ → Line → List ℕ → List ℕ
-    → Option (Answer B) → Type 0
-AddsLine row number line old new None =
-    (written : List ℕ) × PrintsLine row line written × (new ≡ old ++ written)
-AddsLine row number line old new (Some told) = TellsFault number line (output_of told)
+abbrev pub AddsLine : {A : Type 0} → (Question → Option Bool) → ℕ → Line → List ℕ → List ℕ
+    → Option (Answer A) → Type 0
+AddsLine answer number line old new None =
+    (written : List ℕ) × PrintsLine answer (number, line) (Ok written) × (new ≡ old ++ written)
+AddsLine answer number line old new (Some telling) =
+    (text : List ℕ) × PrintsLine answer (number, line) (Err text) × (output_of telling ≡ told text)
 
 -- the output of a fault on the line with this number; a call out of memory has none
 abbrev pub TellsFailure : {A : Type 0} → ℕ → Failure A → Output → Type 0
-TellsFailure number (failure.Parse error) output = output ≡ line_fault number (fault_of error)
+TellsFailure number (failure.Parse error) output =
+    output ≡ told (line_fault number (fault_of error))
 TellsFailure number (failure.Memory error) output = ⊥

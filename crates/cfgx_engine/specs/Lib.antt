@@ -3,6 +3,7 @@ pub mod Flags
 pub mod Input
 pub mod Output
 pub mod Prints
+pub mod Readings
 pub mod Request
 pub mod Sections
 pub mod Streams

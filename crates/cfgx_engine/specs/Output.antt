@@ -1,20 +1,19 @@
 -- What the commands on texts write, and the status that the program then ends with.
 -- Source of the rules: docs/RULES.md; of what a predicate, a value and a fault are, the crate
 -- cfg-expr.
-use Rattle.std.specs.Prelude.{◌≡◌, ℕ, Bool, true, false, List, [], ◌∷◌, ◌++◌, codes, map, ◌⊎◌}
-use Rattle.std.specs.Prelude.{Option, Some, None, Err}
-use Rattle.std.specs.List.{AllByRecursion, AllZip, flat_map}
-use Rattle.cfgx_syntax.specs.Stripping.{strip}
-use Rattle.cfgx_syntax.specs.Error.{Fault, Refusal, fault_in, error_text}
+use Rattle.std.specs.Prelude.{◌≡◌, ℕ, Bool, true, false, List, [], ◌∷◌, ◌++◌, codes, map}
+use Rattle.std.specs.Prelude.{Option, Some, None, Result, Ok, Err}
+use Rattle.std.specs.List.{AllZip, flat_map}
+use Rattle.cfgx_syntax.specs.Error.{Fault, error_text}
 use Rattle.cfgx_targets.specs.declared.info.TargetInfo.{TargetInfo}
 use Rattle.cfgx_grammar.specs.Question.{Question}
-use Rattle.cfgx_grammar.specs.Tree.{asked}
-use Rattle.cfgx_grammar.specs.Answer.{HasOneTree, ReadsAs}
+use Rattle.cfgx_grammar.specs.Tree.{Tree, asked}
 use Rattle.cfgx_grammar.specs.Filling.{three_valued}
 use Rattle.cfgx_grammar.specs.Fold.{fold}
 use Rattle.cfgx_grammar.specs.Matching.{meets}
 use Rattle.cfgx_grammar.specs.Spelling.{spelling}
 use Rattle.cfgx_engine.specs.Flags.{IsAnswer, flag_text, known_texts, unknown_texts}
+use Rattle.cfgx_engine.specs.Readings.{GivesAll, IsReadAs}
 use Rattle.cfgx_engine.specs.Verdicts.{answer_by}
 
 -- what a run writes if memory is found and no call fails, and the status that it then ends with
@@ -48,43 +47,49 @@ unknown_triple = record { bytes = text_line (codes "unknown triple"); status = 2
 abbrev pub value_output : Option Bool → Output
 value_output value = record { bytes = text_line (value_text value); status = 0 }
 
+-- what tells of a fault
+abbrev pub told : List ℕ → Output
+told text = record { bytes = text; status = 1 }
+
 abbrev pub fault_output : Fault → Output
-fault_output fault = record { bytes = text_line (error_text fault); status = 1 }
+fault_output fault = told (text_line (error_text fault))
 
--- the text reads as a fault, which is written
-abbrev pub Refuses : List ℕ → Output → Type 0
-Refuses text output = (fault : Refusal) × ReadsAs (strip text) (Err fault)
-    × (output ≡ fault_output (fault_in (strip text) fault))
+-- one line for each predicate that a tree asks, or the fault
+abbrev pub tree_output : Result (Tree Question) Fault → Output
+tree_output (Ok tree) = record { bytes = lines (asked tree); status = 0 }
+tree_output (Err fault) = fault_output fault
 
--- one of the texts reads as a fault, which is written; each text before it has a tree
-abbrev pub RefusesFirst : List (List ℕ) → Output → Type 0
-RefusesFirst [] output = ⊥
-RefusesFirst (text ∷ others) output =
-    Refuses text output ⊎ (HasOneTree (strip text) × RefusesFirst others output)
+-- a value, or the fault in its place
+abbrev pub result_output : Result (Option Bool) Fault → Output
+result_output (Ok value) = value_output value
+result_output (Err fault) = fault_output fault
 
--- one line for each predicate of the one tree of the text
-abbrev pub Lists : List ℕ → Output → Type 0
-Lists text output = (one : HasOneTree (strip text))
-    × (output ≡ record { bytes = lines (asked one.tree); status = 0 })
+-- the value of the first of some trees, if the flags answer its predicates, or the fault
+abbrev pub ValueBy : List (List ℕ) → Result (List (Tree Question)) Fault
+    → Result (Option Bool) Fault → Type 0
+ValueBy flags (Ok []) value = ⊥
+ValueBy flags (Ok (tree ∷ _)) value = (answers : List (Option Bool))
+    × AllZip (IsAnswer (known_texts flags) (unknown_texts flags)) (asked tree) answers
+    × (value ≡ Ok (fold three_valued tree answers))
+ValueBy flags (Err fault) value = value ≡ Err fault
 
--- the value of the one tree of the text, if the flags, with one tree each, answer its predicates
-pub record HasValue (text : List ℕ) (flags : List (List ℕ)) (value : Option Bool) : Type 0 where
-  pub one : HasOneTree (strip text)
-  pub each_flag : AllByRecursion (λ flag. HasOneTree (strip (flag_text flag))) flags
-  pub answers : List (Option Bool)
-  pub are_answers :
-      AllZip (IsAnswer (known_texts flags) (unknown_texts flags)) (asked one.tree) answers
-  pub value_is : value ≡ fold three_valued one.tree answers
+-- the value of the text, if the flags answer its predicates, or the fault of the first text that is
+-- faulty: the text is read first, and then each flag
+abbrev pub HasValue : List ℕ → List (List ℕ) → Result (Option Bool) Fault → Type 0
+HasValue text flags value = (read : Result (List (Tree Question)) Fault)
+    × GivesAll IsReadAs (text ∷ map flag_text flags) read × ValueBy flags read value
 
 -- what a target answers: whether it meets a predicate on the target, and nothing of the others
 abbrev pub answer_on : {A : Type 0} → TargetInfo A → Question → Option Bool
 answer_on row = answer_by (meets row)
 
--- the value of the one tree of the text, if the target answers its predicates
-abbrev pub HasValueOn : {A : Type 0} → TargetInfo A → List ℕ → Option Bool → Type 0
-HasValueOn row text value = (one : HasOneTree (strip text))
-    × (value ≡ fold three_valued one.tree (map (answer_on row) (asked one.tree)))
+-- the value of a tree if its predicates are answered so, or the fault in its place
+abbrev pub value_by : (Question → Option Bool) → Result (Tree Question) Fault
+    → Result (Option Bool) Fault
+value_by answer (Ok tree) = Ok (fold three_valued tree (map answer (asked tree)))
+value_by answer (Err fault) = Err fault
 
--- a value of which this holds is written
-abbrev pub Shows : (Option Bool → Type 0) → Output → Type 0
-Shows IsValue output = (value : Option Bool) × IsValue value × (output ≡ value_output value)
+-- the value of the text if its predicates are answered so, or its fault
+abbrev pub HasValueOn : (Question → Option Bool) → List ℕ → Result (Option Bool) Fault → Type 0
+HasValueOn answer text value = (read : Result (Tree Question) Fault) × IsReadAs text read
+    × (value ≡ value_by answer read)

@@ -1,20 +1,19 @@
 -- The input of `pick`: sections, a line each, and what is printed of them.
 -- Source of the rules: docs/RULES.md.
-use Rattle.std.specs.Prelude.{◌≡◌, ◌⊎◌, ◌+◌, ◌==◌, ℕ, Bool, true, false, List, [], ◌∷◌, ◌++◌}
-use Rattle.std.specs.Prelude.{codes, length, map, nat_lt, Err, Option, Some, None}
+use Rattle.std.specs.Prelude.{◌≡◌, ◌==◌, ℕ, Bool, true, false, List, [], ◌++◌}
+use Rattle.std.specs.Prelude.{codes, length, map, nat_lt, Option, Some, None, Result, Ok, Err}
 use Rattle.std.specs.Prelude.{if◌then◌else◌}
 use Rattle.std.specs.Fmt.{decimal}
-use Rattle.std.specs.List.{AllZip, after_first, before_first, concat, flat_map, position_or_len}
-use Rattle.std.specs.List.{slice_split}
+use Rattle.std.specs.List.{after_first, before_first, concat, enumerate_from, flat_map}
+use Rattle.std.specs.List.{position_or_len, slice_split}
 use Rattle.std.specs.Str.Lines.{strip_carriage_return}
-use Rattle.cfgx_syntax.specs.Stripping.{strip}
-use Rattle.cfgx_syntax.specs.Error.{Fault, Refusal, error_text, fault_in}
-use Rattle.cfgx_targets.specs.declared.info.TargetInfo.{TargetInfo}
+use Rattle.cfgx_syntax.specs.Error.{Fault, error_text}
+use Rattle.cfgx_grammar.specs.Question.{Question}
 use Rattle.cfgx_grammar.specs.Tree.{Tree, asked}
-use Rattle.cfgx_grammar.specs.Answer.{HasOneTree, ReadsAs}
 use Rattle.cfgx_grammar.specs.Filling.{polar, three_valued}
 use Rattle.cfgx_grammar.specs.Fold.{fold}
-use Rattle.cfgx_engine.specs.Output.{Output, answer_on}
+use Rattle.cfgx_engine.specs.Output.{Output, told}
+use Rattle.cfgx_engine.specs.Readings.{GivesAll, IsReadAs}
 
 -- the lines of an input: what stands between its line feeds, less one carriage return at the end
 abbrev pub lines_of : List ℕ → List (List ℕ)
@@ -54,47 +53,43 @@ verdict_text None with_true with_false = codes "\tunknown\n"
     ++ filling_line (codes "\ttrue with ") with_true
     ++ filling_line (codes "\tfalse with ") with_false
 
--- the same of a tree's value over the answers, with the polar fillings
+-- the verdict of a tree's value over the answers, with the polar fillings
 abbrev pub verdict_lines : {X : Type 0} → Tree X → List (Option Bool) → List ℕ
 verdict_lines tree answers = verdict_text (fold three_valued tree answers)
     (polar tree answers true) (polar tree answers false)
 
--- the line is empty, or a section whose condition has a tree
-abbrev pub IsWell : Line → Type 0
-IsWell Line.empty = Unit {0}
-IsWell Line.undivided = ⊥
-IsWell (Line.section name condition) = HasOneTree (strip condition)
+-- what tells of a line with this number that has no tab
+abbrev pub no_tab : ℕ → List ℕ
+no_tab number = codes "line " ++ decimal number ++ codes ": no tab\n"
 
--- what such a line prints, if the target answers the predicates
-abbrev pub PrintsLine : {A : Type 0} → TargetInfo A → Line → List ℕ → Type 0
-PrintsLine row Line.empty written = written ≡ []
-PrintsLine row Line.undivided written = ⊥
-PrintsLine row (Line.section name condition) written = (one : HasOneTree (strip condition))
-    × (written ≡ name ++ verdict_lines one.tree (map (answer_on row) (asked one.tree)))
+-- what tells of a fault of the condition on the line with this number
+abbrev pub line_fault : ℕ → Fault → List ℕ
+line_fault number fault =
+    codes "line " ++ decimal number ++ codes ":\n" ++ error_text fault ++ codes "\n"
 
--- what is written for a fault of the condition on the line with this number
-abbrev pub line_fault : ℕ → Fault → Output
-line_fault number fault = record {
-  bytes = codes "line " ++ decimal number ++ codes ":\n" ++ error_text fault ++ codes "\n";
-  status = 1;
-}
+-- what a section on the line with this number prints if its condition is read so and its predicates
+-- are answered so, or what tells of its fault
+abbrev pub section_text : (Question → Option Bool) → ℕ → List ℕ → Result (Tree Question) Fault
+    → Result (List ℕ) (List ℕ)
+section_text answer number name (Ok tree) =
+    Ok (name ++ verdict_lines tree (map answer (asked tree)))
+section_text answer number name (Err fault) = Err (line_fault number fault)
 
--- what is written for the line with this number if it is faulty
-abbrev pub TellsFault : ℕ → Line → Output → Type 0
-TellsFault number Line.empty output = ⊥
-TellsFault number Line.undivided output =
-    output ≡ record { bytes = codes "line " ++ decimal number ++ codes ": no tab\n"; status = 1 }
-TellsFault number (Line.section name condition) output =
-    (fault : Refusal) × ReadsAs (strip condition) (Err fault)
-    × (output ≡ line_fault number (fault_in (strip condition) fault))
+-- what the line with this number prints, or what tells of its fault
+abbrev pub PrintsLine : (Question → Option Bool) → ℕ × Line → Result (List ℕ) (List ℕ) → Type 0
+PrintsLine answer (number, Line.empty) printed = printed ≡ Ok []
+PrintsLine answer (number, Line.undivided) printed = printed ≡ Err (no_tab number)
+PrintsLine answer (number, Line.section name condition) printed =
+    (read : Result (Tree Question) Fault) × IsReadAs condition read
+    × (printed ≡ section_text answer number name read)
 
--- the same of the first line that is faulty, if the lines are counted from this number on
-abbrev pub TellsFirst : ℕ → List Line → Output → Type 0
-TellsFirst number [] output = ⊥
-TellsFirst number (line ∷ others) output =
-    TellsFault number line output ⊎ (IsWell line × TellsFirst (number + 1) others output)
+-- what the lines print, one after another, or what tells of the first fault
+abbrev pub lines_output : Result (List (List ℕ)) (List ℕ) → Output
+lines_output (Ok printed) = record { bytes = concat printed; status = 0 }
+lines_output (Err text) = told text
 
--- what each line prints, one after another, or the first fault alone
-abbrev pub PrintsLines : {A : Type 0} → TargetInfo A → List Line → Output → Type 0
-PrintsLines row lines output = ((written : List (List ℕ)) × AllZip (PrintsLine row) lines written
-    × (output ≡ record { bytes = concat written; status = 0 })) ⊎ TellsFirst 1 lines output
+-- what is written of the lines, whose numbers begin at 1
+abbrev pub PrintsLines : (Question → Option Bool) → List Line → Output → Type 0
+PrintsLines answer lines output = (printed : Result (List (List ℕ)) (List ℕ))
+    × GivesAll (PrintsLine answer) (enumerate_from 1 lines) printed
+    × (output ≡ lines_output printed)

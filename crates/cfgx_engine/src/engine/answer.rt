@@ -4,7 +4,7 @@ ghost use Rattle.std.specs.Prelude.{◌≡◌, ◌+◌, ◌<◌, [], IfOk, IsOk,
 ghost use Rattle.cfgx_engine.specs.Answer.{output_of, IsShort, PicksFrom, ShowsFailure};
 ghost use Rattle.cfgx_engine.specs.Answer.{ShowsResult};
 ghost use Rattle.cfgx_engine.specs.Input.{stop_failures, ReadsFront};
-ghost use Rattle.cfgx_engine.specs.Output.{text_line, value_text};
+ghost use Rattle.cfgx_engine.specs.Output.{answer_on, text_line, value_text};
 ghost use Rattle.cfgx_engine.specs.Prints.{PicksInput, Prints, PrintsInput, Reads};
 ghost use Rattle.cfgx_engine.specs.Request.{request_of, texts, Request};
 
@@ -156,7 +156,7 @@ fn read_answer<A: SmallAllocator, R: Source>(
 ) -> Result<Answer<A>, Stop>
     requires { R.failures reader.old < u64.MAX }
     ensures right { IfOk result (λ a.
-        PicksInput row.now (R.unread reader.old) (output_of a)) }
+        PicksInput (answer_on row.now) (R.unread reader.old) (output_of a)) }
     ensures count { R.failures reader.new ≡ R.failures reader.old + stop_failures result }
     ensures front { ReadsFront (R.unread reader.old) (R.unread reader.new) }
 {
@@ -171,7 +171,7 @@ fn input_answer<A: SmallAllocator>(
     input: Input<A>,
 ) -> Result<Answer<A>, AllocError>
     requires { IsShort input }
-    ensures { IfOk result (λ a. PicksFrom row.now input (output_of a)) }
+    ensures { IfOk result (λ a. PicksFrom (answer_on row.now) input (output_of a)) }
 {
     match input {
         Input::Bytes(bytes) => match str::from_utf8(bytes.as_slice()) {

@@ -186,8 +186,8 @@ fn push_line<A: SmallAllocator>(
     line: Line<'_>,
     written: &mut Vec<u8, A>,
 ) -> Result<Option<Answer<A>>, AllocError>
-    ensures { IfOk result (λ told. AddsLine row.now number (line_view line.entry) written.old.items
-        written.new.items told) }
+    ensures { IfOk result (λ telling. AddsLine (answer_on row.now) number (line_view line.entry)
+        written.old.items written.new.items telling) }
 {
     match line {
         Line::Empty => Ok(None),
@@ -213,7 +213,7 @@ pub(super) fn sections_answer<A: SmallAllocator>(
 ) -> Result<Answer<A>, AllocError>
     requires { length text.now ≤ input_limit }
     ensures { IfOk result (λ a.
-        PrintsLines row.now (map line_of (lines_of text.now)) (output_of a)) }
+        PrintsLines (answer_on row.now) (map line_of (lines_of text.now)) (output_of a)) }
 {
     let mut written = Vec::new(alloc);
     let mut number = 0;

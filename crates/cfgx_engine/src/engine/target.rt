@@ -1,8 +1,8 @@
 // The value of a text on a target, by the verdict on it.
 
-ghost use Rattle.std.specs.Prelude.{◌≡◌, ◌∷◌, []};
-ghost use Rattle.cfgx_engine.specs.Answer.{GivesValue};
-ghost use Rattle.cfgx_engine.specs.Output.{HasValueOn};
+ghost use Rattle.std.specs.Prelude.{◌≡◌};
+ghost use Rattle.cfgx_engine.specs.Answer.{Gives};
+ghost use Rattle.cfgx_engine.specs.Output.{answer_on, HasValueOn};
 ghost use Rattle.cfgx_engine.specs.Verdicts.{verdict_of};
 
 use crate::resolve::{Verdict, verdict_on};
@@ -28,7 +28,7 @@ pub(super) fn value_on<A: SmallAllocator>(
     row: &TargetInfo<'_, A>,
     text: &str,
 ) -> Result<Option<bool>, Failure<A>>
-    ensures { GivesValue (HasValueOn row.now text.now) (text.now ∷ []) result }
+    ensures { Gives (HasValueOn (answer_on row.now) text.now) result }
 {
     let condition = Expression::parse(alloc, text)?;
     Ok(value_of(verdict_on(alloc, &condition, row)?))

@@ -1,8 +1,6 @@
-use Rattle.std.proofs.Common.{◌∷◌, map}
-use Rattle.cfgx_engine.specs.Flags.{flag_text}
 use Rattle.cfgx_engine.specs.Output.{HasValue}
 use Rattle.cfgx_engine.specs.Request.{texts}
-use Rattle.cfgx_engine.proofs.OutputLemmas.{Shows-result}
+use Rattle.cfgx_engine.proofs.OutputLemmas.{result_output-shown}
 use Rattle.cfgx_engine.proofs.PickLemmas.{PrintsInput-any}
 use Rattle.cfgx_engine.proofs.engine.answer.answer_to.Goals as goal
 
@@ -21,8 +19,8 @@ returns-in_ok-value_answer-in-Eval-clause-right g c =
     let text = c.in-Eval.text.now in
     let flags = texts c.in-Eval.flags.now in
     PrintsInput-any _ _ _ c.in-Eval.ensures (λ input.
-    Shows-result {A = g.row.A.Denot} (HasValue text flags) (text ∷ map flag_text flags) _ _
-    c.value_of.ensures c.in_ok-value_answer-in-Eval.ensures)
+    result_output-shown {A = g.row.A.Denot} (HasValue text flags) _ _ c.value_of.ensures
+    c.in_ok-value_answer-in-Eval.ensures)
 
 pub returns-in_ok-target_answer-in-Target-clause-right
     : goal.returns-in_ok-target_answer-in-Target-clause-right

@@ -1,7 +1,7 @@
 use Rattle.std.proofs.Common.{refl}
 use Rattle.cfgx_engine.specs.Request.{Request}
 use Rattle.cfgx_engine.proofs.PickLemmas.{PrintsInput-any}
-use Rattle.cfgx_engine.proofs.RowLemmas.{PrintsLine-same, builtin-same}
+use Rattle.cfgx_engine.proofs.RowLemmas.{answer_on-same, builtin-same}
 use Rattle.cfgx_engine.proofs.engine.answer.pick_answer.Goals as goal
 
 -- the row that was found is the built-in one
@@ -9,7 +9,7 @@ pub returns-in-Some-clause-right : goal.returns-in-Some-clause-right
 returns-in-Some-clause-right g c =
     rw (
       builtin-same _ _ c.in_ok-table.ensures c.in-Some.ensures,
-      ← PrintsLine-same {A = g.row.A.Denot} c.in-Some.row.now,
+      ← answer_on-same {A = g.row.A.Denot} c.in-Some.row.now,
     ) c.read_answer.ensures.right
 
 pub returns-in-Some-clause-others : goal.returns-in-Some-clause-others

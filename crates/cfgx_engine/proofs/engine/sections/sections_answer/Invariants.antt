@@ -1,6 +1,8 @@
+use Rattle.cfgx_engine.specs.Output.{answer_on}
 use Rattle.cfgx_engine.specs.Sections.{lines_of}
 use Rattle.cfgx_engine.proofs.SectionLemmas.{Left}
 use Rattle.cfgx_engine.proofs.engine.sections.sections_answer.Given as goal
 
 abbrev pub invariant-loop-text : goal.invariant-loop-text
-invariant-loop-text g l = Left l.row (lines_of l.text) l.text-iterator l.number l.written.items
+invariant-loop-text g l =
+    Left (answer_on l.row) (lines_of l.text) l.text-iterator l.number l.written.items

@@ -1,7 +1,8 @@
 use Rattle.std.proofs.Common.{None, Some, append-nil, arith, sym}
 use Rattle.std.proofs.lemmas.Result.{err_from_is_err_and}
 use Rattle.std.proofs.lemmas.Str.Pattern.{strip_prefix_char}
-use Rattle.cfgx_engine.proofs.FlagLemmas.{BlamesFirst-parse, unknown_text-unmarked}
+use Rattle.cfgx_engine.proofs.FlagLemmas.{unknown_text-unmarked}
+use Rattle.cfgx_engine.proofs.OutputLemmas.{Fails-parse}
 use Rattle.cfgx_engine.proofs.engine.flags.Flags.add.Goals as goal
 
 -- the text after a `?` is the flag's
@@ -11,7 +12,7 @@ returns-in_err-parse-in-Some-clause-err g c =
     let marked = strip_prefix_char 63 c.args.word.now (Some c.in-Some.text) c.in-Some.ensures.cases
     (omega arith) in
     rw (p.1, p.2, marked)
-    (BlamesFirst-parse {A = g.row.A.Denot} c.in-Some.text.now _ c.in_err-parse-in-Some.ensures)
+    (Fails-parse {A = g.row.A.Denot} c.in-Some.text.now _ c.in_err-parse-in-Some.ensures)
 
 pub returns-in_err-parse-in-None-clause-err : goal.returns-in_err-parse-in-None-clause-err
 returns-in_err-parse-in-None-clause-err g c =
@@ -21,7 +22,7 @@ returns-in_err-parse-in-None-clause-err g c =
     let unmarked = unknown_text-unmarked word
     (strip_prefix_char 63 word None c.in-None.ensures.cases (omega arith)) in
     rw (p.1, p.2, unmarked)
-    (BlamesFirst-parse {A = g.row.A.Denot} word _ c.in_err-parse-in-None.ensures)
+    (Fails-parse {A = g.row.A.Denot} word _ c.in_err-parse-in-None.ensures)
 
 pub returns-clause-ok : goal.returns-clause-ok
 returns-clause-ok g c =

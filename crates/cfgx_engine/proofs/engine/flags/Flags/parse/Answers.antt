@@ -1,13 +1,13 @@
 use Rattle.std.proofs.lemmas.List.{take_all}
 use Rattle.std.proofs.lemmas.Result.{err_from_is_err_and}
-use Rattle.cfgx_engine.proofs.FlagLemmas.{AreFlags-more, BlamesFirst-later}
+use Rattle.cfgx_engine.proofs.FlagLemmas.{AreFlags-more, Fails-later}
 use Rattle.cfgx_engine.proofs.engine.flags.Flags.parse.Goals as goal
 
 -- the words in front of the faulty one have a tree each
 pub returns-in_err-add : goal.returns-in_err-add
 returns-in_err-add g c =
     let p = err_from_is_err_and c.from_residual.result c.from_residual.ensures.1 in
-    rw (p.1, p.2) (BlamesFirst-later {A = g.row.A.Denot} c.args.words.now c.loop-word.word-index _ _
+    rw (p.1, p.2) (Fails-later {A = g.row.A.Denot} c.args.words.now c.loop-word.word-index _ _
     c.loop-word-test.true c.loop-word.invariant.each c.in_err-add.ensures.err)
 
 pub loop-word-preserved : goal.loop-word-preserved
