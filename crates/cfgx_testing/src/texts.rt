@@ -16,9 +16,3 @@ pub fn repeated(
     text.push_str(back)?;
     Ok(text)
 }
-
-/// So many functions, one in another, and as many `)`.
-pub fn nested(alloc: Global, name: &str, times: usize, inner: &str) -> Result<String, AllocError> {
-    let front = repeated(alloc, "", name, times, inner)?;
-    repeated(alloc, front.as_str(), ")", times, "")
-}

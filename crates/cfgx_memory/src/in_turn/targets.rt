@@ -3,7 +3,7 @@ use super::{Answer, Made};
 use cfg_expr::error::HasAtomicParseError as NoWidth;
 use cfg_expr::memory::SmallAllocator;
 use cfg_expr::targets::{
-    Families, Family, HasAtomic, HasAtomicFailure, HasAtomics, TargetInfo, TargetTable,
+    Families, HasAtomic, HasAtomicFailure, HasAtomics, TargetInfo, TargetTable,
 };
 use cfgx_fields::Field;
 use cfgx_testing::heap::{empty_heap, has_every_block, is_refused_in_turns};

@@ -2,7 +2,6 @@
 use super::is_picked;
 use cfgx_testing::streams::ALL;
 use cfgx_testing::triples::{IOS, SIM};
-use std::alloc::Global;
 
 /// What a line is.
 pub(super) const LINES: &str = r#"
