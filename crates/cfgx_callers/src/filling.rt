@@ -1,5 +1,5 @@
 //! A planner over answers that may be unknown, proved by the contracts of `Expression` alone.
-ghost use Rattle.std.specs.Prelude.{◌≡◌, length, IfOk};
+ghost use Rattle.std.specs.Prelude.{◌≡◌, IfOk};
 ghost use Rattle.cfgx_grammar.specs.Given.{AreAnswersTo};
 ghost use Rattle.cfg_expr.specs.Words.{HasOneTree, fold};
 ghost use Rattle.cfgx_callers.specs.Decisions.{IsSound};

@@ -1,5 +1,5 @@
 //! The definitions of tokens, computed on texts whose answers are known from outside.
-ghost use Rattle.std.specs.Prelude.{◌≡◌, [], ◌∷◌, ◌++◌, Some, None, codes};
+ghost use Rattle.std.specs.Prelude.{◌≡◌, [], ◌∷◌, Some, None, codes};
 ghost use Rattle.cfgx_syntax.specs.Error.{Cause};
 ghost use Rattle.cfgx_syntax.specs.Items.{AreItems, Ending, EndsAs, Stands, lexical, expects_token};
 ghost use Rattle.cfgx_syntax.specs.Stripping.{strip};
