@@ -69,8 +69,8 @@ pub fn questions_of(alloc: Global, expression: &Expression) -> Result<usize, All
     Ok(count)
 }
 
-/// A logic of no law: `and` is three times the first value and the second, `or` is the first one,
-/// and `not` changes nothing. Sums wrap.
+/// A logic of no law: `and` is the sum of three times the first value and the second one, `or` is
+/// the first one, and `not` changes nothing. Sums wrap.
 #[derive(Clone, Copy, Debug, PartialEq, Eq)]
 pub struct Lawless(pub u64);
 

@@ -23,7 +23,8 @@ fn has_length(alloc: Heap<'_>, source: &mut Counting, wanted: Option<usize>) -> 
     }
 }
 
-// Whether it does, reads no further than it has to, and gives its memory back.
+// Whether the source of a row is read so, no further than it has to be, and all memory is given
+// back.
 fn is_read(alloc: Global, row: &(usize, usize, Option<usize>, usize)) -> bool {
     let (count, each, wanted, left) = *row;
     let heap = empty_heap(alloc);

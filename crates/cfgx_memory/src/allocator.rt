@@ -53,8 +53,7 @@ fn only_one_growth_is_refused(rt: HostRuntime) {
     assert!(rt; holds(is_filled(&heap)));
 }
 
-// Whether a block is known to be out if its list is forgotten, and to be back if it is
-// dropped.
+// Whether a block is known to be out if its list is forgotten, and to be back if it is dropped.
 fn is_told(alloc: Global, is_forgotten: bool) -> Result<bool, AllocError> {
     let heap = empty_heap(alloc);
     let bytes = vec![in &heap; 0u8; 8]?;

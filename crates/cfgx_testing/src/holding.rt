@@ -17,7 +17,7 @@ pub fn gives<T: PartialEq + Drop, E: Drop>(answer: Result<T, E>, wanted: &T) -> 
     Ok(answer? == *wanted)
 }
 
-/// Checks what has names. The error is the name of the first check that does not hold.
+/// Whether all checks hold. The error is the name of the first one that does not.
 pub fn all_hold<'a>(checks: &[(&'a str, bool)]) -> Result<(), &'a str> {
     for (name, is_held) in checks {
         if !*is_held {

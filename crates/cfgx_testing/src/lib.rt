@@ -1,5 +1,5 @@
 //! What the tests of several crates share: an allocator that refuses on demand, streams in memory
-//! that fail where they are told to, long texts, and tables of rows as text.
+//! that fail where they are told to, long texts, tables of rows as text, and values and fillings.
 #![tactic(auto)]
 
 pub mod answers;

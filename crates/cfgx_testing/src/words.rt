@@ -8,7 +8,7 @@ pub const SECTIONS: &str = "a\tcfg(target_abi = \"sim\")\n\
     b\tany(windows, feature = \"x\")\n\
     c\tall(windows, feature = \"x\")\n";
 
-/// What is written of them.
+/// What `pick` writes of them on the simulator.
 pub const VERDICTS: &str = "a\tyes\nb\tunknown\n\ttrue with 01\n\tfalse with 00\nc\tno\n";
 
 /// The words that texts are.

@@ -17,7 +17,7 @@ use cfgx_testing::triples::SIM;
 use cfgx_testing::words::check_runs;
 use std::alloc::Global;
 
-// Tables of runs that read nothing, and how many rows they have.
+// Tables of runs that read nothing, as `check_runs` takes them, and how many rows they have.
 const UNREAD: &[(&str, usize)] = &[
     (parse::RUNS, 19),
     (eval::VALUES, 43),

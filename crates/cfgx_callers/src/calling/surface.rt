@@ -34,7 +34,7 @@ fn has_widths(alloc: Global) -> Result<bool, AllocError> {
     Ok(widths.contains(HasAtomic::IntegerSize(8)) && !widths.contains(HasAtomic::IntegerSize(64)))
 }
 
-// A text is read alike twice, and no other text is.
+// Whether a text is read alike twice, and another text is read otherwise.
 fn are_compared(alloc: Global) -> bool {
     HasAtomic::read(alloc, "x") == HasAtomic::read(alloc, "x")
         && HasAtomic::read(alloc, "x") != HasAtomic::read(alloc, "y")
@@ -77,7 +77,7 @@ fn values_are_read_and_made(rt: HostRuntime) {
     assert!(rt; Lexer::new(alloc, "cfg(unix)").original() == "unix" && is_made(alloc));
 }
 
-// What only a proof has use for.
+// Calls the laws. Only a proof has use for them.
 fn call_laws() {
     maps_keep_values::<bool, Option<bool>>();
     lanes_are_maps();

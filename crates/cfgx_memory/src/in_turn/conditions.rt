@@ -165,7 +165,7 @@ fn are(filling: &[bool], value: bool, count: usize) -> bool {
 }
 
 // Whether there are two fillings, if no answer is known: all true makes the text true, and all
-// false makes it false. No text has more than 100 predicates.
+// false makes it false. No text that is evaluated has more than 100 predicates.
 fn is_filled<A: SmallAllocator>(alloc: A, expression: &Expression<A>) -> Answer {
     let count = expression.predicates().left();
     let Some(answers) = [None; 100].get(..count) else {

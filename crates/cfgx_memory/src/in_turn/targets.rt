@@ -109,7 +109,7 @@ fn copies_a_row<A: SmallAllocator>(alloc: A) -> Answer {
     copies_the_first(alloc, table.rows())
 }
 
-// What is made and copied, and what it prints.
+// What is made and copied, and what it prints, or nothing if that is not compared.
 const CALLS: &str = r#"
 unix | {unix}
 unix and wasm | {unix, wasm}

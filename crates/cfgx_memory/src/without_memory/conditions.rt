@@ -11,7 +11,7 @@ use cfgx_testing::refusing::EVERY;
 use cfgx_testing::rows::check_pairs;
 use std::alloc::Global;
 
-// What parsing the text answers with memory, and every growth after it refused.
+// What parsing the text answers with memory. Every growth after it is refused.
 fn read<'h>(heap: Heap<'h>, text: &str) -> Read<Heap<'h>> {
     heap.refuse(0);
     let read = Expression::parse(heap, text);
@@ -57,12 +57,13 @@ fn is_of_the_fourth<A: SmallAllocator>(
     rows.len() == 5 && target.lanes(rows) == Kleene64::new(0b01000, 0b10111)
 }
 
-// Whether that is so of the first predicate.
+// Whether the first predicate is true of the fourth of five rows alone.
 fn is_asked<A: SmallAllocator>(read: Read<Heap<'_>>, table: &TargetTable<'_, A>) -> bool {
     matches!(&read, Ok(asked) if is_of_the_fourth(asked.predicates().next(), table.rows()))
 }
 
-// Whether that is so on the rows that are built in, with every growth refused.
+// Whether the first predicate of the text is true of the fourth of the rows that are built in, and
+// of no other, with every growth refused.
 fn is_asked_of<A: SmallAllocator>(heap: Heap<'_>, alloc: A, text: &str) -> bool {
     heap.refuse(0);
     let table = TargetTable::builtins(alloc);
@@ -136,7 +137,7 @@ fn is_logic<T: Logic + Copy + PartialEq>() -> bool {
     yes.not() == no && no.not() == yes && found.as_slice() == [yes, no, no, yes].as_slice()
 }
 
-// Whether that holds of a logic with an unknown answer too.
+// Whether the operations of a logic with an unknown answer are what they are in Rust.
 fn has_unknown<T: Logic + Copy + PartialEq>(it: T) -> bool {
     let (yes, no) = (T::top(), T::bottom());
     let found = [it.not(), it.and(yes), it.and(no), it.or(yes), it.or(no)];

@@ -58,7 +58,7 @@ fn are_texts<K: Drop>(alloc: Global, heap: Heap<'_>, texts: Two<'_>) -> Result<b
     Ok(are_texts && stand_for(alloc, (&borrowed, &owned), texts))
 }
 
-// Whether that holds for each field type.
+// Whether a borrowed and an owned field of each type are these texts.
 fn are_all_texts(alloc: Global, heap: Heap<'_>, texts: Two<'_>) -> bool {
     holds(are_texts::<TripleKind>(alloc, heap, texts))
         && holds(are_texts::<AbiKind>(alloc, heap, texts))

@@ -101,7 +101,7 @@ fn is_spelled(alloc: Global, text: &str, spelled: &str, each: usize) -> Result<b
     )
 }
 
-// Whether it is so if the writer takes all, or a few bytes, or one a call.
+// Whether the text is spelled so if the writer takes all, or a few bytes, or one a call.
 fn is_spelled_by_any(alloc: Global, text: &str, spelled: &str) -> bool {
     [1, 3, ALL]
         .iter()

@@ -121,7 +121,7 @@ all(\n\ta,\r\n\tb\n)\n | a\nb
 \u{3000}all\u{2003}(\u{a0}a\u{2028},\u{85}b\u{1680})\u{202f} | a\nb
 "#;
 
-/// What starts no token, and what may not stand first.
+/// What starts no token, what may not stand first, and quotes that are not closed.
 pub(super) const FAULTS: &str = r#"
 , | U[`<key>` `all` `any` `not`] at 0..1
 ) | U[`<key>` `all` `any` `not`] at 0..1
