@@ -98,7 +98,7 @@ manifests | none 16 | ["loom"]
 "#;
 
 // Whether an example answers what its row says.
-type Answer = Result<bool, Failure>;
+type Finding = Result<bool, Failure>;
 
 // Whether the value prints this.
 fn shows<T: std::fmt::Debug>(alloc: Global, value: &T, text: &str) -> bool {
@@ -127,7 +127,7 @@ fn value_on_board(alloc: Global, expression: &Expression) -> Result<bool, AllocE
 }
 
 // Whether the masks of the lanes of two targets, the true ones and the false ones, print this.
-fn has_masks(alloc: Global, text: &str, masks: &str) -> Answer {
+fn has_masks(alloc: Global, text: &str, masks: &str) -> Finding {
     let table = TargetTable::builtins(alloc)?;
     match rows::on_rows(alloc, text, &table.rows()[..2])? {
         Some(lanes) => Ok(shows(alloc, &(lanes.is_true(), lanes.is_false()), masks)),
@@ -140,7 +140,7 @@ fn is_first_flag(expression: &Expression, name: &str) -> bool {
 }
 
 // Whether an example that takes an expression answers this.
-fn is_answer_of(alloc: Global, example: &str, expression: &Expression, told: &str) -> Answer {
+fn is_answer_of(alloc: Global, example: &str, expression: &Expression, told: &str) -> Finding {
     Ok(match example {
         "asks_for_tests" => shows(alloc, &adapters::asks_for_tests(expression), told),
         "first_flag" => is_first_flag(expression, told),
@@ -154,7 +154,7 @@ fn is_answer_of(alloc: Global, example: &str, expression: &Expression, told: &st
 }
 
 // Whether an example answers this. Those that are not named take an expression.
-fn is_answer(alloc: Global, example: &str, text: &str, told: &str) -> Answer {
+fn is_answer(alloc: Global, example: &str, text: &str, told: &str) -> Finding {
     Ok(match example {
         "names" => shows(alloc, &is_linux(String::from_str(alloc, text)?), told),
         "lexing" => shows(alloc, &lexing::end_of_tokens(alloc, text)?, told),

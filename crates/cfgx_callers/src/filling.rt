@@ -8,7 +8,7 @@ use crate::decision::Decision;
 use cfg_expr::error::Failure;
 use cfg_expr::expr::Logic;
 use cfg_expr::{Expression, Predicate};
-use cfgx_testing::fillings::{FILLINGS, ROWS, answers_of, are_told};
+use cfgx_testing::fillings::{FILLINGS, answers_of, are_told};
 use cfgx_testing::holding::holds;
 use cfgx_testing::rows::check_threes;
 use std::alloc::{AllocError, Global};
@@ -76,7 +76,7 @@ fn is_planned(alloc: Global, text: &str, answers: &str, told: &str) -> Result<bo
 
 #[test]
 fn plans_act_or_postpone(rt: HostRuntime) -> Result<(), String> {
-    check_threes(rt.alloc(), FILLINGS, ROWS, |text, answers, told| {
+    check_threes(rt.alloc(), FILLINGS, 37, |text, answers, told| {
         holds(is_planned(rt.alloc(), text, answers, told))
     })
 }

@@ -71,5 +71,5 @@ const FAR: &str = r#"
 
 #[test]
 fn prints_a_fault_far_from_the_start(rt: HostRuntime) -> Result<(), String> {
-    check_runs(rt.alloc(), FAR, 1)
+    check_runs(rt.alloc(), &[(FAR, 1)])
 }

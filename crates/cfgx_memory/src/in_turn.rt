@@ -15,4 +15,4 @@ use std::alloc::AllocError;
 type Made<T> = Result<T, AllocError>;
 
 /// What a call answers.
-type Answer = Made<bool>;
+type Finding = Made<bool>;

@@ -5,13 +5,8 @@ mod conditions;
 mod faults;
 mod targets;
 
-use std::hash::{DefaultHasher, Hash, Hasher};
-
-fn hash_of<T: Hash>(value: &T) -> u64 {
-    let mut state = DefaultHasher::new();
-    value.hash(&mut state);
-    state.finish()
-}
+use cfgx_testing::holding::hash_of;
+use std::hash::Hash;
 
 // Whether the first two are equal and hash alike, and the third is above both.
 fn are_ordered<T: Ord + Hash>(one: &T, same: &T, above: &T) -> bool {

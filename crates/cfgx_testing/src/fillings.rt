@@ -1,5 +1,5 @@
 //! Values and fillings worked out by hand, as rows.
-use crate::answers::answer_of;
+use crate::answers::{Answer, answer_of};
 use std::alloc::{AllocError, Global};
 
 /// A text, the answers in the order of the questions, and the value if it is known, or else the
@@ -47,11 +47,8 @@ any(a, b) | 01 | true
 all(a, true, any(b), false) | ?1 | false
 "#;
 
-/// How many rows there are.
-pub const ROWS: usize = 37;
-
 /// The answers that the digits stand for.
-pub fn answers_of(alloc: Global, digits: &str) -> Result<Vec<Option<bool>>, AllocError> {
+pub fn answers_of(alloc: Global, digits: &str) -> Result<Vec<Answer>, AllocError> {
     let mut answers = Vec::with_capacity(alloc, digits.len())?;
     for digit in digits.as_bytes() {
         answers.push(answer_of(*digit))?;
@@ -60,7 +57,7 @@ pub fn answers_of(alloc: Global, digits: &str) -> Result<Vec<Option<bool>>, Allo
 }
 
 // Whether this is the filling of the digits.
-fn is_filling(filling: &[bool], digits: &str) -> bool {
+fn has_digits(filling: &[bool], digits: &str) -> bool {
     for (value, digit) in filling.iter().zip(digits.as_bytes()) {
         if answer_of(*digit) != Some(*value) {
             return false;
@@ -72,7 +69,7 @@ fn is_filling(filling: &[bool], digits: &str) -> bool {
 /// Whether a row tells these two fillings so.
 pub fn are_told(with_true: &[bool], with_false: &[bool], told: &str) -> bool {
     match told.split_once(' ') {
-        Some((one, other)) => is_filling(with_true, one) && is_filling(with_false, other),
+        Some((one, other)) => has_digits(with_true, one) && has_digits(with_false, other),
         None => false,
     }
 }

@@ -1,6 +1,7 @@
 //! What a check answers.
 use std::alloc::Global;
 use std::fmt::Display;
+use std::hash::{DefaultHasher, Hash, Hasher};
 
 /// Whether the check holds; an error of its own is a no.
 pub fn holds<E: Drop>(answer: Result<bool, E>) -> bool {
@@ -25,6 +26,13 @@ pub fn all_hold<'a>(checks: &[(&'a str, bool)]) -> Result<(), &'a str> {
         }
     }
     Ok(())
+}
+
+/// What the value hashes to.
+pub fn hash_of<T: Hash>(value: &T) -> u64 {
+    let mut state = DefaultHasher::new();
+    value.hash(&mut state);
+    state.finish()
 }
 
 /// Whether the value prints this text.

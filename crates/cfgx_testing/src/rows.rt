@@ -148,6 +148,18 @@ where
     check_count(alloc, passing(alloc, table, &check)?, rows)
 }
 
+/// As [`check_rows`], of each of some tables, beside which the number of rows stands.
+pub fn check_tables<F>(alloc: Global, tables: &[(&str, usize)], check: F) -> Result<(), String>
+where
+    F: Fn(&[String]) -> bool,
+    requires { F.IsAlwaysCallable check }
+{
+    for (table, rows) in tables {
+        check_count(alloc, passing(alloc, table, &check)?, *rows)?;
+    }
+    Ok(())
+}
+
 /// As [`check_rows`], of rows of two fields.
 pub fn check_pairs<F>(alloc: Global, table: &str, rows: usize, check: F) -> Result<(), String>
 where

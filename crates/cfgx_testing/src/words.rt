@@ -1,5 +1,5 @@
 //! Rows of runs of the program: `status | what is written | word | word ..`. A `\0` divides words.
-use crate::rows::check_rows;
+use crate::rows::check_tables;
 use crate::streams::is_answer;
 use std::alloc::{AllocError, Global};
 
@@ -33,7 +33,7 @@ fn is_run(alloc: Global, row: &[String]) -> bool {
     }
 }
 
-/// As [`check_rows`]: a run with the words of each row ends and writes as the row says.
-pub fn check_runs(alloc: Global, table: &str, rows: usize) -> Result<(), String> {
-    check_rows(alloc, table, rows, |row| is_run(alloc, row))
+/// As [`check_tables`]: a run with the words of each row ends and writes as the row says.
+pub fn check_runs(alloc: Global, tables: &[(&str, usize)]) -> Result<(), String> {
+    check_tables(alloc, tables, |row| is_run(alloc, row))
 }

@@ -10,9 +10,8 @@ mod reading;
 mod target;
 mod usage;
 
-use cfgx_engine::engine::run;
-use cfgx_testing::rows::check_rows;
-use cfgx_testing::streams::{ALL, Pieces, Recorder, is_written};
+use cfgx_testing::rows::check_tables;
+use cfgx_testing::streams::{ALL, is_run_over};
 use cfgx_testing::triples::SIM;
 use cfgx_testing::words::check_runs;
 use std::alloc::Global;
@@ -30,10 +29,7 @@ const UNREAD: &[(&str, usize)] = &[
 
 #[test]
 fn runs_that_read_nothing_answer(rt: HostRuntime) -> Result<(), String> {
-    for (table, rows) in UNREAD {
-        check_runs(rt.alloc(), table, *rows)?;
-    }
-    Ok(())
+    check_runs(rt.alloc(), UNREAD)
 }
 
 // Tables of runs of `pick`, and how many rows they have: the status, the input, what is written of
@@ -57,23 +53,6 @@ m\tunknown\n\ttrue with 001\n\tfalse with 100\n
 0 | \e | \e
 "#;
 
-/// Whether a run of `pick` over the input, of which each read gives and each write takes at most
-/// `each` bytes, reads it to its end, writes this, and ends with this status.
-pub(crate) fn is_picked(
-    alloc: Global,
-    triple: &str,
-    each: usize,
-    input: &[u8],
-    ended: (&str, u8),
-) -> bool {
-    let (written, status) = ended;
-    let mut source = Pieces::new(input, each, 0);
-    let mut sink = Recorder::new(alloc);
-    sink.each = each;
-    let found = run(alloc, &["pick", triple], &mut source, &mut sink);
-    is_written(&sink, written.as_bytes()) && found == status && source.is_read_whole()
-}
-
 // Whether `pick` runs as the row says.
 fn is_row_picked(alloc: Global, each: usize, row: &[String]) -> bool {
     let (status, input, written, triple) = match row {
@@ -81,25 +60,18 @@ fn is_row_picked(alloc: Global, each: usize, row: &[String]) -> bool {
         [status, input, written, triple] => (status, input, written, triple.as_str()),
         _ => return false,
     };
-    let input = input.as_bytes();
-    status.parse().is_ok_and(|status| is_picked(
+    let (words, input) = (["pick", triple], input.as_bytes());
+    status.parse().is_ok_and(|status| is_run_over(
         alloc,
-        triple,
+        &words,
         each,
         input,
         (written.as_str(), status),
     ))
 }
 
-// Checks a table of so many runs of `pick`.
-fn check_inputs(alloc: Global, each: usize, table: &str, rows: usize) -> Result<(), String> {
-    check_rows(alloc, table, rows, |row| is_row_picked(alloc, each, row))
-}
-
 #[test]
 fn verdicts_or_the_first_fault_are_written(rt: HostRuntime) -> Result<(), String> {
-    for (table, rows) in PICKED {
-        check_inputs(rt.alloc(), ALL, table, *rows)?;
-    }
-    Ok(())
+    let alloc = rt.alloc();
+    check_tables(alloc, PICKED, |row| is_row_picked(alloc, ALL, row))
 }

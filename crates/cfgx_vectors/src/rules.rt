@@ -11,7 +11,7 @@ mod spelling;
 mod stripping;
 mod tokens;
 
-use cfgx_testing::rows::{check_pairs, check_rows, has_fault};
+use cfgx_testing::rows::{check_pairs, check_tables, has_fault};
 use cfgx_testing::streams::is_answer;
 use std::alloc::Global;
 
@@ -41,10 +41,7 @@ fn is_faulty(alloc: Global, row: &[String]) -> bool {
 #[test]
 fn faulty_texts_have_their_first_fault(rt: HostRuntime) -> Result<(), String> {
     let alloc = rt.alloc();
-    for (table, rows) in FAULTY {
-        check_rows(alloc, table, *rows, |row| is_faulty(alloc, row))?;
-    }
-    Ok(())
+    check_tables(alloc, FAULTY, |row| is_faulty(alloc, row))
 }
 
 // Tables of texts that are accepted, and how many rows they have: a text, and what it asks.

@@ -2,7 +2,7 @@
 use super::manifests::may_need;
 use super::matcher::Board;
 use super::sections::verdicts_on;
-use super::{Answer, shows};
+use super::{Finding, shows};
 use cfg_expr::error::Failure;
 use cfgx_testing::holding::holds;
 use std::alloc::Global;
@@ -19,12 +19,12 @@ const LINUX: Board<'static> = Board {
 };
 
 // Whether the board says this of the sections of a manifest.
-fn says(alloc: Global, board: &Board<'_>, manifest: &[(&str, &str)], verdicts: &str) -> Answer {
+fn says(alloc: Global, board: &Board<'_>, manifest: &[(&str, &str)], verdicts: &str) -> Finding {
     Ok(shows(alloc, &verdicts_on(alloc, board, manifest)?, verdicts))
 }
 
 /// Whether `BARE` and `LINUX` say this of a section with this condition.
-pub fn both_say(alloc: Global, condition: &str, verdicts: &str) -> Answer {
+pub fn both_say(alloc: Global, condition: &str, verdicts: &str) -> Finding {
     let (one, other) = verdicts.split_once(' ').unwrap_or((verdicts, ""));
     let manifest = [("", condition)];
     Ok(says(alloc, &BARE, &manifest, one)? && says(alloc, &LINUX, &manifest, other)?)
@@ -58,7 +58,7 @@ const DEPENDENCIES: &[(&str, &str)] = &[
 ];
 
 /// Whether a build for a board of this system and these bits may need these.
-pub fn needs(alloc: Global, board: &str, names: &str) -> Answer {
+pub fn needs(alloc: Global, board: &str, names: &str) -> Finding {
     let (os, bits) = board.split_once(' ').unwrap_or((board, ""));
     let pointer_width = bits.parse().unwrap_or(0);
     let board = Board { os, pointer_width };

@@ -1,6 +1,6 @@
 //! Conditions that are read, copied and evaluated.
 use super::runs::is_run_in_turns;
-use super::{Answer, Made};
+use super::{Finding, Made};
 use cfg_expr::error::{Failure, ParseError};
 use cfg_expr::expr::TargetMatcher;
 use cfg_expr::expr::lexer::{Lexer, Token};
@@ -78,7 +78,7 @@ fn are_alike<A: SmallAllocator, B: SmallAllocator>(
 
 // The first token of `a 8 b`, and the fault after it. Either this fault or a refused growth ends
 // the lexer.
-fn lexes<A: SmallAllocator>(alloc: A) -> Answer {
+fn lexes<A: SmallAllocator>(alloc: A) -> Finding {
     let mut lexer = Lexer::new(alloc, "a 8 b");
     let is_first = matches!(lexer.next(), Some(Ok(item)) if item.token == Token::Key("a"));
     let second = lexer.next();
@@ -106,7 +106,7 @@ fn are_same<A: SmallAllocator>(error: &ParseError<A>, fault: &ParseError) -> boo
 
 // What the call answers for a text, of which this was read with memory. An expression stays as it
 // was.
-fn answer_to<A: SmallAllocator>(alloc: A, call: &str, text: &str, plain: &Read) -> Answer {
+fn answer_to<A: SmallAllocator>(alloc: A, call: &str, text: &str, plain: &Read) -> Finding {
     let read = match call {
         "from_str" => Expression::from_str(alloc, text),
         _ => Expression::parse(alloc, text),
@@ -127,7 +127,11 @@ fn answer_to<A: SmallAllocator>(alloc: A, call: &str, text: &str, plain: &Read) 
 }
 
 /// Whether the call on the expression gives its plain answer.
-pub(crate) fn called<A: SmallAllocator>(alloc: A, call: &str, condition: &Expression<A>) -> Answer {
+pub(crate) fn called<A: SmallAllocator>(
+    alloc: A,
+    call: &str,
+    condition: &Expression<A>,
+) -> Finding {
     match call {
         "try_clone" => is_copied(alloc, condition),
         "eval" => is_true(alloc, condition),
@@ -138,13 +142,13 @@ pub(crate) fn called<A: SmallAllocator>(alloc: A, call: &str, condition: &Expres
     }
 }
 
-fn is_copied<A: SmallAllocator>(alloc: A, expression: &Expression<A>) -> Answer {
+fn is_copied<A: SmallAllocator>(alloc: A, expression: &Expression<A>) -> Finding {
     let copy = expression.try_clone(alloc)?;
     Ok(copy == *expression && are_alike(&copy, expression))
 }
 
 // Whether the value is true, after each predicate was asked. Out of memory, none was asked.
-fn is_true<A: SmallAllocator>(alloc: A, expression: &Expression<A>) -> Answer {
+fn is_true<A: SmallAllocator>(alloc: A, expression: &Expression<A>) -> Finding {
     let mut count = 0usize;
     let value = expression.eval(
         alloc,
@@ -166,7 +170,7 @@ fn are(filling: &[bool], value: bool, count: usize) -> bool {
 
 // Whether there are two fillings, if no answer is known: all true makes the text true, and all
 // false makes it false. No text that is evaluated has more than 100 predicates.
-fn is_filled<A: SmallAllocator>(alloc: A, expression: &Expression<A>) -> Answer {
+fn is_filled<A: SmallAllocator>(alloc: A, expression: &Expression<A>) -> Finding {
     let count = expression.predicates().left();
     let Some(answers) = [None; 100].get(..count) else {
         return Ok(false);
@@ -181,7 +185,7 @@ fn is_filled<A: SmallAllocator>(alloc: A, expression: &Expression<A>) -> Answer 
 
 // Whether the value over answers that are all the same is each of them: true in one lane, false in
 // another, and unknown in all others.
-fn is_each<A: SmallAllocator>(alloc: A, expression: &Expression<A>) -> Answer {
+fn is_each<A: SmallAllocator>(alloc: A, expression: &Expression<A>) -> Finding {
     let each = Kleene64::new(0b001, 0b010);
     let count = expression.predicates().left();
     match [each; 100].get(..count) {
@@ -232,7 +236,7 @@ fn are_of<A: SmallAllocator>(sections: &[Section<A>], texts: &[&str]) -> bool {
 }
 
 // The verdicts on three sections. The sections stay as they were.
-fn is_picked<A: SmallAllocator>(alloc: A, text: &str) -> Answer {
+fn is_picked<A: SmallAllocator>(alloc: A, text: &str) -> Finding {
     let texts = [text, "windows", "not(windows)"];
     let sections = sections_of(alloc, &texts)?;
     let verdicts = pick(alloc, sections.as_slice(), &Nowhere);

@@ -1,6 +1,6 @@
 //! Copies of fields and predicates: only an owned text takes memory, and one growth.
 use super::targets::SORTED;
-use super::{Answer, Made};
+use super::{Finding, Made};
 use cfg_expr::TargetPredicate;
 use cfg_expr::memory::SmallAllocator;
 use cfg_expr::targets::{
@@ -17,7 +17,7 @@ use std::test::Fail;
 
 // Whether an owned value and a borrowed one of the same text are equal to each other's copies. The
 // copy of the borrowed one takes no memory.
-fn are_copied<T, A, F>(alloc: A, owned: T, borrowed: T, copy: F) -> Answer
+fn are_copied<T, A, F>(alloc: A, owned: T, borrowed: T, copy: F) -> Finding
 where
     T: PartialEq + Drop,
     A: Copy + Drop,
@@ -30,7 +30,7 @@ where
 }
 
 // Fields of this kind.
-fn copies_field<K: Drop, A: SmallAllocator>(alloc: A, text: &str) -> Answer {
+fn copies_field<K: Drop, A: SmallAllocator>(alloc: A, text: &str) -> Finding {
     let owned: Field<'_, K, A> = Field::new(String::from_str(alloc, text)?);
     are_copied(alloc, owned, Field::new_const(text), Field::try_clone)
 }
@@ -47,7 +47,7 @@ macro_rules! copies_predicate {
     };
 }
 
-fn copies_predicate<A: SmallAllocator>(alloc: A, kind: &str, text: &str) -> Answer {
+fn copies_predicate<A: SmallAllocator>(alloc: A, kind: &str, text: &str) -> Finding {
     match kind {
         "target_abi" => copies_predicate!(Abi alloc text),
         "target_arch" => copies_predicate!(Arch alloc text),
@@ -60,7 +60,7 @@ fn copies_predicate<A: SmallAllocator>(alloc: A, kind: &str, text: &str) -> Answ
 }
 
 // A value of this kind, made and copied.
-fn copies<A: SmallAllocator>(alloc: A, kind: &str, text: &str) -> Answer {
+fn copies<A: SmallAllocator>(alloc: A, kind: &str, text: &str) -> Finding {
     match kind {
         "triple" => copies_field::<TripleKind, A>(alloc, text),
         "abi" => copies_field::<AbiKind, A>(alloc, text),
@@ -75,7 +75,7 @@ fn copies<A: SmallAllocator>(alloc: A, kind: &str, text: &str) -> Answer {
 }
 
 // Families that are borrowed.
-fn copies_families<'f, A: SmallAllocator>(alloc: A, families: &'f [Family<'f, A>]) -> Answer {
+fn copies_families<'f, A: SmallAllocator>(alloc: A, families: &'f [Family<'f, A>]) -> Finding {
     if !Families::is_sorted(families) {
         return Ok(false);
     }
@@ -84,7 +84,7 @@ fn copies_families<'f, A: SmallAllocator>(alloc: A, families: &'f [Family<'f, A>
 }
 
 // A value without an owned text.
-fn copies_borrowed<A: SmallAllocator>(alloc: A, kind: &str) -> Answer {
+fn copies_borrowed<A: SmallAllocator>(alloc: A, kind: &str) -> Finding {
     let predicate = match kind {
         "big" => TargetPredicate::Endian(Endian::big),
         "ptr" => TargetPredicate::HasAtomic(HasAtomic::Pointer),

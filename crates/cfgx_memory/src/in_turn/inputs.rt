@@ -1,5 +1,5 @@
 //! An input that is read whole: the room doubles, from 64 KiB on, and every byte is given back.
-use super::Answer;
+use super::Finding;
 use cfgx_engine::engine::{Input, Stop, read_input};
 use cfgx_testing::heap::{Heap, empty_heap, growths, has_every_block};
 use cfgx_testing::streams::Pieces;
@@ -12,7 +12,7 @@ fn is_read<A: Allocator>(answer: Result<Input<A>, Stop>, bytes: &[u8]) -> bool {
 
 // Reads the bytes. Out of memory, no call of the source has failed, and what was read stays read:
 // reading again gives what follows it.
-fn reads(alloc: Global, heap: Heap<'_>, bytes: &[u8]) -> Answer {
+fn reads(alloc: Global, heap: Heap<'_>, bytes: &[u8]) -> Finding {
     let mut source = Pieces::new(bytes, 65_536, 0);
     let answer = read_input(heap, &mut source);
     let left = source.left;

@@ -1,5 +1,5 @@
 //! Runs of the program, and wrong use, which takes no memory.
-use super::Answer;
+use super::Finding;
 use cfg_expr::memory::SmallAllocator;
 use cfgx_engine::engine::run;
 use cfgx_testing::heap::{empty_heap, growths, has_every_block};
@@ -15,7 +15,12 @@ type Wanted<'a> = (&'a str, u8, &'a [u8]);
 
 // A run that ends as it has to with memory, all its input read, or out of memory: what it read then
 // stays read, and its sink was not called.
-fn is_run<A: SmallAllocator>(out: Global, alloc: A, words: &[&str], wanted: &Wanted<'_>) -> Answer {
+fn is_run<A: SmallAllocator>(
+    out: Global,
+    alloc: A,
+    words: &[&str],
+    wanted: &Wanted<'_>,
+) -> Finding {
     let (input, wanted_status, written) = *wanted;
     let mut source = Pieces::new(input.as_bytes(), ALL, 0);
     let mut sink = Recorder::new(out);

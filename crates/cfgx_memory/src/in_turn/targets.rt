@@ -1,5 +1,5 @@
 //! Lists, faults and rows, which are made and copied.
-use super::{Answer, Made};
+use super::{Finding, Made};
 use cfg_expr::error::HasAtomicParseError as NoWidth;
 use cfg_expr::memory::SmallAllocator;
 use cfg_expr::targets::{
@@ -15,7 +15,7 @@ use std::fmt::Display;
 use std::test::Fail;
 
 // Whether what was made is equal to its copy, and both print this.
-fn are_given<T, A, F>(out: Global, alloc: A, made: Made<T>, text: &str, copy: F) -> Answer
+fn are_given<T, A, F>(out: Global, alloc: A, made: Made<T>, text: &str, copy: F) -> Finding
 where
     T: PartialEq + Display + Drop,
     A: Copy + Drop,
@@ -39,7 +39,7 @@ fn widths<A: SmallAllocator>(alloc: A, end: u16) -> Made<HasAtomics<A>> {
 }
 
 // A list of 10,000 widths, and its copy.
-fn copies_many_widths<A: SmallAllocator>(alloc: A) -> Answer {
+fn copies_many_widths<A: SmallAllocator>(alloc: A) -> Finding {
     let list = widths(alloc, 10_000)?;
     Ok(list.as_slice().len() == 10_000 && gives(list.try_clone(alloc), &list)?)
 }
@@ -59,7 +59,7 @@ fn families<'a, A: SmallAllocator + 'a>(alloc: A, names: &str) -> Made<Families<
 }
 
 // A list of 10,000 families, and its copy.
-fn copies_many_families<A: SmallAllocator>(alloc: A, names: &str) -> Answer {
+fn copies_many_families<A: SmallAllocator>(alloc: A, names: &str) -> Finding {
     let list = families(alloc, names)?;
     Ok(list.as_slice().len() == 10_000 && gives(list.try_clone(alloc), &list)?)
 }
@@ -92,7 +92,7 @@ fn own_all<'a, A: SmallAllocator + 'a>(alloc: A, row: &mut TargetInfo<'a, A>) ->
 }
 
 // Whether the first of five rows is equal to its copy, and the copy, once it owns all, to its own.
-fn copies_the_first<A: SmallAllocator>(alloc: A, rows: &[TargetInfo<'_, A>]) -> Answer {
+fn copies_the_first<A: SmallAllocator>(alloc: A, rows: &[TargetInfo<'_, A>]) -> Finding {
     match rows {
         [row, _, _, _, _] => {
             let mut copy = row.try_clone(alloc)?;
@@ -104,7 +104,7 @@ fn copies_the_first<A: SmallAllocator>(alloc: A, rows: &[TargetInfo<'_, A>]) -> 
     }
 }
 
-fn copies_a_row<A: SmallAllocator>(alloc: A) -> Answer {
+fn copies_a_row<A: SmallAllocator>(alloc: A) -> Finding {
     let table = TargetTable::builtins(alloc)?;
     copies_the_first(alloc, table.rows())
 }
@@ -125,7 +125,7 @@ a fault | expected integer or "ptr", found PTR
 a row | \e
 "#;
 
-fn copies_families<A: SmallAllocator>(out: Global, alloc: A, call: &str, text: &str) -> Answer {
+fn copies_families<A: SmallAllocator>(out: Global, alloc: A, call: &str, text: &str) -> Finding {
     let made = match call {
         "unix" => Families::unix(alloc),
         "unix and wasm" => Families::unix_wasm(alloc),
@@ -136,7 +136,7 @@ fn copies_families<A: SmallAllocator>(out: Global, alloc: A, call: &str, text: &
     are_given(out, alloc, made, text, Families::try_clone)
 }
 
-fn copies_widths<A: SmallAllocator>(out: Global, alloc: A, call: &str, text: &str) -> Answer {
+fn copies_widths<A: SmallAllocator>(out: Global, alloc: A, call: &str, text: &str) -> Finding {
     let made = match call {
         "up to 128" => HasAtomics::atomic_8_16_32_64_128_ptr(alloc),
         "up to 64" => HasAtomics::atomic_8_16_32_64_ptr(alloc),
@@ -147,7 +147,7 @@ fn copies_widths<A: SmallAllocator>(out: Global, alloc: A, call: &str, text: &st
 }
 
 // What the call answers. What it prints is printed to the other allocator.
-fn answer_to<A: SmallAllocator>(out: Global, alloc: A, call: &str, text: &str) -> Answer {
+fn answer_to<A: SmallAllocator>(out: Global, alloc: A, call: &str, text: &str) -> Finding {
     match call {
         "up to 128" | "up to 64" | "up to 32" | "widths" => copies_widths(out, alloc, call, text),
         "many widths" => copies_many_widths(alloc),

@@ -3,22 +3,16 @@ use cfgx_fields::{
     AbiKind, ArchKind, EnvKind, FamilyKind, Field, OsKind, PanicKind, TripleKind, VendorKind,
 };
 use cfgx_testing::heap::{Heap, empty_heap, has_every_block};
-use cfgx_testing::holding::holds;
+use cfgx_testing::holding::{hash_of, holds};
 use cfgx_testing::refusing::EVERY;
 use std::alloc::{AllocError, Global};
 use std::fmt::Display;
-use std::hash::{DefaultHasher, Hash, Hasher};
+use std::hash::Hash;
 
 /// Texts in the order of their bytes: the longer `aa` stands below `b`, and letters past ASCII
 /// above all others.
 const RISING: &str = "|Z|a|a text of a field that is not a short one|\
     a text of a field that stands behind it|aa|b|é|日本";
-
-pub(super) fn hash_of<T: Hash>(value: &T) -> u64 {
-    let mut state = DefaultHasher::new();
-    value.hash(&mut state);
-    state.finish()
-}
 
 // Whether the field prints as the text does.
 fn prints_as<T: Display>(alloc: Global, field: &T, text: &str) -> Result<bool, AllocError> {

@@ -1,9 +1,9 @@
 //! Values that are not equal hash apart, on examples, and equal ones alike.
-use super::fields::hash_of;
 use super::rows::{bare, ios};
 use cfg_expr::targets::{
     Abi, Arch, Endian, Env, Families, HasAtomic, HasAtomics, Os, Panic, TargetInfo, Triple, Vendor,
 };
+use cfgx_testing::holding::hash_of;
 use std::alloc::{AllocError, Global};
 use std::hash::Hash;
 use std::test::Fail;

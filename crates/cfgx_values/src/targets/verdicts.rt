@@ -44,12 +44,13 @@ fn sections_of(alloc: Global, told: Told<'_>) -> Result<Vec<Section>, Failure> {
     Ok(sections)
 }
 
-fn verdict_of(digit: Option<&u8>) -> Verdict {
-    match digit.copied().and_then(answer_of) {
+// The verdict of a digit, if there is one.
+fn verdict_of(digit: Option<&u8>) -> Option<Verdict> {
+    Some(match answer_of(*digit?) {
         Some(true) => Verdict::Yes,
         Some(false) => Verdict::No,
         None => Verdict::Unknown,
-    }
+    })
 }
 
 // Whether the sections are those of the rows, with the verdicts of the target.
@@ -59,7 +60,7 @@ fn are_rows(sections: &[Section], verdicts: &[Verdict], told: Told<'_>) -> bool 
         let (name, condition, values) = taken_apart(row, is_named);
         if section.name.as_str() != name
             || section.condition.original() != condition
-            || *verdict != verdict_of(values.as_bytes().get(place))
+            || verdict_of(values.as_bytes().get(place)) != Some(*verdict)
         {
             return false;
         }

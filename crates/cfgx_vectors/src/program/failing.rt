@@ -1,7 +1,7 @@
 //! The first failed call of a stream is the last call of both streams.
 use super::{KINDS, UNREAD};
 use cfgx_engine::engine::run;
-use cfgx_testing::rows::check_rows;
+use cfgx_testing::rows::{check_rows, check_tables};
 use cfgx_testing::streams::{ALL, Pieces, Recorder, is_left_so};
 use cfgx_testing::triples::SIM;
 use cfgx_testing::words::words_of;
@@ -132,10 +132,7 @@ fn writes_fail_in_turn(alloc: Global, row: &[String]) -> bool {
 #[test]
 fn no_call_follows_a_failed_write(rt: HostRuntime) -> Result<(), String> {
     let alloc = rt.alloc();
-    for (table, rows) in UNREAD {
-        check_rows(alloc, table, *rows, |row| writes_fail_in_turn(alloc, row))?;
-    }
-    Ok(())
+    check_tables(alloc, UNREAD, |row| writes_fail_in_turn(alloc, row))
 }
 
 // Whether a run over the input whose read of this number fails ends with status 3, reads no more,

@@ -22,7 +22,7 @@ const RUNS: &str = r#"
 
 #[test]
 fn many_predicates_and_many_flags(rt: HostRuntime) -> Result<(), String> {
-    check_runs(rt.alloc(), RUNS, 14)
+    check_runs(rt.alloc(), &[(RUNS, 14)])
 }
 
 /// Many lines, and long ones.

@@ -1,6 +1,5 @@
 //! `cfgx pick` writes the verdicts on the sections of its input, or the input's first fault.
-use super::is_picked;
-use cfgx_testing::streams::ALL;
+use cfgx_testing::streams::{ALL, is_run_over};
 use cfgx_testing::triples::{IOS, SIM};
 
 /// What a line is.
@@ -170,7 +169,10 @@ fn an_input_is_utf_8(rt: HostRuntime) {
     let ended = ("input is not UTF-8\n", 1);
     for input in NOT_UTF8 {
         for triple in [SIM, IOS] {
-            assert!(rt; is_picked(alloc, triple, ALL, input, ended), "{input:?}");
+            assert!(rt;
+                is_run_over(alloc, &["pick", triple], ALL, input, ended),
+                "{input:?}"
+            );
         }
     }
 }

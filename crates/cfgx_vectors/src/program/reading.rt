@@ -1,7 +1,7 @@
 //! Only `pick` reads, to the end of its input and no further. No write is of an empty slice.
-use super::{KINDS, UNREAD, check_inputs};
+use super::{KINDS, UNREAD, is_row_picked};
 use cfgx_engine::engine::run;
-use cfgx_testing::rows::check_rows;
+use cfgx_testing::rows::{check_rows, check_tables};
 use cfgx_testing::streams::{ALL, Pieces, Recorder, is_written};
 use cfgx_testing::triples::SIM;
 use cfgx_testing::words::{SECTIONS, words_of};
@@ -38,16 +38,14 @@ fn is_row_unread(alloc: Global, row: &[String]) -> bool {
 #[test]
 fn other_words_read_nothing(rt: HostRuntime) -> Result<(), String> {
     let alloc = rt.alloc();
-    for (table, rows) in UNREAD {
-        check_rows(alloc, table, *rows, |row| is_row_unread(alloc, row))?;
-    }
-    Ok(())
+    check_tables(alloc, UNREAD, |row| is_row_unread(alloc, row))
 }
 
 #[test]
 fn no_empty_slice_is_written(rt: HostRuntime) -> Result<(), String> {
+    let alloc = rt.alloc();
     for each in [1, 2, 3, 7] {
-        check_inputs(rt.alloc(), each, KINDS, 6)?;
+        check_rows(alloc, KINDS, 6, |row| is_row_picked(alloc, each, row))?;
     }
     Ok(())
 }

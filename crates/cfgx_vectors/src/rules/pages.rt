@@ -1,10 +1,9 @@
 //! Tables of `docs/RULES.md`, word for word, which `.ci/examples` compares with the page.
 use super::is_accepted;
 use super::predicates::asks;
-use crate::program;
 use cfgx_testing::holding::holds;
 use cfgx_testing::rows::{check_pairs, check_threes, has_fault};
-use cfgx_testing::streams::ALL;
+use cfgx_testing::streams::{ALL, is_run_over};
 use cfgx_testing::triples::SIM;
 use std::alloc::{AllocError, Global};
 
@@ -116,7 +115,13 @@ const PICKED: &str = r#"
 // Whether `pick` prints this for the input, and ends with its status.
 fn is_picked(alloc: Global, input: &[u8], printed: &str) -> bool {
     let is_faulty = printed.starts_with("line ") || printed.starts_with("input ");
-    program::is_picked(alloc, SIM, ALL, input, (printed, u8::from(is_faulty)))
+    is_run_over(
+        alloc,
+        &["pick", SIM],
+        ALL,
+        input,
+        (printed, u8::from(is_faulty)),
+    )
 }
 
 // Whether the same holds with the byte ff after the input.
