@@ -15,7 +15,7 @@ use cfg_expr::memory::SmallAllocator;
 use cfg_expr::{Expression, Predicate};
 use std::marker::Model;
 
-/// A text with one tree, which names the predicates that this tree asks. Contracts see the text.
+/// A text that names the predicates that its tree asks. Contracts see the text.
 struct Flag<A: SmallAllocator> {
     expression: Expression<A>,
 }
@@ -32,13 +32,10 @@ impl<A: SmallAllocator> Drop for Flag<A> {
 
 impl<A: SmallAllocator> Model for Flag<A> {
     ghost use Rattle.std.specs.Prelude.{List, ℕ};
-    ghost use Rattle.cfgx_grammar.specs.Answer.{HasOneTree};
 
     ghost Value = { List ℕ };
 
     ghost view = { λ flag. flag.expression };
-
-    ghost invariant = { λ flag. HasOneTree flag.expression };
 }
 
 impl<A: SmallAllocator> Flag<A> {

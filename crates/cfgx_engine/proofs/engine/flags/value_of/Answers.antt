@@ -1,15 +1,13 @@
 -- Each call answers as the flags do, and leaves them.
-use Rattle.std.proofs.Common.{◌≡◌, ◌∷◌, ap, inl, inr, map, refl, rules, Ok, Err}
+use Rattle.std.proofs.Common.{◌≡◌, ◌∷◌, ap, inl, inr, refl, rules, Ok, Err}
 use Rattle.std.proofs.lemmas.Result.{err_from_is_err_and}
 use Rattle.cfg_expr.proofs.Chains.{Calls-AllZip}
 use Rattle.cfgx_parser.specs.Predicate.{question_of}
-use Rattle.cfgx_syntax.specs.Error.{Fault}
-use Rattle.cfgx_engine.specs.Flags.{IsAnswer, flag_text, known_texts, unknown_texts}
+use Rattle.cfgx_engine.specs.Flags.{IsAnswer, known_texts, unknown_texts}
 use Rattle.cfgx_engine.specs.Output.{HasValue}
-use Rattle.cfgx_engine.specs.Readings.{GivesAll, IsReadAs}
 use Rattle.cfgx_engine.specs.Request.{texts}
 use Rattle.cfgx_engine.proofs.FlagLemmas.{trees_of}
-use Rattle.cfgx_engine.proofs.OutputLemmas.{Fails-parse, Fails-weaker, Gives-failed}
+use Rattle.cfgx_engine.proofs.OutputLemmas.{Fails-parse, Gives-failed}
 use Rattle.cfgx_engine.proofs.engine.flags.value_of.Goals as goal
 
 pub returns-in_err-expression : goal.returns-in_err-expression

@@ -1,10 +1,7 @@
-use Rattle.std.proofs.Common.{◌∙◌, ap, refl, Ok, Err}
+use Rattle.std.proofs.Common.{ap, refl, Ok, Err}
 use Rattle.std.proofs.lemmas.Result.{err_from_is_err_and}
-use Rattle.cfgx_syntax.specs.Error.{Fault}
 use Rattle.cfgx_engine.specs.Output.{answer_on, HasValueOn}
-use Rattle.cfgx_engine.specs.Readings.{IsReadAs}
-use Rattle.cfgx_engine.proofs.OutputLemmas.{Fails-parse, Fails-weaker, Gives-failed}
-use Rattle.cfgx_engine.proofs.VerdictLemmas.{same_value}
+use Rattle.cfgx_engine.proofs.OutputLemmas.{Fails-parse, Gives-failed}
 use Rattle.cfgx_engine.proofs.engine.target.value_on.Goals as goal
 
 pub returns-in_err-condition : goal.returns-in_err-condition
@@ -18,8 +15,5 @@ returns-in_err-condition g c =
 
 pub returns : goal.returns
 returns g c =
-    let decided = rw c.in_ok-condition.ensures.0 at c.in_ok-verdict_on.ensures in (
-      Ok decided.one.tree,
-      decided.one.reads,
-      ap Ok (same_value _ _ (c.value_of.ensures ∙ decided.value_is)),
-    )
+    let valued = rw c.in_ok-condition.ensures.0 at c.in_ok-value_by.ensures in
+    (Ok valued.one.tree, valued.one.reads, ap Ok valued.value_is)
