@@ -1,7 +1,7 @@
 // The value of a text on a target.
 
-ghost use Rattle.cfgx_engine.specs.Answer.{Gives};
-ghost use Rattle.cfgx_engine.specs.Output.{answer_on, HasValueOn};
+ghost use Rattle.cfgx_engine.specs.Answer.{FitsResult};
+ghost use Rattle.cfgx_engine.specs.Output.{answer_on, HasValueBy};
 
 use crate::resolve::value_by;
 use cfg_expr::Expression;
@@ -15,7 +15,7 @@ pub(super) fn value_on<A: SmallAllocator>(
     row: &TargetInfo<'_, A>,
     text: &str,
 ) -> Result<Option<bool>, Failure<A>>
-    ensures { Gives (HasValueOn (answer_on row.now) text.now) result }
+    ensures { FitsResult (HasValueBy (answer_on row.now) text.now) result }
 {
     let condition = Expression::parse(alloc, text)?;
     Ok(value_by(alloc, &condition, row)?)
