@@ -16,7 +16,7 @@ use Rattle.cfgx_grammar.specs.Tree.{Tree}
 use Rattle.cfgx_grammar.specs.Answer.{HasOneTree}
 use Rattle.cfgx_engine.specs.Answer.{AddsFlag, AreFlags, Fails}
 use Rattle.cfgx_engine.specs.Flags.{flag_text, unknown_text}
-use Rattle.cfgx_engine.specs.Readings.{GivesAll, IsReadAs}
+use Rattle.cfgx_engine.specs.Readings.{GivesAll, ParsesAs}
 use Rattle.cfgx_engine.specs.Request.{texts}
 use Rattle.cfgx_engine.specs.declared.engine.flags.Flags.{Flags}
 use Rattle.cfgx_engine.proofs.OutputLemmas.{Fails-weaker}
@@ -32,7 +32,7 @@ unknown_text-unmarked (byte ∷ rest) lacks =
 -- each flag that has one tree is read as it
 pub trees_of : (flags : List (List ℕ))
     → AllByRecursion (λ flag. HasOneTree (strip (flag_text flag))) flags
-    → (trees : List (Tree Question)) × GivesAll IsReadAs (map flag_text flags) (Ok trees)
+    → (trees : List (Tree Question)) × GivesAll ParsesAs (map flag_text flags) (Ok trees)
 trees_of [] each = ([], refl)
 trees_of (flag ∷ flags) each =
     let others = trees_of flags each.1 in
@@ -42,8 +42,8 @@ trees_of (flag ∷ flags) each =
 GivesAll-later : (words : List (Bor (List ℕ))) (i : ℕ) (d : Bor (List ℕ)) (fault : Fault)
     → i < length words
     → AllByRecursion (λ flag. HasOneTree (strip (flag_text flag))) (texts (take i words))
-    → IsReadAs (flag_text (get_or words i d).now) (Err fault)
-    → GivesAll IsReadAs (map flag_text (texts words)) (Err fault)
+    → ParsesAs (flag_text (get_or words i d).now) (Err fault)
+    → GivesAll ParsesAs (map flag_text (texts words)) (Err fault)
 GivesAll-later [] i d fault below each reads = absurd (omega arith)
 GivesAll-later (word ∷ words) zero d fault below each reads = inl reads
 GivesAll-later (word ∷ words) (suc i) d fault below each reads =
@@ -69,7 +69,7 @@ module _ {A : Type 0} where
   pub Fails-later : (words : List (Bor (List ℕ))) (i : ℕ) (d : Bor (List ℕ)) (failed : Failure A)
       → i < length words
       → AllByRecursion (λ flag. HasOneTree (strip (flag_text flag))) (texts (take i words))
-      → Fails (λ fault. IsReadAs (flag_text (get_or words i d).now) (Err fault)) failed
-      → Fails (λ fault. GivesAll IsReadAs (map flag_text (texts words)) (Err fault)) failed
+      → Fails (λ fault. ParsesAs (flag_text (get_or words i d).now) (Err fault)) failed
+      → Fails (λ fault. GivesAll ParsesAs (map flag_text (texts words)) (Err fault)) failed
   Fails-later words i d failed below each =
       Fails-weaker _ _ failed (λ fault. GivesAll-later words i d fault below each)

@@ -16,10 +16,10 @@ use Rattle.cfgx_grammar.specs.Filling.{three_valued}
 use Rattle.cfgx_grammar.specs.Fold.{fold}
 use Rattle.cfgx_engine.specs.Flags.{IsAnswer, flag_text, known_texts, unknown_texts}
 use Rattle.cfgx_engine.specs.Input.{input_limit}
-use Rattle.cfgx_engine.specs.Output.{HasValue, HasValueOn, Output, ValueBy, answer_on}
+use Rattle.cfgx_engine.specs.Output.{HasValue, HasValueBy, Output, ValueBy, answer_on}
 use Rattle.cfgx_engine.specs.Output.{result_output, tree_output, unknown_triple, usage, value_by}
 use Rattle.cfgx_engine.specs.Prints.{Picks, Prints, not_utf8, too_long}
-use Rattle.cfgx_engine.specs.Readings.{GivesAll, IsReadAs}
+use Rattle.cfgx_engine.specs.Readings.{GivesAll, ParsesAs}
 use Rattle.cfgx_engine.specs.Request.{Request}
 use Rattle.cfgx_engine.specs.Sections.{Line, PrintsLine, line_of, lines_of}
 use Rattle.cfgx_engine.specs.Sections.{lines_output, section_text}
@@ -95,14 +95,14 @@ GivesAll-single each (x ∷ xs) (Err d) (Ok (z ∷ zs)) (inr this) that =
     let others = GivesAll-single each xs (Err d) (Ok zs) this.2 that.1 in absurd cc
 
 -- a text is read one way
-IsReadAs-single : (text : List ℕ) → IsSingle (IsReadAs text)
-IsReadAs-single text (Ok tree) (Ok other) this that =
+ParsesAs-single : (text : List ℕ) → IsSingle (ParsesAs text)
+ParsesAs-single text (Ok tree) (Ok other) this that =
     let same = that.only (Ok tree) this.has in cc
-IsReadAs-single text (Err fault) (Err other) this that =
+ParsesAs-single text (Err fault) (Err other) this that =
     ap Err (this.2 ∙ ap (fault_in (strip text)) (same_fault this.1 that.1) ∙ sym that.2)
-IsReadAs-single text (Ok tree) (Err other) this that =
+ParsesAs-single text (Ok tree) (Err other) this that =
     let same = that.1.only (Ok tree) this.has in absurd cc
-IsReadAs-single text (Err fault) (Ok other) this that =
+ParsesAs-single text (Err fault) (Ok other) this that =
     let same = this.1.only (Ok other) that.has in absurd cc
 
 tree_output-low : (read : Result (Tree Question) Fault) → (tree_output read).status < 3
@@ -139,14 +139,14 @@ ValueBy-single flags (Err fault) one other this that = this ∙ sym that
 
 HasValue-single : (text : List ℕ) (flags : List (List ℕ)) → IsSingle (HasValue text flags)
 HasValue-single text flags one other this that =
-    let same = GivesAll-single IsReadAs-single (text ∷ map flag_text flags) this.0 that.0 this.1
+    let same = GivesAll-single ParsesAs-single (text ∷ map flag_text flags) this.0 that.0 this.1
     that.1 in
     ValueBy-single flags that.0 one other (rw same at this.2) that.2
 
-HasValueOn-single : (answer : Question → Option Bool) (text : List ℕ)
-    → IsSingle (HasValueOn answer text)
-HasValueOn-single answer text one other this that =
-    this.2 ∙ ap (value_by answer) (IsReadAs-single text this.0 that.0 this.1 that.1) ∙ sym that.2
+HasValueBy-single : (answer : Question → Option Bool) (text : List ℕ)
+    → IsSingle (HasValueBy answer text)
+HasValueBy-single answer text one other this that =
+    this.2 ∙ ap (value_by answer) (ParsesAs-single text this.0 that.0 this.1 that.1) ∙ sym that.2
 
 -- what the lines of sections print
 PrintsLine-single : (answer : Question → Option Bool) (numbered : ℕ × Line)
@@ -155,7 +155,7 @@ PrintsLine-single answer (number, Line.empty) one other this that = this ∙ sym
 PrintsLine-single answer (number, Line.undivided) one other this that = this ∙ sym that
 PrintsLine-single answer (number, Line.section name condition) one other this that =
     this.2 ∙ ap (section_text answer number name)
-    (IsReadAs-single condition this.0 that.0 this.1 that.1) ∙ sym that.2
+    (ParsesAs-single condition this.0 that.0 this.1 that.1) ∙ sym that.2
 
 Picks-decided : (answer : Question → Option Bool) (input : List ℕ) → IsDecided (Picks answer input)
 Picks-decided answer input = decided-test (nat_lt input_limit (length input))
@@ -167,12 +167,12 @@ Picks-decided answer input = decided-test (nat_lt input_limit (length input))
 -- a request has one output on an input
 pub Prints-decided : (request : Request) (input : List ℕ) → IsDecided (Prints request input)
 Prints-decided (Request.parse text) input =
-    decided-made tree_output (IsReadAs-single text) tree_output-low
+    decided-made tree_output (ParsesAs-single text) tree_output-low
 Prints-decided (Request.eval text flags) input =
     decided-made result_output (HasValue-single text flags) result_output-low
 Prints-decided (Request.target triple text) input =
     decided-row (row_with {A = Global} triple builtin_rows)
-    (λ row. decided-made result_output (HasValueOn-single (answer_on row) text) result_output-low)
+    (λ row. decided-made result_output (HasValueBy-single (answer_on row) text) result_output-low)
 Prints-decided (Request.pick triple) input =
     decided-row (row_with {A = Global} triple builtin_rows)
     (λ row. Picks-decided (answer_on row) input)

@@ -15,14 +15,14 @@ use Rattle.cfgx_grammar.specs.Question.{Question}
 use Rattle.cfgx_grammar.specs.Answer.{Answers}
 use Rattle.cfgx_engine.specs.Answer.{TellsFailure}
 use Rattle.cfgx_engine.specs.Input.{input_limit}
-use Rattle.cfgx_engine.specs.Output.{Output, told}
+use Rattle.cfgx_engine.specs.Output.{Output, faulty_output}
 use Rattle.cfgx_engine.specs.Readings.{GivesAll}
 use Rattle.cfgx_engine.specs.Sections.{Line, PrintsLine, PrintsLines, line_fault, line_of}
 
 -- what the lines from a number on print, after what the front has written
 abbrev pub rest_output : List ℕ → Result (List (List ℕ)) (List ℕ) → Output
 rest_output front (Ok printed) = record { bytes = front ++ concat printed; status = 0 }
-rest_output front (Err text) = told text
+rest_output front (Err text) = faulty_output text
 
 abbrev pub PrintsRest : (Question → Option Bool) → ℕ → List Line → List ℕ → Output → Type 0
 PrintsRest answer number lines front shown = (printed : Result (List (List ℕ)) (List ℕ))
@@ -48,7 +48,7 @@ module _ (answer : Question → Option Bool) (number : ℕ) (line : Line) {piece
 
   -- the line is faulty
   pub PrintsRest-told : (shown : Output) → PrintsLine answer (number, line) (Err text)
-      → shown ≡ told text
+      → shown ≡ faulty_output text
       → PrintsRest answer number (map line_of (map strip_carriage_return pieces)) front shown
   PrintsRest-told shown prints is = rw are (Err text, inl (rw is_line at prints), is)
 
@@ -85,12 +85,12 @@ module _ {S A B : Type 0} {steps : S → Option A → S → Type 0} {seen : A �
   yields-none [] yields next step = refl
   yields-none (first ∷ others) yields next step = absurd (yields.runs.0 next step)
 
--- what is told of a faulty section
+-- what is faulty_output of a faulty section
 pub PrintsLine-failed : {A : Type 0} (answer : Question → Option Bool) (number : ℕ)
     (name condition : List ℕ) (shown : Output) (failed : Failure A)
     → Answers {A = A} (strip condition) (Err failed) → TellsFailure number failed shown
     → (text : List ℕ) × PrintsLine answer (number, Line.section name condition) (Err text)
-    × (shown ≡ told text)
+    × (shown ≡ faulty_output text)
 PrintsLine-failed answer number name condition shown (failure.Parse error)
     (refusal, same, reads) is = (
       line_fault number (fault_of error),

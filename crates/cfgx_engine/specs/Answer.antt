@@ -1,4 +1,4 @@
--- What the engine's own types stand for.
+-- What the engine's own types stand for, and what its private functions give.
 use Rattle.std.specs.Prelude.{◌≡◌, ℕ, List, [], ◌∷◌, ◌++◌, Bool, true, false, Option, Result, Ok}
 use Rattle.std.specs.Prelude.{Err, map, Some, None, codes, length, ◌≤◌}
 use Rattle.std.specs.Bool.{MatchBool}
@@ -14,10 +14,10 @@ use Rattle.cfgx_grammar.specs.Filling.{polar}
 use Rattle.cfgx_grammar.specs.Question.{Question}
 use Rattle.cfgx_grammar.specs.Tree.{asked}
 use Rattle.cfgx_engine.specs.Flags.{flag_text, known_texts, unknown_texts}
-use Rattle.cfgx_engine.specs.Output.{Output, answer_on, fault_output, told, value_output}
+use Rattle.cfgx_engine.specs.Output.{Output, answer_on, fault_output, faulty_output, value_output}
 use Rattle.cfgx_engine.specs.Input.{input_limit}
 use Rattle.cfgx_engine.specs.Prints.{not_utf8, too_long}
-use Rattle.cfgx_engine.specs.Readings.{GivesAll, IsReadAs}
+use Rattle.cfgx_engine.specs.Readings.{GivesAll, ParsesAs}
 use Rattle.cfgx_engine.specs.Request.{Request, texts}
 use Rattle.cfgx_engine.specs.Sections.{Line, PrintsLine, PrintsLines, line_of}
 use Rattle.cfgx_engine.specs.Sections.{filling_line, line_fault, lines_of, verdict_lines}
@@ -52,24 +52,24 @@ abbrev pub ShowsResult : {A : Type 0} → Result (Option Bool) (Failure A) → O
 ShowsResult (Ok value) output = output ≡ value_output value
 ShowsResult (Err failed) output = ShowsFailure failed output
 
--- what is given is a value, or a fault in its place; out of memory it is nothing
-abbrev pub Gives : {T A : Type 0} → (Result T Fault → Type 0) → Result T (Failure A) → Type 0
-Gives Fits (Ok value) = Fits (Ok value)
-Gives Fits (Err (failure.Parse error)) = Fits (Err (fault_of error))
-Gives Fits (Err (failure.Memory error)) = Unit {0}
+-- this holds of the value, or of the fault in its place; out of memory nothing is said
+abbrev pub FitsResult : {T A : Type 0} → (Result T Fault → Type 0) → Result T (Failure A) → Type 0
+FitsResult Fits (Ok value) = Fits (Ok value)
+FitsResult Fits (Err (failure.Parse error)) = Fits (Err (fault_of error))
+FitsResult Fits (Err (failure.Memory error)) = Unit {0}
 
--- a failure is the fault of which this holds, or out of memory
+-- this holds of the fault; out of memory nothing is said
 abbrev pub Fails : {A : Type 0} → (Fault → Type 0) → Failure A → Type 0
 Fails Fits (failure.Parse error) = Fits (fault_of error)
 Fails Fits (failure.Memory error) = Unit {0}
 
--- the flag of a word, which has one tree, is added to those of its kind
+-- the flag of a word, whose text has one tree, is added to the flags of its kind
 pub record AddsFlag {A : Type 0} (word : List ℕ) (old new : Flags A) : Type 0 where
   pub one : HasOneTree (strip (flag_text word))
   pub known_are : new.known.items ≡ old.known.items ++ known_texts (word ∷ [])
   pub unknown_are : new.unknown.items ≡ old.unknown.items ++ unknown_texts (word ∷ [])
 
--- the flags of the words, which have one tree each, by their kinds
+-- the flags of some words, each of whose texts has one tree, by kind
 pub record AreFlags {A : Type 0} (words : List (List ℕ)) (flags : Flags A) : Type 0 where
   pub each : AllByRecursion (λ word. HasOneTree (strip (flag_text word))) words
   pub known_are : flags.known.items ≡ known_texts words
@@ -79,14 +79,14 @@ pub record AreFlags {A : Type 0} (words : List (List ℕ)) (flags : Flags A) : T
 abbrev pub ReadsFlags : {A : Type 0} → List (List ℕ) → Result (Flags A) (Failure A) → Type 0
 ReadsFlags words (Ok flags) = AreFlags words flags
 ReadsFlags words (Err failed) =
-    Fails (λ fault. GivesAll IsReadAs (map flag_text words) (Err fault)) failed
+    Fails (λ fault. GivesAll ParsesAs (map flag_text words) (Err fault)) failed
 
 -- the bytes of an input are no more than it may have
 abbrev pub IsShort : {A : Type 0} → Input A → Type 0
 IsShort (input.Bytes bytes) = length bytes.items ≤ input_limit
 IsShort input.TooLong = Unit {0}
 
--- what `pick` writes of an input that was read if a target answers so
+-- what `pick` writes of an input that was read, with these answers
 abbrev pub PicksFrom : {A : Type 0} → (Question → Option Bool) → Input A → Output → Type 0
 PicksFrom answer (input.Bytes bytes) output = MatchBool (is_utf8 bytes.items)
     (PrintsLines answer (map line_of (lines_of bytes.items)) output) (output ≡ not_utf8)
@@ -112,16 +112,18 @@ abbrev pub AddsVerdict : {A : Type 0} → TargetInfo A → List ℕ → List ℕ
 AddsVerdict row condition old new = (one : HasOneTree condition)
     × (new ≡ old ++ verdict_lines one.tree (map (answer_on row) (asked one.tree)))
 
--- What the line with this number prints is added, or what tells of its fault is answered.
+-- `None`: what the line with this number prints was added. `Some`: the answer is the message of its
+-- fault.
 abbrev pub AddsLine : {A : Type 0} → (Question → Option Bool) → ℕ → Line → List ℕ → List ℕ
     → Option (Answer A) → Type 0
 AddsLine answer number line old new None =
     (written : List ℕ) × PrintsLine answer (number, line) (Ok written) × (new ≡ old ++ written)
 AddsLine answer number line old new (Some telling) =
-    (text : List ℕ) × PrintsLine answer (number, line) (Err text) × (output_of telling ≡ told text)
+    (text : List ℕ) × PrintsLine answer (number, line) (Err text)
+    × (output_of telling ≡ faulty_output text)
 
 -- the output of a fault on the line with this number; a call out of memory has none
 abbrev pub TellsFailure : {A : Type 0} → ℕ → Failure A → Output → Type 0
 TellsFailure number (failure.Parse error) output =
-    output ≡ told (line_fault number (fault_of error))
+    output ≡ faulty_output (line_fault number (fault_of error))
 TellsFailure number (failure.Memory error) output = ⊥

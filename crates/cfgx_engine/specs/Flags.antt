@@ -37,8 +37,8 @@ Names text question = (tree : Tree Question) × HasTree text tree × Contains (a
 abbrev pub IsNamed : List (List ℕ) → Question → Type 0
 IsNamed texts question = Any (λ text. Names text question) texts
 
--- the answer to a question: true if a known text names it, else unknown if an unknown one
--- does, and else false
+-- the answer to a question: true if a text of the first list names it, else unknown if one of the
+-- second names it, else false
 abbrev pub IsAnswer : List (List ℕ) → List (List ℕ) → Question → Option Bool → Type 0
 IsAnswer known unknown question (Some true) = IsNamed known question
 IsAnswer known unknown question None = ¬ IsNamed known question × IsNamed unknown question

@@ -13,7 +13,7 @@ use Rattle.cfgx_engine.specs.declared.engine.reading.Stop.TheVariants as stop
 abbrev pub input_limit : ℕ
 input_limit = 2 ^ 24
 
--- how many calls of a source failed, of those that gave this answer
+-- how many calls of the source failed if the reading ended with this answer
 abbrev pub stop_failures : {T : Type 0} → Result T Stop → ℕ
 stop_failures (Ok answer) = 0
 stop_failures (Err stop.Memory) = 0
@@ -30,19 +30,20 @@ ReadsInput old new (Ok input.TooLong) = (front : List ℕ) × (length front ≡ 
 ReadsInput old new (Err stopped) = (front : List ℕ) × (length front ≤ input_limit)
     × Consumes old new front
 
--- a beginning of the input was read, and stays read: one byte more than the limit at most
+-- a beginning of the input was read, and stays read: at most one byte more than the limit
 abbrev pub ReadsFront : Option (List ℕ) → Option (List ℕ) → Type 0
 ReadsFront old new =
     (front : List ℕ) × (length front ≤ input_limit + 1) × Consumes old new front
 
 -- How far the reading has come.
 
--- so many of the bytes were read, and there is room for one byte more than the limit at most
+-- so many of the bytes were read, at most the limit, and there is room for at most one byte more
 abbrev pub IsRoom : List ℕ → ℕ → Type 0
 IsRoom bytes filled = (filled ≤ length bytes) × (length bytes ≤ input_limit + 1)
     × (filled ≤ input_limit)
 
--- one call gave so many bytes more, which stand there after the others; none only at the end
+-- one call gave so many bytes more, which stand after those that were read; it gave none only at
+-- the end
 pub record ReadsMore (old new : Option (List ℕ)) (bytes : List ℕ) (filled count : ℕ) : Type 0 where
   pub within : filled + count ≤ length bytes
   pub consumes : Consumes old new (take count (drop filled bytes))

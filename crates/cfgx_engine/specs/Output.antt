@@ -13,7 +13,7 @@ use Rattle.cfgx_grammar.specs.Fold.{fold}
 use Rattle.cfgx_grammar.specs.Matching.{meets}
 use Rattle.cfgx_grammar.specs.Spelling.{spelling}
 use Rattle.cfgx_engine.specs.Flags.{IsAnswer, flag_text, known_texts, unknown_texts}
-use Rattle.cfgx_engine.specs.Readings.{GivesAll, IsReadAs}
+use Rattle.cfgx_engine.specs.Readings.{GivesAll, ParsesAs}
 use Rattle.cfgx_engine.specs.Verdicts.{answer_by}
 
 -- what a run writes if memory is found and no call fails, and the status that it then ends with
@@ -47,24 +47,25 @@ unknown_triple = record { bytes = text_line (codes "unknown triple"); status = 2
 abbrev pub value_output : Option Bool → Output
 value_output value = record { bytes = text_line (value_text value); status = 0 }
 
--- what tells of a fault
-abbrev pub told : List ℕ → Output
-told text = record { bytes = text; status = 1 }
+-- the output with this text and the status of a faulty text or input
+abbrev pub faulty_output : List ℕ → Output
+faulty_output text = record { bytes = text; status = 1 }
 
 abbrev pub fault_output : Fault → Output
-fault_output fault = told (text_line (error_text fault))
+fault_output fault = faulty_output (text_line (error_text fault))
 
--- one line for each predicate that a tree asks, or the fault
+-- for a tree a line for each predicate that it asks; for a fault what it prints
 abbrev pub tree_output : Result (Tree Question) Fault → Output
 tree_output (Ok tree) = record { bytes = lines (asked tree); status = 0 }
 tree_output (Err fault) = fault_output fault
 
--- a value, or the fault in its place
+-- the output of a value, or of the fault in its place
 abbrev pub result_output : Result (Option Bool) Fault → Output
 result_output (Ok value) = value_output value
 result_output (Err fault) = fault_output fault
 
--- the value of the first of some trees, if the flags answer its predicates, or the fault
+-- What was read holds the text's tree and then those of the flags. The value is that of the text's
+-- tree, whose predicates the flags answer; or it is the fault.
 abbrev pub ValueBy : List (List ℕ) → Result (List (Tree Question)) Fault
     → Result (Option Bool) Fault → Type 0
 ValueBy flags (Ok []) value = ⊥
@@ -73,23 +74,24 @@ ValueBy flags (Ok (tree ∷ _)) value = (answers : List (Option Bool))
     × (value ≡ Ok (fold three_valued tree answers))
 ValueBy flags (Err fault) value = value ≡ Err fault
 
--- the value of the text, if the flags answer its predicates, or the fault of the first text that is
--- faulty: the text is read first, and then each flag
+-- the value of the text, whose predicates the flags answer; or the first fault, if the text is read
+-- first and then each flag
 abbrev pub HasValue : List ℕ → List (List ℕ) → Result (Option Bool) Fault → Type 0
-HasValue text flags value = (read : Result (List (Tree Question)) Fault)
-    × GivesAll IsReadAs (text ∷ map flag_text flags) read × ValueBy flags read value
+HasValue text flags value = (reading : Result (List (Tree Question)) Fault)
+    × GivesAll ParsesAs (text ∷ map flag_text flags) reading × ValueBy flags reading value
 
--- what a target answers: whether it meets a predicate on the target, and nothing of the others
+-- what a target answers to a question: whether it meets it, if it is on the target; every other
+-- question is unknown
 abbrev pub answer_on : {A : Type 0} → TargetInfo A → Question → Option Bool
 answer_on row = answer_by (meets row)
 
--- the value of a tree if its predicates are answered so, or the fault in its place
+-- the value of a tree with these answers, or the fault in its place
 abbrev pub value_by : (Question → Option Bool) → Result (Tree Question) Fault
     → Result (Option Bool) Fault
 value_by answer (Ok tree) = Ok (fold three_valued tree (map answer (asked tree)))
 value_by answer (Err fault) = Err fault
 
--- the value of the text if its predicates are answered so, or its fault
-abbrev pub HasValueOn : (Question → Option Bool) → List ℕ → Result (Option Bool) Fault → Type 0
-HasValueOn answer text value = (read : Result (Tree Question) Fault) × IsReadAs text read
-    × (value ≡ value_by answer read)
+-- the value of the text with these answers, or its fault
+abbrev pub HasValueBy : (Question → Option Bool) → List ℕ → Result (Option Bool) Fault → Type 0
+HasValueBy answer text value = (reading : Result (Tree Question) Fault) × ParsesAs text reading
+    × (value ≡ value_by answer reading)

@@ -13,41 +13,43 @@ use Rattle.cfgx_syntax.specs.Error.{Fault}
 use Rattle.cfgx_grammar.specs.Question.{Question}
 use Rattle.cfgx_grammar.specs.Tree.{Tree}
 use Rattle.cfgx_engine.specs.Input.{input_limit}
-use Rattle.cfgx_engine.specs.Output.{HasValue, HasValueOn, Output, answer_on, result_output}
-use Rattle.cfgx_engine.specs.Output.{text_line, told, tree_output, unknown_triple, usage}
-use Rattle.cfgx_engine.specs.Readings.{IsReadAs}
+use Rattle.cfgx_engine.specs.Output.{HasValue, HasValueBy, Output, answer_on, result_output}
+use Rattle.cfgx_engine.specs.Output.{text_line, faulty_output, tree_output, unknown_triple, usage}
+use Rattle.cfgx_engine.specs.Readings.{ParsesAs}
 use Rattle.cfgx_engine.specs.Request.{Request}
 use Rattle.cfgx_engine.specs.Sections.{PrintsLines, line_of, lines_of}
 use Rattle.cfgx_engine.specs.Streams.{TakesFront}
 
 abbrev pub too_long : Output
-too_long = told (text_line (codes "input too long"))
+too_long = faulty_output (text_line (codes "input too long"))
 
 abbrev pub not_utf8 : Output
-not_utf8 = told (text_line (codes "input is not UTF-8"))
+not_utf8 = faulty_output (text_line (codes "input is not UTF-8"))
 
--- what `pick` writes if a target answers so
+-- This is what `pick` writes of the input, with these answers. That it is too long counts first,
+-- then that it is not UTF-8, and then its lines.
 abbrev pub Picks : (Question → Option Bool) → List ℕ → Output → Type 0
 Picks answer input output =
     MatchBool (nat_lt input_limit (length input)) (output ≡ too_long)
     (MatchBool (is_utf8 input) (PrintsLines answer (map line_of (lines_of input)) output)
     (output ≡ not_utf8))
 
--- what `pick` writes of the input that a source holds, which may be any if the source does not tell
--- its bytes
+-- this is what `pick` writes of the input that a source holds, or of some input if the source does
+-- not tell its bytes
 abbrev pub PicksInput : (Question → Option Bool) → Option (List ℕ) → Output → Type 0
 PicksInput answer held output =
     (input : List ℕ) × Keeps held (Some input) × Picks answer input output
 
--- this is an output of the request, on the input
+-- this is the output of the request on the input
 abbrev pub Prints : Request → List ℕ → Output → Type 0
 Prints (Request.parse text) input output =
-    (read : Result (Tree Question) Fault) × IsReadAs text read × (output ≡ tree_output read)
+    (reading : Result (Tree Question) Fault) × ParsesAs text reading
+    × (output ≡ tree_output reading)
 Prints (Request.eval text flags) input output = (value : Result (Option Bool) Fault)
     × HasValue text flags value × (output ≡ result_output value)
 Prints (Request.target triple text) input output =
     MatchOption (row_with {A = Global} triple builtin_rows) (output ≡ unknown_triple)
-    (λ row. (value : Result (Option Bool) Fault) × HasValueOn (answer_on row) text value
+    (λ row. (value : Result (Option Bool) Fault) × HasValueBy (answer_on row) text value
     × (output ≡ result_output value))
 Prints (Request.pick triple) input output =
     MatchOption (row_with {A = Global} triple builtin_rows) (output ≡ unknown_triple)
@@ -59,18 +61,19 @@ abbrev pub Reads : Request → Type 0
 Reads (Request.pick triple) = IsSome (row_with {A = Global} triple builtin_rows)
 Reads request = ⊥
 
--- this is an output of the request, on the input that a source holds
+-- this is the output of the request on the input that a source holds, or on some input if the
+-- source does not tell its bytes
 abbrev pub PrintsInput : Request → Option (List ℕ) → Output → Type 0
 PrintsInput request held output =
     (input : List ℕ) × Keeps held (Some input) × Prints request input output
 
--- A sink has taken an output of the request with this status, whole. It says nothing of the bytes
--- of a sink that does not tell them.
+-- The sink has taken the whole output of the request, which has this status. Nothing is said of the
+-- bytes of a sink that does not tell them.
 abbrev pub WritesWhole : Request → Option (List ℕ) → ℕ → Option (List ℕ) → Option (List ℕ) → Type 0
 WritesWhole request held status old new = (output : Output) × PrintsInput request held output
     × (output.status ≡ status) × Appends old new output.bytes
 
--- a sink has taken a beginning of an output of the request, perhaps all or nothing of it
+-- the sink has taken a beginning of the output of the request, perhaps all or nothing of it
 abbrev pub WritesFront : Request → Option (List ℕ) → Option (List ℕ) → Option (List ℕ) → Type 0
 WritesFront request held old new = (output : Output) × PrintsInput request held output
     × TakesFront old new output.bytes

@@ -1,4 +1,4 @@
--- What texts read as without the outer `cfg( )`, one after another.
+-- What a text reads as after its outer `cfg( )` is taken off, and what a list of items gives.
 -- Source of the rules: docs/RULES.md.
 use Rattle.std.specs.Prelude.{◌≡◌, ◌⊎◌, ℕ, List, [], ◌∷◌, Result, Ok, Err}
 use Rattle.cfgx_syntax.specs.Stripping.{strip}
@@ -7,13 +7,13 @@ use Rattle.cfgx_grammar.specs.Question.{Question}
 use Rattle.cfgx_grammar.specs.Tree.{Tree}
 use Rattle.cfgx_grammar.specs.Answer.{ReadsAs}
 
--- the text reads as this tree, or as this fault, which is told with the text
-abbrev pub IsReadAs : List ℕ → Result (Tree Question) Fault → Type 0
-IsReadAs text (Ok tree) = ReadsAs (strip text) (Ok tree)
-IsReadAs text (Err fault) = (refusal : Refusal) × ReadsAs (strip text) (Err refusal)
+-- the text, once stripped, reads as this tree, or as this fault, which holds the stripped text
+abbrev pub ParsesAs : List ℕ → Result (Tree Question) Fault → Type 0
+ParsesAs text (Ok tree) = ReadsAs (strip text) (Ok tree)
+ParsesAs text (Err fault) = (refusal : Refusal) × ReadsAs (strip text) (Err refusal)
     × (fault ≡ fault_in (strip text) refusal)
 
--- each item gives a value, or the first that does not gives this error
+-- each item gives its value, in order; or the first item that gives no value gives this error
 abbrev pub GivesAll : {X T E : Type 0} → (X → Result T E → Type 0) → List X → Result (List T) E
     → Type 0
 GivesAll Gives [] result = result ≡ Ok []

@@ -14,7 +14,7 @@ pub data Request : Type 0 where
   target : List ℕ → List ℕ → Request
   -- the verdicts, by the target with a triple, on the sections of the input
   pick : List ℕ → Request
-  -- no word, no command, or another number of words than the command has
+  -- no word, a first word that is no command, or another number of words than the command has
   wrong_use : Request
 
 -- the words as texts

@@ -1,4 +1,4 @@
--- The input of `pick`: sections, a line each, and what is printed of them.
+-- The input of `pick`, which has a section on each line, and what is printed of it.
 -- Source of the rules: docs/RULES.md.
 use Rattle.std.specs.Prelude.{◌≡◌, ◌==◌, ℕ, Bool, true, false, List, [], ◌++◌}
 use Rattle.std.specs.Prelude.{codes, length, map, nat_lt, Option, Some, None, Result, Ok, Err}
@@ -12,8 +12,8 @@ use Rattle.cfgx_grammar.specs.Question.{Question}
 use Rattle.cfgx_grammar.specs.Tree.{Tree, asked}
 use Rattle.cfgx_grammar.specs.Filling.{polar, three_valued}
 use Rattle.cfgx_grammar.specs.Fold.{fold}
-use Rattle.cfgx_engine.specs.Output.{Output, told}
-use Rattle.cfgx_engine.specs.Readings.{GivesAll, IsReadAs}
+use Rattle.cfgx_engine.specs.Output.{Output, faulty_output}
+use Rattle.cfgx_engine.specs.Readings.{GivesAll, ParsesAs}
 
 -- the lines of an input: what stands between its line feeds, less one carriage return at the end
 abbrev pub lines_of : List ℕ → List (List ℕ)
@@ -37,7 +37,7 @@ line_of text =
     then Line.section (before_first is_tab text) (after_first is_tab text)
     else Line.undivided
 
--- a filling: a digit for each occurrence of a predicate
+-- a filling as it is printed: `1` for true, `0` for false
 abbrev pub digits : List Bool → List ℕ
 digits filling = flat_map (λ filled. if filled then codes "1" else codes "0") filling
 
@@ -45,7 +45,8 @@ digits filling = flat_map (λ filled. if filled then codes "1" else codes "0") f
 abbrev pub filling_line : List ℕ → List Bool → List ℕ
 filling_line text filling = text ++ digits filling ++ codes "\n"
 
--- a verdict, and the two fillings that show why it is unknown
+-- what stands after a section's name: the verdict, and if it is unknown the two fillings that show
+-- why
 abbrev pub verdict_text : Option Bool → List Bool → List Bool → List ℕ
 verdict_text (Some true) with_true with_false = codes "\tyes\n"
 verdict_text (Some false) with_true with_false = codes "\tno\n"
@@ -53,42 +54,42 @@ verdict_text None with_true with_false = codes "\tunknown\n"
     ++ filling_line (codes "\ttrue with ") with_true
     ++ filling_line (codes "\tfalse with ") with_false
 
--- the verdict of a tree's value over the answers, with the polar fillings
+-- what stands there if this is the tree and these are the answers
 abbrev pub verdict_lines : {X : Type 0} → Tree X → List (Option Bool) → List ℕ
 verdict_lines tree answers = verdict_text (fold three_valued tree answers)
     (polar tree answers true) (polar tree answers false)
 
--- what tells of a line with this number that has no tab
+-- the message for the line with this number, which has no tab
 abbrev pub no_tab : ℕ → List ℕ
 no_tab number = codes "line " ++ decimal number ++ codes ": no tab\n"
 
--- what tells of a fault of the condition on the line with this number
+-- the message for the line with this number, whose condition has this fault
 abbrev pub line_fault : ℕ → Fault → List ℕ
 line_fault number fault =
     codes "line " ++ decimal number ++ codes ":\n" ++ error_text fault ++ codes "\n"
 
--- what a section on the line with this number prints if its condition is read so and its predicates
--- are answered so, or what tells of its fault
+-- what the section on the line with this number prints, by what its condition reads as and by the
+-- answers; the error is the message of its fault
 abbrev pub section_text : (Question → Option Bool) → ℕ → List ℕ → Result (Tree Question) Fault
     → Result (List ℕ) (List ℕ)
 section_text answer number name (Ok tree) =
     Ok (name ++ verdict_lines tree (map answer (asked tree)))
 section_text answer number name (Err fault) = Err (line_fault number fault)
 
--- what the line with this number prints, or what tells of its fault
+-- what the line with this number prints with these answers; the error is the message of its fault
 abbrev pub PrintsLine : (Question → Option Bool) → ℕ × Line → Result (List ℕ) (List ℕ) → Type 0
 PrintsLine answer (number, Line.empty) printed = printed ≡ Ok []
 PrintsLine answer (number, Line.undivided) printed = printed ≡ Err (no_tab number)
 PrintsLine answer (number, Line.section name condition) printed =
-    (read : Result (Tree Question) Fault) × IsReadAs condition read
-    × (printed ≡ section_text answer number name read)
+    (reading : Result (Tree Question) Fault) × ParsesAs condition reading
+    × (printed ≡ section_text answer number name reading)
 
--- what the lines print, one after another, or what tells of the first fault
+-- what the lines print, one after another, or the message of the first faulty one
 abbrev pub lines_output : Result (List (List ℕ)) (List ℕ) → Output
 lines_output (Ok printed) = record { bytes = concat printed; status = 0 }
-lines_output (Err text) = told text
+lines_output (Err text) = faulty_output text
 
--- what is written of the lines, whose numbers begin at 1
+-- this is what is written of these lines, which are numbered from 1
 abbrev pub PrintsLines : (Question → Option Bool) → List Line → Output → Type 0
 PrintsLines answer lines output = (printed : Result (List (List ℕ)) (List ℕ))
     × GivesAll (PrintsLine answer) (enumerate_from 1 lines) printed

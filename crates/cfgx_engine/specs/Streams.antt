@@ -5,12 +5,13 @@ use Rattle.std.specs.Prelude.{ℕ, List, length, ◌==◌, ◌&&◌, nat_lt}
 use Rattle.std.specs.Prelude.{Result, Ok, Err, if◌then◌else◌}
 pub use Rattle.cfgx_grammar.specs.Writing.{Takes, TakesFront}
 
--- how many calls failed, of one call that answers this: an error is a failure
+-- 1 if a call that answers this failed, else 0: an error is a failure
 abbrev pub failures_of : {T E : Type 0} → Result T E → ℕ
 failures_of (Ok _) = 0
 failures_of (Err _) = 1
 
--- the same of a `write` of these bytes, which fails too if it takes none of some
+-- 1 if a `write` of these bytes that answers this failed: it answered an error, or took no byte
+-- though there was one
 abbrev pub write_failures : {E : Type 0} → Result ℕ E → List ℕ → ℕ
 write_failures (Ok taken) bytes = if taken == 0 && nat_lt 0 (length bytes) then 1 else 0
 write_failures (Err _) bytes = 1

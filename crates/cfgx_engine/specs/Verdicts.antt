@@ -1,4 +1,4 @@
--- What a target says of a condition, of whose predicates it knows those on the target alone.
+-- What a target says of a condition. It knows the predicates on the target and no others.
 -- Source: Kleene's strong logic, in which a value is known if every way to fill what is unknown
 -- leads to it.
 use Rattle.std.specs.Prelude.{◌≡◌, ◌↔◌, ℕ, Bool, true, false, List, Option, Some, None, map}
@@ -10,7 +10,7 @@ use Rattle.cfgx_grammar.specs.Fold.{fold}
 use Rattle.cfgx_engine.specs.declared.resolve.Verdict.{Verdict}
 use Rattle.cfgx_engine.specs.declared.resolve.Verdict.TheVariants as verdict
 
--- what is answered to a question on the target is known, and nothing else is
+-- the answer to a question on the target is known; every other question is unknown
 abbrev pub answer_by : (TargetQuestion → Bool) → Question → Option Bool
 answer_by answer (Question.target question) = Some (answer question)
 answer_by answer question = None

@@ -71,7 +71,7 @@ fn verdict_of(value: Option<bool>) -> Verdict
 }
 
 /// The value of a condition over what the matcher answers.
-fn value_by<A: SmallAllocator, M: TargetMatcher>(
+pub(crate) fn value_by<A: SmallAllocator, M: TargetMatcher>(
     alloc: A,
     condition: &Expression<A>,
     matcher: &M,

@@ -4,18 +4,18 @@ ghost use Rattle.std.specs.Prelude.{◌≡◌, ◌↔◌, Err, IfErr, IsTrue, On
 ghost use Rattle.cfgx_grammar.specs.Answer.{Answers};
 ghost use Rattle.cfgx_parser.specs.Predicate.{question_of};
 ghost use Rattle.cfgx_syntax.specs.Stripping.{strip};
-ghost use Rattle.cfgx_engine.specs.Answer.{AddsFlag, Fails, Gives, ReadsFlags};
+ghost use Rattle.cfgx_engine.specs.Answer.{AddsFlag, Fails, FitsResult, ReadsFlags};
 ghost use Rattle.cfgx_engine.specs.Flags.{flag_text, IsAnswer, IsNamed, Names};
 ghost use Rattle.cfgx_engine.specs.Request.{texts};
 ghost use Rattle.cfgx_engine.specs.Output.{HasValue};
-ghost use Rattle.cfgx_engine.specs.Readings.{IsReadAs};
+ghost use Rattle.cfgx_engine.specs.Readings.{ParsesAs};
 
 use cfg_expr::error::Failure;
 use cfg_expr::memory::SmallAllocator;
 use cfg_expr::{Expression, Predicate};
 use std::marker::Model;
 
-/// A text with one tree, which names the predicates that this tree asks. Contracts see the text.
+/// A text that names the predicates that its tree asks. Contracts see the text.
 struct Flag<A: SmallAllocator> {
     expression: Expression<A>,
 }
@@ -32,13 +32,10 @@ impl<A: SmallAllocator> Drop for Flag<A> {
 
 impl<A: SmallAllocator> Model for Flag<A> {
     ghost use Rattle.std.specs.Prelude.{List, ℕ};
-    ghost use Rattle.cfgx_grammar.specs.Answer.{HasOneTree};
 
     ghost Value = { List ℕ };
 
     ghost view = { λ flag. flag.expression };
-
-    ghost invariant = { λ flag. HasOneTree flag.expression };
 }
 
 impl<A: SmallAllocator> Flag<A> {
@@ -118,7 +115,7 @@ impl<A: SmallAllocator> Flags<A> {
     /// Adds the flag of a word. After a `?` stands a text whose predicates are unknown.
     fn add(&mut self, alloc: A, word: &str) -> Result<(), Failure<A>>
         ensures ok { OnOk result (AddsFlag word.now self.old self.new) }
-        ensures err { IfErr result (Fails (λ fault. IsReadAs (flag_text word.now) (Err fault))) }
+        ensures err { IfErr result (Fails (λ fault. ParsesAs (flag_text word.now) (Err fault))) }
     {
         match word.strip_prefix('?') {
             Some(text) => self.unknown.push(Flag::parse(alloc, text)?)?,
@@ -148,7 +145,7 @@ pub(super) fn value_of<A: SmallAllocator>(
     text: &str,
     words: &[&str],
 ) -> Result<Option<bool>, Failure<A>>
-    ensures { Gives (HasValue text.now (texts words.now)) result }
+    ensures { FitsResult (HasValue text.now (texts words.now)) result }
 {
     let expression = Expression::parse(alloc, text)?;
     let flags = Flags::parse(alloc, words)?;

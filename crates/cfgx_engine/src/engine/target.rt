@@ -1,26 +1,13 @@
-// The value of a text on a target, by the verdict on it.
+// The value of a text on a target.
 
-ghost use Rattle.std.specs.Prelude.{◌≡◌};
-ghost use Rattle.cfgx_engine.specs.Answer.{Gives};
-ghost use Rattle.cfgx_engine.specs.Output.{answer_on, HasValueOn};
-ghost use Rattle.cfgx_engine.specs.Verdicts.{verdict_of};
+ghost use Rattle.cfgx_engine.specs.Answer.{FitsResult};
+ghost use Rattle.cfgx_engine.specs.Output.{answer_on, HasValueBy};
 
-use crate::resolve::{Verdict, verdict_on};
+use crate::resolve::value_by;
 use cfg_expr::Expression;
 use cfg_expr::error::Failure;
 use cfg_expr::memory::SmallAllocator;
 use cfg_expr::targets::TargetInfo;
-
-/// The value that a verdict stands for.
-fn value_of(verdict: Verdict) -> Option<bool>
-    ensures { verdict_of result ≡ verdict }
-{
-    match verdict {
-        Verdict::Yes => Some(true),
-        Verdict::No => Some(false),
-        Verdict::Unknown => None,
-    }
-}
 
 /// The value of the text if the target answers its predicates.
 pub(super) fn value_on<A: SmallAllocator>(
@@ -28,8 +15,8 @@ pub(super) fn value_on<A: SmallAllocator>(
     row: &TargetInfo<'_, A>,
     text: &str,
 ) -> Result<Option<bool>, Failure<A>>
-    ensures { Gives (HasValueOn (answer_on row.now) text.now) result }
+    ensures { FitsResult (HasValueBy (answer_on row.now) text.now) result }
 {
     let condition = Expression::parse(alloc, text)?;
-    Ok(value_of(verdict_on(alloc, &condition, row)?))
+    Ok(value_by(alloc, &condition, row)?)
 }

@@ -5,7 +5,7 @@ use Rattle.cfgx_grammar.specs.Question.{Question}
 use Rattle.cfgx_grammar.specs.Tree.{Tree}
 use Rattle.cfgx_engine.specs.Answer.{output_of, ShowsFailure}
 use Rattle.cfgx_engine.specs.Output.{tree_output}
-use Rattle.cfgx_engine.specs.Readings.{IsReadAs}
+use Rattle.cfgx_engine.specs.Readings.{ParsesAs}
 use Rattle.cfgx_engine.specs.declared.engine.answer.Answer.{Answer}
 use Rattle.cfgx_engine.proofs.OutputLemmas.{tree_output-failed}
 use Rattle.cfgx_engine.proofs.engine.answer.parse_answer.Goals as goal
@@ -21,7 +21,7 @@ returns-in-Err g c =
     let text = c.args.text.now in
     IfOk-weaker c.fault_answer.result
     (λ (a : Answer g.row.A.Denot). ShowsFailure {A = g.row.A.Denot} c.in-Err.failure (output_of a))
-    (λ (a : Answer g.row.A.Denot). (read : Result (Tree Question) Fault) × IsReadAs text read
+    (λ (a : Answer g.row.A.Denot). (read : Result (Tree Question) Fault) × ParsesAs text read
     × (output_of a ≡ tree_output read))
     (λ a shows. tree_output-failed {A = g.row.A.Denot} text _ _ c.in-Err.ensures shows)
     c.fault_answer.ensures

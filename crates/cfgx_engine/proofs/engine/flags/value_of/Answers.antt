@@ -1,21 +1,19 @@
 -- Each call answers as the flags do, and leaves them.
-use Rattle.std.proofs.Common.{◌≡◌, ◌∷◌, ap, inl, inr, map, refl, rules, Ok, Err}
+use Rattle.std.proofs.Common.{◌≡◌, ◌∷◌, ap, inl, inr, refl, rules, Ok, Err}
 use Rattle.std.proofs.lemmas.Result.{err_from_is_err_and}
 use Rattle.cfg_expr.proofs.Chains.{Calls-AllZip}
 use Rattle.cfgx_parser.specs.Predicate.{question_of}
-use Rattle.cfgx_syntax.specs.Error.{Fault}
-use Rattle.cfgx_engine.specs.Flags.{IsAnswer, flag_text, known_texts, unknown_texts}
+use Rattle.cfgx_engine.specs.Flags.{IsAnswer, known_texts, unknown_texts}
 use Rattle.cfgx_engine.specs.Output.{HasValue}
-use Rattle.cfgx_engine.specs.Readings.{GivesAll, IsReadAs}
 use Rattle.cfgx_engine.specs.Request.{texts}
 use Rattle.cfgx_engine.proofs.FlagLemmas.{trees_of}
-use Rattle.cfgx_engine.proofs.OutputLemmas.{Fails-parse, Fails-weaker, Gives-failed}
+use Rattle.cfgx_engine.proofs.OutputLemmas.{Fails-parse, FitsResult-failed}
 use Rattle.cfgx_engine.proofs.engine.flags.value_of.Goals as goal
 
 pub returns-in_err-expression : goal.returns-in_err-expression
 returns-in_err-expression g c =
     let p = err_from_is_err_and c.from_residual.result c.from_residual.ensures.1 in
-    rw (p.1, p.2) (Gives-failed {A = g.row.A.Denot}
+    rw (p.1, p.2) (FitsResult-failed {A = g.row.A.Denot}
     (HasValue c.args.text.now (texts c.args.words.now)) _ _
     (λ fault reads. (Err fault, inl reads, refl))
     (Fails-parse {A = g.row.A.Denot} c.args.text.now _ c.in_err-expression.ensures))
@@ -25,7 +23,7 @@ returns-in_err-flags g c =
     let p = err_from_is_err_and c.from_residual-in_err-flags.result
     c.from_residual-in_err-flags.ensures.1 in
     let one = c.in_ok-expression.ensures.2 in
-    rw (p.1, p.2) (Gives-failed {A = g.row.A.Denot}
+    rw (p.1, p.2) (FitsResult-failed {A = g.row.A.Denot}
     (HasValue c.args.text.now (texts c.args.words.now)) _ _
     (λ fault gives. (Err fault, inr (one.tree, one.reads, gives), refl)) c.in_err-flags.ensures)
 
