@@ -87,7 +87,7 @@ module _ {T : Type 0} (answer : T → TargetQuestion → Bool) (rows : List T) w
       (length rows) (omega arith)
       ∙ ap (map (verdict answer tree)) (take_all (length rows) rows (omega arith))
 
-  -- the same of the one tree of a text
+  -- of a text it is the one tree
   pub first_lanes-text : {text : List ℕ} (answers given : List Planes) (value : Planes)
       → length rows ≤ 64 → given ≡ answers
       → (one : HasOneTree text) × AllZip (InLanes answer rows) (asked one.tree) answers
