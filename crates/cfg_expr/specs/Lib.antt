@@ -1,4 +1,5 @@
 pub mod Asking
+pub mod Deciding
 pub mod Evaluation
 pub mod Value
 pub mod Words

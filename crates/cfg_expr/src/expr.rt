@@ -6,6 +6,7 @@ ghost use Rattle.std.specs.List.{AllByRecursion};
 ghost use Rattle.cfgx_grammar.specs.Given.{AreAnswersTo};
 ghost use Rattle.cfgx_grammar.specs.Answer.{Answers, HasOneTree};
 ghost use Rattle.cfg_expr.specs.Asking.{AnswersBy};
+ghost use Rattle.cfg_expr.specs.Deciding.{Decides};
 ghost use Rattle.cfg_expr.specs.Evaluation.{Evaluates, IsValueBy, MayEvaluate};
 ghost use Rattle.cfgx_grammar.specs.Filling.{IsExact, PolarFillings, three_valued};
 ghost use Rattle.cfgx_grammar.specs.Fold.{fold};
@@ -47,6 +48,22 @@ impl<A: Allocator> Model for Expression<A> {
     ghost Value = { List ℕ };
 
     ghost view = { λ e. e.parsed };
+}
+
+/// What is known of the value of a condition over answers of which some may be unknown.
+#[derive_where(Debug)]
+#[derive(Drop)]
+pub enum Decision<A: Allocator = Global> {
+    /// It is this, whatever the unknown answers are
+    Known(bool),
+    /// The unknown answers decide: two ways to fill them show it. Each is a filling, with one truth
+    /// value for each answer, in order: that answer, if it is known
+    Unknown {
+        /// A filling with which the condition is true
+        if_true: Vec<bool, A>,
+        /// A filling with which it is false
+        if_false: Vec<bool, A>,
+    },
 }
 
 impl<A: Allocator> Expression<A> {
@@ -159,15 +176,33 @@ impl<A: SmallAllocator> Expression<A> {
         evaluating::value_of(alloc, &self.parsed, ep)
     }
 
-    /// The fillings that show why the value over the answers is unknown, or `None` if it is
-    /// known.
+    /// Whether the answers decide the condition: its value, or a filling of the unknown answers for
+    /// each of the two.
     ///
     /// There is one answer for each occurrence of a predicate, in the order of `predicates`, and
-    /// `None` if it is unknown. Each filling has one truth value for each of them in this order:
-    /// the answer, if that is known. With the first filling the condition is true, and with the
-    /// second one it is false.
+    /// `None` if it is unknown. The value is known exactly if every way to fill the unknown answers
+    /// leads to it.
     ///
-    /// The error is that `alloc` refused memory.
+    /// # Errors
+    ///
+    /// `AllocError`: `alloc` refused memory.
+    pub fn decide(&self, alloc: A, answers: &[Option<bool>]) -> Result<Decision<A>, AllocError>
+        requires { AreAnswersTo answers.now self.now }
+        // This holds of all answers to the text's one tree, also if the call is out of memory.
+        ensures exact { (one : HasOneTree self.now) × ((given : List (Option Bool))
+            → length given ≡ length (asked one.tree) → IsExact one.tree given) }
+        ensures decision { IfOk result (λ decision. (one : HasOneTree self.now)
+            × Decides one.tree answers.now decision) }
+    {
+        filling::decide(alloc, &self.parsed, answers)
+    }
+
+    /// The fillings of `decide` that show why the value over the answers is unknown, the one with
+    /// which the condition is true and then the other one, or `None` if the value is known.
+    ///
+    /// # Errors
+    ///
+    /// `AllocError`: `alloc` refused memory.
     pub fn polar_fillings(
         &self,
         alloc: A,
@@ -180,7 +215,10 @@ impl<A: SmallAllocator> Expression<A> {
         ensures fillings { IfOk result (λ found. (one : HasOneTree self.now)
             × PolarFillings one.tree answers.now found) }
     {
-        filling::polar_fillings(alloc, &self.parsed, answers)
+        match self.decide(alloc, answers)? {
+            Decision::Known(_) => Ok(None),
+            Decision::Unknown { if_true, if_false } => Ok(Some((if_true, if_false))),
+        }
     }
 
     /// The value of the condition in each of 64 lanes, over answers that are there already.

@@ -1,5 +1,5 @@
-//! The fillings that tell whether a value is known: if it is not, the condition is true with the
-//! one and false with the other.
+//! What is decided over answers of which some may be unknown: a value that is known, or the
+//! fillings with which the condition is true and false.
 //!
 //! One pass over the nodes finds which predicates stand below an odd number of `not`. A queue holds
 //! in front whether each tree does that is still to come, and after that what was found of the
@@ -10,15 +10,16 @@ ghost use Rattle.std.specs.Prelude.{◌≡◌, ◌++◌, ◌∷◌, true, false,
 ghost use Rattle.std.specs.Prelude.{replicate, IfOk, OnOk};
 ghost use Rattle.cfgx_grammar.specs.Given.{AreAnswersTo};
 ghost use Rattle.cfgx_grammar.specs.Answer.{HasOneTree};
-ghost use Rattle.cfgx_grammar.specs.Filling.{three_valued, PolarFillings};
+ghost use Rattle.cfgx_grammar.specs.Filling.{three_valued};
 ghost use Rattle.cfgx_grammar.specs.Fold.{fold};
 ghost use Rattle.cfgx_grammar.specs.Grammar.{HasTree};
 ghost use Rattle.cfgx_grammar.specs.Question.{Question};
 ghost use Rattle.cfgx_grammar.specs.Tree.{Tree, asked};
 ghost use Rattle.cfgx_parser.specs.nodes.Shape.{shape};
+ghost use Rattle.cfg_expr.specs.Deciding.{IsDecision};
 ghost use Rattle.cfg_expr.specs.nodes.Parity.{arity, filled_at, gone_over, pass};
 
-use super::{Func, evaluating};
+use super::{Decision, Func, evaluating};
 use crate::memory::SmallAllocator;
 use cfgx_parser::nodes::ExprNode;
 use cfgx_parser::parsed::Parsed;
@@ -109,24 +110,25 @@ fn fillings<A: SmallAllocator>(
     Ok((with_true, with_false))
 }
 
-/// What `Expression::polar_fillings` answers.
+/// What `Expression::decide` answers.
 ///
 /// The error is that `alloc` refused memory.
-pub(crate) fn polar_fillings<A: SmallAllocator>(
+pub(crate) fn decide<A: SmallAllocator>(
     alloc: A,
     parsed: &Parsed<A>,
     answers: &[Option<bool>],
-) -> Result<Option<(Vec<bool, A>, Vec<bool, A>)>, AllocError>
+) -> Result<Decision<A>, AllocError>
     requires { AreAnswersTo answers.now parsed.now }
     ensures one { HasOneTree parsed.now }
-    ensures fillings { IfOk result (λ found. (one : HasOneTree parsed.now)
-        × PolarFillings one.tree answers.now found) }
+    ensures decision { IfOk result (λ decision. (one : HasOneTree parsed.now)
+        × IsDecision one.tree answers.now decision) }
 {
     match evaluating::value_over(alloc, parsed, answers)? {
-        Some(_) => Ok(None),
+        Some(value) => Ok(Decision::Known(value)),
         None => {
             let odds = parities(alloc, parsed.nodes())?;
-            Ok(Some(fillings(alloc, &odds, parsed.places(), answers)?))
+            let (if_true, if_false) = fillings(alloc, &odds, parsed.places(), answers)?;
+            Ok(Decision::Unknown { if_true, if_false })
         }
     }
 }

@@ -1,11 +1,12 @@
--- The text has one tree, whose three values are exact.
-use Rattle.cfgx_grammar.proofs.Exactness.{IsExact-fold}
+-- What was decided says which fillings there are.
 use Rattle.cfg_expr.proofs.expr.Expression.polar_fillings.Goals as goal
 
-pub returns-clause-exact : goal.returns-clause-exact
-returns-clause-exact g c =
-    let one = rw c.self.view_is at c.polar_fillings.ensures.one in
-    (one, IsExact-fold one.tree)
+pub returns-in-Known-clause-fillings : goal.returns-in-Known-clause-fillings
+returns-in-Known-clause-fillings g c =
+    let decided = rw c.in-Known.is at c.in_ok-decide.ensures.decision in
+    (decided.0, (_, decided.1.is))
 
-pub returns-clause-fillings : goal.returns-clause-fillings
-returns-clause-fillings g c = rw c.self.view_is at c.polar_fillings.ensures.fillings
+pub returns-in-Unknown-clause-fillings : goal.returns-in-Unknown-clause-fillings
+returns-in-Unknown-clause-fillings g c =
+    let decided = rw c.in-Unknown.is at c.in_ok-decide.ensures.decision in
+    (decided.0, decided.1.is)

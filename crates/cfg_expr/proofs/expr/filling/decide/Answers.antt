@@ -5,7 +5,7 @@ use Rattle.cfgx_parser.proofs.Places.{length-places}
 use Rattle.cfgx_parser.specs.nodes.Prefix.{places}
 use Rattle.cfg_expr.proofs.Filling.{polar-kept}
 use Rattle.cfg_expr.proofs.evaluated.Nodes.{shapes-kept}
-use Rattle.cfg_expr.proofs.expr.filling.polar_fillings.Goals as goal
+use Rattle.cfg_expr.proofs.expr.filling.decide.Goals as goal
 use Rattle.cfgx_grammar.proofs.Answering.{only_tree}
 
 pub fillings-requires : goal.fillings-requires
@@ -15,15 +15,14 @@ fillings-requires g c =
     ∙ ap (λ tree. length (asked tree)) (sym (only_tree found.0 c.requires.0 c.requires.1))
     ∙ sym c.requires.2
 
-pub returns-in-Some-clause-fillings : goal.returns-in-Some-clause-fillings
-returns-in-Some-clause-fillings g c =
-    let value = c.in_ok-value_over.ensures.value in
-    (value.0, (c.in-Some.field-0, sym value.1 ∙ c.in-Some.is))
+pub returns-in-Some-clause-decision : goal.returns-in-Some-clause-decision
+returns-in-Some-clause-decision g c =
+    let value = c.in_ok-value.ensures.value in (value.0, sym value.1 ∙ c.in-Some.is)
 
-pub returns-in_ok-fillings-in-None-clause-fillings
-    : goal.returns-in_ok-fillings-in-None-clause-fillings
-returns-in_ok-fillings-in-None-clause-fillings g c =
-    let one = c.in_ok-value_over.ensures.value.0 in
+pub returns-in_ok-if_true-in-None-clause-decision
+    : goal.returns-in_ok-if_true-in-None-clause-decision
+returns-in_ok-if_true-in-None-clause-decision g c =
+    let one = c.in_ok-value.ensures.value.0 in
     let asks = c.places.ensures in
     let given = c.requires in
     let is = λ (fill : Bool). polar-kept c.nodes.result.now one.tree
@@ -32,6 +31,6 @@ returns-in_ok-fillings-in-None-clause-fillings g c =
     (asks.1 ∙ ap (places 0) (only_tree one asks.0.tree asks.0.reads.has))
     (given.2 ∙ ap (λ tree. length (asked tree)) (only_tree one given.0 given.1))
     c.in_ok-odds-in-None.ensures in
-    let found = c.in_ok-fillings-in-None.ensures in
-    let unknown = sym c.in_ok-value_over.ensures.value.1 ∙ c.in-None.is in
+    let found = c.in_ok-if_true-in-None.ensures in
+    let unknown = sym c.in_ok-value.ensures.value.1 ∙ c.in-None.is in
     (one, (unknown, found.with_true ∙ is true, found.with_false ∙ is false))
