@@ -1,3 +1,4 @@
+pub mod AuditLemmas
 pub mod FlagLemmas
 pub mod OneOutput
 pub mod OutputLemmas

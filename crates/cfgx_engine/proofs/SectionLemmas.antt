@@ -1,23 +1,25 @@
 -- What the lines of sections print, one after another.
-use Rattle.std.proofs.Common.{◌≡◌, ◌≤◌, ℕ, ◌+◌, Bool, List, [], ◌∷◌, ◌++◌, length, map, refl, ap}
+use Rattle.std.proofs.Common.{◌≡◌, ◌≤◌, ℕ, ◌+◌, Bool, true, false, List, [], ◌∷◌, ◌++◌, length, map, refl, ap}
 use Rattle.std.proofs.Common.{sym, inl, inr, Option, Some, None, Result, Ok, Err, append_assoc}
 use Rattle.std.proofs.lemmas.Iterator.{YieldsList}
 use Rattle.std.specs.List.{concat, enumerate_from}
+use Rattle.std.specs.Prelude.{string_bytes}
 use Rattle.std.specs.Str.Iter.{split_steps}
 use Rattle.std.specs.Str.Lines.{strip_carriage_return}
 use Rattle.std.specs.Str.Pattern.{FindsChar}
 use Rattle.std.specs.declared.str.Split.{Split}
-use Rattle.cfgx_syntax.specs.Stripping.{strip}
-use Rattle.cfgx_syntax.specs.Error.{fault_of}
-use Rattle.cfgx_syntax.specs.declared.error.Failure.TheVariants as failure
-use Rattle.cfgx_syntax.specs.declared.error.Failure.{Failure}
 use Rattle.cfgx_grammar.specs.Question.{Question}
-use Rattle.cfgx_grammar.specs.Answer.{Answers}
-use Rattle.cfgx_engine.specs.Answer.{TellsFailure}
+use Rattle.cfgx_grammar.specs.Tree.{Tree}
+use Rattle.cfg_expr.specs.Deciding.{IsDecision}
+use Rattle.cfg_expr.specs.declared.expr.Decision.{Decision}
+use Rattle.cfg_expr.specs.declared.expr.Decision.TheVariants as decision
+use Rattle.cfgx_engine.specs.Answer.{Tells, decision_text}
+use Rattle.cfgx_engine.specs.declared.engine.sections.LineError.{LineError}
+use Rattle.cfgx_engine.specs.declared.engine.sections.LineError.TheVariants as line_error
 use Rattle.cfgx_engine.specs.Input.{input_limit}
 use Rattle.cfgx_engine.specs.Output.{Output, faulty_output}
 use Rattle.cfgx_engine.specs.Readings.{GivesAll}
-use Rattle.cfgx_engine.specs.Sections.{Line, PrintsLine, PrintsLines, line_fault, line_of}
+use Rattle.cfgx_engine.specs.Sections.{Line, PrintsLine, PrintsLines, line_of, verdict_lines}
 
 -- what the lines from a number on print, after what the front has written
 abbrev pub rest_output : List ℕ → Result (List (List ℕ)) (List ℕ) → Output
@@ -85,17 +87,18 @@ module _ {S A B : Type 0} {steps : S → Option A → S → Type 0} {seen : A �
   yields-none [] yields next step = refl
   yields-none (first ∷ others) yields next step = absurd (yields.runs.0 next step)
 
--- what is faulty_output of a faulty section
-pub PrintsLine-failed : {A : Type 0} (answer : Question → Option Bool) (number : ℕ)
-    (name condition : List ℕ) (shown : Output) (failed : Failure A)
-    → Answers {A = A} (strip condition) (Err failed) → TellsFailure number failed shown
-    → (text : List ℕ) × PrintsLine answer (number, Line.section name condition) (Err text)
-    × (shown ≡ faulty_output text)
-PrintsLine-failed answer number name condition shown (failure.Parse error)
-    (refusal, same, reads) is = (
-      line_fault number (fault_of error),
-      (Err (fault_of error), (refusal, reads, same), refl),
-      is,
-    )
-PrintsLine-failed answer number name condition shown (failure.Memory error) answers is =
-    absurd is
+-- what stands after a name is what was decided
+pub verdict_lines-decision : {X A : Type 0} (tree : Tree X) (answers : List (Option Bool))
+    (given : Decision A) → IsDecision {A = A} tree answers given
+    → decision_text {A = A} given ≡ verdict_lines tree answers
+verdict_lines-decision tree answers (decision.Known true) is = rw is refl
+verdict_lines-decision tree answers (decision.Known false) is = rw is refl
+verdict_lines-decision tree answers (decision.Unknown if_true if_false) is =
+    rw (is.0, is.1, is.2) refl
+
+-- a message of which more is known
+pub Tells-weaker : {A : Type 0} (This That : List ℕ → Type 0) (failed : LineError A)
+    → ((text : List ℕ) → This text → That text) → Tells {A = A} This failed
+    → Tells {A = A} That failed
+Tells-weaker This That (line_error.Faulty text) weaker tells = weaker (string_bytes text) tells
+Tells-weaker This That (line_error.Memory error) weaker tells = tt

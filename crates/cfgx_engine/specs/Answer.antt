@@ -1,6 +1,6 @@
 -- What the engine's own types stand for, and what its private functions give.
-use Rattle.std.specs.Prelude.{◌≡◌, ℕ, List, [], ◌∷◌, ◌++◌, Bool, true, false, Option, Result, Ok}
-use Rattle.std.specs.Prelude.{Err, map, Some, None, codes, length, ◌≤◌}
+use Rattle.std.specs.Prelude.{◌≡◌, ℕ, List, [], ◌∷◌, ◌++◌, Bool, Option, Result, Ok}
+use Rattle.std.specs.Prelude.{Err, map, Some, None, length, string_bytes, ◌≤◌}
 use Rattle.std.specs.Bool.{MatchBool}
 use Rattle.std.specs.Str.{is_utf8}
 use Rattle.std.specs.Cow.{cow_slice_items}
@@ -10,23 +10,26 @@ use Rattle.cfgx_syntax.specs.Error.{Fault, fault_of}
 use Rattle.cfgx_syntax.specs.declared.error.Failure.{Failure}
 use Rattle.cfgx_syntax.specs.declared.error.Failure.TheVariants as failure
 use Rattle.cfgx_grammar.specs.Answer.{HasOneTree}
-use Rattle.cfgx_grammar.specs.Filling.{polar}
 use Rattle.cfgx_grammar.specs.Question.{Question}
 use Rattle.cfgx_grammar.specs.Tree.{asked}
+use Rattle.cfg_expr.specs.declared.expr.Decision.{Decision}
+use Rattle.cfg_expr.specs.declared.expr.Decision.TheVariants as decision
 use Rattle.cfgx_engine.specs.Flags.{flag_text, known_texts, unknown_texts}
-use Rattle.cfgx_engine.specs.Output.{Output, answer_on, fault_output, faulty_output, value_output}
+use Rattle.cfgx_engine.specs.Output.{Output, answer_on, fault_output, value_output}
 use Rattle.cfgx_engine.specs.Input.{input_limit}
 use Rattle.cfgx_engine.specs.Prints.{not_utf8, too_long}
 use Rattle.cfgx_engine.specs.Readings.{GivesAll, ParsesAs}
 use Rattle.cfgx_engine.specs.Request.{Request, texts}
 use Rattle.cfgx_engine.specs.Sections.{Line, PrintsLine, PrintsLines, line_of}
-use Rattle.cfgx_engine.specs.Sections.{filling_line, line_fault, lines_of, verdict_lines}
+use Rattle.cfgx_engine.specs.Sections.{line_fault, lines_of, verdict_lines, verdict_text}
 use Rattle.cfgx_engine.specs.declared.engine.answer.Answer.{Answer}
 use Rattle.cfgx_engine.specs.declared.engine.command.Command.{Command}
 use Rattle.cfgx_engine.specs.declared.engine.command.Command.TheVariants as command
 use Rattle.cfgx_engine.specs.declared.engine.flags.Flags.{Flags}
 use Rattle.cfgx_engine.specs.declared.engine.sections.Line.{Line as CodeLine}
 use Rattle.cfgx_engine.specs.declared.engine.sections.Line.TheVariants as line
+use Rattle.cfgx_engine.specs.declared.engine.sections.LineError.{LineError}
+use Rattle.cfgx_engine.specs.declared.engine.sections.LineError.TheVariants as line_error
 use Rattle.cfgx_engine.specs.declared.engine.reading.Input.{Input}
 use Rattle.cfgx_engine.specs.declared.engine.reading.Input.TheVariants as input
 use Rattle.cfgx_targets.specs.declared.info.TargetInfo.{TargetInfo}
@@ -98,32 +101,28 @@ line_view line.Empty = Line.empty
 line_view line.Undivided = Line.undivided
 line_view (line.Section name condition) = Line.section name.now condition.now
 
--- the fillings that show an unknown verdict are added
-abbrev pub AddsFillings : {A : Type 0} → TargetInfo A → List ℕ → List ℕ → List ℕ → Type 0
-AddsFillings row condition old new = (one : HasOneTree condition)
-    × (new ≡ old
-    ++ filling_line (codes "\ttrue with ")
-    (polar one.tree (map (answer_on row) (asked one.tree)) true)
-    ++ filling_line (codes "\tfalse with ")
-    (polar one.tree (map (answer_on row) (asked one.tree)) false))
+-- what stands after a section's name, by what was decided of its condition
+abbrev pub decision_text : {A : Type 0} → Decision A → List ℕ
+decision_text (decision.Known value) = verdict_text (Some value) [] []
+decision_text (decision.Unknown if_true if_false) =
+    verdict_text None if_true.items if_false.items
 
 -- the verdict on a condition is added, of which the target answers the predicates
 abbrev pub AddsVerdict : {A : Type 0} → TargetInfo A → List ℕ → List ℕ → List ℕ → Type 0
 AddsVerdict row condition old new = (one : HasOneTree condition)
     × (new ≡ old ++ verdict_lines one.tree (map (answer_on row) (asked one.tree)))
 
--- `None`: what the line with this number prints was added. `Some`: the answer is the message of its
--- fault.
-abbrev pub AddsLine : {A : Type 0} → (Question → Option Bool) → ℕ → Line → List ℕ → List ℕ
-    → Option (Answer A) → Type 0
-AddsLine answer number line old new None =
+-- what the line with this number prints is added
+abbrev pub AddsLine : (Question → Option Bool) → ℕ → Line → List ℕ → List ℕ → Type 0
+AddsLine answer number line old new =
     (written : List ℕ) × PrintsLine answer (number, line) (Ok written) × (new ≡ old ++ written)
-AddsLine answer number line old new (Some telling) =
-    (text : List ℕ) × PrintsLine answer (number, line) (Err text)
-    × (output_of telling ≡ faulty_output text)
 
--- the output of a fault on the line with this number; a call out of memory has none
-abbrev pub TellsFailure : {A : Type 0} → ℕ → Failure A → Output → Type 0
-TellsFailure number (failure.Parse error) output =
-    output ≡ faulty_output (line_fault number (fault_of error))
-TellsFailure number (failure.Memory error) output = ⊥
+-- this is the message for the line with this number, whose condition has a fault
+abbrev pub TellsFault : ℕ → List ℕ → List ℕ → Type 0
+TellsFault number condition told =
+    (fault : Fault) × ParsesAs condition (Err fault) × (told ≡ line_fault number fault)
+
+-- this holds of the message of a fault; out of memory nothing is said
+abbrev pub Tells : {A : Type 0} → (List ℕ → Type 0) → LineError A → Type 0
+Tells Fits (line_error.Faulty text) = Fits (string_bytes text)
+Tells Fits (line_error.Memory error) = Unit {0}

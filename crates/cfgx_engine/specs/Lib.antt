@@ -1,4 +1,5 @@
 pub mod Answer
+pub mod Auditing
 pub mod Flags
 pub mod Input
 pub mod Output

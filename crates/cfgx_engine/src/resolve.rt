@@ -1,17 +1,20 @@
 //! Sections of a manifest, each with a condition, and what a target says of them.
-ghost use Rattle.std.specs.Prelude.{◌≡◌, IfOk};
+ghost use Rattle.std.specs.Prelude.{◌≡◌, IfOk, OnOk, map};
 ghost use Rattle.std.specs.List.{AllZip};
+ghost use Rattle.cfg_expr.specs.Deciding.{Decides};
 ghost use Rattle.cfg_expr.specs.Evaluation.{IsValueBy};
+ghost use Rattle.cfgx_grammar.specs.Answer.{HasOneTree};
 ghost use Rattle.cfgx_grammar.specs.Filling.{three_valued};
+ghost use Rattle.cfgx_grammar.specs.Tree.{asked};
 ghost use Rattle.cfgx_parser.specs.Predicate.{question_of};
 ghost use Rattle.cfgx_engine.specs.Verdicts.{answer_by, IsVerdict, verdict_of};
 
-use cfg_expr::expr::TargetMatcher;
-
+mod auditing;
 mod laws;
 
+use cfg_expr::expr::{Predicates, TargetMatcher};
 use cfg_expr::memory::SmallAllocator;
-use cfg_expr::{Expression, Predicate};
+use cfg_expr::{Decision, Expression, Predicate};
 use std::alloc::{AllocError, Allocator, Global};
 
 /// A section, which is taken if its condition is true.
@@ -47,7 +50,7 @@ pub enum Verdict {
 
 /// What a matcher answers to a predicate. Of predicates that are not on the target it knows
 /// nothing.
-pub(crate) fn answer_by<M: TargetMatcher, A: Allocator>(
+fn answer_by<M: TargetMatcher, A: Allocator>(
     matcher: &M,
     predicate: &Predicate<'_, A>,
 ) -> Option<bool>
@@ -57,6 +60,53 @@ pub(crate) fn answer_by<M: TargetMatcher, A: Allocator>(
         Predicate::Target(target) => Some(target.matches(matcher)),
         _ => None,
     }
+}
+
+/// What a matcher answers to a predicate, which is let go.
+fn taken_answer<M: TargetMatcher>(matcher: &M, predicate: Predicate<'_>) -> Option<bool>
+    ensures { result ≡ answer_by (M.answer matcher.now) (question_of predicate.entry) }
+{
+    answer_by(matcher, &predicate)
+}
+
+/// Puts what a matcher answers to each predicate, in order, in the place of the answers.
+fn answer_each<A: SmallAllocator, M: TargetMatcher>(
+    matcher: &M,
+    predicates: Predicates<'_>,
+    answers: &mut Vec<Option<bool>, A>,
+) -> Result<(), AllocError>
+    ensures { OnOk result
+        (answers.new.items ≡ map (answer_by (M.answer matcher.now)) predicates.entry) }
+{
+    answers.clear();
+    for predicate in predicates {
+        answers.push(taken_answer(matcher, predicate))?;
+    }
+    Ok(())
+}
+
+/// What `decide` of a condition answers over what the matcher answers, which is asked once for each
+/// predicate on the target. Every other predicate is unknown.
+///
+/// These answers, one for each predicate in order, are put in the place of what `answers` held. So
+/// one vector does for many conditions.
+///
+/// # Errors
+///
+/// `AllocError`: `alloc` refused memory. What `answers` holds then is not promised.
+pub fn decide_on<A: SmallAllocator, M: TargetMatcher>(
+    alloc: A,
+    condition: &Expression<A>,
+    matcher: &M,
+    answers: &mut Vec<Option<bool>, A>,
+) -> Result<Decision<A>, AllocError>
+    ensures decision { IfOk result (λ decision. (one : HasOneTree condition.now)
+        × Decides one.tree (map (answer_by (M.answer matcher.now)) (asked one.tree)) decision) }
+    ensures answers { OnOk result ((one : HasOneTree condition.now)
+        × (answers.new.items ≡ map (answer_by (M.answer matcher.now)) (asked one.tree))) }
+{
+    answer_each(matcher, condition.predicates(), answers)?;
+    condition.decide(alloc, answers.as_slice())
 }
 
 /// The verdict of a value.
@@ -86,7 +136,7 @@ pub(crate) fn value_by<A: SmallAllocator, M: TargetMatcher>(
 }
 
 /// The verdict on a condition: that of `pick` on a section with it.
-pub(crate) fn verdict_on<A: SmallAllocator, M: TargetMatcher>(
+fn verdict_on<A: SmallAllocator, M: TargetMatcher>(
     alloc: A,
     condition: &Expression<A>,
     matcher: &M,
@@ -116,4 +166,31 @@ pub fn pick<A: SmallAllocator, M: TargetMatcher>(
         verdicts.push(verdict_on(alloc, &section.condition, matcher)?)?;
     }
     Ok(verdicts)
+}
+
+/// The verdict on a condition for each target, in order: what `pick` says of a section with this
+/// condition on that target.
+///
+/// Targets are taken in pieces of 64. Each predicate is asked once of each of them, and the
+/// condition is then evaluated once for all of the piece. The condition stays as it was.
+///
+/// # Errors
+///
+/// `AllocError`: `alloc` refused memory.
+pub fn audit<A: SmallAllocator, M: TargetMatcher>(
+    alloc: A,
+    condition: &Expression<A>,
+    targets: &[M],
+) -> Result<Vec<Verdict, A>, AllocError>
+    ensures { IfOk result (λ verdicts. AllZip (λ target verdict.
+        IsVerdict (M.answer target) condition.now verdict) targets.now verdicts.items) }
+{
+    let mut found = Vec::with_capacity(alloc, targets.len())?;
+    let mut left = targets;
+    while !left.is_empty() {
+        let (piece, others) = left.split_at(left.len().min(64));
+        auditing::push_piece(alloc, condition, piece, &mut found)?;
+        left = others;
+    }
+    Ok(found)
 }

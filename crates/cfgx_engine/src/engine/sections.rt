@@ -1,26 +1,43 @@
 // The sections of an input, a line each, and what the verdicts on them print.
 
-ghost use Rattle.std.specs.Prelude.{◌≡◌, ◌≤◌, ◌++◌, IfOk, OnOk, length, map};
+ghost use Rattle.std.specs.Prelude.{◌≡◌, ◌≤◌, ◌++◌, Err, IfErr, IfOk, OnOk, length, map, string_bytes};
 ghost use Rattle.std.specs.Str.Lines.{strip_carriage_return};
-ghost use Rattle.cfgx_grammar.specs.Matching.{meets};
-ghost use Rattle.cfgx_parser.specs.Predicate.{question_of};
-ghost use Rattle.cfgx_engine.specs.Answer.{output_of, AddsFillings, AddsLine, AddsVerdict};
-ghost use Rattle.cfgx_engine.specs.Answer.{line_view, TellsFailure};
-ghost use Rattle.cfgx_engine.specs.declared.resolve.Verdict.TheVariants as verdict;
+ghost use Rattle.cfgx_syntax.specs.Error.{fault_of};
+ghost use Rattle.cfgx_syntax.specs.Stripping.{strip};
+ghost use Rattle.cfgx_grammar.specs.Answer.{HasOneTree};
+ghost use Rattle.cfgx_engine.specs.Answer.{AddsLine, AddsVerdict, Tells, decision_text, line_view};
+ghost use Rattle.cfgx_engine.specs.Answer.{output_of, TellsFault};
 ghost use Rattle.cfgx_engine.specs.Input.{input_limit};
-ghost use Rattle.cfgx_engine.specs.Output.{answer_on};
-ghost use Rattle.cfgx_engine.specs.Sections.{digits, filling_line, line_of};
-ghost use Rattle.cfgx_engine.specs.Sections.{lines_of, PrintsLines};
-ghost use Rattle.cfgx_engine.specs.Verdicts.{IsVerdict};
+ghost use Rattle.cfgx_engine.specs.Output.{answer_on, faulty_output};
+ghost use Rattle.cfgx_engine.specs.Sections.{PrintsLine, PrintsLines, digits, filling_line};
+ghost use Rattle.cfgx_engine.specs.Sections.{line_fault, line_of, lines_of};
 
 use super::answer::Answer;
-use crate::resolve::{Verdict, answer_by, verdict_on};
-use cfg_expr::error::Failure;
-use cfg_expr::expr::Predicates;
+use crate::resolve::decide_on;
+use cfg_expr::error::{Failure, ParseError};
 use cfg_expr::memory::SmallAllocator;
 use cfg_expr::targets::TargetInfo;
-use cfg_expr::{Expression, Predicate};
+use cfg_expr::{Decision, Expression};
 use std::alloc::{AllocError, Allocator};
+
+/// Why a line prints nothing.
+#[derive(Drop)]
+enum LineError<A: Allocator> {
+    /// It is faulty: what tells of it
+    Faulty(String<A>),
+    /// It is out of memory
+    Memory(AllocError),
+}
+
+impl<A: Allocator> From<AllocError> for LineError<A> {
+    ghost use Rattle.cfgx_engine.specs.declared.engine.sections.LineError.TheVariants.{Memory};
+
+    ghost from_gives = { λ error failed. failed ≡ Memory error };
+
+    fn from(error: AllocError) -> LineError<A> {
+        LineError::Memory(error)
+    }
+}
 
 /// What a line says.
 #[derive(Clone, Copy)]
@@ -54,28 +71,6 @@ fn read_line(text: &str) -> Line<'_>
     }
 }
 
-/// What a target answers to a predicate, which is let go.
-fn taken_answer<A: Allocator>(row: &TargetInfo<'_, A>, predicate: Predicate<'_>) -> Option<bool>
-    ensures { result ≡ answer_on row.now (question_of predicate.entry) }
-{
-    answer_by(row, &predicate)
-}
-
-/// What a target answers to each predicate.
-fn answers_on<A: SmallAllocator>(
-    alloc: A,
-    row: &TargetInfo<'_, A>,
-    predicates: Predicates<'_>,
-) -> Result<Vec<Option<bool>, A>, AllocError>
-    ensures { IfOk result (λ answers. answers.items ≡ map (answer_on row.now) predicates.entry) }
-{
-    let mut answers = Vec::with_capacity(alloc, predicates.left())?;
-    for predicate in predicates {
-        answers.push(taken_answer(row, predicate))?;
-    }
-    Ok(answers)
-}
-
 /// Adds a digit for each occurrence.
 fn push_digits<A: Allocator>(written: &mut Vec<u8, A>, filling: &[bool]) -> Result<(), AllocError>
     ensures { OnOk result (written.new.items ≡ written.old.items ++ digits filling.now) }
@@ -101,111 +96,127 @@ fn push_filling<A: Allocator>(
     Ok(())
 }
 
-/// Adds the fillings that show why the value on a target is unknown.
-fn push_fillings<A: SmallAllocator>(
-    alloc: A,
-    row: &TargetInfo<'_, A>,
-    condition: &Expression<A>,
+/// Adds what a section prints after its name: the verdict, and if that is unknown the fillings that
+/// show it.
+fn push_decision<A: Allocator>(
+    decision: &Decision<A>,
     written: &mut Vec<u8, A>,
 ) -> Result<(), AllocError>
-    requires { IsVerdict (meets row.now) condition.now verdict.Unknown }
-    ensures { OnOk result (AddsFillings row.now condition.now written.old.items
-        written.new.items) }
-{
-    let answers = answers_on(alloc, row, condition.predicates())?;
-    let found = condition.polar_fillings(alloc, answers.as_slice())?;
-    let Some((with_true, with_false)) = found else {
-        unreachable!()
-    };
-    push_filling(written, "\ttrue with ", with_true.as_slice())?;
-    push_filling(written, "\tfalse with ", with_false.as_slice())?;
-    Ok(())
-}
-
-/// Adds the verdict of a target on a condition. One that is unknown is followed by the fillings
-/// that show it.
-fn push_verdict<A: SmallAllocator>(
-    alloc: A,
-    row: &TargetInfo<'_, A>,
-    condition: &Expression<A>,
-    verdict: Verdict,
-    written: &mut Vec<u8, A>,
-) -> Result<(), AllocError>
-    requires { IsVerdict (meets row.now) condition.now verdict }
     ensures { OnOk result
-        (AddsVerdict row.now condition.now written.old.items written.new.items) }
+        (written.new.items ≡ written.old.items ++ decision_text decision.now) }
 {
-    match verdict {
-        Verdict::Yes => written.extend_from_slice(b"\tyes\n")?,
-        Verdict::No => written.extend_from_slice(b"\tno\n")?,
-        Verdict::Unknown => {
+    match decision {
+        Decision::Known(true) => written.extend_from_slice(b"\tyes\n")?,
+        Decision::Known(false) => written.extend_from_slice(b"\tno\n")?,
+        Decision::Unknown { if_true, if_false } => {
             written.extend_from_slice(b"\tunknown\n")?;
-            push_fillings(alloc, row, condition, written)?;
+            push_filling(written, "\ttrue with ", if_true.as_slice())?;
+            push_filling(written, "\tfalse with ", if_false.as_slice())?;
         }
     }
     Ok(())
 }
 
-/// Adds what a section prints.
+/// Adds what a section prints. The answers of the target to its predicates are put into `answers`.
 fn push_section<A: SmallAllocator>(
     alloc: A,
     row: &TargetInfo<'_, A>,
     name: &str,
     condition: &Expression<A>,
+    answers: &mut Vec<Option<bool>, A>,
     written: &mut Vec<u8, A>,
 ) -> Result<(), AllocError>
     ensures { OnOk result (AddsVerdict row.now condition.now (written.old.items ++ name.now)
         written.new.items) }
 {
-    let verdict = verdict_on(alloc, condition, row)?;
+    let decision = decide_on(alloc, condition, row, answers)?;
     written.extend_from_slice(name.as_bytes())?;
-    push_verdict(alloc, row, condition, verdict, written)
+    push_decision(&decision, written)
 }
 
-/// What tells of a fault of the condition on the line with this number.
-fn fault_answer<A: Allocator>(
+/// What tells of a fault on the line with this number.
+fn told_fault<A: Allocator>(
     alloc: A,
     number: usize,
-    failure: Failure<A>,
-) -> Result<Answer<A>, AllocError>
-    ensures { IfOk result (λ told. TellsFailure number failure (output_of told)) }
+    error: &ParseError<A>,
+) -> Result<String<A>, AllocError>
+    ensures { IfOk result (λ told. string_bytes told ≡ line_fault number (fault_of error.now)) }
 {
-    match failure {
-        Failure::Parse(error) => {
-            Ok(Answer::faulty(format!(in alloc; "line {number}:\n{error}\n")?))
+    let told = format!(in alloc; "line {number}:\n{error}\n")?;
+    Ok(told)
+}
+
+/// The condition on the line with this number.
+fn read_condition<A: SmallAllocator>(
+    alloc: A,
+    number: usize,
+    text: &str,
+) -> Result<Expression<A>, LineError<A>>
+    ensures ok { IfOk result (λ read. (read ≡ strip text.now) × HasOneTree (strip text.now)) }
+    ensures err { IfErr result (Tells (TellsFault number text.now)) }
+{
+    match Expression::parse(alloc, text) {
+        Ok(condition) => Ok(condition),
+        Err(Failure::Parse(error)) => {
+            let told = told_fault(alloc, number, &error)?;
+            Err(LineError::Faulty(told))
         }
-        Failure::Memory(error) => Err(error),
+        Err(Failure::Memory(error)) => Err(LineError::Memory(error)),
     }
 }
 
-/// Adds what the line with this number prints, or answers what tells of its fault.
+/// Adds what the line with this number prints.
 fn push_line<A: SmallAllocator>(
     alloc: A,
     row: &TargetInfo<'_, A>,
     number: usize,
     line: Line<'_>,
+    answers: &mut Vec<Option<bool>, A>,
     written: &mut Vec<u8, A>,
-) -> Result<Option<Answer<A>>, AllocError>
-    ensures { IfOk result (λ telling. AddsLine (answer_on row.now) number (line_view line.entry)
-        written.old.items written.new.items telling) }
+) -> Result<(), LineError<A>>
+    ensures ok { OnOk result (AddsLine (answer_on row.now) number (line_view line.entry)
+        written.old.items written.new.items) }
+    ensures err { IfErr result (Tells (λ told.
+        PrintsLine (answer_on row.now) (number, line_view line.entry) (Err told))) }
 {
     match line {
-        Line::Empty => Ok(None),
+        Line::Empty => Ok(()),
         Line::Undivided => {
-            let text = format!(in alloc; "line {number}: no tab\n")?;
-            Ok(Some(Answer::faulty(text)))
+            let told = format!(in alloc; "line {number}: no tab\n")?;
+            Err(LineError::Faulty(told))
         }
-        Line::Section { name, condition } => match Expression::parse(alloc, condition) {
-            Ok(condition) => {
-                push_section(alloc, row, name, &condition, written)?;
-                Ok(None)
-            }
-            Err(failure) => Ok(Some(fault_answer(alloc, number, failure)?)),
-        },
+        Line::Section { name, condition } => {
+            let condition = read_condition(alloc, number, condition)?;
+            push_section(alloc, row, name, &condition, answers, written)?;
+            Ok(())
+        }
     }
 }
 
-/// What the sections of the text print, or the fault of the first faulty line.
+/// What the sections of the text print, one after another.
+fn push_lines<A: SmallAllocator>(
+    alloc: A,
+    row: &TargetInfo<'_, A>,
+    text: &str,
+) -> Result<Vec<u8, A>, LineError<A>>
+    requires { length text.now ≤ input_limit }
+    ensures ok { IfOk result (λ written. PrintsLines (answer_on row.now)
+        (map line_of (lines_of text.now)) (record { bytes = written.items; status = 0 })) }
+    ensures err { IfErr result (Tells (λ told. PrintsLines (answer_on row.now)
+        (map line_of (lines_of text.now)) (faulty_output told))) }
+{
+    let mut answers = Vec::new(alloc);
+    let mut written = Vec::new(alloc);
+    let mut number = 0;
+    for text in text.split('\n') {
+        number += 1;
+        let line = read_line(without_return(text));
+        push_line(alloc, row, number, line, &mut answers, &mut written)?;
+    }
+    Ok(written)
+}
+
+/// What the sections of the text print, or what tells of the fault of the first faulty line.
 pub(super) fn sections_answer<A: SmallAllocator>(
     alloc: A,
     row: &TargetInfo<'_, A>,
@@ -215,15 +226,9 @@ pub(super) fn sections_answer<A: SmallAllocator>(
     ensures { IfOk result (λ a.
         PrintsLines (answer_on row.now) (map line_of (lines_of text.now)) (output_of a)) }
 {
-    let mut written = Vec::new(alloc);
-    let mut number = 0;
-    for text in text.split('\n') {
-        number += 1;
-        let line = read_line(without_return(text));
-        let told = push_line(alloc, row, number, line, &mut written)?;
-        if let Some(answer) = told {
-            return Ok(answer);
-        }
+    match push_lines(alloc, row, text) {
+        Ok(written) => Ok(Answer::done(written)),
+        Err(LineError::Faulty(told)) => Ok(Answer::faulty(told)),
+        Err(LineError::Memory(error)) => Err(error),
     }
-    Ok(Answer::done(written))
 }

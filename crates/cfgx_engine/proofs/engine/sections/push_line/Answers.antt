@@ -1,12 +1,16 @@
-use Rattle.std.proofs.Common.{◌∙◌, refl, append_assoc, Ok}
-use Rattle.cfgx_engine.specs.Answer.{output_of}
-use Rattle.cfgx_engine.proofs.SectionLemmas.{PrintsLine-failed}
+use Rattle.std.proofs.Common.{◌∙◌, ap, refl, append_assoc, Err, Ok}
+use Rattle.std.proofs.lemmas.Result.{err_from_is_err_and}
+use Rattle.cfgx_engine.specs.Answer.{TellsFault}
 use Rattle.cfgx_engine.specs.Output.{answer_on}
+use Rattle.cfgx_engine.specs.Sections.{Line, PrintsLine}
+use Rattle.cfgx_engine.proofs.SectionLemmas.{Tells-weaker}
 use Rattle.cfgx_engine.proofs.engine.sections.push_line.Goals as goal
 
-pub returns-in_ok-push_section-in-Ok : goal.returns-in_ok-push_section-in-Ok
-returns-in_ok-push_section-in-Ok g c =
-    let adds = rw c.in-Ok.ensures.0 at c.in_ok-push_section-in-Ok.ensures in
+pub returns-in_ok-push_section-in-Section-clause-ok
+    : goal.returns-in_ok-push_section-in-Section-clause-ok
+returns-in_ok-push_section-in-Section-clause-ok g c =
+    let read = c.in_ok-condition-in-Section.ensures.ok in
+    let adds = rw read.0 at c.in_ok-push_section-in-Section.ensures in
     rw c.in-Section.is (
       _,
       (Ok adds.0.tree, adds.0.reads, refl),
@@ -14,10 +18,14 @@ returns-in_ok-push_section-in-Ok g c =
           ∙ append_assoc c.args.written.now.items c.in-Section.name.now _,
     )
 
-pub returns-in_ok-fault_answer-in-Err : goal.returns-in_ok-fault_answer-in-Err
-returns-in_ok-fault_answer-in-Err g c =
-    rw c.in-Section.is (PrintsLine-failed {A = g.row.A.Denot}
-    (answer_on {A = g.row.A.Denot} c.args.row.now) c.args.number
-    c.in-Section.name.now c.in-Section.condition.now
-    (output_of c.in_ok-fault_answer-in-Err.field-0) c.in-Err.failure c.in-Err.ensures
-    c.in_ok-fault_answer-in-Err.ensures)
+pub returns-in_err-condition-in-Section-clause-err
+    : goal.returns-in_err-condition-in-Section-clause-err
+returns-in_err-condition-in-Section-clause-err g c =
+    let p = err_from_is_err_and c.from_residual-in_err-condition-in-Section.result
+    c.from_residual-in_err-condition-in-Section.ensures.1 in
+    let line = Line.section c.in-Section.name.now c.in-Section.condition.now in
+    rw (p.1, p.2, c.in-Section.is) (Tells-weaker {A = g.row.A.Denot}
+    (TellsFault c.args.number c.in-Section.condition.now) (λ told. PrintsLine
+    (answer_on {A = g.row.A.Denot} c.args.row.now) (c.args.number, line) (Err told)) _
+    (λ told tells. (Err tells.0, tells.1, ap Err tells.2))
+    c.in_err-condition-in-Section.ensures.err)

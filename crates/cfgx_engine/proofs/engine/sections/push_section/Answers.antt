@@ -1,7 +1,18 @@
+-- What was decided stands after the name.
+use Rattle.std.proofs.Common.{map}
+use Rattle.std.proofs.lemmas.Result.{on_ok_weaker}
+use Rattle.cfgx_grammar.specs.Tree.{asked}
+use Rattle.cfgx_engine.specs.Output.{answer_on}
+use Rattle.cfgx_engine.proofs.SectionLemmas.{verdict_lines-decision}
 use Rattle.cfgx_engine.proofs.engine.sections.push_section.Goals as goal
 
--- after the name
 pub returns : goal.returns
 returns g c =
-    rw (← c.as_bytes.ensures.value, ← c.in_ok-extend_from_slice.ensures.items)
-    c.push_verdict.ensures
+    let decided = c.in_ok-decision.ensures.decision in
+    let tree = decided.0.tree in
+    let answers = map (answer_on {A = g.row.A.Denot} c.args.row.now) (asked tree) in
+    let is = verdict_lines-decision {A = g.row.A.Denot} tree answers c.in_ok-decision.decision
+    decided.1.is in
+    on_ok_weaker c.push_decision.result (λ added.
+    (decided.0, rw (c.in_ok-extend_from_slice.ensures.items, c.as_bytes.ensures.value, is) at added))
+    c.push_decision.ensures

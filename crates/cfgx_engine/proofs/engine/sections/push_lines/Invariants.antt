@@ -1,7 +1,7 @@
 use Rattle.cfgx_engine.specs.Output.{answer_on}
 use Rattle.cfgx_engine.specs.Sections.{lines_of}
 use Rattle.cfgx_engine.proofs.SectionLemmas.{Left}
-use Rattle.cfgx_engine.proofs.engine.sections.sections_answer.Given as goal
+use Rattle.cfgx_engine.proofs.engine.sections.push_lines.Given as goal
 
 abbrev pub invariant-loop-text : goal.invariant-loop-text
 invariant-loop-text g l =

@@ -4,10 +4,12 @@ use Rattle.std.proofs.lemmas.Iterator.Consumers.{YieldsList-at}
 use Rattle.std.proofs.lemmas.Iterator.Splits.{YieldsList-from_str_split}
 use Rattle.std.proofs.lemmas.List.Splits.{length-slice_split}
 use Rattle.std.proofs.lemmas.List.Sums.{count_by-le-length}
+use Rattle.std.proofs.lemmas.Result.{err_from_is_err_and}
 use Rattle.cfgx_engine.proofs.SectionLemmas.{PrintsLines-rest, PrintsRest-more, PrintsRest-told}
 use Rattle.cfgx_engine.specs.Sections.{line_of}
-use Rattle.cfgx_engine.proofs.SectionLemmas.{yields-none, yields-some}
-use Rattle.cfgx_engine.proofs.engine.sections.sections_answer.Goals as goal
+use Rattle.cfgx_engine.specs.Output.{faulty_output}
+use Rattle.cfgx_engine.proofs.SectionLemmas.{Tells-weaker, yields-none, yields-some}
+use Rattle.cfgx_engine.proofs.engine.sections.push_lines.Goals as goal
 
 -- nothing was passed
 pub loop-text-init : goal.loop-text-init
@@ -23,14 +25,16 @@ loop-text-init g c =
     }
 
 -- the lines in front of the faulty one were well
-pub returns-in-Some-told : goal.returns-in-Some-told
-returns-in-Some-told g c =
+pub returns-in_err-push_line-clause-err : goal.returns-in_err-push_line-clause-err
+returns-in_err-push_line-clause-err g c =
+    let p = err_from_is_err_and c.from_residual.result c.from_residual.ensures.1 in
     let left = c.loop-text.invariant in
     let next = yields-some left.pieces left.yields c.in-Some.text c.next.new.self
     c.in-Some.ensures.steps in
-    let tells = rw c.in-Some-told.is at c.in_ok-told.ensures in
-    left.prints _ (PrintsRest-told _ _ _ _ next.0 next.1
-    (c.read_line-line.ensures ∙ ap line_of c.without_return.ensures) _ tells.0 _ tells.1 tells.2)
+    rw (p.1, p.2) (Tells-weaker {A = g.row.A.Denot} _ _ _ (λ told tells.
+    left.prints (faulty_output told) (PrintsRest-told _ _ _ _ next.0 next.1
+    (c.read_line-line.ensures ∙ ap line_of c.without_return.ensures) _ told _ tells refl))
+    c.in_err-push_line.ensures.err)
 
 -- one line more was printed
 pub loop-text-preserved : goal.loop-text-preserved
@@ -38,7 +42,7 @@ loop-text-preserved g c =
     let left = c.loop-text.invariant in
     let next = yields-some left.pieces left.yields c.in-Some.text c.next.new.self
     c.in-Some.ensures.steps in
-    let adds = rw c.in_default.is at c.in_ok-told.ensures in
+    let adds = c.in_ok-push_line.ensures.ok in
     record {
       pieces = next.0;
       yields = next.2;
@@ -49,8 +53,8 @@ loop-text-preserved g c =
     }
 
 -- all lines were passed
-pub returns : goal.returns
-returns g c =
+pub returns-clause-ok : goal.returns-clause-ok
+returns-clause-ok g c =
     let left = c.loop-text.invariant in
     let none = yields-none left.pieces left.yields c.next.new.self c.in-None.ensures.steps in
-    left.prints _ (rw none (Ok [], refl, rw append-nil c.done.ensures))
+    left.prints _ (rw none (Ok [], refl, rw append-nil refl))

@@ -1,0 +1,11 @@
+-- Each question so far has its answer.
+use Rattle.std.proofs.Common.{◌≡◌, ◌++◌, List}
+use Rattle.std.specs.List.{AllZip}
+use Rattle.cfgx_grammar.specs.Question.{Question}
+use Rattle.cfgx_engine.specs.Auditing.{InLanes}
+use Rattle.cfgx_engine.proofs.resolve.auditing.answers_of.Given as goal
+
+abbrev pub invariant-loop-predicate : goal.invariant-loop-predicate
+invariant-loop-predicate g l = (front : List Question)
+    × (front ++ l.predicate-iterator ≡ l.initial.predicate-iterator)
+    × AllZip (InLanes g.M.TargetMatcher.answer l.targets) front l.answers.items
