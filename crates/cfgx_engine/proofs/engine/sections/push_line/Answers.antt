@@ -1,4 +1,4 @@
-use Rattle.std.proofs.Common.{◌∙◌, ap, refl, append_assoc, Err, Ok}
+use Rattle.std.proofs.Common.{◌∙◌, ap, refl, rules, append_assoc, Err, Ok}
 use Rattle.std.proofs.lemmas.Result.{err_from_is_err_and}
 use Rattle.cfgx_engine.specs.Answer.{TellsFault}
 use Rattle.cfgx_engine.specs.Output.{answer_on}
@@ -29,3 +29,6 @@ returns-in_err-condition-in-Section-clause-err g c =
     (answer_on {A = g.row.A.Denot} c.args.row.now) (c.args.number, line) (Err told)) _
     (λ told tells. (Err tells.0, tells.1, ap Err tells.2))
     c.in_err-condition-in-Section.ensures.err)
+
+pub returns-in_ok-told-in-Undivided-clause-err : goal.returns-in_ok-told-in-Undivided-clause-err
+returns-in_ok-told-in-Undivided-clause-err g c = search rules

@@ -1,5 +1,5 @@
 -- One lane more.
-use Rattle.std.proofs.Common.{◌≡◌, ◌∙◌, ◌+◌, ◌++◌, ◌∷◌, [], ap, append_assoc, arith, suc}
+use Rattle.std.proofs.Common.{◌≡◌, ◌∙◌, ◌+◌, ◌++◌, ◌∷◌, [], ap, append_assoc, arith, rules, suc}
 use Rattle.cfgx_syntax.specs.Kleene.{lane}
 use Rattle.cfgx_engine.specs.Auditing.{lane_verdicts}
 use Rattle.cfgx_engine.specs.Verdicts.{verdict_of}
@@ -16,3 +16,6 @@ loop-i-preserved g c =
     ∙ append_assoc c.args.verdicts.now.items (lane_verdicts i value)
     (verdict_of (lane i value) ∷ [])
     ∙ ap (λ n. c.args.verdicts.now.items ++ lane_verdicts n value) next
+
+pub returns : goal.returns
+returns g c = search rules
