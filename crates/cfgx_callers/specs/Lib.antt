@@ -1,4 +1,3 @@
-pub mod Audits
 pub mod Board
 pub mod Callers
 pub mod Decisions

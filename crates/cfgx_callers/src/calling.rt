@@ -18,10 +18,11 @@ pub mod running;
 pub mod sections;
 pub mod streams;
 mod surface;
+pub mod tables;
 pub mod targets;
 pub mod unknown;
 
-use boards::{BARE, both_say, needs};
+use boards::{BARE, LINUX, both_say, needs};
 use cfg_expr::error::Failure;
 use cfg_expr::targets::TargetTable;
 use cfg_expr::{Expression, Predicate};
@@ -51,9 +52,10 @@ aarch64-apple-ios | all(unix, not(target_abi = "sim")) | Some(true)
 aarch64-apple-ios-sim | all(unix, not(target_abi = "sim")) | Some(false)
 nowhere | all(unix, not(target_abi = "sim")) | None
 rows | not(unix) | (0, 3)
-// An unknown answer is filled both ways. Another number of answers is not filled.
-two fillings | any(a, not(a)) | Some(([false, true], [true, false]))
-one filling | any(a, not(a)) | None
+// An unknown answer is filled both ways. Over another number of answers nothing is decided.
+two answers | any(a, not(a)) | Some(Unknown { if_true: [false, true], if_false: [true, false] })
+two answers | any(a, true, not(a)) | Some(Known(true))
+one answer | any(a, not(a)) | None
 // Adapters, and closures of each kind.
 asks_for_tests | any(a, not(test)) | true
 asks_for_tests | any(a, tests) | false
@@ -91,6 +93,9 @@ sections | true | [Yes] [Yes]
 sections | any(a, true) | [Yes] [Yes]
 sections | all(a, false) | [No] [No]
 sections | any() | [No] [No]
+// And that of a condition in a table.
+tables | target_os = "none" | [[Yes, No]]
+tables | all(target_os = "linux", feature = "x") | [[No, Unknown]]
 // Boards may need these. They know nothing of families and vendors, and do not tell of flags.
 manifests | macos 64 | ["notify", "loom", "wide"]
 manifests | macos 32 | ["notify", "loom"]
@@ -161,10 +166,15 @@ fn is_answer(alloc: Global, example: &str, text: &str, told: &str) -> Finding {
         "features" => shows(alloc, &features::features(alloc, text)?, told),
         "unknown" => shows(alloc, &unknown::outside_tests(alloc, text)?, told),
         "literals" => shows(alloc, &literals::decided(alloc, text)?, told),
-        "two fillings" => shows(alloc, &fillings::fillings(alloc, text, &[None; 2])?, told),
-        "one filling" => shows(alloc, &fillings::fillings(alloc, text, &[None])?, told),
+        "two answers" => shows(alloc, &fillings::decided_by(alloc, text, &[None; 2])?, told),
+        "one answer" => shows(alloc, &fillings::decided_by(alloc, text, &[None])?, told),
         "rows" => has_masks(alloc, text, told)?,
         "sections" => both_say(alloc, text, told)?,
+        "tables" => shows(
+            alloc,
+            &tables::table_of(alloc, &[text], &[BARE, LINUX])?,
+            told,
+        ),
         "manifests" => needs(alloc, text, told)?,
         IOS | SIM | "nowhere" => shows(alloc, &targets::value_on(alloc, text, example)?, told),
         _ => is_answer_of(alloc, example, &Expression::parse(alloc, text)?, told)?,
@@ -173,7 +183,7 @@ fn is_answer(alloc: Global, example: &str, text: &str, told: &str) -> Finding {
 
 #[test]
 fn examples_answer(rt: HostRuntime) -> Result<(), String> {
-    check_threes(rt.alloc(), ANSWERS, 51, |example, text, told| {
+    check_threes(rt.alloc(), ANSWERS, 54, |example, text, told| {
         holds(is_answer(rt.alloc(), example, text, told))
     })
 }

@@ -1,33 +1,16 @@
-//! A planner over answers that may be unknown, proved by the contracts of `Expression` alone.
-ghost use Rattle.std.specs.Prelude.{◌≡◌, IfOk};
+//! A planner over answers that may be unknown, proved by the contract of `decide` alone.
+ghost use Rattle.std.specs.Prelude.{IfOk};
 ghost use Rattle.cfgx_grammar.specs.Given.{AreAnswersTo};
-ghost use Rattle.cfg_expr.specs.Words.{HasOneTree, fold};
+ghost use Rattle.cfg_expr.specs.Words.{HasOneTree};
 ghost use Rattle.cfgx_callers.specs.Decisions.{IsSound};
 
 use crate::decision::Decision;
+use cfg_expr::Expression;
 use cfg_expr::error::Failure;
-use cfg_expr::expr::Logic;
-use cfg_expr::{Expression, Predicate};
 use cfgx_testing::fillings::{FILLINGS, answers_of, are_told};
 use cfgx_testing::holding::holds;
 use cfgx_testing::rows::check_threes;
 use std::alloc::{AllocError, Global};
-
-/// The value of the condition over the answers, one for each predicate.
-fn value_over(
-    alloc: Global,
-    expression: &Expression,
-    answers: &[Option<bool>],
-) -> Result<Option<bool>, AllocError>
-    requires { AreAnswersTo answers.now expression.now }
-    ensures { IfOk result (λ value. (one : HasOneTree expression.now)
-        × (value ≡ fold ⟦<Option<bool> as Logic>⟧ one.tree answers.now)) }
-{
-    let mut left = answers.iter();
-    let mut answer = |_predicate: &Predicate<'_>| left.next().copied().flatten();
-    let value = expression.eval(alloc, &mut answer)?;
-    Ok(value)
-}
 
 /// What to do over the answers, one for each predicate.
 ///
@@ -41,15 +24,12 @@ pub fn plan(
     ensures { IfOk result (λ decision. (one : HasOneTree expression.now)
         × IsSound one.tree answers.now decision) }
 {
-    if let Some((with_true, with_false)) = expression.polar_fillings(alloc, answers)? {
-        return Ok(Decision::Postpone {
-            with_true,
-            with_false,
-        });
-    }
-    match value_over(alloc, expression, answers)? {
-        Some(value) => Ok(Decision::Act(value)),
-        None => unreachable!(),
+    match expression.decide(alloc, answers)? {
+        cfg_expr::Decision::Known(value) => Ok(Decision::Act(value)),
+        cfg_expr::Decision::Unknown { if_true, if_false } => Ok(Decision::Postpone {
+            with_true: if_true,
+            with_false: if_false,
+        }),
     }
 }
 

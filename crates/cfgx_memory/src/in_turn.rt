@@ -4,6 +4,7 @@
 //! left all else as it was, and `Ok(false)` in every other case. After each refused growth it is
 //! made again with memory, and every block is given back.
 pub(crate) mod conditions;
+mod decisions;
 mod fields;
 mod inputs;
 mod runs;

@@ -1,3 +1,4 @@
 //! Values of conditions, and the fillings that show why they are unknown.
+mod decisions;
 mod fillings;
 mod logics;

@@ -1,4 +1,5 @@
 //! Targets: their fields, rows and tables, and what they say of conditions.
+mod asking;
 mod conditions;
 mod fields;
 mod hashing;

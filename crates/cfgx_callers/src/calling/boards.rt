@@ -13,7 +13,8 @@ pub const BARE: Board<'static> = Board {
     pointer_width: 16,
 };
 
-const LINUX: Board<'static> = Board {
+/// A board with Linux, of 64 bits.
+pub const LINUX: Board<'static> = Board {
     os: "linux",
     pointer_width: 64,
 };

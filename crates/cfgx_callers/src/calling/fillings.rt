@@ -1,18 +1,17 @@
-//! The fillings that show why a value is unknown.
-use cfg_expr::Expression;
+//! What is decided over answers, and the fillings that show why a value is unknown.
 use cfg_expr::error::Failure;
+use cfg_expr::{Decision, Expression};
 use std::alloc::Global;
 
-/// The two fillings over these answers: `None` if the value is known, and if there are not as many
-/// answers as predicates.
-pub fn fillings(
+/// What is decided over these answers: `None` if there are not as many of them as predicates.
+pub fn decided_by(
     alloc: Global,
     text: &str,
     answers: &[Option<bool>],
-) -> Result<Option<(Vec<bool>, Vec<bool>)>, Failure> {
+) -> Result<Option<Decision>, Failure> {
     let expression = Expression::parse(alloc, text)?;
     if expression.predicates().left() != answers.len() {
         return Ok(None);
     }
-    Ok(expression.polar_fillings(alloc, answers)?)
+    Ok(Some(expression.decide(alloc, answers)?))
 }

@@ -1,4 +1,5 @@
 //! Conditions that are read, copied and evaluated.
+use super::decisions::{is_audited, is_decided, is_decided_on};
 use super::runs::is_run_in_turns;
 use super::{Finding, Made};
 use cfg_expr::error::{Failure, ParseError};
@@ -137,6 +138,9 @@ pub(crate) fn called<A: SmallAllocator>(
         "eval" => is_true(alloc, condition),
         "polar_fillings" => is_filled(alloc, condition),
         "eval_lanes" => is_each(alloc, condition),
+        "decide" => is_decided(alloc, condition),
+        "decide_on" => is_decided_on(alloc, condition),
+        "audit" => is_audited(alloc, condition),
         "pick" => is_picked(alloc, condition.original()),
         _ => Ok(true),
     }
@@ -297,7 +301,9 @@ fn is_kind(alloc: Global, kind: &str, text: &str, plain: &Read) -> bool {
         "large" => return is_copied_once(alloc, text, plain),
         "scanned" | "read" => "parse from_str",
         "copied" => "parse from_str try_clone",
-        _ => "parse from_str try_clone eval polar_fillings eval_lanes pick",
+        _ => {
+            "parse from_str try_clone eval decide polar_fillings eval_lanes decide_on audit pick"
+        },
     };
     let status = if plain.is_ok() { 0 } else { 1 };
     are_refused(alloc, calls, text, plain)
