@@ -55,7 +55,8 @@ module _ {M : Type 0} (targets : List M) where
         let tree = only_tree values.0 asks.0.tree asks.0.reads.has in
         let zipped = rw tree at asks.1 in
         let R = λ (target : M) (verdict : Verdict). IsVerdict (answer target) text verdict in
-        rw (take_all (length targets) targets (omega arith)) at (lanes-zipped R value (λ i target is.
+        let all = take_all (length targets) targets (omega arith) in
+        rw all at (lanes-zipped R value (λ i target is.
         IsVerdict-by (answer target) text (lane i value) (record {
           one = values.0;
           value_is = values.1 i (omega (arith, few, slice_get_within targets i target is))

@@ -13,6 +13,7 @@ returns g c =
     let answers = map (answer_on {A = g.row.A.Denot} c.args.row.now) (asked tree) in
     let is = verdict_lines-decision {A = g.row.A.Denot} tree answers c.in_ok-decision.decision
     decided.1.is in
+    let name_is = c.as_bytes.ensures.value in
     on_ok_weaker c.push_decision.result (λ added.
-    (decided.0, rw (c.in_ok-extend_from_slice.ensures.items, c.as_bytes.ensures.value, is) at added))
+    (decided.0, rw (c.in_ok-extend_from_slice.ensures.items, name_is, is) at added))
     c.push_decision.ensures
