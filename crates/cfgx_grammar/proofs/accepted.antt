@@ -3,7 +3,7 @@ use Rattle.std.proofs.Common.{◌≡◌, ℕ, suc, ◌+◌, true, List, [], ◌�
 use Rattle.std.proofs.Common.{subst, add-zero, append_assoc, ◌⊎◌, inl, inr, Option, Some, None}
 use Rattle.std.proofs.Common.{option_map, Result, Ok, sym, false, ◌==◌, Bool, map, Err, ◌-◌}
 use Rattle.std.proofs.Common.{append-nil, if◌then◌else◌}
-use Rattle.std.proofs.lemmas.Bool.Decides.{Decides-eqb}
+use Rattle.std.proofs.lemmas.Bool.Decides.{Decides-eqb, nat_tests}
 use Rattle.cfgx_syntax.specs.Token.{Token}
 use Rattle.cfgx_grammar.specs.Question.{Question, Leaf}
 use Rattle.cfgx_grammar.specs.Tree.{ListFunction, Tree, Trees, count}
@@ -231,17 +231,10 @@ abbrev pub tokens_of : List Item → List Token
 tokens_of items = map (λ item. item.token) items
 
 -- what went well, part by part
-mapped : {A B E : Type 0} (f : A → B) (r : Result A E) (u : B) → result_map f r ≡ Ok u
-    → (t : A) × (r ≡ Ok t) × (f t ≡ u)
-mapped f r u e = grind arith
-
-allowed : {A E : Type 0} (b : Bool) (r : Result A E) (e : E) (u : A)
-    → (if b then r else Err e) ≡ Ok u → (b ≡ true) × (r ≡ Ok u)
-allowed b r e u is = grind arith
-
-not_refused : {A E : Type 0} (b : Bool) (r : Result A E) (e : E) (u : A)
-    → (if b then Err e else r) ≡ Ok u → (b ≡ false) × (r ≡ Ok u)
-not_refused b r e u is = grind arith
+allowed : {A B E : Type 0} (b : Bool) (f : A → B) (r : Result A E) (e : E) (u : B)
+    → (if b then result_map f r else Err e) ≡ Ok u
+    → (b ≡ true) × (t : A) × (r ≡ Ok t) × (f t ≡ u)
+allowed b f r e u is = grind arith
 
 pub ran : {A B E : Type 0} (r : Result A E) (f : A → Result B E) (u : B) → and_then f r ≡ Ok u
     → (t : A) × (r ≡ Ok t) × (f t ≡ Ok u)
@@ -258,8 +251,7 @@ module _ {W M L : Type 0} {builder : Builder W M L} where
       → closed_by s item stack ≡ Ok u → Closes s u
   Closes-stack s u item [] is does = absurd (cc)
   Closes-stack s u item (top ∷ rest) is does =
-      let (room, does_end) = allowed _ _ _ u does in
-      let (settled, ends, closed) = mapped _ (predicate_ended s) u does_end in
+      let (room, settled, ends, closed) = allowed _ _ (predicate_ended s) _ u does in
       (top, rest, settled, is, room, ends, closed)
 
   -- `)` stands in front of what completes the function around
@@ -267,19 +259,6 @@ module _ {W M L : Type 0} {builder : Builder W M L} where
       → Completes (Some Token.close_paren) (with_last Token.close_paren u) tokens
       → Ends c.2.stack c.2.roots 0 (Token.close_paren ∷ tokens)
   Ends-close s u tokens (top, rest, settled, is, room, ends, closed) completes = grind arith
-
-  -- what a step that succeeds has done
-  pub record Steps (s t : State builder) (item : Item) : Type 0 where
-    pub may : takes s.last (kind_of item.token) ≡ true
-    pub applied : State builder
-    pub does : apply s item item.token ≡ Ok applied
-    pub after : with_last item.token applied ≡ t
-
-  pub Steps-step : (s t : State builder) (item : Item) → step s item ≡ Ok t → Steps s t item
-  Steps-step s t item steps =
-      let (may, taken) = allowed _ _ _ t steps in
-      let (applied, does, after) = mapped _ (apply s item item.token) t taken in
-      record { may = may; applied = applied; does = does; after = after }
 
   -- a function's name in front of its members
   Rest-name : (function : Function) (s u : State builder) (item : Item) (tokens : List Token)
@@ -339,38 +318,30 @@ module _ {W M L : Type 0} {builder : Builder W M L} where
     Completes-applied _ _ may does completes = absurd (false≢true may)
 
   -- the end of the text finds one member at the root, where no function is open
-  abbrev Concludes : State builder → Type 0
-  Concludes s = (settled : State builder) × (s.stack ≡ []) × (predicate_ended s ≡ Ok settled)
-      × (lacks_value s.last ≡ false) × (settled.roots ≡ 1)
+  one_rooted : (len : ℕ) (s u : State builder) → one_root len s ≡ Ok u → s.roots ≡ 1
+  one_rooted len s u e = grind (arith, nat_tests)
 
-  Concludes-stack : (len : ℕ) (s u : State builder) (stack : List (Open M)) → s.stack ≡ stack
-      → lacks_value s.last ≡ false → concluded_by len s stack ≡ Ok u → Concludes s
-  Concludes-stack len s u (top ∷ rest) is whole e = absurd (cc)
-  Concludes-stack len s u [] is whole e =
-      let (settled, ends, rooted) = ran _ (one_root len) u e in
-      let (some, found) = not_refused (settled.roots == 0) _ _ u rooted in
-      let (one, done) = allowed (settled.roots == 1) _ _ u found in
-      (settled, is, ends, whole, (Decides-eqb settled.roots 1).0 one)
-
-  Concludes-conclude : (len : ℕ) (s u : State builder) → conclude len s ≡ Ok u → Concludes s
-  Concludes-conclude len s u e =
-      let (whole, concludes) = not_refused (lacks_value s.last) (concluded_by len s s.stack) _ u e
-      in Concludes-stack len s u s.stack refl whole concludes
+  concluded : (len : ℕ) (s u : State builder) → conclude len s ≡ Ok u
+      → (lacks_value s.last ≡ false) × (s.stack ≡ [])
+      × (and_then (one_root len) (predicate_ended s) ≡ Ok u)
+  concluded len s u e = grind arith
 
   Completes-run : (items : List Item) (s t u : State builder) (len : ℕ)
       → step_each s items ≡ Ok t → conclude len t ≡ Ok u → Completes s.last s (tokens_of items)
   Completes-run [] s t u len runs ends =
-      let (settled, closed, ended, whole, one) = Concludes-conclude len s u
-      (ap (conclude len) (ok_same s t runs) ∙ ends) in
+      let (whole, closed, rooted) = concluded len s u (ap (conclude len) (ok_same s t runs) ∙ ends)
+      in
+      let (settled, ended, is_one) = ran (predicate_ended s) (one_root len) u rooted in
+      let one = one_rooted len settled u is_one in
       let none : settled.stack ≡ [] = grind (arith, closed, ended) in
       Completes-none s.last s settled [] (inr (whole, closed)) ended
       (rw none (omega (arith, one), refl))
   Completes-run (item ∷ items) s t u len runs ends =
-      let r = ran (step s item) (λ u. step_each u items) t runs in
-      let d = Steps-step s r.0 item r.1 in
-      Completes-applied s d.applied (tokens_of items) item.start item.end s.last item.token d.may
-      d.does (subst (λ v. Completes v.last v (tokens_of items)) (sym d.after)
-      (Completes-run items r.0 t u len r.2 ends))
+      let (next, steps, rest) = ran (step s item) (λ u. step_each u items) t runs in
+      let (may, applied, does, after) = allowed _ _ (apply s item item.token) _ next steps in
+      Completes-applied s applied (tokens_of items) item.start item.end s.last item.token may does
+      (subst (λ v. Completes v.last v (tokens_of items)) (sym after)
+      (Completes-run items next t u len rest ends))
 
   -- What the steps accept has a tree.
   pub IsTree-accepted : (items : List Item) (s u : State builder) (len : ℕ)

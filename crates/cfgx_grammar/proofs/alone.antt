@@ -1,7 +1,7 @@
 -- The predicates that a text asks, and the text of one alone.
 use Rattle.std.proofs.lemmas.Bool.Decides.{nat_tests}
 use Rattle.std.proofs.lemmas.Grind.{common_steps}
-use Rattle.std.proofs.Common.{◌≤◌, ◌≡◌, ℕ, Bool, true, false, List, [], ◌∷◌, ◌++◌, map, Some, None}
+use Rattle.std.proofs.Common.{◌≤◌, ◌≡◌, ℕ, Bool, true, false, List, [], ◌∷◌, ◌++◌, map, Some, None, Ok}
 use Rattle.std.proofs.Common.{subst, ◌<◌, ◌^◌, nat_eq, nat_lt, length, drop, Option, sym, refl, ap}
 use Rattle.std.proofs.Common.{◌∙◌, arith, rules, ◌+◌, append_assoc, length-append, drop_at}
 use Rattle.std.proofs.Common.{drop_of_length-le, ◌⊎◌, inl, ⊎_elim, slice_range, if◌then◌else◌}
@@ -29,7 +29,7 @@ use Rattle.cfgx_grammar.specs.Classification.{target_feature, Rule, by_name, key
 use Rattle.cfgx_grammar.specs.Classification.{target_rules, target_class, plain}
 use Rattle.cfgx_grammar.specs.Spelling.{key_and_value, spelling}
 use Rattle.std.proofs.lemmas.Str.{NoCharPasses-nil}
-use Rattle.cfgx_grammar.proofs.Answering.{ReadsAs-tree}
+use Rattle.cfgx_grammar.proofs.Answering.{ReadsAs-has}
 use Rattle.cfgx_grammar.proofs.accepted.{tokens_of}
 use Rattle.cfgx_grammar.proofs.Stripped.{strip-tree}
 
@@ -324,5 +324,5 @@ spelling_alone question regular =
     }) in
     record {
       stripped = strip-tree _ _ has;
-      reads = ReadsAs-tree has;
+      reads = ReadsAs-has (Ok (Tree.leaf question)) has;
     }
