@@ -90,18 +90,7 @@ shown text (Err fault) has =
 -- A text reads one way: its items are the same, and so is the answer for them.
 pub ReadsAs-has : {text : List ℕ} (reading : Reading) → HasReading text reading
     → ReadsAs text reading
-ReadsAs-has {text} reading has = record { has = has; only = only }
-  where
-    same_shown : (one other : Reading) (r : Result (State tree_builder) Refusal) → Shows one r
-        → Shows other r → other ≡ one
-    same_shown one other r this that = grind arith
-
-    only : (other : Reading) → HasReading text other → other ≡ reading
-    only other its =
-        let this = shown text reading has in
-        let that = shown text other its in
-        let same = ItemsFrom-same text 0 this.items that.items _ _ this.are that.are in
-        same_shown reading other _ this.shows (rw (same.0, same.1) at that.shows)
+ReadsAs-has {text} reading has = grind (arith, shown, ItemsFrom-same)
 
 pub HasOneTree-tree : {text : List ℕ} {tree : Tree Question} → HasTree text tree → HasOneTree text
 HasOneTree-tree {text} {tree} has = record { tree = tree; reads = ReadsAs-has (Ok tree) has }

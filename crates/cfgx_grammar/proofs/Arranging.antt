@@ -19,8 +19,7 @@ asked_each-only test (Trees.more tree trees) =
 
 pub asked_each-arranged : (trees : Trees Question) → asked_by is_function trees
     ++ asked_by is_leaf trees ≡ asked_each (arranged trees)
-asked_each-arranged trees =
-    rw (asked_each-followed_by, asked_each-only is_function, asked_each-only is_leaf) refl
+asked_each-arranged trees = grind (arith, asked_each-followed_by, asked_each-only)
 
 module _ {T : Type 0} (logic : Operations T) where
   values_of-followed_by : (trees others : Trees T) → values_of logic (followed_by trees others)
@@ -36,5 +35,4 @@ module _ {T : Type 0} (logic : Operations T) where
 
   pub values_of-arranged : (trees : Trees T) → values_by logic is_function trees
       ++ values_by logic is_leaf trees ≡ values_of logic (arranged trees)
-  values_of-arranged trees =
-      rw (values_of-followed_by, values_of-only is_function, values_of-only is_leaf) refl
+  values_of-arranged trees = grind (arith, values_of-followed_by, values_of-only)

@@ -76,14 +76,7 @@ module _ {X T : Type 0} (otherwise : T) where
       let made = answered_each otherwise trees answers (left_after inner answers) in
       length (inner ++ own) ≤ length answers
       → asked_by is_function made ++ asked_by is_leaf made ≡ take (length (inner ++ own)) answers
-  list_taken trees answers takes enough =
-      let inner = asked_by is_function trees in
-      let own = asked_by is_leaf trees in
-      let many = length-append inner own in
-      let left = length-drop (length inner) answers in
-      let taken = takes answers (left_after inner answers) (omega (arith, many))
-      (omega (arith, many, left)) in
-      taken_both inner own answers _ _ taken.0 taken.1
+  list_taken trees answers takes enough = grind (arith, length-append, length-drop, taken_both)
 
   mutual
     asked-taken : (tree : Tree X) (answers : List T) → length (asked tree) ≤ length answers
@@ -112,6 +105,4 @@ module _ {X T : Type 0} (otherwise : T) where
 
   pub asked-answered : (tree : Tree X) (answers : List T)
       → length answers ≡ length (asked tree) → asked (answered otherwise tree answers) ≡ answers
-  asked-answered tree answers many =
-      asked-taken tree answers (omega (arith, many))
-      ∙ take_all (length (asked tree)) answers (omega (arith, many))
+  asked-answered tree answers many = grind (arith, asked-taken, take_all)

@@ -40,10 +40,7 @@ module _ {T U : Type 0} (one : Operations T) (other : Operations U) (R : T → U
 
   list_kept : (function : ListFunction) (xs : List T) (ys : List U) → AllZip R xs ys
       → R (list_value one function xs) (list_value other function ys)
-  list_kept ListFunction.all xs ys all =
-      from_last_kept one.and other.and one.top other.top preserve.top preserve.and xs ys all
-  list_kept ListFunction.any xs ys all =
-      from_last_kept one.or other.or one.bottom other.bottom preserve.bottom preserve.or xs ys all
+  list_kept function xs ys all = grind (arith, from_last_kept)
 
   mutual
     -- leaves that are related make related values
@@ -69,19 +66,12 @@ module _ {T U : Type 0} (one : Operations T) (other : Operations U) (R : T → U
   -- and so do answers that are related
   pub fold_kept : {X : Type 0} (tree : Tree X) (xs : List T) (ys : List U) → AllZip R xs ys
       → R (fold one tree xs) (fold other tree ys)
-  fold_kept tree xs ys all =
-      value_kept _ _ (answered-alike R one.top other.top preserve.top tree xs ys all)
+  fold_kept tree xs ys all = grind (arith, value_kept, answered-alike)
 
 -- a filling makes a known value
 
 agreement : Preserve three_valued two_valued Agrees
-agreement = record {
-  top = refl;
-  bottom = refl;
-  and = λ x y u v p q. grind (arith, common_steps);
-  or = λ x y u v p q. grind (arith, common_steps);
-  not = λ x u p. grind (arith, common_steps);
-}
+agreement = grind arith
 
 -- A polar filling leads to the value, with its own side in the place of an unknown one.
 
@@ -104,10 +94,7 @@ AreFilledAlike f g = (fill : Bool) (tree : Tree (Option Bool)) → g (filled fil
 list_value-side : (function : ListFunction) (fill : Bool) (values : List (Option Bool))
     → list_value two_valued function (map (side fill) values)
     ≡ side fill (list_value three_valued function values)
-list_value-side ListFunction.all fill values =
-    from_last-sides ◌&&◌ kleene_and true fill values (λ x y. grind arith)
-list_value-side ListFunction.any fill values =
-    from_last-sides ◌||◌ kleene_or false fill values (λ x y. grind arith)
+list_value-side function fill values = grind (arith, from_last-sides)
 
 mutual
   value-filled : (fill : Bool) (tree : Tree (Option Bool))

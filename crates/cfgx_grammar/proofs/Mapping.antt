@@ -18,13 +18,7 @@ module _ {T U : Type 0} (one : Operations T) (other : Operations U) (Holds : T �
   Becomes x u = Holds x × (to x ≡ u)
 
   becomes : Preserve one other Becomes
-  becomes = record {
-    top = is.top;
-    bottom = is.bottom;
-    and = λ x y u v p q. let both = is.and x y p.0 q.0 in (both.0, cc (both.1, p.1, q.1));
-    or = λ x y u v p q. let both = is.or x y p.0 q.0 in (both.0, cc (both.1, p.1, q.1));
-    not = λ x u p. let opposite = is.not x p.0 in (opposite.0, cc (opposite.1, p.1));
-  }
+  becomes = grind arith
 
   each-becomes : (answers : List T) → AllByRecursion Holds answers
       → AllZip Becomes answers (map to answers)
@@ -33,8 +27,7 @@ module _ {T U : Type 0} (one : Operations T) (other : Operations U) (Holds : T �
 
   pub fold-mapped : {X : Type 0} (tree : Tree X) (answers : List T) → AllByRecursion Holds answers
       → to (fold one tree answers) ≡ fold other tree (map to answers)
-  fold-mapped tree answers all = (fold_kept one other Becomes becomes tree answers (map to answers)
-      (each-becomes answers all)).1
+  fold-mapped tree answers all = grind (arith, fold_kept, becomes, each-becomes)
 
 -- the answer of a lane
 pub IsMap-lane : (i : ℕ) → i < 64 → IsMap lane_valued three_valued IsApart (lane i)
@@ -60,5 +53,4 @@ IsMap-lane_passes i below = IsMap-same
 
 pub IsByLane-fold : {X : Type 0} (tree : Tree X) (answers : List Planes)
     → AllByRecursion IsApart answers → IsByLane tree answers
-IsByLane-fold tree answers all i below =
-    fold-mapped lane_valued three_valued IsApart (lane i) (IsMap-lane i below) tree answers all
+IsByLane-fold tree answers all i below = grind (arith, fold-mapped, IsMap-lane)

@@ -1,4 +1,5 @@
 -- What the rest of a text answers, the whole answers: one token after another.
+use Rattle.std.proofs.Common.{arith}
 use Rattle.std.proofs.Common.{◌≡◌, ℕ, List, Result, Ok, Err, ap, ◌∙◌}
 use Rattle.cfgx_syntax.specs.Error.{Refusal}
 use Rattle.cfgx_syntax.specs.Items.{Item, Ending, Stands, EndsAs, ItemsFrom, lexical}
@@ -47,8 +48,4 @@ module _ {W M L : Type 0} {builder : Builder W M L} (text : List ℕ) where
       → Continues from s place t → EndsAs text place end
       → (items : List Item) (ending : Ending) → ItemsFrom text from items ending
       → answer_from s text items ending ≡ ended_as text (lexical text end) t
-  Continues-ended from place s t end c ends items ending come =
-      let so_far = c.rest_of items ending come in
-      let last = no_more_items text place so_far.0 ending end ends so_far.1 in
-      so_far.2 ∙ ap (λ l. answer_from t text l ending) last.0
-      ∙ ap (λ e. ended_as text (lexical text e) t) last.1
+  Continues-ended from place s t end c ends items ending come = grind (arith, no_more_items)

@@ -12,11 +12,8 @@ appends_twice old mid new first second a b = grind (arith, append_assoc)
 -- what is taken of the bytes that were left is taken of all
 pub takes_more : {old mid new : Option (List ℕ)} {bytes between left : List ℕ}
     → Takes old mid bytes between → Takes mid new between left → Takes old new bytes left
-takes_more {old} {mid} {new} {bytes} {between} {left} first second = record {
-  front = first.front ++ second.front;
-  whole = rw (append_assoc, second.whole) first.whole;
-  taken = appends_twice old mid new first.front second.front first.taken second.taken;
-}
+takes_more {old} {mid} {new} {bytes} {between} {left} first second =
+    grind (arith, append_assoc, appends_twice)
 
 -- a beginning of the first part is one of both
 pub front_of_first : {old new : Option (List ℕ)} {first : List ℕ} (second : List ℕ)

@@ -98,10 +98,7 @@ mutual
 
 pub regular_tree : (text : List ℕ) (tree : Tree Question) → HasTree text tree
     → AreRegular (asked tree)
-regular_tree text tree has =
-    let all = spelled_items text 0 has.items Ending.blank has.are_items in
-    let (member, n, is, one) = has.spelled in
-    regular_member member tree (all_of_first IsSpelled member (commas n) (rw is at all)) one
+regular_tree text tree has = grind (arith, spelled_items, regular_member, all_of_first)
 
 -- The spelling of a predicate that can stand in a text is a text of this predicate alone.
 
@@ -132,9 +129,7 @@ read_small limit n text is = grind (arith, nat_tests)
 named_small : (text : List ℕ) (atomic : HasAtomic) → atomic_named text ≡ Some atomic
     → IsWidth atomic
 unfolding atomic_named
-named_small text (IntegerSize bits) is =
-    read_small (2 ^ 16) bits text (grind arith)
-named_small text Pointer is = tt
+named_small text atomic is = grind (arith, read_small)
 
 no_quote_atomic : (atomic : HasAtomic) → IsWidth atomic → HasNoQuote (atomic_text atomic)
 no_quote_atomic atomic small = grind (arith, no_quote_decimal)

@@ -36,8 +36,7 @@ last_below-none test (suc n) none = rw (none n) (last_below-none test n none)
 
 -- no function is open
 pub innermost-none : (front : List Item) → depth front ≡ 0 → innermost front ≡ None
-innermost-none front level =
-    last_below-none _ (length front) (λ k. rw level (le-ltb (depth_at front k) 0 (omega arith)))
+innermost-none front level = grind (arith, last_below-none, le-ltb)
 
 pub last_below-found : (test : ℕ → Bool) (place n : ℕ) → place < n → test place ≡ true
     → ((k : ℕ) → place < k → k < n → test k ≡ false) → last_below test n ≡ Some place
@@ -178,13 +177,8 @@ module _ (front : List Item) (item : Item) where
       → members_at front (level + 1) (place + 1) ≡ top.members + going
       → members_at more (level + 1) (place + 1) ≡ top.members + goes)
       → IsLevel front false level top going → IsLevel more false level top goes
-  IsLevel-more level going goes top deep adds is = record {
-    place = is.place;
-    is_open = IsOpenAt-more level _ _ _ is.place deep is.is_open;
-    named_last = omega (arith, is.named_last, length_more);
-    parens = rw (slice_get_front front (item ∷ []) (is.place + 1) is.named_last) is.parens;
-    count_is = adds is.place (omega (arith, is.named_last)) is.count_is;
-  }
+  IsLevel-more level going goes top deep adds is =
+      grind (arith, IsOpenAt-more, length_more, slice_get_front)
 
   -- the token adds no member to any level
   pub Levels-same : {M : Type 0} (roots going : ℕ) (stack : List (Open M))

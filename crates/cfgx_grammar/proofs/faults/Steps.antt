@@ -187,14 +187,12 @@ module _ {W M L : Type 0} {builder : Builder W M L} (front : List Item) (s : Sta
         → option_or (option_and_then (not_fault front close) (innermost front)) other
         ≡ (if has_room top.function (member_count top s.pending) then other
         else Some (refusal (invalid_not (member_count top s.pending)) top.start close.end))
-    close_fault_is close other = rw (innermost_is, level.is_open.stands, members_are)
-        (grind (arith, level.is_open.named, level.is_open.starts))
+    close_fault_is close other = grind (arith, innermost_is, members_are)
 
     -- it stays open
     open_fault_is : (len : ℕ) → option_and_then (open_fault len front) (innermost front)
         ≡ Some (unclosed len top top.parens)
-    open_fault_is len = rw (innermost_is, level.is_open.stands)
-        (grind (arith, level.is_open.starts, level.is_open.ends, level.parens))
+    open_fault_is len = grind (arith, innermost_is)
 
   module _ (start end : ℕ) where
     abbrev at : Token → Item
@@ -355,13 +353,10 @@ module _ {W M L : Type 0} {builder : Builder W M L} (front : List Item) (s : Sta
       → lacks_value (last_token front) ≡ false
       → EndAgrees (concluded_by len s stack)
       (option_or (unclosed_innermost len front) (closed_end len front))
-  end_stack len [] is whole = rw (innermost-none front (depth_is front s m ∙ ap length is))
-      (root_ends len (predicate_ended s) (predicate_fault front) is (grind arith))
-  end_stack len (top ∷ rest) is whole = rw (open_fault_is top rest is len) refl
+  end_stack len stack is whole = grind (arith, innermost-none, depth_is, root_ends, open_fault_is)
 
   pub end_agrees : (len : ℕ) → EndAgrees (conclude len s) (end_fault len front)
-  end_agrees len = rw (← m.last) (meets_unless _ _ _ _ _
-      (λ whole. end_stack len s.stack refl (ap lacks_value (sym m.last) ∙ whole)))
+  end_agrees len = grind (arith, meets_unless, end_stack)
 
 -- What the steps answer for all tokens of a text is its first fault, or none.
 
@@ -393,8 +388,7 @@ module _ {W M L : Type 0} (builder : Builder W M L) (text : List ℕ) (items : L
     (ending : Ending) where
   at_end : (o : Option Refusal) (t : State builder) → Matches items t
       → EndAgrees (ended_as text o t) (option_or o (end_fault (length text) items))
-  at_end (Some refusal) t m = refl
-  at_end None t m = end_agrees items t m (length text)
+  at_end o t m = grind (arith, end_agrees)
 
   pub whole_agrees : EndAgrees (answer_from (initial {builder = builder}) text items ending)
       (first_fault text items ending)
