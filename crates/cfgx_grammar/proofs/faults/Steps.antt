@@ -223,9 +223,7 @@ module _ {W M L : Type 0} {builder : Builder W M L} (front : List Item) (s : Sta
         → Rises token (length t.stack) → t.pending ≡ begun_token (at token) (reverse front) token
         → going t.pending ≡ w → Levels front t.roots false t.stack w → Matches (more token) t
     stays token t w last no_name other rises pending goes levels =
-        matched token t w last pending goes rises (rw no_name (Levels-same front (at token)
-        t.roots w t.stack (omega (arith, balanced token _ rises))
-        (λ level from le. members_at_other front (at token) level from other) levels))
+        grind (arith, nat_tests, common_steps, matched, Levels-same, balanced, members_at_other)
 
     -- what the token leads to, without it as the last one
     abbrev After : Token → State builder → Type 0
