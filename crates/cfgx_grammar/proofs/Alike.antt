@@ -77,8 +77,7 @@ module _ {T U : Type 0} (R : T → U → Type 0) where
         → AllZip R (asked_by f xs) (asked_by g ys)
     asked_by-alike f g same _ _ AlikeEach.none = tt
     asked_by-alike f g same _ _ (AlikeEach.more x y xs ys first rest) =
-        rw (same x y first) (AllZip-append R _ _ _ _
-        (AllZip-if R (g y) (asked x) [] (asked y) [] (asked-alike x y first) tt)
+        grind (arith, AllZip-append, AllZip-if, (asked-alike x y first),
         (asked_by-alike f g same xs ys rest))
 
   pub length-asked : (x : Tree T) (y : Tree U) → Alike R x y → length (asked y) ≡ length (asked x)

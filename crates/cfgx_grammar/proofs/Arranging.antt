@@ -14,8 +14,7 @@ asked_each-followed_by (Trees.more tree trees) others =
 asked_each-only : (test : Tree Question → Bool) (trees : Trees Question)
     → asked_each (only test trees) ≡ asked_by test trees
 asked_each-only test Trees.none = refl
-asked_each-only test (Trees.more tree trees) =
-    rw (← asked_each-only test trees) (grind arith)
+asked_each-only test (Trees.more tree trees) = grind (arith, asked_each-only test trees)
 
 pub asked_each-arranged : (trees : Trees Question) → asked_by is_function trees
     ++ asked_by is_leaf trees ≡ asked_each (arranged trees)

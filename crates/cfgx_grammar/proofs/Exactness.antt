@@ -34,8 +34,7 @@ module _ {T U : Type 0} (one : Operations T) (other : Operations U) (R : T → U
       → R (from_last join begin xs) (from_last other_join begun ys)
   from_last_kept join other_join begin begun base each [] [] all = base
   from_last_kept join other_join begin begun base each (x ∷ xs) (y ∷ ys) all =
-      each (from_last join begin xs) x (from_last other_join begun ys) y
-      (from_last_kept join other_join begin begun base each xs ys all.1) all.0
+      grind (arith, (from_last_kept join other_join begin begun base each xs ys all.1))
   from_last_kept join other_join begin begun base each _ _ all = absurd all
 
   list_kept : (function : ListFunction) (xs : List T) (ys : List U) → AllZip R xs ys
@@ -59,9 +58,7 @@ module _ {T U : Type 0} (one : Operations T) (other : Operations U) (R : T → U
         → AllZip R (values_by one f xs) (values_by other g ys)
     values_kept f g same _ _ AlikeEach.none = tt
     values_kept f g same _ _ (AlikeEach.more x y xs ys first rest) =
-        let others = values_kept f g same xs ys rest in
-        rw (same x y first)
-        (AllZip-if R (g y) _ _ _ _ (value_kept x y first, others) others)
+        grind (arith, AllZip-if, (value_kept x y first), (values_kept f g same xs ys rest))
 
   -- and so do answers that are related
   pub fold_kept : {X : Type 0} (tree : Tree X) (xs : List T) (ys : List U) → AllZip R xs ys
@@ -113,8 +110,7 @@ mutual
       (filled_each fill trees) ≡ map (side fill) (values_by three_valued f trees)
   values-filled f g same fill Trees.none = refl
   values-filled f g same fill (Trees.more tree trees) =
-      let rest = values-filled f g same fill trees in
-      rw (same fill tree, value-filled fill tree, rest) (grind arith)
+      grind (arith, (values-filled f g same fill trees), (value-filled fill tree))
 
 -- A filling is like the answers in what it keeps of each.
 module _ {X : Type 0} (R : X → Option Bool → Type 0) (S : X → Bool → Type 0)

@@ -115,8 +115,7 @@ pub record IsSpelt (question : Question) : Type 0 where
 -- digits have no quote
 no_quote_digits : (digits : List ℕ) → AllDigits 10 digits → HasNoQuote digits
 no_quote_digits [] all = refl
-no_quote_digits (byte ∷ bytes) all =
-    let here : is_quote byte ≡ false = grind (arith, all.0) in rw here (no_quote_digits bytes all.1)
+no_quote_digits (byte ∷ bytes) all = grind (arith, (no_quote_digits bytes all.1))
 
 no_quote_decimal : (n : ℕ) → n < 2 ^ 64 → HasNoQuote (decimal n)
 no_quote_decimal n small = no_quote_digits (decimal n) (decimal_is_IsNumeral n small).0.1

@@ -369,10 +369,8 @@ first_is : (items all front : List Item) → all ≡ front ++ items
     ≡ option_or (first_below (fault_at all) (length front)) (first_after front items)
 first_is [] all front is = rw (ap length (is ∙ append-nil front)) (grind arith)
 first_is (item ∷ items) all front is =
-    let here : fault_at all (length front) ≡ fault_after front item =
-    rw (is, take-append_seam, slice_get_next) refl in
-    let rest = first_is items all _ (is ∙ sym (append_assoc front (item ∷ []) items)) in
-    rw (rest, length_more front item, here) (grind arith)
+    grind (arith, take-append_seam, slice_get_next, append_assoc, length_more,
+    (first_is items all _ (is ∙ sym (append_assoc front (item ∷ []) items))))
 
 scan : {W M L : Type 0} {builder : Builder W M L} (items front : List Item) (s : State builder)
     → Matches front s
