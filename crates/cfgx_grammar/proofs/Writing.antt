@@ -26,8 +26,7 @@ front_of_first second (left, taken) =
 pub writes_second : {E : Type 0} (old mid new : Option (List ℕ)) (result : Result (Unit {0}) E)
     (first second : List ℕ) → Appends old mid first → Writes mid new result second
     → Writes old new result (first ++ second)
-writes_second old mid new (Ok done) first second taken more =
-    appends_twice old mid new first second taken more
+writes_second old mid new (Ok done) first second taken more = grind (arith, appends_twice)
 writes_second old mid new (Err error) first second taken (left, more) =
     let first_taken : Takes old mid (first ++ second) second =
     record { front = first; whole = refl; taken = taken } in

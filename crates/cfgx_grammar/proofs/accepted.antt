@@ -194,10 +194,8 @@ module _ {W M L : Type 0} {builder : Builder W M L} where
   pub Completes-ended : (last : Option Token) (s t : State builder) (tokens : List Token)
       → takes last Kind.comma ≡ true → predicate_ended s ≡ Ok t → RestOf Separates t 0 tokens
       → Completes last s tokens
-  Completes-ended (Some Token.comma) s t tokens may ends r = λ none.
-      rw (same_ended s t none ends) (grind (arith, r))
-  Completes-ended (Some Token.close_paren) s t tokens may ends r = λ none.
-      rw (same_ended s t none ends) r
+  Completes-ended (Some Token.comma) s t tokens may ends r = grind (arith, same_ended)
+  Completes-ended (Some Token.close_paren) s t tokens may ends r = grind (arith, same_ended)
   Completes-ended (Some (Token.key _)) s t tokens may ends r = λ key is.
       LeafRest-ended s t tokens _ is ends r
   Completes-ended (Some (Token.value _)) s t tokens may ends r = λ key value is.
@@ -291,10 +289,8 @@ module _ {W M L : Type 0} {builder : Builder W M L} where
         Completes-member last s _ may (λ none. rw are (Rest-member s.stack s.roots _ others
         (leaf_tree leaf) (IsMember-leaf _ leaf (text, value, refl, classed)) r))
     Completes-applied (Some Token.equals) (Token.value text) may does completes =
-        λ key is. subst (After (Token.value text)) (sym (ok_same _ u does)) completes key
-        (word_of text (start + 1) (end - 1)) (ap (option_map (with_value _)) is)
-    Completes-applied (Some (Token.key _)) Token.equals may does completes =
-        subst (After Token.equals) (sym (ok_same s u does)) completes
+        grind (arith, ok_same)
+    Completes-applied (Some (Token.key _)) Token.equals may does completes = grind (arith, ok_same)
     Completes-applied last Token.all may does completes =
         Completes-member last s _ may
         (Rest-name (Function.list ListFunction.all) s u (at Token.all) _ does completes)
@@ -313,8 +309,7 @@ module _ {W M L : Type 0} {builder : Builder W M L} where
         let c = Closes-stack s u (at Token.close_paren) s.stack refl does in
         Completes-none last s c.2 _ (inl may) c.5 (Ends-close s u tokens c completes)
     Completes-applied last Token.comma may does completes =
-        Completes-ended last s u _ may does (Rest-comma u.stack u.roots 0 tokens
-        (completes (grind (arith, does))))
+        grind (arith, Completes-ended, Rest-comma)
     Completes-applied _ _ may does completes = absurd (false≢true may)
 
   -- the end of the text finds one member at the root, where no function is open

@@ -139,8 +139,7 @@ module _ {W M L : Type 0} {builder : Builder W M L} where
       → tokens_of xs ≡ Token.comma ∷ commas n → takes t.last Kind.comma ≡ true
       → predicate_ended t ≡ Ok (between s t.last written)
       → step_each t xs ≡ Ok (between s (Some Token.comma) written)
-  commas_run zero (x ∷ []) s t written are may ends =
-      let x_is : x.token ≡ Token.comma = cc in rw (x_is, may, ends) refl
+  commas_run zero (x ∷ []) s t written are may ends = grind arith
   commas_run (suc n) (x ∷ xs) s t written are may ends =
       let x_is : x.token ≡ Token.comma = cc in
       rw (x_is, may, ends) (commas_run n xs s _ written (cc) refl refl)
@@ -209,8 +208,7 @@ module _ {W M L : Type 0} {builder : Builder W M L} (laws : Laws builder) where
   pub MemberEnds-commas : (n : ℕ) (s : State builder) (member beyond : List Item)
       (tree : Tree Question) → tokens_of beyond ≡ commas n → MemberEnds s member member 0 tree
       → MemberEnds s (member ++ beyond) member n tree
-  MemberEnds-commas zero s member beyond tree are i =
-      rw (no_items beyond are, append-nil member) i
+  MemberEnds-commas zero s member beyond tree are i = grind (arith, no_items, append-nil)
   MemberEnds-commas (suc n) s member beyond tree are i = record {
     after = between s (Some Token.comma) i.written;
     written = i.written;

@@ -194,8 +194,7 @@ module _ (front : List Item) (item : Item) where
   pub Levels-member : {M : Type 0} (roots : ℕ) (stack : List (Open M)) → length stack ≤ depth more
       → depth front ≡ length stack → is_kind Kind.name (kind_of item.token) ≡ true
       → Levels front roots false stack 0 → Levels more roots false stack 1
-  Levels-member roots [] deep at begins levels =
-      members_at_name 0 0 (omega arith) at begins ∙ ap (λ n. n + 1) levels ∙ omega arith
+  Levels-member roots [] deep at begins levels = grind (arith, members_at_name)
   Levels-member roots (top ∷ rest) deep at begins (l, levels) = (
     IsLevel-more (length rest) 0 1 top (omega (arith, deep))
         (λ place lt counted. members_at_name (length rest + 1) (place + 1)
