@@ -91,6 +91,4 @@ module _ (text bytes rest : List ℕ) (n : ℕ) (len : n ≡ prefix_len is_blank
 -- an ASCII character that is printed is no white space
 pub trim_graphic : (text : List ℕ) → is_ascii_graphic (get_or text 0 0) ≡ true
     → IsTrimStart text text
-trim_graphic text h =
-    IsTrimStart-ascii text (λ _. grind (arith, nat_tests, common_steps))
-    (λ _. grind (arith, nat_tests, common_steps))
+trim_graphic text h = grind (arith, IsTrimStart-ascii)

@@ -32,8 +32,7 @@ abbrev Trimmed : List ℕ → Type 0
 Trimmed text = (rest : List ℕ) × IsTrimStart text rest × IsUtf8 rest
 
 trimmed_chars : (cs : List ℕ) → all_scalars cs ≡ true → Trimmed (encode_utf8_all cs)
-trimmed_chars [] scalars =
-    ([], IsTrimStart-here [] [] (λ some. absurd (omega (arith, some))), IsUtf8-nil)
+trimmed_chars [] scalars = grind (arith, IsTrimStart-here, IsUtf8-nil)
 trimmed_chars (c ∷ cs) scalars =
     let parts = and_parts _ _ scalars in
     let more = encode_utf8_all cs in
@@ -78,11 +77,8 @@ quote_is byte h = grind (arith, nat_tests, common_steps)
 
 -- no quote stands in front of the first
 HasNoQuote-before : (bytes : List ℕ) → HasNoQuote (before_first is_quote bytes)
-HasNoQuote-before bytes = HasNoQuote-from (before_first is_quote bytes) (λ i short e.
-    let n = position_or_len is_quote bytes in
-    let within : i < n = omega (arith, short, length-take n bytes) in
-    let other = fails_before_first is_quote bytes i 0 within in
-    both_ways _ (rw (← get_or-take n bytes i 0 within, e) at other) refl)
+HasNoQuote-before bytes =
+    grind (arith, HasNoQuote-from, length-take, fails_before_first, both_ways, get_or-take)
 
 -- a quote in front is closed, or it is not
 begins_quote : (more : List ℕ) → IsUtf8 (34 ∷ more) → Begins (34 ∷ more)

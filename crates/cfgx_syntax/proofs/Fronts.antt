@@ -39,8 +39,7 @@ starts_word-token : (byte : ℕ) → starts_word byte ≡ true → starts_token 
 starts_word-token byte h = grind (arith, nat_tests, common_steps)
 
 word_starts : (word : List ℕ) → IsWord word → starts_word (get_or word 0 0) ≡ true
-word_starts [] is = absurd (false≢true is)
-word_starts (first ∷ others) is = is.0
+word_starts word is = grind (arith, false≢true)
 
 -- bytes of a word go on to its end
 goes_on : (bytes after : List ℕ) → list_all continues_word bytes ≡ true → EndsWord after
@@ -53,10 +52,8 @@ goes_on (byte ∷ bytes) after all ends =
 
 word_len : (word after : List ℕ) → IsWord word → EndsWord after
     → token_len (word ++ after) ≡ length word
-word_len [] after is ends = absurd (false≢true is)
-word_len (first ∷ others) after is ends =
-    let long = goes_on others after is.1 ends in
-    rw (starts_word-no_quote first is.0, is.0, starts_word-continues first is.0, long) (omega arith)
+word_len word after is ends =
+    grind (arith, false≢true, goes_on, starts_word-no_quote, starts_word-continues)
 
 -- the first quote is not among bytes that have none
 quote_after : (bytes after : List ℕ) → HasNoQuote bytes
@@ -69,15 +66,8 @@ quote_after (byte ∷ bytes) after none =
 -- the length of a token in front of a text
 spelled_len : (bytes after : List ℕ) (token : Token) → Spells bytes token → IsWhole token after
     → token_len (bytes ++ after) ≡ length bytes
-spelled_len bytes after (Token.key word) (is, key) ends =
-    rw is (word_len word after key.spelled ends)
-spelled_len bytes after (Token.value inside) (is, none) ends =
-    rw (is, append_assoc inside (codes "\"") after, quote_after inside (codes "\"" ++ after) none)
-    (omega (arith, length-append inside (codes "\"")))
-spelled_len bytes after Token.all is ends = rw is (word_len (codes "all") after (refl, refl) ends)
-spelled_len bytes after Token.any is ends = rw is (word_len (codes "any") after (refl, refl) ends)
-spelled_len bytes after Token.not is ends = rw is (word_len (codes "not") after (refl, refl) ends)
-spelled_len bytes after _ is ends = rw is refl
+spelled_len bytes after token is ends =
+    grind (arith, word_len, append_assoc, quote_after, length-append)
 
 pub token_len_is : (rest : List ℕ) (token : Token) (len : ℕ) → Spells (take len rest) token
     → len ≤ length rest → IsWhole token (drop len rest) → token_len rest ≡ len
@@ -92,34 +82,20 @@ refuses xs ys other = false_from_ne_true _ (λ same. other ((bytes_eq-Decides xs
 
 -- the token that bytes spell is one
 pub token_by_is : (bytes : List ℕ) (token : Token) → Spells bytes token → token_by bytes ≡ token
-token_by_is bytes (Token.key word) (is, key) =
-    let all = refuses word (codes "all") key.not_all in
-    let any = refuses word (codes "any") key.not_any in
-    let not = refuses word (codes "not") key.not_not in
-    rw (is, word_starts word key.spelled, all, any, not) refl
-token_by_is bytes (Token.value inside) (is, none) =
-    let wide = length-append inside (codes "\"") in
-    rw is (ap Token.value (take_at inside (codes "\"") _ (omega arith)))
-token_by_is bytes _ is = ap token_by is
+token_by_is bytes token is = grind (arith, refuses, word_starts, length-append, take_at)
 
 -- the first byte of a token begins one, and so there is such a byte
 Spells-first : (bytes : List ℕ) (token : Token) → Spells bytes token
     → starts_token (get_or bytes 0 0) ≡ true
-Spells-first bytes (Token.key word) (is, key) =
-    rw is (starts_word-token (get_or word 0 0) (word_starts word key.spelled))
-Spells-first bytes (Token.value inside) (is, none) = rw is refl
-Spells-first bytes _ is = rw is refl
+Spells-first bytes token is = grind (arith, starts_word-token, word_starts)
 
 pub Spells-some : (bytes : List ℕ) (token : Token) → Spells bytes token → 1 ≤ length bytes
-Spells-some [] token spells = absurd (false≢true (Spells-first [] token spells))
-Spells-some (byte ∷ bytes) token spells = omega arith
+Spells-some bytes token spells = grind (arith, false≢true, Spells-first)
 
 pub front_starts : (rest : List ℕ) (token : Token) (len : ℕ) → Spells (take len rest) token
     → starts_token (get_or rest 0 0) ≡ true
 front_starts rest token len spelled =
-    let some = Spells-some (take len rest) token spelled in
-    let long : 0 < len = omega (arith, some, length-take len rest) in
-    rw get_or-take at (Spells-first (take len rest) token spelled)
+    grind (arith, Spells-some, length-take, get_or-take, Spells-first)
 
 -- if a quote is never closed, a token would not end in the text
 pub unclosed_len : (rest : List ℕ) → OpensNoValue rest → length rest < token_len rest

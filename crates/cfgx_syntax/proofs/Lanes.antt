@@ -25,18 +25,14 @@ AreApart-from t f each =
 
 pub AreApart-and : (t f u g : ℕ) → AreApart t f → AreApart u g
     → AreApart (bit_and t u) (bit_or f g)
-AreApart-and t f u g one other =
-    AreApart-from (bit_and t u) (bit_or f g) (λ i.
-    rw (bit_at_and, bit_at_or) (omega (arith, apart_at t f i one, apart_at u g i other)))
+AreApart-and t f u g one other = grind (arith, AreApart-from, bit_at_and, bit_at_or, apart_at)
 
 pub AreApart-not : (t f : ℕ) → AreApart t f → AreApart f t
 AreApart-not t f apart = and_comm f t ∙ apart
 
 pub AreApart-or : (t f u g : ℕ) → AreApart t f → AreApart u g
     → AreApart (bit_or t u) (bit_and f g)
-AreApart-or t f u g one other =
-    AreApart-not (bit_and f g) (bit_or t u)
-    (AreApart-and f t g u (AreApart-not t f one) (AreApart-not u g other))
+AreApart-or t f u g one other = grind (arith, AreApart-not, AreApart-and)
 
 by_and : (t f u g : ℕ) → t + f ≤ 1 → u + g ≤ 1
     → answer_of_bits (min t u) (max f g) ≡ kleene_and (answer_of_bits t f) (answer_of_bits u g)

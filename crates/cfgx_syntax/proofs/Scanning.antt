@@ -29,8 +29,7 @@ pub record IsAfter (text rest : List ℕ) (place : ℕ) : Type 0 where
 
 pub IsAfter-trimmed : (text inner rest : List ℕ) → inner ≡ drop (length text - length inner) text
     → IsTrimStart inner rest → IsAfter text rest (length text - length inner)
-IsAfter-trimmed text inner rest follows trimmed =
-    record { inside = omega arith; trimmed = subst (λ l. IsTrimStart l rest) follows trimmed }
+IsAfter-trimmed text inner rest follows trimmed = grind (arith, trimmed)
 
 module _ (text rest : List ℕ) (place : ℕ) (beyond : IsAfter text rest place) where
   -- where the rest starts
@@ -57,13 +56,7 @@ module _ (text rest : List ℕ) (place : ℕ) (beyond : IsAfter text rest place)
   pub Stands-found : (token : Token) (len : ℕ) → BeginsWith rest token len
       → Stands text place (record { token = token; start = start; end = start + len })
   Stands-found token len begins =
-      let wide : start + len - start ≡ len = omega arith in
-      let long = ap length rest_is ∙ length-drop start text in
-      let spelled : Spells (slice_range text start (start + len)) token =
-      rw (wide, ← rest_is) begins.spelled in
-      let whole : IsWhole token (drop (start + len) text) =
-      rw (← drop-drop len start text, ← rest_is) begins.whole in
-      search (rules, place_le_start, gap_is_blank)
+      grind (arith, rest_is, length-drop, begins, drop-drop, place_le_start, gap_is_blank)
 
   pub CanBeCut-found : (token : Token) (len : ℕ) → BeginsWith rest token len
       → CanBeCut text token start (start + len)

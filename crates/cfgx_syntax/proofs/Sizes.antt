@@ -10,8 +10,5 @@ pub items-bytes : (text : List ℕ) (from : ℕ) (items : List Item) (ending : E
     → from + length items ≤ length text
 items-bytes text from [] ending inside are = omega arith
 items-bytes text from (item ∷ items) ending inside are =
-    let bytes = slice_range text item.start item.end in
-    let some = Spells-some bytes item.token are.0.spelled in
-    let few = length-take (item.end - item.start) (drop item.start text) in
-    let others = items-bytes text item.end items ending are.0.inside are.1 in
-    omega (arith, some, few, others, are.0.comes_after)
+    grind (arith, Spells-some, length-take,
+    (items-bytes text item.end items ending are.0.inside are.1))

@@ -41,8 +41,7 @@ data Next (text : List ℕ) (from : ℕ) (next : Item ⊎ Ending) : Type 0 where
 
 first_char : (rest : List ℕ) → starts_token (get_or rest 0 0) ≡ true
     → rest ≡ encode_utf8 (get_or rest 0 0) ++ drop 1 rest
-first_char [] starts = absurd (false≢true starts)
-first_char (c ∷ more) starts = rw (encode_ascii c (starts_token-ascii c starts)) refl
+first_char rest starts = grind (arith, false≢true, encode_ascii, starts_token-ascii)
 
 -- a byte that begins a token is the first character after white space
 first_of : (text : List ℕ) (from place : ℕ) → from ≤ place → IsBlank (slice_range text from place)

@@ -56,11 +56,7 @@ IsCharBoundary-after p low text utf8 = by (prefix_len p text) refl where
       rw add-one at (IsCharBoundary-after_ascii text n utf8 (omega (arith, is, inside)) last)
 
 IsWhole-word : (rest : List ℕ) (token : Token) → EndsWord rest → IsWhole token rest
-IsWhole-word rest (Token.key word) ends = ends
-IsWhole-word rest Token.all ends = ends
-IsWhole-word rest Token.any ends = ends
-IsWhole-word rest Token.not ends = ends
-IsWhole-word rest _ ends = refl
+IsWhole-word rest token ends = grind arith
 
 -- the front of a text up to a place where it can be cut
 pub IsCut-front : (text : List ℕ) (len : ℕ) → IsUtf8 text → len ≤ length text
@@ -72,8 +68,7 @@ pub BeginsWith-byte : (text bytes : List ℕ) (token : Token) (byte : ℕ) → I
     → 0 < length text → bytes ≡ text → get_or bytes 0 0 ≡ byte → byte < 128
     → Spells (byte ∷ []) token → IsWhole token (drop 1 text) → IsValueCut text token 0 1
     → BeginsWith text token 1
-BeginsWith-byte [] bytes token byte utf8 some same is low spelled whole value =
-    absurd (omega arith)
+BeginsWith-byte [] bytes token byte utf8 some same is low spelled whole value = grind arith
 BeginsWith-byte (first ∷ rest) bytes token byte utf8 some same is low spelled whole value =
     let at : first ≡ byte = rw same at is in
     let cut = IsCharBoundary-after_ascii (first ∷ rest) 0 utf8 some (omega arith) in
@@ -83,9 +78,7 @@ BeginsWith-byte (first ∷ rest) bytes token byte utf8 some same is low spelled 
 -- a word spells no value, and so there is no value to cut
 IsValueCut-word : (text word : List ℕ) (token : Token) (start end : ℕ) → IsWord word
     → Spells word token → IsValueCut text token start end
-IsValueCut-word text word (Token.value inside) start end is spelled =
-    absurd (false≢true (rw spelled.0 at is).0)
-IsValueCut-word text word _ start end is spelled = tt
+IsValueCut-word text word token start end is spelled = grind (arith, false≢true)
 
 -- a text begins with the token that its first word spells
 pub BeginsWith-word : (text : List ℕ) (token : Token) → IsUtf8 text

@@ -22,19 +22,10 @@ endian_named-text little = refl
 pub atomic_named-text : (width : HasAtomic) → IsWidth width
     → atomic_named (atomic_text width) ≡ Some width
 unfolding atomic_named read_below
-atomic_named-text (IntegerSize bits) fits =
-    let read : read_below (2 ^ 16) (atomic_text (IntegerSize bits)) ≡ Some bits =
-    read_below-decimal (2 ^ 16) bits fits (omega (arith, fits)) in
-    rw read
-atomic_named-text Pointer fits = refl
+atomic_named-text width fits = grind (arith, read_below-decimal)
 
 -- so the reading of what a width prints answers that width
 pub ReadsAtomic-text : {A : Type 0} (text : List ℕ) (result : Result HasAtomic (HasAtomicFailure A))
     → ReadsAtomic text result → (width : HasAtomic) → IsWidth width → text ≡ atomic_text width
     → result ≡ Ok width
-ReadsAtomic-text text (Ok read) reads width fits printed =
-    let named = atomic_named-text width fits in cc
-ReadsAtomic-text text (Err (Parse error)) reads width fits printed =
-    let named = atomic_named-text width fits in cc reads.0
-ReadsAtomic-text text (Err (Memory error)) reads width fits printed =
-    let named = atomic_named-text width fits in cc
+ReadsAtomic-text text result reads width fits printed = grind (arith, atomic_named-text)

@@ -19,9 +19,7 @@ digits_model : IsNumeralModel (λ ds. all_ascii_digits ds ≡ true) (digits_valu
 digits_model = numerals_by_value _ tells_all_ascii_digits
 
 Decides-is_numeral : (ds : List ℕ) → Decides (is_numeral ds) (IsNumeral 10 ds)
-Decides-is_numeral [] = (λ h. cc, λ h. absurd (omega (arith, h.0)))
-Decides-is_numeral (d ∷ ds) =
-    (λ h. (omega arith, digits_model.to (d ∷ ds) h), λ h. digits_model.from (d ∷ ds) h.1)
+Decides-is_numeral ds = grind (arith, digits_model)
 
 -- a result that is `Ok` of the value exactly if the test passes, as an option
 result_ok-OkIff : {E P : Type 0} (b : Bool) (v : ℕ) (r : Result ℕ E) → Decides b P → OkIff r P v
@@ -33,9 +31,7 @@ pub result_ok-parse : {E : Type 0} (k : ℕ) (bs : List ℕ) (r : Result ℕ E) 
     → result_ok r ≡ read_below (2 ^ k) bs
 unfolding read_below
 result_ok-parse k bs r h =
-    let ds = without_leading_plus bs in
-    let fits = Decides-and _ _ (Decides-is_numeral ds) (Decides-ltb (digits_value 10 ds) (2 ^ k)) in
-    result_ok-OkIff _ _ r fits h
+    grind (arith, Decides-and, Decides-is_numeral, Decides-ltb, result_ok-OkIff)
 
 -- what is printed in decimal is read again
 pub read_below-decimal : (limit n : ℕ) → n < limit → n < 2 ^ 64

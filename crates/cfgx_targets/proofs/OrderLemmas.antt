@@ -27,10 +27,7 @@ use Rattle.cfgx_targets.specs.SortedList.{IsSortedFrom}
 module _ {X : Type 0} {R : X → X → Ordering} (o : IsTotalOrder R) where
   -- not above is the same as: the other one is not below
   le-lt : (x y : X) → is_le (R x y) ≡ not (is_lt (R y x))
-  le-lt x y = rw (o.antisymm x y) (by_cases (R y x))
-    where
-      by_cases : (r : Ordering) → is_le (ordering_reverse r) ≡ not (is_lt r)
-      by_cases r = grind (arith, common_steps)
+  le-lt x y = grind arith
 
   module _ {C : X → X → Option Ordering} (a : Agrees C R) where
     neighbors : (x y : X) → partial_le C x y ≡ not (is_lt (R y x))
@@ -81,8 +78,7 @@ pub binary_search_by-gives : {X F : Type 0} {g : Mut F (Bor X × Unit {0}) Order
     → ((a : Bor X × Unit {0}) (answer : Ordering) (f' : F) → Called g f a answer f'
     → (answer ≡ rank a.0.now) × (f' ≡ f))
     → IsBinarySearchResult rank xs r
-binary_search_by-gives {g = g} {f = f} rank xs r clause each =
-    clause rank (always_returns_same g (λ a answer. answer ≡ rank a.0.now) f each)
+binary_search_by-gives {g = g} {f = f} rank xs r clause each = grind (arith, always_returns_same)
 
 -- how many members are equal to q
 abbrev count_equal : {X : Type 0} → (X → X → Ordering) → X → List X → ℕ
@@ -106,8 +102,7 @@ IsSorted-from R [] rises k d _ lt = absurd (omega (arith, lt))
 IsSorted-from R (x ∷ []) rises k d _ lt = absurd (omega (arith, lt))
 IsSorted-from R (x ∷ y ∷ ys) rises zero d _ lt = rises.0
 IsSorted-from R (x ∷ y ∷ ys) rises (suc k) d _ lt =
-    let shift : suc k + 1 ≡ suc (k + 1) = omega arith in
-    rw shift (IsSorted-from R (y ∷ ys) rises.1 k d (omega arith) (omega (arith, lt)))
+    grind (arith, (IsSorted-from R (y ∷ ys) rises.1 k d (omega arith) (omega (arith, lt))))
 
 Rises-from : {X : Type 0} (R : X → X → Ordering) (xs : List X) → IsSorted R xs → Rises R xs
 Rises-from R [] s = tt
@@ -122,10 +117,7 @@ Rises-tail a0 x xs s = grind (arith, common_steps)
 module _ {X : Type 0} {R : X → X → Ordering} (o : IsTotalOrder R) where
   -- what is below the first is below what is not below the first
   below-chain : (x y z : X) → R x y ≡ Less → is_lt (R z y) ≡ false → R x z ≡ Less
-  below-chain x y z h up = by_cases (R y z) refl
-    where
-      by_cases : (r : Ordering) → R y z ≡ r → R x z ≡ Less
-      by_cases r e = grind (arith, common_steps)
+  below-chain x y z h up = grind arith
 
   -- a list that begins above q has none equal to q
   count_equal-below : (q y : X) (ys : List X) → R q y ≡ Less → Rises R (y ∷ ys)
@@ -168,9 +160,7 @@ module _ {X : Type 0} {R : X → X → Ordering} (o : IsTotalOrder R) where
   -- the members that items give in order are fixed by the items, in any arrangement of them
   pub sorted-same : (same : (x y : X) → R x y ≡ Equal → x ≡ y) (xs ys : List X)
       → IsPermutation xs ys → IsSorted R xs → IsSorted R ys → xs ≡ ys
-  sorted-same same xs ys p s t =
-      rises-same same xs ys (Rises-from R xs s) (Rises-from R ys t)
-      (λ q. sym (sum_by-IsPermutation (λ w. cond (is_eq (R q w)) 1 0) xs ys p))
+  sorted-same same xs ys p s t = grind (arith, rises-same, Rises-from, sum_by-IsPermutation)
 
   module _ {E : X → X → Bool} (same : (x y : X) → R x y ≡ Equal → x ≡ y)
       (e : (x y : X) → E x y ≡ eq_by_cmp R x y) where

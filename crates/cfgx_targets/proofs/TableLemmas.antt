@@ -23,9 +23,7 @@ find-at : {X : Type 0} (p : X → Bool) (xs : List X) (i : ℕ) (x : X) → i < 
     → x ≡ get_or xs i x → p x ≡ true → ((k : ℕ) → k < i → p (get_or xs k x) ≡ false)
     → find p xs ≡ Some x
 find-at p [] i x lt is passes fails = absurd (omega (arith, lt))
-find-at p (y ∷ ys) zero x lt is passes fails =
-    let here : p y ≡ true = subst (λ z. p z ≡ true) is passes in
-    rw here (ap Some (sym is))
+find-at p (y ∷ ys) zero x lt is passes fails = grind arith
 find-at p (y ∷ ys) (suc i) x lt is passes fails =
     let first : p y ≡ false = fails 0 (omega arith) in
     rw first (find-at p ys i x (omega (arith, lt)) is passes
