@@ -67,13 +67,7 @@ record Shown (text : List ℕ) (reading : Reading) : Type 0 where
 shown : (text : List ℕ) (reading : Reading) → HasReading text reading → Shown text reading
 shown text (Ok tree) has =
     let f = Finds-tree tree_laws (length text) has.items tree has.spelled in
-    let answers = ap (and_then (ended_as text None)) f.runs ∙ f.concludes in
-    record {
-      items = has.items;
-      ending = Ending.blank;
-      are = has.are_items;
-      shows = (f.whole, answers, f.whole_is ∙ tree_built _ _ tree f.builds);
-    }
+    grind (arith, f, tree_built)
 shown text (Err fault) has =
     let agrees = whole_agrees tree_builder text has.items has.ending in
     record {

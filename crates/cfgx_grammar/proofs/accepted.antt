@@ -186,9 +186,7 @@ module _ {W M L : Type 0} {builder : Builder W M L} where
       (leaf_tokens p.key.text (option_map (λ v. v.text) p.value) ++ tokens)
   LeafRest-ended s t tokens p is ends r =
       let e = LeafEnds-ended s t p is ends in
-      let left = rw e.ended at r in
-      let rest : RestOf Separates s 1 tokens = grind (arith, left) in
-      (_, e.leaf, tokens, refl, e.class_is, rest)
+      grind (arith, e)
 
   -- where a comma may come, what stands in front of it ends
   pub Completes-ended : (last : Option Token) (s t : State builder) (tokens : List Token)
@@ -345,6 +343,4 @@ module _ {W M L : Type 0} {builder : Builder W M L} where
   IsTree-accepted items s u len runs ends =
       let (n, others, trees, after, are, none, list, (one, end)) =
       Completes-run items initial s u len runs ends refl in
-      let (tree, spelled) = one_tree others trees (omega (arith, one)) list in
-      let whole : tokens_of items ≡ others = are ∙ rw (none, end, append-nil others) refl in
-      (tree, subst (λ l. IsTree l tree) (sym whole) spelled)
+      grind (arith, others, trees, are, none, list, end, one_tree, append-nil)

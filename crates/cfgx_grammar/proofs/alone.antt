@@ -283,8 +283,7 @@ items_alone : (key : List ℕ) (value : Option (List ℕ)) → IsKey key → Can
 items_alone key None is_key quoted =
     let stands = stands_between key [] [] key [] (Token.key key) 0 0 (length key)
     (sym (append-nil key)) refl refl (omega arith) (NoCharPasses-nil _) (refl, is_key) refl in
-    let past = subst IsBlank (sym (drop_of_length-le key (omega arith))) (NoCharPasses-nil _) in
-    ((stands, past), refl)
+    grind (arith, stands, drop_of_length-le, NoCharPasses-nil)
 items_alone key (Some value) is_key quoted =
     let n = length key in
     let text = key_and_value key value in

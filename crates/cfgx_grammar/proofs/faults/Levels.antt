@@ -132,9 +132,7 @@ module _ (front : List Item) (item : Item) where
       let same = count_below-same (counts more level from) (counts front level from) (length front)
       (λ k lt. rw (depth_at_front k (omega (arith, lt)), slice_get_front front (item ∷ []) k lt)
       refl) in
-      let last : counts more level from (length front) ≡ counted =
-      rw (depth_at_end, slice_get_next front item []) is in
-      rw (length_more, last, same) refl
+      grind (arith, same, depth_at_end, slice_get_next, length_more)
 
   -- the token begins a member at the depth
   pub members_at_name : (level from : ℕ) → from ≤ length front → depth front ≡ level
@@ -157,19 +155,7 @@ module _ (front : List Item) (item : Item) where
       → IsOpenAt front level function start end place → IsOpenAt more level function start end place
   IsOpenAt-more level function start end place deep is =
       let at = slice_get_within front place is.name is.stands in
-      record {
-        name = is.name;
-        stands = slice_get_front front (item ∷ []) place at ∙ is.stands;
-        named = is.named;
-        starts = is.starts;
-        ends = is.ends;
-        before = depth_at_front place (omega (arith, at)) ∙ is.before;
-        inside = λ k beyond within. ⊎_elim
-            (λ (past : length front < k). rw (take_all k more
-            (omega (arith, past, length_more))) deep)
-            (λ (old : k ≤ length front). rw (depth_at_front k old)
-            (is.inside k beyond old)) (cases_lt (length front) k);
-      }
+      grind (arith, at, slice_get_front, depth_at_front, take_all, length_more, cases_lt)
 
   -- the token changes the members of the level, and how many of its members go on
   IsLevel-more : {M : Type 0} (level going goes : ℕ) (top : Open M) → level < depth more
