@@ -160,16 +160,4 @@ module _ {X : Type 0} (tree : Tree X) (answers : List (Option Bool))
   IsExact-fold =
       let upper = polar_value true in
       let lower = polar_value false in
-      record {
-        -- what is known holds under every filling, and both polar ones tell it
-        known = λ value. (
-          λ is filling fills. rw is at (fold_kept three_valued two_valued Agrees agreement tree
-              answers filling fills),
-          λ every. let one = every _ (polar_filling true) in
-              let other = every _ (polar_filling false) in grind (arith, upper, lower, one, other),
-        );
-        unknown = (
-          λ is. (upper ∙ ap (side true) is, lower ∙ ap (side false) is),
-          λ both. grind (arith, upper, lower, both.0, both.1),
-        );
-      }
+      grind (arith, upper, lower, fold_kept, agreement, polar_filling)
