@@ -46,10 +46,7 @@ module _ {W M L : Type 0} {builder : Builder W M L} (text : List ℕ)
       let r = ran (step_each initial one.items) (ended_as text (lexical text one.ending)) u e in
       let blank : one.ending ≡ Ending.blank = grind (arith, r.2) in
       let ended : conclude (length text) r.0 ≡ Ok u = grind (arith, blank, r.2) in
-      let found = IsTree-accepted one.items r.0 u (length text) r.1 ended in
-      let are : AreItems text one.items Ending.blank =
-      subst (AreItems text one.items) blank one.are in
-      (found.0, record { items = one.items; are_items = are; spelled = found.1 })
+      grind (arith, r, blank, ended, IsTree-accepted)
 
 -- What the parser that builds the tree answers for a text that reads so.
 abbrev Shows : Reading → Result (State tree_builder) Refusal → Type 0

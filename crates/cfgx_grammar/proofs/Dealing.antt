@@ -98,10 +98,9 @@ module _ {X T : Type 0} (otherwise : T) where
         let rest = asked_by is_function trees in
         let many = length-append (asked tree) rest in
         let left = length-drop (length (asked tree)) inner in
-        let others = asked_each-taken trees (left_after (asked tree) inner) own
-        (omega (arith, many, left)) some in
-        let first = asked-taken tree inner (omega (arith, many)) in
-        (taken_both (asked tree) rest inner _ _ first others.0, others.1)
+        grind (arith, rest, many, left, taken_both,
+        asked_each-taken trees (left_after (asked tree) inner) own (omega (arith, many, left)) some,
+        asked-taken tree inner (omega (arith, many)))
 
   pub asked-answered : (tree : Tree X) (answers : List T)
       → length answers ≡ length (asked tree) → asked (answered otherwise tree answers) ≡ answers
