@@ -50,7 +50,7 @@ SameShape {T} {U} = Alike (λ (x : T) (y : U). Unit {0})
 abbrev pub SameShapes : {T U : Type 0} → Trees T → Trees U → Type 0
 SameShapes {T} {U} = AlikeEach (λ (x : T) (y : U). Unit {0})
 
--- two tests that say the same of trees that are alike
+-- two tests that have the same answer for any two trees that are alike
 abbrev pub SameTests : {T U : Type 0} (R : T → U → Type 0) → (Tree T → Bool) → (Tree U → Bool)
     → Type 0
 SameTests {T} {U} R f g = (x : Tree T) (y : Tree U) → Alike R x y → f x ≡ g y

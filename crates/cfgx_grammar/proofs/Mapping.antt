@@ -39,7 +39,7 @@ IsMap-lane i below = record {
   not = λ x p. (AreApart-not _ _ p, EachLane-not x p i below);
 }
 
--- the same of another way to say what is known of a value
+-- a map stays one if what is known of a value is said in another way
 IsMap-same : {T U : Type 0} {one : Operations T} {other : Operations U} {Holds Same : T → Type 0}
     {to : T → U} → ((x : T) → Holds x → Same x) → ((x : T) → Same x → Holds x)
     → IsMap one other Holds to → IsMap one other Same to

@@ -42,7 +42,7 @@ abbrev pub is_closing : Token → Bool
 is_closing token = is_kind Kind.closing (kind_of token)
 
 -- how many functions are open after the tokens, each from its name on: the functions named among
--- them, less the `)`
+-- them less the `)`, and 0 if there are more `)`
 abbrev pub depth : List Item → ℕ
 depth front = count_by (λ item. names_function item.token) front
     - count_by (λ item. is_closing item.token) front

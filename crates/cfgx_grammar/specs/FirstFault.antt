@@ -1,7 +1,8 @@
 -- The first fault of a stripped text that is no condition: the reason and the bytes that the crate
 -- cfg-expr names, except that functions count as roots too, and that members are counted without a
 -- limit. It is the fault of the first token that has one; else the place where no token can start;
--- else what is wrong at the end of the text. Each is counted on the tokens before a place.
+-- else what is wrong at the end of the text. Each is counted on the tokens before a place. What is
+-- called a fault in this crate is a `Refusal`: a cause and its place, without the text.
 use Rattle.std.specs.Prelude.{◌≡◌, ℕ, ◌+◌, ◌==◌, ◌&&◌, ◌||◌, Bool, false, not, nat_lt, List, []}
 use Rattle.std.specs.Prelude.{◌∷◌, length, take, reverse}
 use Rattle.std.specs.Prelude.{codes, slice_get, Option, Some, None, option_map, option_and_then}

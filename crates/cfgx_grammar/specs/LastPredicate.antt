@@ -6,7 +6,7 @@ use Rattle.cfgx_syntax.specs.Token.{Token}
 use Rattle.cfgx_syntax.specs.Items.{Item}
 use Rattle.cfgx_grammar.specs.Classification.{Class, Part, class}
 
--- bytes of the text, and where they stand
+-- a key, or what stands between the quotes of a value, and its place in the text
 pub record Word : Type 0 where
   pub text : List ℕ
   pub start : ℕ

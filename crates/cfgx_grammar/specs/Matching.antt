@@ -13,15 +13,13 @@ use Rattle.cfgx_grammar.specs.Question.{TargetQuestion}
 
 abbrev pub is_same_endian : Endian → Endian → Bool
 is_same_endian big big = true
-is_same_endian big little = false
-is_same_endian little big = false
 is_same_endian little little = true
+is_same_endian _ _ = false
 
 abbrev pub is_same_width : HasAtomic → HasAtomic → Bool
 is_same_width (IntegerSize bits) (IntegerSize others) = bits == others
-is_same_width (IntegerSize bits) Pointer = false
-is_same_width Pointer (IntegerSize others) = false
 is_same_width Pointer Pointer = true
+is_same_width _ _ = false
 
 -- whether a field has a text; a missing field has the text that stands for it
 abbrev pub has_text : Option (List ℕ) → List ℕ → List ℕ → Bool

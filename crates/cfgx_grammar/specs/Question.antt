@@ -28,7 +28,7 @@ pub data Question : Type 0 where
   key_value : List ℕ → List ℕ → Question
 
 -- What stands in a condition where no function does: a predicate, or one of the literals `true` and
--- `false` of the Rust Reference's conditional compilation, which nobody is asked.
+-- `false` of the Rust Reference's conditional compilation, which asks nothing.
 pub data Leaf : Type 0 where
   predicate : Question → Leaf
   literal : Bool → Leaf
