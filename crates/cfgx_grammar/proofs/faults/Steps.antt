@@ -1,6 +1,7 @@
 -- What the parser refuses it refuses with the first fault.
 use Rattle.std.proofs.lemmas.Bool.Decides.{nat_tests}
 use Rattle.std.proofs.lemmas.Grind.{common_steps}
+use Rattle.std.proofs.Common.{take}
 use Rattle.std.proofs.Common.{◌≡◌, ◌⊎◌, inl, inr, ℕ, ◌+◌, Bool, true, false, List, [], ◌∷◌, ◌++◌}
 use Rattle.std.proofs.Common.{length, reverse, cond, Option, Some, None, Result, Ok, Err, sym, refl}
 use Rattle.std.proofs.Common.{ap, ◌∙◌, arith, suc, ◌-◌, ◌<◌, option_map, take_all, append_assoc}
@@ -14,7 +15,7 @@ use Rattle.cfgx_grammar.specs.Tree.{ListFunction}
 use Rattle.cfgx_grammar.specs.Neighbours.{Kind, takes, kind_of, is_kind, next}
 use Rattle.cfgx_grammar.specs.Depth.{names_function, is_closing, depth, depth_at, innermost}
 use Rattle.cfgx_grammar.specs.Depth.{members, first_below}
-use Rattle.cfgx_grammar.specs.LastPredicate.{key_token, key_last, equals_last, predicate_token}
+use Rattle.cfgx_grammar.specs.LastPredicate.{predicate_last}
 use Rattle.cfgx_grammar.specs.LastPredicate.{word_of, with_value}
 use Rattle.cfgx_grammar.specs.FirstFault.{predicate_fault, head_token, last_token, lacks_value}
 use Rattle.cfgx_grammar.specs.FirstFault.{not_fault, unopened_fault, closed_fault, ended_fault}
@@ -42,9 +43,9 @@ use Rattle.std.proofs.lemmas.Option.{slice_get_within, slice_get_past}
 
 -- the predicate that has begun
 abbrev pub begun_token : Item → List Item → Token → Option Pending
-begun_token item before (Token.key text) = key_token item (Token.key text)
-begun_token item before (Token.value text) = predicate_token item before (Token.value text)
-begun_token item before Token.equals = key_last before
+begun_token item before (Token.key text) = predicate_last (item ∷ before)
+begun_token item before (Token.value text) = predicate_last (item ∷ before)
+begun_token item before Token.equals = predicate_last (take 1 before)
 begun_token item before _ = None
 
 abbrev pub begun_last : List Item → Option Pending
@@ -69,18 +70,24 @@ closings front = count_by (λ item. is_closing item.token) front
 -- What may stand after the last token says which it is.
 
 -- What a token of this kind says of those in front of it. In front of a name no predicate has
--- begun and no name is the last token; in front of `(` stands a name, in front of `=` a key, and in
--- front of a value `=`.
-abbrev pub Says : Kind → Option Pending → Option Pending → Option Pending → Bool → Type 0
-Says Kind.name begun key equals names = (begun ≡ None) × (names ≡ false)
-Says Kind.opening begun key equals names = (begun ≡ None) × (names ≡ true)
-Says Kind.equals begun key equals names = (begun ≡ key) × (names ≡ false)
-Says Kind.value begun key equals names = (begun ≡ equals) × (names ≡ false)
-Says _ begun key equals names = Unit {0}
+-- begun and no name is the last token; in front of `(` stands a name, and in front of `=` a key.
+abbrev pub Says : Kind → Option Pending → Option Pending → Bool → Type 0
+Says Kind.name begun key names = (begun ≡ None) × (names ≡ false)
+Says Kind.opening begun key names = (begun ≡ None) × (names ≡ true)
+Says Kind.equals begun key names = (begun ≡ key) × (names ≡ false)
+Says Kind.value begun key names = names ≡ false
+Says _ begun key names = Unit {0}
 
 pub says : (kind : Kind) (back : List Item) → takes (head_token back) kind ≡ true
-    → Says kind (begun_last back) (key_last back) (equals_last back) (names_last (head_token back))
+    → Says kind (begun_last back) (predicate_last (take 1 back)) (names_last (head_token back))
 says kind back may = grind arith
+
+-- a value ends the predicate whose key and `=` stand in front of it
+value_says : (text : List ℕ) (start end : ℕ) (back : List Item)
+    → takes (head_token back) Kind.value ≡ true
+    → option_map (with_value (word_of text (start + 1) (end - 1))) (begun_last back)
+    ≡ predicate_last (record { token = Token.value text; start = start; end = end } ∷ back)
+value_says text start end back may = grind arith
 
 -- What comes of the tokens and what is shown of them: no fault, and something that this holds of,
 -- or a fault on both sides.
@@ -311,11 +318,12 @@ module _ {W M L : Type 0} {builder : Builder W M L} (front : List Item) (s : Sta
         (omega (arith, balanced token (length s.stack) refl)) (depth_is front s m) refl
         (rw (m.pending ∙ a.0, a.1) at m.levels) in
         (refl, matched token _ 1 refl refl refl refl levels)
-    token_step (Token.value text) may = let value = word_of text (start + 1) (end - 1) in
-        let a = says Kind.value (reverse front) may in
-        let pending = ap (option_map (with_value value)) (m.pending ∙ a.0) in
-        let left = stays (Token.value text) _ (going s.pending) refl refl refl refl pending
-        (grind arith) (rw a.1 at m.levels) in (refl, left)
+    token_step (Token.value text) may =
+        let levels = rw (says Kind.value (reverse front) may) at m.levels in
+        let pending = ap (option_map (with_value (word_of text (start + 1) (end - 1)))) m.pending
+        ∙ value_says text start end (reverse front) may in
+        (refl, stays (Token.value text) _ (going s.pending) refl refl refl refl pending
+        (grind arith) levels)
     token_step Token.equals may = let a = says Kind.equals (reverse front) may in
         let levels = rw a.1 at m.levels in
         (refl, stays Token.equals _ _ refl refl refl refl (m.pending ∙ a.0) refl levels)
