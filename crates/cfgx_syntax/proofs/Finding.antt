@@ -52,8 +52,7 @@ trimmed text utf8 = subst Trimmed utf8.1.1 (trimmed_chars utf8.0 utf8.1.0)
 cases_text : (xs ys : List ℕ) → (xs ≡ ys) ⊎ (xs ≢ ys)
 cases_text xs ys =
     let test = bytes_eq-Decides xs ys in
-    ⊎_elim (λ t. inl (test.0 t)) (λ f. inr (not_from_Decides _ test f))
-    (cases_Bool (bytes_eq xs ys))
+    grind (arith, test, not_from_Decides, cases_Bool)
 
 -- each word spells a token
 word_spells : (word : List ℕ) → IsWord word → (token : Token) × Spells word token

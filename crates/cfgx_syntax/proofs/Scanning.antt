@@ -73,9 +73,7 @@ module _ (text rest : List ℕ) (place : ℕ) (beyond : IsAfter text rest place)
       false_from_ne_true (starts_token first.0) (λ t.
       let same = byte_from_char rest beyond.trimmed.3.0 first.0 first.2 (starts_token-ascii _ t) in
       both_ways _ (rw same at none) t) in
-      let stuck : StartsNoToken rest = search rules in
-      let there = subst StartsNoToken rest_is stuck in
-      search (rules, place_le_start, gap_is_blank)
+      grind (arith, rest_is, place_le_start, gap_is_blank)
 
   -- how the text ends, by why no token begins and how many bytes are at fault
   pub Ending-found : (cause : Cause) (len : ℕ) → 0 < length rest

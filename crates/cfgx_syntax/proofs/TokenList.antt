@@ -104,8 +104,7 @@ Follows-stands text place item [] ending stands come =
     absurd (let wrong = Comes-same text place (inl item) (inr ending) stands come in cc)
 Follows-stands text place item (other ∷ others) ending stands come =
     let both = Comes-same text place (inl other) (inl item) come.0 stands in
-    let same : item ≡ other = cc in
-    rw same (record { rest = others; items_are = refl; come = come.1 })
+    grind arith
 
 -- from a place on, the items and the ending are determined
 pub ItemsFrom-same : (text : List ℕ) (from : ℕ) (items others : List Item) (ending end : Ending)
@@ -117,8 +116,7 @@ ItemsFrom-same text from [] (other ∷ others) ending end here there =
     absurd (let wrong = Comes-same text from (inl other) (inr ending) there.0 here in cc)
 ItemsFrom-same text from (item ∷ items) others ending end here there =
     let first = Follows-stands text from item others end here.0 there in
-    let rest = ItemsFrom-same text item.end items first.rest ending end here.1 first.come in
-    (first.items_are ∙ ap (λ l. item ∷ l) rest.0, rest.1)
+    grind (arith, first, ItemsFrom-same text item.end items first.rest ending end here.1 first.come)
 
 pub no_more_items : (text : List ℕ) (place : ℕ) (items : List Item) (ending end : Ending)
     → EndsAs text place end → ItemsFrom text place items ending → (items ≡ []) × (ending ≡ end)

@@ -72,8 +72,7 @@ BeginsWith-byte [] bytes token byte utf8 some same is low spelled whole value = 
 BeginsWith-byte (first ∷ rest) bytes token byte utf8 some same is low spelled whole value =
     let at : first ≡ byte = rw same at is in
     let cut = IsCharBoundary-after_ascii (first ∷ rest) 0 utf8 some (omega arith) in
-    let here : Spells (first ∷ []) token = rw at spelled in
-    search (rules, IsCut-front)
+    grind (arith, at, IsCut-front)
 
 -- a word spells no value, and so there is no value to cut
 IsValueCut-word : (text word : List ℕ) (token : Token) (start end : ℕ) → IsWord word
@@ -87,12 +86,8 @@ pub BeginsWith-word : (text : List ℕ) (token : Token) → IsUtf8 text
     → BeginsWith text token (prefix_len continues_word text)
 BeginsWith-word text token utf8 starts spelled =
     let n = prefix_len continues_word text in
-    let inside = prefix_len-le-length continues_word text in
-    let cut = IsCharBoundary-after continues_word continues_word-ascii text utf8 in
-    let word = word_front text starts in
-    let whole = IsWhole-word (drop n text) token (EndsWord-after text) in
-    let value = IsValueCut-word text (take n text) token 0 n word.0 spelled in
-    search (rules, IsCut-front)
+    grind (arith, n, prefix_len-le-length, IsCharBoundary-after, continues_word-ascii, word_front,
+    IsWhole-word, EndsWord-after, IsValueCut-word, IsCut-front)
 
 -- no more bytes pass than there are, and the first of a word is one that passes
 pub ruleset lengths = (prefix_len-le-length, word_front, take_rest)

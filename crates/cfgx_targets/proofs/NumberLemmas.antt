@@ -41,8 +41,4 @@ read_below-decimal limit n below small =
     let plain : without_leading_plus (decimal n) ≡ decimal n = without_leading_plus_none (decimal n)
     (not_in_digits digits_model (decimal n) 43 (digits_decimal digits_model n small)
     (λ h. absurd (omega (arith, h))) 0 (decimal_nonempty n small)) in
-    let numeral : is_numeral (decimal n) ≡ true =
-    (Decides-is_numeral (decimal n)).1 (decimal_is_IsNumeral n small).0 in
-    let value = (decimal_is_IsNumeral n small).1 in
-    let fits : nat_lt n limit ≡ true = lt-ltb n limit below in
-    rw (plain, numeral, value, fits)
+    grind (arith, plain, Decides-is_numeral, decimal_is_IsNumeral, lt-ltb)

@@ -94,8 +94,7 @@ IsSorted-tail : {X : Type 0} (R : X → X → Ordering) (x : X) (xs : List X) �
     → IsSorted R xs
 IsSorted-tail R x xs s k d _ lt =
     let next = s (suc k) d (omega arith) (omega arith) in
-    let shift : suc k + 1 ≡ suc (k + 1) = omega arith in
-    rw shift at next
+    grind (arith, next)
 
 pub IsSorted-from : {X : Type 0} (R : X → X → Ordering) (xs : List X) → Rises R xs → IsSorted R xs
 IsSorted-from R [] rises k d _ lt = absurd (omega (arith, lt))

@@ -103,13 +103,7 @@ module _ {A : Type 0} (rows : List (TargetInfo A)) where
     row_with-missing triple place search =
         let key = λ (row : TargetInfo A). row.triple in
         let rising = searchable_from_sorted nat_list_cmp_total key rows triple in_order in
-        let split = search rising in
-        find-none (λ r. bytes_eq r.triple triple) rows (λ k d inside.
-        let row = get_or rows k d in
-        elim (cases_lt k place) [
-          | inl h ↦ has_triple triple row Less (split.0 k d (omega arith) h)
-          | inr h ↦ has_triple triple row Greater (split.1 k d h inside)
-        ])
+        grind (arith, rising, find-none, cases_lt, has_triple)
 
 -- the targets that are built in are in order
 pub builtin_rows-increasing : {A : Type 0} → AreIncreasing (builtin_rows {A = A})
