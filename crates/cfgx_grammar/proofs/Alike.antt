@@ -77,8 +77,9 @@ module _ {T U : Type 0} (R : T → U → Type 0) where
         → AllZip R (asked_by f xs) (asked_by g ys)
     asked_by-alike f g same _ _ AlikeEach.none = tt
     asked_by-alike f g same _ _ (AlikeEach.more x y xs ys first rest) =
-        grind (arith, AllZip-append, AllZip-if, (asked-alike x y first),
-        (asked_by-alike f g same xs ys rest))
+        let here = asked-alike x y first in
+        let others = asked_by-alike f g same xs ys rest in
+        grind (arith, AllZip-append, AllZip-if, here, others)
 
   pub length-asked : (x : Tree T) (y : Tree U) → Alike R x y → length (asked y) ≡ length (asked x)
   length-asked x y alike = AllZip-long R (asked x) (asked y) (asked-alike x y alike)

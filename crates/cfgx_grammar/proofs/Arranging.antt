@@ -3,7 +3,7 @@ use Rattle.std.proofs.Common.{◌≡◌, Bool, ◌++◌, refl, append_assoc, ari
 use Rattle.cfgx_grammar.specs.Question.{Question}
 use Rattle.cfgx_grammar.specs.Tree.{Tree, Trees, is_function, is_leaf, only, followed_by, arranged}
 use Rattle.cfgx_grammar.specs.Tree.{asked_by, asked_each}
-use Rattle.cfgx_grammar.specs.Fold.{Operations, value_of, values_by, values_of}
+use Rattle.cfgx_grammar.specs.Fold.{Operations, values_by, values_of}
 
 asked_each-followed_by : (trees others : Trees Question) → asked_each (followed_by trees others) ≡
     asked_each trees ++ asked_each others

@@ -98,9 +98,9 @@ module _ {X T : Type 0} (otherwise : T) where
         let rest = asked_by is_function trees in
         let many = length-append (asked tree) rest in
         let left = length-drop (length (asked tree)) inner in
-        grind (arith, rest, many, left, taken_both,
-        asked_each-taken trees (left_after (asked tree) inner) own (omega (arith, many, left)) some,
-        asked-taken tree inner (omega (arith, many)))
+        let others = asked_each-taken trees (left_after (asked tree) inner) own
+        (omega (arith, many, left)) some in
+        grind (arith, taken_both, asked-taken tree inner (omega (arith, many)), others)
 
   pub asked-answered : (tree : Tree X) (answers : List T)
       → length answers ≡ length (asked tree) → asked (answered otherwise tree answers) ≡ answers

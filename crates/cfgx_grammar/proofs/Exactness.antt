@@ -1,10 +1,8 @@
 -- Three values are exact: a value is known exactly if every filling leads to it.
-use Rattle.std.proofs.lemmas.Grind.{common_steps}
-use Rattle.std.proofs.Common.{◌≡◌, Bool, true, false, not, ◌&&◌, ◌||◌, List, [], ◌∷◌, arith}
+use Rattle.std.proofs.Common.{◌≡◌, Bool, true, false, not, List, [], ◌∷◌, arith}
 use Rattle.std.proofs.Common.{length, Option, Some, refl, ap, ◌∙◌, map, unwrap_or}
 use Rattle.std.proofs.lemmas.List.{map-append}
 use Rattle.std.specs.List.{AllZip}
-use Rattle.cfgx_syntax.specs.Logic.{kleene_and, kleene_or}
 use Rattle.cfgx_grammar.specs.Tree.{ListFunction, Tree, Trees, is_function, is_leaf, asked}
 use Rattle.cfgx_grammar.specs.Fold.{Operations, from_last, list_value, value_of, values_by}
 use Rattle.cfgx_grammar.specs.Fold.{answered, fold}
@@ -34,7 +32,7 @@ module _ {T U : Type 0} (one : Operations T) (other : Operations U) (R : T → U
       → R (from_last join begin xs) (from_last other_join begun ys)
   from_last_kept join other_join begin begun base each [] [] all = base
   from_last_kept join other_join begin begun base each (x ∷ xs) (y ∷ ys) all =
-      grind (arith, (from_last_kept join other_join begin begun base each xs ys all.1))
+      grind (arith, from_last_kept join other_join begin begun base each xs ys all.1)
   from_last_kept join other_join begin begun base each _ _ all = absurd all
 
   list_kept : (function : ListFunction) (xs : List T) (ys : List U) → AllZip R xs ys
@@ -58,7 +56,7 @@ module _ {T U : Type 0} (one : Operations T) (other : Operations U) (R : T → U
         → AllZip R (values_by one f xs) (values_by other g ys)
     values_kept f g same _ _ AlikeEach.none = tt
     values_kept f g same _ _ (AlikeEach.more x y xs ys first rest) =
-        grind (arith, AllZip-if, (value_kept x y first), (values_kept f g same xs ys rest))
+        grind (arith, AllZip-if, value_kept x y first, values_kept f g same xs ys rest)
 
   -- and so do answers that are related
   pub fold_kept : {X : Type 0} (tree : Tree X) (xs : List T) (ys : List U) → AllZip R xs ys
@@ -110,7 +108,7 @@ mutual
       (filled_each fill trees) ≡ map (side fill) (values_by three_valued f trees)
   values-filled f g same fill Trees.none = refl
   values-filled f g same fill (Trees.more tree trees) =
-      grind (arith, (values-filled f g same fill trees), (value-filled fill tree))
+      grind (arith, values-filled f g same fill trees, value-filled fill tree)
 
 -- A filling is like the answers in what it keeps of each.
 module _ {X : Type 0} (R : X → Option Bool → Type 0) (S : X → Bool → Type 0)

@@ -7,7 +7,7 @@ use Rattle.std.proofs.Common.{◌∙◌, arith, rules, ◌+◌, append_assoc, le
 use Rattle.std.proofs.Common.{drop_of_length-le, ◌⊎◌, inl, ⊎_elim, slice_range, if◌then◌else◌}
 use Rattle.std.proofs.Common.{codes, decimal, bytes_eq, append-nil}
 use Rattle.std.specs.List.{AllByRecursion, starts_with}
-use Rattle.cfgx_syntax.specs.Token.{Token, IsKey, HasNoQuote, Spells, IsWord, is_quote, in_quotes}
+use Rattle.cfgx_syntax.specs.Token.{Token, IsKey, HasNoQuote, Spells, IsWord, in_quotes}
 use Rattle.cfgx_syntax.specs.Token.{IsWhole}
 use Rattle.cfgx_syntax.specs.Items.{Item, Ending, ItemsFrom, IsBlank, Stands, AreItems}
 use Rattle.cfgx_grammar.specs.Question.{Question, Leaf, TargetQuestion}
@@ -21,7 +21,6 @@ use Rattle.cfgx_targets.specs.Endian.{endian_text, endian_named}
 use Rattle.cfgx_targets.specs.HasAtomic.{IsWidth, atomic_text, atomic_named}
 use Rattle.cfgx_targets.specs.Number.{read_below}
 use Rattle.cfgx_targets.specs.declared.atomic.HasAtomic.{HasAtomic}
-use Rattle.cfgx_targets.specs.declared.atomic.HasAtomic.TheVariants.{IntegerSize, Pointer}
 use Rattle.cfgx_targets.proofs.AtomicLemmas.{endian_named-text, atomic_named-text}
 use Rattle.cfgx_targets.proofs.NumberLemmas.{read_below-decimal}
 use Rattle.cfgx_grammar.specs.Classification.{predicate, Class, class, bare, valued, if_read}
@@ -115,7 +114,7 @@ pub record IsSpelt (question : Question) : Type 0 where
 -- digits have no quote
 no_quote_digits : (digits : List ℕ) → AllDigits 10 digits → HasNoQuote digits
 no_quote_digits [] all = refl
-no_quote_digits (byte ∷ bytes) all = grind (arith, (no_quote_digits bytes all.1))
+no_quote_digits (byte ∷ bytes) all = grind (arith, no_quote_digits bytes all.1)
 
 no_quote_decimal : (n : ℕ) → n < 2 ^ 64 → HasNoQuote (decimal n)
 no_quote_decimal n small = no_quote_digits (decimal n) (decimal_is_IsNumeral n small).0.1

@@ -110,7 +110,7 @@ module _ {W M L : Type 0} {builder : Builder W M L} where
   grown_top : (n : ℕ) (s : State builder) (top : Open M) (rest : List (Open M))
       → grown n (record s { stack = top ∷ rest }) ≡ record s { stack = more n top ∷ rest }
   grown_top zero s top rest = rw add-zero refl
-  grown_top (suc n) s top rest = grind (arith, (grown_top n s (one_more top) rest))
+  grown_top (suc n) s top rest = grind (arith, grown_top n s (one_more top) rest)
 
   -- the state in front of a function's members
   abbrev pub inside : State builder → Function → Item → Item → State builder

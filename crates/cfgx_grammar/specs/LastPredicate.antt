@@ -1,7 +1,7 @@
 -- The predicate with which some tokens end.
 -- Source: the Rust Reference's conditional compilation, where a predicate is a key, or a key, `=`
 -- and a value in quotes.
-use Rattle.std.specs.Prelude.{ℕ, ◌+◌, ◌-◌, List, [], ◌∷◌, Option, Some, None, option_map, unwrap_or}
+use Rattle.std.specs.Prelude.{ℕ, ◌+◌, ◌-◌, List, ◌∷◌, Option, Some, None, option_map, unwrap_or}
 use Rattle.std.specs.Prelude.{map}
 use Rattle.cfgx_syntax.specs.Token.{Token}
 use Rattle.cfgx_syntax.specs.Items.{Item}

@@ -1,7 +1,6 @@
 -- Equality of reasons and of faults is that of variants, numbers and texts..
 use Rattle.std.proofs.Common.{arith}
 use Rattle.std.proofs.Common.{◌≡◌, ℕ, Bool, false, List, [], ◌∷◌, ◌&&◌, Bor, map, nat_eq}
-use Rattle.std.proofs.Common.{refl, ap}
 use Rattle.std.proofs.lemmas.Bool.{eqb-false}
 use Rattle.std.proofs.lemmas.Bool.Decides.{Decides-eqb, Decides-and, Decides-like}
 use Rattle.std.proofs.lemmas.Slice.Eq.{bytes_eq-Decides}
@@ -25,7 +24,7 @@ same_terms xs ys = pointwise (λ x y. pointwise nat_eq x.now y.now) xs ys
 terms_eq-Decides : (xs ys : List (Bor (List ℕ)))
     → Decides (same_terms xs ys) (map (λ t. t.now) xs ≡ map (λ t. t.now) ys)
 terms_eq-Decides (x ∷ xs) (y ∷ ys) =
-    grind (arith, Decides-like, Decides-and, bytes_eq-Decides, (terms_eq-Decides xs ys))
+    grind (arith, Decides-like, Decides-and, bytes_eq-Decides, terms_eq-Decides xs ys)
 terms_eq-Decides xs [] = (λ e. cc, λ e. cc)
 terms_eq-Decides xs ys = (λ e. cc, λ e. cc)
 

@@ -5,7 +5,7 @@ use Rattle.std.proofs.Common.{inl, inr, arith, ⊎_elim, lit<, append-nil, lengt
 use Rattle.std.specs.Prelude.{codes, encode_utf8}
 use Rattle.std.specs.Char.{is_not_whitespace}
 use Rattle.std.specs.List.{AllByRecursion, position_or_len, before_first, after_first, prefix_len}
-use Rattle.std.specs.Str.{IsUtf8, IsTrimStart, bytes_eq, encode_utf8_all, all_scalars}
+use Rattle.std.specs.Str.{IsUtf8, IsTrimStart, encode_utf8_all, all_scalars}
 use Rattle.std.proofs.lemmas.List.{drop-drop, get_or-take, take_all}
 use Rattle.std.proofs.lemmas.List.Sums.{split_at_first, passes_at_first, fails_before_first}
 use Rattle.std.proofs.lemmas.Str.{IsUtf8-nil, IsUtf8-drop}

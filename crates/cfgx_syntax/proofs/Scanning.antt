@@ -11,9 +11,9 @@ use Rattle.std.proofs.lemmas.Bool.Decides.{nat_tests}
 use Rattle.std.proofs.lemmas.Grind.{common_steps}
 use Rattle.cfgx_syntax.specs.Cut.{CanBeCut}
 use Rattle.cfgx_syntax.specs.Items.{EndsAs, lexical, IsBlank, Stands, IsStuck, IsUnclosed}
-use Rattle.cfgx_syntax.specs.Items.{OpensNoValue, StartsNoToken, starts_token, Ending}
+use Rattle.cfgx_syntax.specs.Items.{OpensNoValue, starts_token, Ending}
 use Rattle.cfgx_syntax.specs.Error.{Cause}
-use Rattle.cfgx_syntax.specs.Token.{Token, Spells, IsWhole}
+use Rattle.cfgx_syntax.specs.Token.{Token}
 use Rattle.cfgx_syntax.specs.Lexer.{BeginsWith, BeginsNone, BeginsUnclosed}
 use Rattle.cfgx_syntax.specs.LexerState.{LexerState}
 use Rattle.cfgx_syntax.proofs.Cutting.{CanBeCut-from_rest}
@@ -29,7 +29,7 @@ pub record IsAfter (text rest : List ℕ) (place : ℕ) : Type 0 where
 
 pub IsAfter-trimmed : (text inner rest : List ℕ) → inner ≡ drop (length text - length inner) text
     → IsTrimStart inner rest → IsAfter text rest (length text - length inner)
-IsAfter-trimmed text inner rest follows trimmed = grind (arith, trimmed)
+IsAfter-trimmed text inner rest follows trimmed = grind arith
 
 module _ (text rest : List ℕ) (place : ℕ) (beyond : IsAfter text rest place) where
   -- where the rest starts

@@ -1,6 +1,5 @@
 -- A text has no more items than bytes.
-use Rattle.std.proofs.Common.{ℕ, ◌+◌, ◌-◌, ◌≤◌, List, [], ◌∷◌, drop, length, arith}
-use Rattle.std.specs.Prelude.{slice_range}
+use Rattle.std.proofs.Common.{ℕ, ◌+◌, ◌-◌, ◌≤◌, List, [], ◌∷◌, length, arith}
 use Rattle.std.proofs.lemmas.List.{length-take}
 use Rattle.cfgx_syntax.specs.Items.{Item, Ending, ItemsFrom}
 use Rattle.cfgx_syntax.proofs.Fronts.{Spells-some}
@@ -10,5 +9,5 @@ pub items-bytes : (text : List ℕ) (from : ℕ) (items : List Item) (ending : E
     → from + length items ≤ length text
 items-bytes text from [] ending inside are = omega arith
 items-bytes text from (item ∷ items) ending inside are =
-    grind (arith, Spells-some, length-take,
-    (items-bytes text item.end items ending are.0.inside are.1))
+    let others = items-bytes text item.end items ending are.0.inside are.1 in
+    grind (arith, Spells-some, length-take, others)

@@ -1,6 +1,6 @@
 -- A text has one token list.
 use Rattle.std.proofs.Common.{rules, ◌≡◌, ℕ, ◌+◌, ◌-◌, ◌≤◌, true, List, [], length, get_or, ◌∷◌}
-use Rattle.std.proofs.Common.{◌++◌, take, drop, sym, refl, ap, ◌∙◌, arith, cond, ltb, ◌⊎◌, inl, inr}
+use Rattle.std.proofs.Common.{◌++◌, take, drop, sym, refl, ◌∙◌, arith, cond, ltb, ◌⊎◌, inl, inr}
 use Rattle.std.proofs.Common.{length-drop}
 use Rattle.std.specs.Prelude.{encode_utf8, slice_range}
 use Rattle.std.specs.Char.{is_not_whitespace}

@@ -86,8 +86,9 @@ pub BeginsWith-word : (text : List ℕ) (token : Token) → IsUtf8 text
     → BeginsWith text token (prefix_len continues_word text)
 BeginsWith-word text token utf8 starts spelled =
     let n = prefix_len continues_word text in
-    grind (arith, n, prefix_len-le-length, IsCharBoundary-after, continues_word-ascii, word_front,
-    IsWhole-word, EndsWord-after, IsValueCut-word, IsCut-front)
+    let cut = IsCharBoundary-after continues_word continues_word-ascii text utf8 in
+    let whole = IsWhole-word (drop n text) token (EndsWord-after text) in
+    grind (arith, cut, whole, prefix_len-le-length, word_front, IsValueCut-word, IsCut-front)
 
 -- no more bytes pass than there are, and the first of a word is one that passes
 pub ruleset lengths = (prefix_len-le-length, word_front, take_rest)

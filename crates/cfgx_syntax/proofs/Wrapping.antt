@@ -1,8 +1,8 @@
 -- What `strip` keeps, by what stands around it.
-use Rattle.std.proofs.Common.{◌≡◌, ◌≢◌, ℕ, ◌-◌, ◌≤◌, false, List, [], ◌∷◌, ◌++◌, length, drop}
+use Rattle.std.proofs.Common.{◌≡◌, ◌≢◌, ℕ, ◌-◌, false, List, ◌++◌, length, drop}
 use Rattle.std.proofs.Common.{nat_eq, sym, refl, ap, ◌∙◌, arith, length-append}
 use Rattle.std.specs.Prelude.{codes}
-use Rattle.std.specs.List.{starts_with, ends_with}
+use Rattle.std.specs.List.{ends_with}
 use Rattle.std.proofs.lemmas.List.{drop-append-le, same_from_push, take_at}
 use Rattle.std.proofs.lemmas.Bool.{false_from_ne_true}
 use Rattle.std.proofs.lemmas.Bool.Decides.{Decides-eqb}

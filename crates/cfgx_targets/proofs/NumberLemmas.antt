@@ -1,7 +1,7 @@
 -- That the numbers which Rust's `parse` reads are those of `read_below`.
 use Rattle.std.proofs.lemmas.Grind.{common_steps}
-use Rattle.std.proofs.Common.{◌≡◌, ℕ, ◌^◌, ◌<◌, Bool, true, List, [], ◌∷◌, arith}
-use Rattle.std.specs.Prelude.{Some, None, Result, nat_lt, cond}
+use Rattle.std.proofs.Common.{◌≡◌, ℕ, ◌^◌, ◌<◌, Bool, true, List, arith}
+use Rattle.std.specs.Prelude.{Some, None, Result, cond}
 use Rattle.std.specs.Bool.{Decides}
 use Rattle.std.specs.Result.{OkIff, result_ok}
 use Rattle.std.specs.Fmt.{decimal}

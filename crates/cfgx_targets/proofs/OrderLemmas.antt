@@ -101,7 +101,7 @@ IsSorted-from R [] rises k d _ lt = absurd (omega (arith, lt))
 IsSorted-from R (x ∷ []) rises k d _ lt = absurd (omega (arith, lt))
 IsSorted-from R (x ∷ y ∷ ys) rises zero d _ lt = rises.0
 IsSorted-from R (x ∷ y ∷ ys) rises (suc k) d _ lt =
-    grind (arith, (IsSorted-from R (y ∷ ys) rises.1 k d (omega arith) (omega (arith, lt))))
+    grind (arith, IsSorted-from R (y ∷ ys) rises.1 k d (omega arith) (omega (arith, lt)))
 
 Rises-from : {X : Type 0} (R : X → X → Ordering) (xs : List X) → IsSorted R xs → Rises R xs
 Rises-from R [] s = tt

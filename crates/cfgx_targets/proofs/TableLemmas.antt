@@ -5,7 +5,7 @@ use Rattle.std.proofs.Common.{◌<◌, Bool, true, false, List, [], ◌∷◌, l
 use Rattle.std.proofs.Common.{add-one, nat_cmp}
 use Rattle.std.specs.Prelude.{Some, None, Ok, Err}
 use Rattle.std.specs.declared.cmp.Ordering.{Ordering}
-use Rattle.std.specs.declared.cmp.Ordering.TheVariants.{Less, Equal, Greater}
+use Rattle.std.specs.declared.cmp.Ordering.TheVariants.{Less, Equal}
 use Rattle.std.specs.Cmp.Lexicographic.{nat_list_cmp_total, slice_cmp, texts_ties}
 use Rattle.std.specs.List.{AllAdjacentBelow, find}
 use Rattle.std.specs.List.Sorted.{IsBinarySearchResult, IsSortedBy}

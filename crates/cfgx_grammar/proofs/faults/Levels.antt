@@ -172,9 +172,12 @@ module _ (front : List Item) (item : Item) where
       → members_at more level from ≡ members_at front level from)
       → Levels front roots false stack going → Levels more roots false stack going
   Levels-same roots going [] deep same levels = same 0 0 (omega arith) ∙ levels
-  Levels-same roots going (top ∷ rest) deep same (l, levels) =
-      grind (arith, IsLevel-more, (Levels-same roots 1 rest (omega (arith,
-      deep)) (λ level from le. same level from (omega (arith, le))) levels))
+  Levels-same roots going (top ∷ rest) deep same (l, levels) = (
+    IsLevel-more (length rest) going going top (omega (arith, deep))
+        (λ place lt counted. same (length rest + 1) (place + 1) (omega arith) ∙ counted) l,
+    Levels-same roots 1 rest (omega (arith, deep))
+        (λ level from le. same level from (omega (arith, le))) levels,
+  )
 
   -- the token begins a member of the innermost list
   pub Levels-member : {M : Type 0} (roots : ℕ) (stack : List (Open M)) → length stack ≤ depth more

@@ -322,8 +322,8 @@ module _ {W M L : Type 0} {builder : Builder W M L} (front : List Item) (s : Sta
         let levels = rw (says Kind.value (reverse front) may) at m.levels in
         let pending = ap (option_map (with_value (word_of text (start + 1) (end - 1)))) m.pending
         ∙ value_says text start end (reverse front) may in
-        (refl, stays (Token.value text) _ (going s.pending) refl refl refl refl pending
-        (grind arith) levels)
+        let left = stays (Token.value text) _ (going s.pending) refl refl refl refl pending
+        (grind arith) levels in (refl, left)
     token_step Token.equals may = let a = says Kind.equals (reverse front) may in
         let levels = rw a.1 at m.levels in
         (refl, stays Token.equals _ _ refl refl refl refl (m.pending ∙ a.0) refl levels)
@@ -377,8 +377,8 @@ first_is : (items all front : List Item) → all ≡ front ++ items
     ≡ option_or (first_below (fault_at all) (length front)) (first_after front items)
 first_is [] all front is = rw (ap length (is ∙ append-nil front)) (grind arith)
 first_is (item ∷ items) all front is =
-    grind (arith, take-append_seam, slice_get_next, append_assoc, length_more,
-    (first_is items all _ (is ∙ sym (append_assoc front (item ∷ []) items))))
+    let rest = first_is items all _ (is ∙ sym (append_assoc front (item ∷ []) items)) in
+    grind (arith, take-append_seam, slice_get_next, append_assoc, length_more, rest)
 
 scan : {W M L : Type 0} {builder : Builder W M L} (items front : List Item) (s : State builder)
     → Matches front s
