@@ -1,12 +1,10 @@
 -- What the parser answers for the one token list of a text, the grammar answers for the text.
-use Rattle.std.proofs.Common.{arith, ◌≡◌, ℕ, List, [], ◌∷◌, length, Some, Result, Ok, Err}
-use Rattle.std.proofs.Common.{sym, refl, ap, ◌∙◌, subst}
+use Rattle.std.proofs.Common.{arith, ◌≡◌, ℕ, List, [], ◌∷◌, length, Some, Result, Ok, Err, sym}
+use Rattle.std.proofs.Common.{refl, ap, ◌∙◌, subst}
 use Rattle.cfgx_syntax.specs.Items.{Item, Ending, AreItems, HasOneTokenList, lexical}
 use Rattle.cfgx_syntax.specs.Error.{Refusal}
 use Rattle.cfgx_syntax.proofs.TokenList.{ItemsFrom-same}
-use Rattle.cfgx_grammar.specs.Question.{Question}
-use Rattle.cfgx_grammar.specs.Tree.{Tree}
-use Rattle.cfgx_grammar.specs.Grammar.{IsTree, HasTree}
+use Rattle.cfgx_grammar.specs.{Question.Question, Tree.Tree, Grammar.IsTree, Grammar.HasTree}
 use Rattle.cfgx_grammar.specs.Answer.{HasOneTree, HasReading, Reading, ReadsAs}
 use Rattle.cfgx_grammar.specs.parsing.State.{Builder, State, initial}
 use Rattle.cfgx_grammar.specs.parsing.Step.{and_then, step_each, conclude, ended_as, answer_from}

@@ -5,9 +5,7 @@ use Rattle.std.proofs.lemmas.Bool.Decides.{Decides-eqb}
 use Rattle.cfgx_syntax.specs.Kleene.{Planes, IsApart, lane}
 use Rattle.cfgx_syntax.proofs.Lanes.{AreApart-and, AreApart-or, AreApart-not, EachLane-and}
 use Rattle.cfgx_syntax.proofs.Lanes.{EachLane-or, EachLane-not, EachLane-top, EachLane-bottom}
-use Rattle.cfgx_grammar.specs.Tree.{Tree}
-use Rattle.cfgx_grammar.specs.Fold.{Operations, fold}
-use Rattle.cfgx_grammar.specs.Filling.{three_valued}
+use Rattle.cfgx_grammar.specs.{Tree.Tree, Fold.Operations, Fold.fold, Filling.three_valued}
 use Rattle.cfgx_grammar.specs.Mapping.{IsMap, IsByLane, Passes, is_apart, lane_valued}
 use Rattle.cfgx_grammar.proofs.Exactness.{Preserve, fold_kept}
 

@@ -1,7 +1,6 @@
 -- That the tests by which a target is matched decide whether values are the same.
 use Rattle.std.proofs.Common.{arith, ◌≡◌, Decides}
-use Rattle.std.proofs.lemmas.Bool.Decides.{nat_tests}
-use Rattle.std.proofs.lemmas.Grind.{common_steps}
+use Rattle.std.proofs.{lemmas.Bool.Decides.nat_tests, lemmas.Grind.common_steps}
 use Rattle.cfgx_targets.specs.declared.atomic.HasAtomic.{HasAtomic}
 use Rattle.cfgx_grammar.specs.Matching.{is_same_width}
 

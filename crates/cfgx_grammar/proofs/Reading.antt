@@ -1,6 +1,5 @@
 -- What the rest of a text answers, the whole answers: one token after another.
-use Rattle.std.proofs.Common.{arith}
-use Rattle.std.proofs.Common.{◌≡◌, ℕ, List, Result, Ok, Err}
+use Rattle.std.proofs.Common.{arith, ◌≡◌, ℕ, List, Result, Ok, Err}
 use Rattle.cfgx_syntax.specs.Error.{Refusal}
 use Rattle.cfgx_syntax.specs.Items.{Item, Ending, Stands, EndsAs, ItemsFrom, lexical}
 use Rattle.cfgx_syntax.proofs.TokenList.{Follows-stands, no_more_items}

@@ -1,10 +1,10 @@
 -- What the parser accepts is spelled by a tree.
 use Rattle.std.proofs.Common.{◌≡◌, ℕ, suc, ◌+◌, true, List, [], ◌∷◌, ◌++◌, refl, ap, ◌∙◌, arith}
 use Rattle.std.proofs.Common.{subst, add-zero, append_assoc, ◌⊎◌, inl, inr, Option, Some, None}
-use Rattle.std.proofs.Common.{option_map, Result, Ok, sym, false, Bool, map, Err, ◌-◌}
-use Rattle.std.proofs.Common.{append-nil, if◌then◌else◌}
+use Rattle.std.proofs.Common.{option_map, Result, Ok, sym, false, Bool, map, Err, ◌-◌, append-nil}
+use Rattle.std.proofs.Common.{if◌then◌else◌}
 use Rattle.std.proofs.lemmas.Bool.Decides.{Decides-eqb, nat_tests}
-use Rattle.cfgx_syntax.specs.Token.{Token}
+use Rattle.cfgx_syntax.specs.{Token.Token, Items.Item, Error.Refusal}
 use Rattle.cfgx_grammar.specs.Question.{Question, Leaf}
 use Rattle.cfgx_grammar.specs.Tree.{ListFunction, Tree, Trees, count}
 use Rattle.cfgx_grammar.specs.Grammar.{commas, Separates, IsMember, IsList, IsTree, leaf_tokens}
@@ -14,15 +14,11 @@ use Rattle.cfgx_grammar.specs.parsing.State.{initial}
 use Rattle.cfgx_grammar.specs.parsing.Step.{has_room, result_map, leaf_ended, ended_by}
 use Rattle.cfgx_grammar.specs.parsing.Step.{predicate_ended, new_open, and_then, opened}
 use Rattle.cfgx_grammar.specs.parsing.Step.{member_count, function_ended, closed_by, with_last}
-use Rattle.cfgx_grammar.specs.parsing.Step.{apply, step, step_each, one_root}
-use Rattle.cfgx_grammar.specs.parsing.Step.{conclude}
+use Rattle.cfgx_grammar.specs.parsing.Step.{apply, step, step_each, one_root, conclude}
 use Rattle.std.proofs.lemmas.Bool.{false≢true}
-use Rattle.cfgx_grammar.specs.Classification.{Class, class}
-use Rattle.cfgx_grammar.specs.FirstFault.{lacks_value}
+use Rattle.cfgx_grammar.specs.{Classification.Class, Classification.class, FirstFault.lacks_value}
 use Rattle.cfgx_grammar.specs.LastPredicate.{class_of, word_of}
 use Rattle.cfgx_grammar.specs.Neighbours.{Kind, takes, kind_of}
-use Rattle.cfgx_syntax.specs.Items.{Item}
-use Rattle.cfgx_syntax.specs.Error.{Refusal}
 
 -- The tree of a leaf: a predicate or a literal that stands alone.
 abbrev pub leaf_tree : Leaf → Tree Question

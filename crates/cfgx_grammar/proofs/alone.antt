@@ -1,36 +1,29 @@
 -- The predicates that a text asks, and the text of one alone.
-use Rattle.std.proofs.lemmas.Bool.Decides.{nat_tests}
-use Rattle.std.proofs.lemmas.Grind.{common_steps}
-use Rattle.std.proofs.Common.{◌≤◌, ◌≡◌, ℕ, Bool, true, false, List, [], ◌∷◌, ◌++◌, map, Some, None, Ok}
-use Rattle.std.proofs.Common.{subst, ◌<◌, ◌^◌, nat_eq, nat_lt, length, drop, Option, sym, refl, ap}
-use Rattle.std.proofs.Common.{◌∙◌, arith, rules, ◌+◌, append_assoc, length-append, drop_at}
+use Rattle.std.proofs.{lemmas.Bool.Decides.nat_tests, lemmas.Grind.common_steps}
+use Rattle.std.proofs.{lemmas.Fmt.decimal_is_IsNumeral, lemmas.Str.NoCharPasses-nil}
+use Rattle.std.proofs.Common.{◌≤◌, ◌≡◌, ℕ, Bool, true, false, List, [], ◌∷◌, ◌++◌, map, Some, None}
+use Rattle.std.proofs.Common.{Ok, subst, ◌<◌, ◌^◌, nat_eq, nat_lt, length, drop, Option, sym, refl}
+use Rattle.std.proofs.Common.{ap, ◌∙◌, arith, rules, ◌+◌, append_assoc, length-append, drop_at}
 use Rattle.std.proofs.Common.{drop_of_length-le, ◌⊎◌, inl, ⊎_elim, slice_range, if◌then◌else◌}
 use Rattle.std.proofs.Common.{codes, decimal, bytes_eq, append-nil}
-use Rattle.std.specs.List.{AllByRecursion, starts_with}
-use Rattle.cfgx_syntax.specs.Token.{Token, IsKey, HasNoQuote, Spells, IsWord, in_quotes}
-use Rattle.cfgx_syntax.specs.Token.{IsWhole}
+use Rattle.std.specs.{List.AllByRecursion, List.starts_with, Str.Parse.AllDigits}
+use Rattle.cfgx_syntax.specs.Token.{Token, IsKey, HasNoQuote, Spells, IsWord, in_quotes, IsWhole}
 use Rattle.cfgx_syntax.specs.Items.{Item, Ending, ItemsFrom, IsBlank, Stands, AreItems}
 use Rattle.cfgx_grammar.specs.Question.{Question, Leaf, TargetQuestion}
 use Rattle.cfgx_grammar.specs.Tree.{Tree, Trees, is_function, is_leaf, asked, asked_by}
 use Rattle.cfgx_grammar.specs.Grammar.{commas, IsMember, IsList, HasTree, leaf_tokens}
 use Rattle.cfgx_grammar.specs.Regular.{IsRegular, CanBeQuoted, IsAlone}
-use Rattle.std.specs.Str.Parse.{AllDigits}
-use Rattle.std.proofs.lemmas.Fmt.{decimal_is_IsNumeral}
 use Rattle.cfgx_syntax.specs.Error.{Cause, invalid_integer, invalid_has_atomic}
 use Rattle.cfgx_targets.specs.Endian.{endian_text, endian_named}
 use Rattle.cfgx_targets.specs.HasAtomic.{IsWidth, atomic_text, atomic_named}
-use Rattle.cfgx_targets.specs.Number.{read_below}
-use Rattle.cfgx_targets.specs.declared.atomic.HasAtomic.{HasAtomic}
+use Rattle.cfgx_targets.specs.{Number.read_below, declared.atomic.HasAtomic.HasAtomic}
 use Rattle.cfgx_targets.proofs.AtomicLemmas.{endian_named-text, atomic_named-text}
 use Rattle.cfgx_targets.proofs.NumberLemmas.{read_below-decimal}
 use Rattle.cfgx_grammar.specs.Classification.{predicate, Class, class, bare, valued, if_read}
 use Rattle.cfgx_grammar.specs.Classification.{target_feature, Rule, by_name, key_rules}
 use Rattle.cfgx_grammar.specs.Classification.{target_rules, target_class, plain}
 use Rattle.cfgx_grammar.specs.Spelling.{key_and_value, spelling}
-use Rattle.std.proofs.lemmas.Str.{NoCharPasses-nil}
-use Rattle.cfgx_grammar.proofs.Answering.{ReadsAs-has}
-use Rattle.cfgx_grammar.proofs.accepted.{tokens_of}
-use Rattle.cfgx_grammar.proofs.Stripped.{strip-tree}
+use Rattle.cfgx_grammar.proofs.{Answering.ReadsAs-has, accepted.tokens_of, Stripped.strip-tree}
 
 -- What a text asks can stand in a text.
 

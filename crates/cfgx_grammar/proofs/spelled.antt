@@ -2,16 +2,13 @@
 use Rattle.std.proofs.Common.{◌≡◌, ℕ, zero, suc, ◌+◌, ◌-◌, ◌<◌, true, false, List, [], ◌∷◌, ◌++◌}
 use Rattle.std.proofs.Common.{Option, Some, None, Ok, sym, refl, ap, ◌∙◌, arith, add-zero}
 use Rattle.std.proofs.Common.{append_assoc, length, take, drop, append-nil}
-use Rattle.cfgx_syntax.specs.Token.{Token}
-use Rattle.cfgx_syntax.specs.Items.{Item}
-use Rattle.cfgx_grammar.specs.Question.{Leaf, Question}
-use Rattle.cfgx_grammar.specs.Classification.{Class, class}
-use Rattle.cfgx_grammar.specs.FirstFault.{lacks_value}
-use Rattle.cfgx_grammar.specs.LastPredicate.{word_of, class_of}
+use Rattle.cfgx_syntax.specs.{Token.Token, Items.Item}
+use Rattle.cfgx_grammar.specs.{Question.Leaf, Question.Question, Classification.Class}
+use Rattle.cfgx_grammar.specs.{Classification.class, FirstFault.lacks_value, LastPredicate.word_of}
+use Rattle.cfgx_grammar.specs.{LastPredicate.class_of, Neighbours.Kind, Neighbours.takes}
 use Rattle.cfgx_grammar.specs.Tree.{ListFunction, Tree, Trees, count}
 use Rattle.cfgx_grammar.specs.Grammar.{commas, Separates, leaf_tokens, IsCall, IsMember, IsList}
 use Rattle.cfgx_grammar.specs.Grammar.{IsTree}
-use Rattle.cfgx_grammar.specs.Neighbours.{Kind, takes}
 use Rattle.cfgx_grammar.specs.parsing.State.{Function, Pending, Builder, Open, State, name_of}
 use Rattle.cfgx_grammar.specs.parsing.State.{initial}
 use Rattle.cfgx_grammar.specs.parsing.Step.{with_member, one_more, ended_by, predicate_ended}

@@ -1,14 +1,10 @@
 -- What a key and its value say. The tables are those of the crate cfg-expr, for the keys that the
 -- Rust Reference lists under conditional compilation. The Reference's literals come first.
-use Rattle.std.specs.Prelude.{ℕ, true, false, List, [], ◌∷◌, ◌^◌, codes, drop, nat_eq}
-use Rattle.std.specs.Prelude.{Option, Some, None}
-use Rattle.std.specs.Prelude.{if◌then◌else◌}
-use Rattle.std.specs.Str.{bytes_eq}
-use Rattle.std.specs.List.{starts_with}
+use Rattle.std.specs.Prelude.{ℕ, true, false, List, [], ◌∷◌, ◌^◌, codes, drop, nat_eq, Option, Some}
+use Rattle.std.specs.Prelude.{None, if◌then◌else◌}
+use Rattle.std.specs.{Str.bytes_eq, List.starts_with}
 use Rattle.cfgx_syntax.specs.Error.{Cause, unexpected, invalid_integer, invalid_has_atomic}
-use Rattle.cfgx_targets.specs.Endian.{endian_named}
-use Rattle.cfgx_targets.specs.HasAtomic.{atomic_named}
-use Rattle.cfgx_targets.specs.Number.{read_below}
+use Rattle.cfgx_targets.specs.{Endian.endian_named, HasAtomic.atomic_named, Number.read_below}
 use Rattle.cfgx_grammar.specs.Question.{Leaf, Question, TargetQuestion}
 
 -- which part of a predicate is at fault

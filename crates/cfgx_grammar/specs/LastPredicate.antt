@@ -3,8 +3,7 @@
 -- and a value in quotes.
 use Rattle.std.specs.Prelude.{ℕ, ◌+◌, ◌-◌, List, ◌∷◌, Option, Some, None, option_map, unwrap_or}
 use Rattle.std.specs.Prelude.{map}
-use Rattle.cfgx_syntax.specs.Token.{Token}
-use Rattle.cfgx_syntax.specs.Items.{Item}
+use Rattle.cfgx_syntax.specs.{Token.Token, Items.Item}
 use Rattle.cfgx_grammar.specs.Classification.{Class, Part, class}
 
 -- a key, or what stands between the quotes of a value, and its place in the text

@@ -1,8 +1,7 @@
 -- A predicate as it is asked: what it says, and not where its text lies in memory. The variants are
 -- those of `Predicate` and `TargetPredicate` in the crate cfg-expr.
 use Rattle.std.specs.Prelude.{ℕ, Bool, List}
-use Rattle.cfgx_targets.specs.declared.endian.Endian.{Endian}
-use Rattle.cfgx_targets.specs.declared.atomic.HasAtomic.{HasAtomic}
+use Rattle.cfgx_targets.specs.{declared.endian.Endian.Endian, declared.atomic.HasAtomic.HasAtomic}
 
 -- what a predicate asks of a target
 pub data TargetQuestion : Type 0 where

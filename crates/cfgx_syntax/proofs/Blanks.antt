@@ -2,17 +2,14 @@
 use Rattle.std.proofs.Common.{◌≡◌, ℕ, ◌+◌, ◌<◌, true, false, List, [], ◌∷◌, ◌++◌, length, take}
 use Rattle.std.proofs.Common.{drop, get_or, sym, refl, ap, ◌∙◌, subst, arith, add-zero}
 use Rattle.std.proofs.Common.{length-append, length-drop, take-append-drop}
-use Rattle.std.proofs.Math.Numerals.{one-add}
+use Rattle.std.proofs.{Math.Numerals.one-add, lemmas.List.get_or-drop, lemmas.Bool.cond_both}
+use Rattle.std.proofs.{lemmas.Bool.Decides.nat_tests, lemmas.Grind.common_steps}
 use Rattle.std.proofs.Math.Seq.{take-append-add, drop-append-add}
 use Rattle.std.specs.Char.{IsScalar, is_not_whitespace, is_ascii_graphic}
 use Rattle.std.specs.List.{prefix_len}
 use Rattle.std.specs.Str.{IsTrimStart, NoCharPasses, EmptyOrStartsWithPassing}
 use Rattle.std.proofs.lemmas.Str.{NoCharPasses-nil, NoCharPasses-append, encode_ascii}
-use Rattle.std.proofs.lemmas.List.{get_or-drop}
 use Rattle.std.proofs.lemmas.List.Sums.{prefix_len_stops}
-use Rattle.std.proofs.lemmas.Bool.{cond_both}
-use Rattle.std.proofs.lemmas.Bool.Decides.{nat_tests}
-use Rattle.std.proofs.lemmas.Grind.{common_steps}
 use Rattle.cfgx_syntax.specs.Lexer.{is_blank}
 
 pub blank-ascii : (c : ℕ) → is_blank c ≡ true → c < 128

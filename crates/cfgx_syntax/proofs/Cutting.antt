@@ -1,8 +1,7 @@
 -- Where the text of a token can be cut out.
-use Rattle.std.proofs.lemmas.Grind.{common_steps}
-use Rattle.std.proofs.lemmas.Bool.Decides.{nat_tests}
-use Rattle.std.proofs.Common.{rules, ℕ, ◌+◌, ◌-◌, ◌<◌, ◌≤◌, List, length, drop, arith}
-use Rattle.std.proofs.Common.{add-zero, length-drop}
+use Rattle.std.proofs.{lemmas.Grind.common_steps, lemmas.Bool.Decides.nat_tests}
+use Rattle.std.proofs.Common.{rules, ℕ, ◌+◌, ◌-◌, ◌<◌, ◌≤◌, List, length, drop, arith, add-zero}
+use Rattle.std.proofs.Common.{length-drop}
 use Rattle.std.proofs.lemmas.Str.{IsCharBoundary-from_rest}
 use Rattle.cfgx_syntax.specs.Cut.{IsCut, IsValueCut, CanBeCut}
 use Rattle.cfgx_syntax.specs.Token.{Token}

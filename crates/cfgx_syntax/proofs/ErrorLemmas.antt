@@ -1,15 +1,10 @@
 -- Equality of reasons and of faults is that of variants, numbers and texts..
-use Rattle.std.proofs.Common.{arith}
-use Rattle.std.proofs.Common.{◌≡◌, ℕ, Bool, false, List, [], ◌∷◌, ◌&&◌, Bor, map, nat_eq}
-use Rattle.std.proofs.lemmas.Bool.{eqb-false}
+use Rattle.std.proofs.Common.{arith, ◌≡◌, ℕ, Bool, false, List, [], ◌∷◌, ◌&&◌, Bor, map, nat_eq}
+use Rattle.std.proofs.{lemmas.Bool.eqb-false, lemmas.Slice.Eq.bytes_eq-Decides}
 use Rattle.std.proofs.lemmas.Bool.Decides.{Decides-eqb, Decides-and, Decides-like}
-use Rattle.std.proofs.lemmas.Slice.Eq.{bytes_eq-Decides}
 use Rattle.std.specs.Bool.{Decides, ◌==◌}
-use Rattle.std.specs.Cmp.Lexicographic.{pointwise}
-use Rattle.std.specs.Str.{bytes_eq}
-use Rattle.std.specs.String.{string_bytes}
-use Rattle.cfgx_syntax.specs.declared.error.ParseError.{ParseError}
-use Rattle.cfgx_syntax.specs.declared.error.Reason.{Reason}
+use Rattle.std.specs.{Cmp.Lexicographic.pointwise, Str.bytes_eq, String.string_bytes}
+use Rattle.cfgx_syntax.specs.{declared.error.ParseError.ParseError, declared.error.Reason.Reason}
 use Rattle.cfgx_syntax.specs.declared.error.Reason.TheVariants as reason
 use Rattle.cfgx_syntax.specs.contracts.error.ReasonPartialEq.TheImpl as reason_eq
 use Rattle.cfgx_syntax.specs.Error.{Cause, cause_of, fault_of, invalid_not, unexpected}

@@ -2,24 +2,21 @@
 use Rattle.std.proofs.Common.{rules, ◌≡◌, ℕ, suc, zero, ◌+◌, ◌-◌, ◌<◌, ◌≤◌, true, false, List, []}
 use Rattle.std.proofs.Common.{◌∷◌, ◌++◌, length, take, drop, get_or, refl, ap, ◌∙◌, subst, ◌≢◌, ◌⊎◌}
 use Rattle.std.proofs.Common.{inl, inr, arith, ⊎_elim, lit<, append-nil, length-drop, length-take}
-use Rattle.std.specs.Prelude.{codes, encode_utf8}
-use Rattle.std.specs.Char.{is_not_whitespace}
+use Rattle.std.specs.{Prelude.codes, Prelude.encode_utf8, Char.is_not_whitespace}
 use Rattle.std.specs.List.{AllByRecursion, position_or_len, before_first, after_first, prefix_len}
 use Rattle.std.specs.Str.{IsUtf8, IsTrimStart, encode_utf8_all, all_scalars}
 use Rattle.std.proofs.lemmas.List.{drop-drop, get_or-take, take_all}
 use Rattle.std.proofs.lemmas.List.Sums.{split_at_first, passes_at_first, fails_before_first}
 use Rattle.std.proofs.lemmas.Str.{IsUtf8-nil, IsUtf8-drop}
-use Rattle.std.proofs.lemmas.Slice.Eq.{bytes_eq-Decides}
+use Rattle.std.proofs.{lemmas.Slice.Eq.bytes_eq-Decides, lemmas.Grind.common_steps}
 use Rattle.std.proofs.lemmas.Bool.{and_parts, both_ways, cases_Bool, cases_eq, cases_lt}
 use Rattle.std.proofs.lemmas.Bool.Decides.{nat_tests, not_from_Decides}
-use Rattle.std.proofs.lemmas.Grind.{common_steps}
 use Rattle.cfgx_syntax.specs.Items.{Item, Ending, ItemsFrom, IsBlank, HasOneTokenList, starts_token}
 use Rattle.cfgx_syntax.specs.Items.{expects_token}
 use Rattle.cfgx_syntax.specs.Lexer.{BeginsWith, BeginsNone, BeginsUnclosed}
 use Rattle.cfgx_syntax.specs.Token.{Token, starts_word, continues_word, is_quote, IsWord, Spells}
 use Rattle.cfgx_syntax.specs.Token.{HasNoQuote, IsWhole}
-use Rattle.cfgx_syntax.specs.Error.{Cause}
-use Rattle.cfgx_syntax.specs.Cut.{IsValueCut, CanBeCut}
+use Rattle.cfgx_syntax.specs.{Error.Cause, Cut.IsValueCut, Cut.CanBeCut}
 use Rattle.cfgx_syntax.proofs.Blanks.{IsTrimStart-here, IsTrimStart-past}
 use Rattle.cfgx_syntax.proofs.Scanning.{IsAfter, Stands-found, Ending-found, rest_is}
 use Rattle.cfgx_syntax.proofs.Scanning.{CanBeCut-found}

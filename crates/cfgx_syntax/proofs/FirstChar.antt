@@ -1,12 +1,10 @@
 -- White space in front of a character that is none ends at one place.
 use Rattle.std.proofs.Common.{◌≡◌, ℕ, ◌<◌, ◌≤◌, true, List, [], ◌∷◌, ◌++◌, length, drop, sym, ap}
 use Rattle.std.proofs.Common.{◌∙◌, arith, length-append, append_assoc, length-drop}
-use Rattle.std.specs.Prelude.{encode_utf8, slice_range}
-use Rattle.std.specs.Char.{is_not_whitespace}
+use Rattle.std.specs.{Prelude.encode_utf8, Prelude.slice_range, Char.is_not_whitespace}
 use Rattle.std.specs.Str.{NonePass, encode_utf8_all}
-use Rattle.std.proofs.lemmas.List.Folds.{drop_split}
+use Rattle.std.proofs.{lemmas.List.Folds.drop_split, lemmas.Bool.both_ways}
 use Rattle.std.proofs.lemmas.Str.{cons_from_encodes, encode_same, length-encode, len_utf8_bounds}
-use Rattle.std.proofs.lemmas.Bool.{both_ways}
 use Rattle.cfgx_syntax.specs.Items.{IsBlank}
 
 -- white space alone lies between `from` and the place, and a character that is none stands there

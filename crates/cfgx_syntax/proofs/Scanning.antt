@@ -2,20 +2,15 @@
 use Rattle.std.proofs.Common.{Some, ◌∙◌, rules, ◌≡◌, ℕ, ◌+◌, ◌-◌, ◌<◌, ◌≤◌, min, true, false, List}
 use Rattle.std.proofs.Common.{length, inl, inr, ◌⊎◌, refl, drop, get_or, ap, subst, arith}
 use Rattle.std.proofs.Common.{length-drop}
-use Rattle.std.specs.Prelude.{slice_range}
-use Rattle.std.specs.Str.{IsTrimStart}
+use Rattle.std.specs.{Prelude.slice_range, Str.IsTrimStart}
 use Rattle.std.proofs.lemmas.List.{take_min, drop_min, drop-drop}
 use Rattle.std.proofs.lemmas.Str.{byte_from_char}
 use Rattle.std.proofs.lemmas.Bool.{both_ways, false_from_ne_true}
-use Rattle.std.proofs.lemmas.Bool.Decides.{nat_tests}
-use Rattle.std.proofs.lemmas.Grind.{common_steps}
-use Rattle.cfgx_syntax.specs.Cut.{CanBeCut}
+use Rattle.std.proofs.{lemmas.Bool.Decides.nat_tests, lemmas.Grind.common_steps}
+use Rattle.cfgx_syntax.specs.{Cut.CanBeCut, Error.Cause, Token.Token, LexerState.LexerState}
 use Rattle.cfgx_syntax.specs.Items.{EndsAs, lexical, IsBlank, Stands, IsStuck, IsUnclosed}
 use Rattle.cfgx_syntax.specs.Items.{OpensNoValue, starts_token, Ending}
-use Rattle.cfgx_syntax.specs.Error.{Cause}
-use Rattle.cfgx_syntax.specs.Token.{Token}
 use Rattle.cfgx_syntax.specs.Lexer.{BeginsWith, BeginsNone, BeginsUnclosed}
-use Rattle.cfgx_syntax.specs.LexerState.{LexerState}
 use Rattle.cfgx_syntax.proofs.Cutting.{CanBeCut-from_rest}
 
 -- what begins a token is ASCII

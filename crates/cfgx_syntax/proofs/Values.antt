@@ -2,12 +2,10 @@
 use Rattle.std.proofs.Common.{rules, ◌≡◌, ℕ, suc, ◌+◌, ◌-◌, ◌<◌, ◌≤◌, ◌≢◌, false, List, [], ◌∷◌}
 use Rattle.std.proofs.Common.{◌++◌, length, take, drop, get_or, sym, refl, ap, ◌∙◌, arith}
 use Rattle.std.proofs.Common.{length-append, append_assoc, length-take, length-drop}
-use Rattle.std.specs.Prelude.{codes, slice_range}
-use Rattle.std.specs.Str.{IsUtf8}
+use Rattle.std.specs.{Prelude.codes, Prelude.slice_range, Str.IsUtf8}
 use Rattle.std.proofs.lemmas.List.{take_at, get_or_at, take-take, drop-take, drop-drop}
 use Rattle.std.proofs.lemmas.Str.{IsCharBoundary-after_ascii, IsCharBoundary-before_ascii}
-use Rattle.std.proofs.lemmas.Bool.Decides.{nat_tests}
-use Rattle.std.proofs.lemmas.Grind.{common_steps}
+use Rattle.std.proofs.{lemmas.Bool.Decides.nat_tests, lemmas.Grind.common_steps}
 use Rattle.cfgx_syntax.specs.Token.{Token, is_quote, HasNoQuote, in_quotes}
 use Rattle.cfgx_syntax.specs.Lexer.{BeginsWith}
 use Rattle.cfgx_syntax.proofs.Words.{IsCut-front}

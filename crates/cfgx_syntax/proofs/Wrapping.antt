@@ -1,11 +1,9 @@
 -- What `strip` keeps, by what stands around it.
-use Rattle.std.proofs.Common.{◌≡◌, ◌≢◌, ℕ, ◌-◌, false, List, ◌++◌, length, drop}
-use Rattle.std.proofs.Common.{nat_eq, sym, refl, ap, ◌∙◌, arith, length-append}
-use Rattle.std.specs.Prelude.{codes}
-use Rattle.std.specs.List.{ends_with}
+use Rattle.std.proofs.Common.{◌≡◌, ◌≢◌, ℕ, ◌-◌, false, List, ◌++◌, length, drop, nat_eq, sym, refl}
+use Rattle.std.proofs.Common.{ap, ◌∙◌, arith, length-append}
+use Rattle.std.specs.{Prelude.codes, List.ends_with}
 use Rattle.std.proofs.lemmas.List.{drop-append-le, same_from_push, take_at}
-use Rattle.std.proofs.lemmas.Bool.{false_from_ne_true}
-use Rattle.std.proofs.lemmas.Bool.Decides.{Decides-eqb}
+use Rattle.std.proofs.{lemmas.Bool.false_from_ne_true, lemmas.Bool.Decides.Decides-eqb}
 use Rattle.std.proofs.lemmas.Slice.Eq.{starts_is, ends_is}
 use Rattle.cfgx_syntax.specs.Stripping.{strip}
 

@@ -4,8 +4,7 @@
 use Rattle.std.specs.Prelude.{◌≡◌, ℕ, ◌+◌, ◌≤◌, ◌||◌, Bool, true, false, List, [], ◌∷◌, ◌++◌}
 use Rattle.std.specs.Prelude.{Option, Some, None, codes, drop, encode_utf8, length, slice_range}
 use Rattle.std.specs.Char.{IsScalar, is_not_whitespace, char_set_contains}
-use Rattle.std.specs.Str.{NoCharPasses}
-use Rattle.std.specs.List.{AllByRecursion}
+use Rattle.std.specs.{Str.NoCharPasses, List.AllByRecursion}
 use Rattle.cfgx_syntax.specs.Cut.{CanBeCut}
 use Rattle.cfgx_syntax.specs.Error.{Cause, Refusal, unexpected}
 use Rattle.cfgx_syntax.specs.Token.{Token, starts_word, Spells, IsWhole, HasNoQuote}

@@ -1,17 +1,14 @@
 -- That the numbers which Rust's `parse` reads are those of `read_below`.
-use Rattle.std.proofs.lemmas.Grind.{common_steps}
+use Rattle.std.proofs.{lemmas.Grind.common_steps, lemmas.Bool.lt-ltb}
 use Rattle.std.proofs.Common.{◌≡◌, ℕ, ◌^◌, ◌<◌, Bool, true, List, arith}
 use Rattle.std.specs.Prelude.{Some, None, Result, cond}
-use Rattle.std.specs.Bool.{Decides}
-use Rattle.std.specs.Result.{OkIff, result_ok}
-use Rattle.std.specs.Fmt.{decimal}
+use Rattle.std.specs.{Bool.Decides, Result.OkIff, Result.result_ok, Fmt.decimal}
 use Rattle.std.specs.Str.{all_ascii_digits}
 use Rattle.std.specs.Str.Parse.{IsNumeral, ParsesUnsigned, digits_value, without_leading_plus}
 use Rattle.std.proofs.lemmas.Bool.Decides.{Decides-and, Decides-ltb}
 use Rattle.std.proofs.lemmas.Str.Parse.{IsNumeralModel, numerals_by_value, tells_all_ascii_digits}
 use Rattle.std.proofs.lemmas.Str.Parse.{not_in_digits, without_leading_plus_none}
 use Rattle.std.proofs.lemmas.Fmt.{decimal_is_IsNumeral, decimal_nonempty, digits_decimal}
-use Rattle.std.proofs.lemmas.Bool.{lt-ltb}
 use Rattle.cfgx_targets.specs.Number.{is_numeral, read_below}
 
 -- std's numerals are ASCII digits

@@ -1,9 +1,7 @@
 -- That targets are the same exactly if their fields are.
 use Rattle.std.proofs.Common.{arith, ◌≡◌, Bool, ◌&&◌}
 use Rattle.std.proofs.lemmas.Grind.{common_steps}
-use Rattle.std.specs.Prelude.{Option}
-use Rattle.std.specs.Bool.{Decides}
-use Rattle.std.specs.Option.{option_eq}
+use Rattle.std.specs.{Prelude.Option, Bool.Decides, Option.option_eq}
 use Rattle.cfgx_targets.specs.declared.info.TargetInfo.{TargetInfo}
 
 -- values that may be missing, if the test of two values decides whether they are the same

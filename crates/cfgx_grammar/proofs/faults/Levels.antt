@@ -5,13 +5,12 @@ use Rattle.std.proofs.Common.{◌≡◌, ⊎_elim, ℕ, zero, suc, ◌+◌, ◌<
 use Rattle.std.proofs.Common.{false, List, [], ◌∷◌, ◌++◌, length, Option, Some, sym, refl, ap, ◌∙◌}
 use Rattle.std.proofs.Common.{arith, take_at, option_map, take_all, if◌then◌else◌, nat_le}
 use Rattle.std.proofs.Common.{slice_get, None, le-ltb}
-use Rattle.std.proofs.lemmas.Bool.{cases_lt}
+use Rattle.std.proofs.{lemmas.Bool.cases_lt, lemmas.Option.slice_get_within}
 use Rattle.std.proofs.lemmas.List.{take-append-le, length_push}
 use Rattle.cfgx_syntax.specs.Items.{Item}
 use Rattle.cfgx_grammar.specs.Neighbours.{Kind, kind_of, is_kind}
 use Rattle.cfgx_grammar.specs.Depth.{count_below, last_below, begins_member, depth, depth_at}
 use Rattle.cfgx_grammar.specs.Depth.{members_at, innermost}
-use Rattle.std.proofs.lemmas.Option.{slice_get_within}
 use Rattle.cfgx_grammar.specs.parsing.State.{Function, Open, name_of}
 use Rattle.cfgx_grammar.specs.parsing.Step.{over_top, with_parens}
 

@@ -1,22 +1,18 @@
 -- What the parser refuses it refuses with the first fault.
-use Rattle.std.proofs.lemmas.Bool.Decides.{nat_tests}
-use Rattle.std.proofs.lemmas.Grind.{common_steps}
-use Rattle.std.proofs.Common.{take}
-use Rattle.std.proofs.Common.{◌≡◌, ◌⊎◌, inl, inr, ℕ, ◌+◌, Bool, true, false, List, [], ◌∷◌, ◌++◌}
-use Rattle.std.proofs.Common.{length, reverse, cond, Option, Some, None, Result, Ok, Err, sym, refl}
-use Rattle.std.proofs.Common.{ap, ◌∙◌, arith, suc, ◌-◌, ◌<◌, option_map, take_all, append_assoc}
-use Rattle.std.proofs.Common.{count_by, option_and_then, if◌then◌else◌, lt-ltb, le-ltb}
-use Rattle.std.proofs.Common.{eq-eqb, ne_eqb, append-nil, not}
+use Rattle.std.proofs.{lemmas.Bool.Decides.nat_tests, lemmas.Grind.common_steps}
+use Rattle.std.proofs.Common.{take, ◌≡◌, ◌⊎◌, inl, inr, ℕ, ◌+◌, Bool, true, false, List, [], ◌∷◌}
+use Rattle.std.proofs.Common.{◌++◌, length, reverse, cond, Option, Some, None, Result, Ok, Err, sym}
+use Rattle.std.proofs.Common.{refl, ap, ◌∙◌, arith, suc, ◌-◌, ◌<◌, option_map, take_all}
+use Rattle.std.proofs.Common.{append_assoc, count_by, option_and_then, if◌then◌else◌, lt-ltb}
+use Rattle.std.proofs.Common.{le-ltb, eq-eqb, ne_eqb, append-nil, not}
 use Rattle.std.proofs.Math.Seq.{take-append_seam}
-use Rattle.cfgx_syntax.specs.Token.{Token}
+use Rattle.cfgx_syntax.specs.{Token.Token, Error.Refusal, Error.invalid_not}
 use Rattle.cfgx_syntax.specs.Items.{Item, Ending, lexical}
-use Rattle.cfgx_syntax.specs.Error.{Refusal, invalid_not}
 use Rattle.cfgx_grammar.specs.Tree.{ListFunction}
 use Rattle.cfgx_grammar.specs.Neighbours.{Kind, takes, kind_of, is_kind, next}
 use Rattle.cfgx_grammar.specs.Depth.{names_function, is_closing, depth, depth_at, innermost}
 use Rattle.cfgx_grammar.specs.Depth.{members, first_below}
-use Rattle.cfgx_grammar.specs.LastPredicate.{predicate_last}
-use Rattle.cfgx_grammar.specs.LastPredicate.{word_of, with_value}
+use Rattle.cfgx_grammar.specs.LastPredicate.{predicate_last, word_of, with_value}
 use Rattle.cfgx_grammar.specs.FirstFault.{predicate_fault, head_token, last_token, lacks_value}
 use Rattle.cfgx_grammar.specs.FirstFault.{not_fault, unopened_fault, closed_fault, ended_fault}
 use Rattle.cfgx_grammar.specs.FirstFault.{first_of, when, fault_after, open_fault, empty_fault}
@@ -32,8 +28,7 @@ use Rattle.cfgx_grammar.specs.parsing.Step.{step_each, ended_as, answer_from, ro
 use Rattle.cfgx_grammar.proofs.faults.Levels.{Levels, IsLevel, start_of, Levels-same, Levels-member}
 use Rattle.cfgx_grammar.proofs.faults.Levels.{Levels-open, slice_get_next, members_at_other}
 use Rattle.cfgx_grammar.proofs.faults.Levels.{length_more, last_below-found, members_at_end}
-use Rattle.cfgx_grammar.proofs.faults.Levels.{innermost-none}
-use Rattle.cfgx_grammar.proofs.faults.Levels.{depth_at_end}
+use Rattle.cfgx_grammar.proofs.faults.Levels.{innermost-none, depth_at_end}
 use Rattle.std.specs.Option.{option_or}
 use Rattle.std.proofs.lemmas.Option.{slice_get_within, slice_get_past}
 
