@@ -5,8 +5,7 @@ use Rattle.std.proofs.{Math.Numerals.one-add, lemmas.List.take_rest, lemmas.Bool
 use Rattle.std.specs.{List.list_all, List.prefix_len, Str.IsUtf8, Str.IsCharBoundary}
 use Rattle.std.proofs.lemmas.List.Sums.{prefix_len-le-length, prefix_len_passes}
 use Rattle.std.proofs.lemmas.Str.{IsCharBoundary-after_ascii, IsCharBoundary-start}
-use Rattle.std.proofs.lemmas.Bool.{cond_both, false≢true}
-use Rattle.std.proofs.lemmas.Grind.{common_steps}
+use Rattle.std.proofs.{lemmas.Bool.cond_both, lemmas.Bool.false≢true, lemmas.Grind.common_steps}
 use Rattle.cfgx_syntax.specs.{Cut.IsCut, Cut.IsValueCut, Lexer.BeginsWith}
 use Rattle.cfgx_syntax.specs.Token.{Token, starts_word, continues_word, IsWord, EndsWord, Spells}
 use Rattle.cfgx_syntax.specs.Token.{IsWhole}
