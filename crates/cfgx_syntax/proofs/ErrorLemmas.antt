@@ -1,6 +1,6 @@
 -- Equality of reasons and of faults is that of variants, numbers and texts..
 use Rattle.std.proofs.Common.{arith, ◌≡◌, ℕ, Bool, List, [], ◌∷◌, ◌&&◌, Bor, map, nat_eq}
-use Rattle.std.proofs.{lemmas.Slice.Eq.bytes_eq-Decides}
+use Rattle.std.proofs.lemmas.Slice.Eq.{bytes_eq-Decides}
 use Rattle.std.proofs.lemmas.Bool.Decides.{Decides-eqb, Decides-and, Decides-like}
 use Rattle.std.specs.Bool.{Decides, ◌==◌}
 use Rattle.std.specs.{Cmp.Lexicographic.pointwise, Str.bytes_eq, String.string_bytes}
