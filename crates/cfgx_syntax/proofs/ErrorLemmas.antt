@@ -1,7 +1,6 @@
 -- Equality of reasons and of faults is that of variants, numbers and texts..
 use Rattle.std.proofs.Common.{arith, ◌≡◌, ℕ, Bool, List, [], ◌∷◌, ◌&&◌, Bor, map, nat_eq}
 use Rattle.std.proofs.lemmas.Slice.Eq.{bytes_eq-Decides}
-use Rattle.std.proofs.lemmas.Bool.Decides.{Decides-eqb, Decides-and, Decides-like}
 use Rattle.std.specs.Bool.{Decides, ◌==◌}
 use Rattle.std.specs.{Cmp.Lexicographic.pointwise, Str.bytes_eq, String.string_bytes}
 use Rattle.cfgx_syntax.specs.{declared.error.ParseError.ParseError, declared.error.Reason.Reason}
@@ -16,7 +15,7 @@ same_terms xs ys = pointwise (λ x y. pointwise nat_eq x.now y.now) xs ys
 terms_eq-Decides : (xs ys : List (Bor (List ℕ)))
     → Decides (same_terms xs ys) (map (λ t. t.now) xs ≡ map (λ t. t.now) ys)
 terms_eq-Decides (x ∷ xs) (y ∷ ys) =
-    grind (arith, Decides-like, Decides-and, bytes_eq-Decides, terms_eq-Decides xs ys)
+    grind (arith, bytes_eq-Decides, terms_eq-Decides xs ys)
 terms_eq-Decides xs [] = (λ e. cc, λ e. cc)
 terms_eq-Decides xs ys = (λ e. cc, λ e. cc)
 
@@ -24,7 +23,7 @@ terms_eq-Decides xs ys = (λ e. cc, λ e. cc)
 pub reason_eq-Decides : (one other : Reason)
     → Decides ((reason_eq.ghosts).eq one other) (cause_of one ≡ cause_of other)
 reason_eq-Decides one other =
-    grind (arith, Decides-like, Decides-eqb, terms_eq-Decides)
+    grind (arith, terms_eq-Decides)
 
 -- comparing text, span and reason decides whether two faults are equal
 pub fault_eq-Decides : {A : Type 0} (one other : ParseError A)
@@ -33,6 +32,6 @@ pub fault_eq-Decides : {A : Type 0} (one other : ParseError A)
     && (reason_eq.ghosts).eq one.reason other.reason))
     (fault_of one ≡ fault_of other)
 fault_eq-Decides one other =
-    grind (arith, Decides-like, Decides-and, bytes_eq-Decides, Decides-eqb, reason_eq-Decides)
+    grind (arith, bytes_eq-Decides, reason_eq-Decides)
 
 pub ruleset equalities = (reason_eq-Decides, fault_eq-Decides)

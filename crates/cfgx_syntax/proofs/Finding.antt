@@ -7,10 +7,8 @@ use Rattle.std.specs.List.{AllByRecursion, position_or_len, before_first, after_
 use Rattle.std.specs.Str.{IsUtf8, IsTrimStart, encode_utf8_all, all_scalars}
 use Rattle.std.proofs.lemmas.List.{drop-drop, get_or-take, take_all}
 use Rattle.std.proofs.lemmas.List.Sums.{split_at_first, passes_at_first, fails_before_first}
-use Rattle.std.proofs.lemmas.Str.{IsUtf8-nil, IsUtf8-drop}
-use Rattle.std.proofs.{lemmas.Slice.Eq.bytes_eq-Decides, lemmas.Grind.common_steps}
-use Rattle.std.proofs.lemmas.Bool.{and_parts, both_ways, cases_Bool, cases_eq, cases_lt}
-use Rattle.std.proofs.lemmas.Bool.Decides.{nat_tests, not_from_Decides}
+use Rattle.std.proofs.{lemmas.Str.IsUtf8-drop, lemmas.Slice.Eq.bytes_eq-Decides}
+use Rattle.std.proofs.lemmas.Bool.{and_parts, cases_Bool, cases_eq, cases_lt}
 use Rattle.cfgx_syntax.specs.Items.{Item, Ending, ItemsFrom, IsBlank, HasOneTokenList, starts_token}
 use Rattle.cfgx_syntax.specs.Items.{expects_token}
 use Rattle.cfgx_syntax.specs.Lexer.{BeginsWith, BeginsNone, BeginsUnclosed}
@@ -29,7 +27,7 @@ abbrev Trimmed : List ℕ → Type 0
 Trimmed text = (rest : List ℕ) × IsTrimStart text rest × IsUtf8 rest
 
 trimmed_chars : (cs : List ℕ) → all_scalars cs ≡ true → Trimmed (encode_utf8_all cs)
-trimmed_chars [] scalars = grind (arith, IsTrimStart-here, IsUtf8-nil)
+trimmed_chars [] scalars = grind arith
 trimmed_chars (c ∷ cs) scalars =
     let parts = and_parts _ _ scalars in
     let more = encode_utf8_all cs in
@@ -49,7 +47,7 @@ trimmed text utf8 = subst Trimmed utf8.1.1 (trimmed_chars utf8.0 utf8.1.0)
 cases_text : (xs ys : List ℕ) → (xs ≡ ys) ⊎ (xs ≢ ys)
 cases_text xs ys =
     let test = bytes_eq-Decides xs ys in
-    grind (arith, test, not_from_Decides, cases_Bool)
+    grind arith
 
 -- each word spells a token
 word_spells : (word : List ℕ) → IsWord word → (token : Token) × Spells word token
@@ -69,12 +67,12 @@ data Begins (rest : List ℕ) : Type 0 where
       → Begins rest
 
 quote_is : (byte : ℕ) → is_quote byte ≡ true → byte ≡ 34
-quote_is byte h = grind (arith, nat_tests, common_steps)
+quote_is byte h = grind arith
 
 -- no quote stands in front of the first
 HasNoQuote-before : (bytes : List ℕ) → HasNoQuote (before_first is_quote bytes)
 HasNoQuote-before bytes =
-    grind (arith, HasNoQuote-from, length-take, fails_before_first, both_ways, get_or-take)
+    grind (arith, HasNoQuote-from, length-take, fails_before_first, get_or-take)
 
 -- a quote in front is closed, or it is not
 begins_quote : (more : List ℕ) → IsUtf8 (34 ∷ more) → Begins (34 ∷ more)
@@ -111,7 +109,7 @@ begins_mark rest utf8 some starts other plain =
     ⊎_elim (λ e. by Token.open_paren 40 (lit< tt) e refl refl tt) (λ one.
     ⊎_elim (λ e. by Token.close_paren 41 (lit< tt) e refl refl tt) (λ two.
     ⊎_elim (λ e. by Token.comma 44 (lit< tt) e refl refl tt) (λ three.
-    let last : byte ≡ 61 = grind (arith, nat_tests, common_steps) in
+    let last : byte ≡ 61 = grind arith in
     by Token.equals 61 (lit< tt) last refl refl tt)
     (cases_eq byte 44)) (cases_eq byte 41)) (cases_eq byte 40)
   where

@@ -4,7 +4,7 @@ use Rattle.std.proofs.Common.{◌∙◌, arith, length-append, append_assoc, len
 use Rattle.std.specs.{Prelude.encode_utf8, Prelude.slice_range, Char.is_not_whitespace}
 use Rattle.std.specs.Str.{NonePass, encode_utf8_all}
 use Rattle.std.proofs.{lemmas.List.Folds.drop_split, lemmas.Bool.both_ways}
-use Rattle.std.proofs.lemmas.Str.{cons_from_encodes, encode_same, length-encode, len_utf8_bounds}
+use Rattle.std.proofs.lemmas.Str.{cons_from_encodes, encode_same, length-encode}
 use Rattle.cfgx_syntax.specs.Items.{IsBlank}
 
 -- white space alone lies between `from` and the place, and a character that is none stands there
@@ -17,7 +17,7 @@ pub record IsFirst (text : List ℕ) (from place c : ℕ) : Type 0 where
 
 -- a character takes a byte at least
 char_some : (c : ℕ) (more : List ℕ) → 0 < length (encode_utf8 c ++ more)
-char_some c more = grind (arith, len_utf8_bounds, length-append, length-encode)
+char_some c more = grind (arith, length-append, length-encode)
 
 -- after white space, the first character that is none, and what follows it, are determined
 same_after : (ws vs : List ℕ) (c d : ℕ) (r t : List ℕ) → NonePass is_not_whitespace ws
@@ -26,7 +26,7 @@ same_after : (ws vs : List ℕ) (c d : ℕ) (r t : List ℕ) → NonePass is_not
     → (c ≡ d) × (r ≡ t)
 same_after [] [] c d r t white light seen shown e = encode_same c d r t e
 same_after [] (v ∷ vs) c d r t white light seen shown e =
-    grind (arith, encode_same, append_assoc, both_ways)
+    grind (arith, encode_same, append_assoc)
 same_after (w ∷ ws) [] c d r t white light seen shown e =
     grind (arith, encode_same, append_assoc, both_ways)
 same_after (w ∷ ws) (v ∷ vs) c d r t white light seen shown e =
@@ -37,7 +37,7 @@ same_after (w ∷ ws) (v ∷ vs) c d r t white light seen shown e =
 none_after : (ws cs : List ℕ) (c : ℕ) (r : List ℕ) → NonePass is_not_whitespace ws
     → NonePass is_not_whitespace cs → is_not_whitespace c ≡ true
     → encode_utf8_all ws ++ (encode_utf8 c ++ r) ≡ encode_utf8_all cs → ⊥
-none_after [] cs c r white light seen e = grind (arith, cons_from_encodes, both_ways)
+none_after [] cs c r white light seen e = grind (arith, cons_from_encodes)
 none_after (w ∷ ws) cs c r white light seen e =
     let same = cons_from_encodes cs _ w (sym (rw append_assoc at e)) in
     none_after ws same.0 c r white.1 (rw same.1 at light).1 seen (sym same.2)

@@ -5,13 +5,11 @@ use Rattle.std.proofs.Common.{append_assoc, append-nil, length-append, length-ta
 use Rattle.std.specs.{Prelude.codes, Str.bytes_eq}
 use Rattle.std.specs.List.{list_all, list_any, prefix_len, position_or_len}
 use Rattle.std.proofs.lemmas.List.{get_or-take, take_at, take-append-drop}
-use Rattle.std.proofs.lemmas.Bool.{and_parts, or_parts, false≢true, false_from_ne_true}
-use Rattle.std.proofs.{lemmas.Bool.Decides.nat_tests, lemmas.Grind.common_steps}
+use Rattle.std.proofs.lemmas.Bool.{and_parts, or_parts, false_from_ne_true}
 use Rattle.std.proofs.lemmas.Slice.Eq.{bytes_eq-Decides}
 use Rattle.cfgx_syntax.specs.Token.{Token, starts_word, continues_word, is_quote, IsWord}
 use Rattle.cfgx_syntax.specs.Token.{HasNoQuote, Spells, IsWhole, EndsWord}
 use Rattle.cfgx_syntax.specs.Items.{OpensNoValue, starts_token}
-use Rattle.cfgx_syntax.proofs.Words.{starts_word-continues}
 
 -- how many bytes the token in front of a text takes, by its first byte
 abbrev pub token_len : List ℕ → ℕ
@@ -31,13 +29,7 @@ token_by bytes =
     (cond (bytes_eq bytes (codes ",")) Token.comma Token.equals))))
 
 starts_word-no_quote : (byte : ℕ) → starts_word byte ≡ true → is_quote byte ≡ false
-starts_word-no_quote byte h = grind (arith, nat_tests, common_steps)
-
-starts_word-token : (byte : ℕ) → starts_word byte ≡ true → starts_token byte ≡ true
-starts_word-token byte h = grind (arith, nat_tests, common_steps)
-
-word_starts : (word : List ℕ) → IsWord word → starts_word (get_or word 0 0) ≡ true
-word_starts word is = grind (arith, false≢true)
+starts_word-no_quote byte h = grind arith
 
 -- bytes of a word go on to its end
 goes_on : (bytes after : List ℕ) → list_all continues_word bytes ≡ true → EndsWord after
@@ -51,7 +43,7 @@ goes_on (byte ∷ bytes) after all ends =
 word_len : (word after : List ℕ) → IsWord word → EndsWord after
     → token_len (word ++ after) ≡ length word
 word_len word after is ends =
-    grind (arith, false≢true, goes_on, starts_word-no_quote, starts_word-continues)
+    grind (arith, goes_on, starts_word-no_quote)
 
 -- the first quote is not among bytes that have none
 quote_after : (bytes after : List ℕ) → HasNoQuote bytes
@@ -80,15 +72,15 @@ refuses xs ys other = false_from_ne_true _ (λ same. other ((bytes_eq-Decides xs
 
 -- the token that bytes spell is one
 pub token_by_is : (bytes : List ℕ) (token : Token) → Spells bytes token → token_by bytes ≡ token
-token_by_is bytes token is = grind (arith, refuses, word_starts, length-append, take_at)
+token_by_is bytes token is = grind (arith, refuses, length-append, take_at)
 
 -- the first byte of a token begins one, and so there is such a byte
 Spells-first : (bytes : List ℕ) (token : Token) → Spells bytes token
     → starts_token (get_or bytes 0 0) ≡ true
-Spells-first bytes token is = grind (arith, starts_word-token, word_starts)
+Spells-first bytes token is = grind arith
 
 pub Spells-some : (bytes : List ℕ) (token : Token) → Spells bytes token → 1 ≤ length bytes
-Spells-some bytes token spells = grind (arith, false≢true, Spells-first)
+Spells-some bytes token spells = grind arith
 
 pub front_starts : (rest : List ℕ) (token : Token) (len : ℕ) → Spells (take len rest) token
     → starts_token (get_or rest 0 0) ≡ true

@@ -6,7 +6,6 @@ use Rattle.std.specs.{Prelude.slice_range, Str.IsTrimStart}
 use Rattle.std.proofs.lemmas.List.{take_min, drop_min, drop-drop}
 use Rattle.std.proofs.lemmas.Str.{byte_from_char}
 use Rattle.std.proofs.lemmas.Bool.{both_ways, false_from_ne_true}
-use Rattle.std.proofs.{lemmas.Bool.Decides.nat_tests, lemmas.Grind.common_steps}
 use Rattle.cfgx_syntax.specs.{Cut.CanBeCut, Error.Cause, Token.Token, LexerState.LexerState}
 use Rattle.cfgx_syntax.specs.Items.{EndsAs, lexical, IsBlank, Stands, IsStuck, IsUnclosed}
 use Rattle.cfgx_syntax.specs.Items.{OpensNoValue, starts_token, Ending}
@@ -15,7 +14,7 @@ use Rattle.cfgx_syntax.proofs.Cutting.{CanBeCut-from_rest}
 
 -- what begins a token is ASCII
 pub starts_token-ascii : (c : ℕ) → starts_token c ≡ true → c < 128
-starts_token-ascii c h = grind (arith, nat_tests, common_steps)
+starts_token-ascii c h = grind arith
 
 -- `rest` is what follows the white space after the place in the text
 pub record IsAfter (text rest : List ℕ) (place : ℕ) : Type 0 where
@@ -51,7 +50,7 @@ module _ (text rest : List ℕ) (place : ℕ) (beyond : IsAfter text rest place)
   pub Stands-found : (token : Token) (len : ℕ) → BeginsWith rest token len
       → Stands text place (record { token = token; start = start; end = start + len })
   Stands-found token len begins =
-      grind (arith, rest_is, length-drop, begins, drop-drop, place_le_start, gap_is_blank)
+      grind (arith, rest_is, drop-drop, place_le_start, gap_is_blank)
 
   pub CanBeCut-found : (token : Token) (len : ℕ) → BeginsWith rest token len
       → CanBeCut text token start (start + len)

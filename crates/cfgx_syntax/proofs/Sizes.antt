@@ -1,8 +1,6 @@
 -- A text has no more items than bytes.
 use Rattle.std.proofs.Common.{ℕ, ◌+◌, ◌-◌, ◌≤◌, List, [], ◌∷◌, length, arith}
-use Rattle.std.proofs.lemmas.List.{length-take}
 use Rattle.cfgx_syntax.specs.Items.{Item, Ending, ItemsFrom}
-use Rattle.cfgx_syntax.proofs.Fronts.{Spells-some}
 
 pub items-bytes : (text : List ℕ) (from : ℕ) (items : List Item) (ending : Ending)
     → from ≤ length text → ItemsFrom text from items ending
@@ -10,4 +8,4 @@ pub items-bytes : (text : List ℕ) (from : ℕ) (items : List Item) (ending : E
 items-bytes text from [] ending inside are = omega arith
 items-bytes text from (item ∷ items) ending inside are =
     let others = items-bytes text item.end items ending are.0.inside are.1 in
-    grind (arith, Spells-some, length-take, others)
+    grind arith

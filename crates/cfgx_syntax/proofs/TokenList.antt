@@ -3,18 +3,16 @@ use Rattle.std.proofs.Common.{rules, ◌≡◌, ℕ, ◌+◌, ◌-◌, ◌≤◌
 use Rattle.std.proofs.Common.{◌++◌, take, drop, sym, refl, ◌∙◌, arith, cond, ltb, ◌⊎◌, inl, inr}
 use Rattle.std.proofs.Common.{length-drop}
 use Rattle.std.specs.{Prelude.encode_utf8, Prelude.slice_range, Char.is_not_whitespace}
-use Rattle.std.proofs.{lemmas.List.drop-drop, lemmas.Str.encode_ascii}
-use Rattle.std.proofs.{lemmas.Bool.Decides.nat_tests, lemmas.Grind.common_steps}
-use Rattle.std.proofs.lemmas.Bool.{false≢true, le-ltb, lt-ltb}
+use Rattle.std.proofs.{lemmas.List.drop-drop, lemmas.Str.encode_ascii, lemmas.Grind.common_steps}
+use Rattle.std.proofs.lemmas.Bool.{le-ltb, lt-ltb}
 use Rattle.cfgx_syntax.specs.Items.{Item, Stands, Ending, EndsAs, ItemsFrom, IsBlank, starts_token}
 use Rattle.cfgx_syntax.proofs.FirstChar.{IsFirst, IsFirst-same, IsFirst-not_blank}
 use Rattle.cfgx_syntax.proofs.Fronts.{front_starts, unclosed_len, token_len, token_len_is, token_by}
 use Rattle.cfgx_syntax.proofs.Fronts.{token_by_is}
-use Rattle.cfgx_syntax.proofs.Scanning.{starts_token-ascii}
 
 -- what begins a token is no white space
 starts_token-visible : (c : ℕ) → starts_token c ≡ true → is_not_whitespace c ≡ true
-starts_token-visible c h = grind (arith, nat_tests, common_steps)
+starts_token-visible c h = grind (arith, common_steps)
 
 -- what comes next is an item, or the text ends
 abbrev Comes : List ℕ → ℕ → Item ⊎ Ending → Type 0
@@ -38,7 +36,7 @@ data Next (text : List ℕ) (from : ℕ) (next : Item ⊎ Ending) : Type 0 where
 
 first_char : (rest : List ℕ) → starts_token (get_or rest 0 0) ≡ true
     → rest ≡ encode_utf8 (get_or rest 0 0) ++ drop 1 rest
-first_char rest starts = grind (arith, false≢true, encode_ascii, starts_token-ascii)
+first_char rest starts = grind (arith, encode_ascii)
 
 -- a byte that begins a token is the first character after white space
 first_of : (text : List ℕ) (from place : ℕ) → from ≤ place → IsBlank (slice_range text from place)
@@ -113,7 +111,7 @@ ItemsFrom-same text from [] (other ∷ others) ending end here there =
     absurd (let wrong = Comes-same text from (inl other) (inr ending) there.0 here in cc)
 ItemsFrom-same text from (item ∷ items) others ending end here there =
     let first = Follows-stands text from item others end here.0 there in
-    grind (arith, first, ItemsFrom-same text item.end items first.rest ending end here.1 first.come)
+    grind (arith, ItemsFrom-same text item.end items first.rest ending end here.1 first.come)
 
 pub no_more_items : (text : List ℕ) (place : ℕ) (items : List Item) (ending end : Ending)
     → EndsAs text place end → ItemsFrom text place items ending → (items ≡ []) × (ending ≡ end)

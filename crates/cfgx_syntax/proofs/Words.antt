@@ -1,22 +1,22 @@
 -- Where a word and a token of one byte end.
 use Rattle.std.proofs.Common.{rules, ◌≡◌, ℕ, zero, suc, ◌+◌, ◌<◌, ◌≤◌, Bool, true, List, [], ◌∷◌}
 use Rattle.std.proofs.Common.{length, take, drop, get_or, refl, arith, add-one}
-use Rattle.std.proofs.{Math.Numerals.one-add, lemmas.List.take_rest, lemmas.Bool.Decides.nat_tests}
+use Rattle.std.proofs.{Math.Numerals.one-add, lemmas.List.take_rest}
 use Rattle.std.specs.{List.list_all, List.prefix_len, Str.IsUtf8, Str.IsCharBoundary}
 use Rattle.std.proofs.lemmas.List.Sums.{prefix_len-le-length, prefix_len_passes}
 use Rattle.std.proofs.lemmas.Str.{IsCharBoundary-after_ascii, IsCharBoundary-start}
-use Rattle.std.proofs.{lemmas.Bool.cond_both, lemmas.Bool.false≢true, lemmas.Grind.common_steps}
+use Rattle.std.proofs.lemmas.Bool.{cond_both, false≢true}
 use Rattle.cfgx_syntax.specs.{Cut.IsCut, Cut.IsValueCut, Lexer.BeginsWith}
 use Rattle.cfgx_syntax.specs.Token.{Token, starts_word, continues_word, IsWord, EndsWord, Spells}
 use Rattle.cfgx_syntax.specs.Token.{IsWhole}
 
 -- what stands in a word is ASCII
 pub continues_word-ascii : (byte : ℕ) → continues_word byte ≡ true → byte < 128
-continues_word-ascii byte h = grind (arith, nat_tests, common_steps)
+continues_word-ascii byte h = grind arith
 
 -- what starts a word may stand in one
 pub starts_word-continues : (byte : ℕ) → starts_word byte ≡ true → continues_word byte ≡ true
-starts_word-continues byte h = grind (arith, nat_tests, common_steps)
+starts_word-continues byte h = grind arith
 
 passing_front : (p : ℕ → Bool) (xs : List ℕ) → list_all p (take (prefix_len p xs) xs) ≡ true
 passing_front p [] = refl
@@ -67,12 +67,7 @@ BeginsWith-byte [] bytes token byte utf8 some same is low spelled whole value = 
 BeginsWith-byte (first ∷ rest) bytes token byte utf8 some same is low spelled whole value =
     let at : first ≡ byte = rw same at is in
     let cut = IsCharBoundary-after_ascii (first ∷ rest) 0 utf8 some (omega arith) in
-    grind (arith, at, IsCut-front)
-
--- a word spells no value, and so there is no value to cut
-IsValueCut-word : (text word : List ℕ) (token : Token) (start end : ℕ) → IsWord word
-    → Spells word token → IsValueCut text token start end
-IsValueCut-word text word token start end is spelled = grind (arith, false≢true)
+    grind arith
 
 -- a text begins with the token that its first word spells
 pub BeginsWith-word : (text : List ℕ) (token : Token) → IsUtf8 text
@@ -83,7 +78,7 @@ BeginsWith-word text token utf8 starts spelled =
     let n = prefix_len continues_word text in
     let cut = IsCharBoundary-after continues_word continues_word-ascii text utf8 in
     let whole = IsWhole-word (drop n text) token (EndsWord-after text) in
-    grind (arith, cut, whole, prefix_len-le-length, word_front, IsValueCut-word, IsCut-front)
+    grind (arith, word_front, IsCut-front)
 
 -- no more bytes pass than there are, and the first of a word is one that passes
 pub ruleset lengths = (prefix_len-le-length, word_front, take_rest)

@@ -2,8 +2,8 @@
 use Rattle.std.proofs.Common.{◌≡◌, ◌≢◌, ℕ, ◌-◌, false, List, ◌++◌, length, drop, nat_eq, sym, refl}
 use Rattle.std.proofs.Common.{ap, ◌∙◌, arith, length-append}
 use Rattle.std.specs.{Prelude.codes, List.ends_with}
-use Rattle.std.proofs.lemmas.List.{drop-append-le, same_from_push, take_at}
-use Rattle.std.proofs.{lemmas.Bool.false_from_ne_true, lemmas.Bool.Decides.Decides-eqb}
+use Rattle.std.proofs.{lemmas.List.take_at, lemmas.Bool.Decides.Decides-eqb}
+use Rattle.std.proofs.lemmas.Bool.{false_from_ne_true}
 use Rattle.std.proofs.lemmas.Slice.Eq.{starts_is, ends_is}
 use Rattle.cfgx_syntax.specs.Stripping.{strip}
 
@@ -11,7 +11,7 @@ use Rattle.cfgx_syntax.specs.Stripping.{strip}
 pub strip-bare : (text : List ℕ) → ((rest : List ℕ) → text ≢ codes "cfg(" ++ rest)
     → text ≡ strip text
 unfolding strip
-strip-bare text none = grind (arith, false_from_ne_true, starts_is, Decides-eqb)
+strip-bare text none = grind arith
 
 pub strip-wrapped : (text inner kept : List ℕ) → text ≡ codes "cfg(" ++ inner
     → inner ≡ kept ++ codes ")" → kept ≡ strip text
@@ -28,7 +28,7 @@ strip-wrapped text inner kept p q =
 -- what starts with `cfg(` and has `)` last has the `)` after the `cfg(`
 ends_after : (inner front : List ℕ) → codes "cfg(" ++ inner ≡ front ++ codes ")"
     → inner ≡ drop 4 front ++ codes ")"
-ends_after inner front e = grind (arith, same_from_push, length-append, drop-append-le)
+ends_after inner front e = grind arith
 
 pub strip-prefixed : (text inner : List ℕ) → text ≡ codes "cfg(" ++ inner
     → ((front : List ℕ) → inner ≢ front ++ codes ")") → text ≡ strip text

@@ -1,11 +1,10 @@
 -- That the numbers which Rust's `parse` reads are those of `read_below`.
-use Rattle.std.proofs.{lemmas.Grind.common_steps, lemmas.Bool.lt-ltb}
+use Rattle.std.proofs.lemmas.Bool.{lt-ltb}
 use Rattle.std.proofs.Common.{◌≡◌, ℕ, ◌^◌, ◌<◌, Bool, true, List, arith}
 use Rattle.std.specs.Prelude.{Some, None, Result, cond}
 use Rattle.std.specs.{Bool.Decides, Result.OkIff, Result.result_ok, Fmt.decimal}
 use Rattle.std.specs.Str.{all_ascii_digits}
 use Rattle.std.specs.Str.Parse.{IsNumeral, ParsesUnsigned, digits_value, without_leading_plus}
-use Rattle.std.proofs.lemmas.Bool.Decides.{Decides-and, Decides-ltb}
 use Rattle.std.proofs.lemmas.Str.Parse.{IsNumeralModel, numerals_by_value, tells_all_ascii_digits}
 use Rattle.std.proofs.lemmas.Str.Parse.{not_in_digits, without_leading_plus_none}
 use Rattle.std.proofs.lemmas.Fmt.{decimal_is_IsNumeral, decimal_nonempty, digits_decimal}
@@ -21,14 +20,14 @@ Decides-is_numeral ds = grind (arith, digits_model)
 -- a result that is `Ok` of the value exactly if the test passes, as an option
 result_ok-OkIff : {E P : Type 0} (b : Bool) (v : ℕ) (r : Result ℕ E) → Decides b P → OkIff r P v
     → result_ok r ≡ cond b (Some v) None
-result_ok-OkIff b v r d h = grind (arith, common_steps)
+result_ok-OkIff b v r d h = grind arith
 
 -- what `parse` reads at an unsigned type of k bits
 pub result_ok-parse : {E : Type 0} (k : ℕ) (bs : List ℕ) (r : Result ℕ E) → ParsesUnsigned k 10 bs r
     → result_ok r ≡ read_below (2 ^ k) bs
 unfolding read_below
 result_ok-parse k bs r h =
-    grind (arith, Decides-and, Decides-is_numeral, Decides-ltb, result_ok-OkIff)
+    grind (arith, Decides-is_numeral, result_ok-OkIff)
 
 -- what is printed in decimal is read again
 pub read_below-decimal : (limit n : ℕ) → n < limit → n < 2 ^ 64
@@ -38,4 +37,4 @@ read_below-decimal limit n below small =
     let plain : without_leading_plus (decimal n) ≡ decimal n = without_leading_plus_none (decimal n)
     (not_in_digits digits_model (decimal n) 43 (digits_decimal digits_model n small)
     (λ h. absurd (omega (arith, h))) 0 (decimal_nonempty n small)) in
-    grind (arith, plain, Decides-is_numeral, decimal_is_IsNumeral, lt-ltb)
+    grind (arith, Decides-is_numeral, decimal_is_IsNumeral, lt-ltb)

@@ -90,7 +90,7 @@ IsSorted-tail : {X : Type 0} (R : X → X → Ordering) (x : X) (xs : List X) �
     → IsSorted R xs
 IsSorted-tail R x xs s k d _ lt =
     let next = s (suc k) d (omega arith) (omega arith) in
-    grind (arith, next)
+    grind arith
 
 pub IsSorted-from : {X : Type 0} (R : X → X → Ordering) (xs : List X) → Rises R xs → IsSorted R xs
 IsSorted-from R [] rises k d _ lt = absurd (omega (arith, lt))
@@ -107,7 +107,7 @@ Rises-from R (x ∷ y ∷ ys) s =
 
 Rises-tail : {X : Type 0} (R : X → X → Ordering) (x : X) (xs : List X) → Rises R (x ∷ xs)
     → Rises R xs
-Rises-tail a0 x xs s = grind (arith, common_steps)
+Rises-tail a0 x xs s = grind arith
 
 module _ {X : Type 0} {R : X → X → Ordering} (o : IsTotalOrder R) where
   -- what is below the first is below what is not below the first
@@ -160,7 +160,7 @@ module _ {X : Type 0} {R : X → X → Ordering} (o : IsTotalOrder R) where
   module _ {E : X → X → Bool} (same : (x y : X) → R x y ≡ Equal → x ≡ y)
       (e : (x y : X) → E x y ≡ eq_by_cmp R x y) where
     decides-same : (x y : X) → Decides (E x y) (x ≡ y)
-    decides-same x y = grind (arith, common_steps)
+    decides-same x y = grind arith
 
     -- the test of two lists member by member
     pub lists-same : (xs ys : List X) → IsTrue (pointwise E xs ys) ↔ (xs ≡ ys)

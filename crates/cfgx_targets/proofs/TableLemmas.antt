@@ -98,7 +98,7 @@ module _ {A : Type 0} (rows : List (TargetInfo A)) where
     row_with-missing triple place search =
         let key = λ (row : TargetInfo A). row.triple in
         let rising = searchable_from_sorted nat_list_cmp_total key rows triple in_order in
-        grind (arith, rising, find-none, cases_lt, has_triple)
+        grind (arith, find-none, has_triple)
 
 -- the targets that are built in are in order
 pub builtin_rows-increasing : {A : Type 0} → AreIncreasing (builtin_rows {A = A})
