@@ -79,7 +79,7 @@ module _ {T U : Type 0} (R : T → U → Type 0) where
     asked_by-alike f g same _ _ (AlikeEach.more x y xs ys first rest) =
         let here = asked-alike x y first in
         let others = asked_by-alike f g same xs ys rest in
-        grind (arith, AllZip-append, AllZip-if, here, others)
+        grind (arith, AllZip-append)
 
   pub length-asked : (x : Tree T) (y : Tree U) → Alike R x y → length (asked y) ≡ length (asked x)
   length-asked x y alike = AllZip-long R (asked x) (asked y) (asked-alike x y alike)

@@ -41,9 +41,9 @@ module _ {W M L : Type 0} {builder : Builder W M L} (text : List ℕ)
   pub tree_of : (u : State builder) → answer ≡ Ok u → (tree : Tree Question) × HasTree text tree
   tree_of u e =
       let r = ran (step_each initial one.items) (ended_as text (lexical text one.ending)) u e in
-      let blank : one.ending ≡ Ending.blank = grind (arith, r.2) in
-      let ended : conclude (length text) r.0 ≡ Ok u = grind (arith, blank, r.2) in
-      grind (arith, r, blank, ended, IsTree-accepted)
+      let blank : one.ending ≡ Ending.blank = grind arith in
+      let ended : conclude (length text) r.0 ≡ Ok u = grind (arith, r.2) in
+      grind (arith, ended, IsTree-accepted)
 
 -- What the parser that builds the tree answers for a text that reads so.
 abbrev Shows : Reading → Result (State tree_builder) Refusal → Type 0
@@ -61,7 +61,7 @@ record Shown (text : List ℕ) (reading : Reading) : Type 0 where
 shown : (text : List ℕ) (reading : Reading) → HasReading text reading → Shown text reading
 shown text (Ok tree) has =
     let f = Finds-tree tree_laws (length text) has.items tree has.spelled in
-    grind (arith, f, tree_built)
+    grind (arith, tree_built)
 shown text (Err fault) has =
     let agrees = whole_agrees tree_builder text has.items has.ending in
     record {

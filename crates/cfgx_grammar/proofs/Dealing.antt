@@ -1,5 +1,5 @@
 -- Answers that are dealt out to a tree are what the answered tree asks.
-use Rattle.std.proofs.{lemmas.Bool.Decides.nat_tests, lemmas.Grind.common_steps}
+use Rattle.std.proofs.lemmas.Grind.{common_steps}
 use Rattle.std.proofs.Common.{append_assoc, drop_at, ◌≡◌, ◌≤◌, List, [], ◌∷◌, ◌++◌, length, take}
 use Rattle.std.proofs.Common.{refl, sym, ap, ◌∙◌, arith, length-append, length-drop, take-add}
 use Rattle.std.proofs.Common.{append-nil, take_all}
@@ -20,7 +20,7 @@ module _ {X T : Type 0} (otherwise : T) where
       → Remade trees answers → (more : List T)
       → let all = (asked_by is_function answers ++ asked_by is_leaf answers) ++ more in
       answered_each otherwise trees all (left_after (asked_by is_function trees) all) ≡ answers
-  list_front trees answers many remade more = grind (arith, nat_tests, common_steps)
+  list_front trees answers many remade more = grind (arith, common_steps)
 
   mutual
     answered-front : (tree : Tree X) (answer : Tree T) → SameShape tree answer → (more : List T)

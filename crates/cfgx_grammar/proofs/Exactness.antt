@@ -158,4 +158,4 @@ module _ {X : Type 0} (tree : Tree X) (answers : List (Option Bool))
   IsExact-fold =
       let upper = polar_value true in
       let lower = polar_value false in
-      grind (arith, upper, lower, fold_kept, agreement, polar_filling)
+      grind (arith, fold_kept, agreement, polar_filling)

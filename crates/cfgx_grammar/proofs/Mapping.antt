@@ -7,16 +7,13 @@ use Rattle.cfgx_syntax.proofs.Lanes.{AreApart-and, AreApart-or, AreApart-not, Ea
 use Rattle.cfgx_syntax.proofs.Lanes.{EachLane-or, EachLane-not, EachLane-top, EachLane-bottom}
 use Rattle.cfgx_grammar.specs.{Tree.Tree, Fold.Operations, Fold.fold, Filling.three_valued}
 use Rattle.cfgx_grammar.specs.Mapping.{IsMap, IsByLane, Passes, is_apart, lane_valued}
-use Rattle.cfgx_grammar.proofs.Exactness.{Preserve, fold_kept}
+use Rattle.cfgx_grammar.proofs.Exactness.{fold_kept}
 
 module _ {T U : Type 0} (one : Operations T) (other : Operations U) (Holds : T → Type 0)
     (to : T → U) (is : IsMap one other Holds to) where
   -- a value, and what the map makes of it
   abbrev Becomes : T → U → Type 0
   Becomes x u = Holds x × (to x ≡ u)
-
-  becomes : Preserve one other Becomes
-  becomes = grind arith
 
   each-becomes : (answers : List T) → AllByRecursion Holds answers
       → AllZip Becomes answers (map to answers)
@@ -25,7 +22,7 @@ module _ {T U : Type 0} (one : Operations T) (other : Operations U) (Holds : T �
 
   pub fold-mapped : {X : Type 0} (tree : Tree X) (answers : List T) → AllByRecursion Holds answers
       → to (fold one tree answers) ≡ fold other tree (map to answers)
-  fold-mapped tree answers all = grind (arith, fold_kept, becomes, each-becomes)
+  fold-mapped tree answers all = grind (arith, fold_kept, each-becomes)
 
 -- the answer of a lane
 pub IsMap-lane : (i : ℕ) → i < 64 → IsMap lane_valued three_valued IsApart (lane i)

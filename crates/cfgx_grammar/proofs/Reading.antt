@@ -24,7 +24,7 @@ module _ {W M L : Type 0} {builder : Builder W M L} (text : List ℕ) where
   at_token from place s t item r c stands steps items ending come =
       let so_far = c.rest_of items ending come in
       let f = Follows-stands text place item so_far.0 ending stands so_far.1 in
-      grind (arith, so_far, f)
+      grind arith
 
   pub Continues-step : (from place : ℕ) (s t u : State builder) (item : Item)
       → Continues from s place t → Stands text place item → step t item ≡ Ok u

@@ -3,7 +3,7 @@ use Rattle.std.proofs.Common.{◌≡◌, ℕ, suc, ◌+◌, true, List, [], ◌�
 use Rattle.std.proofs.Common.{subst, add-zero, append_assoc, ◌⊎◌, inl, inr, Option, Some, None}
 use Rattle.std.proofs.Common.{option_map, Result, Ok, sym, false, Bool, map, Err, ◌-◌, append-nil}
 use Rattle.std.proofs.Common.{if◌then◌else◌}
-use Rattle.std.proofs.lemmas.Bool.Decides.{Decides-eqb, nat_tests}
+use Rattle.std.proofs.{lemmas.Bool.Decides.Decides-eqb, lemmas.Bool.false≢true}
 use Rattle.cfgx_syntax.specs.{Token.Token, Items.Item, Error.Refusal}
 use Rattle.cfgx_grammar.specs.Question.{Question, Leaf}
 use Rattle.cfgx_grammar.specs.Tree.{ListFunction, Tree, Trees, count}
@@ -15,7 +15,6 @@ use Rattle.cfgx_grammar.specs.parsing.Step.{has_room, result_map, leaf_ended, en
 use Rattle.cfgx_grammar.specs.parsing.Step.{predicate_ended, new_open, and_then, opened}
 use Rattle.cfgx_grammar.specs.parsing.Step.{member_count, function_ended, closed_by, with_last}
 use Rattle.cfgx_grammar.specs.parsing.Step.{apply, step, step_each, one_root, conclude}
-use Rattle.std.proofs.lemmas.Bool.{false≢true}
 use Rattle.cfgx_grammar.specs.{Classification.Class, Classification.class, FirstFault.lacks_value}
 use Rattle.cfgx_grammar.specs.LastPredicate.{class_of, word_of}
 use Rattle.cfgx_grammar.specs.Neighbours.{Kind, takes, kind_of}
@@ -182,13 +181,13 @@ module _ {W M L : Type 0} {builder : Builder W M L} where
       (leaf_tokens p.key.text (option_map (λ v. v.text) p.value) ++ tokens)
   LeafRest-ended s t tokens p is ends r =
       let e = LeafEnds-ended s t p is ends in
-      grind (arith, e)
+      grind arith
 
   -- where a comma may come, what stands in front of it ends
   pub Completes-ended : (last : Option Token) (s t : State builder) (tokens : List Token)
       → takes last Kind.comma ≡ true → predicate_ended s ≡ Ok t → RestOf Separates t 0 tokens
       → Completes last s tokens
-  Completes-ended (Some Token.comma) s t tokens may ends r = grind (arith, same_ended)
+  Completes-ended (Some Token.comma) s t tokens may ends r = grind arith
   Completes-ended (Some Token.close_paren) s t tokens may ends r = grind (arith, same_ended)
   Completes-ended (Some (Token.key _)) s t tokens may ends r = λ key is.
       LeafRest-ended s t tokens _ is ends r
@@ -283,7 +282,7 @@ module _ {W M L : Type 0} {builder : Builder W M L} where
         Completes-member last s _ may (λ none. rw are (Rest-member s.stack s.roots _ others
         (leaf_tree leaf) (IsMember-leaf _ leaf (text, value, refl, classed)) r))
     Completes-applied (Some Token.equals) (Token.value text) may does completes =
-        grind (arith, ok_same)
+        grind arith
     Completes-applied (Some (Token.key _)) Token.equals may does completes = grind (arith, ok_same)
     Completes-applied last Token.all may does completes =
         Completes-member last s _ may
@@ -308,7 +307,7 @@ module _ {W M L : Type 0} {builder : Builder W M L} where
 
   -- the end of the text finds one member at the root, where no function is open
   one_rooted : (len : ℕ) (s u : State builder) → one_root len s ≡ Ok u → s.roots ≡ 1
-  one_rooted len s u e = grind (arith, nat_tests)
+  one_rooted len s u e = grind arith
 
   concluded : (len : ℕ) (s u : State builder) → conclude len s ≡ Ok u
       → (lacks_value s.last ≡ false) × (s.stack ≡ [])
@@ -322,7 +321,7 @@ module _ {W M L : Type 0} {builder : Builder W M L} where
       in
       let (settled, ended, is_one) = ran (predicate_ended s) (one_root len) u rooted in
       let one = one_rooted len settled u is_one in
-      let none : settled.stack ≡ [] = grind (arith, closed, ended) in
+      let none : settled.stack ≡ [] = grind arith in
       Completes-none s.last s settled [] (inr (whole, closed)) ended
       (rw none (omega (arith, one), refl))
   Completes-run (item ∷ items) s t u len runs ends =
@@ -339,4 +338,4 @@ module _ {W M L : Type 0} {builder : Builder W M L} where
   IsTree-accepted items s u len runs ends =
       let (n, others, trees, after, are, none, list, (one, end)) =
       Completes-run items initial s u len runs ends refl in
-      grind (arith, others, trees, are, none, list, end, one_tree, append-nil)
+      grind (arith, list, end, one_tree, append-nil)

@@ -1,6 +1,6 @@
 -- The predicates that a text asks, and the text of one alone.
-use Rattle.std.proofs.{lemmas.Bool.Decides.nat_tests, lemmas.Grind.common_steps}
-use Rattle.std.proofs.{lemmas.Fmt.decimal_is_IsNumeral, lemmas.Str.NoCharPasses-nil}
+use Rattle.std.proofs.{lemmas.Grind.common_steps, lemmas.Str.NoCharPasses-nil}
+use Rattle.std.proofs.lemmas.Fmt.{decimal_is_IsNumeral}
 use Rattle.std.proofs.Common.{◌≤◌, ◌≡◌, ℕ, Bool, true, false, List, [], ◌∷◌, ◌++◌, map, Some, None}
 use Rattle.std.proofs.Common.{Ok, subst, ◌<◌, ◌^◌, nat_eq, nat_lt, length, drop, Option, sym, refl}
 use Rattle.std.proofs.Common.{ap, ◌∙◌, arith, rules, ◌+◌, append_assoc, length-append, drop_at}
@@ -57,7 +57,7 @@ spelled_items : (text : List ℕ) (from : ℕ) (items : List Item) (ending : End
     → ItemsFrom text from items ending → AreSpelled (map (λ item. item.token) items)
 spelled_items text from [] ending come = tt
 spelled_items text from (item ∷ items) ending come =
-    (grind (arith, come.0.spelled), spelled_items text item.end items ending come.1)
+    (grind arith, spelled_items text item.end items ending come.1)
 
 abbrev AreRegular : List Question → Type 0
 AreRegular questions = AllByRecursion IsRegular questions
@@ -115,7 +115,7 @@ no_quote_decimal n small = no_quote_digits (decimal n) (decimal_is_IsNumeral n s
 -- a number that was read is below its limit
 read_small : (limit n : ℕ) (text : List ℕ) → read_below limit text ≡ Some n → n < limit
 unfolding read_below
-read_small limit n text is = grind (arith, nat_tests)
+read_small limit n text is = grind arith
 
 named_small : (text : List ℕ) (atomic : HasAtomic) → atomic_named text ≡ Some atomic
     → IsWidth atomic
@@ -131,7 +131,7 @@ spelt_word : (word : List ℕ) (value : Option (List ℕ)) (question : Question)
     → IsWord word × (nat_lt 3 (length word) ≡ true) × (class word value ≡ predicate question)
     × (spelling question ≡ text_of word value) → IsSpelt question
 spelt_word word value question quoted (is, long, says, spelled) =
-    let is_key : IsKey word = grind (arith, nat_tests) in
+    let is_key : IsKey word = grind arith in
     let regular : IsRegular question =
     record { key = word; value = value; is_key = is_key; can_be_quoted = quoted; says = says } in
     record { regular = regular; spelled = spelled }
@@ -169,7 +169,7 @@ module _ (key : List ℕ) (value : Option (List ℕ)) where
   good_valued : (with : List ℕ → Class) (missing : List ℕ)
       → ((v : List ℕ) → HasNoQuote v → Good (with v)) → (v : Option (List ℕ)) → CanBeQuoted v
       → Good (valued with missing v)
-  good_valued with missing each v quotes = grind (arith, each)
+  good_valued with missing each v quotes = grind arith
 
   good_feature : (v : List ℕ) → HasNoQuote v → Good (target_feature v)
   unfolding class
@@ -180,7 +180,7 @@ module _ (key : List ℕ) (value : Option (List ℕ)) where
   good_read : {X : Type 0} (ask : X → TargetQuestion) (cause : Cause) (read : Option X)
       → ((x : X) → read ≡ Some x → IsSpelt (Question.target (ask x)))
       → Good (if_read ask cause read)
-  good_read ask cause read each = grind (arith, each)
+  good_read ask cause read each = grind arith
 
   good_target : (name v : List ℕ) → HasNoQuote v → Good (target_class name v)
   unfolding class
@@ -230,7 +230,7 @@ module _ (key : List ℕ) (value : Option (List ℕ)) where
 
 slice_middle : (front middle rest : List ℕ)
     → slice_range (front ++ (middle ++ rest)) (length front) (length front + length middle) ≡ middle
-slice_middle front middle rest = grind (arith, nat_tests, common_steps)
+slice_middle front middle rest = grind (arith, common_steps)
 
 stands_between : (text before gap bytes rest : List ℕ) (token : Token) (from start end : ℕ)
     → text ≡ before ++ (gap ++ (bytes ++ rest)) → from ≡ length before
@@ -275,7 +275,7 @@ items_alone : (key : List ℕ) (value : Option (List ℕ)) → IsKey key → Can
 items_alone key None is_key quoted =
     let stands = stands_between key [] [] key [] (Token.key key) 0 0 (length key)
     (sym (append-nil key)) refl refl (omega arith) (NoCharPasses-nil _) (refl, is_key) refl in
-    grind (arith, stands, drop_of_length-le, NoCharPasses-nil)
+    grind (arith, drop_of_length-le)
 items_alone key (Some value) is_key quoted =
     let n = length key in
     let text = key_and_value key value in

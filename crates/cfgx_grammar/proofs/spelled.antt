@@ -272,7 +272,7 @@ module _ {W M L : Type 0} {builder : Builder W M L} (laws : Laws builder) where
       let members : 0 + count trees ≡ count trees = omega arith in
       let ends = l.ends ∙ ap Ok (grown_top (count trees) full _ s.stack) in
       let closed : closed_by l.after z l.after.stack ≡ Ok (function_ended (top ∷ s.stack) full) =
-      grind (arith, ends, room) in
+      grind arith in
       rw (are, one) (record {
         after = with_last Token.close_paren (function_ended (top ∷ s.stack) full);
         written = builder.function_ended (builder.mark_of s.written) function (0 + count trees)
@@ -416,6 +416,6 @@ module _ {W M L : Type 0} {builder : Builder W M L} (laws : Laws builder) where
         written = i.written;
         builds = i.builds;
         whole = record settled { written = builder.root_ended i.written };
-        concludes = grind (arith, i.is_end.2, i.ends);
+        concludes = grind (arith, i.is_end.2);
         whole_is = refl;
       }

@@ -4,7 +4,7 @@
 use Rattle.std.proofs.Common.{◌≡◌, ⊎_elim, ℕ, zero, suc, ◌+◌, ◌<◌, ◌≤◌, ◌&&◌, ◌==◌, Bool, true}
 use Rattle.std.proofs.Common.{false, List, [], ◌∷◌, ◌++◌, length, Option, Some, sym, refl, ap, ◌∙◌}
 use Rattle.std.proofs.Common.{arith, take_at, option_map, take_all, if◌then◌else◌, nat_le}
-use Rattle.std.proofs.Common.{slice_get, None, le-ltb}
+use Rattle.std.proofs.Common.{slice_get, None}
 use Rattle.std.proofs.{lemmas.Bool.cases_lt, lemmas.Option.slice_get_within}
 use Rattle.std.proofs.lemmas.List.{take-append-le, length_push}
 use Rattle.cfgx_syntax.specs.Items.{Item}
@@ -35,7 +35,7 @@ last_below-none test (suc n) none = rw (none n) (last_below-none test n none)
 
 -- no function is open
 pub innermost-none : (front : List Item) → depth front ≡ 0 → innermost front ≡ None
-innermost-none front level = grind (arith, last_below-none, le-ltb)
+innermost-none front level = grind (arith, last_below-none)
 
 pub last_below-found : (test : ℕ → Bool) (place n : ℕ) → place < n → test place ≡ true
     → ((k : ℕ) → place < k → k < n → test k ≡ false) → last_below test n ≡ Some place
@@ -131,7 +131,7 @@ module _ (front : List Item) (item : Item) where
       let same = count_below-same (counts more level from) (counts front level from) (length front)
       (λ k lt. rw (depth_at_front k (omega (arith, lt)), slice_get_front front (item ∷ []) k lt)
       refl) in
-      grind (arith, same, depth_at_end, slice_get_next, length_more)
+      grind (arith, depth_at_end, slice_get_next, length_more)
 
   -- the token begins a member at the depth
   pub members_at_name : (level from : ℕ) → from ≤ length front → depth front ≡ level
@@ -154,7 +154,7 @@ module _ (front : List Item) (item : Item) where
       → IsOpenAt front level function start end place → IsOpenAt more level function start end place
   IsOpenAt-more level function start end place deep is =
       let at = slice_get_within front place is.name is.stands in
-      grind (arith, at, slice_get_front, depth_at_front, take_all, length_more, cases_lt)
+      grind (arith, slice_get_front, depth_at_front, take_all, length_more, cases_lt)
 
   -- the token changes the members of the level, and how many of its members go on
   IsLevel-more : {M : Type 0} (level going goes : ℕ) (top : Open M) → level < depth more

@@ -1,11 +1,10 @@
 -- What the parser refuses it refuses with the first fault.
-use Rattle.std.proofs.{lemmas.Bool.Decides.nat_tests, lemmas.Grind.common_steps}
+use Rattle.std.proofs.{lemmas.Grind.common_steps, Math.Seq.take-append_seam}
 use Rattle.std.proofs.Common.{take, ◌≡◌, ◌⊎◌, inl, inr, ℕ, ◌+◌, Bool, true, false, List, [], ◌∷◌}
 use Rattle.std.proofs.Common.{◌++◌, length, reverse, cond, Option, Some, None, Result, Ok, Err, sym}
 use Rattle.std.proofs.Common.{refl, ap, ◌∙◌, arith, suc, ◌-◌, ◌<◌, option_map, take_all}
 use Rattle.std.proofs.Common.{append_assoc, count_by, option_and_then, if◌then◌else◌, lt-ltb}
 use Rattle.std.proofs.Common.{le-ltb, eq-eqb, ne_eqb, append-nil, not}
-use Rattle.std.proofs.Math.Seq.{take-append_seam}
 use Rattle.cfgx_syntax.specs.{Token.Token, Error.Refusal, Error.invalid_not}
 use Rattle.cfgx_syntax.specs.Items.{Item, Ending, lexical}
 use Rattle.cfgx_grammar.specs.Tree.{ListFunction}
@@ -23,7 +22,7 @@ use Rattle.cfgx_grammar.specs.parsing.State.{name_of}
 use Rattle.cfgx_grammar.specs.parsing.Step.{result_map, predicate_ended, over_top, one_more}
 use Rattle.cfgx_grammar.specs.parsing.Step.{and_then, member_count, has_room, function_ended}
 use Rattle.cfgx_grammar.specs.parsing.Step.{new_open, closed_by, opened, with_last, with_parens}
-use Rattle.cfgx_grammar.specs.parsing.Step.{apply, step, unclosed, one_root, concluded_by, conclude}
+use Rattle.cfgx_grammar.specs.parsing.Step.{apply, step, unclosed, concluded_by, conclude}
 use Rattle.cfgx_grammar.specs.parsing.Step.{step_each, ended_as, answer_from, root_more}
 use Rattle.cfgx_grammar.proofs.faults.Levels.{Levels, IsLevel, start_of, Levels-same, Levels-member}
 use Rattle.cfgx_grammar.proofs.faults.Levels.{Levels-open, slice_get_next, members_at_other}
@@ -93,16 +92,16 @@ Meets P (Err refusal) fault = fault ≡ Some refusal
 module _ {A B : Type 0} (P : A → Type 0) (Q : B → Type 0) where
   meets_map : (f : A → B) (r : Result A Refusal) (fault : Option Refusal) → Meets P r fault
       → ((t : A) → P t → Q (f t)) → Meets Q (result_map f r) fault
-  meets_map f r fault meets each = grind (arith, each)
+  meets_map f r fault meets each = grind arith
 
   meets_then : (f : A → Result B Refusal) (r : Result A Refusal) (fault next : Option Refusal)
       → Meets P r fault → ((t : A) → P t → Meets Q (f t) next)
       → Meets Q (and_then f r) (option_or fault next)
-  meets_then f r fault next meets each = grind (arith, each)
+  meets_then f r fault next meets each = grind arith
 
 meets_each : {A : Type 0} (P Q : A → Type 0) (r : Result A Refusal) (fault : Option Refusal)
     → Meets P r fault → ((t : A) → P t → Q t) → Meets Q r fault
-meets_each P Q r fault meets each = grind (arith, each)
+meets_each P Q r fault meets each = grind arith
 
 abbrev pub EndAgrees : {A : Type 0} → Result A Refusal → Option Refusal → Type 0
 EndAgrees r fault = Meets (λ _. Unit {0}) r fault
@@ -119,12 +118,6 @@ meets_when : {A : Type 0} (P : A → Type 0) (b : Bool) (r : Result A Refusal) (
     (fault : Option Refusal) → (b ≡ true → Meets P r fault)
     → Meets P (if b then r else Err refused) (option_or (when (not b) refused) fault)
 meets_when P b r refused fault pass = grind arith
-
--- a test that is the first fault
-meets_unless : {A : Type 0} (P : A → Type 0) (b : Bool) (r : Result A Refusal) (refused : Refusal)
-    (fault : Option Refusal) → (b ≡ false → Meets P r fault)
-    → Meets P (if b then Err refused else r) (option_or (when b refused) fault)
-meets_unless P b r refused fault pass = grind arith
 
 -- the questions on a token that may follow the last one
 abbrev pub fault_by : List Item → Item → Option Refusal
@@ -210,14 +203,14 @@ module _ {W M L : Type 0} {builder : Builder W M L} (front : List Item) (s : Sta
 
     balanced : (token : Token) (height : ℕ) → Rises token height
         → closings (more token) + height ≡ names (more token)
-    balanced token height rises = grind (arith, nat_tests, common_steps)
+    balanced token height rises = grind (arith, common_steps)
 
     -- what the token leaves, by what it says of its own
     matched : (token : Token) (t : State builder) (w : ℕ) → t.last ≡ Some token
         → t.pending ≡ begun_token (at token) (reverse front) token → going t.pending ≡ w
         → Rises token (length t.stack)
         → Levels (more token) t.roots (names_function token) t.stack w → Matches (more token) t
-    matched token t w last pending goes rises levels = grind (arith, nat_tests, common_steps)
+    matched token t w last pending goes rises levels = grind (arith, common_steps)
 
     -- a token that neither opens nor closes a function and begins no member
     stays : (token : Token) (t : State builder) (w : ℕ) → t.last ≡ Some token
@@ -225,7 +218,7 @@ module _ {W M L : Type 0} {builder : Builder W M L} (front : List Item) (s : Sta
         → Rises token (length t.stack) → t.pending ≡ begun_token (at token) (reverse front) token
         → going t.pending ≡ w → Levels front t.roots false t.stack w → Matches (more token) t
     stays token t w last no_name other rises pending goes levels =
-        grind (arith, nat_tests, common_steps, matched, Levels-same, balanced, members_at_other)
+        grind (arith, common_steps, Levels-same, balanced, members_at_other)
 
     -- what the token leads to, without it as the last one
     abbrev After : Token → State builder → Type 0
@@ -285,7 +278,7 @@ module _ {W M L : Type 0} {builder : Builder W M L} (front : List Item) (s : Sta
         (omega (arith, balanced token _ rises))
         (λ level from le. members_at_other front (at token) level from refl) old.1 in
         let levels : Levels (more token) (root_more rest t.roots) false (over_top one_more rest) 0 =
-        grind (arith, kept) in
+        grind arith in
         let height : length (over_top one_more rest) + 1 ≡ length s.stack + 0 = grind arith in
         matched token _ 0 refl e.settled (ap going e.settled) height levels
 
@@ -343,21 +336,14 @@ module _ {W M L : Type 0} {builder : Builder W M L} (front : List Item) (s : Sta
     step_agrees token = rw m.last (meets_when _ _ _ _ _
         (λ may. meets_map _ _ _ _ _ (token_step token may) (λ t matches. matches)))
 
-  -- the end of the text
-  root_ends : (len : ℕ) (r : Result (State builder) Refusal) (fault : Option Refusal)
-      → s.stack ≡ [] → Meets (Ended front named s) r fault
-      → EndAgrees (and_then (one_root len) r)
-      (option_or fault (option_or (empty_fault len front) (roots_fault len front)))
-  root_ends len r fault is ends = grind (arith, nat_tests, common_steps)
-
   end_stack : (len : ℕ) (stack : List (Open M)) → s.stack ≡ stack
       → lacks_value (last_token front) ≡ false
       → EndAgrees (concluded_by len s stack)
       (option_or (unclosed_innermost len front) (closed_end len front))
-  end_stack len stack is whole = grind (arith, innermost-none, depth_is, root_ends, open_fault_is)
+  end_stack len stack is whole = grind (arith, innermost-none, depth_is, open_fault_is)
 
   pub end_agrees : (len : ℕ) → EndAgrees (conclude len s) (end_fault len front)
-  end_agrees len = grind (arith, meets_unless, end_stack)
+  end_agrees len = grind (arith, end_stack)
 
 -- What the steps answer for all tokens of a text is its first fault, or none.
 
@@ -373,7 +359,7 @@ first_is : (items all front : List Item) → all ≡ front ++ items
 first_is [] all front is = rw (ap length (is ∙ append-nil front)) (grind arith)
 first_is (item ∷ items) all front is =
     let rest = first_is items all _ (is ∙ sym (append_assoc front (item ∷ []) items)) in
-    grind (arith, take-append_seam, slice_get_next, append_assoc, length_more, rest)
+    grind (arith, take-append_seam, slice_get_next, length_more, rest)
 
 scan : {W M L : Type 0} {builder : Builder W M L} (items front : List Item) (s : State builder)
     → Matches front s
