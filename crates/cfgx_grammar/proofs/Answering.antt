@@ -117,5 +117,6 @@ reads_one_way text one = decided (answer text one) refl
   where
     decided : (r : Result (State tree_builder) Refusal) → answer text one ≡ r
         → (reading : Reading) × ReadsAs text reading
-    decided (Ok u) e = let (tree, has) = tree_of text one u e in (Ok tree, ReadsAs-has (Ok tree) has)
+    decided (Ok u) e =
+        let (tree, has) = tree_of text one u e in (Ok tree, ReadsAs-has (Ok tree) has)
     decided (Err refusal) e = (Err refusal, ReadsAs-refused text one refusal e)
