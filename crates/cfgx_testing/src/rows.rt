@@ -148,14 +148,27 @@ where
     check_count(alloc, passing(alloc, table, &check)?, rows)
 }
 
-/// As [`check_rows`], of each of some tables, beside which the number of rows stands.
-pub fn check_tables<F>(alloc: Global, tables: &[(&str, usize)], check: F) -> Result<(), String>
+/// The name of a check, a table for it, and how many rows that has.
+pub type Checked<'a> = (&'a str, &'a str, usize);
+
+// What is wrong, after the name of the check.
+fn named(alloc: Global, name: &str, wrong: String) -> String {
+    match format!(in alloc; "{name}: {wrong}") {
+        Ok(told) => told,
+        Err(_) => wrong,
+    }
+}
+
+/// As [`check_rows`], of each of some tables, by the check of its name, which the error tells too.
+pub fn check_tables<F>(alloc: Global, tables: &[Checked<'_>], check: F) -> Result<(), String>
 where
-    F: Fn(&[String]) -> bool,
+    F: Fn(&str, &[String]) -> bool,
     requires { F.IsAlwaysCallable check }
 {
-    for (table, rows) in tables {
-        check_count(alloc, passing(alloc, table, &check)?, *rows)?;
+    for (name, table, rows) in tables {
+        if let Err(wrong) = check_rows(alloc, table, *rows, |row| check(name, row)) {
+            return Err(named(alloc, name, wrong));
+        }
     }
     Ok(())
 }
