@@ -14,25 +14,20 @@ fn is_filled(heap: &Refusing<Global>) -> Result<bool, AllocError> {
     Ok(bytes.len() == 100)
 }
 
-// How many growths are refused, one after the other, until the list is filled, or 0 if it is not
-// filled although none was.
-fn refused_growths(heap: &Refusing<Global>) -> u64 {
-    for refused in 0..100u64 {
-        heap.refuse(refused.saturating_add(1));
-        if holds(is_filled(heap)) {
-            return refused;
-        }
-        if !heap.has_refused() {
-            return 0;
-        }
-    }
-    0
-}
-
 #[test]
 fn each_growth_is_refused_in_turn(rt: HostRuntime) {
     let heap = Refusing::new(rt.alloc());
-    assert!(rt; refused_growths(&heap) >= 3 && !heap.has_refused());
+    let mut refused = 0u64;
+    for n in 1..=100 {
+        heap.refuse(n);
+        if holds(is_filled(&heap)) {
+            break;
+        }
+        assert!(rt; heap.has_refused(), "growth {n}");
+        refused = n;
+    }
+    assert!(rt; !heap.has_refused());
+    assert!(rt; refused >= 3, "{refused} growths");
 }
 
 // Whether the second growth from now is refused, leaves the list as it was, and is not refused

@@ -135,9 +135,7 @@ fn answer_to<A: SmallAllocator>(alloc: A, call: &str, text: &str, plain: &Read) 
         "from_str" => Expression::from_str(alloc, text),
         _ => Expression::parse(alloc, text),
     };
-    let answer = answer_after(alloc, call, &read, plain);
-    drop(read);
-    answer
+    answer_after(alloc, call, &read, plain)
 }
 
 /// Whether the call on the expression gives its plain answer.

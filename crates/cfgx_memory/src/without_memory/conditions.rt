@@ -30,27 +30,19 @@ fn are_equal<A: SmallAllocator>(one: &Read<A>, other: &Read<A>) -> Option<(bool,
 // Whether the expression of the text is equal to that of `TEXT`, and its predicates, as is wanted.
 fn compares(heap: Heap<'_>, text: &str, wanted: (bool, bool)) -> bool {
     let (one, other) = (read(heap, TEXT), read(heap, text));
-    let are_equal = are_equal(&one, &other);
-    drop(one);
-    drop(other);
-    are_equal == Some(wanted)
+    are_equal(&one, &other) == Some(wanted)
 }
 
-// Adds the spelling of the predicate, if there is one.
-fn is_spelled(predicate: Option<Predicate<'_>>, bytes: &mut Vec<u8>) -> bool {
-    let is_spelled = match &predicate {
-        Some(predicate) => spell(predicate, bytes).is_ok(),
-        None => false,
-    };
-    drop(predicate);
-    is_spelled
+// Adds the spelling of the next predicate.
+fn is_spelled(predicates: &mut Predicates<'_>, bytes: &mut Vec<u8>) -> bool {
+    matches!(predicates.next(), Some(predicate) if spell(&predicate, bytes).is_ok())
 }
 
 // Whether these numbers of predicates are left, one after another, which are spelled so.
 fn are_spelled(out: Global, mut asked: Predicates<'_>, left: &[usize], told: &str) -> bool {
     let mut bytes = Vec::new(out);
     for left in left {
-        if asked.left() != *left || !is_spelled(asked.next(), &mut bytes) {
+        if asked.left() != *left || !is_spelled(&mut asked, &mut bytes) {
             return false;
         }
     }
@@ -82,13 +74,10 @@ fn is_such<A: SmallAllocator>(asked: Option<Predicate<'_>>, rows: &[TargetInfo<'
 
 // Whether the first predicate of the text is true of the fourth of five rows alone.
 fn is_asked<A: SmallAllocator>(heap: Heap<'_>, text: &str, rows: &[TargetInfo<'_, A>]) -> bool {
-    let read = read(heap, text);
-    let is_such = match &read {
+    match &read(heap, text) {
         Ok(asked) => is_such(asked.predicates().next(), rows),
         Err(_) => false,
-    };
-    drop(read);
-    is_such
+    }
 }
 
 // Whether the first predicate of the text is true of the fourth of the rows that are built in, and

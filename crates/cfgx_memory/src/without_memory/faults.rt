@@ -53,11 +53,8 @@ foo ( | unexpected term | foo (\n    ^ expected one of `=`, `,`, `)` here
 key) | unopened parens | key)\n   ^ unopened parens
 "#;
 
-/// A fault, or none.
-type Made<A> = Result<ParseError<A>, AllocError>;
-
 // The fault of the text.
-fn fault<'h>(heap: Heap<'h>, text: &str) -> Made<Heap<'h>> {
+fn fault<'h>(heap: Heap<'h>, text: &str) -> Result<ParseError<Heap<'h>>, AllocError> {
     match Expression::parse(heap, text) {
         Err(Failure::Parse(error)) => Ok(error),
         _ => Err(AllocError),
@@ -69,20 +66,13 @@ fn is_shown<A: Allocator>(alloc: Global, error: &ParseError<A>, told: &str, prin
     error.reason != Reason::Empty && error.description() == told && prints(alloc, error, printed)
 }
 
-// Whether the first two are equal, and not to the third.
-fn are_told_apart<A: Allocator>(one: &Made<A>, same: &Made<A>, other: &Made<A>) -> bool {
-    matches!((one, same, other), (Ok(one), Ok(same), Ok(other)) if one == same && one != other)
-}
-
 // Whether the fault of the text is shown so, and equal to itself, and not to that of another text.
 fn is_row(alloc: Global, heap: Heap<'_>, text: &str, told: &str, printed: &str) -> bool {
     heap.refuse(0);
-    let (one, same, other) = (fault(heap, text), fault(heap, text), fault(heap, "kei)"));
+    let faults = (fault(heap, text), fault(heap, text), fault(heap, "kei)"));
     heap.refuse(EVERY);
-    let are_told_apart = are_told_apart(&one, &same, &other);
-    drop(same);
-    drop(other);
-    are_told_apart && holds_without_memory(heap, one, |one| is_shown(alloc, one, told, printed))
+    matches!(&faults, (Ok(one), Ok(same), Ok(other))
+        if one == same && one != other && is_shown(alloc, one, told, printed))
 }
 
 // Whether the fault of a text that is no width prints what it has to.

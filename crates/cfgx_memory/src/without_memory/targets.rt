@@ -42,12 +42,6 @@ fn is_read(heap: Heap<'_>, text: &str, width: HasAtomic) -> bool {
     is_read
 }
 
-fn has<A: SmallAllocator>(list: &Families<'_, A>, family: Family<'_>) -> bool {
-    let has = list.contains(&family);
-    drop(family);
-    has
-}
-
 // Whether these are lists of two families, of the same two, and of one that is above. A list of
 // none is empty.
 fn are_two_families<'f, A: SmallAllocator>(
@@ -58,9 +52,9 @@ fn are_two_families<'f, A: SmallAllocator>(
 ) -> bool {
     are_ordered(list, same, above)
         && list.as_slice().len() == 2
-        && has(list, Family::unix())
-        && has(list, Family::wasm())
-        && !has(list, Family::windows())
+        && list.contains(&Family::unix())
+        && list.contains(&Family::wasm())
+        && !list.contains(&Family::windows())
         && prints(alloc, list, "{unix, wasm}")
         && Families::<'_, A>::new_const(&[]).as_slice().is_empty()
 }
@@ -68,30 +62,30 @@ fn are_two_families<'f, A: SmallAllocator>(
 /// A list, or out of memory.
 type Made<'f, A> = Result<Families<'f, A>, AllocError>;
 
-// Whether such lists were made.
-fn are_made<'f, A: SmallAllocator>(
+// Whether these are such lists, if each of them was made.
+fn are_made<A: SmallAllocator>(
     alloc: Global,
-    list: &Made<'f, A>,
-    same: &Made<'f, A>,
-    above: &Made<'f, A>,
-) -> bool {
-    match (list, same, above) {
-        (Ok(list), Ok(same), Ok(above)) => are_two_families(alloc, list, same, above),
-        _ => false,
-    }
+    list: Made<'_, A>,
+    same: Made<'_, A>,
+    above: Made<'_, A>,
+) -> Result<bool, AllocError> {
+    let list = list?;
+    let same = same?;
+    let above = above?;
+    let are_two = are_two_families(alloc, &list, &same, &above);
+    drop(list);
+    drop(same);
+    drop(above);
+    Ok(are_two)
 }
 
-fn are_families(alloc: Global, heap: Heap<'_>) -> bool {
+fn are_families(alloc: Global, heap: Heap<'_>) -> Result<bool, AllocError> {
     heap.refuse(0);
     let list = Families::unix_wasm(heap);
     let same = Families::unix_wasm(heap);
     let above = Families::wasm(heap);
     heap.refuse(EVERY);
-    let are_made = are_made(alloc, &list, &same, &above);
-    drop(list);
-    drop(same);
-    drop(above);
-    are_made
+    are_made(alloc, list, same, above)
 }
 
 fn are_sorted(families: [Family<'_>; 2]) -> bool {
@@ -156,30 +150,25 @@ fn is_builtin<A: SmallAllocator>(table: &TargetTable<'_, A>) -> bool {
         && get_builtin_target_by_triple(table, "aarch64-apple").is_none()
 }
 
-// Whether all checks hold over the heap.
-fn check_lists(alloc: Global, heap: Heap<'_>) -> Result<(), &'static str> {
-    let table = TargetTable::builtins(heap);
+#[test]
+fn lists_and_rows_take_no_memory(rt: HostRuntime) -> Result<(), &'static str> {
+    let heap = empty_heap(rt.alloc());
+    let table = TargetTable::builtins(&heap);
     let (first, second) = (Endian::big, Endian::little);
     all_hold(&[
         ("widths", are_ordered(&EIGHT, &EIGHT, &HasAtomic::Pointer)),
         ("orders", are_ordered(&first, &first, &second)),
         ("sorted", are_sorted([Family::unix(), Family::wasm()])),
         ("unsorted", !are_sorted([Family::wasm(), Family::unix()])),
-        ("lists of widths", holds(are_widths(alloc, heap))),
-        ("a number", is_read(heap, "+08", EIGHT)),
-        ("ptr", is_read(heap, "ptr", HasAtomic::Pointer)),
-        ("lists of families", are_families(alloc, heap)),
-        ("a table", are_refused(heap, &[0, 2, 4], None, false)),
-        ("no table", are_refused(heap, &[0, 2, 2], Some(2), false)),
-        ("equal rows", are_refused(heap, &[1, 1, 2], Some(1), true)),
-        ("built in", holds_without_memory(heap, table, is_builtin)),
-    ])
-}
-
-#[test]
-fn lists_and_rows_take_no_memory(rt: HostRuntime) -> Result<(), &'static str> {
-    let heap = empty_heap(rt.alloc());
-    let checked = check_lists(rt.alloc(), &heap);
+        ("lists of widths", holds(are_widths(rt.alloc(), &heap))),
+        ("a number", is_read(&heap, "+08", EIGHT)),
+        ("ptr", is_read(&heap, "ptr", HasAtomic::Pointer)),
+        ("lists of families", holds(are_families(rt.alloc(), &heap))),
+        ("a table", are_refused(&heap, &[0, 2, 4], None, false)),
+        ("no table", are_refused(&heap, &[0, 2, 2], Some(2), false)),
+        ("equal rows", are_refused(&heap, &[1, 1, 2], Some(1), true)),
+        ("built in", holds_without_memory(&heap, table, is_builtin)),
+    ])?;
     assert!(rt; has_every_block(heap));
-    checked
+    Ok(())
 }
