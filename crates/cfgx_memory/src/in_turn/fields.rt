@@ -35,37 +35,28 @@ fn copies_field<K: Drop, A: SmallAllocator>(alloc: A, text: &str) -> Finding {
     are_copied(alloc, owned, Field::new_const(text), Field::try_clone)
 }
 
-// The predicate of this kind whose field is made of the text.
-macro_rules! predicate {
-    ($kind:ident $new:ident $text:ident) => {
-        match $kind {
-            "target_abi" => TargetPredicate::Abi(Abi::$new($text)),
-            "target_arch" => TargetPredicate::Arch(Arch::$new($text)),
-            "target_vendor" => TargetPredicate::Vendor(Vendor::$new($text)),
-            "target_os" => TargetPredicate::Os(Os::$new($text)),
-            "target_family" => TargetPredicate::Family(Family::$new($text)),
-            "target_env" => TargetPredicate::Env(Env::$new($text)),
-            _ => TargetPredicate::Panic(Panic::$new($text)),
-        }
+// Predicates of the kind.
+macro_rules! copies_predicate {
+    ($kind:ident $alloc:ident $text:ident) => {
+        are_copied(
+            $alloc,
+            TargetPredicate::$kind($kind::new(String::from_str($alloc, $text)?)),
+            TargetPredicate::$kind($kind::new_const($text)),
+            TargetPredicate::try_clone,
+        )
     };
 }
 
-fn owned<'a, A: SmallAllocator>(kind: &str, text: String<A>) -> TargetPredicate<'a, A> {
-    predicate!(kind new text)
-}
-
-fn borrowed<'a, A: SmallAllocator>(kind: &str, text: &'a str) -> TargetPredicate<'a, A> {
-    predicate!(kind new_const text)
-}
-
 fn copies_predicate<A: SmallAllocator>(alloc: A, kind: &str, text: &str) -> Finding {
-    let owned = owned(kind, String::from_str(alloc, text)?);
-    are_copied(
-        alloc,
-        owned,
-        borrowed(kind, text),
-        TargetPredicate::try_clone,
-    )
+    match kind {
+        "target_abi" => copies_predicate!(Abi alloc text),
+        "target_arch" => copies_predicate!(Arch alloc text),
+        "target_vendor" => copies_predicate!(Vendor alloc text),
+        "target_os" => copies_predicate!(Os alloc text),
+        "target_family" => copies_predicate!(Family alloc text),
+        "target_env" => copies_predicate!(Env alloc text),
+        _ => copies_predicate!(Panic alloc text),
+    }
 }
 
 // A value of this kind, made and copied.
@@ -92,31 +83,22 @@ fn copies_families<'f, A: SmallAllocator>(alloc: A, families: &'f [Family<'f, A>
     gives(list.try_clone(alloc), &list)
 }
 
-fn copies_widths<A: SmallAllocator>(alloc: A) -> Finding {
-    let widths = HasAtomics::<A>::new_const(SORTED);
-    Ok(widths.try_clone(alloc)?.as_slice() == SORTED)
-}
-
-// The predicate of this name, which has no text.
-fn without_text<'a, A: SmallAllocator>(name: &str) -> TargetPredicate<'a, A> {
-    match name {
+// A value without an owned text.
+fn copies_borrowed<A: SmallAllocator>(alloc: A, kind: &str) -> Finding {
+    let predicate = match kind {
         "big" => TargetPredicate::Endian(Endian::big),
         "ptr" => TargetPredicate::HasAtomic(HasAtomic::Pointer),
         "8" => TargetPredicate::HasAtomic(HasAtomic::IntegerSize(8)),
-        _ => TargetPredicate::PointerWidth(64),
-    }
-}
-
-// A value without an owned text.
-fn copies_borrowed<A: SmallAllocator>(alloc: A, kind: &str) -> Finding {
-    match kind {
-        "widths" => copies_widths(alloc),
-        "families" => copies_families(alloc, &[Family::unix()]),
-        _ => {
-            let (one, other) = (without_text(kind), without_text(kind));
-            are_copied(alloc, one, other, TargetPredicate::try_clone)
+        "64" => TargetPredicate::PointerWidth(64),
+        "widths" => {
+            let widths = HasAtomics::<A>::new_const(SORTED);
+            return Ok(widths.try_clone(alloc)?.as_slice() == SORTED);
         }
-    }
+        _ => return copies_families(alloc, &[Family::unix()]),
+    };
+    let is_copied = gives(predicate.try_clone(alloc), &predicate);
+    drop(predicate);
+    is_copied
 }
 
 // The kinds of fields, and of predicates that have one.
