@@ -1,18 +1,15 @@
 -- What a chain of calls says to a caller of `eval`.
-use Rattle.std.proofs.Common.{◌≡◌, ◌≤◌, ◌+◌, ℕ, min, suc, List, [], ◌∷◌, length, drop, refl}
+use Rattle.std.proofs.Common.{◌≡◌, ◌≤◌, ◌+◌, ℕ, min, suc, List, length, refl}
 use Rattle.std.proofs.Common.{ap, ◌∙◌, arith, sym}
 use Rattle.std.specs.Borrow.{MutBor}
 use Rattle.std.specs.List.{AllZip}
-use Rattle.std.proofs.lemmas.List.{nil_from_length}
 use Rattle.std.proofs.lemmas.Slice.Zip.{AllZip-map}
 use Rattle.cfgx_grammar.specs.Question.{Question}
 use Rattle.cfgx_grammar.specs.Answer.{HasOneTree}
-use Rattle.cfgx_grammar.specs.Given.{AreAnswersTo}
 use Rattle.cfgx_grammar.specs.Tree.{asked}
-use Rattle.cfgx_grammar.specs.Fold.{Operations, first_or, fold}
+use Rattle.cfgx_grammar.specs.Fold.{Operations, fold}
 use Rattle.cfg_expr.specs.Asking.{AnswersBy, Asker, Asks, Calls}
 use Rattle.cfg_expr.specs.Evaluation.{Evaluates, IsValueBy}
-use Rattle.cfgx_grammar.proofs.Answering.{only_tree}
 
 -- each call adds one to what the closure counts in, up to a bound, and counts on in the same place
 abbrev pub AddsOne : {F T : Type 0} → Asker F T → (F → MutBor ℕ) → ℕ → Type 0
@@ -53,40 +50,6 @@ module _ {F T : Type 0} (asker : Asker F T) where
       let first = each before question given between asks in
       let others = Calls-count seen most each (omega (arith, first.0)) calls in
       (omega (arith, first.0, others.0), others.1 ∙ first.1)
-
-  -- if each call answers the first one of the answers that are seen of the closure, and takes it
-  -- off, the answers are those that are seen at the start, if there is one for each question
-  Calls-taken : (seen : F → List T) (otherwise : T)
-      → ((before : F) (question : Question) (given : T) (after : F)
-      → Asks asker before question given after
-      → (given ≡ first_or otherwise (seen before)) × (seen after ≡ drop 1 (seen before)))
-      → {before after : F} {questions : List Question} {answers : List T} (all : List T)
-      → Calls asker before questions answers after → seen before ≡ all
-      → length all ≡ length questions → answers ≡ all
-  Calls-taken seen otherwise each all (Calls.none state) are many = sym (nil_from_length all many)
-  Calls-taken seen otherwise each (x ∷ all)
-      (Calls.more before question given between _ _ _ asks calls) are many =
-      let one = each before question given between asks in
-      let rest = Calls-taken seen otherwise each all calls (one.1 ∙ ap (drop 1) are)
-      (omega arith) in
-      rw (one.0, are, rest)
-  Calls-taken seen otherwise each [] calls are many = absurd (omega arith)
-
--- there the value is that over all the answers that are seen at the start, if there are as many as
--- a tree of the text asks
-pub Evaluates-taken : {F T : Type 0} {logic : Operations T} {asker : Asker F T} {text : List ℕ}
-    {before after : F} {value : T} (seen : F → List T) (otherwise : T) (answers : List T)
-    → Evaluates logic asker text before value after
-    → ((before : F) (question : Question) (given : T) (after : F)
-    → Asks asker before question given after
-    → (given ≡ first_or otherwise (seen before)) × (seen after ≡ drop 1 (seen before)))
-    → seen before ≡ answers
-    → AreAnswersTo answers text
-    → (one : HasOneTree text) × (value ≡ fold logic one.tree answers)
-Evaluates-taken {logic} {asker} {before} {after} seen otherwise answers e each are tree =
-    let taken = Calls-taken asker seen otherwise each answers e.calls are
-    (tree.2 ∙ ap (λ tree. length (asked tree)) (only_tree e.one tree.0 tree.1)) in
-    (e.one, e.value_is ∙ ap (fold logic e.one.tree) taken)
 
 -- if no call changes the closure, the value is that over the function by which it answers
 pub Evaluates-by : {F T : Type 0} {logic : Operations T} {asker : Asker F T} {text : List ℕ}

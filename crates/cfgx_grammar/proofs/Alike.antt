@@ -50,7 +50,7 @@ SameShape {T} {U} = Alike (λ (x : T) (y : U). Unit {0})
 abbrev pub SameShapes : {T U : Type 0} → Trees T → Trees U → Type 0
 SameShapes {T} {U} = AlikeEach (λ (x : T) (y : U). Unit {0})
 
--- two tests that say the same of trees that are alike
+-- two tests that have the same answer for any two trees that are alike
 abbrev pub SameTests : {T U : Type 0} (R : T → U → Type 0) → (Tree T → Bool) → (Tree U → Bool)
     → Type 0
 SameTests {T} {U} R f g = (x : Tree T) (y : Tree U) → Alike R x y → f x ≡ g y
@@ -77,9 +77,9 @@ module _ {T U : Type 0} (R : T → U → Type 0) where
         → AllZip R (asked_by f xs) (asked_by g ys)
     asked_by-alike f g same _ _ AlikeEach.none = tt
     asked_by-alike f g same _ _ (AlikeEach.more x y xs ys first rest) =
-        rw (same x y first) (AllZip-append R _ _ _ _
-        (AllZip-if R (g y) (asked x) [] (asked y) [] (asked-alike x y first) tt)
-        (asked_by-alike f g same xs ys rest))
+        let here = asked-alike x y first in
+        let others = asked_by-alike f g same xs ys rest in
+        grind (arith, AllZip-append)
 
   pub length-asked : (x : Tree T) (y : Tree U) → Alike R x y → length (asked y) ≡ length (asked x)
   length-asked x y alike = AllZip-long R (asked x) (asked y) (asked-alike x y alike)

@@ -3,7 +3,7 @@ use Rattle.std.proofs.Common.{◌≡◌, Bool, ◌++◌, refl, append_assoc, ari
 use Rattle.cfgx_grammar.specs.Question.{Question}
 use Rattle.cfgx_grammar.specs.Tree.{Tree, Trees, is_function, is_leaf, only, followed_by, arranged}
 use Rattle.cfgx_grammar.specs.Tree.{asked_by, asked_each}
-use Rattle.cfgx_grammar.specs.Fold.{Operations, value_of, values_by, values_of}
+use Rattle.cfgx_grammar.specs.Fold.{Operations, values_by, values_of}
 
 asked_each-followed_by : (trees others : Trees Question) → asked_each (followed_by trees others) ≡
     asked_each trees ++ asked_each others
@@ -14,13 +14,11 @@ asked_each-followed_by (Trees.more tree trees) others =
 asked_each-only : (test : Tree Question → Bool) (trees : Trees Question)
     → asked_each (only test trees) ≡ asked_by test trees
 asked_each-only test Trees.none = refl
-asked_each-only test (Trees.more tree trees) =
-    rw (← asked_each-only test trees) (grind arith)
+asked_each-only test (Trees.more tree trees) = grind (arith, asked_each-only test trees)
 
 pub asked_each-arranged : (trees : Trees Question) → asked_by is_function trees
     ++ asked_by is_leaf trees ≡ asked_each (arranged trees)
-asked_each-arranged trees =
-    rw (asked_each-followed_by, asked_each-only is_function, asked_each-only is_leaf) refl
+asked_each-arranged trees = grind (arith, asked_each-followed_by, asked_each-only)
 
 module _ {T : Type 0} (logic : Operations T) where
   values_of-followed_by : (trees others : Trees T) → values_of logic (followed_by trees others)
@@ -36,5 +34,4 @@ module _ {T : Type 0} (logic : Operations T) where
 
   pub values_of-arranged : (trees : Trees T) → values_by logic is_function trees
       ++ values_by logic is_leaf trees ≡ values_of logic (arranged trees)
-  values_of-arranged trees =
-      rw (values_of-followed_by, values_of-only is_function, values_of-only is_leaf) refl
+  values_of-arranged trees = grind (arith, values_of-followed_by, values_of-only)

@@ -1,5 +1,4 @@
 -- Answers that are dealt out to a tree are what the answered tree asks.
-use Rattle.std.proofs.lemmas.Bool.Decides.{nat_tests}
 use Rattle.std.proofs.lemmas.Grind.{common_steps}
 use Rattle.std.proofs.Common.{append_assoc, drop_at, ◌≡◌, ◌≤◌, List, [], ◌∷◌, ◌++◌, length, take}
 use Rattle.std.proofs.Common.{refl, sym, ap, ◌∙◌, arith, length-append, length-drop, take-add}
@@ -21,7 +20,7 @@ module _ {X T : Type 0} (otherwise : T) where
       → Remade trees answers → (more : List T)
       → let all = (asked_by is_function answers ++ asked_by is_leaf answers) ++ more in
       answered_each otherwise trees all (left_after (asked_by is_function trees) all) ≡ answers
-  list_front trees answers many remade more = grind (arith, nat_tests, common_steps)
+  list_front trees answers many remade more = grind (arith, common_steps)
 
   mutual
     answered-front : (tree : Tree X) (answer : Tree T) → SameShape tree answer → (more : List T)
@@ -76,14 +75,7 @@ module _ {X T : Type 0} (otherwise : T) where
       let made = answered_each otherwise trees answers (left_after inner answers) in
       length (inner ++ own) ≤ length answers
       → asked_by is_function made ++ asked_by is_leaf made ≡ take (length (inner ++ own)) answers
-  list_taken trees answers takes enough =
-      let inner = asked_by is_function trees in
-      let own = asked_by is_leaf trees in
-      let many = length-append inner own in
-      let left = length-drop (length inner) answers in
-      let taken = takes answers (left_after inner answers) (omega (arith, many))
-      (omega (arith, many, left)) in
-      taken_both inner own answers _ _ taken.0 taken.1
+  list_taken trees answers takes enough = grind (arith, length-append, length-drop, taken_both)
 
   mutual
     asked-taken : (tree : Tree X) (answers : List T) → length (asked tree) ≤ length answers
@@ -107,11 +99,8 @@ module _ {X T : Type 0} (otherwise : T) where
         let left = length-drop (length (asked tree)) inner in
         let others = asked_each-taken trees (left_after (asked tree) inner) own
         (omega (arith, many, left)) some in
-        let first = asked-taken tree inner (omega (arith, many)) in
-        (taken_both (asked tree) rest inner _ _ first others.0, others.1)
+        grind (arith, taken_both, asked-taken tree inner (omega (arith, many)), others)
 
   pub asked-answered : (tree : Tree X) (answers : List T)
       → length answers ≡ length (asked tree) → asked (answered otherwise tree answers) ≡ answers
-  asked-answered tree answers many =
-      asked-taken tree answers (omega (arith, many))
-      ∙ take_all (length (asked tree)) answers (omega (arith, many))
+  asked-answered tree answers many = grind (arith, asked-taken, take_all)

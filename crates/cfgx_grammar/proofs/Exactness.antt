@@ -1,10 +1,8 @@
 -- Three values are exact: a value is known exactly if every filling leads to it.
-use Rattle.std.proofs.lemmas.Grind.{common_steps}
-use Rattle.std.proofs.Common.{◌≡◌, Bool, true, false, not, ◌&&◌, ◌||◌, List, [], ◌∷◌, arith}
+use Rattle.std.proofs.Common.{◌≡◌, Bool, true, false, not, List, [], ◌∷◌, arith}
 use Rattle.std.proofs.Common.{length, Option, Some, refl, ap, ◌∙◌, map, unwrap_or}
 use Rattle.std.proofs.lemmas.List.{map-append}
 use Rattle.std.specs.List.{AllZip}
-use Rattle.cfgx_syntax.specs.Logic.{kleene_and, kleene_or}
 use Rattle.cfgx_grammar.specs.Tree.{ListFunction, Tree, Trees, is_function, is_leaf, asked}
 use Rattle.cfgx_grammar.specs.Fold.{Operations, from_last, list_value, value_of, values_by}
 use Rattle.cfgx_grammar.specs.Fold.{answered, fold}
@@ -34,16 +32,12 @@ module _ {T U : Type 0} (one : Operations T) (other : Operations U) (R : T → U
       → R (from_last join begin xs) (from_last other_join begun ys)
   from_last_kept join other_join begin begun base each [] [] all = base
   from_last_kept join other_join begin begun base each (x ∷ xs) (y ∷ ys) all =
-      each (from_last join begin xs) x (from_last other_join begun ys) y
-      (from_last_kept join other_join begin begun base each xs ys all.1) all.0
+      grind (arith, from_last_kept join other_join begin begun base each xs ys all.1)
   from_last_kept join other_join begin begun base each _ _ all = absurd all
 
   list_kept : (function : ListFunction) (xs : List T) (ys : List U) → AllZip R xs ys
       → R (list_value one function xs) (list_value other function ys)
-  list_kept ListFunction.all xs ys all =
-      from_last_kept one.and other.and one.top other.top preserve.top preserve.and xs ys all
-  list_kept ListFunction.any xs ys all =
-      from_last_kept one.or other.or one.bottom other.bottom preserve.bottom preserve.or xs ys all
+  list_kept function xs ys all = grind (arith, from_last_kept)
 
   mutual
     -- leaves that are related make related values
@@ -62,26 +56,17 @@ module _ {T U : Type 0} (one : Operations T) (other : Operations U) (R : T → U
         → AllZip R (values_by one f xs) (values_by other g ys)
     values_kept f g same _ _ AlikeEach.none = tt
     values_kept f g same _ _ (AlikeEach.more x y xs ys first rest) =
-        let others = values_kept f g same xs ys rest in
-        rw (same x y first)
-        (AllZip-if R (g y) _ _ _ _ (value_kept x y first, others) others)
+        grind (arith, AllZip-if, value_kept x y first, values_kept f g same xs ys rest)
 
   -- and so do answers that are related
   pub fold_kept : {X : Type 0} (tree : Tree X) (xs : List T) (ys : List U) → AllZip R xs ys
       → R (fold one tree xs) (fold other tree ys)
-  fold_kept tree xs ys all =
-      value_kept _ _ (answered-alike R one.top other.top preserve.top tree xs ys all)
+  fold_kept tree xs ys all = grind (arith, value_kept, answered-alike)
 
 -- a filling makes a known value
 
 agreement : Preserve three_valued two_valued Agrees
-agreement = record {
-  top = refl;
-  bottom = refl;
-  and = λ x y u v p q. grind (arith, common_steps);
-  or = λ x y u v p q. grind (arith, common_steps);
-  not = λ x u p. grind (arith, common_steps);
-}
+agreement = grind arith
 
 -- A polar filling leads to the value, with its own side in the place of an unknown one.
 
@@ -104,10 +89,7 @@ AreFilledAlike f g = (fill : Bool) (tree : Tree (Option Bool)) → g (filled fil
 list_value-side : (function : ListFunction) (fill : Bool) (values : List (Option Bool))
     → list_value two_valued function (map (side fill) values)
     ≡ side fill (list_value three_valued function values)
-list_value-side ListFunction.all fill values =
-    from_last-sides ◌&&◌ kleene_and true fill values (λ x y. grind arith)
-list_value-side ListFunction.any fill values =
-    from_last-sides ◌||◌ kleene_or false fill values (λ x y. grind arith)
+list_value-side function fill values = grind (arith, from_last-sides)
 
 mutual
   value-filled : (fill : Bool) (tree : Tree (Option Bool))
@@ -126,8 +108,7 @@ mutual
       (filled_each fill trees) ≡ map (side fill) (values_by three_valued f trees)
   values-filled f g same fill Trees.none = refl
   values-filled f g same fill (Trees.more tree trees) =
-      let rest = values-filled f g same fill trees in
-      rw (same fill tree, value-filled fill tree, rest) (grind arith)
+      grind (arith, values-filled f g same fill trees, value-filled fill tree)
 
 -- A filling is like the answers in what it keeps of each.
 module _ {X : Type 0} (R : X → Option Bool → Type 0) (S : X → Bool → Type 0)
@@ -177,16 +158,4 @@ module _ {X : Type 0} (tree : Tree X) (answers : List (Option Bool))
   IsExact-fold =
       let upper = polar_value true in
       let lower = polar_value false in
-      record {
-        -- what is known holds under every filling, and both polar ones tell it
-        known = λ value. (
-          λ is filling fills. rw is at (fold_kept three_valued two_valued Agrees agreement tree
-              answers filling fills),
-          λ every. let one = every _ (polar_filling true) in
-              let other = every _ (polar_filling false) in grind (arith, upper, lower, one, other),
-        );
-        unknown = (
-          λ is. (upper ∙ ap (side true) is, lower ∙ ap (side false) is),
-          λ both. grind (arith, upper, lower, both.0, both.1),
-        );
-      }
+      grind (arith, fold_kept, agreement, polar_filling)

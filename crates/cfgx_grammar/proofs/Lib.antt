@@ -12,4 +12,3 @@ pub mod accepted
 pub mod alone
 pub mod faults
 pub mod spelled
-pub mod worked

@@ -5,26 +5,15 @@ use Rattle.std.proofs.lemmas.Bool.Decides.{Decides-eqb}
 use Rattle.cfgx_syntax.specs.Kleene.{Planes, IsApart, lane}
 use Rattle.cfgx_syntax.proofs.Lanes.{AreApart-and, AreApart-or, AreApart-not, EachLane-and}
 use Rattle.cfgx_syntax.proofs.Lanes.{EachLane-or, EachLane-not, EachLane-top, EachLane-bottom}
-use Rattle.cfgx_grammar.specs.Tree.{Tree}
-use Rattle.cfgx_grammar.specs.Fold.{Operations, fold}
-use Rattle.cfgx_grammar.specs.Filling.{three_valued}
+use Rattle.cfgx_grammar.specs.{Tree.Tree, Fold.Operations, Fold.fold, Filling.three_valued}
 use Rattle.cfgx_grammar.specs.Mapping.{IsMap, IsByLane, Passes, is_apart, lane_valued}
-use Rattle.cfgx_grammar.proofs.Exactness.{Preserve, fold_kept}
+use Rattle.cfgx_grammar.proofs.Exactness.{fold_kept}
 
 module _ {T U : Type 0} (one : Operations T) (other : Operations U) (Holds : T → Type 0)
     (to : T → U) (is : IsMap one other Holds to) where
   -- a value, and what the map makes of it
   abbrev Becomes : T → U → Type 0
   Becomes x u = Holds x × (to x ≡ u)
-
-  becomes : Preserve one other Becomes
-  becomes = record {
-    top = is.top;
-    bottom = is.bottom;
-    and = λ x y u v p q. let both = is.and x y p.0 q.0 in (both.0, cc (both.1, p.1, q.1));
-    or = λ x y u v p q. let both = is.or x y p.0 q.0 in (both.0, cc (both.1, p.1, q.1));
-    not = λ x u p. let opposite = is.not x p.0 in (opposite.0, cc (opposite.1, p.1));
-  }
 
   each-becomes : (answers : List T) → AllByRecursion Holds answers
       → AllZip Becomes answers (map to answers)
@@ -33,8 +22,7 @@ module _ {T U : Type 0} (one : Operations T) (other : Operations U) (Holds : T �
 
   pub fold-mapped : {X : Type 0} (tree : Tree X) (answers : List T) → AllByRecursion Holds answers
       → to (fold one tree answers) ≡ fold other tree (map to answers)
-  fold-mapped tree answers all = (fold_kept one other Becomes becomes tree answers (map to answers)
-      (each-becomes answers all)).1
+  fold-mapped tree answers all = grind (arith, fold_kept, each-becomes)
 
 -- the answer of a lane
 pub IsMap-lane : (i : ℕ) → i < 64 → IsMap lane_valued three_valued IsApart (lane i)
@@ -46,7 +34,7 @@ IsMap-lane i below = record {
   not = λ x p. (AreApart-not _ _ p, EachLane-not x p i below);
 }
 
--- the same of another way to say what is known of a value
+-- a map stays one if what is known of a value is said in another way
 IsMap-same : {T U : Type 0} {one : Operations T} {other : Operations U} {Holds Same : T → Type 0}
     {to : T → U} → ((x : T) → Holds x → Same x) → ((x : T) → Same x → Holds x)
     → IsMap one other Holds to → IsMap one other Same to
@@ -60,5 +48,4 @@ IsMap-lane_passes i below = IsMap-same
 
 pub IsByLane-fold : {X : Type 0} (tree : Tree X) (answers : List Planes)
     → AllByRecursion IsApart answers → IsByLane tree answers
-IsByLane-fold tree answers all i below =
-    fold-mapped lane_valued three_valued IsApart (lane i) (IsMap-lane i below) tree answers all
+IsByLane-fold tree answers all i below = grind (arith, fold-mapped, IsMap-lane)

@@ -1,5 +1,5 @@
 -- What the rest of a text answers, the whole answers: one token after another.
-use Rattle.std.proofs.Common.{◌≡◌, ℕ, List, Result, Ok, Err, ap, ◌∙◌}
+use Rattle.std.proofs.Common.{arith, ◌≡◌, ℕ, List, Result, Ok, Err}
 use Rattle.cfgx_syntax.specs.Error.{Refusal}
 use Rattle.cfgx_syntax.specs.Items.{Item, Ending, Stands, EndsAs, ItemsFrom, lexical}
 use Rattle.cfgx_syntax.proofs.TokenList.{Follows-stands, no_more_items}
@@ -24,10 +24,7 @@ module _ {W M L : Type 0} {builder : Builder W M L} (text : List ℕ) where
   at_token from place s t item r c stands steps items ending come =
       let so_far = c.rest_of items ending come in
       let f = Follows-stands text place item so_far.0 ending stands so_far.1 in
-      let answers = so_far.2 ∙ ap (λ l. answer_from t text l ending) f.items_are
-      ∙ ap (λ q. and_then (ended_as text (lexical text ending))
-      (and_then (λ u. step_each u f.rest) q)) steps in
-      (f.rest, f.come, answers)
+      grind arith
 
   pub Continues-step : (from place : ℕ) (s t u : State builder) (item : Item)
       → Continues from s place t → Stands text place item → step t item ≡ Ok u
@@ -47,8 +44,4 @@ module _ {W M L : Type 0} {builder : Builder W M L} (text : List ℕ) where
       → Continues from s place t → EndsAs text place end
       → (items : List Item) (ending : Ending) → ItemsFrom text from items ending
       → answer_from s text items ending ≡ ended_as text (lexical text end) t
-  Continues-ended from place s t end c ends items ending come =
-      let so_far = c.rest_of items ending come in
-      let last = no_more_items text place so_far.0 ending end ends so_far.1 in
-      so_far.2 ∙ ap (λ l. answer_from t text l ending) last.0
-      ∙ ap (λ e. ended_as text (lexical text e) t) last.1
+  Continues-ended from place s t end c ends items ending come = grind (arith, no_more_items)

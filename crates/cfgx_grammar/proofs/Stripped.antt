@@ -2,15 +2,9 @@
 use Rattle.std.proofs.Common.{◌≡◌, ℕ, Bool, true, false, List, ◌∷◌, ◌++◌, nat_eq, sym, refl, ap}
 use Rattle.std.proofs.Common.{◌∙◌, arith, codes}
 use Rattle.std.specs.List.{starts_with}
-use Rattle.std.proofs.lemmas.Slice.Eq.{starts_is}
-use Rattle.std.proofs.lemmas.Bool.Decides.{Decides-eqb}
-use Rattle.cfgx_syntax.specs.Stripping.{strip}
-use Rattle.cfgx_syntax.specs.Token.{Token}
-use Rattle.cfgx_syntax.specs.Items.{Item, Ending}
-use Rattle.cfgx_grammar.specs.Question.{Question}
-use Rattle.cfgx_grammar.specs.Tree.{Tree}
-use Rattle.cfgx_grammar.specs.Grammar.{HasTree}
-use Rattle.cfgx_grammar.specs.parsing.State.{initial}
+use Rattle.std.proofs.{lemmas.Slice.Eq.starts_is, lemmas.Bool.Decides.Decides-eqb}
+use Rattle.cfgx_syntax.specs.{Stripping.strip, Token.Token, Items.Item, Items.Ending}
+use Rattle.cfgx_grammar.specs.{Question.Question, Tree.Tree, Grammar.HasTree, parsing.State.initial}
 use Rattle.cfgx_grammar.specs.parsing.Step.{step_each}
 use Rattle.cfgx_syntax.proofs.TokenList.{Follows-stands}
 use Rattle.cfgx_grammar.proofs.spelled.{tree_laws, Finds-tree}

@@ -12,11 +12,8 @@ appends_twice old mid new first second a b = grind (arith, append_assoc)
 -- what is taken of the bytes that were left is taken of all
 pub takes_more : {old mid new : Option (List ℕ)} {bytes between left : List ℕ}
     → Takes old mid bytes between → Takes mid new between left → Takes old new bytes left
-takes_more {old} {mid} {new} {bytes} {between} {left} first second = record {
-  front = first.front ++ second.front;
-  whole = rw (append_assoc, second.whole) first.whole;
-  taken = appends_twice old mid new first.front second.front first.taken second.taken;
-}
+takes_more {old} {mid} {new} {bytes} {between} {left} first second =
+    grind (arith, append_assoc, appends_twice)
 
 -- a beginning of the first part is one of both
 pub front_of_first : {old new : Option (List ℕ)} {first : List ℕ} (second : List ℕ)
@@ -29,8 +26,7 @@ front_of_first second (left, taken) =
 pub writes_second : {E : Type 0} (old mid new : Option (List ℕ)) (result : Result (Unit {0}) E)
     (first second : List ℕ) → Appends old mid first → Writes mid new result second
     → Writes old new result (first ++ second)
-writes_second old mid new (Ok done) first second taken more =
-    appends_twice old mid new first second taken more
+writes_second old mid new (Ok done) first second taken more = grind (arith, appends_twice)
 writes_second old mid new (Err error) first second taken (left, more) =
     let first_taken : Takes old mid (first ++ second) second =
     record { front = first; whole = refl; taken = taken } in

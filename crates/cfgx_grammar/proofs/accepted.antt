@@ -1,10 +1,10 @@
 -- What the parser accepts is spelled by a tree.
 use Rattle.std.proofs.Common.{◌≡◌, ℕ, suc, ◌+◌, true, List, [], ◌∷◌, ◌++◌, refl, ap, ◌∙◌, arith}
 use Rattle.std.proofs.Common.{subst, add-zero, append_assoc, ◌⊎◌, inl, inr, Option, Some, None}
-use Rattle.std.proofs.Common.{option_map, Result, Ok, sym, false, ◌==◌, Bool, map, Err, ◌-◌}
-use Rattle.std.proofs.Common.{append-nil, if◌then◌else◌}
-use Rattle.std.proofs.lemmas.Bool.Decides.{Decides-eqb}
-use Rattle.cfgx_syntax.specs.Token.{Token}
+use Rattle.std.proofs.Common.{option_map, Result, Ok, sym, false, Bool, map, Err, ◌-◌, append-nil}
+use Rattle.std.proofs.Common.{if◌then◌else◌}
+use Rattle.std.proofs.{lemmas.Bool.Decides.Decides-eqb, lemmas.Bool.false≢true}
+use Rattle.cfgx_syntax.specs.{Token.Token, Items.Item, Error.Refusal}
 use Rattle.cfgx_grammar.specs.Question.{Question, Leaf}
 use Rattle.cfgx_grammar.specs.Tree.{ListFunction, Tree, Trees, count}
 use Rattle.cfgx_grammar.specs.Grammar.{commas, Separates, IsMember, IsList, IsTree, leaf_tokens}
@@ -14,15 +14,10 @@ use Rattle.cfgx_grammar.specs.parsing.State.{initial}
 use Rattle.cfgx_grammar.specs.parsing.Step.{has_room, result_map, leaf_ended, ended_by}
 use Rattle.cfgx_grammar.specs.parsing.Step.{predicate_ended, new_open, and_then, opened}
 use Rattle.cfgx_grammar.specs.parsing.Step.{member_count, function_ended, closed_by, with_last}
-use Rattle.cfgx_grammar.specs.parsing.Step.{apply, step, step_each, one_root, concluded_by}
-use Rattle.cfgx_grammar.specs.parsing.Step.{conclude}
-use Rattle.std.proofs.lemmas.Bool.{false≢true}
-use Rattle.cfgx_grammar.specs.Classification.{Class, class}
-use Rattle.cfgx_grammar.specs.FirstFault.{lacks_value}
-use Rattle.cfgx_grammar.specs.LastPredicate.{class_of, word_of, with_value}
+use Rattle.cfgx_grammar.specs.parsing.Step.{apply, step, step_each, one_root, conclude}
+use Rattle.cfgx_grammar.specs.{Classification.Class, Classification.class, FirstFault.lacks_value}
+use Rattle.cfgx_grammar.specs.LastPredicate.{class_of, word_of}
 use Rattle.cfgx_grammar.specs.Neighbours.{Kind, takes, kind_of}
-use Rattle.cfgx_syntax.specs.Items.{Item}
-use Rattle.cfgx_syntax.specs.Error.{Refusal}
 
 -- The tree of a leaf: a predicate or a literal that stands alone.
 abbrev pub leaf_tree : Leaf → Tree Question
@@ -186,18 +181,14 @@ module _ {W M L : Type 0} {builder : Builder W M L} where
       (leaf_tokens p.key.text (option_map (λ v. v.text) p.value) ++ tokens)
   LeafRest-ended s t tokens p is ends r =
       let e = LeafEnds-ended s t p is ends in
-      let left = rw e.ended at r in
-      let rest : RestOf Separates s 1 tokens = grind (arith, left) in
-      (_, e.leaf, tokens, refl, e.class_is, rest)
+      grind arith
 
   -- where a comma may come, what stands in front of it ends
   pub Completes-ended : (last : Option Token) (s t : State builder) (tokens : List Token)
       → takes last Kind.comma ≡ true → predicate_ended s ≡ Ok t → RestOf Separates t 0 tokens
       → Completes last s tokens
-  Completes-ended (Some Token.comma) s t tokens may ends r = λ none.
-      rw (same_ended s t none ends) (grind (arith, r))
-  Completes-ended (Some Token.close_paren) s t tokens may ends r = λ none.
-      rw (same_ended s t none ends) r
+  Completes-ended (Some Token.comma) s t tokens may ends r = grind arith
+  Completes-ended (Some Token.close_paren) s t tokens may ends r = grind (arith, same_ended)
   Completes-ended (Some (Token.key _)) s t tokens may ends r = λ key is.
       LeafRest-ended s t tokens _ is ends r
   Completes-ended (Some (Token.value _)) s t tokens may ends r = λ key value is.
@@ -231,17 +222,10 @@ abbrev pub tokens_of : List Item → List Token
 tokens_of items = map (λ item. item.token) items
 
 -- what went well, part by part
-mapped : {A B E : Type 0} (f : A → B) (r : Result A E) (u : B) → result_map f r ≡ Ok u
-    → (t : A) × (r ≡ Ok t) × (f t ≡ u)
-mapped f r u e = grind arith
-
-allowed : {A E : Type 0} (b : Bool) (r : Result A E) (e : E) (u : A)
-    → (if b then r else Err e) ≡ Ok u → (b ≡ true) × (r ≡ Ok u)
-allowed b r e u is = grind arith
-
-not_refused : {A E : Type 0} (b : Bool) (r : Result A E) (e : E) (u : A)
-    → (if b then Err e else r) ≡ Ok u → (b ≡ false) × (r ≡ Ok u)
-not_refused b r e u is = grind arith
+allowed : {A B E : Type 0} (b : Bool) (f : A → B) (r : Result A E) (e : E) (u : B)
+    → (if b then result_map f r else Err e) ≡ Ok u
+    → (b ≡ true) × (t : A) × (r ≡ Ok t) × (f t ≡ u)
+allowed b f r e u is = grind arith
 
 pub ran : {A B E : Type 0} (r : Result A E) (f : A → Result B E) (u : B) → and_then f r ≡ Ok u
     → (t : A) × (r ≡ Ok t) × (f t ≡ Ok u)
@@ -258,8 +242,7 @@ module _ {W M L : Type 0} {builder : Builder W M L} where
       → closed_by s item stack ≡ Ok u → Closes s u
   Closes-stack s u item [] is does = absurd (cc)
   Closes-stack s u item (top ∷ rest) is does =
-      let (room, does_end) = allowed _ _ _ u does in
-      let (settled, ends, closed) = mapped _ (predicate_ended s) u does_end in
+      let (room, settled, ends, closed) = allowed _ _ (predicate_ended s) _ u does in
       (top, rest, settled, is, room, ends, closed)
 
   -- `)` stands in front of what completes the function around
@@ -267,19 +250,6 @@ module _ {W M L : Type 0} {builder : Builder W M L} where
       → Completes (Some Token.close_paren) (with_last Token.close_paren u) tokens
       → Ends c.2.stack c.2.roots 0 (Token.close_paren ∷ tokens)
   Ends-close s u tokens (top, rest, settled, is, room, ends, closed) completes = grind arith
-
-  -- what a step that succeeds has done
-  pub record Steps (s t : State builder) (item : Item) : Type 0 where
-    pub may : takes s.last (kind_of item.token) ≡ true
-    pub applied : State builder
-    pub does : apply s item item.token ≡ Ok applied
-    pub after : with_last item.token applied ≡ t
-
-  pub Steps-step : (s t : State builder) (item : Item) → step s item ≡ Ok t → Steps s t item
-  Steps-step s t item steps =
-      let (may, taken) = allowed _ _ _ t steps in
-      let (applied, does, after) = mapped _ (apply s item item.token) t taken in
-      record { may = may; applied = applied; does = does; after = after }
 
   -- a function's name in front of its members
   Rest-name : (function : Function) (s u : State builder) (item : Item) (tokens : List Token)
@@ -312,10 +282,8 @@ module _ {W M L : Type 0} {builder : Builder W M L} where
         Completes-member last s _ may (λ none. rw are (Rest-member s.stack s.roots _ others
         (leaf_tree leaf) (IsMember-leaf _ leaf (text, value, refl, classed)) r))
     Completes-applied (Some Token.equals) (Token.value text) may does completes =
-        λ key is. subst (After (Token.value text)) (sym (ok_same _ u does)) completes key
-        (word_of text (start + 1) (end - 1)) (ap (option_map (with_value _)) is)
-    Completes-applied (Some (Token.key _)) Token.equals may does completes =
-        subst (After Token.equals) (sym (ok_same s u does)) completes
+        grind arith
+    Completes-applied (Some (Token.key _)) Token.equals may does completes = grind (arith, ok_same)
     Completes-applied last Token.all may does completes =
         Completes-member last s _ may
         (Rest-name (Function.list ListFunction.all) s u (at Token.all) _ does completes)
@@ -334,43 +302,34 @@ module _ {W M L : Type 0} {builder : Builder W M L} where
         let c = Closes-stack s u (at Token.close_paren) s.stack refl does in
         Completes-none last s c.2 _ (inl may) c.5 (Ends-close s u tokens c completes)
     Completes-applied last Token.comma may does completes =
-        Completes-ended last s u _ may does (Rest-comma u.stack u.roots 0 tokens
-        (completes (grind (arith, does))))
+        grind (arith, Completes-ended, Rest-comma)
     Completes-applied _ _ may does completes = absurd (false≢true may)
 
   -- the end of the text finds one member at the root, where no function is open
-  abbrev Concludes : State builder → Type 0
-  Concludes s = (settled : State builder) × (s.stack ≡ []) × (predicate_ended s ≡ Ok settled)
-      × (lacks_value s.last ≡ false) × (settled.roots ≡ 1)
+  one_rooted : (len : ℕ) (s u : State builder) → one_root len s ≡ Ok u → s.roots ≡ 1
+  one_rooted len s u e = grind arith
 
-  Concludes-stack : (len : ℕ) (s u : State builder) (stack : List (Open M)) → s.stack ≡ stack
-      → lacks_value s.last ≡ false → concluded_by len s stack ≡ Ok u → Concludes s
-  Concludes-stack len s u (top ∷ rest) is whole e = absurd (cc)
-  Concludes-stack len s u [] is whole e =
-      let (settled, ends, rooted) = ran _ (one_root len) u e in
-      let (some, found) = not_refused (settled.roots == 0) _ _ u rooted in
-      let (one, done) = allowed (settled.roots == 1) _ _ u found in
-      (settled, is, ends, whole, (Decides-eqb settled.roots 1).0 one)
-
-  Concludes-conclude : (len : ℕ) (s u : State builder) → conclude len s ≡ Ok u → Concludes s
-  Concludes-conclude len s u e =
-      let (whole, concludes) = not_refused (lacks_value s.last) (concluded_by len s s.stack) _ u e
-      in Concludes-stack len s u s.stack refl whole concludes
+  concluded : (len : ℕ) (s u : State builder) → conclude len s ≡ Ok u
+      → (lacks_value s.last ≡ false) × (s.stack ≡ [])
+      × (and_then (one_root len) (predicate_ended s) ≡ Ok u)
+  concluded len s u e = grind arith
 
   Completes-run : (items : List Item) (s t u : State builder) (len : ℕ)
       → step_each s items ≡ Ok t → conclude len t ≡ Ok u → Completes s.last s (tokens_of items)
   Completes-run [] s t u len runs ends =
-      let (settled, closed, ended, whole, one) = Concludes-conclude len s u
-      (ap (conclude len) (ok_same s t runs) ∙ ends) in
-      let none : settled.stack ≡ [] = grind (arith, closed, ended) in
+      let (whole, closed, rooted) = concluded len s u (ap (conclude len) (ok_same s t runs) ∙ ends)
+      in
+      let (settled, ended, is_one) = ran (predicate_ended s) (one_root len) u rooted in
+      let one = one_rooted len settled u is_one in
+      let none : settled.stack ≡ [] = grind arith in
       Completes-none s.last s settled [] (inr (whole, closed)) ended
       (rw none (omega (arith, one), refl))
   Completes-run (item ∷ items) s t u len runs ends =
-      let r = ran (step s item) (λ u. step_each u items) t runs in
-      let d = Steps-step s r.0 item r.1 in
-      Completes-applied s d.applied (tokens_of items) item.start item.end s.last item.token d.may
-      d.does (subst (λ v. Completes v.last v (tokens_of items)) (sym d.after)
-      (Completes-run items r.0 t u len r.2 ends))
+      let (next, steps, rest) = ran (step s item) (λ u. step_each u items) t runs in
+      let (may, applied, does, after) = allowed _ _ (apply s item item.token) _ next steps in
+      Completes-applied s applied (tokens_of items) item.start item.end s.last item.token may does
+      (subst (λ v. Completes v.last v (tokens_of items)) (sym after)
+      (Completes-run items next t u len rest ends))
 
   -- What the steps accept has a tree.
   pub IsTree-accepted : (items : List Item) (s u : State builder) (len : ℕ)
@@ -379,6 +338,4 @@ module _ {W M L : Type 0} {builder : Builder W M L} where
   IsTree-accepted items s u len runs ends =
       let (n, others, trees, after, are, none, list, (one, end)) =
       Completes-run items initial s u len runs ends refl in
-      let (tree, spelled) = one_tree others trees (omega (arith, one)) list in
-      let whole : tokens_of items ≡ others = are ∙ rw (none, end, append-nil others) refl in
-      (tree, subst (λ l. IsTree l tree) (sym whole) spelled)
+      grind (arith, list, end, one_tree, append-nil)

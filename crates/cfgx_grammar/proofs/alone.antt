@@ -1,37 +1,29 @@
 -- The predicates that a text asks, and the text of one alone.
-use Rattle.std.proofs.lemmas.Bool.Decides.{nat_tests}
-use Rattle.std.proofs.lemmas.Grind.{common_steps}
+use Rattle.std.proofs.{lemmas.Grind.common_steps, lemmas.Str.NoCharPasses-nil}
+use Rattle.std.proofs.lemmas.Fmt.{decimal_is_IsNumeral}
 use Rattle.std.proofs.Common.{◌≤◌, ◌≡◌, ℕ, Bool, true, false, List, [], ◌∷◌, ◌++◌, map, Some, None}
-use Rattle.std.proofs.Common.{subst, ◌<◌, ◌^◌, nat_eq, nat_lt, length, drop, Option, sym, refl, ap}
-use Rattle.std.proofs.Common.{◌∙◌, arith, rules, ◌+◌, append_assoc, length-append, drop_at}
+use Rattle.std.proofs.Common.{Ok, subst, ◌<◌, ◌^◌, nat_eq, nat_lt, length, drop, Option, sym, refl}
+use Rattle.std.proofs.Common.{ap, ◌∙◌, arith, rules, ◌+◌, append_assoc, length-append, drop_at}
 use Rattle.std.proofs.Common.{drop_of_length-le, ◌⊎◌, inl, ⊎_elim, slice_range, if◌then◌else◌}
 use Rattle.std.proofs.Common.{codes, decimal, bytes_eq, append-nil}
-use Rattle.std.specs.List.{AllByRecursion, starts_with}
-use Rattle.cfgx_syntax.specs.Token.{Token, IsKey, HasNoQuote, Spells, IsWord, is_quote, in_quotes}
-use Rattle.cfgx_syntax.specs.Token.{IsWhole}
+use Rattle.std.specs.{List.AllByRecursion, List.starts_with, Str.Parse.AllDigits}
+use Rattle.cfgx_syntax.specs.Token.{Token, IsKey, HasNoQuote, Spells, IsWord, in_quotes, IsWhole}
 use Rattle.cfgx_syntax.specs.Items.{Item, Ending, ItemsFrom, IsBlank, Stands, AreItems}
 use Rattle.cfgx_grammar.specs.Question.{Question, Leaf, TargetQuestion}
 use Rattle.cfgx_grammar.specs.Tree.{Tree, Trees, is_function, is_leaf, asked, asked_by}
 use Rattle.cfgx_grammar.specs.Grammar.{commas, IsMember, IsList, HasTree, leaf_tokens}
 use Rattle.cfgx_grammar.specs.Regular.{IsRegular, CanBeQuoted, IsAlone}
-use Rattle.std.specs.Str.Parse.{AllDigits}
-use Rattle.std.proofs.lemmas.Fmt.{decimal_is_IsNumeral}
 use Rattle.cfgx_syntax.specs.Error.{Cause, invalid_integer, invalid_has_atomic}
 use Rattle.cfgx_targets.specs.Endian.{endian_text, endian_named}
 use Rattle.cfgx_targets.specs.HasAtomic.{IsWidth, atomic_text, atomic_named}
-use Rattle.cfgx_targets.specs.Number.{read_below}
-use Rattle.cfgx_targets.specs.declared.atomic.HasAtomic.{HasAtomic}
-use Rattle.cfgx_targets.specs.declared.atomic.HasAtomic.TheVariants.{IntegerSize, Pointer}
+use Rattle.cfgx_targets.specs.{Number.read_below, declared.atomic.HasAtomic.HasAtomic}
 use Rattle.cfgx_targets.proofs.AtomicLemmas.{endian_named-text, atomic_named-text}
 use Rattle.cfgx_targets.proofs.NumberLemmas.{read_below-decimal}
 use Rattle.cfgx_grammar.specs.Classification.{predicate, Class, class, bare, valued, if_read}
 use Rattle.cfgx_grammar.specs.Classification.{target_feature, Rule, by_name, key_rules}
 use Rattle.cfgx_grammar.specs.Classification.{target_rules, target_class, plain}
 use Rattle.cfgx_grammar.specs.Spelling.{key_and_value, spelling}
-use Rattle.std.proofs.lemmas.Str.{NoCharPasses-nil}
-use Rattle.cfgx_grammar.proofs.Answering.{ReadsAs-tree}
-use Rattle.cfgx_grammar.proofs.accepted.{tokens_of}
-use Rattle.cfgx_grammar.proofs.Stripped.{strip-tree}
+use Rattle.cfgx_grammar.proofs.{Answering.ReadsAs-has, accepted.tokens_of, Stripped.strip-tree}
 
 -- What a text asks can stand in a text.
 
@@ -65,7 +57,7 @@ spelled_items : (text : List ℕ) (from : ℕ) (items : List Item) (ending : End
     → ItemsFrom text from items ending → AreSpelled (map (λ item. item.token) items)
 spelled_items text from [] ending come = tt
 spelled_items text from (item ∷ items) ending come =
-    (grind (arith, come.0.spelled), spelled_items text item.end items ending come.1)
+    (grind arith, spelled_items text item.end items ending come.1)
 
 abbrev AreRegular : List Question → Type 0
 AreRegular questions = AllByRecursion IsRegular questions
@@ -98,10 +90,7 @@ mutual
 
 pub regular_tree : (text : List ℕ) (tree : Tree Question) → HasTree text tree
     → AreRegular (asked tree)
-regular_tree text tree has =
-    let all = spelled_items text 0 has.items Ending.blank has.are_items in
-    let (member, n, is, one) = has.spelled in
-    regular_member member tree (all_of_first IsSpelled member (commas n) (rw is at all)) one
+regular_tree text tree has = grind (arith, spelled_items, regular_member, all_of_first)
 
 -- The spelling of a predicate that can stand in a text is a text of this predicate alone.
 
@@ -118,8 +107,7 @@ pub record IsSpelt (question : Question) : Type 0 where
 -- digits have no quote
 no_quote_digits : (digits : List ℕ) → AllDigits 10 digits → HasNoQuote digits
 no_quote_digits [] all = refl
-no_quote_digits (byte ∷ bytes) all =
-    let here : is_quote byte ≡ false = grind (arith, all.0) in rw here (no_quote_digits bytes all.1)
+no_quote_digits (byte ∷ bytes) all = grind (arith, no_quote_digits bytes all.1)
 
 no_quote_decimal : (n : ℕ) → n < 2 ^ 64 → HasNoQuote (decimal n)
 no_quote_decimal n small = no_quote_digits (decimal n) (decimal_is_IsNumeral n small).0.1
@@ -127,14 +115,12 @@ no_quote_decimal n small = no_quote_digits (decimal n) (decimal_is_IsNumeral n s
 -- a number that was read is below its limit
 read_small : (limit n : ℕ) (text : List ℕ) → read_below limit text ≡ Some n → n < limit
 unfolding read_below
-read_small limit n text is = grind (arith, nat_tests)
+read_small limit n text is = grind arith
 
 named_small : (text : List ℕ) (atomic : HasAtomic) → atomic_named text ≡ Some atomic
     → IsWidth atomic
 unfolding atomic_named
-named_small text (IntegerSize bits) is =
-    read_small (2 ^ 16) bits text (grind arith)
-named_small text Pointer is = tt
+named_small text atomic is = grind (arith, read_small)
 
 no_quote_atomic : (atomic : HasAtomic) → IsWidth atomic → HasNoQuote (atomic_text atomic)
 no_quote_atomic atomic small = grind (arith, no_quote_decimal)
@@ -145,7 +131,7 @@ spelt_word : (word : List ℕ) (value : Option (List ℕ)) (question : Question)
     → IsWord word × (nat_lt 3 (length word) ≡ true) × (class word value ≡ predicate question)
     × (spelling question ≡ text_of word value) → IsSpelt question
 spelt_word word value question quoted (is, long, says, spelled) =
-    let is_key : IsKey word = grind (arith, nat_tests) in
+    let is_key : IsKey word = grind arith in
     let regular : IsRegular question =
     record { key = word; value = value; is_key = is_key; can_be_quoted = quoted; says = says } in
     record { regular = regular; spelled = spelled }
@@ -183,7 +169,7 @@ module _ (key : List ℕ) (value : Option (List ℕ)) where
   good_valued : (with : List ℕ → Class) (missing : List ℕ)
       → ((v : List ℕ) → HasNoQuote v → Good (with v)) → (v : Option (List ℕ)) → CanBeQuoted v
       → Good (valued with missing v)
-  good_valued with missing each v quotes = grind (arith, each)
+  good_valued with missing each v quotes = grind arith
 
   good_feature : (v : List ℕ) → HasNoQuote v → Good (target_feature v)
   unfolding class
@@ -194,7 +180,7 @@ module _ (key : List ℕ) (value : Option (List ℕ)) where
   good_read : {X : Type 0} (ask : X → TargetQuestion) (cause : Cause) (read : Option X)
       → ((x : X) → read ≡ Some x → IsSpelt (Question.target (ask x)))
       → Good (if_read ask cause read)
-  good_read ask cause read each = grind (arith, each)
+  good_read ask cause read each = grind arith
 
   good_target : (name v : List ℕ) → HasNoQuote v → Good (target_class name v)
   unfolding class
@@ -244,7 +230,7 @@ module _ (key : List ℕ) (value : Option (List ℕ)) where
 
 slice_middle : (front middle rest : List ℕ)
     → slice_range (front ++ (middle ++ rest)) (length front) (length front + length middle) ≡ middle
-slice_middle front middle rest = grind (arith, nat_tests, common_steps)
+slice_middle front middle rest = grind (arith, common_steps)
 
 stands_between : (text before gap bytes rest : List ℕ) (token : Token) (from start end : ℕ)
     → text ≡ before ++ (gap ++ (bytes ++ rest)) → from ≡ length before
@@ -289,8 +275,7 @@ items_alone : (key : List ℕ) (value : Option (List ℕ)) → IsKey key → Can
 items_alone key None is_key quoted =
     let stands = stands_between key [] [] key [] (Token.key key) 0 0 (length key)
     (sym (append-nil key)) refl refl (omega arith) (NoCharPasses-nil _) (refl, is_key) refl in
-    let past = subst IsBlank (sym (drop_of_length-le key (omega arith))) (NoCharPasses-nil _) in
-    ((stands, past), refl)
+    grind (arith, drop_of_length-le)
 items_alone key (Some value) is_key quoted =
     let n = length key in
     let text = key_and_value key value in
@@ -324,5 +309,5 @@ spelling_alone question regular =
     }) in
     record {
       stripped = strip-tree _ _ has;
-      reads = ReadsAs-tree has;
+      reads = ReadsAs-has (Ok (Tree.leaf question)) has;
     }

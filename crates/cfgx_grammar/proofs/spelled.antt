@@ -2,16 +2,13 @@
 use Rattle.std.proofs.Common.{◌≡◌, ℕ, zero, suc, ◌+◌, ◌-◌, ◌<◌, true, false, List, [], ◌∷◌, ◌++◌}
 use Rattle.std.proofs.Common.{Option, Some, None, Ok, sym, refl, ap, ◌∙◌, arith, add-zero}
 use Rattle.std.proofs.Common.{append_assoc, length, take, drop, append-nil}
-use Rattle.cfgx_syntax.specs.Token.{Token}
-use Rattle.cfgx_syntax.specs.Items.{Item}
-use Rattle.cfgx_grammar.specs.Question.{Leaf, Question}
-use Rattle.cfgx_grammar.specs.Classification.{Class, class}
-use Rattle.cfgx_grammar.specs.FirstFault.{lacks_value}
-use Rattle.cfgx_grammar.specs.LastPredicate.{word_of, class_of}
+use Rattle.cfgx_syntax.specs.{Token.Token, Items.Item}
+use Rattle.cfgx_grammar.specs.{Question.Leaf, Question.Question, Classification.Class}
+use Rattle.cfgx_grammar.specs.{Classification.class, FirstFault.lacks_value, LastPredicate.word_of}
+use Rattle.cfgx_grammar.specs.{LastPredicate.class_of, Neighbours.Kind, Neighbours.takes}
 use Rattle.cfgx_grammar.specs.Tree.{ListFunction, Tree, Trees, count}
 use Rattle.cfgx_grammar.specs.Grammar.{commas, Separates, leaf_tokens, IsCall, IsMember, IsList}
 use Rattle.cfgx_grammar.specs.Grammar.{IsTree}
-use Rattle.cfgx_grammar.specs.Neighbours.{Kind, takes}
 use Rattle.cfgx_grammar.specs.parsing.State.{Function, Pending, Builder, Open, State, name_of}
 use Rattle.cfgx_grammar.specs.parsing.State.{initial}
 use Rattle.cfgx_grammar.specs.parsing.Step.{with_member, one_more, ended_by, predicate_ended}
@@ -110,10 +107,7 @@ module _ {W M L : Type 0} {builder : Builder W M L} where
   grown_top : (n : ℕ) (s : State builder) (top : Open M) (rest : List (Open M))
       → grown n (record s { stack = top ∷ rest }) ≡ record s { stack = more n top ∷ rest }
   grown_top zero s top rest = rw add-zero refl
-  grown_top (suc n) s top rest =
-      let count : top.members + 1 + n ≡ top.members + suc n = omega arith in
-      grown_top n s (one_more top) rest
-      ∙ ap (λ m. record s { stack = record top { members = m } ∷ rest }) count
+  grown_top (suc n) s top rest = grind (arith, grown_top n s (one_more top) rest)
 
   -- the state in front of a function's members
   abbrev pub inside : State builder → Function → Item → Item → State builder
@@ -142,8 +136,7 @@ module _ {W M L : Type 0} {builder : Builder W M L} where
       → tokens_of xs ≡ Token.comma ∷ commas n → takes t.last Kind.comma ≡ true
       → predicate_ended t ≡ Ok (between s t.last written)
       → step_each t xs ≡ Ok (between s (Some Token.comma) written)
-  commas_run zero (x ∷ []) s t written are may ends =
-      let x_is : x.token ≡ Token.comma = cc in rw (x_is, may, ends) refl
+  commas_run zero (x ∷ []) s t written are may ends = grind arith
   commas_run (suc n) (x ∷ xs) s t written are may ends =
       let x_is : x.token ≡ Token.comma = cc in
       rw (x_is, may, ends) (commas_run n xs s _ written (cc) refl refl)
@@ -212,8 +205,7 @@ module _ {W M L : Type 0} {builder : Builder W M L} (laws : Laws builder) where
   pub MemberEnds-commas : (n : ℕ) (s : State builder) (member beyond : List Item)
       (tree : Tree Question) → tokens_of beyond ≡ commas n → MemberEnds s member member 0 tree
       → MemberEnds s (member ++ beyond) member n tree
-  MemberEnds-commas zero s member beyond tree are i =
-      rw (no_items beyond are, append-nil member) i
+  MemberEnds-commas zero s member beyond tree are i = grind (arith, no_items, append-nil)
   MemberEnds-commas (suc n) s member beyond tree are i = record {
     after = between s (Some Token.comma) i.written;
     written = i.written;
@@ -280,7 +272,7 @@ module _ {W M L : Type 0} {builder : Builder W M L} (laws : Laws builder) where
       let members : 0 + count trees ≡ count trees = omega arith in
       let ends = l.ends ∙ ap Ok (grown_top (count trees) full _ s.stack) in
       let closed : closed_by l.after z l.after.stack ≡ Ok (function_ended (top ∷ s.stack) full) =
-      grind (arith, ends, room) in
+      grind arith in
       rw (are, one) (record {
         after = with_last Token.close_paren (function_ended (top ∷ s.stack) full);
         written = builder.function_ended (builder.mark_of s.written) function (0 + count trees)
@@ -424,6 +416,6 @@ module _ {W M L : Type 0} {builder : Builder W M L} (laws : Laws builder) where
         written = i.written;
         builds = i.builds;
         whole = record settled { written = builder.root_ended i.written };
-        concludes = grind (arith, i.is_end.2, i.ends);
+        concludes = grind (arith, i.is_end.2);
         whole_is = refl;
       }

@@ -1,14 +1,10 @@
 -- What a stripped text reads as, and what `Expression::parse` answers for it, by the grammar and
 -- the first fault alone.
 use Rattle.std.specs.Prelude.{◌≡◌, ℕ, List, Result, Ok, Err}
-use Rattle.cfgx_syntax.specs.Stripping.{strip}
+use Rattle.cfgx_syntax.specs.{Stripping.strip, declared.error.Failure.Failure}
 use Rattle.cfgx_syntax.specs.Error.{Refusal, fault_in, fault_of}
-use Rattle.cfgx_syntax.specs.declared.error.Failure.{Failure}
 use Rattle.cfgx_syntax.specs.declared.error.Failure.TheVariants as failure
-use Rattle.cfgx_grammar.specs.Question.{Question}
-use Rattle.cfgx_grammar.specs.Tree.{Tree}
-use Rattle.cfgx_grammar.specs.Grammar.{HasTree}
-use Rattle.cfgx_grammar.specs.FirstFault.{HasFault}
+use Rattle.cfgx_grammar.specs.{Question.Question, Tree.Tree, Grammar.HasTree, FirstFault.HasFault}
 
 -- a tree, or a fault
 abbrev pub Reading : Type 0

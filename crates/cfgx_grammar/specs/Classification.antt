@@ -1,14 +1,10 @@
--- What a key and its value say: the tables of the crate cfg-expr, which knows the keys that the
--- Rust Reference's conditional compilation lists, and before them the Reference's literals.
-use Rattle.std.specs.Prelude.{ℕ, true, false, List, [], ◌∷◌, ◌^◌, codes, drop, nat_eq}
-use Rattle.std.specs.Prelude.{Option, Some, None}
-use Rattle.std.specs.Prelude.{if◌then◌else◌}
-use Rattle.std.specs.Str.{bytes_eq}
-use Rattle.std.specs.List.{starts_with}
+-- What a key and its value say. The tables are those of the crate cfg-expr, for the keys that the
+-- Rust Reference lists under conditional compilation. The Reference's literals come first.
+use Rattle.std.specs.Prelude.{ℕ, true, false, List, [], ◌∷◌, ◌^◌, codes, drop, nat_eq, Option, Some}
+use Rattle.std.specs.Prelude.{None, if◌then◌else◌}
+use Rattle.std.specs.{Str.bytes_eq, List.starts_with}
 use Rattle.cfgx_syntax.specs.Error.{Cause, unexpected, invalid_integer, invalid_has_atomic}
-use Rattle.cfgx_targets.specs.Endian.{endian_named}
-use Rattle.cfgx_targets.specs.HasAtomic.{atomic_named}
-use Rattle.cfgx_targets.specs.Number.{read_below}
+use Rattle.cfgx_targets.specs.{Endian.endian_named, HasAtomic.atomic_named, Number.read_below}
 use Rattle.cfgx_grammar.specs.Question.{Leaf, Question, TargetQuestion}
 
 -- which part of a predicate is at fault
@@ -24,12 +20,12 @@ pub data Class : Type 0 where
 abbrev pub predicate : Question → Class
 predicate question = Class.is (Leaf.predicate question)
 
--- a key that stands without a value, and nothing else
+-- a key that takes no value
 abbrev pub bare : Leaf → Option (List ℕ) → Class
 bare leaf None = Class.is leaf
 bare leaf (Some value) = Class.refused (unexpected []) Part.of_value
 
--- a key that has a value, and lacks it otherwise
+-- a key that needs a value; without one, `missing` was expected
 abbrev pub valued : (List ℕ → Class) → List ℕ → Option (List ℕ) → Class
 valued with missing None = Class.refused (unexpected (missing ∷ [])) Part.of_key
 valued with missing (Some value) = with value
@@ -60,7 +56,7 @@ pub record Rule (Value : Type 0) : Type 0 where
 abbrev pub rule : {Value : Type 0} → List ℕ → (Value → Class) → Rule Value
 rule name read = record { name = name; read = read }
 
--- the first rule with the name, and otherwise the last answer
+-- what the first rule of that name makes of the value, or `otherwise` if no rule has the name
 abbrev pub by_name : {Value : Type 0} → List (Rule Value) → List ℕ → Value → Class → Class
 by_name [] name value otherwise = otherwise
 by_name (first ∷ rest) name value otherwise = if bytes_eq name first.name then first.read value

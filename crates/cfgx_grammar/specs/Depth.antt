@@ -6,8 +6,7 @@ use Rattle.std.specs.Prelude.{ℕ, zero, suc, ◌+◌, ◌-◌, ◌==◌, ◌&&�
 use Rattle.std.specs.Prelude.{take, count_by, nat_lt, nat_le, slice_get, Option, Some, None}
 use Rattle.std.specs.Prelude.{if◌then◌else◌}
 use Rattle.std.specs.Option.{option_or}
-use Rattle.cfgx_syntax.specs.Token.{Token}
-use Rattle.cfgx_syntax.specs.Items.{Item}
+use Rattle.cfgx_syntax.specs.{Token.Token, Items.Item}
 use Rattle.cfgx_grammar.specs.Neighbours.{Kind, kind_of, is_kind}
 
 -- how many places below the number pass the test
@@ -42,7 +41,7 @@ abbrev pub is_closing : Token → Bool
 is_closing token = is_kind Kind.closing (kind_of token)
 
 -- how many functions are open after the tokens, each from its name on: the functions named among
--- them, less the `)`
+-- them less the `)`, and 0 if there are more `)`
 abbrev pub depth : List Item → ℕ
 depth front = count_by (λ item. names_function item.token) front
     - count_by (λ item. is_closing item.token) front

@@ -54,8 +54,8 @@ pub record IsExact {X : Type 0} (tree : Tree X) (answers : List (Option Bool)) :
       ↔ ((fold two_valued tree (polar tree answers true) ≡ true)
       × (fold two_valued tree (polar tree answers false) ≡ false))
 
--- What tells whether the value is known: nothing if it is, and else the polar fillings with true
--- and with false.
+-- what `polar_fillings` answers: `None` if the value is known, and else the polar fillings with
+-- true and with false
 abbrev pub PolarFillings : {X A : Type 0} → Tree X → List (Option Bool)
     → Option (Vec Bool A × Vec Bool A) → Type 0
 PolarFillings tree answers None = (value : Bool) × (fold three_valued tree answers ≡ Some value)

@@ -1,19 +1,19 @@
 -- The first fault of a stripped text that is no condition: the reason and the bytes that the crate
 -- cfg-expr names, except that functions count as roots too, and that members are counted without a
 -- limit. It is the fault of the first token that has one; else the place where no token can start;
--- else what is wrong at the end of the text. Each is counted on the tokens before a place.
+-- else what is wrong at the end of the text. Each is counted on the tokens before a place. What is
+-- called a fault in this crate is a `Refusal`: a cause and its place, without the text.
 use Rattle.std.specs.Prelude.{◌≡◌, ℕ, ◌+◌, ◌==◌, ◌&&◌, ◌||◌, Bool, false, not, nat_lt, List, []}
-use Rattle.std.specs.Prelude.{◌∷◌, length, take, reverse}
-use Rattle.std.specs.Prelude.{codes, slice_get, Option, Some, None, option_map, option_and_then}
-use Rattle.std.specs.Prelude.{if◌then◌else◌}
+use Rattle.std.specs.Prelude.{◌∷◌, length, take, reverse, codes, slice_get, Option, Some, None}
+use Rattle.std.specs.Prelude.{option_map, option_and_then, if◌then◌else◌}
 use Rattle.std.specs.Option.{option_or}
 use Rattle.cfgx_syntax.specs.Token.{Token}
 use Rattle.cfgx_syntax.specs.Items.{Item, Ending, AreItems, lexical}
 use Rattle.cfgx_syntax.specs.Error.{Cause, Refusal, unexpected, unopened_parens, unclosed_parens}
 use Rattle.cfgx_syntax.specs.Error.{invalid_not, empty, multiple_root_predicates}
 use Rattle.cfgx_grammar.specs.Classification.{Class}
-use Rattle.cfgx_grammar.specs.Depth.{depth, first_below, innermost, is_closing, members}
-use Rattle.cfgx_grammar.specs.Depth.{names_not, roots}
+use Rattle.cfgx_grammar.specs.Depth.{depth, first_below, innermost, is_closing, members, names_not}
+use Rattle.cfgx_grammar.specs.Depth.{roots}
 use Rattle.cfgx_grammar.specs.LastPredicate.{KeyAndValue, class_of, part_of, predicate_last}
 use Rattle.cfgx_grammar.specs.Neighbours.{Kind, kind_of, is_kind, next, expected}
 

@@ -7,7 +7,7 @@ pub use Rattle.cfgx_syntax.specs.declared.logic.Logic.{Ghosts as Operations}
 use Rattle.cfgx_grammar.specs.Tree.{ListFunction, Tree, Trees, is_function, is_leaf, asked}
 use Rattle.cfgx_grammar.specs.Tree.{asked_by}
 
--- what the values make when they are joined to the first one given, from the last value back
+-- `begin` joined with the values one after another, from the last one to the first
 abbrev pub from_last : {T : Type 0} → (T → T → T) → T → List T → T
 from_last join begin [] = begin
 from_last join begin (value ∷ values) = join (from_last join begin values) value
@@ -22,8 +22,8 @@ abbrev pub constant : {T : Type 0} → Operations T → Bool → T
 constant logic true = logic.top
 constant logic false = logic.bottom
 
--- the value of a tree whose leaves are answers and literals: in each list the functions are joined
--- in front of the leaves
+-- the value of a tree of answers: among the values of a list's members those of the functions come
+-- first, and then those of the leaves
 abbrev mutual
   pub value_of : {T : Type 0} → Operations T → Tree T → T
   value_of logic (Tree.leaf answer) = answer
@@ -42,12 +42,12 @@ abbrev mutual
 abbrev pub values_of : {T : Type 0} → Operations T → Trees T → List T
 values_of logic trees = values_by logic (λ _. true) trees
 
--- the first answer; each predicate has one
+-- the first of the answers, and `otherwise` if there is none
 abbrev pub first_or : {T : Type 0} → T → List T → T
 first_or otherwise [] = otherwise
 first_or otherwise (answer ∷ answers) = answer
 
--- the answers of the second of two parts, if the first one asks these
+-- the answers that are left if each of the questions takes one
 abbrev pub left_after : {X T : Type 0} → List X → List T → List T
 left_after questions answers = drop (length questions) answers
 

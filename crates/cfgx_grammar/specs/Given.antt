@@ -1,8 +1,6 @@
 -- Answers that a caller has ready for a text's predicates.
 use Rattle.std.specs.Prelude.{◌≡◌, ℕ, List, length}
-use Rattle.cfgx_grammar.specs.Question.{Question}
-use Rattle.cfgx_grammar.specs.Tree.{Tree, asked}
-use Rattle.cfgx_grammar.specs.Grammar.{HasTree}
+use Rattle.cfgx_grammar.specs.{Question.Question, Tree.Tree, Tree.asked, Grammar.HasTree}
 
 -- there is one answer for each predicate that the text's tree asks
 abbrev pub AreAnswersTo : {T : Type 0} → List T → List ℕ → Type 0

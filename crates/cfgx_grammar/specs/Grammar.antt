@@ -60,8 +60,8 @@ abbrev pub IsTree : List Token → Tree Question → Type 0
 IsTree tokens tree = (member : List Token) × (n : ℕ) × (tokens ≡ member ++ commas n)
     × IsMember member tree
 
--- a text, already stripped, has this tree: it ends with no place where no token can start, and its
--- tokens spell the tree
+-- a stripped text has this tree: white space alone follows its last token, and its tokens spell the
+-- tree
 pub record HasTree (text : List ℕ) (tree : Tree Question) : Type 0 where
   pub items : List Item
   pub are_items : AreItems text items Ending.blank

@@ -1,12 +1,12 @@
 -- The predicate with which some tokens end.
 -- Source: the Rust Reference's conditional compilation, where a predicate is a key, or a key, `=`
 -- and a value in quotes.
-use Rattle.std.specs.Prelude.{ℕ, ◌+◌, ◌-◌, List, [], ◌∷◌, Option, Some, None, option_map, unwrap_or}
-use Rattle.cfgx_syntax.specs.Token.{Token}
-use Rattle.cfgx_syntax.specs.Items.{Item}
+use Rattle.std.specs.Prelude.{ℕ, ◌+◌, ◌-◌, List, ◌∷◌, Option, Some, None, option_map, unwrap_or}
+use Rattle.std.specs.Prelude.{map}
+use Rattle.cfgx_syntax.specs.{Token.Token, Items.Item}
 use Rattle.cfgx_grammar.specs.Classification.{Class, Part, class}
 
--- bytes of the text, and where they stand
+-- a key, or what stands between the quotes of a value, and its place in the text
 pub record Word : Type 0 where
   pub text : List ℕ
   pub start : ℕ
@@ -33,32 +33,17 @@ part_of p Part.of_value = unwrap_or p.value p.key
 abbrev pub class_of : KeyAndValue → Class
 class_of p = class p.key.text (option_map (λ v. v.text) p.value)
 
--- These take the tokens last first. They answer the predicate if the tokens end with a key
--- (`key_last`), with a key and `=` (`equals_last`), or with a key or a key, `=` and a value
--- (`predicate_last`).
-abbrev pub key_token : Item → Token → Option KeyAndValue
-key_token item (Token.key text) =
+-- the predicate with which tokens end: a key, or a key, `=` and a value; the tokens and their items
+-- are given from the last one back
+abbrev pub predicate_of : List Token → List Item → Option KeyAndValue
+predicate_of (Token.key text ∷ _) (item ∷ _) =
     Some (record { key = word_of text item.start item.end; value = None })
-key_token item _ = None
-
-abbrev pub key_last : List Item → Option KeyAndValue
-key_last [] = None
-key_last (item ∷ before) = key_token item item.token
-
-abbrev pub equals_token : List Item → Token → Option KeyAndValue
-equals_token before Token.equals = key_last before
-equals_token before _ = None
-
-abbrev pub equals_last : List Item → Option KeyAndValue
-equals_last [] = None
-equals_last (item ∷ before) = equals_token before item.token
-
-abbrev pub predicate_token : Item → List Item → Token → Option KeyAndValue
-predicate_token item before (Token.key text) = key_token item (Token.key text)
-predicate_token item before (Token.value text) =
-    option_map (with_value (word_of text (item.start + 1) (item.end - 1))) (equals_last before)
-predicate_token item before _ = None
+predicate_of (Token.value inside ∷ Token.equals ∷ Token.key text ∷ _) (value ∷ _ ∷ key ∷ _) =
+    Some (record {
+      key = word_of text key.start key.end;
+      value = Some (word_of inside (value.start + 1) (value.end - 1));
+    })
+predicate_of _ _ = None
 
 abbrev pub predicate_last : List Item → Option KeyAndValue
-predicate_last [] = None
-predicate_last (item ∷ before) = predicate_token item before item.token
+predicate_last items = predicate_of (map (λ item. item.token) items) items

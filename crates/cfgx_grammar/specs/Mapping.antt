@@ -3,9 +3,7 @@
 use Rattle.std.specs.Prelude.{◌≡◌, ◌==◌, Bool, IsTrue, List, bit_and, map}
 use Rattle.cfgx_syntax.specs.Kleene.{Planes, EachLane, lane}
 use Rattle.cfgx_syntax.specs.contracts.logic.kleene.Kleene64Logic.TheImpl as lanes_logic
-use Rattle.cfgx_grammar.specs.Tree.{Tree}
-use Rattle.cfgx_grammar.specs.Fold.{Operations, fold}
-use Rattle.cfgx_grammar.specs.Filling.{three_valued}
+use Rattle.cfgx_grammar.specs.{Tree.Tree, Fold.Operations, Fold.fold, Filling.three_valued}
 
 -- The map takes each constant and each operation of one logic to that of another. `Holds` is what
 -- is known of every value of the first one, such as the invariant of its type; what the operations

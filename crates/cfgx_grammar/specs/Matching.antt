@@ -2,26 +2,22 @@
 -- Source: `impl TargetMatcher for TargetInfo` in the documentation of `cfg-expr` 0.20.10, and the
 -- Rust Reference's chapter on conditional compilation for what each key asks.
 use Rattle.std.specs.Prelude.{ℕ, Bool, true, false, List, Option, codes, unwrap_or, ◌==◌}
-use Rattle.std.specs.List.{list_any}
-use Rattle.std.specs.Str.{bytes_eq}
-use Rattle.cfgx_targets.specs.declared.atomic.HasAtomic.{HasAtomic}
+use Rattle.std.specs.{List.list_any, Str.bytes_eq}
+use Rattle.cfgx_targets.specs.{declared.atomic.HasAtomic.HasAtomic, declared.endian.Endian.Endian}
 use Rattle.cfgx_targets.specs.declared.atomic.HasAtomic.TheVariants.{IntegerSize, Pointer}
-use Rattle.cfgx_targets.specs.declared.endian.Endian.{Endian}
 use Rattle.cfgx_targets.specs.declared.endian.Endian.TheVariants.{big, little}
 use Rattle.cfgx_targets.specs.declared.info.TargetInfo.{TargetInfo}
 use Rattle.cfgx_grammar.specs.Question.{TargetQuestion}
 
 abbrev pub is_same_endian : Endian → Endian → Bool
 is_same_endian big big = true
-is_same_endian big little = false
-is_same_endian little big = false
 is_same_endian little little = true
+is_same_endian _ _ = false
 
 abbrev pub is_same_width : HasAtomic → HasAtomic → Bool
 is_same_width (IntegerSize bits) (IntegerSize others) = bits == others
-is_same_width (IntegerSize bits) Pointer = false
-is_same_width Pointer (IntegerSize others) = false
 is_same_width Pointer Pointer = true
+is_same_width _ _ = false
 
 -- whether a field has a text; a missing field has the text that stands for it
 abbrev pub has_text : Option (List ℕ) → List ℕ → List ℕ → Bool

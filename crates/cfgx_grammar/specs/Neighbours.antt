@@ -14,15 +14,12 @@ pub data Kind : Type 0 where
   comma : Kind
 
 abbrev pub kind_of : Token → Kind
-kind_of (Token.key _) = Kind.name
 kind_of (Token.value _) = Kind.value
 kind_of Token.equals = Kind.equals
-kind_of Token.all = Kind.name
-kind_of Token.any = Kind.name
-kind_of Token.not = Kind.name
 kind_of Token.open_paren = Kind.opening
 kind_of Token.close_paren = Kind.closing
 kind_of Token.comma = Kind.comma
+kind_of _ = Kind.name
 
 abbrev pub is_kind : Kind → Kind → Bool
 is_kind Kind.name Kind.name = true
@@ -33,7 +30,7 @@ is_kind Kind.closing Kind.closing = true
 is_kind Kind.comma Kind.comma = true
 is_kind _ _ = false
 
--- what may stand after the last token, or at the start
+-- what may stand after the last token, or at the start; after a function's name a `(`
 abbrev pub followers : Option Token → List Kind
 followers None = Kind.name ∷ []
 followers (Some Token.open_paren) = Kind.name ∷ Kind.closing ∷ []
@@ -41,15 +38,13 @@ followers (Some Token.comma) = Kind.name ∷ Kind.closing ∷ Kind.comma ∷ []
 followers (Some (Token.key _)) = Kind.equals ∷ Kind.closing ∷ Kind.comma ∷ []
 followers (Some Token.equals) = Kind.value ∷ []
 followers (Some (Token.value _)) = Kind.comma ∷ Kind.closing ∷ []
-followers (Some Token.all) = Kind.opening ∷ []
-followers (Some Token.any) = Kind.opening ∷ []
-followers (Some Token.not) = Kind.opening ∷ []
 followers (Some Token.close_paren) = Kind.closing ∷ Kind.comma ∷ []
+followers _ = Kind.opening ∷ []
 
 abbrev pub takes : Option Token → Kind → Bool
 takes last kind = list_any (is_kind kind) (followers last)
 
--- whether the token may stand after the last one, or at the start
+-- whether the token may come next: after the last one, or at the start
 abbrev pub next : Option Token → Token → Bool
 next last token = takes last (kind_of token)
 
@@ -62,7 +57,5 @@ expected (Some Token.comma) = codes ")" ∷ codes "<key>" ∷ []
 expected (Some (Token.key _)) = codes "=" ∷ codes "," ∷ codes ")" ∷ []
 expected (Some Token.equals) = codes "\"" ∷ []
 expected (Some (Token.value _)) = codes "," ∷ codes ")" ∷ []
-expected (Some Token.all) = codes "(" ∷ []
-expected (Some Token.any) = codes "(" ∷ []
-expected (Some Token.not) = codes "(" ∷ []
 expected (Some Token.close_paren) = codes ")" ∷ codes "," ∷ []
+expected _ = codes "(" ∷ []

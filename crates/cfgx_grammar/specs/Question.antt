@@ -1,8 +1,7 @@
 -- A predicate as it is asked: what it says, and not where its text lies in memory. The variants are
 -- those of `Predicate` and `TargetPredicate` in the crate cfg-expr.
 use Rattle.std.specs.Prelude.{ℕ, Bool, List}
-use Rattle.cfgx_targets.specs.declared.endian.Endian.{Endian}
-use Rattle.cfgx_targets.specs.declared.atomic.HasAtomic.{HasAtomic}
+use Rattle.cfgx_targets.specs.{declared.endian.Endian.Endian, declared.atomic.HasAtomic.HasAtomic}
 
 -- what a predicate asks of a target
 pub data TargetQuestion : Type 0 where
@@ -28,7 +27,7 @@ pub data Question : Type 0 where
   key_value : List ℕ → List ℕ → Question
 
 -- What stands in a condition where no function does: a predicate, or one of the literals `true` and
--- `false` of the Rust Reference's conditional compilation, which nobody is asked.
+-- `false` of the Rust Reference's conditional compilation, which asks nothing.
 pub data Leaf : Type 0 where
   predicate : Question → Leaf
   literal : Bool → Leaf

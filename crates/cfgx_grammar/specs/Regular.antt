@@ -1,11 +1,8 @@
 -- Predicates as they can stand in a text, and the text of one alone.
 use Rattle.std.specs.Prelude.{◌≡◌, ℕ, List, Option, Some, None, Ok}
-use Rattle.cfgx_syntax.specs.Stripping.{strip}
-use Rattle.cfgx_syntax.specs.Token.{IsKey, HasNoQuote}
-use Rattle.cfgx_grammar.specs.Question.{Question}
+use Rattle.cfgx_syntax.specs.{Stripping.strip, Token.IsKey, Token.HasNoQuote}
+use Rattle.cfgx_grammar.specs.{Question.Question, Tree.Tree, Answer.ReadsAs}
 use Rattle.cfgx_grammar.specs.Classification.{class, predicate}
-use Rattle.cfgx_grammar.specs.Tree.{Tree}
-use Rattle.cfgx_grammar.specs.Answer.{ReadsAs}
 
 -- a value that can stand between quotes
 abbrev pub CanBeQuoted : Option (List ℕ) → Type 0

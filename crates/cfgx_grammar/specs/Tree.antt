@@ -21,16 +21,14 @@ mutual
     more : Tree X → Trees X → Trees X
 
 abbrev pub is_function : {X : Type 0} → Tree X → Bool
-is_function (Tree.leaf x) = false
-is_function (Tree.literal truth) = false
 is_function (Tree.list function trees) = true
 is_function (Tree.not tree) = true
+is_function _ = false
 
 abbrev pub is_leaf : {X : Type 0} → Tree X → Bool
 is_leaf (Tree.leaf x) = true
 is_leaf (Tree.literal truth) = true
-is_leaf (Tree.list function trees) = false
-is_leaf (Tree.not tree) = false
+is_leaf _ = false
 
 -- the trees of a list that pass the test, in order
 abbrev pub only : {X : Type 0} → (Tree X → Bool) → Trees X → Trees X
@@ -48,12 +46,12 @@ followed_by (Trees.more tree trees) others = Trees.more tree (followed_by trees 
 abbrev pub arranged : {X : Type 0} → Trees X → Trees X
 arranged trees = followed_by (only is_function trees) (only is_leaf trees)
 
--- how many there are
+-- how many trees there are
 abbrev pub count : {X : Type 0} → Trees X → ℕ
 count Trees.none = 0
 count (Trees.more tree trees) = suc (count trees)
 
--- the predicates of a tree in the order in which they are asked; a literal is not asked
+-- the predicates of a tree in the order in which they are asked; a literal asks nothing
 abbrev mutual
   pub asked : {X : Type 0} → Tree X → List X
   asked (Tree.leaf x) = x ∷ []

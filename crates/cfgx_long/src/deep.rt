@@ -3,8 +3,8 @@ use cfg_expr::Expression;
 use cfg_expr::error::Failure;
 use cfg_expr::expr::Predicates;
 use cfgx_testing::holding::{holds, prints};
-use cfgx_testing::rows::{check_pairs, has_fault};
-use cfgx_testing::words::check_runs;
+use cfgx_testing::rows::{Checked, check_tables, has_fault};
+use cfgx_testing::words::is_run;
 use std::alloc::Global;
 
 // Faulty texts, and their faults.
@@ -24,13 +24,6 @@ any(~a,~49998~8) | U[`<key>` `all` `any` `not`] at 100000..100001
 ~a~1000~) | UnopenedParens at 1000..1001
 all(b~,~3000~c d) | U[`=` `,` `)`] at 3007..3008
 "#;
-
-#[test]
-fn faults_of_deep_and_wide_texts(rt: HostRuntime) -> Result<(), String> {
-    check_pairs(rt.alloc(), FAULTS, 14, |text, fault| {
-        has_fault(rt.alloc(), text, text, fault)
-    })
-}
 
 // Accepted texts, and how many predicates they ask.
 const ACCEPTED: &str = r#"
@@ -56,20 +49,30 @@ fn asks(alloc: Global, text: &str, count: &str) -> Result<bool, Failure> {
     Ok(is_kept && are(expression.predicates(), count.parse().ok()))
 }
 
-#[test]
-fn predicates_of_deep_wide_and_long_texts(rt: HostRuntime) -> Result<(), String> {
-    check_pairs(rt.alloc(), ACCEPTED, 7, |text, count| {
-        holds(asks(rt.alloc(), text, count))
-    })
-}
-
 // A fault far from the start, which prints as many spaces.
 const FAR: &str = r#"
 1 | all(b~,~3000~c d)\n~ ~3007~^ expected one of `=`, `,`, `)` here\n | parse \
 | all(b~,~3000~c d)
 "#;
 
+fn passes(alloc: Global, check: &str, row: &[String]) -> bool {
+    match row {
+        [text, fault] if check == "fault" => {
+            has_fault(alloc, text.as_str(), text.as_str(), fault.as_str())
+        }
+        [text, count] => holds(asks(alloc, text.as_str(), count.as_str())),
+        _ => is_run(alloc, row),
+    }
+}
+
+const TABLES: &[Checked<'static>] = &[
+    ("fault", FAULTS, 14),
+    ("predicates", ACCEPTED, 7),
+    ("run", FAR, 1),
+];
+
 #[test]
-fn prints_a_fault_far_from_the_start(rt: HostRuntime) -> Result<(), String> {
-    check_runs(rt.alloc(), &[(FAR, 1)])
+fn rows_pass_their_checks(rt: HostRuntime) -> Result<(), String> {
+    let alloc = rt.alloc();
+    check_tables(alloc, TABLES, |check, row| passes(alloc, check, row))
 }

@@ -2,31 +2,27 @@
 use Rattle.std.proofs.Common.{◌≡◌, ℕ, ◌+◌, ◌<◌, true, false, List, [], ◌∷◌, ◌++◌, length, take}
 use Rattle.std.proofs.Common.{drop, get_or, sym, refl, ap, ◌∙◌, subst, arith, add-zero}
 use Rattle.std.proofs.Common.{length-append, length-drop, take-append-drop}
-use Rattle.std.proofs.Math.Numerals.{one-add}
+use Rattle.std.proofs.{Math.Numerals.one-add, lemmas.List.get_or-drop, lemmas.Bool.cond_both}
 use Rattle.std.proofs.Math.Seq.{take-append-add, drop-append-add}
 use Rattle.std.specs.Char.{IsScalar, is_not_whitespace, is_ascii_graphic}
 use Rattle.std.specs.List.{prefix_len}
 use Rattle.std.specs.Str.{IsTrimStart, NoCharPasses, EmptyOrStartsWithPassing}
 use Rattle.std.proofs.lemmas.Str.{NoCharPasses-nil, NoCharPasses-append, encode_ascii}
-use Rattle.std.proofs.lemmas.List.{get_or-drop}
 use Rattle.std.proofs.lemmas.List.Sums.{prefix_len_stops}
-use Rattle.std.proofs.lemmas.Bool.{cond_both}
-use Rattle.std.proofs.lemmas.Bool.Decides.{nat_tests}
-use Rattle.std.proofs.lemmas.Grind.{common_steps}
 use Rattle.cfgx_syntax.specs.Lexer.{is_blank}
 
 pub blank-ascii : (c : ℕ) → is_blank c ≡ true → c < 128
-blank-ascii c h = grind (arith, nat_tests, common_steps)
+blank-ascii c h = grind arith
 
 ascii-visible : (c : ℕ) → c < 128 → is_blank c ≡ false → is_not_whitespace c ≡ true
-ascii-visible c low h = grind (arith, nat_tests, common_steps)
+ascii-visible c low h = grind arith
 
 ascii-scalar : (c : ℕ) → c < 128 → IsScalar c
-ascii-scalar c low = grind (arith, nat_tests, common_steps)
+ascii-scalar c low = grind arith
 
 one_blank : (c : ℕ) → is_blank c ≡ true → NoCharPasses is_not_whitespace (c ∷ [])
 one_blank c h =
-    let white : is_not_whitespace c ≡ false = grind (arith, nat_tests, common_steps) in
+    let white : is_not_whitespace c ≡ false = grind arith in
     (c ∷ [], rw (encode_ascii c (blank-ascii c h)) refl, (white, tt))
 
 -- the bytes in front that are ASCII white space are no other characters
@@ -91,6 +87,4 @@ module _ (text bytes rest : List ℕ) (n : ℕ) (len : n ≡ prefix_len is_blank
 -- an ASCII character that is printed is no white space
 pub trim_graphic : (text : List ℕ) → is_ascii_graphic (get_or text 0 0) ≡ true
     → IsTrimStart text text
-trim_graphic text h =
-    IsTrimStart-ascii text (λ _. grind (arith, nat_tests, common_steps))
-    (λ _. grind (arith, nat_tests, common_steps))
+trim_graphic text h = grind (arith, IsTrimStart-ascii)

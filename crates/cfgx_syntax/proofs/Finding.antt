@@ -2,24 +2,19 @@
 use Rattle.std.proofs.Common.{rules, ◌≡◌, ℕ, suc, zero, ◌+◌, ◌-◌, ◌<◌, ◌≤◌, true, false, List, []}
 use Rattle.std.proofs.Common.{◌∷◌, ◌++◌, length, take, drop, get_or, refl, ap, ◌∙◌, subst, ◌≢◌, ◌⊎◌}
 use Rattle.std.proofs.Common.{inl, inr, arith, ⊎_elim, lit<, append-nil, length-drop, length-take}
-use Rattle.std.specs.Prelude.{codes, encode_utf8}
-use Rattle.std.specs.Char.{is_not_whitespace}
+use Rattle.std.specs.{Prelude.codes, Prelude.encode_utf8, Char.is_not_whitespace}
 use Rattle.std.specs.List.{AllByRecursion, position_or_len, before_first, after_first, prefix_len}
-use Rattle.std.specs.Str.{IsUtf8, IsTrimStart, bytes_eq, encode_utf8_all, all_scalars}
+use Rattle.std.specs.Str.{IsUtf8, IsTrimStart, encode_utf8_all, all_scalars}
 use Rattle.std.proofs.lemmas.List.{drop-drop, get_or-take, take_all}
 use Rattle.std.proofs.lemmas.List.Sums.{split_at_first, passes_at_first, fails_before_first}
-use Rattle.std.proofs.lemmas.Str.{IsUtf8-nil, IsUtf8-drop}
-use Rattle.std.proofs.lemmas.Slice.Eq.{bytes_eq-Decides}
-use Rattle.std.proofs.lemmas.Bool.{and_parts, both_ways, cases_Bool, cases_eq, cases_lt}
-use Rattle.std.proofs.lemmas.Bool.Decides.{nat_tests, not_from_Decides}
-use Rattle.std.proofs.lemmas.Grind.{common_steps}
+use Rattle.std.proofs.{lemmas.Str.IsUtf8-drop, lemmas.Slice.Eq.bytes_eq-Decides}
+use Rattle.std.proofs.lemmas.Bool.{and_parts, cases_Bool, cases_eq, cases_lt}
 use Rattle.cfgx_syntax.specs.Items.{Item, Ending, ItemsFrom, IsBlank, HasOneTokenList, starts_token}
 use Rattle.cfgx_syntax.specs.Items.{expects_token}
 use Rattle.cfgx_syntax.specs.Lexer.{BeginsWith, BeginsNone, BeginsUnclosed}
 use Rattle.cfgx_syntax.specs.Token.{Token, starts_word, continues_word, is_quote, IsWord, Spells}
 use Rattle.cfgx_syntax.specs.Token.{HasNoQuote, IsWhole}
-use Rattle.cfgx_syntax.specs.Error.{Cause}
-use Rattle.cfgx_syntax.specs.Cut.{IsValueCut, CanBeCut}
+use Rattle.cfgx_syntax.specs.{Error.Cause, Cut.IsValueCut, Cut.CanBeCut}
 use Rattle.cfgx_syntax.proofs.Blanks.{IsTrimStart-here, IsTrimStart-past}
 use Rattle.cfgx_syntax.proofs.Scanning.{IsAfter, Stands-found, Ending-found, rest_is}
 use Rattle.cfgx_syntax.proofs.Scanning.{CanBeCut-found}
@@ -32,8 +27,7 @@ abbrev Trimmed : List ℕ → Type 0
 Trimmed text = (rest : List ℕ) × IsTrimStart text rest × IsUtf8 rest
 
 trimmed_chars : (cs : List ℕ) → all_scalars cs ≡ true → Trimmed (encode_utf8_all cs)
-trimmed_chars [] scalars =
-    ([], IsTrimStart-here [] [] (λ some. absurd (omega (arith, some))), IsUtf8-nil)
+trimmed_chars [] scalars = grind arith
 trimmed_chars (c ∷ cs) scalars =
     let parts = and_parts _ _ scalars in
     let more = encode_utf8_all cs in
@@ -53,8 +47,7 @@ trimmed text utf8 = subst Trimmed utf8.1.1 (trimmed_chars utf8.0 utf8.1.0)
 cases_text : (xs ys : List ℕ) → (xs ≡ ys) ⊎ (xs ≢ ys)
 cases_text xs ys =
     let test = bytes_eq-Decides xs ys in
-    ⊎_elim (λ t. inl (test.0 t)) (λ f. inr (not_from_Decides _ test f))
-    (cases_Bool (bytes_eq xs ys))
+    grind arith
 
 -- each word spells a token
 word_spells : (word : List ℕ) → IsWord word → (token : Token) × Spells word token
@@ -74,15 +67,12 @@ data Begins (rest : List ℕ) : Type 0 where
       → Begins rest
 
 quote_is : (byte : ℕ) → is_quote byte ≡ true → byte ≡ 34
-quote_is byte h = grind (arith, nat_tests, common_steps)
+quote_is byte h = grind arith
 
 -- no quote stands in front of the first
 HasNoQuote-before : (bytes : List ℕ) → HasNoQuote (before_first is_quote bytes)
-HasNoQuote-before bytes = HasNoQuote-from (before_first is_quote bytes) (λ i short e.
-    let n = position_or_len is_quote bytes in
-    let within : i < n = omega (arith, short, length-take n bytes) in
-    let other = fails_before_first is_quote bytes i 0 within in
-    both_ways _ (rw (← get_or-take n bytes i 0 within, e) at other) refl)
+HasNoQuote-before bytes =
+    grind (arith, HasNoQuote-from, length-take, fails_before_first, get_or-take)
 
 -- a quote in front is closed, or it is not
 begins_quote : (more : List ℕ) → IsUtf8 (34 ∷ more) → Begins (34 ∷ more)
@@ -119,7 +109,7 @@ begins_mark rest utf8 some starts other plain =
     ⊎_elim (λ e. by Token.open_paren 40 (lit< tt) e refl refl tt) (λ one.
     ⊎_elim (λ e. by Token.close_paren 41 (lit< tt) e refl refl tt) (λ two.
     ⊎_elim (λ e. by Token.comma 44 (lit< tt) e refl refl tt) (λ three.
-    let last : byte ≡ 61 = grind (arith, nat_tests, common_steps) in
+    let last : byte ≡ 61 = grind arith in
     by Token.equals 61 (lit< tt) last refl refl tt)
     (cases_eq byte 44)) (cases_eq byte 41)) (cases_eq byte 40)
   where

@@ -1,12 +1,10 @@
 -- White space in front of a character that is none ends at one place.
 use Rattle.std.proofs.Common.{◌≡◌, ℕ, ◌<◌, ◌≤◌, true, List, [], ◌∷◌, ◌++◌, length, drop, sym, ap}
 use Rattle.std.proofs.Common.{◌∙◌, arith, length-append, append_assoc, length-drop}
-use Rattle.std.specs.Prelude.{encode_utf8, slice_range}
-use Rattle.std.specs.Char.{is_not_whitespace}
+use Rattle.std.specs.{Prelude.encode_utf8, Prelude.slice_range, Char.is_not_whitespace}
 use Rattle.std.specs.Str.{NonePass, encode_utf8_all}
-use Rattle.std.proofs.lemmas.List.Folds.{drop_split}
-use Rattle.std.proofs.lemmas.Str.{cons_from_encodes, encode_same, length-encode, len_utf8_bounds}
-use Rattle.std.proofs.lemmas.Bool.{both_ways}
+use Rattle.std.proofs.{lemmas.List.Folds.drop_split, lemmas.Bool.both_ways}
+use Rattle.std.proofs.lemmas.Str.{cons_from_encodes, encode_same, length-encode}
 use Rattle.cfgx_syntax.specs.Items.{IsBlank}
 
 -- white space alone lies between `from` and the place, and a character that is none stands there
@@ -19,9 +17,7 @@ pub record IsFirst (text : List ℕ) (from place c : ℕ) : Type 0 where
 
 -- a character takes a byte at least
 char_some : (c : ℕ) (more : List ℕ) → 0 < length (encode_utf8 c ++ more)
-char_some c more =
-    let bounds = len_utf8_bounds c in
-    omega (arith, length-append (encode_utf8 c) more, length-encode c, bounds.0)
+char_some c more = grind (arith, length-append, length-encode)
 
 -- after white space, the first character that is none, and what follows it, are determined
 same_after : (ws vs : List ℕ) (c d : ℕ) (r t : List ℕ) → NonePass is_not_whitespace ws
@@ -30,11 +26,9 @@ same_after : (ws vs : List ℕ) (c d : ℕ) (r t : List ℕ) → NonePass is_not
     → (c ≡ d) × (r ≡ t)
 same_after [] [] c d r t white light seen shown e = encode_same c d r t e
 same_after [] (v ∷ vs) c d r t white light seen shown e =
-    let same = encode_same c v _ _ (simp append_assoc at e) in
-    absurd (both_ways _ light.0 (rw same.0 at seen))
+    grind (arith, encode_same, append_assoc)
 same_after (w ∷ ws) [] c d r t white light seen shown e =
-    let same = encode_same w d _ _ (simp append_assoc at e) in
-    absurd (both_ways _ white.0 (rw (← same.0) at shown))
+    grind (arith, encode_same, append_assoc, both_ways)
 same_after (w ∷ ws) (v ∷ vs) c d r t white light seen shown e =
     let same = encode_same w v _ _ (simp append_assoc at e) in
     same_after ws vs c d r t white.1 light.1 seen shown same.1
@@ -43,8 +37,7 @@ same_after (w ∷ ws) (v ∷ vs) c d r t white light seen shown e =
 none_after : (ws cs : List ℕ) (c : ℕ) (r : List ℕ) → NonePass is_not_whitespace ws
     → NonePass is_not_whitespace cs → is_not_whitespace c ≡ true
     → encode_utf8_all ws ++ (encode_utf8 c ++ r) ≡ encode_utf8_all cs → ⊥
-none_after [] cs c r white light seen e =
-    let same = cons_from_encodes cs r c (sym e) in both_ways _ (rw same.1 at light).0 seen
+none_after [] cs c r white light seen e = grind (arith, cons_from_encodes)
 none_after (w ∷ ws) cs c r white light seen e =
     let same = cons_from_encodes cs _ w (sym (rw append_assoc at e)) in
     none_after ws same.0 c r white.1 (rw same.1 at light).1 seen (sym same.2)
@@ -52,8 +45,7 @@ none_after (w ∷ ws) cs c r white light seen e =
 -- what follows `from`: the white space, and the character
 from_first : (text : List ℕ) (from place c : ℕ) (first : IsFirst text from place c)
     → encode_utf8_all first.gap.0 ++ (encode_utf8 c ++ first.more) ≡ drop from text
-from_first text from place c first =
-    rw (first.gap.1, ← first.stands) (sym (drop_split text from place first.comes_after))
+from_first text from place c first = grind (arith, drop_split)
 
 pub IsFirst-same : (text : List ℕ) (from p q c d : ℕ) → IsFirst text from p c
     → IsFirst text from q d → (p ≡ q) × (c ≡ d)

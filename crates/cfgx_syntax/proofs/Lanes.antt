@@ -1,10 +1,7 @@
 -- What the operations on two planes do in each lane.
 use Rattle.std.proofs.Common.{◌≡◌, ℕ, ◌+◌, ◌≤◌, min, max, true, false, Some, refl, sym, ap, ◌∙◌}
 use Rattle.std.proofs.Common.{arith}
-use Rattle.std.specs.Prelude.{bit_and, bit_or}
-use Rattle.std.specs.Int.{bit_at}
-use Rattle.std.proofs.lemmas.Bool.Decides.{nat_tests}
-use Rattle.std.proofs.lemmas.Grind.{common_steps}
+use Rattle.std.specs.{Prelude.bit_and, Prelude.bit_or, Int.bit_at}
 use Rattle.std.proofs.lemmas.Nat.{and_comm}
 use Rattle.std.proofs.lemmas.Nat.Bits.{bit_at_and, bit_at_or, bit_at-zero, bit_at-lt, bit_at_ones}
 use Rattle.std.proofs.lemmas.Nat.Bits.{same_from_bits}
@@ -25,29 +22,25 @@ AreApart-from t f each =
 
 pub AreApart-and : (t f u g : ℕ) → AreApart t f → AreApart u g
     → AreApart (bit_and t u) (bit_or f g)
-AreApart-and t f u g one other =
-    AreApart-from (bit_and t u) (bit_or f g) (λ i.
-    rw (bit_at_and, bit_at_or) (omega (arith, apart_at t f i one, apart_at u g i other)))
+AreApart-and t f u g one other = grind (arith, AreApart-from, bit_at_and, bit_at_or, apart_at)
 
 pub AreApart-not : (t f : ℕ) → AreApart t f → AreApart f t
 AreApart-not t f apart = and_comm f t ∙ apart
 
 pub AreApart-or : (t f u g : ℕ) → AreApart t f → AreApart u g
     → AreApart (bit_or t u) (bit_and f g)
-AreApart-or t f u g one other =
-    AreApart-not (bit_and f g) (bit_or t u)
-    (AreApart-and f t g u (AreApart-not t f one) (AreApart-not u g other))
+AreApart-or t f u g one other = grind (arith, AreApart-not, AreApart-and)
 
 by_and : (t f u g : ℕ) → t + f ≤ 1 → u + g ≤ 1
     → answer_of_bits (min t u) (max f g) ≡ kleene_and (answer_of_bits t f) (answer_of_bits u g)
-by_and t f u g one other = grind (arith, nat_tests, common_steps)
+by_and t f u g one other = grind arith
 
 by_or : (t f u g : ℕ) → t + f ≤ 1 → u + g ≤ 1
     → answer_of_bits (max t u) (min f g) ≡ kleene_or (answer_of_bits t f) (answer_of_bits u g)
-by_or t f u g one other = grind (arith, nat_tests, common_steps)
+by_or t f u g one other = grind arith
 
 by_not : (t f : ℕ) → t + f ≤ 1 → answer_of_bits f t ≡ kleene_not (answer_of_bits t f)
-by_not t f few = grind (arith, nat_tests, common_steps)
+by_not t f few = grind arith
 
 pub EachLane-and : (one other : Planes) → IsApart one → IsApart other
     → EachLane (planes_and one other) (λ i. kleene_and (lane i one) (lane i other))

@@ -16,9 +16,7 @@ module _ (xs : List ℕ) where
 
   repeat-repeat : (many times : ℕ) → repeat times (repeat many xs) ≡ repeat (times * many) xs
   repeat-repeat many zero = rw zero-mul refl
-  repeat-repeat many (suc times) =
-      let all : many + times * many ≡ suc times * many = grind arith in
-      rw (repeat-repeat many times, repeat-append many (times * many), all) refl
+  repeat-repeat many (suc times) = grind (arith, repeat-append, repeat-repeat many times)
 
   -- in pieces of 64
   pub repeat_pieces : (many : List ℕ) (times : ℕ) → many ≡ repeat 64 xs

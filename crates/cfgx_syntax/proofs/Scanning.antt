@@ -2,25 +2,19 @@
 use Rattle.std.proofs.Common.{Some, ◌∙◌, rules, ◌≡◌, ℕ, ◌+◌, ◌-◌, ◌<◌, ◌≤◌, min, true, false, List}
 use Rattle.std.proofs.Common.{length, inl, inr, ◌⊎◌, refl, drop, get_or, ap, subst, arith}
 use Rattle.std.proofs.Common.{length-drop}
-use Rattle.std.specs.Prelude.{slice_range}
-use Rattle.std.specs.Str.{IsTrimStart}
+use Rattle.std.specs.{Prelude.slice_range, Str.IsTrimStart}
 use Rattle.std.proofs.lemmas.List.{take_min, drop_min, drop-drop}
 use Rattle.std.proofs.lemmas.Str.{byte_from_char}
 use Rattle.std.proofs.lemmas.Bool.{both_ways, false_from_ne_true}
-use Rattle.std.proofs.lemmas.Bool.Decides.{nat_tests}
-use Rattle.std.proofs.lemmas.Grind.{common_steps}
-use Rattle.cfgx_syntax.specs.Cut.{CanBeCut}
+use Rattle.cfgx_syntax.specs.{Cut.CanBeCut, Error.Cause, Token.Token, LexerState.LexerState}
 use Rattle.cfgx_syntax.specs.Items.{EndsAs, lexical, IsBlank, Stands, IsStuck, IsUnclosed}
-use Rattle.cfgx_syntax.specs.Items.{OpensNoValue, StartsNoToken, starts_token, Ending}
-use Rattle.cfgx_syntax.specs.Error.{Cause}
-use Rattle.cfgx_syntax.specs.Token.{Token, Spells, IsWhole}
+use Rattle.cfgx_syntax.specs.Items.{OpensNoValue, starts_token, Ending}
 use Rattle.cfgx_syntax.specs.Lexer.{BeginsWith, BeginsNone, BeginsUnclosed}
-use Rattle.cfgx_syntax.specs.LexerState.{LexerState}
 use Rattle.cfgx_syntax.proofs.Cutting.{CanBeCut-from_rest}
 
 -- what begins a token is ASCII
 pub starts_token-ascii : (c : ℕ) → starts_token c ≡ true → c < 128
-starts_token-ascii c h = grind (arith, nat_tests, common_steps)
+starts_token-ascii c h = grind arith
 
 -- `rest` is what follows the white space after the place in the text
 pub record IsAfter (text rest : List ℕ) (place : ℕ) : Type 0 where
@@ -29,8 +23,7 @@ pub record IsAfter (text rest : List ℕ) (place : ℕ) : Type 0 where
 
 pub IsAfter-trimmed : (text inner rest : List ℕ) → inner ≡ drop (length text - length inner) text
     → IsTrimStart inner rest → IsAfter text rest (length text - length inner)
-IsAfter-trimmed text inner rest follows trimmed =
-    record { inside = omega arith; trimmed = subst (λ l. IsTrimStart l rest) follows trimmed }
+IsAfter-trimmed text inner rest follows trimmed = grind arith
 
 module _ (text rest : List ℕ) (place : ℕ) (beyond : IsAfter text rest place) where
   -- where the rest starts
@@ -57,13 +50,7 @@ module _ (text rest : List ℕ) (place : ℕ) (beyond : IsAfter text rest place)
   pub Stands-found : (token : Token) (len : ℕ) → BeginsWith rest token len
       → Stands text place (record { token = token; start = start; end = start + len })
   Stands-found token len begins =
-      let wide : start + len - start ≡ len = omega arith in
-      let long = ap length rest_is ∙ length-drop start text in
-      let spelled : Spells (slice_range text start (start + len)) token =
-      rw (wide, ← rest_is) begins.spelled in
-      let whole : IsWhole token (drop (start + len) text) =
-      rw (← drop-drop len start text, ← rest_is) begins.whole in
-      search (rules, place_le_start, gap_is_blank)
+      grind (arith, rest_is, drop-drop, place_le_start, gap_is_blank)
 
   pub CanBeCut-found : (token : Token) (len : ℕ) → BeginsWith rest token len
       → CanBeCut text token start (start + len)
@@ -80,9 +67,7 @@ module _ (text rest : List ℕ) (place : ℕ) (beyond : IsAfter text rest place)
       false_from_ne_true (starts_token first.0) (λ t.
       let same = byte_from_char rest beyond.trimmed.3.0 first.0 first.2 (starts_token-ascii _ t) in
       both_ways _ (rw same at none) t) in
-      let stuck : StartsNoToken rest = search rules in
-      let there = subst StartsNoToken rest_is stuck in
-      search (rules, place_le_start, gap_is_blank)
+      grind (arith, rest_is, place_le_start, gap_is_blank)
 
   -- how the text ends, by why no token begins and how many bytes are at fault
   pub Ending-found : (cause : Cause) (len : ℕ) → 0 < length rest

@@ -1,17 +1,11 @@
 -- A text has no more items than bytes.
-use Rattle.std.proofs.Common.{ℕ, ◌+◌, ◌-◌, ◌≤◌, List, [], ◌∷◌, drop, length, arith}
-use Rattle.std.specs.Prelude.{slice_range}
-use Rattle.std.proofs.lemmas.List.{length-take}
+use Rattle.std.proofs.Common.{ℕ, ◌+◌, ◌-◌, ◌≤◌, List, [], ◌∷◌, length, arith}
 use Rattle.cfgx_syntax.specs.Items.{Item, Ending, ItemsFrom}
-use Rattle.cfgx_syntax.proofs.Fronts.{Spells-some}
 
 pub items-bytes : (text : List ℕ) (from : ℕ) (items : List Item) (ending : Ending)
     → from ≤ length text → ItemsFrom text from items ending
     → from + length items ≤ length text
 items-bytes text from [] ending inside are = omega arith
 items-bytes text from (item ∷ items) ending inside are =
-    let bytes = slice_range text item.start item.end in
-    let some = Spells-some bytes item.token are.0.spelled in
-    let few = length-take (item.end - item.start) (drop item.start text) in
     let others = items-bytes text item.end items ending are.0.inside are.1 in
-    omega (arith, some, few, others, are.0.comes_after)
+    grind arith

@@ -1,23 +1,18 @@
 -- A text has one token list.
 use Rattle.std.proofs.Common.{rules, ◌≡◌, ℕ, ◌+◌, ◌-◌, ◌≤◌, true, List, [], length, get_or, ◌∷◌}
-use Rattle.std.proofs.Common.{◌++◌, take, drop, sym, refl, ap, ◌∙◌, arith, cond, ltb, ◌⊎◌, inl, inr}
+use Rattle.std.proofs.Common.{◌++◌, take, drop, sym, refl, ◌∙◌, arith, cond, ltb, ◌⊎◌, inl, inr}
 use Rattle.std.proofs.Common.{length-drop}
-use Rattle.std.specs.Prelude.{encode_utf8, slice_range}
-use Rattle.std.specs.Char.{is_not_whitespace}
-use Rattle.std.proofs.lemmas.List.{drop-drop}
-use Rattle.std.proofs.lemmas.Str.{encode_ascii}
-use Rattle.std.proofs.lemmas.Bool.{false≢true, le-ltb, lt-ltb}
-use Rattle.std.proofs.lemmas.Bool.Decides.{nat_tests}
-use Rattle.std.proofs.lemmas.Grind.{common_steps}
+use Rattle.std.specs.{Prelude.encode_utf8, Prelude.slice_range, Char.is_not_whitespace}
+use Rattle.std.proofs.{lemmas.List.drop-drop, lemmas.Str.encode_ascii, lemmas.Grind.common_steps}
+use Rattle.std.proofs.lemmas.Bool.{le-ltb, lt-ltb}
 use Rattle.cfgx_syntax.specs.Items.{Item, Stands, Ending, EndsAs, ItemsFrom, IsBlank, starts_token}
 use Rattle.cfgx_syntax.proofs.FirstChar.{IsFirst, IsFirst-same, IsFirst-not_blank}
 use Rattle.cfgx_syntax.proofs.Fronts.{front_starts, unclosed_len, token_len, token_len_is, token_by}
 use Rattle.cfgx_syntax.proofs.Fronts.{token_by_is}
-use Rattle.cfgx_syntax.proofs.Scanning.{starts_token-ascii}
 
 -- what begins a token is no white space
 starts_token-visible : (c : ℕ) → starts_token c ≡ true → is_not_whitespace c ≡ true
-starts_token-visible c h = grind (arith, nat_tests, common_steps)
+starts_token-visible c h = grind (arith, common_steps)
 
 -- what comes next is an item, or the text ends
 abbrev Comes : List ℕ → ℕ → Item ⊎ Ending → Type 0
@@ -41,8 +36,7 @@ data Next (text : List ℕ) (from : ℕ) (next : Item ⊎ Ending) : Type 0 where
 
 first_char : (rest : List ℕ) → starts_token (get_or rest 0 0) ≡ true
     → rest ≡ encode_utf8 (get_or rest 0 0) ++ drop 1 rest
-first_char [] starts = absurd (false≢true starts)
-first_char (c ∷ more) starts = rw (encode_ascii c (starts_token-ascii c starts)) refl
+first_char rest starts = grind (arith, encode_ascii)
 
 -- a byte that begins a token is the first character after white space
 first_of : (text : List ℕ) (from place : ℕ) → from ≤ place → IsBlank (slice_range text from place)
@@ -105,8 +99,7 @@ Follows-stands text place item [] ending stands come =
     absurd (let wrong = Comes-same text place (inl item) (inr ending) stands come in cc)
 Follows-stands text place item (other ∷ others) ending stands come =
     let both = Comes-same text place (inl other) (inl item) come.0 stands in
-    let same : item ≡ other = cc in
-    rw same (record { rest = others; items_are = refl; come = come.1 })
+    grind arith
 
 -- from a place on, the items and the ending are determined
 pub ItemsFrom-same : (text : List ℕ) (from : ℕ) (items others : List Item) (ending end : Ending)
@@ -118,8 +111,7 @@ ItemsFrom-same text from [] (other ∷ others) ending end here there =
     absurd (let wrong = Comes-same text from (inl other) (inr ending) there.0 here in cc)
 ItemsFrom-same text from (item ∷ items) others ending end here there =
     let first = Follows-stands text from item others end here.0 there in
-    let rest = ItemsFrom-same text item.end items first.rest ending end here.1 first.come in
-    (first.items_are ∙ ap (λ l. item ∷ l) rest.0, rest.1)
+    grind (arith, ItemsFrom-same text item.end items first.rest ending end here.1 first.come)
 
 pub no_more_items : (text : List ℕ) (place : ℕ) (items : List Item) (ending end : Ending)
     → EndsAs text place end → ItemsFrom text place items ending → (items ≡ []) × (ending ≡ end)

@@ -2,19 +2,16 @@
 use Rattle.std.proofs.Common.{rules, ◌≡◌, ℕ, suc, ◌+◌, ◌-◌, ◌<◌, ◌≤◌, ◌≢◌, false, List, [], ◌∷◌}
 use Rattle.std.proofs.Common.{◌++◌, length, take, drop, get_or, sym, refl, ap, ◌∙◌, arith}
 use Rattle.std.proofs.Common.{length-append, append_assoc, length-take, length-drop}
-use Rattle.std.specs.Prelude.{codes, slice_range}
-use Rattle.std.specs.Str.{IsUtf8}
+use Rattle.std.specs.{Prelude.codes, Prelude.slice_range, Str.IsUtf8}
 use Rattle.std.proofs.lemmas.List.{take_at, get_or_at, take-take, drop-take, drop-drop}
-use Rattle.std.proofs.lemmas.Str.{IsCharBoundary-after_ascii, IsCharBoundary-before_ascii}
-use Rattle.std.proofs.lemmas.Bool.Decides.{nat_tests}
-use Rattle.std.proofs.lemmas.Grind.{common_steps}
+use Rattle.std.proofs.lemmas.Str.{IsCharBoundary-after_ascii}
 use Rattle.cfgx_syntax.specs.Token.{Token, is_quote, HasNoQuote, in_quotes}
 use Rattle.cfgx_syntax.specs.Lexer.{BeginsWith}
 use Rattle.cfgx_syntax.proofs.Words.{IsCut-front}
 
 -- a byte that is no quote fails the test
 is_quote-other : (byte : ℕ) → byte ≢ 34 → is_quote byte ≡ false
-is_quote-other byte other = grind (arith, nat_tests, common_steps)
+is_quote-other byte other = grind arith
 
 pub HasNoQuote-from : (bytes : List ℕ) → ((i : ℕ) → i < length bytes → get_or bytes i 0 ≢ 34)
     → HasNoQuote bytes
@@ -55,7 +52,6 @@ BeginsWith-value text inside beyond utf8 none is =
     let closing : get_or text (n + 1) 0 ≡ 34 =
     rw is (get_or_at (34 ∷ inside) 34 beyond 0 (n + 1) (omega arith)) in
     let opens = IsCharBoundary-after_ascii text 0 utf8 (omega arith) (omega arith) in
-    let before_end = IsCharBoundary-before_ascii text (n + 1) (omega arith) (omega arith) in
     let ends = IsCharBoundary-after_ascii text (n + 1) utf8 (omega arith) (omega arith) in
     let spelled : take (n + 2) text ≡ quoted = rw whole (take_at quoted beyond (n + 2) wide) in
     search (rules, IsCut-front)

@@ -1,27 +1,22 @@
 -- Where a word and a token of one byte end.
 use Rattle.std.proofs.Common.{rules, ◌≡◌, ℕ, zero, suc, ◌+◌, ◌<◌, ◌≤◌, Bool, true, List, [], ◌∷◌}
 use Rattle.std.proofs.Common.{length, take, drop, get_or, refl, arith, add-one}
-use Rattle.std.proofs.Math.Numerals.{one-add}
-use Rattle.std.specs.List.{list_all, prefix_len}
-use Rattle.std.specs.Str.{IsUtf8, IsCharBoundary}
-use Rattle.std.proofs.lemmas.List.{take_rest}
+use Rattle.std.proofs.{Math.Numerals.one-add, lemmas.List.take_rest}
+use Rattle.std.specs.{List.list_all, List.prefix_len, Str.IsUtf8, Str.IsCharBoundary}
 use Rattle.std.proofs.lemmas.List.Sums.{prefix_len-le-length, prefix_len_passes}
 use Rattle.std.proofs.lemmas.Str.{IsCharBoundary-after_ascii, IsCharBoundary-start}
 use Rattle.std.proofs.lemmas.Bool.{cond_both, false≢true}
-use Rattle.std.proofs.lemmas.Bool.Decides.{nat_tests}
-use Rattle.std.proofs.lemmas.Grind.{common_steps}
-use Rattle.cfgx_syntax.specs.Cut.{IsCut, IsValueCut}
+use Rattle.cfgx_syntax.specs.{Cut.IsCut, Cut.IsValueCut, Lexer.BeginsWith}
 use Rattle.cfgx_syntax.specs.Token.{Token, starts_word, continues_word, IsWord, EndsWord, Spells}
 use Rattle.cfgx_syntax.specs.Token.{IsWhole}
-use Rattle.cfgx_syntax.specs.Lexer.{BeginsWith}
 
 -- what stands in a word is ASCII
 pub continues_word-ascii : (byte : ℕ) → continues_word byte ≡ true → byte < 128
-continues_word-ascii byte h = grind (arith, nat_tests, common_steps)
+continues_word-ascii byte h = grind arith
 
 -- what starts a word may stand in one
 pub starts_word-continues : (byte : ℕ) → starts_word byte ≡ true → continues_word byte ≡ true
-starts_word-continues byte h = grind (arith, nat_tests, common_steps)
+starts_word-continues byte h = grind arith
 
 passing_front : (p : ℕ → Bool) (xs : List ℕ) → list_all p (take (prefix_len p xs) xs) ≡ true
 passing_front p [] = refl
@@ -56,11 +51,7 @@ IsCharBoundary-after p low text utf8 = by (prefix_len p text) refl where
       rw add-one at (IsCharBoundary-after_ascii text n utf8 (omega (arith, is, inside)) last)
 
 IsWhole-word : (rest : List ℕ) (token : Token) → EndsWord rest → IsWhole token rest
-IsWhole-word rest (Token.key word) ends = ends
-IsWhole-word rest Token.all ends = ends
-IsWhole-word rest Token.any ends = ends
-IsWhole-word rest Token.not ends = ends
-IsWhole-word rest _ ends = refl
+IsWhole-word rest token ends = grind arith
 
 -- the front of a text up to a place where it can be cut
 pub IsCut-front : (text : List ℕ) (len : ℕ) → IsUtf8 text → len ≤ length text
@@ -72,20 +63,11 @@ pub BeginsWith-byte : (text bytes : List ℕ) (token : Token) (byte : ℕ) → I
     → 0 < length text → bytes ≡ text → get_or bytes 0 0 ≡ byte → byte < 128
     → Spells (byte ∷ []) token → IsWhole token (drop 1 text) → IsValueCut text token 0 1
     → BeginsWith text token 1
-BeginsWith-byte [] bytes token byte utf8 some same is low spelled whole value =
-    absurd (omega arith)
+BeginsWith-byte [] bytes token byte utf8 some same is low spelled whole value = grind arith
 BeginsWith-byte (first ∷ rest) bytes token byte utf8 some same is low spelled whole value =
     let at : first ≡ byte = rw same at is in
     let cut = IsCharBoundary-after_ascii (first ∷ rest) 0 utf8 some (omega arith) in
-    let here : Spells (first ∷ []) token = rw at spelled in
-    search (rules, IsCut-front)
-
--- a word spells no value, and so there is no value to cut
-IsValueCut-word : (text word : List ℕ) (token : Token) (start end : ℕ) → IsWord word
-    → Spells word token → IsValueCut text token start end
-IsValueCut-word text word (Token.value inside) start end is spelled =
-    absurd (false≢true (rw spelled.0 at is).0)
-IsValueCut-word text word _ start end is spelled = tt
+    grind arith
 
 -- a text begins with the token that its first word spells
 pub BeginsWith-word : (text : List ℕ) (token : Token) → IsUtf8 text
@@ -94,12 +76,9 @@ pub BeginsWith-word : (text : List ℕ) (token : Token) → IsUtf8 text
     → BeginsWith text token (prefix_len continues_word text)
 BeginsWith-word text token utf8 starts spelled =
     let n = prefix_len continues_word text in
-    let inside = prefix_len-le-length continues_word text in
     let cut = IsCharBoundary-after continues_word continues_word-ascii text utf8 in
-    let word = word_front text starts in
     let whole = IsWhole-word (drop n text) token (EndsWord-after text) in
-    let value = IsValueCut-word text (take n text) token 0 n word.0 spelled in
-    search (rules, IsCut-front)
+    grind (arith, word_front, IsCut-front)
 
 -- no more bytes pass than there are, and the first of a word is one that passes
 pub ruleset lengths = (prefix_len-le-length, word_front, take_rest)

@@ -1,11 +1,9 @@
 -- What `strip` keeps, by what stands around it.
-use Rattle.std.proofs.Common.{◌≡◌, ◌≢◌, ℕ, ◌-◌, ◌≤◌, false, List, [], ◌∷◌, ◌++◌, length, drop}
-use Rattle.std.proofs.Common.{nat_eq, sym, refl, ap, ◌∙◌, arith, length-append}
-use Rattle.std.specs.Prelude.{codes}
-use Rattle.std.specs.List.{starts_with, ends_with}
-use Rattle.std.proofs.lemmas.List.{drop-append-le, same_from_push, take_at}
+use Rattle.std.proofs.Common.{◌≡◌, ◌≢◌, ℕ, ◌-◌, false, List, ◌++◌, length, drop, nat_eq, sym, refl}
+use Rattle.std.proofs.Common.{ap, ◌∙◌, arith, length-append}
+use Rattle.std.specs.{Prelude.codes, List.ends_with}
+use Rattle.std.proofs.{lemmas.List.take_at, lemmas.Bool.Decides.Decides-eqb}
 use Rattle.std.proofs.lemmas.Bool.{false_from_ne_true}
-use Rattle.std.proofs.lemmas.Bool.Decides.{Decides-eqb}
 use Rattle.std.proofs.lemmas.Slice.Eq.{starts_is, ends_is}
 use Rattle.cfgx_syntax.specs.Stripping.{strip}
 
@@ -13,10 +11,7 @@ use Rattle.cfgx_syntax.specs.Stripping.{strip}
 pub strip-bare : (text : List ℕ) → ((rest : List ℕ) → text ≢ codes "cfg(" ++ rest)
     → text ≡ strip text
 unfolding strip
-strip-bare text none =
-    let other : starts_with nat_eq text (codes "cfg(") ≡ false =
-    false_from_ne_true _ (λ t. none _ ((starts_is Decides-eqb text (codes "cfg(") _ refl).0 t)) in
-    rw other refl
+strip-bare text none = grind arith
 
 pub strip-wrapped : (text inner kept : List ℕ) → text ≡ codes "cfg(" ++ inner
     → inner ≡ kept ++ codes ")" → kept ≡ strip text
@@ -33,11 +28,7 @@ strip-wrapped text inner kept p q =
 -- what starts with `cfg(` and has `)` last has the `)` after the `cfg(`
 ends_after : (inner front : List ℕ) → codes "cfg(" ++ inner ≡ front ++ codes ")"
     → inner ≡ drop 4 front ++ codes ")"
-ends_after [] front e =
-    absurd (omega (arith, (same_from_push (codes "cfg") front 40 41 e).1))
-ends_after (x ∷ xs) front e =
-    let some : 4 ≤ length front = omega (arith, ap length e, length-append front (codes ")")) in
-    ap (drop 4) e ∙ drop-append-le 4 front (codes ")") some
+ends_after inner front e = grind arith
 
 pub strip-prefixed : (text inner : List ℕ) → text ≡ codes "cfg(" ++ inner
     → ((front : List ℕ) → inner ≢ front ++ codes ")") → text ≡ strip text

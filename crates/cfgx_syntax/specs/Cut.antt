@@ -10,18 +10,10 @@ pub record IsCut (text : List ℕ) (start end : ℕ) : Type 0 where
   pub at_start : IsCharBoundary text start
   pub at_end : IsCharBoundary text end
 
--- what a value holds, one byte in from both quotes, can be cut out of the text; of another token
--- nothing is said
+-- what a value holds, one byte in from both quotes, can be cut out of the text
 abbrev pub IsValueCut : List ℕ → Token → ℕ → ℕ → Type 0
 IsValueCut text (Token.value _) start end = IsCut text (start + 1) (end - 1)
-IsValueCut text (Token.key _) start end = Unit {0}
-IsValueCut text Token.equals start end = Unit {0}
-IsValueCut text Token.all start end = Unit {0}
-IsValueCut text Token.any start end = Unit {0}
-IsValueCut text Token.not start end = Unit {0}
-IsValueCut text Token.open_paren start end = Unit {0}
-IsValueCut text Token.close_paren start end = Unit {0}
-IsValueCut text Token.comma start end = Unit {0}
+IsValueCut text _ start end = Unit {0}
 
 -- the token that stands from start to end can be cut out of the text, and so can what a value holds
 pub record CanBeCut (text : List ℕ) (token : Token) (start end : ℕ) : Type 0 where

@@ -1,15 +1,12 @@
 -- Faults of cfg texts, as plain bytes and numbers, and the texts that they print.
 -- Source of the texts: `cfg-expr` 0.20.10, `impl Display for Reason`, `impl Display for ParseError`
 -- and `ParseError::description`.
-use Rattle.std.specs.Prelude.{◌≡◌, ℕ, ◌-◌, List, [], ◌∷◌, ◌++◌, codes, map, replicate}
-use Rattle.std.specs.Prelude.{Option, Some, None, slice_index}
-use Rattle.std.specs.List.{flat_map}
-use Rattle.std.specs.Fmt.{decimal}
-use Rattle.std.specs.String.{string_bytes}
-use Rattle.cfgx_syntax.specs.declared.error.Reason.{Reason}
+use Rattle.std.specs.Prelude.{◌≡◌, ℕ, ◌-◌, List, [], ◌∷◌, ◌++◌, codes, map, replicate, Option, Some}
+use Rattle.std.specs.Prelude.{None, slice_index}
+use Rattle.std.specs.{List.flat_map, Fmt.decimal, String.string_bytes}
+use Rattle.cfgx_syntax.specs.{declared.error.Reason.Reason, declared.error.Failure.Failure}
 use Rattle.cfgx_syntax.specs.declared.error.Reason.TheVariants as reason
 use Rattle.cfgx_syntax.specs.declared.error.ParseError.{ParseError}
-use Rattle.cfgx_syntax.specs.declared.error.Failure.{Failure}
 use Rattle.cfgx_syntax.specs.declared.error.Failure.TheVariants as failure
 
 -- why a text is refused: the program's `Reason`, with the terms of `Unexpected` as bytes, so that

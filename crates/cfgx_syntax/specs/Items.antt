@@ -4,8 +4,7 @@
 use Rattle.std.specs.Prelude.{◌≡◌, ℕ, ◌+◌, ◌≤◌, ◌||◌, Bool, true, false, List, [], ◌∷◌, ◌++◌}
 use Rattle.std.specs.Prelude.{Option, Some, None, codes, drop, encode_utf8, length, slice_range}
 use Rattle.std.specs.Char.{IsScalar, is_not_whitespace, char_set_contains}
-use Rattle.std.specs.Str.{NoCharPasses}
-use Rattle.std.specs.List.{AllByRecursion}
+use Rattle.std.specs.{Str.NoCharPasses, List.AllByRecursion}
 use Rattle.cfgx_syntax.specs.Cut.{CanBeCut}
 use Rattle.cfgx_syntax.specs.Error.{Cause, Refusal, unexpected}
 use Rattle.cfgx_syntax.specs.Token.{Token, starts_word, Spells, IsWhole, HasNoQuote}
@@ -42,8 +41,8 @@ pub record Stands (text : List ℕ) (from : ℕ) (item : Item) : Type 0 where
   pub inside : item.end ≤ length text
   pub whole : IsWhole item.token (drop item.end text)
 
--- what stands after the last token: white space to the end, or white space and then a place where
--- no token can start, either way
+-- how a text ends after its last token: with white space alone, at a character with which no token
+-- can start, or at a quote that is never closed
 pub data Ending : Type 0 where
   blank : Ending
   no_token : ℕ → Ending
@@ -66,7 +65,7 @@ EndsAs text from Ending.blank = IsBlank (drop from text)
 EndsAs text from (Ending.no_token place) = IsStuck text from place
 EndsAs text from (Ending.unclosed_quotes place) = IsUnclosed text from place
 
--- From the place `from` on the text is these items in order, and then ends so.
+-- from the place `from` on, the text has these items one after another, and then this ending
 abbrev pub ItemsFrom : List ℕ → ℕ → List Item → Ending → Type 0
 ItemsFrom text from [] ending = EndsAs text from ending
 ItemsFrom text from (item ∷ items) ending =
@@ -89,8 +88,8 @@ pub record HasOneTokenList (text : List ℕ) : Type 0 where
 abbrev pub expects_token : Cause
 expects_token = unexpected (codes "<key>" ∷ codes "all" ∷ codes "any" ∷ codes "not" ∷ [])
 
--- the refusal of a text whose tokens end so: none at white space, the byte at which no token can
--- start, and a quote that is never closed from there to the end
+-- the refusal for an ending: none for white space, the one byte where no token can start, or all
+-- from a quote that is never closed to the end of the text
 abbrev pub lexical : List ℕ → Ending → Option Refusal
 lexical text Ending.blank = None
 lexical text (Ending.no_token place) =

@@ -2,18 +2,15 @@
 use Rattle.std.specs.Prelude.{◌≡◌, ℕ, ◌<◌, ◌≤◌, ◌&&◌, Bool, false, List, length, take, drop}
 use Rattle.std.specs.Prelude.{slice_index, Option, Some, None, Result, Ok, Err, ◌⊎◌}
 use Rattle.std.specs.Char.{is_ascii, is_whitespace}
-use Rattle.cfgx_syntax.specs.Cut.{CanBeCut}
+use Rattle.cfgx_syntax.specs.{Cut.CanBeCut, Token.Spells, Token.IsWhole}
+use Rattle.cfgx_syntax.specs.{declared.error.Failure.Failure, declared.error.Reason.Reason}
+use Rattle.cfgx_syntax.specs.{declared.lexer.Token.Token, declared.lexer.LexerToken.LexerToken}
 use Rattle.cfgx_syntax.specs.Token as spelled
-use Rattle.cfgx_syntax.specs.Token.{Spells, IsWhole}
 use Rattle.cfgx_syntax.specs.Items.{Item, Ending, IsBlank, Stands, EndsAs, OpensNoValue, lexical}
 use Rattle.cfgx_syntax.specs.Items.{starts_token, expects_token}
 use Rattle.cfgx_syntax.specs.LexerState.{LexerState, at_end}
 use Rattle.cfgx_syntax.specs.Error.{Cause, Refusal, FailsWith, fault_in, cause_of}
-use Rattle.cfgx_syntax.specs.declared.error.Failure.{Failure}
-use Rattle.cfgx_syntax.specs.declared.error.Reason.{Reason}
-use Rattle.cfgx_syntax.specs.declared.lexer.Token.{Token}
 use Rattle.cfgx_syntax.specs.declared.lexer.Token.TheVariants as given
-use Rattle.cfgx_syntax.specs.declared.lexer.LexerToken.{LexerToken}
 
 -- a token without where its text lies in memory
 abbrev pub token_of : Token → spelled.Token

@@ -1,7 +1,5 @@
 -- What a type takes in memory, in bytes.
-use Rattle.std.specs.Prelude.{◌^◌, ◌≤◌}
-use Rattle.std.specs.Mem.{type_size}
-use Rattle.std.specs.Align.{type_align}
+use Rattle.std.specs.{Prelude.◌^◌, Prelude.◌≤◌, Mem.type_size, Align.type_align}
 use denote.RattleType.{RattleType}
 
 -- a type whose values take few bytes

@@ -68,11 +68,7 @@ EndsWord (byte ∷ _) = continues_word byte ≡ false
 -- the token is whole in front of the rest of its text: a word runs as far as it can
 abbrev pub IsWhole : Token → List ℕ → Type 0
 IsWhole (Token.key _) rest = EndsWord rest
-IsWhole (Token.value _) rest = IsTrue true
-IsWhole Token.equals rest = IsTrue true
 IsWhole Token.all rest = EndsWord rest
 IsWhole Token.any rest = EndsWord rest
 IsWhole Token.not rest = EndsWord rest
-IsWhole Token.open_paren rest = IsTrue true
-IsWhole Token.close_paren rest = IsTrue true
-IsWhole Token.comma rest = IsTrue true
+IsWhole _ rest = IsTrue true

@@ -1,13 +1,10 @@
 -- That what a width of atomics and a byte order print is read again.
-use Rattle.std.proofs.Common.{◌≡◌, refl, ℕ, ◌^◌, List, arith}
-use Rattle.std.specs.Prelude.{Some, Result, Ok, Err}
+use Rattle.std.proofs.Common.{◌≡◌, refl, ℕ, List, arith}
+use Rattle.std.specs.Prelude.{Some, Result, Ok}
 use Rattle.cfgx_targets.specs.Endian.{endian_named, endian_text}
 use Rattle.cfgx_targets.specs.HasAtomic.{IsWidth, ReadsAtomic, atomic_named, atomic_text}
-use Rattle.cfgx_targets.specs.declared.atomic.HasAtomic.{HasAtomic}
-use Rattle.cfgx_targets.specs.declared.atomic.HasAtomic.TheVariants.{IntegerSize, Pointer}
+use Rattle.cfgx_targets.specs.{declared.atomic.HasAtomic.HasAtomic, declared.endian.Endian.Endian}
 use Rattle.cfgx_targets.specs.declared.atomic.HasAtomicFailure.{HasAtomicFailure}
-use Rattle.cfgx_targets.specs.declared.atomic.HasAtomicFailure.TheVariants.{Parse, Memory}
-use Rattle.cfgx_targets.specs.declared.endian.Endian.{Endian}
 use Rattle.cfgx_targets.specs.declared.endian.Endian.TheVariants.{big, little}
 use Rattle.cfgx_targets.specs.Number.{read_below}
 use Rattle.cfgx_targets.proofs.NumberLemmas.{read_below-decimal}
@@ -22,19 +19,10 @@ endian_named-text little = refl
 pub atomic_named-text : (width : HasAtomic) → IsWidth width
     → atomic_named (atomic_text width) ≡ Some width
 unfolding atomic_named read_below
-atomic_named-text (IntegerSize bits) fits =
-    let read : read_below (2 ^ 16) (atomic_text (IntegerSize bits)) ≡ Some bits =
-    read_below-decimal (2 ^ 16) bits fits (omega (arith, fits)) in
-    rw read
-atomic_named-text Pointer fits = refl
+atomic_named-text width fits = grind (arith, read_below-decimal)
 
 -- so the reading of what a width prints answers that width
 pub ReadsAtomic-text : {A : Type 0} (text : List ℕ) (result : Result HasAtomic (HasAtomicFailure A))
     → ReadsAtomic text result → (width : HasAtomic) → IsWidth width → text ≡ atomic_text width
     → result ≡ Ok width
-ReadsAtomic-text text (Ok read) reads width fits printed =
-    let named = atomic_named-text width fits in cc
-ReadsAtomic-text text (Err (Parse error)) reads width fits printed =
-    let named = atomic_named-text width fits in cc reads.0
-ReadsAtomic-text text (Err (Memory error)) reads width fits printed =
-    let named = atomic_named-text width fits in cc
+ReadsAtomic-text text result reads width fits printed = grind (arith, atomic_named-text)

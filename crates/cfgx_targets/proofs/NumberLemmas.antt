@@ -1,17 +1,13 @@
 -- That the numbers which Rust's `parse` reads are those of `read_below`.
-use Rattle.std.proofs.lemmas.Grind.{common_steps}
-use Rattle.std.proofs.Common.{◌≡◌, ℕ, ◌^◌, ◌<◌, Bool, true, List, [], ◌∷◌, arith}
-use Rattle.std.specs.Prelude.{Some, None, Result, nat_lt, cond}
-use Rattle.std.specs.Bool.{Decides}
-use Rattle.std.specs.Result.{OkIff, result_ok}
-use Rattle.std.specs.Fmt.{decimal}
+use Rattle.std.proofs.lemmas.Bool.{lt-ltb}
+use Rattle.std.proofs.Common.{◌≡◌, ℕ, ◌^◌, ◌<◌, Bool, true, List, arith}
+use Rattle.std.specs.Prelude.{Some, None, Result, cond}
+use Rattle.std.specs.{Bool.Decides, Result.OkIff, Result.result_ok, Fmt.decimal}
 use Rattle.std.specs.Str.{all_ascii_digits}
 use Rattle.std.specs.Str.Parse.{IsNumeral, ParsesUnsigned, digits_value, without_leading_plus}
-use Rattle.std.proofs.lemmas.Bool.Decides.{Decides-and, Decides-ltb}
 use Rattle.std.proofs.lemmas.Str.Parse.{IsNumeralModel, numerals_by_value, tells_all_ascii_digits}
 use Rattle.std.proofs.lemmas.Str.Parse.{not_in_digits, without_leading_plus_none}
 use Rattle.std.proofs.lemmas.Fmt.{decimal_is_IsNumeral, decimal_nonempty, digits_decimal}
-use Rattle.std.proofs.lemmas.Bool.{lt-ltb}
 use Rattle.cfgx_targets.specs.Number.{is_numeral, read_below}
 
 -- std's numerals are ASCII digits
@@ -19,23 +15,19 @@ digits_model : IsNumeralModel (λ ds. all_ascii_digits ds ≡ true) (digits_valu
 digits_model = numerals_by_value _ tells_all_ascii_digits
 
 Decides-is_numeral : (ds : List ℕ) → Decides (is_numeral ds) (IsNumeral 10 ds)
-Decides-is_numeral [] = (λ h. cc, λ h. absurd (omega (arith, h.0)))
-Decides-is_numeral (d ∷ ds) =
-    (λ h. (omega arith, digits_model.to (d ∷ ds) h), λ h. digits_model.from (d ∷ ds) h.1)
+Decides-is_numeral ds = grind (arith, digits_model)
 
 -- a result that is `Ok` of the value exactly if the test passes, as an option
 result_ok-OkIff : {E P : Type 0} (b : Bool) (v : ℕ) (r : Result ℕ E) → Decides b P → OkIff r P v
     → result_ok r ≡ cond b (Some v) None
-result_ok-OkIff b v r d h = grind (arith, common_steps)
+result_ok-OkIff b v r d h = grind arith
 
 -- what `parse` reads at an unsigned type of k bits
 pub result_ok-parse : {E : Type 0} (k : ℕ) (bs : List ℕ) (r : Result ℕ E) → ParsesUnsigned k 10 bs r
     → result_ok r ≡ read_below (2 ^ k) bs
 unfolding read_below
 result_ok-parse k bs r h =
-    let ds = without_leading_plus bs in
-    let fits = Decides-and _ _ (Decides-is_numeral ds) (Decides-ltb (digits_value 10 ds) (2 ^ k)) in
-    result_ok-OkIff _ _ r fits h
+    grind (arith, Decides-is_numeral, result_ok-OkIff)
 
 -- what is printed in decimal is read again
 pub read_below-decimal : (limit n : ℕ) → n < limit → n < 2 ^ 64
@@ -45,8 +37,4 @@ read_below-decimal limit n below small =
     let plain : without_leading_plus (decimal n) ≡ decimal n = without_leading_plus_none (decimal n)
     (not_in_digits digits_model (decimal n) 43 (digits_decimal digits_model n small)
     (λ h. absurd (omega (arith, h))) 0 (decimal_nonempty n small)) in
-    let numeral : is_numeral (decimal n) ≡ true =
-    (Decides-is_numeral (decimal n)).1 (decimal_is_IsNumeral n small).0 in
-    let value = (decimal_is_IsNumeral n small).1 in
-    let fits : nat_lt n limit ≡ true = lt-ltb n limit below in
-    rw (plain, numeral, value, fits)
+    grind (arith, Decides-is_numeral, decimal_is_IsNumeral, lt-ltb)

@@ -1,24 +1,20 @@
 -- Lists in order: when a list is one, what a search by halves finds in it, and that a sorted
 -- rearrangement is the only one.
-use Rattle.std.proofs.lemmas.Grind.{common_steps}
-use Rattle.std.proofs.Common.{inl, inr, Bor, ◌≡◌, ◌↔◌, refl, sym, ap, subst, ◌∙◌, ℕ, zero, suc}
-use Rattle.std.proofs.Common.{◌+◌, ◌<◌, ◌≤◌, Bool, true, false, not, List, [], ◌∷◌, length}
-use Rattle.std.proofs.Common.{get_or, arith}
+use Rattle.std.proofs.{lemmas.Grind.common_steps, lemmas.Bool.cases_lt, lemmas.Bool.not-true}
+use Rattle.std.proofs.{lemmas.Cmp.tied_itself, lemmas.List.Sums.sum_by-cons}
+use Rattle.std.proofs.Common.{inl, inr, Bor, ◌≡◌, ◌↔◌, refl, sym, ap, subst, ◌∙◌, ℕ, zero, suc, ◌+◌}
+use Rattle.std.proofs.Common.{◌<◌, ◌≤◌, Bool, true, false, not, List, [], ◌∷◌, length, get_or}
+use Rattle.std.proofs.Common.{arith}
 use Rattle.std.specs.Prelude.{Option, Result, Ok, Err, IsTrue, IsPermutation, IsSorted, Contains}
 use Rattle.std.specs.Prelude.{cond, is_ok, ⊤}
-use Rattle.std.specs.declared.cmp.Ordering.{Ordering}
+use Rattle.std.specs.{declared.cmp.Ordering.Ordering, Bool.Decides, Cmp.IsTotalOrder, Cmp.Agrees}
 use Rattle.std.specs.declared.cmp.Ordering.TheVariants.{Less, Equal, Greater}
-use Rattle.std.specs.Bool.{Decides}
-use Rattle.std.specs.Cmp.{IsTotalOrder, Agrees}
 use Rattle.std.specs.Cmp.Lexicographic.{pointwise, pointwise_decides}
 use Rattle.std.specs.Fn.{Called, ComputesKey, Mut}
 use Rattle.std.specs.List.{IsAllAdjacentAnswer, count_by}
 use Rattle.std.specs.List.Sorted.{IsBinarySearchResult, IsSearchInRange}
 use Rattle.std.specs.Ordering.{is_lt, is_le, is_eq, is_some_and, partial_le, ordering_reverse}
 use Rattle.std.specs.Ordering.{eq_by_cmp}
-use Rattle.std.proofs.lemmas.Bool.{cases_lt, not-true}
-use Rattle.std.proofs.lemmas.Cmp.{tied_itself}
-use Rattle.std.proofs.lemmas.List.Sums.{sum_by-cons}
 use Rattle.std.proofs.lemmas.Fn.{always_returns_same}
 use Rattle.std.proofs.lemmas.List.Sorted.{searchable_from_sorted, IsPermutation-sym}
 use Rattle.std.proofs.lemmas.List.Sorted.{IsPermutation-trans, sum_by-IsPermutation}
@@ -27,10 +23,7 @@ use Rattle.cfgx_targets.specs.SortedList.{IsSortedFrom}
 module _ {X : Type 0} {R : X → X → Ordering} (o : IsTotalOrder R) where
   -- not above is the same as: the other one is not below
   le-lt : (x y : X) → is_le (R x y) ≡ not (is_lt (R y x))
-  le-lt x y = rw (o.antisymm x y) (by_cases (R y x))
-    where
-      by_cases : (r : Ordering) → is_le (ordering_reverse r) ≡ not (is_lt r)
-      by_cases r = grind (arith, common_steps)
+  le-lt x y = grind arith
 
   module _ {C : X → X → Option Ordering} (a : Agrees C R) where
     neighbors : (x y : X) → partial_le C x y ≡ not (is_lt (R y x))
@@ -81,8 +74,7 @@ pub binary_search_by-gives : {X F : Type 0} {g : Mut F (Bor X × Unit {0}) Order
     → ((a : Bor X × Unit {0}) (answer : Ordering) (f' : F) → Called g f a answer f'
     → (answer ≡ rank a.0.now) × (f' ≡ f))
     → IsBinarySearchResult rank xs r
-binary_search_by-gives {g = g} {f = f} rank xs r clause each =
-    clause rank (always_returns_same g (λ a answer. answer ≡ rank a.0.now) f each)
+binary_search_by-gives {g = g} {f = f} rank xs r clause each = grind (arith, always_returns_same)
 
 -- how many members are equal to q
 abbrev count_equal : {X : Type 0} → (X → X → Ordering) → X → List X → ℕ
@@ -98,16 +90,14 @@ IsSorted-tail : {X : Type 0} (R : X → X → Ordering) (x : X) (xs : List X) �
     → IsSorted R xs
 IsSorted-tail R x xs s k d _ lt =
     let next = s (suc k) d (omega arith) (omega arith) in
-    let shift : suc k + 1 ≡ suc (k + 1) = omega arith in
-    rw shift at next
+    grind arith
 
 pub IsSorted-from : {X : Type 0} (R : X → X → Ordering) (xs : List X) → Rises R xs → IsSorted R xs
 IsSorted-from R [] rises k d _ lt = absurd (omega (arith, lt))
 IsSorted-from R (x ∷ []) rises k d _ lt = absurd (omega (arith, lt))
 IsSorted-from R (x ∷ y ∷ ys) rises zero d _ lt = rises.0
 IsSorted-from R (x ∷ y ∷ ys) rises (suc k) d _ lt =
-    let shift : suc k + 1 ≡ suc (k + 1) = omega arith in
-    rw shift (IsSorted-from R (y ∷ ys) rises.1 k d (omega arith) (omega (arith, lt)))
+    grind (arith, IsSorted-from R (y ∷ ys) rises.1 k d (omega arith) (omega (arith, lt)))
 
 Rises-from : {X : Type 0} (R : X → X → Ordering) (xs : List X) → IsSorted R xs → Rises R xs
 Rises-from R [] s = tt
@@ -117,15 +107,12 @@ Rises-from R (x ∷ y ∷ ys) s =
 
 Rises-tail : {X : Type 0} (R : X → X → Ordering) (x : X) (xs : List X) → Rises R (x ∷ xs)
     → Rises R xs
-Rises-tail a0 x xs s = grind (arith, common_steps)
+Rises-tail a0 x xs s = grind arith
 
 module _ {X : Type 0} {R : X → X → Ordering} (o : IsTotalOrder R) where
   -- what is below the first is below what is not below the first
   below-chain : (x y z : X) → R x y ≡ Less → is_lt (R z y) ≡ false → R x z ≡ Less
-  below-chain x y z h up = by_cases (R y z) refl
-    where
-      by_cases : (r : Ordering) → R y z ≡ r → R x z ≡ Less
-      by_cases r e = grind (arith, common_steps)
+  below-chain x y z h up = grind arith
 
   -- a list that begins above q has none equal to q
   count_equal-below : (q y : X) (ys : List X) → R q y ≡ Less → Rises R (y ∷ ys)
@@ -168,14 +155,12 @@ module _ {X : Type 0} {R : X → X → Ordering} (o : IsTotalOrder R) where
   -- the members that items give in order are fixed by the items, in any arrangement of them
   pub sorted-same : (same : (x y : X) → R x y ≡ Equal → x ≡ y) (xs ys : List X)
       → IsPermutation xs ys → IsSorted R xs → IsSorted R ys → xs ≡ ys
-  sorted-same same xs ys p s t =
-      rises-same same xs ys (Rises-from R xs s) (Rises-from R ys t)
-      (λ q. sym (sum_by-IsPermutation (λ w. cond (is_eq (R q w)) 1 0) xs ys p))
+  sorted-same same xs ys p s t = grind (arith, rises-same, Rises-from, sum_by-IsPermutation)
 
   module _ {E : X → X → Bool} (same : (x y : X) → R x y ≡ Equal → x ≡ y)
       (e : (x y : X) → E x y ≡ eq_by_cmp R x y) where
     decides-same : (x y : X) → Decides (E x y) (x ≡ y)
-    decides-same x y = grind (arith, common_steps)
+    decides-same x y = grind arith
 
     -- the test of two lists member by member
     pub lists-same : (xs ys : List X) → IsTrue (pointwise E xs ys) ↔ (xs ≡ ys)

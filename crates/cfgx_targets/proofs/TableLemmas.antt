@@ -1,31 +1,24 @@
 -- Rows in the order of their triples: the first that is not, and what a search by halves finds.
-use Rattle.std.proofs.lemmas.Grind.{common_steps}
-use Rattle.std.proofs.Common.{◌≡◌, refl, sym, ap, subst, ◌∙◌, inl, inr, ℕ, zero, suc, ◌+◌, ◌-◌}
-use Rattle.std.proofs.Common.{◌<◌, Bool, true, false, List, [], ◌∷◌, length, get_or, arith}
-use Rattle.std.proofs.Common.{add-one, nat_cmp}
+use Rattle.std.proofs.{lemmas.Grind.common_steps, lemmas.Bool.cases_lt, lemmas.Cmp.alike_right}
+use Rattle.std.proofs.Common.{◌≡◌, refl, sym, ap, subst, ◌∙◌, inl, inr, ℕ, zero, suc, ◌+◌, ◌-◌, ◌<◌}
+use Rattle.std.proofs.Common.{Bool, true, false, List, [], ◌∷◌, length, get_or, arith, add-one}
+use Rattle.std.proofs.Common.{nat_cmp}
 use Rattle.std.specs.Prelude.{Some, None, Ok, Err}
-use Rattle.std.specs.declared.cmp.Ordering.{Ordering}
-use Rattle.std.specs.declared.cmp.Ordering.TheVariants.{Less, Equal, Greater}
+use Rattle.std.specs.{declared.cmp.Ordering.Ordering, declared.cmp.Ordering.TheVariants.Less}
+use Rattle.std.specs.{declared.cmp.Ordering.TheVariants.Equal, List.AllAdjacentBelow, List.find}
+use Rattle.std.specs.{List.Sorted.IsBinarySearchResult, List.Sorted.IsSortedBy, Str.bytes_eq}
 use Rattle.std.specs.Cmp.Lexicographic.{nat_list_cmp_total, slice_cmp, texts_ties}
-use Rattle.std.specs.List.{AllAdjacentBelow, find}
-use Rattle.std.specs.List.Sorted.{IsBinarySearchResult, IsSortedBy}
 use Rattle.std.specs.Ordering.{is_lt, is_ge, is_eq, ordering_reverse}
-use Rattle.std.specs.Str.{bytes_eq}
-use Rattle.std.proofs.lemmas.Bool.{cases_lt}
-use Rattle.std.proofs.lemmas.Cmp.{alike_right}
 use Rattle.std.proofs.lemmas.List.Sorted.{searchable_from_sorted}
-use Rattle.cfgx_targets.specs.Builtins.{builtin_rows}
+use Rattle.cfgx_targets.specs.{Builtins.builtin_rows, declared.info.TargetInfo.TargetInfo}
 use Rattle.cfgx_targets.specs.Table.{IsBelow, AreIncreasing, IsFirstNotAbove, row_with}
-use Rattle.cfgx_targets.specs.declared.info.TargetInfo.{TargetInfo}
 
 -- the first member that passes a test
 find-at : {X : Type 0} (p : X → Bool) (xs : List X) (i : ℕ) (x : X) → i < length xs
     → x ≡ get_or xs i x → p x ≡ true → ((k : ℕ) → k < i → p (get_or xs k x) ≡ false)
     → find p xs ≡ Some x
 find-at p [] i x lt is passes fails = absurd (omega (arith, lt))
-find-at p (y ∷ ys) zero x lt is passes fails =
-    let here : p y ≡ true = subst (λ z. p z ≡ true) is passes in
-    rw here (ap Some (sym is))
+find-at p (y ∷ ys) zero x lt is passes fails = grind arith
 find-at p (y ∷ ys) (suc i) x lt is passes fails =
     let first : p y ≡ false = fails 0 (omega arith) in
     rw first (find-at p ys i x (omega (arith, lt)) is passes
@@ -105,13 +98,7 @@ module _ {A : Type 0} (rows : List (TargetInfo A)) where
     row_with-missing triple place search =
         let key = λ (row : TargetInfo A). row.triple in
         let rising = searchable_from_sorted nat_list_cmp_total key rows triple in_order in
-        let split = search rising in
-        find-none (λ r. bytes_eq r.triple triple) rows (λ k d inside.
-        let row = get_or rows k d in
-        elim (cases_lt k place) [
-          | inl h ↦ has_triple triple row Less (split.0 k d (omega arith) h)
-          | inr h ↦ has_triple triple row Greater (split.1 k d h inside)
-        ])
+        grind (arith, find-none, has_triple)
 
 -- the targets that are built in are in order
 pub builtin_rows-increasing : {A : Type 0} → AreIncreasing (builtin_rows {A = A})

@@ -1,15 +1,12 @@
 -- That targets are the same exactly if their fields are.
 use Rattle.std.proofs.Common.{arith, ◌≡◌, Bool, ◌&&◌}
-use Rattle.std.proofs.lemmas.Grind.{common_steps}
-use Rattle.std.specs.Prelude.{Option}
-use Rattle.std.specs.Bool.{Decides}
-use Rattle.std.specs.Option.{option_eq}
+use Rattle.std.specs.{Prelude.Option, Bool.Decides, Option.option_eq}
 use Rattle.cfgx_targets.specs.declared.info.TargetInfo.{TargetInfo}
 
 -- values that may be missing, if the test of two values decides whether they are the same
 pub options-decide : {X : Type 0} {E : X → X → Bool} → ((x y : X) → Decides (E x y) (x ≡ y))
     → (one other : Option X) → Decides (option_eq E one other) (one ≡ other)
-options-decide d y one = grind (arith, common_steps)
+options-decide d y one = grind arith
 
 -- and so of targets, if the tests of their fields do
 pub targets-decide : {A : Type 0} (one other : TargetInfo A)
@@ -24,4 +21,4 @@ pub targets-decide : {A : Type 0} (one other : TargetInfo A)
     → Decides panic (one.panic ≡ other.panic)
     → Decides (triple && (os && (abi && (arch && (env && (vendor && (families && (width
     && (endian && (atomics && panic)))))))))) (one ≡ other)
-targets-decide one other a b c d e f g h i j k = grind (arith, common_steps)
+targets-decide one other a b c d e f g h i j k = grind arith

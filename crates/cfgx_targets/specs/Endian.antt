@@ -3,8 +3,7 @@
 use Rattle.std.specs.Prelude.{◌≡◌, ℕ, List, [], ◌∷◌, codes, Option, Some, None, Result, Ok, Err}
 use Rattle.std.specs.Prelude.{if◌then◌else◌}
 use Rattle.std.specs.Str.{bytes_eq}
-use Rattle.cfgx_syntax.specs.Error.{unexpected, cause_of}
-use Rattle.cfgx_syntax.specs.declared.error.Reason.{Reason}
+use Rattle.cfgx_syntax.specs.{Error.unexpected, Error.cause_of, declared.error.Reason.Reason}
 use Rattle.cfgx_targets.specs.declared.endian.Endian.{Endian}
 use Rattle.cfgx_targets.specs.declared.endian.Endian.TheVariants.{big, little}
 

@@ -1,8 +1,7 @@
 -- That texts which compare as equal are the same.
 use Rattle.std.specs.Prelude.{◌≡◌, ℕ, true, List, nat_eq}
-use Rattle.std.specs.declared.cmp.Ordering.TheVariants.{Equal}
+use Rattle.std.specs.{declared.cmp.Ordering.TheVariants.Equal, Ordering.nat_cmp, Ordering.is_eq}
 use Rattle.std.specs.Cmp.Lexicographic.{slice_cmp, pointwise, texts_ties, same_text}
-use Rattle.std.specs.Ordering.{nat_cmp, is_eq}
 use Rattle.std.proofs.Common.{sym, ◌∙◌, ap}
 
 pub equal_texts : (one other : List ℕ) → slice_cmp nat_cmp one other ≡ Equal → one ≡ other

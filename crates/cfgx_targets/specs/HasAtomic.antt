@@ -1,14 +1,12 @@
--- Widths of atomics and their texts, which are those of the key `target_has_atomic`.
+-- Widths of atomic operations (in names `atomic`, or `width`) and their texts, which are those of
+-- the key `target_has_atomic`.
 -- Source: the Rust Reference, `target_has_atomic`; `HasAtomic` of `cfg-expr` 0.20.10.
-use Rattle.std.specs.Prelude.{◌≡◌, ℕ, ◌^◌, ◌<◌, ⊤, List, codes, Option, Some, None, Result, Ok}
-use Rattle.std.specs.Prelude.{Err, if◌then◌else◌, option_map}
-use Rattle.std.specs.Fmt.{decimal}
-use Rattle.std.specs.Option.{option_or}
-use Rattle.std.specs.Str.{bytes_eq}
-use Rattle.cfgx_targets.specs.Number.{read_below}
+use Rattle.std.specs.Prelude.{◌≡◌, ℕ, ◌^◌, ◌<◌, List, codes, Option, Some, None, Result, Ok, Err}
+use Rattle.std.specs.Prelude.{if◌then◌else◌, option_map}
+use Rattle.std.specs.{Fmt.decimal, Option.option_or, Str.bytes_eq}
+use Rattle.cfgx_targets.specs.{Number.read_below, declared.atomic.HasAtomic.HasAtomic}
 use Rattle.cfgx_targets.specs.declared.atomic.HasAtomicFailure.{HasAtomicFailure}
 use Rattle.cfgx_targets.specs.declared.atomic.HasAtomicFailure.TheVariants.{Parse, Memory}
-use Rattle.cfgx_targets.specs.declared.atomic.HasAtomic.{HasAtomic}
 use Rattle.cfgx_targets.specs.declared.atomic.HasAtomic.TheVariants.{IntegerSize, Pointer}
 
 -- a number of bits in decimal, or `ptr`
@@ -28,7 +26,7 @@ atomic_named text =
 -- a width of the program has sixteen bits
 abbrev pub IsWidth : HasAtomic → Type 0
 IsWidth (IntegerSize bits) = bits < 2 ^ 16
-IsWidth Pointer = ⊤
+IsWidth Pointer = Unit {0}
 
 -- What the reading of a width answers: the one that the text names, or, only if it names none, the
 -- fault with that text, or that it is out of memory.

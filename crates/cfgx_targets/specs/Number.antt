@@ -2,8 +2,7 @@
 -- Source: `FromStr` of Rust's `u8` and `u16`, by which the crate `cfg-expr` reads these values.
 use Rattle.std.specs.Prelude.{ℕ, Bool, false, ◌&&◌, if◌then◌else◌, List, [], ◌∷◌, Option, Some}
 use Rattle.std.specs.Prelude.{None, nat_lt}
-use Rattle.std.specs.Str.{all_ascii_digits}
-use Rattle.std.specs.Str.Parse.{digits_value, without_leading_plus}
+use Rattle.std.specs.{Str.all_ascii_digits, Str.Parse.digits_value, Str.Parse.without_leading_plus}
 
 -- one ASCII digit or more, and nothing else
 abbrev pub is_numeral : List ℕ → Bool

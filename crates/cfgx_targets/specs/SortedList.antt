@@ -1,8 +1,7 @@
 -- Lists in order.
 -- Source: the documentation of `sort_unstable` of Rust's slices: what it does is a rearrangement.
 use Rattle.std.specs.Prelude.{ℕ, List, [], ◌∷◌, ◌++◌, codes, IsPermutation, IsSorted}
-use Rattle.std.specs.List.{flat_map}
-use Rattle.std.specs.declared.cmp.Ordering.{Ordering}
+use Rattle.std.specs.{List.flat_map, declared.cmp.Ordering.Ordering}
 
 -- the members are the items, rearranged so that none is below the one before it
 pub record IsSortedFrom {T : Type 0} (cmp : T → T → Ordering) (items members : List T)

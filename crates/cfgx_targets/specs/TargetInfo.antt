@@ -1,12 +1,9 @@
 -- The order of targets.
 -- Source: the derived `Ord` of `TargetInfo` of `cfg-expr` 0.20.10, which takes the fields in turn.
-use Rattle.std.specs.Prelude.{ℕ, List}
-use Rattle.std.specs.declared.cmp.Ordering.{Ordering}
-use Rattle.std.specs.Cmp.Lexicographic.{slice_cmp}
-use Rattle.std.specs.Option.{option_cmp}
+use Rattle.std.specs.{Prelude.ℕ, Prelude.List, declared.cmp.Ordering.Ordering}
+use Rattle.std.specs.{Cmp.Lexicographic.slice_cmp, Option.option_cmp}
 use Rattle.std.specs.Ordering.{nat_cmp, ordering_then}
-use Rattle.cfgx_targets.specs.declared.atomic.HasAtomic.{HasAtomic}
-use Rattle.cfgx_targets.specs.declared.endian.Endian.{Endian}
+use Rattle.cfgx_targets.specs.{declared.atomic.HasAtomic.HasAtomic, declared.endian.Endian.Endian}
 use Rattle.cfgx_targets.specs.declared.info.TargetInfo.{TargetInfo}
 
 -- texts by their bytes

@@ -5,8 +5,7 @@
 //! `\t`, `\r`, `\0` and `\\` stand for what they are in Rust, `\u{a0}` for the character of that
 //! number, and `\e` for nothing, so that a field can be empty. `~piece~times~` stands for the piece
 //! so many times, and a field that is `USAGE`, `SECTIONS` or `VERDICTS` for the text of that name.
-use crate::streams::USAGE;
-use crate::words::{SECTIONS, VERDICTS};
+use crate::streams::{SECTIONS, USAGE, VERDICTS};
 use cfg_expr::Expression;
 use cfg_expr::error::{Failure, ParseError, Reason};
 use std::alloc::{AllocError, Global};
@@ -148,14 +147,27 @@ where
     check_count(alloc, passing(alloc, table, &check)?, rows)
 }
 
-/// As [`check_rows`], of each of some tables, beside which the number of rows stands.
-pub fn check_tables<F>(alloc: Global, tables: &[(&str, usize)], check: F) -> Result<(), String>
+/// The name of a check, a table for it, and how many rows that has.
+pub type Checked<'a> = (&'a str, &'a str, usize);
+
+// What is wrong, after the name of the check.
+fn named(alloc: Global, name: &str, wrong: String) -> String {
+    match format!(in alloc; "{name}: {wrong}") {
+        Ok(told) => told,
+        Err(_) => wrong,
+    }
+}
+
+/// As [`check_rows`], of each of some tables, by the check of its name, which the error tells too.
+pub fn check_tables<F>(alloc: Global, tables: &[Checked<'_>], check: F) -> Result<(), String>
 where
-    F: Fn(&[String]) -> bool,
+    F: Fn(&str, &[String]) -> bool,
     requires { F.IsAlwaysCallable check }
 {
-    for (table, rows) in tables {
-        check_count(alloc, passing(alloc, table, &check)?, *rows)?;
+    for (name, table, rows) in tables {
+        if let Err(wrong) = check_rows(alloc, table, *rows, |row| check(name, row)) {
+            return Err(named(alloc, name, wrong));
+        }
     }
     Ok(())
 }

@@ -13,6 +13,14 @@ use std::io::ErrorKind;
 pub const USAGE: &str =
     "usage: cfgx parse TEXT | eval TEXT FLAG.. | target TRIPLE TEXT | pick TRIPLE\n";
 
+/// The sections that the simulator takes, may take and does not take.
+pub const SECTIONS: &str = "a\tcfg(target_abi = \"sim\")\n\
+    b\tany(windows, feature = \"x\")\n\
+    c\tall(windows, feature = \"x\")\n";
+
+/// What `pick` writes of them on the simulator.
+pub const VERDICTS: &str = "a\tyes\nb\tunknown\n\ttrue with 01\n\tfalse with 00\nc\tno\n";
+
 /// No limit.
 pub const ALL: usize = usize::MAX;
 

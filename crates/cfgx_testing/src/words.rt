@@ -1,15 +1,6 @@
 //! Rows of runs of the program: `status | what is written | word | word ..`. A `\0` divides words.
-use crate::rows::check_tables;
 use crate::streams::is_answer;
 use std::alloc::{AllocError, Global};
-
-/// The sections that the simulator takes, may take and does not take.
-pub const SECTIONS: &str = "a\tcfg(target_abi = \"sim\")\n\
-    b\tany(windows, feature = \"x\")\n\
-    c\tall(windows, feature = \"x\")\n";
-
-/// What `pick` writes of them on the simulator.
-pub const VERDICTS: &str = "a\tyes\nb\tunknown\n\ttrue with 01\n\tfalse with 00\nc\tno\n";
 
 /// The words that texts are.
 pub fn words_of(alloc: Global, texts: &[String]) -> Result<Vec<&str>, AllocError> {
@@ -22,8 +13,8 @@ pub fn words_of(alloc: Global, texts: &[String]) -> Result<Vec<&str>, AllocError
     Ok(words)
 }
 
-// Whether a run with the words of the row ends and writes as the row says.
-fn is_run(alloc: Global, row: &[String]) -> bool {
+/// Whether a run with the words of the row ends and writes as the row says.
+pub fn is_run(alloc: Global, row: &[String]) -> bool {
     let [status, written, words @ ..] = row else {
         return false;
     };
@@ -31,9 +22,4 @@ fn is_run(alloc: Global, row: &[String]) -> bool {
         (Ok(words), Ok(status)) => is_answer(alloc, words.as_slice(), status, written.as_str()),
         _ => false,
     }
-}
-
-/// As [`check_tables`]: a run with the words of each row ends and writes as the row says.
-pub fn check_runs(alloc: Global, tables: &[(&str, usize)]) -> Result<(), String> {
-    check_tables(alloc, tables, |row| is_run(alloc, row))
 }

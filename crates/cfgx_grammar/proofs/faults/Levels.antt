@@ -4,14 +4,13 @@
 use Rattle.std.proofs.Common.{◌≡◌, ⊎_elim, ℕ, zero, suc, ◌+◌, ◌<◌, ◌≤◌, ◌&&◌, ◌==◌, Bool, true}
 use Rattle.std.proofs.Common.{false, List, [], ◌∷◌, ◌++◌, length, Option, Some, sym, refl, ap, ◌∙◌}
 use Rattle.std.proofs.Common.{arith, take_at, option_map, take_all, if◌then◌else◌, nat_le}
-use Rattle.std.proofs.Common.{slice_get, None, le-ltb}
-use Rattle.std.proofs.lemmas.Bool.{cases_lt}
+use Rattle.std.proofs.Common.{slice_get, None}
+use Rattle.std.proofs.{lemmas.Bool.cases_lt, lemmas.Option.slice_get_within}
 use Rattle.std.proofs.lemmas.List.{take-append-le, length_push}
 use Rattle.cfgx_syntax.specs.Items.{Item}
 use Rattle.cfgx_grammar.specs.Neighbours.{Kind, kind_of, is_kind}
 use Rattle.cfgx_grammar.specs.Depth.{count_below, last_below, begins_member, depth, depth_at}
 use Rattle.cfgx_grammar.specs.Depth.{members_at, innermost}
-use Rattle.std.proofs.lemmas.Option.{slice_get_within}
 use Rattle.cfgx_grammar.specs.parsing.State.{Function, Open, name_of}
 use Rattle.cfgx_grammar.specs.parsing.Step.{over_top, with_parens}
 
@@ -36,8 +35,7 @@ last_below-none test (suc n) none = rw (none n) (last_below-none test n none)
 
 -- no function is open
 pub innermost-none : (front : List Item) → depth front ≡ 0 → innermost front ≡ None
-innermost-none front level =
-    last_below-none _ (length front) (λ k. rw level (le-ltb (depth_at front k) 0 (omega arith)))
+innermost-none front level = grind (arith, last_below-none)
 
 pub last_below-found : (test : ℕ → Bool) (place n : ℕ) → place < n → test place ≡ true
     → ((k : ℕ) → place < k → k < n → test k ≡ false) → last_below test n ≡ Some place
@@ -133,9 +131,7 @@ module _ (front : List Item) (item : Item) where
       let same = count_below-same (counts more level from) (counts front level from) (length front)
       (λ k lt. rw (depth_at_front k (omega (arith, lt)), slice_get_front front (item ∷ []) k lt)
       refl) in
-      let last : counts more level from (length front) ≡ counted =
-      rw (depth_at_end, slice_get_next front item []) is in
-      rw (length_more, last, same) refl
+      grind (arith, depth_at_end, slice_get_next, length_more)
 
   -- the token begins a member at the depth
   pub members_at_name : (level from : ℕ) → from ≤ length front → depth front ≡ level
@@ -158,19 +154,7 @@ module _ (front : List Item) (item : Item) where
       → IsOpenAt front level function start end place → IsOpenAt more level function start end place
   IsOpenAt-more level function start end place deep is =
       let at = slice_get_within front place is.name is.stands in
-      record {
-        name = is.name;
-        stands = slice_get_front front (item ∷ []) place at ∙ is.stands;
-        named = is.named;
-        starts = is.starts;
-        ends = is.ends;
-        before = depth_at_front place (omega (arith, at)) ∙ is.before;
-        inside = λ k beyond within. ⊎_elim
-            (λ (past : length front < k). rw (take_all k more
-            (omega (arith, past, length_more))) deep)
-            (λ (old : k ≤ length front). rw (depth_at_front k old)
-            (is.inside k beyond old)) (cases_lt (length front) k);
-      }
+      grind (arith, slice_get_front, depth_at_front, take_all, length_more, cases_lt)
 
   -- the token changes the members of the level, and how many of its members go on
   IsLevel-more : {M : Type 0} (level going goes : ℕ) (top : Open M) → level < depth more
@@ -178,13 +162,8 @@ module _ (front : List Item) (item : Item) where
       → members_at front (level + 1) (place + 1) ≡ top.members + going
       → members_at more (level + 1) (place + 1) ≡ top.members + goes)
       → IsLevel front false level top going → IsLevel more false level top goes
-  IsLevel-more level going goes top deep adds is = record {
-    place = is.place;
-    is_open = IsOpenAt-more level _ _ _ is.place deep is.is_open;
-    named_last = omega (arith, is.named_last, length_more);
-    parens = rw (slice_get_front front (item ∷ []) (is.place + 1) is.named_last) is.parens;
-    count_is = adds is.place (omega (arith, is.named_last)) is.count_is;
-  }
+  IsLevel-more level going goes top deep adds is =
+      grind (arith, IsOpenAt-more, length_more, slice_get_front)
 
   -- the token adds no member to any level
   pub Levels-same : {M : Type 0} (roots going : ℕ) (stack : List (Open M))
@@ -203,8 +182,7 @@ module _ (front : List Item) (item : Item) where
   pub Levels-member : {M : Type 0} (roots : ℕ) (stack : List (Open M)) → length stack ≤ depth more
       → depth front ≡ length stack → is_kind Kind.name (kind_of item.token) ≡ true
       → Levels front roots false stack 0 → Levels more roots false stack 1
-  Levels-member roots [] deep at begins levels =
-      members_at_name 0 0 (omega arith) at begins ∙ ap (λ n. n + 1) levels ∙ omega arith
+  Levels-member roots [] deep at begins levels = grind (arith, members_at_name)
   Levels-member roots (top ∷ rest) deep at begins (l, levels) = (
     IsLevel-more (length rest) 0 1 top (omega (arith, deep))
         (λ place lt counted. members_at_name (length rest + 1) (place + 1)

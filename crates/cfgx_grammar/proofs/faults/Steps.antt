@@ -1,21 +1,17 @@
 -- What the parser refuses it refuses with the first fault.
-use Rattle.std.proofs.lemmas.Bool.Decides.{nat_tests}
-use Rattle.std.proofs.lemmas.Grind.{common_steps}
-use Rattle.std.proofs.Common.{◌≡◌, ◌⊎◌, inl, inr, ℕ, ◌+◌, Bool, true, false, List, [], ◌∷◌, ◌++◌}
-use Rattle.std.proofs.Common.{length, reverse, cond, Option, Some, None, Result, Ok, Err, sym, refl}
-use Rattle.std.proofs.Common.{ap, ◌∙◌, arith, suc, ◌-◌, ◌<◌, option_map, take_all, append_assoc}
-use Rattle.std.proofs.Common.{count_by, option_and_then, if◌then◌else◌, lt-ltb, le-ltb}
-use Rattle.std.proofs.Common.{eq-eqb, ne_eqb, append-nil, not}
-use Rattle.std.proofs.Math.Seq.{take-append_seam}
-use Rattle.cfgx_syntax.specs.Token.{Token}
+use Rattle.std.proofs.{lemmas.Grind.common_steps, Math.Seq.take-append_seam}
+use Rattle.std.proofs.Common.{take, ◌≡◌, ◌⊎◌, inl, inr, ℕ, ◌+◌, Bool, true, false, List, [], ◌∷◌}
+use Rattle.std.proofs.Common.{◌++◌, length, reverse, cond, Option, Some, None, Result, Ok, Err, sym}
+use Rattle.std.proofs.Common.{refl, ap, ◌∙◌, arith, suc, ◌-◌, ◌<◌, option_map, take_all}
+use Rattle.std.proofs.Common.{append_assoc, count_by, option_and_then, if◌then◌else◌, lt-ltb}
+use Rattle.std.proofs.Common.{le-ltb, eq-eqb, ne_eqb, append-nil, not}
+use Rattle.cfgx_syntax.specs.{Token.Token, Error.Refusal, Error.invalid_not}
 use Rattle.cfgx_syntax.specs.Items.{Item, Ending, lexical}
-use Rattle.cfgx_syntax.specs.Error.{Refusal, invalid_not}
 use Rattle.cfgx_grammar.specs.Tree.{ListFunction}
 use Rattle.cfgx_grammar.specs.Neighbours.{Kind, takes, kind_of, is_kind, next}
 use Rattle.cfgx_grammar.specs.Depth.{names_function, is_closing, depth, depth_at, innermost}
 use Rattle.cfgx_grammar.specs.Depth.{members, first_below}
-use Rattle.cfgx_grammar.specs.LastPredicate.{key_token, key_last, equals_last, predicate_token}
-use Rattle.cfgx_grammar.specs.LastPredicate.{word_of, with_value}
+use Rattle.cfgx_grammar.specs.LastPredicate.{predicate_last, word_of, with_value}
 use Rattle.cfgx_grammar.specs.FirstFault.{predicate_fault, head_token, last_token, lacks_value}
 use Rattle.cfgx_grammar.specs.FirstFault.{not_fault, unopened_fault, closed_fault, ended_fault}
 use Rattle.cfgx_grammar.specs.FirstFault.{first_of, when, fault_after, open_fault, empty_fault}
@@ -26,13 +22,12 @@ use Rattle.cfgx_grammar.specs.parsing.State.{name_of}
 use Rattle.cfgx_grammar.specs.parsing.Step.{result_map, predicate_ended, over_top, one_more}
 use Rattle.cfgx_grammar.specs.parsing.Step.{and_then, member_count, has_room, function_ended}
 use Rattle.cfgx_grammar.specs.parsing.Step.{new_open, closed_by, opened, with_last, with_parens}
-use Rattle.cfgx_grammar.specs.parsing.Step.{apply, step, unclosed, one_root, concluded_by, conclude}
+use Rattle.cfgx_grammar.specs.parsing.Step.{apply, step, unclosed, concluded_by, conclude}
 use Rattle.cfgx_grammar.specs.parsing.Step.{step_each, ended_as, answer_from, root_more}
 use Rattle.cfgx_grammar.proofs.faults.Levels.{Levels, IsLevel, start_of, Levels-same, Levels-member}
 use Rattle.cfgx_grammar.proofs.faults.Levels.{Levels-open, slice_get_next, members_at_other}
 use Rattle.cfgx_grammar.proofs.faults.Levels.{length_more, last_below-found, members_at_end}
-use Rattle.cfgx_grammar.proofs.faults.Levels.{innermost-none}
-use Rattle.cfgx_grammar.proofs.faults.Levels.{depth_at_end}
+use Rattle.cfgx_grammar.proofs.faults.Levels.{innermost-none, depth_at_end}
 use Rattle.std.specs.Option.{option_or}
 use Rattle.std.proofs.lemmas.Option.{slice_get_within, slice_get_past}
 
@@ -42,9 +37,9 @@ use Rattle.std.proofs.lemmas.Option.{slice_get_within, slice_get_past}
 
 -- the predicate that has begun
 abbrev pub begun_token : Item → List Item → Token → Option Pending
-begun_token item before (Token.key text) = key_token item (Token.key text)
-begun_token item before (Token.value text) = predicate_token item before (Token.value text)
-begun_token item before Token.equals = key_last before
+begun_token item before (Token.key text) = predicate_last (item ∷ before)
+begun_token item before (Token.value text) = predicate_last (item ∷ before)
+begun_token item before Token.equals = predicate_last (take 1 before)
 begun_token item before _ = None
 
 abbrev pub begun_last : List Item → Option Pending
@@ -69,18 +64,24 @@ closings front = count_by (λ item. is_closing item.token) front
 -- What may stand after the last token says which it is.
 
 -- What a token of this kind says of those in front of it. In front of a name no predicate has
--- begun and no name is the last token; in front of `(` stands a name, in front of `=` a key, and in
--- front of a value `=`.
-abbrev pub Says : Kind → Option Pending → Option Pending → Option Pending → Bool → Type 0
-Says Kind.name begun key equals names = (begun ≡ None) × (names ≡ false)
-Says Kind.opening begun key equals names = (begun ≡ None) × (names ≡ true)
-Says Kind.equals begun key equals names = (begun ≡ key) × (names ≡ false)
-Says Kind.value begun key equals names = (begun ≡ equals) × (names ≡ false)
-Says _ begun key equals names = Unit {0}
+-- begun and no name is the last token; in front of `(` stands a name, and in front of `=` a key.
+abbrev pub Says : Kind → Option Pending → Option Pending → Bool → Type 0
+Says Kind.name begun key names = (begun ≡ None) × (names ≡ false)
+Says Kind.opening begun key names = (begun ≡ None) × (names ≡ true)
+Says Kind.equals begun key names = (begun ≡ key) × (names ≡ false)
+Says Kind.value begun key names = names ≡ false
+Says _ begun key names = Unit {0}
 
 pub says : (kind : Kind) (back : List Item) → takes (head_token back) kind ≡ true
-    → Says kind (begun_last back) (key_last back) (equals_last back) (names_last (head_token back))
+    → Says kind (begun_last back) (predicate_last (take 1 back)) (names_last (head_token back))
 says kind back may = grind arith
+
+-- a value ends the predicate whose key and `=` stand in front of it
+value_says : (text : List ℕ) (start end : ℕ) (back : List Item)
+    → takes (head_token back) Kind.value ≡ true
+    → option_map (with_value (word_of text (start + 1) (end - 1))) (begun_last back)
+    ≡ predicate_last (record { token = Token.value text; start = start; end = end } ∷ back)
+value_says text start end back may = grind arith
 
 -- What comes of the tokens and what is shown of them: no fault, and something that this holds of,
 -- or a fault on both sides.
@@ -91,16 +92,16 @@ Meets P (Err refusal) fault = fault ≡ Some refusal
 module _ {A B : Type 0} (P : A → Type 0) (Q : B → Type 0) where
   meets_map : (f : A → B) (r : Result A Refusal) (fault : Option Refusal) → Meets P r fault
       → ((t : A) → P t → Q (f t)) → Meets Q (result_map f r) fault
-  meets_map f r fault meets each = grind (arith, each)
+  meets_map f r fault meets each = grind arith
 
   meets_then : (f : A → Result B Refusal) (r : Result A Refusal) (fault next : Option Refusal)
       → Meets P r fault → ((t : A) → P t → Meets Q (f t) next)
       → Meets Q (and_then f r) (option_or fault next)
-  meets_then f r fault next meets each = grind (arith, each)
+  meets_then f r fault next meets each = grind arith
 
 meets_each : {A : Type 0} (P Q : A → Type 0) (r : Result A Refusal) (fault : Option Refusal)
     → Meets P r fault → ((t : A) → P t → Q t) → Meets Q r fault
-meets_each P Q r fault meets each = grind (arith, each)
+meets_each P Q r fault meets each = grind arith
 
 abbrev pub EndAgrees : {A : Type 0} → Result A Refusal → Option Refusal → Type 0
 EndAgrees r fault = Meets (λ _. Unit {0}) r fault
@@ -117,12 +118,6 @@ meets_when : {A : Type 0} (P : A → Type 0) (b : Bool) (r : Result A Refusal) (
     (fault : Option Refusal) → (b ≡ true → Meets P r fault)
     → Meets P (if b then r else Err refused) (option_or (when (not b) refused) fault)
 meets_when P b r refused fault pass = grind arith
-
--- a test that is the first fault
-meets_unless : {A : Type 0} (P : A → Type 0) (b : Bool) (r : Result A Refusal) (refused : Refusal)
-    (fault : Option Refusal) → (b ≡ false → Meets P r fault)
-    → Meets P (if b then Err refused else r) (option_or (when b refused) fault)
-meets_unless P b r refused fault pass = grind arith
 
 -- the questions on a token that may follow the last one
 abbrev pub fault_by : List Item → Item → Option Refusal
@@ -187,14 +182,12 @@ module _ {W M L : Type 0} {builder : Builder W M L} (front : List Item) (s : Sta
         → option_or (option_and_then (not_fault front close) (innermost front)) other
         ≡ (if has_room top.function (member_count top s.pending) then other
         else Some (refusal (invalid_not (member_count top s.pending)) top.start close.end))
-    close_fault_is close other = rw (innermost_is, level.is_open.stands, members_are)
-        (grind (arith, level.is_open.named, level.is_open.starts))
+    close_fault_is close other = grind (arith, innermost_is, members_are)
 
     -- it stays open
     open_fault_is : (len : ℕ) → option_and_then (open_fault len front) (innermost front)
         ≡ Some (unclosed len top top.parens)
-    open_fault_is len = rw (innermost_is, level.is_open.stands)
-        (grind (arith, level.is_open.starts, level.is_open.ends, level.parens))
+    open_fault_is len = grind (arith, innermost_is)
 
   module _ (start end : ℕ) where
     abbrev at : Token → Item
@@ -210,14 +203,14 @@ module _ {W M L : Type 0} {builder : Builder W M L} (front : List Item) (s : Sta
 
     balanced : (token : Token) (height : ℕ) → Rises token height
         → closings (more token) + height ≡ names (more token)
-    balanced token height rises = grind (arith, nat_tests, common_steps)
+    balanced token height rises = grind (arith, common_steps)
 
     -- what the token leaves, by what it says of its own
     matched : (token : Token) (t : State builder) (w : ℕ) → t.last ≡ Some token
         → t.pending ≡ begun_token (at token) (reverse front) token → going t.pending ≡ w
         → Rises token (length t.stack)
         → Levels (more token) t.roots (names_function token) t.stack w → Matches (more token) t
-    matched token t w last pending goes rises levels = grind (arith, nat_tests, common_steps)
+    matched token t w last pending goes rises levels = grind (arith, common_steps)
 
     -- a token that neither opens nor closes a function and begins no member
     stays : (token : Token) (t : State builder) (w : ℕ) → t.last ≡ Some token
@@ -225,9 +218,7 @@ module _ {W M L : Type 0} {builder : Builder W M L} (front : List Item) (s : Sta
         → Rises token (length t.stack) → t.pending ≡ begun_token (at token) (reverse front) token
         → going t.pending ≡ w → Levels front t.roots false t.stack w → Matches (more token) t
     stays token t w last no_name other rises pending goes levels =
-        matched token t w last pending goes rises (rw no_name (Levels-same front (at token)
-        t.roots w t.stack (omega (arith, balanced token _ rises))
-        (λ level from le. members_at_other front (at token) level from other) levels))
+        grind (arith, common_steps, Levels-same, balanced, members_at_other)
 
     -- what the token leads to, without it as the last one
     abbrev After : Token → State builder → Type 0
@@ -287,7 +278,7 @@ module _ {W M L : Type 0} {builder : Builder W M L} (front : List Item) (s : Sta
         (omega (arith, balanced token _ rises))
         (λ level from le. members_at_other front (at token) level from refl) old.1 in
         let levels : Levels (more token) (root_more rest t.roots) false (over_top one_more rest) 0 =
-        grind (arith, kept) in
+        grind arith in
         let height : length (over_top one_more rest) + 1 ≡ length s.stack + 0 = grind arith in
         matched token _ 0 refl e.settled (ap going e.settled) height levels
 
@@ -315,11 +306,12 @@ module _ {W M L : Type 0} {builder : Builder W M L} (front : List Item) (s : Sta
         (omega (arith, balanced token (length s.stack) refl)) (depth_is front s m) refl
         (rw (m.pending ∙ a.0, a.1) at m.levels) in
         (refl, matched token _ 1 refl refl refl refl levels)
-    token_step (Token.value text) may = let value = word_of text (start + 1) (end - 1) in
-        let a = says Kind.value (reverse front) may in
-        let pending = ap (option_map (with_value value)) (m.pending ∙ a.0) in
+    token_step (Token.value text) may =
+        let levels = rw (says Kind.value (reverse front) may) at m.levels in
+        let pending = ap (option_map (with_value (word_of text (start + 1) (end - 1)))) m.pending
+        ∙ value_says text start end (reverse front) may in
         let left = stays (Token.value text) _ (going s.pending) refl refl refl refl pending
-        (grind arith) (rw a.1 at m.levels) in (refl, left)
+        (grind arith) levels in (refl, left)
     token_step Token.equals may = let a = says Kind.equals (reverse front) may in
         let levels = rw a.1 at m.levels in
         (refl, stays Token.equals _ _ refl refl refl refl (m.pending ∙ a.0) refl levels)
@@ -344,24 +336,14 @@ module _ {W M L : Type 0} {builder : Builder W M L} (front : List Item) (s : Sta
     step_agrees token = rw m.last (meets_when _ _ _ _ _
         (λ may. meets_map _ _ _ _ _ (token_step token may) (λ t matches. matches)))
 
-  -- the end of the text
-  root_ends : (len : ℕ) (r : Result (State builder) Refusal) (fault : Option Refusal)
-      → s.stack ≡ [] → Meets (Ended front named s) r fault
-      → EndAgrees (and_then (one_root len) r)
-      (option_or fault (option_or (empty_fault len front) (roots_fault len front)))
-  root_ends len r fault is ends = grind (arith, nat_tests, common_steps)
-
   end_stack : (len : ℕ) (stack : List (Open M)) → s.stack ≡ stack
       → lacks_value (last_token front) ≡ false
       → EndAgrees (concluded_by len s stack)
       (option_or (unclosed_innermost len front) (closed_end len front))
-  end_stack len [] is whole = rw (innermost-none front (depth_is front s m ∙ ap length is))
-      (root_ends len (predicate_ended s) (predicate_fault front) is (grind arith))
-  end_stack len (top ∷ rest) is whole = rw (open_fault_is top rest is len) refl
+  end_stack len stack is whole = grind (arith, innermost-none, depth_is, open_fault_is)
 
   pub end_agrees : (len : ℕ) → EndAgrees (conclude len s) (end_fault len front)
-  end_agrees len = rw (← m.last) (meets_unless _ _ _ _ _
-      (λ whole. end_stack len s.stack refl (ap lacks_value (sym m.last) ∙ whole)))
+  end_agrees len = grind (arith, end_stack)
 
 -- What the steps answer for all tokens of a text is its first fault, or none.
 
@@ -376,10 +358,8 @@ first_is : (items all front : List Item) → all ≡ front ++ items
     ≡ option_or (first_below (fault_at all) (length front)) (first_after front items)
 first_is [] all front is = rw (ap length (is ∙ append-nil front)) (grind arith)
 first_is (item ∷ items) all front is =
-    let here : fault_at all (length front) ≡ fault_after front item =
-    rw (is, take-append_seam, slice_get_next) refl in
     let rest = first_is items all _ (is ∙ sym (append_assoc front (item ∷ []) items)) in
-    rw (rest, length_more front item, here) (grind arith)
+    grind (arith, take-append_seam, slice_get_next, length_more, rest)
 
 scan : {W M L : Type 0} {builder : Builder W M L} (items front : List Item) (s : State builder)
     → Matches front s
@@ -393,8 +373,7 @@ module _ {W M L : Type 0} (builder : Builder W M L) (text : List ℕ) (items : L
     (ending : Ending) where
   at_end : (o : Option Refusal) (t : State builder) → Matches items t
       → EndAgrees (ended_as text o t) (option_or o (end_fault (length text) items))
-  at_end (Some refusal) t m = refl
-  at_end None t m = end_agrees items t m (length text)
+  at_end o t m = grind (arith, end_agrees)
 
   pub whole_agrees : EndAgrees (answer_from (initial {builder = builder}) text items ending)
       (first_fault text items ending)

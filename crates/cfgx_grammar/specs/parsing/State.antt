@@ -1,9 +1,7 @@
 -- What the parser keeps between two tokens, and what it builds as it goes.
 use Rattle.std.specs.Prelude.{ℕ, List, [], Option, None}
 use Rattle.cfgx_syntax.specs.Token.{Token}
-use Rattle.cfgx_grammar.specs.Question.{Leaf}
-use Rattle.cfgx_grammar.specs.Tree.{ListFunction}
-use Rattle.cfgx_grammar.specs.Grammar.{list_name}
+use Rattle.cfgx_grammar.specs.{Question.Leaf, Tree.ListFunction, Grammar.list_name}
 pub use Rattle.cfgx_grammar.specs.LastPredicate.{Word, KeyAndValue as Pending}
 
 -- the three functions

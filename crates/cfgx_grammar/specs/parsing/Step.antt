@@ -6,12 +6,9 @@ use Rattle.cfgx_syntax.specs.Token.{Token}
 use Rattle.cfgx_syntax.specs.Items.{Item, Ending, lexical}
 use Rattle.cfgx_syntax.specs.Error.{Refusal, unexpected, unopened_parens, unclosed_parens}
 use Rattle.cfgx_syntax.specs.Error.{invalid_not, empty, multiple_root_predicates}
-use Rattle.cfgx_grammar.specs.Classification.{Class}
-use Rattle.cfgx_grammar.specs.FirstFault.{refusal}
+use Rattle.cfgx_grammar.specs.{Classification.Class, FirstFault.refusal, FirstFault.lacks_value}
+use Rattle.cfgx_grammar.specs.{Neighbours.next, Neighbours.expected, Tree.ListFunction}
 use Rattle.cfgx_grammar.specs.LastPredicate.{word_of, with_value, part_of, class_of}
-use Rattle.cfgx_grammar.specs.FirstFault.{lacks_value}
-use Rattle.cfgx_grammar.specs.Neighbours.{next, expected}
-use Rattle.cfgx_grammar.specs.Tree.{ListFunction}
 use Rattle.cfgx_grammar.specs.parsing.State.{Function, Pending, Builder, Open, State}
 
 -- the next step of what went well

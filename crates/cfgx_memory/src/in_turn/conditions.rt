@@ -105,26 +105,38 @@ fn are_same<A: SmallAllocator>(error: &ParseError<A>, fault: &ParseError) -> boo
         && error.reason == fault.reason
 }
 
-// What the call answers for a text, of which this was read with memory. An expression stays as it
-// was.
+// What the call on an expression answers, which stays equal to this one.
+fn answer_of<A: SmallAllocator>(
+    alloc: A,
+    call: &str,
+    expression: &Expression<A>,
+    plain: &Expression,
+) -> Finding {
+    let answer = called(alloc, call, expression);
+    if are_alike(expression, plain) {
+        answer
+    } else {
+        Ok(false)
+    }
+}
+
+// What the call answers for a text of which this was read, and that was read with memory.
+fn answer_after<A: SmallAllocator>(alloc: A, call: &str, read: &Read<A>, plain: &Read) -> Finding {
+    match (read, plain) {
+        (Ok(expression), Ok(plain)) => answer_of(alloc, call, expression, plain),
+        (Err(Failure::Parse(error)), Err(Failure::Parse(fault))) => Ok(are_same(error, fault)),
+        (Err(Failure::Memory(_)), _) => Err(AllocError),
+        _ => Ok(false),
+    }
+}
+
+// What the call answers for a text, of which this was read with memory.
 fn answer_to<A: SmallAllocator>(alloc: A, call: &str, text: &str, plain: &Read) -> Finding {
     let read = match call {
         "from_str" => Expression::from_str(alloc, text),
         _ => Expression::parse(alloc, text),
     };
-    match (&read, plain) {
-        (Ok(expression), Ok(wanted)) => {
-            let answer = called(alloc, call, expression);
-            if are_alike(expression, wanted) {
-                answer
-            } else {
-                Ok(false)
-            }
-        }
-        (Err(Failure::Parse(error)), Err(Failure::Parse(fault))) => Ok(are_same(error, fault)),
-        (Err(Failure::Memory(_)), _) => Err(AllocError),
-        _ => Ok(false),
-    }
+    answer_after(alloc, call, &read, plain)
 }
 
 /// Whether the call on the expression gives its plain answer.
@@ -239,17 +251,30 @@ fn are_of<A: SmallAllocator>(sections: &[Section<A>], texts: &[&str]) -> bool {
     sections.len() == texts.len()
 }
 
-// The verdicts on three sections. The sections stay as they were.
+// Whether these are the verdicts on the three sections.
+fn are_wanted<A: SmallAllocator>(verdicts: Made<Vec<Verdict, A>>) -> Finding {
+    let wanted = [Verdict::Unknown, Verdict::No, Verdict::Yes];
+    Ok(verdicts?.as_slice() == wanted.as_slice())
+}
+
+// Whether they are. Out of memory too the sections stay as they were.
+fn are_picked<A: SmallAllocator>(alloc: A, sections: &[Section<A>], texts: &[&str]) -> Finding {
+    let are_wanted = are_wanted(pick(alloc, sections, &Nowhere));
+    if are_of(sections, texts) {
+        are_wanted
+    } else {
+        Ok(false)
+    }
+}
+
+// The verdicts on three sections, twice.
 fn is_picked<A: SmallAllocator>(alloc: A, text: &str) -> Finding {
     let texts = [text, "windows", "not(windows)"];
     let sections = sections_of(alloc, &texts)?;
-    let verdicts = pick(alloc, sections.as_slice(), &Nowhere);
-    if !are_of(sections.as_slice(), &texts) {
-        return Ok(false);
-    }
-    let again = pick(alloc, sections.as_slice(), &Nowhere);
-    let wanted = [Verdict::Unknown, Verdict::No, Verdict::Yes];
-    Ok(verdicts?.as_slice() == wanted.as_slice() && again?.as_slice() == wanted.as_slice())
+    let first = are_picked(alloc, sections.as_slice(), &texts);
+    let second = are_picked(alloc, sections.as_slice(), &texts);
+    drop(sections);
+    Ok(first? && second?)
 }
 
 // Whether parsing the text answered this.
@@ -293,21 +318,27 @@ fn is_copied_once(alloc: Global, text: &str, plain: &Read) -> bool {
     holds(answer_to(&heap, "try_clone", text, plain)) && has_every_block(heap)
 }
 
+// Whether each growth of each of the calls, and of runs over the text, is refused in turn.
+fn is_run(alloc: Global, calls: &str, text: &str, plain: &Read) -> bool {
+    let status = if plain.is_ok() { 0 } else { 1 };
+    are_refused(alloc, calls, text, plain) && runs_are_refused(alloc, text, status)
+}
+
+// What is called with a text of the last kind.
+const CALLS: &str =
+    "parse from_str try_clone eval decide polar_fillings eval_lanes decide_on audit pick";
+
 // Whether each growth of each call with a text of this kind is refused in turn.
 fn is_kind(alloc: Global, kind: &str, text: &str, plain: &Read) -> bool {
-    let calls = match kind {
-        "parsed in 1" => return growths_of(alloc, "parse", text, plain) == Some(1),
-        "parsed in 2" => return growths_of(alloc, "parse", text, plain) == Some(2),
-        "large" => return is_copied_once(alloc, text, plain),
-        "scanned" | "read" => "parse from_str",
-        "copied" => "parse from_str try_clone",
-        _ => {
-            "parse from_str try_clone eval decide polar_fillings eval_lanes decide_on audit pick"
-        },
-    };
-    let status = if plain.is_ok() { 0 } else { 1 };
-    are_refused(alloc, calls, text, plain)
-        && (kind == "scanned" || runs_are_refused(alloc, text, status))
+    match kind {
+        "parsed in 1" => growths_of(alloc, "parse", text, plain) == Some(1),
+        "parsed in 2" => growths_of(alloc, "parse", text, plain) == Some(2),
+        "large" => is_copied_once(alloc, text, plain),
+        "scanned" => are_refused(alloc, "parse from_str", text, plain),
+        "read" => is_run(alloc, "parse from_str", text, plain),
+        "copied" => is_run(alloc, "parse from_str try_clone", text, plain),
+        _ => is_run(alloc, CALLS, text, plain),
+    }
 }
 
 fn is_row(alloc: Global, fields: &[String]) -> bool {

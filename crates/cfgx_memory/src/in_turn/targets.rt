@@ -77,18 +77,27 @@ pub(crate) const NO_WIDTH: &str = "expected integer or \"ptr\", found PTR";
 
 const TEXT: &str = "a text of seventeen";
 
+fn some_owned<'a, K, A: SmallAllocator>(alloc: A) -> Made<Option<Field<'a, K, A>>> {
+    Ok(Some(owned(alloc, TEXT)?))
+}
+
+// Puts what was made in the place of a value. One that is dropped here has no kinds to go over.
+fn put<T: Drop>(place: &mut T, made: Made<T>) -> Made<()> {
+    *place = made?;
+    Ok(())
+}
+
 // Makes the row own all its texts and lists.
 fn own_all<'a, A: SmallAllocator + 'a>(alloc: A, row: &mut TargetInfo<'a, A>) -> Made<()> {
-    row.triple = owned(alloc, TEXT)?;
-    row.os = Some(owned(alloc, TEXT)?);
-    row.abi = Some(owned(alloc, TEXT)?);
-    row.arch = owned(alloc, TEXT)?;
-    row.env = Some(owned(alloc, TEXT)?);
-    row.vendor = Some(owned(alloc, TEXT)?);
-    row.panic = owned(alloc, TEXT)?;
-    row.families = families(alloc, "wasm unix")?;
-    row.has_atomics = widths(alloc, 10)?;
-    Ok(())
+    put(&mut row.triple, owned(alloc, TEXT))?;
+    put(&mut row.os, some_owned(alloc))?;
+    put(&mut row.abi, some_owned(alloc))?;
+    put(&mut row.arch, owned(alloc, TEXT))?;
+    put(&mut row.env, some_owned(alloc))?;
+    put(&mut row.vendor, some_owned(alloc))?;
+    put(&mut row.panic, owned(alloc, TEXT))?;
+    put(&mut row.families, families(alloc, "wasm unix"))?;
+    put(&mut row.has_atomics, widths(alloc, 10))
 }
 
 // Whether the first of five rows is equal to its copy, and the copy, once it owns all, to its own.

@@ -4,7 +4,7 @@ use cfg_expr::expr::logic::Kleene64;
 use cfg_expr::expr::{Logic, Predicates, spell};
 use cfg_expr::memory::SmallAllocator;
 use cfg_expr::targets::{TargetInfo, TargetTable};
-use cfg_expr::{Expression, Predicate};
+use cfg_expr::{Expression, Predicate, TargetPredicate};
 use cfgx_testing::heap::{Heap, empty_heap, has_every_block, holds_without_memory};
 use cfgx_testing::holding::{holds, prints};
 use cfgx_testing::refusing::EVERY;
@@ -20,9 +20,17 @@ fn read<'h>(heap: Heap<'h>, text: &str) -> Read<Heap<'h>> {
 }
 
 // Whether the expressions are equal, and their predicates.
-fn are_equal<A: SmallAllocator>(one: Read<A>, other: Read<A>, wanted: (bool, bool)) -> bool {
-    matches!((&one, &other), (Ok(one), Ok(other))
-        if (one == other, one.predicates().eq(other.predicates())) == wanted)
+fn are_equal<A: SmallAllocator>(one: &Read<A>, other: &Read<A>) -> Option<(bool, bool)> {
+    match (one, other) {
+        (Ok(one), Ok(other)) => Some((one == other, one.predicates().eq(other.predicates()))),
+        _ => None,
+    }
+}
+
+// Whether the expression of the text is equal to that of `TEXT`, and its predicates, as is wanted.
+fn compares(heap: Heap<'_>, text: &str, wanted: (bool, bool)) -> bool {
+    let (one, other) = (read(heap, TEXT), read(heap, text));
+    are_equal(&one, &other) == Some(wanted)
 }
 
 // Adds the spelling of the next predicate.
@@ -43,12 +51,9 @@ fn are_spelled(out: Global, mut asked: Predicates<'_>, left: &[usize], told: &st
 
 // Whether the predicate is true of the fourth of five rows alone, one by one and in lanes.
 fn is_of_the_fourth<A: SmallAllocator>(
-    predicate: Option<Predicate<'_>>,
+    target: &TargetPredicate<'_>,
     rows: &[TargetInfo<'_, A>],
 ) -> bool {
-    let Some(Predicate::Target(target)) = &predicate else {
-        return false;
-    };
     for (place, row) in rows.iter().enumerate() {
         if target.matches(row) != (place == 3) {
             return false;
@@ -57,9 +62,22 @@ fn is_of_the_fourth<A: SmallAllocator>(
     rows.len() == 5 && target.lanes(rows) == Kleene64::new(0b01000, 0b10111)
 }
 
-// Whether the first predicate is true of the fourth of five rows alone.
-fn is_asked<A: SmallAllocator>(read: Read<Heap<'_>>, table: &TargetTable<'_, A>) -> bool {
-    matches!(&read, Ok(asked) if is_of_the_fourth(asked.predicates().next(), table.rows()))
+// Whether this is such a predicate.
+fn is_such<A: SmallAllocator>(asked: Option<Predicate<'_>>, rows: &[TargetInfo<'_, A>]) -> bool {
+    let is_such = match &asked {
+        Some(Predicate::Target(target)) => is_of_the_fourth(target, rows),
+        _ => false,
+    };
+    drop(asked);
+    is_such
+}
+
+// Whether the first predicate of the text is true of the fourth of five rows alone.
+fn is_asked<A: SmallAllocator>(heap: Heap<'_>, text: &str, rows: &[TargetInfo<'_, A>]) -> bool {
+    match &read(heap, text) {
+        Ok(asked) => is_such(asked.predicates().next(), rows),
+        Err(_) => false,
+    }
 }
 
 // Whether the first predicate of the text is true of the fourth of the rows that are built in, and
@@ -67,7 +85,7 @@ fn is_asked<A: SmallAllocator>(read: Read<Heap<'_>>, table: &TargetTable<'_, A>)
 fn is_asked_of<A: SmallAllocator>(heap: Heap<'_>, alloc: A, text: &str) -> bool {
     heap.refuse(0);
     let table = TargetTable::builtins(alloc);
-    holds_without_memory(heap, table, |table| is_asked(read(heap, text), table))
+    holds_without_memory(heap, table, |table| is_asked(heap, text, table.rows()))
 }
 
 const TEXT: &str = "all(a, any(b), feature = \"a feature with a long name\")";
@@ -108,9 +126,9 @@ fn is_right<A: SmallAllocator>(out: Global, alloc: A, check: &str, read: Read<A>
 
 fn is_row(alloc: Global, heap: Heap<'_>, check: &str, text: &str) -> bool {
     match check {
-        "equal" => are_equal(read(heap, TEXT), read(heap, text), (true, true)),
-        "one comma more" => are_equal(read(heap, TEXT), read(heap, text), (false, true)),
-        "other predicates" => are_equal(read(heap, TEXT), read(heap, text), (false, false)),
+        "equal" => compares(heap, text, (true, true)),
+        "one comma more" => compares(heap, text, (false, true)),
+        "other predicates" => compares(heap, text, (false, false)),
         "of the fourth" => is_asked_of(heap, heap, text),
         _ => is_right(alloc, heap, check, read(heap, text)),
     }

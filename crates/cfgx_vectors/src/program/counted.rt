@@ -1,7 +1,6 @@
 //! A counted stream makes one call of the stream inside for each of its own, and counts those that
 //! fail.
 use cfgx_engine::engine::streams::{Counted, Sink, Source, write_whole};
-use cfgx_testing::holding::all_hold;
 use cfgx_testing::streams::{Pieces, interrupted};
 use std::io;
 
@@ -13,30 +12,6 @@ fn read<S: io::Read>(source: &mut Counted<S>, buffer: &mut [u8]) -> (Option<usiz
     (Source::read(source, buffer).ok(), source.failures())
 }
 
-// What a write answers, and how many calls have failed by then.
-fn write<S: io::Write>(sink: &mut Counted<S>, bytes: &[u8]) -> (Option<usize>, u64) {
-    if sink.failures() == u64::MAX {
-        return (None, u64::MAX);
-    }
-    (Sink::write(sink, bytes).ok(), sink.failures())
-}
-
-// Whether a flush succeeds, and how many calls have failed by then.
-fn flush<S: io::Write>(sink: &mut Counted<S>) -> (bool, u64) {
-    if sink.failures() == u64::MAX {
-        return (false, u64::MAX);
-    }
-    (Sink::flush(sink).is_ok(), sink.failures())
-}
-
-// Whether the bytes are written whole, and how many calls have failed by then.
-fn whole<S: io::Write>(sink: &mut Counted<S>, bytes: &[u8]) -> (bool, u64) {
-    if sink.failures() == u64::MAX {
-        return (false, u64::MAX);
-    }
-    (write_whole(sink, bytes), sink.failures())
-}
-
 // What reads of at most three bytes answer, of which the second one fails, and the bytes.
 const READS: &[(Option<usize>, u64, &[u8])] = &[
     (Some(3), 0, b"abc"),
@@ -46,45 +21,76 @@ const READS: &[(Option<usize>, u64, &[u8])] = &[
     (Some(0), 1, b""),
 ];
 
+// The first of these reads that is not answered so.
+fn first_wrong_read<S: io::Read>(source: &mut Counted<S>) -> Option<usize> {
+    let mut buffer = [0u8; 8];
+    for (place, (count, failures, bytes)) in READS.iter().enumerate() {
+        if read(source, &mut buffer) != (*count, *failures) || !buffer.starts_with(bytes) {
+            return Some(place);
+        }
+    }
+    None
+}
+
 #[test]
 fn a_counted_reader_counts_its_failed_reads(rt: HostRuntime) {
     let mut source = Counted::new(Pieces::new(b"abcdefg", 3, 2));
-    let mut buffer = [0u8; 8];
-    for (count, failures, bytes) in READS {
-        let answer = read(&mut source, &mut buffer);
-        assert_eq!(rt; answer, (*count, *failures));
-        assert!(rt; buffer.starts_with(bytes), "{bytes:?}");
+    assert_eq!(rt; first_wrong_read(&mut source), None);
+}
+
+/// A call, its bytes, how many of them it takes if it succeeds, and how many calls have failed by
+/// then.
+type Step = (&'static str, &'static [u8], Option<usize>, u64);
+
+// How many bytes the call takes, if it succeeds.
+fn taken<S: io::Write>(sink: &mut Counted<S>, call: &str, bytes: &[u8]) -> Option<usize> {
+    if sink.failures() == u64::MAX {
+        return None;
     }
+    let is_done = match call {
+        "write" => return Sink::write(sink, bytes).ok(),
+        "flush" => Sink::flush(sink).is_ok(),
+        _ => write_whole(sink, bytes),
+    };
+    if is_done { Some(bytes.len()) } else { None }
+}
+
+// The first of the steps that is not answered so.
+fn first_wrong<S: io::Write>(sink: &mut Counted<S>, steps: &[Step]) -> Option<usize> {
+    for (place, (call, bytes, wanted, failures)) in steps.iter().enumerate() {
+        if taken(sink, call, bytes) != *wanted || sink.failures() != *failures {
+            return Some(place);
+        }
+    }
+    None
 }
 
 // A writer in memory of so many bytes takes none once it is full: a failed write.
 #[test]
-fn a_counted_writer_counts_its_failed_writes() -> Result<(), &'static str> {
+fn a_counted_writer_counts_its_failed_writes(rt: HostRuntime) {
     let mut room = [0u8; 4];
     let mut sink = Counted::new(&mut room[..]);
-    let checks = [
-        ("three bytes", write(&mut sink, b"abc") == (Some(3), 0)),
-        ("no byte", write(&mut sink, b"") == (Some(0), 0)),
-        ("the last room", write(&mut sink, b"de") == (Some(1), 0)),
-        ("no room", write(&mut sink, b"e") == (Some(0), 1)),
-        ("a flush", flush(&mut sink) == (true, 1)),
+    let steps: &[Step] = &[
+        ("write", b"abc", Some(3), 0),
+        ("write", b"", Some(0), 0),
+        ("write", b"de", Some(1), 0),
+        ("write", b"e", Some(0), 1),
+        ("flush", b"", Some(0), 1),
     ];
-    all_hold(&checks)
+    assert_eq!(rt; first_wrong(&mut sink, steps), None);
 }
 
 // A counted writer in memory gets the whole output.
 #[test]
-fn a_counted_writer_takes_the_whole() -> Result<(), &'static str> {
+fn a_counted_writer_takes_the_whole(rt: HostRuntime) {
     let mut room = [0u8; 6];
     let mut sink = Counted::new(&mut room[..]);
-    let first = whole(&mut sink, b"hello\n");
-    let second = whole(&mut sink, b"more");
-    let checks = [
-        ("the whole", first == (true, 0)),
-        ("no room", second == (false, 1)),
-        ("what is written", room == *b"hello\n"),
+    let steps: &[Step] = &[
+        ("whole", b"hello\n", Some(6), 0),
+        ("whole", b"more", None, 1),
     ];
-    all_hold(&checks)
+    assert_eq!(rt; first_wrong(&mut sink, steps), None);
+    assert!(rt; room == *b"hello\n");
 }
 
 // A stream whose first calls of each kind, so many of them, fail and whose later ones do not. It
@@ -146,42 +152,36 @@ impl io::Write for FirstFail {
 }
 
 #[test]
-fn a_counted_writer_counts_errors() -> Result<(), &'static str> {
+fn a_counted_writer_counts_errors(rt: HostRuntime) {
     let mut sink = first_fail(u64::MAX, false);
-    let checks = [
-        ("a write", write(&mut sink, b"a") == (None, 1)),
-        ("a flush", flush(&mut sink) == (false, 2)),
-        ("a whole text", whole(&mut sink, b"a") == (false, 3)),
-        ("its flush", whole(&mut sink, b"") == (false, 4)),
+    let steps: &[Step] = &[
+        ("write", b"a", None, 1),
+        ("flush", b"", None, 2),
+        ("whole", b"a", None, 3),
+        ("whole", b"", None, 4),
     ];
-    all_hold(&checks)
+    assert_eq!(rt; first_wrong(&mut sink, steps), None);
 }
 
 #[test]
-fn a_counted_stream_tries_no_call_again() -> Result<(), &'static str> {
+fn a_counted_stream_tries_no_call_again(rt: HostRuntime) {
     let mut stream = first_fail(1, false);
     let mut bytes = [0u8; 4];
-    let checks = [
-        ("a failed read", read(&mut stream, &mut bytes) == (None, 1)),
-        ("a failed write", write(&mut stream, b"ab") == (None, 2)),
-        ("a failed flush", flush(&mut stream) == (false, 3)),
-        ("one call each", calls(&stream) == (1, 1, 1)),
-        ("a read", read(&mut stream, &mut bytes) == (Some(0), 3)),
-        ("a write", write(&mut stream, b"ab") == (Some(2), 3)),
-        ("a flush", flush(&mut stream) == (true, 3)),
-        ("two calls each", calls(&stream) == (2, 2, 2)),
-    ];
-    all_hold(&checks)
+    let failing: &[Step] = &[("write", b"ab", None, 2), ("flush", b"", None, 3)];
+    let going: &[Step] = &[("write", b"ab", Some(2), 3), ("flush", b"", Some(0), 3)];
+    assert!(rt; read(&mut stream, &mut bytes) == (None, 1));
+    assert!(rt; first_wrong(&mut stream, failing).is_none() && calls(&stream) == (1, 1, 1));
+    assert!(rt; read(&mut stream, &mut bytes) == (Some(0), 3));
+    assert!(rt; first_wrong(&mut stream, going).is_none() && calls(&stream) == (2, 2, 2));
 }
 
 #[test]
-fn a_counted_writer_tries_no_empty_write_again() -> Result<(), &'static str> {
+fn a_counted_writer_tries_no_empty_write_again(rt: HostRuntime) {
     let mut sink = first_fail(1, true);
-    let checks = [
-        ("no byte", write(&mut sink, b"ab") == (Some(0), 1)),
-        ("one call", calls(&sink) == (0, 1, 0)),
-        ("a write", write(&mut sink, b"ab") == (Some(2), 1)),
-        ("two calls", calls(&sink) == (0, 2, 0)),
-    ];
-    all_hold(&checks)
+    let (failing, going): (&[Step], &[Step]) = (
+        &[("write", b"ab", Some(0), 1)],
+        &[("write", b"ab", Some(2), 1)],
+    );
+    assert!(rt; first_wrong(&mut sink, failing).is_none() && calls(&sink) == (0, 1, 0));
+    assert!(rt; first_wrong(&mut sink, going).is_none() && calls(&sink) == (0, 2, 0));
 }

@@ -1,7 +1,5 @@
 //! The first failed call of a stream is the last call of both streams.
-use super::{KINDS, UNREAD};
 use cfgx_engine::engine::run;
-use cfgx_testing::rows::{check_rows, check_tables};
 use cfgx_testing::streams::{ALL, Pieces, Recorder, is_left_so};
 use cfgx_testing::triples::SIM;
 use cfgx_testing::words::words_of;
@@ -9,7 +7,7 @@ use std::alloc::Global;
 
 // What the sink is set to, the status, what is written, how many calls there are of `write` and of
 // `flush`, the input, and the words.
-const ENDINGS: &str = r#"
+pub(super) const ENDINGS: &str = r#"
 \e | 0 | b\na\nc\n | 1 1 | \e | parse | all(a, any(b), c)
 each=1 | 0 | b\na\nc\n | 6 1 | \e | parse | all(a, any(b), c)
 each=4 | 0 | b\na\nc\n | 2 1 | \e | parse | all(a, any(b), c)
@@ -87,19 +85,14 @@ fn leaves_as_told(alloc: Global, words: &[&str], row: &[String]) -> Option<bool>
     Some(leaves_so(alloc, words, input.as_str(), sink, left))
 }
 
-fn ends_so(alloc: Global, row: &[String]) -> bool {
+/// Whether a run with the words of the row leaves the sink as the row says.
+pub(super) fn ends_so(alloc: Global, row: &[String]) -> bool {
     let [_, _, _, _, _, words @ ..] = row else {
         return false;
     };
     words_of(alloc, words).is_ok_and(|words| {
         leaves_as_told(alloc, words.as_slice(), row) == Some(true)
     })
-}
-
-#[test]
-fn no_call_follows_a_failed_one(rt: HostRuntime) -> Result<(), String> {
-    let alloc = rt.alloc();
-    check_rows(alloc, ENDINGS, 25, |row| ends_so(alloc, row))
 }
 
 // Whether each write of this output that fails ends the run with status 3: what went out, a byte a
@@ -117,7 +110,8 @@ fn ends_at_each_write(alloc: Global, words: &[&str], input: &str, output: &[u8])
     true
 }
 
-fn writes_fail_in_turn(alloc: Global, row: &[String]) -> bool {
+/// Whether each write of a run with the words of the row that fails is its last call.
+pub(super) fn writes_fail_in_turn(alloc: Global, row: &[String]) -> bool {
     let [_, written, words @ ..] = row else {
         return false;
     };
@@ -127,12 +121,6 @@ fn writes_fail_in_turn(alloc: Global, row: &[String]) -> bool {
         "",
         written.as_bytes(),
     ))
-}
-
-#[test]
-fn no_call_follows_a_failed_write(rt: HostRuntime) -> Result<(), String> {
-    let alloc = rt.alloc();
-    check_tables(alloc, UNREAD, |row| writes_fail_in_turn(alloc, row))
 }
 
 // Whether a run over the input whose read of this number fails ends with status 3, reads no more,
@@ -163,17 +151,11 @@ fn ends_at_each_read(alloc: Global, input: &[u8]) -> bool {
     false
 }
 
-// Whether each write and each read of a run of `pick` that fails is its last call.
-fn fail_in_turn(alloc: Global, row: &[String]) -> bool {
+/// Whether each write and each read of a run of `pick` that fails is its last call.
+pub(super) fn fail_in_turn(alloc: Global, row: &[String]) -> bool {
     let [_, input, written] = row else {
         return false;
     };
     ends_at_each_write(alloc, &["pick", SIM], input.as_str(), written.as_bytes())
         && ends_at_each_read(alloc, input.as_bytes())
-}
-
-#[test]
-fn no_call_follows_a_failed_one_of_pick(rt: HostRuntime) -> Result<(), String> {
-    let alloc = rt.alloc();
-    check_rows(alloc, KINDS, 6, |row| fail_in_turn(alloc, row))
 }

@@ -1,7 +1,6 @@
 //! Runs over long, wide and deep texts and inputs end in an answer.
-use cfgx_testing::words::check_runs;
 
-const RUNS: &str = r#"
+pub(super) const RUNS: &str = r#"
 0 | ~a\n~20000~ | parse | all(~a,~20000~)
 0 | true\n | eval | all(~a,~20000~) | a
 0 | unknown\n | eval | all(~a,~20000~) | ?a
@@ -19,11 +18,6 @@ const RUNS: &str = r#"
 0 | unknown\n | eval | all(a, b) | a~\0?b\0a~499~ | ?b
 0 | unknown\n | eval | all(a, b, c) | a~\0?b\0a~499~ | ?b | c
 "#;
-
-#[test]
-fn many_predicates_and_many_flags(rt: HostRuntime) -> Result<(), String> {
-    check_runs(rt.alloc(), &[(RUNS, 14)])
-}
 
 /// Many lines, and long ones.
 pub(super) const INPUTS: &str = r#"

@@ -1,10 +1,8 @@
 //! Only `pick` reads, to the end of its input and no further. No write is of an empty slice.
-use super::{KINDS, UNREAD, is_row_picked};
 use cfgx_engine::engine::run;
-use cfgx_testing::rows::{check_rows, check_tables};
-use cfgx_testing::streams::{ALL, Pieces, Recorder, is_written};
+use cfgx_testing::streams::{ALL, Pieces, Recorder, SECTIONS, is_written};
 use cfgx_testing::triples::SIM;
-use cfgx_testing::words::{SECTIONS, words_of};
+use cfgx_testing::words::words_of;
 use std::alloc::Global;
 
 // Whether the run reads nothing of an input, whose first read would fail, and writes one byte a
@@ -27,7 +25,8 @@ fn reads_nothing(alloc: Global, words: &[&str], ended: (&str, &str)) -> bool {
         .all(|input| is_unread(alloc, words, input, ended))
 }
 
-fn is_row_unread(alloc: Global, row: &[String]) -> bool {
+/// Whether a run with the words of the row reads nothing, and ends and writes as the row says.
+pub(super) fn is_row_unread(alloc: Global, row: &[String]) -> bool {
     let [status, written, words @ ..] = row else {
         return false;
     };
@@ -35,24 +34,9 @@ fn is_row_unread(alloc: Global, row: &[String]) -> bool {
     words_of(alloc, words).is_ok_and(|words| reads_nothing(alloc, words.as_slice(), ended))
 }
 
-#[test]
-fn other_words_read_nothing(rt: HostRuntime) -> Result<(), String> {
-    let alloc = rt.alloc();
-    check_tables(alloc, UNREAD, |row| is_row_unread(alloc, row))
-}
-
-#[test]
-fn no_empty_slice_is_written(rt: HostRuntime) -> Result<(), String> {
-    let alloc = rt.alloc();
-    for each in [1, 2, 3, 7] {
-        check_rows(alloc, KINDS, 6, |row| is_row_picked(alloc, each, row))?;
-    }
-    Ok(())
-}
-
 // How many bytes a read has at most, an input, and how many reads there are: the last one meets the
 // end.
-const READS: &str = r#"
+pub(super) const READS: &str = r#"
 1 | \e | 1
 7 | \e | 1
 1 | \n | 2
@@ -67,8 +51,8 @@ const READS: &str = r#"
 1 | x\n\n | 4
 "#;
 
-// Whether a run of `pick` over the input makes so many reads, none of them after the end.
-fn has_reads(alloc: Global, row: &[String]) -> bool {
+/// Whether a run of `pick` over the input makes so many reads, none of them after the end.
+pub(super) fn has_reads(alloc: Global, row: &[String]) -> bool {
     let [each, input, reads] = row else {
         return false;
     };
@@ -77,10 +61,4 @@ fn has_reads(alloc: Global, row: &[String]) -> bool {
     let mut sink = Recorder::new(alloc);
     let status = run(alloc, &["pick", SIM], &mut source, &mut sink);
     status < 2 && source.is_read_whole() && reads.parse() == Ok(source.reads)
-}
-
-#[test]
-fn nothing_is_read_after_the_end(rt: HostRuntime) -> Result<(), String> {
-    let alloc = rt.alloc();
-    check_rows(alloc, READS, 12, |row| has_reads(alloc, row))
 }

@@ -1,5 +1,4 @@
 //! `cfgx target` writes the value of its text on its target, or what the fault of the text prints.
-use cfgx_testing::rows::check_pairs;
 use cfgx_testing::streams::is_answer;
 use cfgx_testing::triples::{DARWIN, IOS, MACABI, SIM, TVOS};
 use std::alloc::Global;
@@ -47,7 +46,7 @@ pub(super) const FAULTS: &str = r#"
 "#;
 
 // The value on every target, and the text.
-const EVERYWHERE: &str = r#"
+pub(super) const EVERYWHERE: &str = r#"
 true\n | all(target_arch = "aarch64", target_vendor = "apple", unix, target_pointer_width = "64", \
 target_endian = "little", panic = "unwind", target_has_atomic = "8", target_has_atomic = "16", \
 target_has_atomic = "32", target_has_atomic = "64", target_has_atomic = "128", target_has_atomic \
@@ -57,19 +56,16 @@ false\n | any(target_arch = "x86_64", target_vendor = "unknown", windows, target
 target_os = "linux")
 "#;
 
-// Whether the text has this value on every target.
-fn is_everywhere(alloc: Global, value: &str, text: &str) -> bool {
+/// Whether the text of a row has its value on every target.
+pub(super) fn is_everywhere(alloc: Global, row: &[String]) -> bool {
+    let [value, text] = row else {
+        return false;
+    };
+    let (value, text) = (value.as_str(), text.as_str());
     [DARWIN, IOS, MACABI, SIM, TVOS].iter().all(|triple| is_answer(
         alloc,
         &["target", *triple, text],
         0,
         value,
     ))
-}
-
-#[test]
-fn values_on_every_target(rt: HostRuntime) -> Result<(), String> {
-    check_pairs(rt.alloc(), EVERYWHERE, 2, |value, text| {
-        is_everywhere(rt.alloc(), value, text)
-    })
 }

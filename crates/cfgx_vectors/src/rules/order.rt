@@ -4,8 +4,6 @@ use cfg_expr::expr::Predicates;
 use cfg_expr::{Expression, Predicate};
 use cfgx_parser::nodes::ExprNode;
 use cfgx_parser::parsed::parse;
-use cfgx_testing::holding::holds;
-use cfgx_testing::rows::check_pairs;
 use std::alloc::{AllocError, Global};
 
 pub(super) const INNER_LISTS_FIRST: &str = r#"
@@ -28,7 +26,7 @@ re = "a"\ntarget_has_atomic = "8"\nkey = "v"
 
 // Texts, and what each call for the next predicate gives until the end came twice: how many are to
 // come before the call, and the flag that it gives.
-const CALLS: &str = r#"
+pub(super) const CALLS: &str = r#"
 all(a, any(b), c) | 3b 2a 1c 0 0
 all(any(), not(all())) | 0 0
 "#;
@@ -58,23 +56,16 @@ fn calls(alloc: Global, mut predicates: Predicates<'_>) -> Result<String, AllocE
     Ok(text)
 }
 
-// Whether the calls for the predicates of the text give these.
-fn come(alloc: Global, text: &str, wanted: &str) -> Result<bool, Failure> {
+/// Whether the calls for the predicates of the text give these.
+pub(super) fn come(alloc: Global, text: &str, wanted: &str) -> Result<bool, Failure> {
     let expression = Expression::parse(alloc, text)?;
     let found = calls(alloc, expression.predicates())?;
     Ok(found.as_str().trim_end() == wanted)
 }
 
-#[test]
-fn count_what_is_to_come(rt: HostRuntime) -> Result<(), String> {
-    check_pairs(rt.alloc(), CALLS, 2, |text, wanted| {
-        holds(come(rt.alloc(), text, wanted))
-    })
-}
-
 // Texts, the lengths of the trees of their nodes, and the places that are asked. No caller of an
 // expression sees them.
-const NODES: &str = r#"
+pub(super) const NODES: &str = r#"
 a | 1; 0
 all(a, any(b), c) | 5 1 2 1 1; 3 1 4
 any(a, all(b, not(c)), d) | 7 1 4 1 2 1 1; 5 3 1 6
@@ -108,16 +99,9 @@ fn shown(alloc: Global, nodes: &[ExprNode], places: &[usize]) -> Result<String, 
     Ok(text)
 }
 
-// Whether the parser leaves these for the text.
-fn leaves(alloc: Global, text: &str, wanted: &str) -> Result<bool, Failure> {
+/// Whether the parser leaves these for the text.
+pub(super) fn leaves(alloc: Global, text: &str, wanted: &str) -> Result<bool, Failure> {
     let parsed = parse(alloc, text)?;
     let shown = shown(alloc, parsed.nodes(), parsed.places())?;
     Ok(shown.as_str().trim_start() == wanted)
-}
-
-#[test]
-fn nodes_have_their_lengths_and_places(rt: HostRuntime) -> Result<(), String> {
-    check_pairs(rt.alloc(), NODES, 5, |text, wanted| {
-        holds(leaves(rt.alloc(), text, wanted))
-    })
 }

@@ -2,7 +2,7 @@
 use super::is_accepted;
 use super::predicates::asks;
 use cfgx_testing::holding::holds;
-use cfgx_testing::rows::{check_pairs, check_threes, has_fault};
+use cfgx_testing::rows::has_fault;
 use cfgx_testing::streams::{ALL, is_run_over};
 use cfgx_testing::triples::SIM;
 use std::alloc::{AllocError, Global};
@@ -12,7 +12,7 @@ fn quoted(cell: &str) -> &str {
     cell.split('`').nth(1).unwrap_or("")
 }
 
-const FAULTS: &str = r#"
+pub(super) const FAULTS: &str = r#"
 | `a 8` | U[`<key>` `all` `any` `not`] at 2..3; `8` cannot start a token | 1 |
 | `a b 8` | U[`=` `,` `)`] at 2..3; `b` comes before `8` | 2 |
 | `feature)` | `UnopenedParens` at 7..8; 3 is asked before 5 | 3 |
@@ -50,8 +50,8 @@ fn fault_of(alloc: Global, cell: &str) -> Result<String, AllocError> {
     fault.trim_start_matches('`').replace(alloc, "` at", " at")
 }
 
-// Whether the text of a row has its fault.
-fn is_faulty(alloc: Global, text: &str, fault: &str) -> bool {
+/// Whether the text of a row has its fault.
+pub(super) fn is_faulty(alloc: Global, text: &str, fault: &str) -> bool {
     let text = quoted(text);
     match fault_of(alloc, fault) {
         Ok(fault) => has_fault(alloc, text, text, fault.as_str()),
@@ -59,14 +59,7 @@ fn is_faulty(alloc: Global, text: &str, fault: &str) -> bool {
     }
 }
 
-#[test]
-fn texts_have_their_faults(rt: HostRuntime) -> Result<(), String> {
-    check_threes(rt.alloc(), FAULTS, 29, |text, fault, _question| {
-        is_faulty(rt.alloc(), text, fault)
-    })
-}
-
-const SPELLINGS: &str = r#"
+pub(super) const SPELLINGS: &str = r#"
 | `Target(Abi(t))` | `target_abi = "t"` |
 | `Target(Arch(t))` | `target_arch = "t"` |
 | `Target(Os(t))` | `target_os = "t"` |
@@ -88,20 +81,13 @@ const SPELLINGS: &str = r#"
 | `KeyValue { key: k, val: v }` | `k = "v"` |
 "#;
 
-// Whether the spelling of a row is that of its predicate alone.
-fn is_spelling(alloc: Global, predicate: &str, spelling: &str) -> bool {
+/// Whether the spelling of a row is that of its predicate alone.
+pub(super) fn is_spelling(alloc: Global, predicate: &str, spelling: &str) -> bool {
     let text = quoted(spelling);
     is_accepted(alloc, text, text) && holds(asks(alloc, text, quoted(predicate)))
 }
 
-#[test]
-fn predicates_have_their_spellings(rt: HostRuntime) -> Result<(), String> {
-    check_pairs(rt.alloc(), SPELLINGS, 19, |predicate, spelling| {
-        is_spelling(rt.alloc(), predicate, spelling)
-    })
-}
-
-const PICKED: &str = r#"
+pub(super) const PICKED: &str = r#"
 | `a\tcfg(target_abi = "sim")\nb\tany(windows, feature = "x")` | `a\tyes\nb\tunknown\n\ttrue with 0\
 1\n\tfalse with 00\n` |
 | `m\tany(not(feature = "x"), target_os = "linux", test)\n` | `m\tunknown\n\ttrue with 001\n\tfalse\
@@ -132,19 +118,12 @@ fn is_picked_with_ff(alloc: Global, input: &str, printed: &str) -> bool {
         && is_picked(alloc, bytes.as_slice(), printed)
 }
 
-// Whether `pick` prints what a row says.
-fn is_printed(alloc: Global, cell: &str, printed: &str) -> bool {
+/// Whether `pick` prints what a row says.
+pub(super) fn is_printed(alloc: Global, cell: &str, printed: &str) -> bool {
     let (input, printed) = (quoted(cell), quoted(printed));
     if cell.ends_with(" and the one byte ff") {
         return is_picked_with_ff(alloc, input, printed);
     }
     is_picked(alloc, input.as_bytes(), printed)
         && (!input.is_empty() || is_picked(alloc, b"\n\n\n".as_slice(), printed))
-}
-
-#[test]
-fn inputs_are_picked_from(rt: HostRuntime) -> Result<(), String> {
-    check_pairs(rt.alloc(), PICKED, 6, |cell, printed| {
-        is_printed(rt.alloc(), cell, printed)
-    })
 }

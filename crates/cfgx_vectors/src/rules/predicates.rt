@@ -2,8 +2,6 @@
 use cfg_expr::error::Failure;
 use cfg_expr::expr::Predicates;
 use cfg_expr::{Expression, Predicate, TargetPredicate};
-use cfgx_testing::holding::holds;
-use cfgx_testing::rows::check_pairs;
 use std::alloc::{AllocError, Global};
 
 /// Texts, and what they ask.
@@ -56,7 +54,7 @@ key = "true" | key = "true"
 "#;
 
 // Texts, and their one predicate.
-const TYPED: &str = r#"
+pub(super) const TYPED: &str = r#"
 key = "a\nb" | KeyValue { key: key, val: a\\nb }
 feature = "" | Feature()
 target_feature = "x" | TargetFeature(x)
@@ -114,13 +112,6 @@ fn are_one(alloc: Global, mut predicates: Predicates<'_>, wanted: &str) -> bool 
 pub(super) fn asks(alloc: Global, text: &str, wanted: &str) -> Result<bool, Failure> {
     let expression = Expression::parse(alloc, text)?;
     Ok(are_one(alloc, expression.predicates(), wanted))
-}
-
-#[test]
-fn ask_by_their_types(rt: HostRuntime) -> Result<(), String> {
-    check_pairs(rt.alloc(), TYPED, 17, |text, wanted| {
-        holds(asks(rt.alloc(), text, wanted))
-    })
 }
 
 /// Texts with a faulty predicate, at its key or at the inside of its value.

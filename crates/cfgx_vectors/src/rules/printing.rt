@@ -1,13 +1,13 @@
 //! What a fault prints, written out by hand from the rules of the format.
 use cfg_expr::error::{Failure, ParseError, Reason};
 use cfgx_testing::holding::{gives, prints};
-use cfgx_testing::rows::{check_threes, is_fault};
+use cfgx_testing::rows::is_fault;
 use std::alloc::{AllocError, Global};
 use std::ops::Range;
 use std::test::Fail;
 
 // Reasons, what they print, and what a fault says of itself.
-const REASONS: &str = r#"
+pub(super) const REASONS: &str = r#"
 InvalidNot(0) | not() takes 1 predicate, found 0 | not() takes 1 predicate
 InvalidNot(257) | not() takes 1 predicate, found 257 | not() takes 1 predicate
 InvalidCharacters | invalid character(s) | invalid character(s)
@@ -28,7 +28,7 @@ UnknownBuiltin | unknown built-in | unknown built-in
 // Texts, faults, and what these print. The mark is from the start of a span, at one place, byte for
 // byte, or not at all. U+00E9 takes two bytes, so a mark after it stands too far to the right. The
 // last span, which only a caller can build, ends before it starts.
-const PRINTED: &str = r#"
+pub(super) const PRINTED: &str = r#"
 key) | UnopenedParens at 3..4 | key)\n   ^ unopened parens
 not(key | UnclosedParens at 3..7 | not(key\n   - unclosed parens
 key = "abc | UnclosedQuotes at 6..10 | key = "abc\n      - unclosed quotes
@@ -81,19 +81,12 @@ fn error_of(alloc: Global, text: &str, span: Range<usize>, name: &str) -> Option
     })
 }
 
-// Whether the reason of this name has these texts.
-fn has_texts(alloc: Global, name: &str, text: &str, description: &str) -> bool {
+/// Whether the reason of this name has these texts.
+pub(super) fn has_texts(alloc: Global, name: &str, text: &str, description: &str) -> bool {
     match error_of(alloc, "", 0..0, name) {
         Some(error) => { prints(alloc, &error.reason, text) && error.description() == description }
         None => false,
     }
-}
-
-#[test]
-fn each_reason_has_its_texts(rt: HostRuntime) -> Result<(), String> {
-    check_threes(rt.alloc(), REASONS, 15, |name, text, description| {
-        has_texts(rt.alloc(), name, text, description)
-    })
 }
 
 // The fault that rows tell so, in this text.
@@ -103,19 +96,12 @@ fn error_as_told(alloc: Global, text: &str, fault: &str) -> Option<ParseError> {
     error_of(alloc, text, start.parse().ok()?..end.parse().ok()?, name)
 }
 
-// Whether the fault that rows tell so prints this.
-fn is_printed(alloc: Global, text: &str, fault: &str, printed: &str) -> bool {
+/// Whether the fault that rows tell so prints this.
+pub(super) fn is_printed(alloc: Global, text: &str, fault: &str, printed: &str) -> bool {
     match error_as_told(alloc, text, fault) {
         Some(error) => is_fault(alloc, &error, text, fault) && prints(alloc, &error, printed),
         None => false,
     }
-}
-
-#[test]
-fn a_fault_prints_its_text_its_marks_and_its_reason(rt: HostRuntime) -> Result<(), String> {
-    check_threes(rt.alloc(), PRINTED, 11, |text, fault, printed| {
-        is_printed(rt.alloc(), text, fault, printed)
-    })
 }
 
 #[test]

@@ -4,7 +4,6 @@ use cfg_expr::expr::{Predicates, spell};
 use cfg_expr::{Expression, Predicate};
 use cfgx_engine::engine::Sink;
 use cfgx_testing::holding::holds;
-use cfgx_testing::rows::check_pairs;
 use cfgx_testing::streams::{ALL, Recorder};
 use cfgx_testing::texts::repeated;
 use std::alloc::Global;
@@ -44,7 +43,7 @@ impl Write for Slow {
 }
 
 // Texts, and the spellings of their predicates one after the other.
-const ROWS: &str = r#"
+pub(super) const ROWS: &str = r#"
 unix | target_family = "unix"
 windows | target_family = "windows"
 all(test, debug_assertions, proc_macro) | testdebug_assertionsproc_macro
@@ -108,15 +107,8 @@ fn is_spelled_by_any(alloc: Global, text: &str, spelled: &str) -> bool {
         .all(|each| holds(is_spelled(alloc, text, spelled, *each)))
 }
 
-#[test]
-fn spells_each_kind_of_predicate(rt: HostRuntime) -> Result<(), String> {
-    check_pairs(rt.alloc(), ROWS, 18, |text, spelled| {
-        is_spelled_by_any(rt.alloc(), text, spelled)
-    })
-}
-
 // What stands before and after a text of 5,000 bytes in a predicate.
-const LONG: &str = r#"
+pub(super) const LONG: &str = r#"
 \e | \e
 \e |  = "v"
 key = " | "
@@ -131,18 +123,12 @@ target_env = " | "
 target_vendor = " | "
 "#;
 
-// Whether the predicate is spelled as its text, in which 5,000 bytes stand between these two.
-fn is_long(alloc: Global, front: &str, back: &str) -> bool {
+/// Whether the predicate is spelled as its text, in which 5,000 bytes stand between these two.
+pub(super) fn is_long(alloc: Global, front: &str, back: &str) -> bool {
     match repeated(alloc, front, "x", 5_000, back) {
         Ok(text) => is_spelled_by_any(alloc, text.as_str(), text.as_str()),
         Err(_) => false,
     }
-}
-
-#[test]
-fn spells_long_texts(rt: HostRuntime) -> Result<(), String> {
-    let alloc = rt.alloc();
-    check_pairs(alloc, LONG, 12, |front, back| is_long(alloc, front, back))
 }
 
 // No text asks such a flag, so only a caller can make it.
@@ -171,13 +157,6 @@ fn stops_after(alloc: Global, text: &str, spelled: &str, room: usize) -> Result<
 // Whether it stops so at each place.
 fn stops_at_each(alloc: Global, text: &str, spelled: &str) -> bool {
     (0..spelled.len()).all(|room| holds(stops_after(alloc, text, spelled, room)))
-}
-
-#[test]
-fn stops_where_the_writer_takes_nothing(rt: HostRuntime) -> Result<(), String> {
-    check_pairs(rt.alloc(), ROWS, 18, |text, spelled| {
-        stops_at_each(rt.alloc(), text, spelled)
-    })
 }
 
 const KINDS: [ErrorKind; 3] = [
@@ -214,13 +193,6 @@ fn fails_at_each(alloc: Global, text: &str, spelled: &str) -> bool {
     true
 }
 
-#[test]
-fn a_failed_call_is_the_last(rt: HostRuntime) -> Result<(), String> {
-    check_pairs(rt.alloc(), ROWS, 18, |text, spelled| {
-        fails_at_each(rt.alloc(), text, spelled)
-    })
-}
-
 // Whether both texts ask the same predicates.
 fn ask_the_same(alloc: Global, text: &str, other: &str) -> Result<bool, Failure> {
     let one = Expression::parse(alloc, text)?;
@@ -234,9 +206,11 @@ fn is_read_again(alloc: Global, text: &str, spelled: &str) -> bool {
     has_several || holds(ask_the_same(alloc, text, spelled))
 }
 
-#[test]
-fn a_spelling_is_read_as_its_predicate(rt: HostRuntime) -> Result<(), String> {
-    check_pairs(rt.alloc(), ROWS, 18, |text, spelled| {
-        is_read_again(rt.alloc(), text, spelled)
-    })
+/// Whether the text is spelled so by any writer, stops where one takes nothing or fails, and is read
+/// again as its predicate.
+pub(super) fn is_right(alloc: Global, text: &str, spelled: &str) -> bool {
+    is_spelled_by_any(alloc, text, spelled)
+        && stops_at_each(alloc, text, spelled)
+        && fails_at_each(alloc, text, spelled)
+        && is_read_again(alloc, text, spelled)
 }

@@ -1,13 +1,12 @@
 //! Stripping: the outer `cfg( )` is taken off once, and spans count the bytes of what is left.
 use cfg_expr::Expression;
 use cfg_expr::error::Failure;
-use cfgx_testing::holding::{holds, prints};
-use cfgx_testing::rows::{check_pairs, check_threes};
+use cfgx_testing::holding::prints;
 use std::alloc::Global;
 use std::test::Fail;
 
 // Texts, and what they are stripped to.
-const ORIGINALS: &str = r#"
+pub(super) const ORIGINALS: &str = r#"
 key | key
 cfg(key) | key
 cfg( key ) |  key \e
@@ -22,17 +21,10 @@ cfg(any(unix, key = "é",,),) | any(unix, key = "é",,),
 all(a, b, c, d, not(e), f, g, h) | all(a, b, c, d, not(e), f, g, h)
 "#;
 
-// Whether the text is stripped to this one, which its expression prints.
-fn is_stripped_to(alloc: Global, text: &str, original: &str) -> Result<bool, Failure> {
+/// Whether the text is stripped to this one, which its expression prints.
+pub(super) fn is_stripped_to(alloc: Global, text: &str, original: &str) -> Result<bool, Failure> {
     let expression = Expression::parse(alloc, text)?;
     Ok(prints(alloc, &expression, original) && expression.original() == original)
-}
-
-#[test]
-fn keep_and_print_the_stripped_text(rt: HostRuntime) -> Result<(), String> {
-    check_pairs(rt.alloc(), ORIGINALS, 12, |text, original| {
-        holds(is_stripped_to(rt.alloc(), text, original))
-    })
 }
 
 /// Faulty texts, their faults, and what they are stripped to.
@@ -46,7 +38,7 @@ cfg(unix = "x") | U[] at 8..9 | unix = "x"
 "#;
 
 // Two texts, and whether their expressions are equal.
-const PAIRS: &str = r#"
+pub(super) const PAIRS: &str = r#"
 key | key | equal
 cfg(key) | key | equal
 key | key, | different
@@ -63,17 +55,15 @@ fn is_equal(
     Ok((*expression == other) == wanted)
 }
 
-// Whether the expressions of two texts are as a row says.
-fn are_as_said(alloc: Global, one: &str, other: &str, wanted: &str) -> Result<bool, Failure> {
+/// Whether the expressions of two texts are as a row says.
+pub(super) fn are_as_said(
+    alloc: Global,
+    one: &str,
+    other: &str,
+    wanted: &str,
+) -> Result<bool, Failure> {
     let expression = Expression::parse(alloc, one)?;
     is_equal(alloc, &expression, other, wanted == "equal")
-}
-
-#[test]
-fn are_equal_by_their_stripped_texts(rt: HostRuntime) -> Result<(), String> {
-    check_threes(rt.alloc(), PAIRS, 3, |one, other, wanted| {
-        holds(are_as_said(rt.alloc(), one, other, wanted))
-    })
 }
 
 #[test]

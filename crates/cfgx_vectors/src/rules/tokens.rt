@@ -1,13 +1,13 @@
 //! Tokens: the items of a text, the white space between them, and lexical faults.
 use cfg_expr::error::{Failure, ParseError};
 use cfg_expr::expr::lexer::{Lexer, LexerToken};
-use cfgx_testing::rows::{check_rows, told};
+use cfgx_testing::rows::told;
 use std::alloc::{AllocError, Global};
 
 // Texts, how many bytes they are stripped to, and their items: each token as it prints, where it
 // stands, and how many bytes are left after it. A fault says in which text it is, and is the last.
 // What stands in quotes is one token, whatever its characters.
-const ITEMS: &str = r#"
+pub(super) const ITEMS: &str = r#"
 cfg(all(a, any (\u{a0}_b8),,not(\u{3000}all_c )  \n\t\r )   ) | 44 left | All at 0..3, 41 left \
 | OpenParen at 3..4, 40 left | Key("a") at 4..5, 39 left | Comma at 5..6, 38 left \
 | Any at 7..10, 34 left | OpenParen at 11..12, 32 left | Key("_b8") at 14..17, 27 left \
@@ -94,8 +94,8 @@ fn has_ended(lexer: &mut Lexer<'_>) -> bool {
     true
 }
 
-// Whether the text of a row has its items, and nothing comes after them.
-fn has_items(alloc: Global, row: &[String]) -> bool {
+/// Whether the text of a row has its items, and nothing comes after them.
+pub(super) fn has_items(alloc: Global, row: &[String]) -> bool {
     let [text, before, items @ ..] = row else {
         return false;
     };
@@ -103,11 +103,6 @@ fn has_items(alloc: Global, row: &[String]) -> bool {
     is_told(alloc, "", &lexer, before.as_str())
         && gives_all(alloc, &mut lexer, items)
         && has_ended(&mut lexer)
-}
-
-#[test]
-fn gives_every_item(rt: HostRuntime) -> Result<(), String> {
-    check_rows(rt.alloc(), ITEMS, 12, |row| has_items(rt.alloc(), row))
 }
 
 /// White space stands anywhere.

@@ -1,5 +1,4 @@
-use Rattle.std.proofs.Common.{rules}
-use Rattle.std.proofs.lemmas.Grind.{put_two}
+use Rattle.std.proofs.{Common.rules, lemmas.Grind.put_two}
 use Rattle.cfgx_syntax.proofs.Repeated.{repeat_more}
 use Rattle.cfgx_syntax.proofs.error.write_repeated.Goals as goal
 

@@ -1,5 +1,4 @@
-use Rattle.std.specs.List.{repeat}
-use Rattle.std.specs.Fmt.{HasWritten, IsPlainFormatter}
+use Rattle.std.specs.{List.repeat, Fmt.HasWritten, Fmt.IsPlainFormatter}
 use Rattle.cfgx_syntax.proofs.error.write_repeated.Given as goal
 
 -- the text has been written as often as the loop has run

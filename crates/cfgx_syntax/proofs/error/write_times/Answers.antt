@@ -1,5 +1,4 @@
-use Rattle.std.proofs.Common.{rules, sym}
-use Rattle.std.proofs.lemmas.Grind.{put_two}
+use Rattle.std.proofs.{Common.rules, Common.sym, lemmas.Grind.put_two}
 use Rattle.cfgx_syntax.proofs.Repeated.{repeat_pieces}
 use Rattle.cfgx_syntax.proofs.error.write_times.Goals as goal
 

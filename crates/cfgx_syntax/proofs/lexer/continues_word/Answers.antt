@@ -1,6 +1,5 @@
 -- The table holds the answer for each byte.
-use Rattle.std.proofs.Common.{false, arith}
-use Rattle.std.proofs.lemmas.List.FromFn.{get_or-map-range_with_len}
+use Rattle.std.proofs.{Common.false, Common.arith, lemmas.List.FromFn.get_or-map-range_with_len}
 use Rattle.cfgx_syntax.specs.Token.{continues_word}
 use Rattle.cfgx_syntax.proofs.lexer.continues_word.Goals as goal
 

@@ -1,7 +1,6 @@
 -- One byte is a token by itself, and a word runs as far as it can.
 use Rattle.std.proofs.Common.{◌≡◌, get_or, rules, true}
-use Rattle.cfgx_syntax.specs.Token.{starts_word, continues_word}
-use Rattle.cfgx_syntax.specs.Lexer.{token_of}
+use Rattle.cfgx_syntax.specs.{Token.starts_word, Token.continues_word, Lexer.token_of}
 use Rattle.std.proofs.Math.Nat.{sub-zero}
 use Rattle.cfgx_syntax.proofs.Words.{BeginsWith-byte, BeginsWith-word, word_front}
 use Rattle.cfgx_syntax.proofs.Words.{IsCharBoundary-after, continues_word-ascii}

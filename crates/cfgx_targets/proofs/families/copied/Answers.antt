@@ -1,5 +1,4 @@
-use Rattle.std.proofs.Common.{arith}
-use Rattle.std.proofs.lemmas.Grind.{common_steps}
+use Rattle.std.proofs.{Common.arith, lemmas.Grind.common_steps}
 use Rattle.cfgx_targets.proofs.families.copied.Goals as goal
 
 pub loop-family-preserved : goal.loop-family-preserved

@@ -1,9 +1,8 @@
 -- What follows the white space stands in the whole text.
 use Rattle.std.proofs.Common.{arith, rules}
-use Rattle.cfgx_syntax.specs.Error.{cause_of}
-use Rattle.cfgx_syntax.specs.Lexer.{token_of}
-use Rattle.cfgx_syntax.proofs.Scanning.{IsAfter-trimmed, Stands-found, CanBeCut-found}
-use Rattle.cfgx_syntax.proofs.Scanning.{Ending-found, state_at}
+use Rattle.cfgx_syntax.specs.{Error.cause_of, Lexer.token_of}
+use Rattle.cfgx_syntax.proofs.Scanning.{IsAfter-trimmed, Stands-found, CanBeCut-found, Ending-found}
+use Rattle.cfgx_syntax.proofs.Scanning.{state_at}
 use Rattle.cfgx_syntax.proofs.lexer.LexerIterator.next.Goals as goal
 
 pub returns-in-Ok-clause-steps : goal.returns-in-Ok-clause-steps

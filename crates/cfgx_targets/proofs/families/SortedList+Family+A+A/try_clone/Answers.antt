@@ -1,6 +1,5 @@
 use Rattle.std.proofs.Common.{◌∙◌, sym, ap, subst, IsSorted, nat_cmp}
-use Rattle.std.specs.Cmp.Lexicographic.{slice_cmp}
-use Rattle.std.specs.Cow.{cow_slice_items}
+use Rattle.std.specs.{Cmp.Lexicographic.slice_cmp, Cow.cow_slice_items}
 use Rattle.cfgx_targets.proofs.families.SortedList+Family+A+A.try_clone.Goals as goal
 
 pub new_const-requires : goal.new_const-requires
