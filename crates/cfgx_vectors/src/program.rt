@@ -66,8 +66,8 @@ fn is_row_picked(alloc: Global, each: usize, row: &[String]) -> bool {
     ))
 }
 
-// Whether the row passes, by a sink that takes so many bytes a call, and each call that fails is the
-// last one.
+// Whether the row passes by sinks that take a few bytes a call, or all, and each call that fails is
+// the last one.
 fn has_streams(alloc: Global, row: &[String]) -> bool {
     [1, 2, 3, 7]
         .iter()

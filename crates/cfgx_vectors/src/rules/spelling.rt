@@ -206,8 +206,8 @@ fn is_read_again(alloc: Global, text: &str, spelled: &str) -> bool {
     has_several || holds(ask_the_same(alloc, text, spelled))
 }
 
-/// Whether the text is spelled so by any writer, stops where one takes nothing or fails, and is read
-/// again as its predicate.
+/// Whether the text is spelled so by any writer, stops where one takes nothing or fails, and is
+/// read again as its predicate.
 pub(super) fn is_right(alloc: Global, text: &str, spelled: &str) -> bool {
     is_spelled_by_any(alloc, text, spelled)
         && stops_at_each(alloc, text, spelled)
