@@ -184,6 +184,11 @@ fn are(filling: &[bool], value: bool, count: usize) -> bool {
     filling.len() == count && !filling.contains(&!value)
 }
 
+/// Whether the one filling is all true, and the other one all false.
+pub(super) fn are_polar(if_true: &[bool], if_false: &[bool], count: usize) -> bool {
+    are(if_true, true, count) && are(if_false, false, count)
+}
+
 // Whether there are two fillings, if no answer is known: all true makes the text true, and all
 // false makes it false. No text that is evaluated has more than 100 predicates.
 fn is_filled<A: SmallAllocator>(alloc: A, expression: &Expression<A>) -> Finding {
@@ -193,7 +198,7 @@ fn is_filled<A: SmallAllocator>(alloc: A, expression: &Expression<A>) -> Finding
     };
     match expression.polar_fillings(alloc, answers)? {
         Some((with_true, with_false)) => {
-            Ok(are(with_true.as_slice(), true, count) && are(with_false.as_slice(), false, count))
+            Ok(are_polar(with_true.as_slice(), with_false.as_slice(), count))
         }
         None => Ok(false),
     }
@@ -211,7 +216,8 @@ fn is_each<A: SmallAllocator>(alloc: A, expression: &Expression<A>) -> Finding {
 }
 
 /// A target that meets no predicate.
-struct Nowhere;
+#[derive(Clone, Copy)]
+pub(super) struct Nowhere;
 
 impl TargetMatcher for Nowhere {
     ghost use Rattle.std.specs.Prelude.{false};

@@ -81,7 +81,8 @@ fn some_owned<'a, K, A: SmallAllocator>(alloc: A) -> Made<Option<Field<'a, K, A>
     Ok(Some(owned(alloc, TEXT)?))
 }
 
-// Puts what was made in the place of a value. One that is dropped here has no kinds to go over.
+// Replaces the value by what was made. The type is not known here, which makes its drop short to
+// prove.
 fn put<T: Drop>(place: &mut T, made: Made<T>) -> Made<()> {
     *place = made?;
     Ok(())
