@@ -1,5 +1,5 @@
 //! The named values of the field types, each the borrowed text that equals its name.
-//! If nothing else says the allocator, a caller names it, as in `Abi::<Global>::abi64()`.
+//! If nothing else fixes the allocator, a caller names it, as in `Abi::<Global>::abi64()`.
 
 mod abis;
 mod architectures;

@@ -1,4 +1,4 @@
-//! The one code of the field types: a text of `cfgx_syntax`, marked with its kind.
+//! The type behind all field types: a text of `cfgx_syntax`, marked with its kind.
 
 ghost use Rattle.std.specs.Prelude.{◌≡◌, IfOk, Some, string_bytes};
 ghost use Rattle.std.specs.Cmp.Rules.{comparing};
@@ -12,9 +12,8 @@ use std::marker::{Model, PhantomData};
 
 /// A text of the kind `K`, borrowed for `'a` or owned in the allocator `A`.
 ///
-/// Which of the two it is shows nowhere: contracts see the list of its bytes, and `==`, the order
-/// and the hash are those of Rust's `str`, which go by the bytes alone. Fields of two kinds are of
-/// two types.
+/// Both behave alike: contracts see the list of its bytes, and `==`, the order and the hash are
+/// those of `str`, which depend on the bytes alone. Fields of two kinds have two types.
 #[derive(Drop)]
 #[derive_where(Debug, PartialEq, Eq, PartialOrd, Ord, Hash)]
 pub struct Field<'a, K, A: Allocator = Global> {

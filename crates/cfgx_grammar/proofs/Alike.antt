@@ -1,11 +1,9 @@
 -- Trees of one shape and with the same literals, whose other leaves stand in a relation one by one.
 use Rattle.std.proofs.Common.{arith, ◌≡◌, ℕ, suc, zero, Bool, List, [], ◌∷◌, ◌++◌, length, drop}
-use Rattle.std.proofs.Common.{if◌then◌else◌}
+use Rattle.std.proofs.{Common.if◌then◌else◌, lemmas.Slice.Zip.AllZip-long}
 use Rattle.std.specs.List.{AllZip}
-use Rattle.std.proofs.lemmas.Slice.Zip.{AllZip-long}
 use Rattle.cfgx_grammar.specs.Tree.{ListFunction, Tree, Trees, is_function, is_leaf, asked}
-use Rattle.cfgx_grammar.specs.Tree.{asked_by}
-use Rattle.cfgx_grammar.specs.Fold.{answered, answered_each}
+use Rattle.cfgx_grammar.specs.{Tree.asked_by, Fold.answered, Fold.answered_each}
 
 -- Lists whose items stand in a relation.
 

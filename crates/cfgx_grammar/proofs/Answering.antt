@@ -47,8 +47,7 @@ module _ {W M L : Type 0} {builder : Builder W M L} (text : List ℕ)
 
 -- What the parser that builds the tree answers for a text that reads so.
 abbrev Shows : Reading → Result (State tree_builder) Refusal → Type 0
-Shows (Ok tree) answer =
-    (s : State tree_builder) × (answer ≡ Ok s) × (s.written ≡ tree ∷ [])
+Shows (Ok tree) answer = (s : State tree_builder) × (answer ≡ Ok s) × (s.written ≡ tree ∷ [])
 Shows (Err fault) answer = answer ≡ Err fault
 
 -- the items of such a text, for which it answers that

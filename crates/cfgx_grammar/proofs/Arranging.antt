@@ -1,9 +1,8 @@
 -- The questions of a function are those of its arranged members, and its value is that of theirs.
 use Rattle.std.proofs.Common.{◌≡◌, Bool, ◌++◌, refl, append_assoc, arith}
-use Rattle.cfgx_grammar.specs.Question.{Question}
+use Rattle.cfgx_grammar.specs.{Question.Question, Fold.Operations, Fold.values_by, Fold.values_of}
 use Rattle.cfgx_grammar.specs.Tree.{Tree, Trees, is_function, is_leaf, only, followed_by, arranged}
 use Rattle.cfgx_grammar.specs.Tree.{asked_by, asked_each}
-use Rattle.cfgx_grammar.specs.Fold.{Operations, values_by, values_of}
 
 asked_each-followed_by : (trees others : Trees Question) → asked_each (followed_by trees others) ≡
     asked_each trees ++ asked_each others

@@ -1,8 +1,7 @@
 -- Answers that are dealt out to a tree are what the answered tree asks.
-use Rattle.std.proofs.lemmas.Grind.{common_steps}
+use Rattle.std.proofs.{lemmas.Grind.common_steps, Common.append-nil, Common.take_all}
 use Rattle.std.proofs.Common.{append_assoc, drop_at, ◌≡◌, ◌≤◌, List, [], ◌∷◌, ◌++◌, length, take}
 use Rattle.std.proofs.Common.{refl, sym, ap, ◌∙◌, arith, length-append, length-drop, take-add}
-use Rattle.std.proofs.Common.{append-nil, take_all}
 use Rattle.cfgx_grammar.specs.Tree.{Tree, Trees, is_function, is_leaf, asked, asked_by}
 use Rattle.cfgx_grammar.specs.Fold.{left_after, answered, answered_each}
 use Rattle.cfgx_grammar.proofs.Alike.{Alike, AlikeEach, SameShape, SameShapes, length-asked}
@@ -91,8 +90,7 @@ module _ {X T : Type 0} (otherwise : T) where
     asked_each-taken Trees.none inner own enough some = (refl, refl)
     asked_each-taken (Trees.more (Tree.leaf x) trees) inner [] enough some = absurd (omega arith)
     asked_each-taken (Trees.more (Tree.leaf x) trees) inner (answer ∷ own) enough some =
-        let others = asked_each-taken trees inner own enough (omega arith) in
-        (others.0, ap (λ l. answer ∷ l) others.1)
+        grind (arith, asked_each-taken trees)
     asked_each-taken (Trees.more tree trees) inner own enough some =
         let rest = asked_by is_function trees in
         let many = length-append (asked tree) rest in

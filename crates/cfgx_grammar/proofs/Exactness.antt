@@ -1,13 +1,12 @@
 -- Three values are exact: a value is known exactly if every filling leads to it.
-use Rattle.std.proofs.Common.{◌≡◌, Bool, true, false, not, List, [], ◌∷◌, arith}
-use Rattle.std.proofs.Common.{length, Option, Some, refl, ap, ◌∙◌, map, unwrap_or}
+use Rattle.std.proofs.Common.{◌≡◌, Bool, true, false, not, List, [], ◌∷◌, arith, length, Option}
+use Rattle.std.proofs.Common.{Some, refl, ap, ◌∙◌, map, unwrap_or}
 use Rattle.std.proofs.lemmas.List.{map-append}
 use Rattle.std.specs.List.{AllZip}
 use Rattle.cfgx_grammar.specs.Tree.{ListFunction, Tree, Trees, is_function, is_leaf, asked}
 use Rattle.cfgx_grammar.specs.Fold.{Operations, from_last, list_value, value_of, values_by}
-use Rattle.cfgx_grammar.specs.Fold.{answered, fold}
+use Rattle.cfgx_grammar.specs.{Fold.answered, Fold.fold, Filling.filled_each, Filling.polar}
 use Rattle.cfgx_grammar.specs.Filling.{two_valued, three_valued, Agrees, IsFilling, IsExact, filled}
-use Rattle.cfgx_grammar.specs.Filling.{filled_each, polar}
 use Rattle.cfgx_grammar.proofs.Alike.{Alike, AlikeEach, SameTests, AllZip-append, AllZip-if}
 use Rattle.cfgx_grammar.proofs.Alike.{same_functions, same_leaves, asked-alike, answered-alike}
 use Rattle.cfgx_grammar.proofs.Alike.{answered-shape}

@@ -1,22 +1,20 @@
 -- What the parser accepts is spelled by a tree.
 use Rattle.std.proofs.Common.{◌≡◌, ℕ, suc, ◌+◌, true, List, [], ◌∷◌, ◌++◌, refl, ap, ◌∙◌, arith}
 use Rattle.std.proofs.Common.{subst, add-zero, append_assoc, ◌⊎◌, inl, inr, Option, Some, None}
-use Rattle.std.proofs.Common.{option_map, Result, Ok, sym, false, Bool, map, Err, ◌-◌, append-nil}
+use Rattle.std.proofs.Common.{option_map, Result, Ok, sym, false, Bool, map, Err, append-nil}
 use Rattle.std.proofs.Common.{if◌then◌else◌}
 use Rattle.std.proofs.{lemmas.Bool.Decides.Decides-eqb, lemmas.Bool.false≢true}
 use Rattle.cfgx_syntax.specs.{Token.Token, Items.Item, Error.Refusal}
 use Rattle.cfgx_grammar.specs.Question.{Question, Leaf}
-use Rattle.cfgx_grammar.specs.Tree.{ListFunction, Tree, Trees, count}
+use Rattle.cfgx_grammar.specs.{Tree.ListFunction, Tree.Tree, Tree.Trees, Tree.count, Grammar.IsLeaf}
 use Rattle.cfgx_grammar.specs.Grammar.{commas, Separates, IsMember, IsList, IsTree, leaf_tokens}
-use Rattle.cfgx_grammar.specs.Grammar.{IsLeaf}
 use Rattle.cfgx_grammar.specs.parsing.State.{Function, Open, name_of, Word, Pending, Builder, State}
-use Rattle.cfgx_grammar.specs.parsing.State.{initial}
+use Rattle.cfgx_grammar.specs.{parsing.State.initial, LastPredicate.class_of, LastPredicate.word_of}
 use Rattle.cfgx_grammar.specs.parsing.Step.{has_room, result_map, leaf_ended, ended_by}
 use Rattle.cfgx_grammar.specs.parsing.Step.{predicate_ended, new_open, and_then, opened}
 use Rattle.cfgx_grammar.specs.parsing.Step.{member_count, function_ended, closed_by, with_last}
 use Rattle.cfgx_grammar.specs.parsing.Step.{apply, step, step_each, one_root, conclude}
 use Rattle.cfgx_grammar.specs.{Classification.Class, Classification.class, FirstFault.lacks_value}
-use Rattle.cfgx_grammar.specs.LastPredicate.{class_of, word_of}
 use Rattle.cfgx_grammar.specs.Neighbours.{Kind, takes, kind_of}
 
 -- The tree of a leaf: a predicate or a literal that stands alone.
@@ -281,8 +279,7 @@ module _ {W M L : Type 0} {builder : Builder W M L} where
         (sym (ok_same _ u does)) completes (word_of text start end) refl in
         Completes-member last s _ may (λ none. rw are (Rest-member s.stack s.roots _ others
         (leaf_tree leaf) (IsMember-leaf _ leaf (text, value, refl, classed)) r))
-    Completes-applied (Some Token.equals) (Token.value text) may does completes =
-        grind arith
+    Completes-applied (Some Token.equals) (Token.value text) may does completes = grind arith
     Completes-applied (Some (Token.key _)) Token.equals may does completes = grind (arith, ok_same)
     Completes-applied last Token.all may does completes =
         Completes-member last s _ may

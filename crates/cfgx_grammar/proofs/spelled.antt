@@ -2,20 +2,18 @@
 use Rattle.std.proofs.Common.{◌≡◌, ℕ, zero, suc, ◌+◌, ◌-◌, ◌<◌, true, false, List, [], ◌∷◌, ◌++◌}
 use Rattle.std.proofs.Common.{Option, Some, None, Ok, sym, refl, ap, ◌∙◌, arith, add-zero}
 use Rattle.std.proofs.Common.{append_assoc, length, take, drop, append-nil}
+use Rattle.std.proofs.Math.Seq.{take-append_seam, drop-append_seam}
 use Rattle.cfgx_syntax.specs.{Token.Token, Items.Item}
-use Rattle.cfgx_grammar.specs.{Question.Leaf, Question.Question, Classification.Class}
-use Rattle.cfgx_grammar.specs.{Classification.class, FirstFault.lacks_value, LastPredicate.word_of}
-use Rattle.cfgx_grammar.specs.{LastPredicate.class_of, Neighbours.Kind, Neighbours.takes}
-use Rattle.cfgx_grammar.specs.Tree.{ListFunction, Tree, Trees, count}
+use Rattle.cfgx_grammar.specs.{Question.Leaf, Question.Question, Neighbours.Kind, Neighbours.takes}
+use Rattle.cfgx_grammar.specs.{Classification.Class, Classification.class, FirstFault.lacks_value}
+use Rattle.cfgx_grammar.specs.{LastPredicate.word_of, LastPredicate.class_of, parsing.State.initial}
+use Rattle.cfgx_grammar.specs.{Tree.ListFunction, Tree.Tree, Tree.Trees, Tree.count, Grammar.IsTree}
 use Rattle.cfgx_grammar.specs.Grammar.{commas, Separates, leaf_tokens, IsCall, IsMember, IsList}
-use Rattle.cfgx_grammar.specs.Grammar.{IsTree}
 use Rattle.cfgx_grammar.specs.parsing.State.{Function, Pending, Builder, Open, State, name_of}
-use Rattle.cfgx_grammar.specs.parsing.State.{initial}
 use Rattle.cfgx_grammar.specs.parsing.Step.{with_member, one_more, ended_by, predicate_ended}
 use Rattle.cfgx_grammar.specs.parsing.Step.{new_open, has_room, function_ended, closed_by}
 use Rattle.cfgx_grammar.specs.parsing.Step.{with_parens, with_last, step_each, conclude, step}
 use Rattle.cfgx_grammar.proofs.accepted.{leaf_tree, tokens_of, ok_same, ran}
-use Rattle.std.proofs.Math.Seq.{take-append_seam, drop-append_seam}
 
 -- The tokens of a tree are taken, from any state in which a member may come, and what is built
 -- keeps the laws of the builder.

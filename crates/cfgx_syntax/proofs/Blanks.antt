@@ -4,11 +4,10 @@ use Rattle.std.proofs.Common.{drop, get_or, sym, refl, ap, ◌∙◌, subst, ari
 use Rattle.std.proofs.Common.{length-append, length-drop, take-append-drop}
 use Rattle.std.proofs.{Math.Numerals.one-add, lemmas.List.get_or-drop, lemmas.Bool.cond_both}
 use Rattle.std.proofs.Math.Seq.{take-append-add, drop-append-add}
-use Rattle.std.specs.Char.{IsScalar, is_not_whitespace, is_ascii_graphic}
-use Rattle.std.specs.List.{prefix_len}
-use Rattle.std.specs.Str.{IsTrimStart, NoCharPasses, EmptyOrStartsWithPassing}
 use Rattle.std.proofs.lemmas.Str.{NoCharPasses-nil, NoCharPasses-append, encode_ascii}
 use Rattle.std.proofs.lemmas.List.Sums.{prefix_len_stops}
+use Rattle.std.specs.{Char.IsScalar, Char.is_not_whitespace, Char.is_ascii_graphic, List.prefix_len}
+use Rattle.std.specs.Str.{IsTrimStart, NoCharPasses, EmptyOrStartsWithPassing}
 use Rattle.cfgx_syntax.specs.Lexer.{is_blank}
 
 pub blank-ascii : (c : ℕ) → is_blank c ≡ true → c < 128

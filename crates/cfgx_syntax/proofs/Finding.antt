@@ -2,25 +2,23 @@
 use Rattle.std.proofs.Common.{rules, ◌≡◌, ℕ, suc, zero, ◌+◌, ◌-◌, ◌<◌, ◌≤◌, true, false, List, []}
 use Rattle.std.proofs.Common.{◌∷◌, ◌++◌, length, take, drop, get_or, refl, ap, ◌∙◌, subst, ◌≢◌, ◌⊎◌}
 use Rattle.std.proofs.Common.{inl, inr, arith, ⊎_elim, lit<, append-nil, length-drop, length-take}
-use Rattle.std.specs.{Prelude.codes, Prelude.encode_utf8, Char.is_not_whitespace}
-use Rattle.std.specs.List.{AllByRecursion, position_or_len, before_first, after_first, prefix_len}
-use Rattle.std.specs.Str.{IsUtf8, IsTrimStart, encode_utf8_all, all_scalars}
 use Rattle.std.proofs.lemmas.List.{drop-drop, get_or-take, take_all}
 use Rattle.std.proofs.lemmas.List.Sums.{split_at_first, passes_at_first, fails_before_first}
 use Rattle.std.proofs.{lemmas.Str.IsUtf8-drop, lemmas.Slice.Eq.bytes_eq-Decides}
 use Rattle.std.proofs.lemmas.Bool.{and_parts, cases_Bool, cases_eq, cases_lt}
+use Rattle.std.specs.{Prelude.codes, Prelude.encode_utf8, Char.is_not_whitespace}
+use Rattle.std.specs.List.{AllByRecursion, position_or_len, before_first, after_first, prefix_len}
+use Rattle.std.specs.Str.{IsUtf8, IsTrimStart, encode_utf8_all, all_scalars}
 use Rattle.cfgx_syntax.specs.Items.{Item, Ending, ItemsFrom, IsBlank, HasOneTokenList, starts_token}
-use Rattle.cfgx_syntax.specs.Items.{expects_token}
+use Rattle.cfgx_syntax.specs.{Items.expects_token, Error.Cause, Cut.IsValueCut, Cut.CanBeCut}
 use Rattle.cfgx_syntax.specs.Lexer.{BeginsWith, BeginsNone, BeginsUnclosed}
 use Rattle.cfgx_syntax.specs.Token.{Token, starts_word, continues_word, is_quote, IsWord, Spells}
 use Rattle.cfgx_syntax.specs.Token.{HasNoQuote, IsWhole}
-use Rattle.cfgx_syntax.specs.{Error.Cause, Cut.IsValueCut, Cut.CanBeCut}
 use Rattle.cfgx_syntax.proofs.Blanks.{IsTrimStart-here, IsTrimStart-past}
 use Rattle.cfgx_syntax.proofs.Scanning.{IsAfter, Stands-found, Ending-found, rest_is}
-use Rattle.cfgx_syntax.proofs.Scanning.{CanBeCut-found}
+use Rattle.cfgx_syntax.proofs.{Scanning.CanBeCut-found, TokenList.ItemsFrom-same}
 use Rattle.cfgx_syntax.proofs.Values.{BeginsWith-value, HasNoQuote-from}
 use Rattle.cfgx_syntax.proofs.Words.{BeginsWith-byte, BeginsWith-word, word_front}
-use Rattle.cfgx_syntax.proofs.TokenList.{ItemsFrom-same}
 
 -- what is left of a text after the white space in front is a text
 abbrev Trimmed : List ℕ → Type 0

@@ -25,8 +25,7 @@ same_after : (ws vs : List ℕ) (c d : ℕ) (r t : List ℕ) → NonePass is_not
     → encode_utf8_all ws ++ (encode_utf8 c ++ r) ≡ encode_utf8_all vs ++ (encode_utf8 d ++ t)
     → (c ≡ d) × (r ≡ t)
 same_after [] [] c d r t white light seen shown e = encode_same c d r t e
-same_after [] (v ∷ vs) c d r t white light seen shown e =
-    grind (arith, encode_same, append_assoc)
+same_after [] (v ∷ vs) c d r t white light seen shown e = grind (arith, encode_same, append_assoc)
 same_after (w ∷ ws) [] c d r t white light seen shown e =
     grind (arith, encode_same, append_assoc, both_ways)
 same_after (w ∷ ws) (v ∷ vs) c d r t white light seen shown e =

@@ -42,8 +42,7 @@ goes_on (byte ∷ bytes) after all ends =
 
 word_len : (word after : List ℕ) → IsWord word → EndsWord after
     → token_len (word ++ after) ≡ length word
-word_len word after is ends =
-    grind (arith, goes_on, starts_word-no_quote)
+word_len word after is ends = grind (arith, goes_on, starts_word-no_quote)
 
 -- the first quote is not among bytes that have none
 quote_after : (bytes after : List ℕ) → HasNoQuote bytes

@@ -1,10 +1,8 @@
 -- What the operations on two planes do in each lane.
 use Rattle.std.proofs.Common.{◌≡◌, ℕ, ◌+◌, ◌≤◌, min, max, true, false, Some, refl, sym, ap, ◌∙◌}
-use Rattle.std.proofs.Common.{arith}
-use Rattle.std.specs.{Prelude.bit_and, Prelude.bit_or, Int.bit_at}
-use Rattle.std.proofs.lemmas.Nat.{and_comm}
+use Rattle.std.proofs.{Common.arith, lemmas.Nat.and_comm, lemmas.Nat.Bits.same_from_bits}
 use Rattle.std.proofs.lemmas.Nat.Bits.{bit_at_and, bit_at_or, bit_at-zero, bit_at-lt, bit_at_ones}
-use Rattle.std.proofs.lemmas.Nat.Bits.{same_from_bits}
+use Rattle.std.specs.{Prelude.bit_and, Prelude.bit_or, Int.bit_at}
 use Rattle.cfgx_syntax.specs.Kleene.{Planes, AreApart, IsApart, EachLane, answer_of_bits, lane}
 use Rattle.cfgx_syntax.specs.Kleene.{planes_and, planes_or, planes_not, planes_top, planes_bottom}
 use Rattle.cfgx_syntax.specs.Logic.{kleene_and, kleene_or, kleene_not}

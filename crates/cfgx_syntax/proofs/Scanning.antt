@@ -1,11 +1,10 @@
 -- What the lexer finds after white space stands in the whole text.
-use Rattle.std.proofs.Common.{Some, ◌∙◌, rules, ◌≡◌, ℕ, ◌+◌, ◌-◌, ◌<◌, ◌≤◌, min, true, false, List}
+use Rattle.std.proofs.Common.{Some, rules, ◌≡◌, ℕ, ◌+◌, ◌-◌, ◌<◌, ◌≤◌, min, true, false, List}
 use Rattle.std.proofs.Common.{length, inl, inr, ◌⊎◌, refl, drop, get_or, ap, subst, arith}
-use Rattle.std.proofs.Common.{length-drop}
-use Rattle.std.specs.{Prelude.slice_range, Str.IsTrimStart}
+use Rattle.std.proofs.{Common.length-drop, lemmas.Bool.both_ways, lemmas.Bool.false_from_ne_true}
 use Rattle.std.proofs.lemmas.List.{take_min, drop_min, drop-drop}
 use Rattle.std.proofs.lemmas.Str.{byte_from_char}
-use Rattle.std.proofs.lemmas.Bool.{both_ways, false_from_ne_true}
+use Rattle.std.specs.{Prelude.slice_range, Str.IsTrimStart}
 use Rattle.cfgx_syntax.specs.{Cut.CanBeCut, Error.Cause, Token.Token, LexerState.LexerState}
 use Rattle.cfgx_syntax.specs.Items.{EndsAs, lexical, IsBlank, Stands, IsStuck, IsUnclosed}
 use Rattle.cfgx_syntax.specs.Items.{OpensNoValue, starts_token, Ending}
@@ -31,9 +30,7 @@ module _ (text rest : List ℕ) (place : ℕ) (beyond : IsAfter text rest place)
   start = length text - length rest
 
   start_is : start ≡ min (place + beyond.trimmed.0) (length text)
-  start_is =
-      let long = ap length beyond.trimmed.1 ∙ length-drop beyond.trimmed.0 (drop place text) in
-      omega (arith, length-drop place text, beyond.inside)
+  start_is = grind (arith, length-drop)
 
   place_le_start : place ≤ start
   place_le_start = omega (arith, start_is, beyond.inside)
@@ -49,8 +46,7 @@ module _ (text rest : List ℕ) (place : ℕ) (beyond : IsAfter text rest place)
 
   pub Stands-found : (token : Token) (len : ℕ) → BeginsWith rest token len
       → Stands text place (record { token = token; start = start; end = start + len })
-  Stands-found token len begins =
-      grind (arith, rest_is, drop-drop, place_le_start, gap_is_blank)
+  Stands-found token len begins = grind (arith, rest_is, drop-drop, place_le_start, gap_is_blank)
 
   pub CanBeCut-found : (token : Token) (len : ℕ) → BeginsWith rest token len
       → CanBeCut text token start (start + len)
@@ -62,12 +58,7 @@ module _ (text rest : List ℕ) (place : ℕ) (beyond : IsAfter text rest place)
   IsStuck-found : 0 < length rest → starts_token (get_or rest 0 0) ≡ false
       → IsStuck text place start
   IsStuck-found some none =
-      let first = beyond.trimmed.3.1 some in
-      let other : starts_token first.0 ≡ false =
-      false_from_ne_true (starts_token first.0) (λ t.
-      let same = byte_from_char rest beyond.trimmed.3.0 first.0 first.2 (starts_token-ascii _ t) in
-      both_ways _ (rw same at none) t) in
-      grind (arith, rest_is, place_le_start, gap_is_blank)
+      grind (arith, byte_from_char, starts_token-ascii, rest_is, place_le_start, gap_is_blank)
 
   -- how the text ends, by why no token begins and how many bytes are at fault
   pub Ending-found : (cause : Cause) (len : ℕ) → 0 < length rest

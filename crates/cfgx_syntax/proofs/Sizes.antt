@@ -1,5 +1,5 @@
 -- A text has no more items than bytes.
-use Rattle.std.proofs.Common.{ℕ, ◌+◌, ◌-◌, ◌≤◌, List, [], ◌∷◌, length, arith}
+use Rattle.std.proofs.Common.{ℕ, ◌+◌, ◌≤◌, List, [], ◌∷◌, length, arith}
 use Rattle.cfgx_syntax.specs.Items.{Item, Ending, ItemsFrom}
 
 pub items-bytes : (text : List ℕ) (from : ℕ) (items : List Item) (ending : Ending)
@@ -7,5 +7,4 @@ pub items-bytes : (text : List ℕ) (from : ℕ) (items : List Item) (ending : E
     → from + length items ≤ length text
 items-bytes text from [] ending inside are = omega arith
 items-bytes text from (item ∷ items) ending inside are =
-    let others = items-bytes text item.end items ending are.0.inside are.1 in
-    grind arith
+    grind (arith, items-bytes text item.end items ending are.0.inside are.1)

@@ -1,10 +1,9 @@
 -- A text has one token list.
 use Rattle.std.proofs.Common.{rules, ◌≡◌, ℕ, ◌+◌, ◌-◌, ◌≤◌, true, List, [], length, get_or, ◌∷◌}
 use Rattle.std.proofs.Common.{◌++◌, take, drop, sym, refl, ◌∙◌, arith, cond, ltb, ◌⊎◌, inl, inr}
-use Rattle.std.proofs.Common.{length-drop}
+use Rattle.std.proofs.{Common.length-drop, lemmas.List.drop-drop, lemmas.Str.encode_ascii}
+use Rattle.std.proofs.{lemmas.Grind.common_steps, lemmas.Bool.le-ltb, lemmas.Bool.lt-ltb}
 use Rattle.std.specs.{Prelude.encode_utf8, Prelude.slice_range, Char.is_not_whitespace}
-use Rattle.std.proofs.{lemmas.List.drop-drop, lemmas.Str.encode_ascii, lemmas.Grind.common_steps}
-use Rattle.std.proofs.lemmas.Bool.{le-ltb, lt-ltb}
 use Rattle.cfgx_syntax.specs.Items.{Item, Stands, Ending, EndsAs, ItemsFrom, IsBlank, starts_token}
 use Rattle.cfgx_syntax.proofs.FirstChar.{IsFirst, IsFirst-same, IsFirst-not_blank}
 use Rattle.cfgx_syntax.proofs.Fronts.{front_starts, unclosed_len, token_len, token_len_is, token_by}
@@ -42,8 +41,7 @@ first_char rest starts = grind (arith, encode_ascii)
 first_of : (text : List ℕ) (from place : ℕ) → from ≤ place → IsBlank (slice_range text from place)
     → starts_token (get_or (drop place text) 0 0) ≡ true
     → IsFirst text from place (get_or (drop place text) 0 0)
-first_of text from place beyond gap starts =
-    search (rules, first_char, starts_token-visible)
+first_of text from place beyond gap starts = search (rules, first_char, starts_token-visible)
 
 next_of : (text : List ℕ) (from : ℕ) (next : Item ⊎ Ending) → Comes text from next
     → Next text from next

@@ -1,10 +1,9 @@
 -- What `strip` keeps, by what stands around it.
 use Rattle.std.proofs.Common.{◌≡◌, ◌≢◌, ℕ, ◌-◌, false, List, ◌++◌, length, drop, nat_eq, sym, refl}
 use Rattle.std.proofs.Common.{ap, ◌∙◌, arith, length-append}
+use Rattle.std.proofs.{lemmas.List.take_at, lemmas.Slice.Eq.starts_is, lemmas.Slice.Eq.ends_is}
+use Rattle.std.proofs.{lemmas.Bool.Decides.Decides-eqb, lemmas.Bool.false_from_ne_true}
 use Rattle.std.specs.{Prelude.codes, List.ends_with}
-use Rattle.std.proofs.{lemmas.List.take_at, lemmas.Bool.Decides.Decides-eqb}
-use Rattle.std.proofs.lemmas.Bool.{false_from_ne_true}
-use Rattle.std.proofs.lemmas.Slice.Eq.{starts_is, ends_is}
 use Rattle.cfgx_syntax.specs.Stripping.{strip}
 
 -- a text that does not start with `cfg(` is all kept

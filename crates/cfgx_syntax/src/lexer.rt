@@ -17,7 +17,7 @@ use std::fmt;
 use std::marker::Model;
 use std::ops::Range;
 
-/// A single token of a `cfg()` expression.
+/// One lexical unit of a condition.
 #[derive(Clone, Copy, Debug, PartialEq, Eq)]
 pub enum Token<'a> {
     /// A word that names no function
@@ -104,8 +104,8 @@ fn starts_word(byte: u8) -> bool
     byte.is_ascii_alphabetic() || byte == b'_'
 }
 
-/// Whether the byte may stand in a word: an ASCII letter, an ASCII digit or `_`. Most bytes of a
-/// text are asked, so this is a look into a table.
+/// Whether the byte may stand in a word: an ASCII letter, an ASCII digit or `_`. It is called for
+/// most bytes of a text, so it looks them up in a table.
 fn continues_word(byte: u8) -> bool
     ensures { result ≡ continues_word byte }
 {
@@ -182,9 +182,9 @@ fn first_token(text: &str) -> Result<(Token<'_>, usize), (Reason, usize)>
     }
 }
 
-/// Tokens of a text, from left to right.
+/// An iterator over the tokens of a text, from left to right.
 ///
-/// After a refusal, and after `None`, every further item is `None`.
+/// After an error, and after `None`, every further item is `None`.
 #[derive(Drop)]
 pub struct Lexer<'a, A: Allocator = Global> {
     original: &'a str,
@@ -234,7 +234,7 @@ impl<'a, A: Allocator> Lexer<'a, A> {
         self.original
     }
 
-    /// The number of bytes after the last token that was given: it falls with each item, and is 0
+    /// The number of bytes after the last token: it falls with each item, and is 0
     /// after `None` and after a refusal.
     pub fn items_left_bound(&self) -> usize
         ensures { result ≡ length self.now.text - self.now.place }

@@ -1,4 +1,4 @@
-//! What the answers of an expression can be, and how they are joined.
+//! The values that answers to predicates can have, and how `all`, `any` and `not` combine them.
 ghost use Rattle.std.specs.Prelude.{◌≡◌, ◌&&◌, ◌||◌, Some, None, true, false, not};
 ghost use Rattle.cfgx_syntax.specs.Logic.{kleene_and, kleene_or, kleene_not};
 
@@ -7,24 +7,26 @@ pub mod laws;
 
 pub use kleene::Kleene64;
 
-/// Values that are joined as truth values are. Each function always answers, and its answer is a
-/// function of its values: no algebraic law is asked.
+/// Values with the operations of truth values.
+///
+/// Every call returns, and the result depends only on the arguments. Nothing else is required: the
+/// operations need not be commutative, for example.
 pub trait Logic: Drop {
     ghost use Rattle.cfgx_syntax.specs.Size.{IsSmall};
 
-    /// What `top` answers.
+    /// The result of `top`.
     ghost top: { Self };
 
-    /// What `bottom` answers.
+    /// The result of `bottom`.
     ghost bottom: { Self };
 
-    /// What `and` answers.
+    /// The result of `and`.
     ghost and: { Self → Self → Self };
 
-    /// What `or` answers.
+    /// The result of `or`.
     ghost or: { Self → Self → Self };
 
-    /// What `not` answers.
+    /// The result of `not`.
     ghost not: { Self → Self };
 
     /// The value of a conjunction of nothing.

@@ -18,9 +18,8 @@ use std::fmt;
 use std::hash::{Hash, Hasher};
 use std::marker::Model;
 
-/// A type whose values are texts, and which compares, orders and hashes them by their bytes alone,
-/// as Rust's `str` does. So a borrowed and an owned text with equal bytes are equal, compare equal
-/// and hash alike.
+/// A type of texts whose comparisons and hashes depend on the bytes alone, like those of `str`. So
+/// it makes no difference whether one of two texts is borrowed and the other one owned.
 pub trait ByBytes: Ord + Hash {
     /// The bytes of the text.
     ghost bytes: { Self → List ℕ };
@@ -36,8 +35,8 @@ pub trait ByBytes: Ord + Hash {
 
 /// A text, borrowed for `'a` or owned in the allocator `A`.
 ///
-/// Which of the two it is shows nowhere: contracts see the list of its bytes, and `==`, the order
-/// and the hash are those of Rust's `str`, which go by the bytes alone.
+/// Both behave alike: contracts see the list of its bytes, and `==`, the order and the hash are
+/// those of `str`, which depend on the bytes alone.
 #[derive(Drop)]
 pub struct Text<'a, A: Allocator = Global> {
     text: CowStr<'a, A>,

@@ -4,9 +4,8 @@ use Rattle.std.specs.Prelude.{Some, Result, Ok}
 use Rattle.cfgx_targets.specs.Endian.{endian_named, endian_text}
 use Rattle.cfgx_targets.specs.HasAtomic.{IsWidth, ReadsAtomic, atomic_named, atomic_text}
 use Rattle.cfgx_targets.specs.{declared.atomic.HasAtomic.HasAtomic, declared.endian.Endian.Endian}
-use Rattle.cfgx_targets.specs.declared.atomic.HasAtomicFailure.{HasAtomicFailure}
+use Rattle.cfgx_targets.specs.{declared.atomic.HasAtomicFailure.HasAtomicFailure, Number.read_below}
 use Rattle.cfgx_targets.specs.declared.endian.Endian.TheVariants.{big, little}
-use Rattle.cfgx_targets.specs.Number.{read_below}
 use Rattle.cfgx_targets.proofs.NumberLemmas.{read_below-decimal}
 
 -- the text of a byte order names it

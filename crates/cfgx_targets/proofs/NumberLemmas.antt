@@ -1,13 +1,12 @@
 -- That the numbers which Rust's `parse` reads are those of `read_below`.
 use Rattle.std.proofs.lemmas.Bool.{lt-ltb}
 use Rattle.std.proofs.Common.{◌≡◌, ℕ, ◌^◌, ◌<◌, Bool, true, List, arith}
-use Rattle.std.specs.Prelude.{Some, None, Result, cond}
-use Rattle.std.specs.{Bool.Decides, Result.OkIff, Result.result_ok, Fmt.decimal}
-use Rattle.std.specs.Str.{all_ascii_digits}
-use Rattle.std.specs.Str.Parse.{IsNumeral, ParsesUnsigned, digits_value, without_leading_plus}
 use Rattle.std.proofs.lemmas.Str.Parse.{IsNumeralModel, numerals_by_value, tells_all_ascii_digits}
 use Rattle.std.proofs.lemmas.Str.Parse.{not_in_digits, without_leading_plus_none}
 use Rattle.std.proofs.lemmas.Fmt.{decimal_is_IsNumeral, decimal_nonempty, digits_decimal}
+use Rattle.std.specs.{Prelude.Some, Prelude.None, Prelude.Result, Prelude.cond, Bool.Decides}
+use Rattle.std.specs.{Result.OkIff, Result.result_ok, Fmt.decimal, Str.all_ascii_digits}
+use Rattle.std.specs.Str.Parse.{IsNumeral, ParsesUnsigned, digits_value, without_leading_plus}
 use Rattle.cfgx_targets.specs.Number.{is_numeral, read_below}
 
 -- std's numerals are ASCII digits
@@ -26,8 +25,7 @@ result_ok-OkIff b v r d h = grind arith
 pub result_ok-parse : {E : Type 0} (k : ℕ) (bs : List ℕ) (r : Result ℕ E) → ParsesUnsigned k 10 bs r
     → result_ok r ≡ read_below (2 ^ k) bs
 unfolding read_below
-result_ok-parse k bs r h =
-    grind (arith, Decides-is_numeral, result_ok-OkIff)
+result_ok-parse k bs r h = grind (arith, Decides-is_numeral, result_ok-OkIff)
 
 -- what is printed in decimal is read again
 pub read_below-decimal : (limit n : ℕ) → n < limit → n < 2 ^ 64

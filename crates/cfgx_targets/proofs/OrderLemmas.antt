@@ -1,23 +1,20 @@
 -- Lists in order: when a list is one, what a search by halves finds in it, and that a sorted
 -- rearrangement is the only one.
-use Rattle.std.proofs.{lemmas.Grind.common_steps, lemmas.Bool.cases_lt, lemmas.Bool.not-true}
-use Rattle.std.proofs.{lemmas.Cmp.tied_itself, lemmas.List.Sums.sum_by-cons}
+use Rattle.std.proofs.lemmas.Grind.{common_steps}
+use Rattle.std.proofs.{lemmas.Bool.cases_lt, lemmas.Bool.not-true, lemmas.Cmp.tied_itself}
+use Rattle.std.proofs.{lemmas.List.Sums.sum_by-cons, Common.arith, lemmas.Fn.always_returns_same}
 use Rattle.std.proofs.Common.{inl, inr, Bor, ◌≡◌, ◌↔◌, refl, sym, ap, subst, ◌∙◌, ℕ, zero, suc, ◌+◌}
 use Rattle.std.proofs.Common.{◌<◌, ◌≤◌, Bool, true, false, not, List, [], ◌∷◌, length, get_or}
-use Rattle.std.proofs.Common.{arith}
-use Rattle.std.specs.Prelude.{Option, Result, Ok, Err, IsTrue, IsPermutation, IsSorted, Contains}
-use Rattle.std.specs.Prelude.{cond, is_ok, ⊤}
-use Rattle.std.specs.{declared.cmp.Ordering.Ordering, Bool.Decides, Cmp.IsTotalOrder, Cmp.Agrees}
-use Rattle.std.specs.declared.cmp.Ordering.TheVariants.{Less, Equal, Greater}
-use Rattle.std.specs.Cmp.Lexicographic.{pointwise, pointwise_decides}
-use Rattle.std.specs.Fn.{Called, ComputesKey, Mut}
-use Rattle.std.specs.List.{IsAllAdjacentAnswer, count_by}
-use Rattle.std.specs.List.Sorted.{IsBinarySearchResult, IsSearchInRange}
-use Rattle.std.specs.Ordering.{is_lt, is_le, is_eq, is_some_and, partial_le, ordering_reverse}
-use Rattle.std.specs.Ordering.{eq_by_cmp}
-use Rattle.std.proofs.lemmas.Fn.{always_returns_same}
 use Rattle.std.proofs.lemmas.List.Sorted.{searchable_from_sorted, IsPermutation-sym}
 use Rattle.std.proofs.lemmas.List.Sorted.{IsPermutation-trans, sum_by-IsPermutation}
+use Rattle.std.specs.Prelude.{Option, Result, Ok, Err, IsTrue, IsPermutation, IsSorted, Contains}
+use Rattle.std.specs.{Prelude.cond, Prelude.is_ok, Prelude.⊤, declared.cmp.Ordering.Ordering}
+use Rattle.std.specs.{Bool.Decides, Cmp.IsTotalOrder, Cmp.Agrees, Fn.Called, Fn.ComputesKey, Fn.Mut}
+use Rattle.std.specs.declared.cmp.Ordering.TheVariants.{Less, Equal, Greater}
+use Rattle.std.specs.Cmp.Lexicographic.{pointwise, pointwise_decides}
+use Rattle.std.specs.{List.IsAllAdjacentAnswer, List.count_by, Ordering.eq_by_cmp}
+use Rattle.std.specs.List.Sorted.{IsBinarySearchResult, IsSearchInRange}
+use Rattle.std.specs.Ordering.{is_lt, is_le, is_eq, is_some_and, partial_le, ordering_reverse}
 use Rattle.cfgx_targets.specs.SortedList.{IsSortedFrom}
 
 module _ {X : Type 0} {R : X → X → Ordering} (o : IsTotalOrder R) where
@@ -51,8 +48,7 @@ module _ {X : Type 0} {R : X → X → Ordering} (o : IsTotalOrder R) where
   pub binary_search-answers : (same : (x y : X) → R x y ≡ Equal → x ≡ y) (xs : List X) (x : X)
       → (r : Result ℕ ℕ) → IsSorted R xs → IsSearchInRange r (length xs)
       → IsBinarySearchResult (λ y. R y x) xs r → IsTrue (is_ok r) ↔ Contains xs x
-  binary_search-answers same xs x (Ok i) s bound h =
-      (λ _. (i, bound, same _ _ (h x)), λ _. refl)
+  binary_search-answers same xs x (Ok i) s bound h = (λ _. (i, bound, same _ _ (h x)), λ _. refl)
   binary_search-answers same xs x (Err i) s bound h =
       let split = h (searchable_from_sorted o (λ y. y) xs x s) in (
         λ t. absurd cc,

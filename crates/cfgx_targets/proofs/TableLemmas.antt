@@ -2,14 +2,13 @@
 use Rattle.std.proofs.{lemmas.Grind.common_steps, lemmas.Bool.cases_lt, lemmas.Cmp.alike_right}
 use Rattle.std.proofs.Common.{◌≡◌, refl, sym, ap, subst, ◌∙◌, inl, inr, ℕ, zero, suc, ◌+◌, ◌-◌, ◌<◌}
 use Rattle.std.proofs.Common.{Bool, true, false, List, [], ◌∷◌, length, get_or, arith, add-one}
-use Rattle.std.proofs.Common.{nat_cmp}
+use Rattle.std.proofs.{Common.nat_cmp, lemmas.List.Sorted.searchable_from_sorted}
 use Rattle.std.specs.Prelude.{Some, None, Ok, Err}
-use Rattle.std.specs.{declared.cmp.Ordering.Ordering, declared.cmp.Ordering.TheVariants.Less}
-use Rattle.std.specs.{declared.cmp.Ordering.TheVariants.Equal, List.AllAdjacentBelow, List.find}
+use Rattle.std.specs.{declared.cmp.Ordering.Ordering, List.AllAdjacentBelow, List.find}
+use Rattle.std.specs.declared.cmp.Ordering.TheVariants.{Less, Equal}
 use Rattle.std.specs.{List.Sorted.IsBinarySearchResult, List.Sorted.IsSortedBy, Str.bytes_eq}
 use Rattle.std.specs.Cmp.Lexicographic.{nat_list_cmp_total, slice_cmp, texts_ties}
 use Rattle.std.specs.Ordering.{is_lt, is_ge, is_eq, ordering_reverse}
-use Rattle.std.proofs.lemmas.List.Sorted.{searchable_from_sorted}
 use Rattle.cfgx_targets.specs.{Builtins.builtin_rows, declared.info.TargetInfo.TargetInfo}
 use Rattle.cfgx_targets.specs.Table.{IsBelow, AreIncreasing, IsFirstNotAbove, row_with}
 

@@ -1,4 +1,4 @@
--- Tables of targets, in the order of their triples.
+-- Tables of targets, sorted by their triples.
 -- Source: the documentation of `ALL_BUILTINS` and `get_builtin_target_by_triple` of `cfg-expr`.
 use Rattle.std.specs.Prelude.{◌≡◌, ◌≢◌, ℕ, ◌-◌, ◌<◌, List, length, Option}
 use Rattle.std.specs.{declared.cmp.Ordering.TheVariants.Less, Ordering.nat_cmp, Str.bytes_eq}
@@ -6,15 +6,15 @@ use Rattle.std.specs.Cmp.Lexicographic.{slice_cmp}
 use Rattle.std.specs.List.{AllAdjacentBelow, find, slice_index_or}
 use Rattle.cfgx_targets.specs.declared.info.TargetInfo.{TargetInfo}
 
--- the triple of the one is below that of the next, byte by byte
+-- the triples are in this order, compared as bytes, and differ
 abbrev pub IsBelow : {A : Type 0} → TargetInfo A → TargetInfo A → Type 0
 IsBelow one next = slice_cmp nat_cmp one.triple next.triple ≡ Less
 
--- the triple of each row is below that of the next
+-- the triples strictly increase
 abbrev pub AreIncreasing : {A : Type 0} → List (TargetInfo A) → Type 0
 AreIncreasing rows = AllAdjacentBelow IsBelow rows (length rows)
 
--- the first row whose triple is not above that of the row before it stands at the place
+-- the triples first fail to increase at the place
 pub record IsFirstNotAbove {A : Type 0} (rows : List (TargetInfo A)) (place : ℕ) : Type 0 where
   pub not_first : 0 < place
   pub inside : place < length rows

@@ -34,10 +34,9 @@ pub trait Member: Ord + Hash + fmt::Debug + fmt::Display + Drop {
     ghost equal_is_same: { (one other : Self) → Self.cmp one other ≡ Equal → one ≡ other };
 }
 
-/// A list whose members do not fall, with repeats kept, borrowed for `'a` or owned in the allocator
-/// `A`.
+/// A sorted list, which may have repeats, borrowed for `'a` or owned in the allocator `A`.
 ///
-/// Which of the two it is shows nowhere: contracts see the list of its members.
+/// Both behave alike: contracts see the list of its members.
 #[derive(Drop)]
 #[derive_where(Debug)]
 pub struct SortedList<'a, T: Member, A: Allocator = Global> {
@@ -198,8 +197,8 @@ fn write_others<T: Member, W: fmt::Write>(f: &mut fmt::Formatter<W>, members: &[
     Ok(())
 }
 
-// The items in order. They are pushed one by one, since `collect` goes on after a growth that is
-// refused, and asks for less.
+// The items in order. They are pushed one by one, since `collect` asks for less memory after a
+// refused growth.
 fn sorted<T: Ord + Drop, A: Allocator, I: Iterator<Item = T>>(
     alloc: A,
     items: I,

@@ -8,7 +8,8 @@ use std::alloc::{Allocator, Global};
 use std::fmt;
 use std::marker::Model;
 
-/// Targets whose triples strictly increase, byte by byte. Contracts see the list of them.
+/// Targets in strictly increasing order of their triples, compared as bytes. Contracts see the list
+/// of rows.
 #[derive(Drop)]
 pub struct TargetTable<'a, A: Allocator = Global> {
     rows: Vec<TargetInfo<'a, A>, A>,
@@ -26,20 +27,23 @@ impl<'a, A: Allocator> Model for TargetTable<'a, A> {
     ghost invariant = { λ table. AreIncreasing table.rows.items };
 }
 
-/// Rows that are no table.
+/// Rows whose triples do not strictly increase.
 #[derive(Drop)]
 pub struct TableError<'a, A: Allocator = Global> {
-    /// The place of the first row whose triple is not above that of the row before it.
+    /// Where the order first breaks: the index of a row whose triple is equal to the one before it,
+    /// or below.
     pub index: usize,
-    /// The rows, as they were handed in.
+    /// All rows, in the order of the argument.
     pub rows: Vec<TargetInfo<'a, A>, A>,
 }
 
 impl<'a, A: Allocator> TargetTable<'a, A> {
-    /// The table of these rows, which keeps their order and takes no memory.
+    /// Makes a table of these rows, without taking memory.
     ///
-    /// The error is that a row's triple is not above that of the row before it. It hands the rows
-    /// back.
+    /// # Errors
+    ///
+    /// `TableError`: the triples do not strictly increase. It contains the rows, so that the caller
+    /// can sort them and try again.
     pub fn from_rows(rows: Vec<TargetInfo<'a, A>, A>) -> Result<Self, TableError<'a, A>>
         ensures kept { IfOk result (λ table. table ≡ rows.entry.items) }
         ensures increasing { IfOk result (λ table. AreIncreasing table) }
@@ -52,7 +56,7 @@ impl<'a, A: Allocator> TargetTable<'a, A> {
         }
     }
 
-    /// The table of rows that strictly increase.
+    /// The table of rows that are known to be in order.
     pub(crate) fn from_increasing(rows: Vec<TargetInfo<'a, A>, A>) -> Self
         requires { AreIncreasing rows.items }
         ensures { result ≡ rows.entry.items }
@@ -69,7 +73,7 @@ impl<'a, A: Allocator> TargetTable<'a, A> {
     }
 }
 
-// The place of the first row whose triple is not above that of the row before it.
+// Where the triples first fail to increase.
 fn first_not_above<A: Allocator>(rows: &[TargetInfo<'_, A>]) -> Option<usize>
     ensures { MatchOption result (AreIncreasing rows.now) (IsFirstNotAbove rows.now) }
 {

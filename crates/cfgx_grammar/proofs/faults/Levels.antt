@@ -4,9 +4,8 @@
 use Rattle.std.proofs.Common.{◌≡◌, ⊎_elim, ℕ, zero, suc, ◌+◌, ◌<◌, ◌≤◌, ◌&&◌, ◌==◌, Bool, true}
 use Rattle.std.proofs.Common.{false, List, [], ◌∷◌, ◌++◌, length, Option, Some, sym, refl, ap, ◌∙◌}
 use Rattle.std.proofs.Common.{arith, take_at, option_map, take_all, if◌then◌else◌, nat_le}
-use Rattle.std.proofs.Common.{slice_get, None}
-use Rattle.std.proofs.{lemmas.Bool.cases_lt, lemmas.Option.slice_get_within}
-use Rattle.std.proofs.lemmas.List.{take-append-le, length_push}
+use Rattle.std.proofs.{Common.slice_get, Common.None, lemmas.Option.slice_get_within}
+use Rattle.std.proofs.{lemmas.Bool.cases_lt, lemmas.List.take-append-le, lemmas.List.length_push}
 use Rattle.cfgx_syntax.specs.Items.{Item}
 use Rattle.cfgx_grammar.specs.Neighbours.{Kind, kind_of, is_kind}
 use Rattle.cfgx_grammar.specs.Depth.{count_below, last_below, begins_member, depth, depth_at}
@@ -153,8 +152,7 @@ module _ (front : List Item) (item : Item) where
   IsOpenAt-more : (level : ℕ) (function : Function) (start end place : ℕ) → level < depth more
       → IsOpenAt front level function start end place → IsOpenAt more level function start end place
   IsOpenAt-more level function start end place deep is =
-      let at = slice_get_within front place is.name is.stands in
-      grind (arith, slice_get_front, depth_at_front, take_all, length_more, cases_lt)
+      grind (arith, slice_get_within, slice_get_front, depth_at_front, take_all, length_more)
 
   -- the token changes the members of the level, and how many of its members go on
   IsLevel-more : {M : Type 0} (level going goes : ℕ) (top : Open M) → level < depth more

@@ -5,20 +5,19 @@ use Rattle.std.proofs.Common.{◌++◌, length, reverse, cond, Option, Some, Non
 use Rattle.std.proofs.Common.{refl, ap, ◌∙◌, arith, suc, ◌-◌, ◌<◌, option_map, take_all}
 use Rattle.std.proofs.Common.{append_assoc, count_by, option_and_then, if◌then◌else◌, lt-ltb}
 use Rattle.std.proofs.Common.{le-ltb, eq-eqb, ne_eqb, append-nil, not}
-use Rattle.cfgx_syntax.specs.{Token.Token, Error.Refusal, Error.invalid_not}
-use Rattle.cfgx_syntax.specs.Items.{Item, Ending, lexical}
-use Rattle.cfgx_grammar.specs.Tree.{ListFunction}
+use Rattle.std.proofs.lemmas.Option.{slice_get_within, slice_get_past}
+use Rattle.cfgx_syntax.specs.{Token.Token, Items.Item, Items.Ending, Items.lexical}
+use Rattle.cfgx_syntax.specs.Error.{Refusal, invalid_not}
+use Rattle.cfgx_grammar.specs.{Tree.ListFunction, Depth.members, Depth.first_below}
 use Rattle.cfgx_grammar.specs.Neighbours.{Kind, takes, kind_of, is_kind, next}
 use Rattle.cfgx_grammar.specs.Depth.{names_function, is_closing, depth, depth_at, innermost}
-use Rattle.cfgx_grammar.specs.Depth.{members, first_below}
 use Rattle.cfgx_grammar.specs.LastPredicate.{predicate_last, word_of, with_value}
 use Rattle.cfgx_grammar.specs.FirstFault.{predicate_fault, head_token, last_token, lacks_value}
 use Rattle.cfgx_grammar.specs.FirstFault.{not_fault, unopened_fault, closed_fault, ended_fault}
 use Rattle.cfgx_grammar.specs.FirstFault.{first_of, when, fault_after, open_fault, empty_fault}
 use Rattle.cfgx_grammar.specs.FirstFault.{roots_fault, unclosed_innermost, end_fault, refusal}
-use Rattle.cfgx_grammar.specs.FirstFault.{fault_at, first_fault}
+use Rattle.cfgx_grammar.specs.{FirstFault.fault_at, FirstFault.first_fault, parsing.State.name_of}
 use Rattle.cfgx_grammar.specs.parsing.State.{Pending, Builder, Open, State, initial, Function}
-use Rattle.cfgx_grammar.specs.parsing.State.{name_of}
 use Rattle.cfgx_grammar.specs.parsing.Step.{result_map, predicate_ended, over_top, one_more}
 use Rattle.cfgx_grammar.specs.parsing.Step.{and_then, member_count, has_room, function_ended}
 use Rattle.cfgx_grammar.specs.parsing.Step.{new_open, closed_by, opened, with_last, with_parens}
@@ -29,7 +28,6 @@ use Rattle.cfgx_grammar.proofs.faults.Levels.{Levels-open, slice_get_next, membe
 use Rattle.cfgx_grammar.proofs.faults.Levels.{length_more, last_below-found, members_at_end}
 use Rattle.cfgx_grammar.proofs.faults.Levels.{innermost-none, depth_at_end}
 use Rattle.std.specs.Option.{option_or}
-use Rattle.std.proofs.lemmas.Option.{slice_get_within, slice_get_past}
 
 -- What the parser keeps between two tokens, by the tokens in front of it.
 
@@ -315,10 +313,8 @@ module _ {W M L : Type 0} {builder : Builder W M L} (front : List Item) (s : Sta
     token_step Token.equals may = let a = says Kind.equals (reverse front) may in
         let levels = rw a.1 at m.levels in
         (refl, stays Token.equals _ _ refl refl refl refl (m.pending ∙ a.0) refl levels)
-    token_step Token.all may =
-        name_step (Function.list ListFunction.all) may refl refl refl refl
-    token_step Token.any may =
-        name_step (Function.list ListFunction.any) may refl refl refl refl
+    token_step Token.all may = name_step (Function.list ListFunction.all) may refl refl refl refl
+    token_step Token.any may = name_step (Function.list ListFunction.any) may refl refl refl refl
     token_step Token.not may = name_step Function.not may refl refl refl refl
     token_step Token.open_paren may = let token = Token.open_paren in
         let a = says Kind.opening (reverse front) may in

@@ -1,13 +1,11 @@
 -- White space goes on after ASCII white space only if a longer character is next.
-use Rattle.std.proofs.Common.{rules}
+use Rattle.std.proofs.{Common.arith, Common.rules, lemmas.Grind.common_steps}
 use Rattle.cfgx_syntax.proofs.Blanks.{blank-ascii, trim_after, trim_blanks}
 use Rattle.cfgx_syntax.proofs.Words.{IsCharBoundary-after}
-use Rattle.cfgx_syntax.specs.Lexer.{is_blank}
 use Rattle.cfgx_syntax.proofs.lexer.after_blanks.Goals as goal
 
 pub range_from-rest-requires : goal.range_from-rest-requires
-range_from-rest-requires c = λ some. rw (c.blank_len.ensures.len, c.as_bytes.ensures.value)
-    (IsCharBoundary-after is_blank blank-ascii c.args.text.now c.utf8.text)
+range_from-rest-requires c = grind (arith, common_steps, IsCharBoundary-after, blank-ascii)
 
 pub returns-in-Some : goal.returns-in-Some
 returns-in-Some c =

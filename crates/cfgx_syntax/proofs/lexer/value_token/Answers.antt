@@ -1,8 +1,7 @@
 -- A value runs to the first quote after the one in front, and without such a quote it is unclosed.
 use Rattle.std.proofs.Common.{◌≡◌, ℕ, ◌<◌, List, ◌∷◌, length, drop, get_or, Some, None, arith, refl}
-use Rattle.std.proofs.Common.{lit<, inr}
-use Rattle.std.proofs.{lemmas.List.drop_more, lemmas.Str.Pattern.split_parts}
-use Rattle.std.proofs.lemmas.Str.{IsCharBoundary-after_ascii}
+use Rattle.std.proofs.{Common.lit<, Common.inr, lemmas.List.drop_more}
+use Rattle.std.proofs.{lemmas.Str.Pattern.split_parts, lemmas.Str.IsCharBoundary-after_ascii}
 use Rattle.cfgx_syntax.proofs.Values.{BeginsWith-value, HasNoQuote-from}
 use Rattle.cfgx_syntax.proofs.lexer.value_token.Goals as goal
 

@@ -1,6 +1,5 @@
 -- The prefix and the suffix are found exactly if the text is wrapped.
-use Rattle.std.proofs.Common.{Some, None, lit<}
-use Rattle.std.proofs.lemmas.Str.Pattern.{strip_suffix_char}
+use Rattle.std.proofs.{Common.Some, Common.None, Common.lit<, lemmas.Str.Pattern.strip_suffix_char}
 use Rattle.cfgx_syntax.proofs.Wrapping.{strip-bare, strip-wrapped, strip-prefixed}
 use Rattle.cfgx_syntax.proofs.stripping.strip.Goals as goal
 

@@ -1,5 +1,4 @@
-use Rattle.std.proofs.Common.{◌∙◌, sym, IsPermutation}
-use Rattle.std.proofs.iter.SoFar.{exit_by}
+use Rattle.std.proofs.{Common.◌∙◌, Common.sym, Common.IsPermutation, iter.SoFar.exit_by}
 use Rattle.cfgx_targets.proofs.list.sorted.Goals as goal
 
 pub returns : goal.returns
