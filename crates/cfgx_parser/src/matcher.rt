@@ -82,10 +82,11 @@ impl<'a, A: Allocator> TargetPredicate<'a, A> {
         ensures { EachLane result
             (slice_get (map (λ row. T.answer row (target_of self.now)) rows.now)) }
     {
+        let predicate = self.borrowed();
         let (mut is_true, mut is_false) = (0, 0);
         let mut left = rows;
         while let Some((row, before)) = left.split_last() {
-            let answer = self.matches(row);
+            let answer = row.matches(&predicate);
             is_true = with_lowest(is_true, answer);
             is_false = with_lowest(is_false, !answer);
             left = before;

@@ -1,5 +1,5 @@
 //! The nodes in which a `Parsed` keeps its tree.
-ghost use Rattle.std.specs.Prelude.{◌≡◌, ◌≤◌, length, OnOk, IfOk};
+ghost use Rattle.std.specs.Prelude.{◌≡◌, ◌≤◌, length, OnErr, OnOk, IfOk};
 
 use crate::function::Func;
 use cfgx_syntax::memory::SmallAllocator;
@@ -7,6 +7,7 @@ use cfgx_targets::atomic::HasAtomic;
 use cfgx_targets::endian::Endian;
 use smallvec::SmallVec;
 use std::alloc::AllocError;
+use std::mem;
 use std::ops::Range;
 
 /// Bytes of a text.
@@ -77,8 +78,13 @@ pub enum ExprNode {
     Literal(bool),
 }
 
+// The node of a function that has begun.
 impl Default for ExprNode {
-    fn default() -> Self {
+    ghost use Rattle.cfgx_parser.specs.nodes.Node.{begun};
+
+    fn default() -> Self
+        ensures { result ≡ begun }
+    {
         ExprNode::Fn {
             func: Func::Not,
             len: 0,
@@ -98,6 +104,9 @@ pub(crate) struct Mark {
 /// How many bytes of a text there are for each node, so that room for the nodes is made at once.
 const BYTES_FOR_A_NODE: usize = 8;
 
+/// The fewest nodes for which room is made.
+const LEAST_RESERVED: usize = 3;
+
 /// The most nodes for which room is made at once. It is 140 KiB: a block of that size grows where
 /// it stands, and is not copied.
 const MOST_RESERVED: usize = 2560;
@@ -106,28 +115,62 @@ const MOST_RESERVED: usize = 2560;
 #[derive(Drop)]
 pub(crate) struct Writer<A: SmallAllocator> {
     /// The nodes, in source order
-    pub(crate) nodes: SmallVec<ExprNode, 5, A>,
+    pub(crate) nodes: SmallVec<ExprNode, 1, A>,
     /// The places of predicates whose list is open, those of inner lists last
-    pub(crate) leaves: SmallVec<usize, 5, A>,
+    pub(crate) leaves: SmallVec<usize, 4, A>,
     /// The places of the other predicates, in the order in which they are asked
-    pub(crate) index: SmallVec<usize, 5, A>,
+    pub(crate) index: SmallVec<usize, 4, A>,
+    /// For how many nodes room is made once the inline place is taken
+    room: usize,
 }
 
 impl<A: SmallAllocator> Writer<A> {
+    ghost use Rattle.smallvec.specs.SmallVec.{HasRoomFor};
     ghost use Rattle.cfgx_parser.specs.nodes.Node.{nothing, mark_of, with_leaf, with_function};
+    ghost use Rattle.cfgx_parser.specs.nodes.Node.{with_node};
     ghost use Rattle.cfgx_parser.specs.nodes.Node.{with_list_ended, with_function_ended, completed};
     ghost use Rattle.cfgx_parser.specs.nodes.Writer.{written_of, KeepsNodes};
 
-    /// A writer that has written nothing, for a text of so many bytes.
-    pub(crate) fn new(alloc: A, len: usize) -> Result<Self, AllocError>
-        ensures { IfOk result (λ writer. written_of writer ≡ nothing) }
+    /// A writer that has written nothing of a text of so many bytes.
+    pub(crate) fn new(alloc: A, len: usize) -> Self
+        ensures { written_of result ≡ nothing }
     {
-        let room = (len / BYTES_FOR_A_NODE).min(MOST_RESERVED);
-        Ok(Writer {
-            nodes: SmallVec::with_capacity(alloc, room)?,
+        Writer {
+            nodes: SmallVec::new(alloc),
             leaves: SmallVec::new(alloc),
             index: SmallVec::new(alloc),
-        })
+            room: (len / BYTES_FOR_A_NODE)
+                .max(LEAST_RESERVED)
+                .min(MOST_RESERVED),
+        }
+    }
+
+    /// Makes room for one more node. The first time it is room for as many as the text is likely to
+    /// have.
+    #[cold]
+    #[inline(never)]
+    fn make_room(&mut self) -> Result<(), AllocError>
+        ensures written { written_of self.new ≡ written_of self.old }
+        ensures room { OnOk result (HasRoomFor self.new.nodes 1) }
+    {
+        let room = mem::replace(&mut self.room, 0);
+        if room == 0 {
+            return self.nodes.reserve(1);
+        }
+        self.nodes.reserve_exact(room)
+    }
+
+    /// Writes a node.
+    #[inline(always)]
+    fn push(&mut self, node: ExprNode) -> Result<(), AllocError>
+        ensures written { OnOk result (written_of self.new ≡ with_node node (written_of self.old)) }
+        ensures refused { OnErr result (written_of self.new ≡ written_of self.old) }
+    {
+        if self.nodes.len() == self.nodes.capacity() {
+            self.make_room()?;
+        }
+        self.nodes.push_reserved(node);
+        Ok(())
     }
 
     /// Writes a predicate or a literal of the innermost list. A literal is not asked.
@@ -137,7 +180,7 @@ impl<A: SmallAllocator> Writer<A> {
         ensures kept { KeepsNodes (written_of self.old) (written_of self.new) }
     {
         let is_asked = matches!(leaf, ExprNode::Predicate(_));
-        self.nodes.push(leaf)?;
+        self.push(leaf)?;
         let place = self.nodes.len() - 1;
         if is_asked {
             self.leaves.push(place)?;
@@ -154,11 +197,7 @@ impl<A: SmallAllocator> Writer<A> {
             (written_of self.new ≡ with_function (written_of self.old)) }
         ensures kept { KeepsNodes (written_of self.old) (written_of self.new) }
     {
-        let begun = ExprNode::Fn {
-            func: Func::Not,
-            len: 0,
-        };
-        self.nodes.push(begun)?;
+        self.push(ExprNode::default())?;
         let node = self.nodes.len() - 1;
         let leaves = self.leaves.len();
         Ok(Mark { node, leaves })

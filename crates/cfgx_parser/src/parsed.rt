@@ -22,9 +22,9 @@ use std::marker::Model;
 pub struct Parsed<A: Allocator = Global> {
     original: String<A>,
     /// In source order
-    nodes: SmallVec<ExprNode, 5, A>,
+    nodes: SmallVec<ExprNode, 1, A>,
     /// The places of the predicates among the nodes, in the order in which they are asked
-    index: SmallVec<usize, 5, A>,
+    index: SmallVec<usize, 4, A>,
 }
 
 impl<A: Allocator> Model for Parsed<A> {
@@ -98,7 +98,7 @@ pub fn parse<A: SmallAllocator>(alloc: A, original: &str) -> Result<Parsed<A>, F
 {
     let lexer = Lexer::new(alloc, original);
     let text = lexer.original();
-    let mut parser = Parser::new(alloc, text.len())?;
+    let mut parser = Parser::new(alloc, text.len());
     parser.read_all(alloc, lexer)?;
     let original = String::from_str(alloc, text)?;
     let (nodes, index) = parser.into_parts();

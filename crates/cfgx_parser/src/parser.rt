@@ -134,7 +134,7 @@ impl From<AllocError> for Halt {
 #[derive(Drop)]
 pub(crate) struct Parser<'a, A: SmallAllocator> {
     /// The functions that are open, the innermost last
-    func_stack: SmallVec<FuncAndSpan, 5, A>,
+    func_stack: SmallVec<FuncAndSpan, 2, A>,
     /// The innermost list. It is not on the stack, so that counting a member is cheap
     list: OpenList,
     /// The nodes of what has ended
@@ -236,18 +236,16 @@ impl<'a, A: SmallAllocator> Parser<'a, A> {
     ghost use Rattle.cfgx_parser.specs.parsing.Parser.{Reads, Finishes, ReadsAll};
 
     /// A parser that has read nothing of a text of so many bytes.
-    ///
-    /// The error is that `alloc` refused memory for the nodes, which a text of 47 bytes has inline.
-    pub(crate) fn new(alloc: A, len: usize) -> Result<Self, AllocError>
-        ensures { IfOk result (λ parser. state_of parser ≡ initial) }
+    pub(crate) fn new(alloc: A, len: usize) -> Self
+        ensures { state_of result ≡ initial }
     {
-        Ok(Parser {
+        Parser {
             func_stack: SmallVec::new(alloc),
             list: OpenList::new(),
-            writer: Writer::new(alloc, len)?,
+            writer: Writer::new(alloc, len),
             pending: None,
             fault: None,
-        })
+        }
     }
 
     /// Notes a fault.
@@ -303,7 +301,8 @@ impl<'a, A: SmallAllocator> Parser<'a, A> {
         Ok(())
     }
 
-    /// The same, and cheaper if none has begun, as is often so at a `)`.
+    /// Writes the predicate or literal that has begun, if one has. At a `)` often none has, so this
+    /// asks for that first.
     fn write_pending(&mut self) -> Result<(), Halt>
         ensures { WritesPending self.old self.new result }
     {
@@ -473,7 +472,7 @@ impl<'a, A: SmallAllocator> Parser<'a, A> {
     }
 
     /// The nodes that were written, and the places of the predicates among them.
-    pub(crate) fn into_parts(self) -> (SmallVec<ExprNode, 5, A>, SmallVec<usize, 5, A>)
+    pub(crate) fn into_parts(self) -> (SmallVec<ExprNode, 1, A>, SmallVec<usize, 4, A>)
         ensures nodes { result.0 ≡ self.entry.writer.nodes }
         ensures index { result.1 ≡ self.entry.writer.index }
     {

@@ -26,6 +26,10 @@ asked_at (node.Fn func len) place = []
 asked_at (node.Predicate predicate) place = place ∷ []
 asked_at (node.Literal truth) place = []
 
+-- with one more node
+abbrev pub with_node : ExprNode → Written → Written
+with_node written w = record w { nodes = w.nodes ++ written ∷ [] }
+
 -- with one more leaf
 abbrev pub with_leaf : ExprNode → Written → Written
 with_leaf leaf w = record w {
@@ -38,7 +42,7 @@ abbrev pub begun : ExprNode
 begun = node.Fn Not 0
 
 abbrev pub with_function : Written → Written
-with_function w = record w { nodes = w.nodes ++ begun ∷ [] }
+with_function w = with_node begun w
 
 -- with the list ended that began with so many predicates of outer lists: its own ones are asked
 abbrev pub with_list_ended : ℕ → Written → Written

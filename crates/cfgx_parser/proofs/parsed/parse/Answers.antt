@@ -9,13 +9,13 @@ use Rattle.cfgx_parser.proofs.parsed.parse.Goals as goal
 
 -- the parser starts at the text's start
 begins : (g : Over) (c : After-read_all g) → Begins {A = g.row.A.Denot} (strip c.args.original.now)
-    c.new-lexer.result c.in_ok-parser.parser
+    c.new-lexer.result c.new-parser.result
 begins g c = search rules
 
 pub returns-in_err-read_all : goal.returns-in_err-read_all
 returns-in_err-read_all g c =
-    let p = err_from_is_err_and c.from_residual-in_err-read_all.result
-    c.from_residual-in_err-read_all.ensures.1 in
+    let p = err_from_is_err_and c.from_residual.result
+    c.from_residual.ensures.1 in
     rw (p.1, p.2) (Answers-fails c.read_all.new.self c.in_err-read_all.field-0.0
     (begins g (goal.at.returns-in_err-read_all g c).After-read_all) c.in_err-read_all.ensures)
 
@@ -38,7 +38,3 @@ returns g c =
     ∙ ap (λ l. l.text) begun.lexer_is in
     let accepted = Accepted c.read_all.new.self begun c.in_ok-read_all.ensures in
     (same, accepted.1, accepted.2)
-
-pub returns-in_err-parser : goal.returns-in_err-parser
-returns-in_err-parser g c = Answers-memory (strip c.args.original.now) c.new-lexer.ensures.one _
-    c.from_residual.result c.from_residual.ensures.1

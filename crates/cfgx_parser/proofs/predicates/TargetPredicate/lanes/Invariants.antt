@@ -7,7 +7,7 @@ use Rattle.cfgx_parser.proofs.predicates.TargetPredicate.lanes.Given as goal
 abbrev pub invariant-loop-row : goal.invariant-loop-row
 invariant-loop-row g l =
     Added
-    (λ row. g.T.TargetMatcher.answer row (target_of l.self)) l.rows l.left l.is_true l.is_false
+    (λ row. g.T.TargetMatcher.answer row (target_of l.predicate)) l.rows l.left l.is_true l.is_false
 
 abbrev pub decreases-loop-row : goal.decreases-loop-row
 decreases-loop-row g l = length l.left
