@@ -1,13 +1,9 @@
 -- What a chain of calls says to a caller of `eval`.
-use Rattle.std.proofs.Common.{◌≡◌, ◌≤◌, ◌+◌, ℕ, min, suc, List, length, refl}
-use Rattle.std.proofs.Common.{ap, ◌∙◌, arith, sym}
-use Rattle.std.specs.Borrow.{MutBor}
-use Rattle.std.specs.List.{AllZip}
+use Rattle.std.proofs.Common.{◌≡◌, ◌≤◌, ◌+◌, ℕ, min, suc, List, length, refl, ap, ◌∙◌, arith, sym}
 use Rattle.std.proofs.lemmas.Slice.Zip.{AllZip-map}
+use Rattle.std.specs.{Borrow.MutBor, List.AllZip}
 use Rattle.cfgx_grammar.specs.Question.{Question}
-use Rattle.cfgx_grammar.specs.Answer.{HasOneTree}
-use Rattle.cfgx_grammar.specs.Tree.{asked}
-use Rattle.cfgx_grammar.specs.Fold.{Operations, fold}
+use Rattle.cfgx_grammar.specs.{Answer.HasOneTree, Tree.asked, Fold.Operations, Fold.fold}
 use Rattle.cfg_expr.specs.Asking.{AnswersBy, Asker, Asks, Calls}
 use Rattle.cfg_expr.specs.Evaluation.{Evaluates, IsValueBy}
 

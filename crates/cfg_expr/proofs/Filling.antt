@@ -1,11 +1,9 @@
 -- The pass over the nodes, and the places of the predicates, give the polar fillings.
 use Rattle.std.proofs.Common.{◌≡◌, ℕ, Bool, true, false, not, List, [], ◌∷◌, ◌++◌, length, map}
 use Rattle.std.proofs.Common.{replicate, Option, sym, refl, ap, ◌∙◌, append_assoc, unwrap_or}
-use Rattle.std.proofs.lemmas.Slice.Zip.{AllZip-map}
-use Rattle.std.proofs.lemmas.List.{append-nil, map-append}
-use Rattle.cfgx_grammar.specs.Question.{Question}
+use Rattle.std.proofs.{lemmas.Slice.Zip.AllZip-map, lemmas.List.append-nil, lemmas.List.map-append}
+use Rattle.cfgx_grammar.specs.{Question.Question, Fold.answered}
 use Rattle.cfgx_grammar.specs.Tree.{ListFunction, Tree, Trees, asked, count}
-use Rattle.cfgx_grammar.specs.Fold.{answered}
 use Rattle.cfgx_grammar.specs.Filling.{three_valued, filled, filled_each, polar}
 use Rattle.cfgx_grammar.proofs.Alike.{Alike, AlikeEach, answered-shape, asked-alike}
 use Rattle.cfgx_grammar.proofs.Dealing.{asked-answered}
@@ -13,8 +11,7 @@ use Rattle.cfgx_parser.specs.nodes.Prefix.{Node, list_func, prefix, prefix_each,
 use Rattle.cfgx_parser.specs.nodes.Shape.{Shape, shape, shape_of}
 use Rattle.cfgx_parser.specs.declared.nodes.ExprNode.{ExprNode}
 use Rattle.cfgx_parser.proofs.Shapes.{places-shape, shapes-shape}
-use Rattle.cfg_expr.specs.nodes.Parity.{turned, gone_over, pass, filled_at}
-use Rattle.cfg_expr.specs.nodes.Parity.{filled_by}
+use Rattle.cfg_expr.specs.nodes.Parity.{turned, gone_over, pass, filled_at, filled_by}
 use Rattle.cfg_expr.proofs.evaluated.Nodes.{read-mapped}
 
 -- the tree with each predicate's parity: whether it stands below an odd number of `not`

@@ -36,7 +36,7 @@ use std::alloc::{AllocError, Allocator, Global};
 use std::fmt;
 use std::marker::Model;
 
-/// A parsed condition, which is seen as its stripped text.
+/// A parsed condition. Contracts see it as its stripped text.
 #[derive(Drop)]
 pub struct Expression<A: Allocator = Global> {
     parsed: Parsed<A>,
@@ -156,9 +156,12 @@ impl<A: SmallAllocator> Expression<A> {
     /// `all` are joined by `and` to `top`, those of `any` by `or` to `bottom`: from the last back,
     /// the predicates and literals of the list, and then its functions.
     ///
+    /// `ep` must be callable on each predicate, in each state that the calls before leave it in.
     /// All memory is taken before the first question, and none if the text has at most 32 bytes.
-    /// The error is that `alloc` refused it; then `ep` is as it was. It must be callable on each
-    /// predicate, in each state that the calls before leave it in.
+    ///
+    /// # Errors
+    ///
+    /// `AllocError`: `alloc` refused memory. `ep` is as it was, so nothing was asked.
     pub fn eval<EP, T>(&self, alloc: A, ep: &mut EP) -> Result<T, AllocError>
     where
         EP: FnMut(&Predicate<'_>) -> T,

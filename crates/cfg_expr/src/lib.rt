@@ -1,4 +1,4 @@
-//! Rust `cfg()` expressions: reads them, and lists the predicates that they ask.
+//! Conditions of Rust's `#[cfg(..)]`: parses them, lists their predicates and evaluates them.
 #![tactic(auto)]
 
 pub mod error;

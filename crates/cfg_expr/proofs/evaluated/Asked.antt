@@ -1,8 +1,7 @@
 -- A closure that is asked one question after another.
 use Rattle.std.proofs.Common.{◌≡◌, ℕ, List, [], ◌∷◌, ◌++◌, refl, sym, ◌∙◌, append_assoc, arith}
 use Rattle.std.proofs.lemmas.List.{append-nil}
-use Rattle.cfgx_grammar.specs.Question.{Question}
-use Rattle.cfgx_grammar.specs.Tree.{Tree, asked}
+use Rattle.cfgx_grammar.specs.{Question.Question, Tree.Tree, Tree.asked}
 use Rattle.cfgx_parser.specs.nodes.Prefix.{places}
 use Rattle.cfg_expr.specs.Asking.{Asker, Asks, Calls, MayAsk, MayAskEach}
 use Rattle.cfg_expr.specs.declared.expr.evaluating.Member.{Member}

@@ -1,8 +1,7 @@
 -- Members that are joined from the last back.
-use Rattle.std.proofs.Common.{◌≡◌, ◌+◌, ◌<◌, ◌++◌, ℕ, Bool, true, false, List, [], ◌∷◌, length}
-use Rattle.std.proofs.Common.{map, take, drop, set, get_or, refl, sym, ap, ◌∙◌}
-use Rattle.std.proofs.Common.{append_assoc, arith, ◌||◌}
-use Rattle.std.proofs.Math.Seq.{get_or-append_seam}
+use Rattle.std.proofs.Common.{◌≡◌, ◌+◌, ◌<◌, ◌++◌, ℕ, Bool, true, false, List, [], ◌∷◌, length, map}
+use Rattle.std.proofs.Common.{take, drop, set, get_or, refl, sym, ap, ◌∙◌, append_assoc, arith}
+use Rattle.std.proofs.{Common.◌||◌, Math.Seq.get_or-append_seam}
 use Rattle.std.proofs.lemmas.List.{drop_more, length-take-le, set_at, take_more}
 use Rattle.cfgx_grammar.specs.Fold.{Operations, from_last}
 use Rattle.cfg_expr.specs.nodes.Reading.{Member, begin_of, join_of, join_value, value_in, values_in}

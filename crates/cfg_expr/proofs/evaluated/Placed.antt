@@ -2,16 +2,14 @@
 -- there as its nodes do.
 use Rattle.std.proofs.Common.{◌≡◌, ⊎_elim, ℕ, zero, suc, ◌+◌, ◌-◌, ◌<◌, List, [], ◌∷◌, ◌++◌, length}
 use Rattle.std.proofs.Common.{map, get_or, set, refl, sym, ap, ◌∙◌, arith}
-use Rattle.std.proofs.lemmas.Bool.{cases_eq, cases_lt}
-use Rattle.std.proofs.lemmas.List.{append-nil, ext_get_or, get_or-append_right}
-use Rattle.std.proofs.lemmas.List.{get_or-set_other, get_or_append_left, get_or_past, length-map}
-use Rattle.std.proofs.lemmas.List.{get_or-replicate, length-replicate, length-set, map-append}
-use Rattle.std.proofs.lemmas.Grind.{get_or-set_at}
+use Rattle.std.proofs.{lemmas.Bool.cases_eq, lemmas.Bool.cases_lt, lemmas.Grind.get_or-set_at}
+use Rattle.std.proofs.lemmas.List.{append-nil, ext_get_or, get_or-append_right, get_or-set_other}
+use Rattle.std.proofs.lemmas.List.{get_or_append_left, get_or_past, length-map, get_or-replicate}
+use Rattle.std.proofs.lemmas.List.{length-replicate, length-set, map-append}
 use Rattle.std.specs.List.{AllByRecursion}
 use Rattle.cfgx_grammar.specs.Tree.{Tree, Trees, is_function, is_leaf, asked}
 use Rattle.cfgx_grammar.specs.Fold.{Operations, answered}
-use Rattle.cfgx_grammar.proofs.Alike.{answered-shape}
-use Rattle.cfgx_grammar.proofs.Dealing.{asked-answered}
+use Rattle.cfgx_grammar.proofs.{Alike.answered-shape, Dealing.asked-answered}
 use Rattle.cfgx_parser.specs.nodes.Prefix.{Node, prefix, prefix_each, places, places_by}
 use Rattle.cfgx_parser.specs.nodes.Shape.{shape, shape_of}
 use Rattle.cfgx_parser.specs.declared.nodes.ExprNode.{ExprNode}

@@ -1,8 +1,7 @@
 -- The nodes of a tree whose leaves are answers, read from the last to the first, leave its value.
 use Rattle.std.proofs.Common.{◌≡◌, ◌+◌, ◌≤◌, ◌<◌, ◌++◌, ℕ, true, false, List, [], ◌∷◌, length, map}
 use Rattle.std.proofs.Common.{take, drop, get_or, suc, sym, refl, ap, ◌∙◌, arith, append_assoc, min}
-use Rattle.std.proofs.Common.{length-append}
-use Rattle.std.proofs.Math.Seq.{drop-append_seam, take-append_seam}
+use Rattle.std.proofs.{Common.length-append, Math.Seq.drop-append_seam, Math.Seq.take-append_seam}
 use Rattle.std.proofs.lemmas.List.{get_or-take, map-append, drop_more, take-take}
 use Rattle.cfgx_grammar.specs.Tree.{ListFunction, Tree, Trees, is_function, is_leaf, count}
 use Rattle.cfgx_grammar.specs.Fold.{Operations, constant, from_last, value_of, values_by}

@@ -1,6 +1,5 @@
 -- What follows of a closure that no call changes.
-use Rattle.std.proofs.Common.{sym}
-use Rattle.std.proofs.lemmas.Result.{IfOk-weaker}
+use Rattle.std.proofs.{Common.sym, lemmas.Result.IfOk-weaker}
 use Rattle.cfg_expr.proofs.Chains.{Evaluates-by}
 use Rattle.cfg_expr.proofs.expr.Expression.eval.Goals as goal
 

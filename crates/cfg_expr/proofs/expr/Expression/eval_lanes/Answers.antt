@@ -1,6 +1,5 @@
 -- The text has one tree, whose value is kept by each lane.
-use Rattle.std.proofs.Common.{◌∙◌, ap, sym}
-use Rattle.std.proofs.lemmas.Result.{IfOk-weaker}
+use Rattle.std.proofs.{Common.◌∙◌, Common.ap, Common.sym, lemmas.Result.IfOk-weaker}
 use Rattle.cfgx_syntax.specs.Kleene.{lane}
 use Rattle.cfgx_grammar.proofs.Mapping.{IsByLane-fold}
 use Rattle.cfg_expr.proofs.expr.Expression.eval_lanes.Goals as goal

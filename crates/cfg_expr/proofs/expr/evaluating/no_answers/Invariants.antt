@@ -4,5 +4,4 @@ use Rattle.cfg_expr.specs.nodes.Answers.{no_answers}
 use Rattle.cfg_expr.proofs.expr.evaluating.no_answers.Given as goal
 
 abbrev pub invariant-loop-place : goal.invariant-loop-place
-invariant-loop-place g l =
-    (l.slots.items ≡ no_answers l._place) × (l.count ≤ l.slots.capacity)
+invariant-loop-place g l = (l.slots.items ≡ no_answers l._place) × (l.count ≤ l.slots.capacity)

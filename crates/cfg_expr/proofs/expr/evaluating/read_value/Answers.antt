@@ -3,8 +3,7 @@ use Rattle.std.proofs.Common.{◌∙◌, [], ap, map}
 use Rattle.cfgx_grammar.specs.Fold.{answered}
 use Rattle.cfgx_parser.specs.nodes.Shape.{shape}
 use Rattle.cfg_expr.specs.nodes.Reading.{top_value, read}
-use Rattle.cfg_expr.proofs.evaluated.Placed.{read-placed}
-use Rattle.cfg_expr.proofs.evaluated.Read.{value-entry}
+use Rattle.cfg_expr.proofs.{evaluated.Placed.read-placed, evaluated.Read.value-entry}
 use Rattle.cfg_expr.proofs.expr.evaluating.read_value.Goals as goal
 
 pub returns : goal.returns

@@ -1,16 +1,7 @@
 -- The answers that the closure gave stand at the places of the text's one tree.
-use Rattle.std.proofs.Common.{◌∙◌, ap, length}
-use Rattle.std.proofs.lemmas.List.{length-replicate}
-use Rattle.cfg_expr.proofs.Chains.{Calls-length}
-use Rattle.cfg_expr.proofs.evaluated.Nodes.{shapes-kept}
+use Rattle.std.proofs.Common.{◌∙◌}
+use Rattle.cfg_expr.proofs.{Chains.Calls-length, evaluated.Nodes.shapes-kept}
 use Rattle.cfg_expr.proofs.expr.evaluating.value_of.Goals as goal
-
-pub ask_each-requires : goal.ask_each-requires
-ask_each-requires g c = c.requires
-
-pub read_value-requires : goal.read_value-requires
-read_value-requires g c = c.ask_each.auto.slots ∙ (ap length c.as_mut_slice-slots.ensures.value
-    ∙ (ap length c.in_ok-answers.ensures.slots ∙ length-replicate _ _))
 
 pub returns-clause-value : goal.returns-clause-value
 returns-clause-value g c =

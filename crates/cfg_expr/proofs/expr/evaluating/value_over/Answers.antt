@@ -1,14 +1,9 @@
 -- The answers that are given stand at the places of the text's one tree.
 use Rattle.std.proofs.Common.{◌∙◌, ap, length}
-use Rattle.std.proofs.lemmas.List.{length-replicate}
 use Rattle.cfgx_grammar.specs.Tree.{asked}
 use Rattle.cfg_expr.proofs.evaluated.Nodes.{shapes-kept}
 use Rattle.cfg_expr.proofs.expr.evaluating.value_over.Goals as goal
 use Rattle.cfgx_grammar.proofs.Answering.{only_tree}
-
-pub read_value-requires : goal.read_value-requires
-read_value-requires g c = c.put_each.auto.slots ∙ (ap length c.as_mut_slice-slots.ensures.value
-    ∙ (ap length c.in_ok-answers.ensures.slots ∙ length-replicate _ _))
 
 pub returns-clause-value : goal.returns-clause-value
 returns-clause-value g c =

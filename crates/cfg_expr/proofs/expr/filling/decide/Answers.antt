@@ -3,8 +3,7 @@ use Rattle.std.proofs.Common.{◌∙◌, Bool, ap, length, sym, true, false}
 use Rattle.cfgx_grammar.specs.Tree.{asked}
 use Rattle.cfgx_parser.proofs.Places.{length-places}
 use Rattle.cfgx_parser.specs.nodes.Prefix.{places}
-use Rattle.cfg_expr.proofs.Filling.{polar-kept}
-use Rattle.cfg_expr.proofs.evaluated.Nodes.{shapes-kept}
+use Rattle.cfg_expr.proofs.{Filling.polar-kept, evaluated.Nodes.shapes-kept}
 use Rattle.cfg_expr.proofs.expr.filling.decide.Goals as goal
 use Rattle.cfgx_grammar.proofs.Answering.{only_tree}
 

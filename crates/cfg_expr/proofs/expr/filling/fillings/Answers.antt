@@ -1,6 +1,5 @@
 -- Both fillings have one value more.
-use Rattle.std.proofs.Common.{arith}
-use Rattle.std.proofs.lemmas.Grind.{common_steps}
+use Rattle.std.proofs.{Common.arith, lemmas.Grind.common_steps}
 use Rattle.cfg_expr.proofs.expr.filling.fillings.Goals as goal
 
 pub loop-place-preserved : goal.loop-place-preserved
