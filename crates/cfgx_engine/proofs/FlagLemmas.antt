@@ -1,25 +1,18 @@
 -- The flags of words, one word after another.
 use Rattle.std.proofs.Common.{◌≡◌, ◌≢◌, ℕ, List, [], ◌∷◌, ◌++◌, None, Ok, Err, codes, map, refl, ap}
-use Rattle.std.proofs.Common.{◌<◌, ◌+◌, zero, suc, Bor, inl, inr, bytes_eq, length, get_or, take}
-use Rattle.std.proofs.Common.{arith}
-use Rattle.std.specs.List.{AllByRecursion}
+use Rattle.std.proofs.Common.{◌<◌, ◌+◌, zero, suc, Bor, bytes_eq, length, get_or, take, arith}
 use Rattle.std.proofs.lemmas.Bool.{false_from_ne_true}
-use Rattle.std.proofs.lemmas.List.{map-append, take_more}
+use Rattle.std.proofs.{lemmas.List.map-append, lemmas.List.take_more, lemmas.Option.IfSome_then}
 use Rattle.std.proofs.lemmas.List.Elements.{All-from_recursion, All-push, filter_map-append}
-use Rattle.std.proofs.lemmas.List.Elements.{recursion_from_All}
-use Rattle.std.proofs.lemmas.Slice.Eq.{bytes_eq-Decides}
+use Rattle.std.proofs.{lemmas.List.Elements.recursion_from_All, lemmas.Slice.Eq.bytes_eq-Decides}
+use Rattle.std.specs.List.{AllByRecursion}
 use Rattle.cfgx_syntax.specs.Stripping.{strip}
-use Rattle.cfgx_syntax.specs.Error.{Fault}
-use Rattle.cfgx_syntax.specs.declared.error.Failure.{Failure}
-use Rattle.cfgx_grammar.specs.Question.{Question}
-use Rattle.cfgx_grammar.specs.Tree.{Tree}
-use Rattle.cfgx_grammar.specs.Answer.{HasOneTree}
+use Rattle.cfgx_syntax.specs.{Error.Fault, Error.failure_of, declared.error.Failure.Failure}
+use Rattle.cfgx_grammar.specs.{Question.Question, Tree.Tree, Answer.HasOneTree}
 use Rattle.cfgx_engine.specs.Answer.{AddsFlag, AreFlags, Fails}
 use Rattle.cfgx_engine.specs.Flags.{flag_text, unknown_text}
 use Rattle.cfgx_engine.specs.Readings.{GivesAll, ParsesAs}
-use Rattle.cfgx_engine.specs.Request.{texts}
-use Rattle.cfgx_engine.specs.declared.engine.flags.Flags.{Flags}
-use Rattle.cfgx_engine.proofs.OutputLemmas.{Fails-weaker}
+use Rattle.cfgx_engine.specs.{Request.texts, declared.engine.flags.Flags.Flags}
 
 -- a word that begins with no `?` names true predicates
 pub unknown_text-unmarked : (word : List ℕ) → ((rest : List ℕ) → word ≢ 63 ∷ rest)
@@ -36,7 +29,7 @@ pub trees_of : (flags : List (List ℕ))
 trees_of [] each = ([], refl)
 trees_of (flag ∷ flags) each =
     let others = trees_of flags each.1 in
-    (each.0.tree ∷ others.0, (each.0.reads, others.1))
+    (each.0.tree ∷ others.0, (Ok each.0.tree, each.0.reads, (Ok others.0, others.1, refl)))
 
 -- the fault of a word is the first, if the words in front of it have a tree each
 GivesAll-later : (words : List (Bor (List ℕ))) (i : ℕ) (d : Bor (List ℕ)) (fault : Fault)
@@ -45,9 +38,10 @@ GivesAll-later : (words : List (Bor (List ℕ))) (i : ℕ) (d : Bor (List ℕ)) 
     → ParsesAs (flag_text (get_or words i d).now) (Err fault)
     → GivesAll ParsesAs (map flag_text (texts words)) (Err fault)
 GivesAll-later [] i d fault below each reads = absurd (omega arith)
-GivesAll-later (word ∷ words) zero d fault below each reads = inl reads
+GivesAll-later (word ∷ words) zero d fault below each reads = (Err fault, reads, refl)
 GivesAll-later (word ∷ words) (suc i) d fault below each reads =
-    inr (each.0.tree, each.0.reads, GivesAll-later words i d fault (omega arith) each.1 reads)
+    let rest = GivesAll-later words i d fault (omega arith) each.1 reads in
+    (Ok each.0.tree, each.0.reads, (Err fault, rest, refl))
 
 module _ {A : Type 0} where
   -- one word more
@@ -71,5 +65,5 @@ module _ {A : Type 0} where
       → AllByRecursion (λ flag. HasOneTree (strip (flag_text flag))) (texts (take i words))
       → Fails (λ fault. ParsesAs (flag_text (get_or words i d).now) (Err fault)) failed
       → Fails (λ fault. GivesAll ParsesAs (map flag_text (texts words)) (Err fault)) failed
-  Fails-later words i d failed below each =
-      Fails-weaker _ _ failed (λ fault. GivesAll-later words i d fault below each)
+  Fails-later words i d failed below each fails = IfSome_then (failure_of failed) fails
+      (λ fault. GivesAll-later words i d fault below each)

@@ -3,12 +3,9 @@ use Rattle.std.proofs.Common.{sym, ◌≡◌, ◌++◌, ◌<◌, ℕ, Bool, List
 use Rattle.std.proofs.Common.{None, Ok, arith, length-append, append-nil, le-ltb, lt-ltb}
 use Rattle.std.specs.Io.KnownBytes.{Consumes, IsAtEnd, Keeps}
 use Rattle.cfgx_grammar.specs.Question.{Question}
-use Rattle.cfgx_engine.specs.Answer.{PicksFrom}
+use Rattle.cfgx_engine.specs.{Answer.PicksFrom, Output.Output, declared.engine.reading.Input.Input}
 use Rattle.cfgx_engine.specs.Input.{ReadsInput, input_limit}
-use Rattle.cfgx_engine.specs.Output.{Output}
-use Rattle.cfgx_engine.specs.Prints.{PicksInput, Prints, PrintsInput}
-use Rattle.cfgx_engine.specs.Request.{Request}
-use Rattle.cfgx_engine.specs.declared.engine.reading.Input.{Input}
+use Rattle.cfgx_engine.specs.{Prints.PicksInput, Prints.Prints, Prints.PrintsInput, Request.Request}
 use Rattle.cfgx_engine.specs.declared.engine.reading.Input.TheVariants as input
 
 -- what was read is a front of what a source holds, if it tells its bytes, and all of it at the end

@@ -1,15 +1,12 @@
 -- Rows of targets, whatever allocator their texts would be owned in.
-use Rattle.std.proofs.Common.{◌≡◌, arith, ℕ, Bool, List, [], ◌∷◌, Option, map, find}
-use Rattle.std.proofs.Common.{option_map, bytes_eq, refl, ap, sym, ◌∙◌}
+use Rattle.std.proofs.Common.{◌≡◌, arith, ℕ, Bool, List, [], ◌∷◌, Option, map, find, option_map}
+use Rattle.std.proofs.Common.{bytes_eq, refl, ap, sym, ◌∙◌}
 use Rattle.std.proofs.Math.Path.{fun_ext}
 use Rattle.std.specs.declared.alloc.Global.{Global}
 use Rattle.cfgx_targets.specs.Builtins.{builtin_rows}
-use Rattle.cfgx_targets.specs.Table.{row_with}
-use Rattle.cfgx_targets.specs.declared.info.TargetInfo.{TargetInfo}
-use Rattle.cfgx_grammar.specs.Question.{TargetQuestion}
-use Rattle.cfgx_grammar.specs.Matching.{meets}
-use Rattle.cfgx_engine.specs.Output.{answer_on}
-use Rattle.cfgx_engine.specs.Verdicts.{answer_by}
+use Rattle.cfgx_targets.specs.{Table.row_with, declared.info.TargetInfo.TargetInfo}
+use Rattle.cfgx_grammar.specs.{Question.TargetQuestion, Matching.meets}
+use Rattle.cfgx_engine.specs.{Output.answer_on, Verdicts.answer_by}
 
 -- the same target as one whose texts would be owned in `Global`
 abbrev pub same_row : {A : Type 0} → TargetInfo A → TargetInfo Global

@@ -1,26 +1,18 @@
 -- What the lines of sections print, one after another.
-use Rattle.std.proofs.Common.{◌≡◌, ◌≤◌, ℕ, ◌+◌, Bool, true, false, List, [], ◌∷◌, ◌++◌, length}
-use Rattle.std.proofs.Common.{map, refl, ap}
-use Rattle.std.proofs.Common.{sym, inl, inr, Option, Some, None, Result, Ok, Err, append_assoc}
+use Rattle.std.proofs.Common.{◌≡◌, ◌≤◌, ℕ, ◌+◌, Bool, true, false, List, [], ◌∷◌, ◌++◌, length, map}
+use Rattle.std.proofs.Common.{refl, ap, sym, Option, Some, None, Result, Ok, Err, append_assoc}
 use Rattle.std.proofs.lemmas.Iterator.{YieldsList}
 use Rattle.std.specs.List.{concat, enumerate_from}
-use Rattle.std.specs.Prelude.{string_bytes}
-use Rattle.std.specs.Str.Iter.{split_steps}
-use Rattle.std.specs.Str.Lines.{strip_carriage_return}
-use Rattle.std.specs.Str.Pattern.{FindsChar}
-use Rattle.std.specs.declared.str.Split.{Split}
-use Rattle.cfgx_grammar.specs.Question.{Question}
-use Rattle.cfgx_grammar.specs.Tree.{Tree}
-use Rattle.cfg_expr.specs.Deciding.{IsDecision}
-use Rattle.cfg_expr.specs.declared.expr.Decision.{Decision}
+use Rattle.std.specs.{Prelude.string_bytes, Str.Iter.split_steps, Str.Lines.strip_carriage_return}
+use Rattle.std.specs.{Str.Pattern.FindsChar, declared.str.Split.Split}
+use Rattle.cfgx_grammar.specs.{Question.Question, Tree.Tree}
+use Rattle.cfg_expr.specs.{Deciding.IsDecision, declared.expr.Decision.Decision}
 use Rattle.cfg_expr.specs.declared.expr.Decision.TheVariants as decision
 use Rattle.cfgx_engine.specs.Answer.{Tells, decision_text}
-use Rattle.cfgx_engine.specs.declared.engine.sections.LineError.{LineError}
-use Rattle.cfgx_engine.specs.declared.engine.sections.LineError.TheVariants as line_error
-use Rattle.cfgx_engine.specs.Input.{input_limit}
-use Rattle.cfgx_engine.specs.Output.{Output, faulty_output}
-use Rattle.cfgx_engine.specs.Readings.{GivesAll}
+use Rattle.cfgx_engine.specs.{declared.engine.sections.LineError.LineError, Input.input_limit}
+use Rattle.cfgx_engine.specs.{Output.Output, Output.faulty_output, Readings.GivesAll}
 use Rattle.cfgx_engine.specs.Sections.{Line, PrintsLine, PrintsLines, line_of, verdict_lines}
+use Rattle.cfgx_engine.specs.declared.engine.sections.LineError.TheVariants as line_error
 
 -- what the lines from a number on print, after what the front has written
 abbrev pub rest_output : List ℕ → Result (List (List ℕ)) (List ℕ) → Output
@@ -45,15 +37,16 @@ module _ (answer : Question → Option Bool) (number : ℕ) (line : Line) {piece
       (front ++ text) shown
       → PrintsRest answer number (map line_of (map strip_carriage_return pieces)) front shown
   PrintsRest-more shown prints (Ok printed, rest, is) =
-      rw are (Ok (text ∷ printed), (rw is_line at prints, rest), rw append_assoc at is)
+      let one = rw is_line at prints in
+      rw are (Ok (text ∷ printed), (Ok text, one, (Ok printed, rest, refl)), rw append_assoc at is)
   PrintsRest-more shown prints (Err telling, rest, is) =
-      rw are (Err telling, inr (text, rw is_line at prints, rest), is)
+      rw are (Err telling, (Ok text, rw is_line at prints, (Err telling, rest, refl)), is)
 
   -- the line is faulty
   pub PrintsRest-told : (shown : Output) → PrintsLine answer (number, line) (Err text)
       → shown ≡ faulty_output text
       → PrintsRest answer number (map line_of (map strip_carriage_return pieces)) front shown
-  PrintsRest-told shown prints is = rw are (Err text, inl (rw is_line at prints), is)
+  PrintsRest-told shown prints is = rw are (Err text, (Err text, rw is_line at prints, refl), is)
 
 -- all lines print what is left after nothing
 pub PrintsLines-rest : (answer : Question → Option Bool) (lines : List Line) (shown : Output)

@@ -1,10 +1,7 @@
 -- Verdicts by their values.
-use Rattle.std.proofs.Common.{ℕ, Bool, true, false, List, Option, map, ap}
-use Rattle.std.proofs.Common.{arith, sym, ◌∙◌}
+use Rattle.std.proofs.Common.{ℕ, Bool, true, false, List, Option, map, ap, arith, sym, ◌∙◌}
 use Rattle.std.proofs.lemmas.List.{length-map}
-use Rattle.cfgx_grammar.specs.Question.{TargetQuestion}
-use Rattle.cfgx_grammar.specs.Tree.{asked}
-use Rattle.cfgx_grammar.specs.Filling.{three_valued}
+use Rattle.cfgx_grammar.specs.{Question.TargetQuestion, Tree.asked, Filling.three_valued}
 use Rattle.cfgx_grammar.proofs.Exactness.{IsExact-fold}
 use Rattle.cfg_expr.specs.Evaluation.{IsValueBy}
 use Rattle.cfgx_engine.specs.Verdicts.{answer_by, verdict_of, IsVerdict}

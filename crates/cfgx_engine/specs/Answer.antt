@@ -1,14 +1,13 @@
 -- What the engine's own types stand for, and what its private functions give.
 use Rattle.std.specs.Prelude.{◌≡◌, ℕ, List, [], ◌∷◌, ◌++◌, Bool, Option, Result, Ok}
-use Rattle.std.specs.Prelude.{Err, map, Some, None, length, string_bytes, ◌≤◌}
+use Rattle.std.specs.Prelude.{Err, map, Some, None, length, string_bytes, ◌≤◌, IfSome, IsSomeAnd}
 use Rattle.std.specs.Bool.{MatchBool}
 use Rattle.std.specs.Str.{is_utf8}
 use Rattle.std.specs.Cow.{cow_slice_items}
 use Rattle.std.specs.List.{AllByRecursion}
 use Rattle.cfgx_syntax.specs.Stripping.{strip}
-use Rattle.cfgx_syntax.specs.Error.{Fault, fault_of}
+use Rattle.cfgx_syntax.specs.Error.{Fault, failure_of}
 use Rattle.cfgx_syntax.specs.declared.error.Failure.{Failure}
-use Rattle.cfgx_syntax.specs.declared.error.Failure.TheVariants as failure
 use Rattle.cfgx_grammar.specs.Answer.{HasOneTree}
 use Rattle.cfgx_grammar.specs.Question.{Question}
 use Rattle.cfgx_grammar.specs.Tree.{asked}
@@ -21,7 +20,7 @@ use Rattle.cfgx_engine.specs.Prints.{not_utf8, too_long}
 use Rattle.cfgx_engine.specs.Readings.{GivesAll, ParsesAs}
 use Rattle.cfgx_engine.specs.Request.{Request, texts}
 use Rattle.cfgx_engine.specs.Sections.{Line, PrintsLine, PrintsLines, line_of}
-use Rattle.cfgx_engine.specs.Sections.{line_fault, lines_of, verdict_lines, verdict_text}
+use Rattle.cfgx_engine.specs.Sections.{lines_of, verdict_lines, verdict_text}
 use Rattle.cfgx_engine.specs.declared.engine.answer.Answer.{Answer}
 use Rattle.cfgx_engine.specs.declared.engine.command.Command.{Command}
 use Rattle.cfgx_engine.specs.declared.engine.command.Command.TheVariants as command
@@ -47,24 +46,21 @@ output_of answer = record { bytes = cow_slice_items answer.bytes; status = answe
 
 -- the output of a fault; a call out of memory has none
 abbrev pub ShowsFailure : {A : Type 0} → Failure A → Output → Type 0
-ShowsFailure (failure.Parse error) output = output ≡ fault_output (fault_of error)
-ShowsFailure (failure.Memory error) output = ⊥
+ShowsFailure failed output = IsSomeAnd (failure_of failed) (λ fault. output ≡ fault_output fault)
 
 -- the output of a value, or of a failure
 abbrev pub ShowsResult : {A : Type 0} → Result (Option Bool) (Failure A) → Output → Type 0
 ShowsResult (Ok value) output = output ≡ value_output value
 ShowsResult (Err failed) output = ShowsFailure failed output
 
+-- this holds of the fault; out of memory nothing is said
+abbrev pub Fails : {A : Type 0} → (Fault → Type 0) → Failure A → Type 0
+Fails Fits failed = IfSome (failure_of failed) Fits
+
 -- this holds of the value, or of the fault in its place; out of memory nothing is said
 abbrev pub FitsResult : {T A : Type 0} → (Result T Fault → Type 0) → Result T (Failure A) → Type 0
 FitsResult Fits (Ok value) = Fits (Ok value)
-FitsResult Fits (Err (failure.Parse error)) = Fits (Err (fault_of error))
-FitsResult Fits (Err (failure.Memory error)) = Unit {0}
-
--- this holds of the fault; out of memory nothing is said
-abbrev pub Fails : {A : Type 0} → (Fault → Type 0) → Failure A → Type 0
-Fails Fits (failure.Parse error) = Fits (fault_of error)
-Fails Fits (failure.Memory error) = Unit {0}
+FitsResult Fits (Err failed) = Fails (λ fault. Fits (Err fault)) failed
 
 -- the flag of a word, whose text has one tree, is added to the flags of its kind
 pub record AddsFlag {A : Type 0} (word : List ℕ) (old new : Flags A) : Type 0 where
@@ -116,11 +112,6 @@ AddsVerdict row condition old new = (one : HasOneTree condition)
 abbrev pub AddsLine : (Question → Option Bool) → ℕ → Line → List ℕ → List ℕ → Type 0
 AddsLine answer number line old new =
     (written : List ℕ) × PrintsLine answer (number, line) (Ok written) × (new ≡ old ++ written)
-
--- this is the message for the line with this number, whose condition has a fault
-abbrev pub TellsFault : ℕ → List ℕ → List ℕ → Type 0
-TellsFault number condition told =
-    (fault : Fault) × ParsesAs condition (Err fault) × (told ≡ line_fault number fault)
 
 -- this holds of the message of a fault; out of memory nothing is said
 abbrev pub Tells : {A : Type 0} → (List ℕ → Type 0) → LineError A → Type 0

@@ -1,6 +1,6 @@
 -- What a text reads as after its outer `cfg( )` is taken off, and what a list of items gives.
 -- Source of the rules: docs/RULES.md.
-use Rattle.std.specs.Prelude.{◌≡◌, ◌⊎◌, ℕ, List, [], ◌∷◌, Result, Ok, Err}
+use Rattle.std.specs.Prelude.{◌≡◌, ℕ, List, [], ◌∷◌, Result, Ok, Err, MatchResult}
 use Rattle.cfgx_syntax.specs.Stripping.{strip}
 use Rattle.cfgx_syntax.specs.Error.{Fault, Refusal, fault_in}
 use Rattle.cfgx_grammar.specs.Question.{Question}
@@ -13,12 +13,15 @@ ParsesAs text (Ok tree) = ReadsAs (strip text) (Ok tree)
 ParsesAs text (Err fault) = (refusal : Refusal) × ReadsAs (strip text) (Err refusal)
     × (fault ≡ fault_in (strip text) refusal)
 
+-- a value in front of others, or the error in their place
+abbrev pub value_then : {T E : Type 0} → T → Result (List T) E → Result (List T) E
+value_then value (Ok values) = Ok (value ∷ values)
+value_then value (Err error) = Err error
+
 -- each item gives its value, in order; or the first item that gives no value gives this error
 abbrev pub GivesAll : {X T E : Type 0} → (X → Result T E → Type 0) → List X → Result (List T) E
     → Type 0
 GivesAll Gives [] result = result ≡ Ok []
-GivesAll Gives (item ∷ others) (Ok []) = ⊥
-GivesAll Gives (item ∷ others) (Ok (value ∷ values)) =
-    Gives item (Ok value) × GivesAll Gives others (Ok values)
-GivesAll {T = T} Gives (item ∷ others) (Err error) = Gives item (Err error)
-    ⊎ ((value : T) × Gives item (Ok value) × GivesAll Gives others (Err error))
+GivesAll {T = T} {E} Gives (item ∷ others) result = (first : Result T E) × Gives item first
+    × MatchResult first (λ value. (rest : Result (List T) E) × GivesAll Gives others rest
+    × (result ≡ value_then value rest)) (λ error. result ≡ Err error)

@@ -24,16 +24,20 @@ use std::alloc::Allocator;
 use streams::write_whole;
 pub use streams::{Counted, Sink, Source};
 
-/// The status of a run that is out of memory, or of which a read, a write or a flush failed.
+/// The status of a run that is out of memory, or in which a read, a write or a flush failed.
 const REFUSED: u8 = 3;
 
-/// Runs the command that the words ask for, and answers the status with which the program ends.
+/// Runs the command that `words` ask for, which are the arguments after the program's name, and
+/// returns the exit status. `docs/RULES.md` has the rules.
 ///
-/// `words` are those after the program's name. What is written is made in memory whole before its
-/// first byte goes out; the usage line takes no memory. Status 0 says that it is done, 1 that a
-/// text or the input is faulty, 2 wrong use or a triple that is not built in, and 3 that it is out
-/// of memory or that a call of the reader or writer failed. No failed call is tried again. Both
-/// streams must count fewer than `u64::MAX` failed calls. The rules are in `docs/RULES.md`.
+/// - 0: the whole output was written.
+/// - 1: a text or the input is faulty, and the fault was written.
+/// - 2: wrong use, or a triple that is not built in.
+/// - 3: out of memory, or a call of the reader or the writer failed.
+///
+/// The output is complete in memory before the first `write`, except the usage line, which takes no
+/// memory. The first failed call ends the run. Both streams must count fewer than `u64::MAX` failed
+/// calls.
 pub fn run<A: SmallAllocator, R: Source, W: Sink>(
     alloc: A,
     words: &[&str],

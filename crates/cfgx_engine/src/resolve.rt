@@ -17,12 +17,12 @@ use cfg_expr::memory::SmallAllocator;
 use cfg_expr::{Decision, Expression, Predicate};
 use std::alloc::{AllocError, Allocator, Global};
 
-/// A section, which is taken if its condition is true.
+/// A section of a manifest, which counts if its condition is true.
 #[derive_where(Debug)]
 pub struct Section<A: SmallAllocator = Global> {
     /// Its name
     pub name: String<A>,
-    /// What it is taken under
+    /// Its condition
     pub condition: Expression<A>,
 }
 
@@ -44,7 +44,7 @@ pub enum Verdict {
     Yes,
     /// It is not, whatever else holds
     No,
-    /// That rests on predicates that are not on the target
+    /// This depends on predicates that are not on the target
     Unknown,
 }
 
@@ -62,14 +62,14 @@ fn answer_by<M: TargetMatcher, A: Allocator>(
     }
 }
 
-/// What a matcher answers to a predicate, which is let go.
+/// What a matcher answers to a predicate, which is dropped.
 fn taken_answer<M: TargetMatcher>(matcher: &M, predicate: Predicate<'_>) -> Option<bool>
     ensures { result ≡ answer_by (M.answer matcher.now) (question_of predicate.entry) }
 {
     answer_by(matcher, &predicate)
 }
 
-/// Puts what a matcher answers to each predicate, in order, in the place of the answers.
+/// Replaces `answers` by what the matcher answers to each predicate, in order.
 fn answer_each<A: SmallAllocator, M: TargetMatcher>(
     matcher: &M,
     predicates: Predicates<'_>,
@@ -85,11 +85,11 @@ fn answer_each<A: SmallAllocator, M: TargetMatcher>(
     Ok(())
 }
 
-/// What `decide` of a condition answers over what the matcher answers, which is asked once for each
-/// predicate on the target. Every other predicate is unknown.
+/// What `decide` of a condition answers over the answers of a matcher. The matcher is asked once
+/// for each predicate on the target; every other predicate is unknown.
 ///
-/// These answers, one for each predicate in order, are put in the place of what `answers` held. So
-/// one vector does for many conditions.
+/// The call replaces what `answers` held by these answers, one for each predicate in order. So one
+/// vector does for many conditions.
 ///
 /// # Errors
 ///

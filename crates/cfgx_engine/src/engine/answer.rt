@@ -1,4 +1,4 @@
-// What a run of the program writes, made in memory whole.
+// The output of a run, which is built in memory.
 
 ghost use Rattle.std.specs.Prelude.{◌≡◌, ◌+◌, ◌<◌, [], IfOk, IsOk, string_bytes};
 ghost use Rattle.cfgx_engine.specs.Answer.{output_of, IsShort, PicksFrom, ShowsFailure};
@@ -66,7 +66,7 @@ impl<A: Allocator> Answer<A> {
         }
     }
 
-    /// What tells of a fault.
+    /// The output that reports a fault.
     pub(super) fn faulty(text: String<A>) -> Self
         ensures { output_of result ≡ record { bytes = string_bytes text; status = 1 } }
     {
@@ -77,7 +77,7 @@ impl<A: Allocator> Answer<A> {
     }
 }
 
-/// The answer to the words. `pick` alone reads, and that if the table has its triple. Wrong use
+/// The answer to the words. Only `pick` reads, and only if the table has its triple. Wrong use
 /// takes no memory.
 pub(super) fn answer_to<A: SmallAllocator, R: Source>(
     alloc: A,

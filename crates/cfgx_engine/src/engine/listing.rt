@@ -24,7 +24,7 @@ pub(super) fn lines<A: SmallAllocator>(
     Ok(written)
 }
 
-/// Adds a predicate's line, and lets go of the predicate.
+/// Adds a predicate's line, and drops the predicate.
 fn push_next<A: Allocator>(
     written: &mut Vec<u8, A>,
     predicate: Predicate<'_>,

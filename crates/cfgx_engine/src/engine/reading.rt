@@ -75,10 +75,13 @@ fn read_once<R: Source>(reader: &mut R, bytes: &mut [u8], filled: usize) -> Opti
 
 /// Reads a source to its end.
 ///
-/// It answers all the bytes, or that the input is too long once one byte more than 16,777,216 was
-/// read. The error is that it is out of memory, or that a call of the source failed; no call is
-/// made after it. What was read stays read in each case. The source must count fewer than
-/// `u64::MAX` failed calls.
+/// Returns all the bytes, or that the input is too long, once it has read one byte more than
+/// 16,777,216. What was read stays read in every case. The source must count fewer than `u64::MAX`
+/// failed calls.
+///
+/// # Errors
+///
+/// `Memory`: out of memory. `Device`: a call of the source failed, and none was made after it.
 pub fn read_input<A: Allocator, R: Source>(alloc: A, reader: &mut R) -> Result<Input<A>, Stop>
     requires { R.failures reader.old < u64.MAX }
     ensures count { R.failures reader.new ≡ R.failures reader.old + stop_failures result }

@@ -1,13 +1,11 @@
 // The sections of an input, a line each, and what the verdicts on them print.
 
-ghost use Rattle.std.specs.Prelude.{◌≡◌, ◌≤◌, ◌++◌, Err, IfErr, IfOk, OnOk, length, map};
-ghost use Rattle.std.specs.Prelude.{string_bytes};
+ghost use Rattle.std.specs.Prelude.{◌≡◌, ◌≤◌, ◌++◌, Err, IfErr, IfOk, OnErr, OnOk, length, map};
+ghost use Rattle.std.specs.Prelude.{IsSomeAnd, string_bytes};
 ghost use Rattle.std.specs.Str.Lines.{strip_carriage_return};
-ghost use Rattle.cfgx_syntax.specs.Error.{fault_of};
-ghost use Rattle.cfgx_syntax.specs.Stripping.{strip};
-ghost use Rattle.cfgx_grammar.specs.Answer.{HasOneTree};
+ghost use Rattle.cfgx_syntax.specs.Error.{failure_of};
 ghost use Rattle.cfgx_engine.specs.Answer.{AddsLine, AddsVerdict, Tells, decision_text, line_view};
-ghost use Rattle.cfgx_engine.specs.Answer.{output_of, TellsFault};
+ghost use Rattle.cfgx_engine.specs.Answer.{output_of};
 ghost use Rattle.cfgx_engine.specs.Input.{input_limit};
 ghost use Rattle.cfgx_engine.specs.Output.{answer_on, faulty_output};
 ghost use Rattle.cfgx_engine.specs.Sections.{PrintsLine, PrintsLines, digits, filling_line};
@@ -15,7 +13,7 @@ ghost use Rattle.cfgx_engine.specs.Sections.{line_fault, line_of, lines_of};
 
 use super::answer::Answer;
 use crate::resolve::decide_on;
-use cfg_expr::error::{Failure, ParseError};
+use cfg_expr::error::Failure;
 use cfg_expr::memory::SmallAllocator;
 use cfg_expr::targets::TargetInfo;
 use cfg_expr::{Decision, Expression};
@@ -24,7 +22,7 @@ use std::alloc::{AllocError, Allocator};
 /// Why a line prints nothing.
 #[derive(Drop)]
 enum LineError<A: Allocator> {
-    /// It is faulty: what tells of it
+    /// It is faulty: the message
     Faulty(String<A>),
     /// It is out of memory
     Memory(AllocError),
@@ -135,34 +133,18 @@ fn push_section<A: SmallAllocator>(
     push_decision(&decision, written)
 }
 
-/// What tells of a fault on the line with this number.
-fn told_fault<A: Allocator>(
+/// The message of the line with this number, whose condition is not read for this reason.
+fn told_failure<A: Allocator>(
     alloc: A,
     number: usize,
-    error: &ParseError<A>,
+    failure: Failure<A>,
 ) -> Result<String<A>, AllocError>
-    ensures { IfOk result (λ told. string_bytes told ≡ line_fault number (fault_of error.now)) }
+    ensures { IfOk result (λ told. IsSomeAnd (failure_of failure) (λ fault.
+        string_bytes told ≡ line_fault number fault)) }
 {
-    let told = format!(in alloc; "line {number}:\n{error}\n")?;
-    Ok(told)
-}
-
-/// The condition on the line with this number.
-fn read_condition<A: SmallAllocator>(
-    alloc: A,
-    number: usize,
-    text: &str,
-) -> Result<Expression<A>, LineError<A>>
-    ensures ok { IfOk result (λ read. (read ≡ strip text.now) × HasOneTree (strip text.now)) }
-    ensures err { IfErr result (Tells (TellsFault number text.now)) }
-{
-    match Expression::parse(alloc, text) {
-        Ok(condition) => Ok(condition),
-        Err(Failure::Parse(error)) => {
-            let told = told_fault(alloc, number, &error)?;
-            Err(LineError::Faulty(told))
-        }
-        Err(Failure::Memory(error)) => Err(LineError::Memory(error)),
+    match failure {
+        Failure::Parse(error) => Ok(format!(in alloc; "line {number}:\n{error}\n")?),
+        Failure::Memory(error) => Err(error),
     }
 }
 
@@ -186,11 +168,10 @@ fn push_line<A: SmallAllocator>(
             let told = format!(in alloc; "line {number}: no tab\n")?;
             Err(LineError::Faulty(told))
         }
-        Line::Section { name, condition } => {
-            let condition = read_condition(alloc, number, condition)?;
-            push_section(alloc, row, name, &condition, answers, written)?;
-            Ok(())
-        }
+        Line::Section { name, condition } => match Expression::parse(alloc, condition) {
+            Ok(condition) => Ok(push_section(alloc, row, name, &condition, answers, written)?),
+            Err(failure) => Err(LineError::Faulty(told_failure(alloc, number, failure)?)),
+        },
     }
 }
 
@@ -217,7 +198,7 @@ fn push_lines<A: SmallAllocator>(
     Ok(written)
 }
 
-/// What the sections of the text print, or what tells of the fault of the first faulty line.
+/// What the sections of the text print, or the message of the first faulty line.
 pub(super) fn sections_answer<A: SmallAllocator>(
     alloc: A,
     row: &TargetInfo<'_, A>,

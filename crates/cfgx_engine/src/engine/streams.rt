@@ -54,8 +54,8 @@ pub trait Sink {
         ensures bound { WritesAtMost result bytes.now }
         ensures bytes { WriteAppends (written self.old) (written self.new) result bytes.now };
 
-    /// Sends on what the sink holds back. An error counts as a failed call. What was written stays
-    /// as it was.
+    /// Passes on what the sink has buffered. An error counts as a failed call. The bytes written so
+    /// far stay the same.
     fn flush(&mut self) -> io::Result<()>
         requires { failures self.old < u64.MAX }
         ensures count { failures self.new ≡ failures self.old + failures_of result }
@@ -164,12 +164,12 @@ impl<S: io::Write> Sink for Counted<S> {
     }
 }
 
-/// Writes all the bytes, in as many calls of `write` as the sink needs, and then flushes once. It
-/// answers whether all went out.
+/// Writes all the bytes, in as many calls of `write` as the sink needs, and then flushes once.
+/// Returns whether no call failed.
 ///
-/// If there is nothing to write, no `write` is made, but the flush is. The first failed call ends
-/// it: no call is tried again, an interrupted one neither. What was written then is a beginning of
-/// the bytes. The sink must count fewer than `u64::MAX` failed calls.
+/// If there is nothing to write, it only flushes. The first failed call ends it, also one that was
+/// only interrupted; a beginning of the bytes was written then. The sink must count fewer than
+/// `u64::MAX` failed calls.
 pub fn write_whole<W: Sink>(sink: &mut W, bytes: &[u8]) -> bool
     requires { W.failures sink.old < u64.MAX }
     ensures count { W.failures sink.new ≡ W.failures sink.old + (if result then 0 else 1) }

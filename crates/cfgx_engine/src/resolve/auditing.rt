@@ -14,8 +14,8 @@ use cfg_expr::memory::SmallAllocator;
 use cfg_expr::{Expression, Predicate};
 use std::alloc::{AllocError, Allocator};
 
-/// What each target answers to a predicate, which is let go. Of predicates that are not on the
-/// target none knows anything.
+/// What each target answers to a predicate, which is dropped. Predicates that are not on the target
+/// are unknown to all of them.
 fn lanes_of<M: TargetMatcher>(predicate: Predicate<'_>, targets: &[M]) -> Kleene64
     requires { length targets.now ≤ 64 }
     ensures { InLanes M.answer targets.now (question_of predicate.entry) result }

@@ -1,7 +1,5 @@
-use Rattle.cfgx_engine.specs.Output.{HasValue}
-use Rattle.cfgx_engine.specs.Request.{texts}
-use Rattle.cfgx_engine.proofs.OutputLemmas.{result_output-shown}
-use Rattle.cfgx_engine.proofs.PickLemmas.{PrintsInput-any}
+use Rattle.cfgx_engine.specs.{Output.HasValue, Request.texts}
+use Rattle.cfgx_engine.proofs.{OutputLemmas.result_output-shown, PickLemmas.PrintsInput-any}
 use Rattle.cfgx_engine.proofs.engine.answer.answer_to.Goals as goal
 
 pub returns-in_ok-parse_answer-in-Parse-clause-right

@@ -1,6 +1,4 @@
-use Rattle.std.proofs.Common.{refl, sym}
-use Rattle.std.proofs.lemmas.List.{take_all}
-use Rattle.std.proofs.lemmas.List.Elements.{All-more}
+use Rattle.std.proofs.{Common.refl, Common.sym, lemmas.List.take_all, lemmas.List.Elements.All-more}
 use Rattle.cfgx_parser.specs.Predicate.{question_of}
 use Rattle.cfgx_engine.specs.Flags.{Names}
 use Rattle.cfgx_engine.proofs.engine.flags.is_named.Goals as goal

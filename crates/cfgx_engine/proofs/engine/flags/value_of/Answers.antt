@@ -1,31 +1,29 @@
 -- Each call answers as the flags do, and leaves them.
-use Rattle.std.proofs.Common.{◌≡◌, ◌∷◌, ap, inl, inr, refl, rules, Ok, Err}
-use Rattle.std.proofs.lemmas.Result.{err_from_is_err_and}
+use Rattle.std.proofs.Common.{◌≡◌, ◌∷◌, ap, refl, rules, Ok, Err}
+use Rattle.std.proofs.{lemmas.Option.IfSome_then, lemmas.Result.err_from_is_err_and}
 use Rattle.cfg_expr.proofs.Chains.{Calls-AllZip}
 use Rattle.cfgx_parser.specs.Predicate.{question_of}
 use Rattle.cfgx_engine.specs.Flags.{IsAnswer, known_texts, unknown_texts}
-use Rattle.cfgx_engine.specs.Output.{HasValue}
-use Rattle.cfgx_engine.specs.Request.{texts}
-use Rattle.cfgx_engine.proofs.FlagLemmas.{trees_of}
-use Rattle.cfgx_engine.proofs.OutputLemmas.{Fails-parse, FitsResult-failed}
+use Rattle.cfgx_engine.specs.{Output.HasValue, Request.texts}
+use Rattle.cfgx_engine.proofs.{FlagLemmas.trees_of, OutputLemmas.Fails-parse}
 use Rattle.cfgx_engine.proofs.engine.flags.value_of.Goals as goal
 
 pub returns-in_err-expression : goal.returns-in_err-expression
 returns-in_err-expression g c =
     let p = err_from_is_err_and c.from_residual.result c.from_residual.ensures.1 in
-    rw (p.1, p.2) (FitsResult-failed {A = g.row.A.Denot}
-    (HasValue c.args.text.now (texts c.args.words.now)) _ _
-    (λ fault reads. (Err fault, inl reads, refl))
-    (Fails-parse {A = g.row.A.Denot} c.args.text.now _ c.in_err-expression.ensures))
+    let Valued = HasValue c.args.text.now (texts c.args.words.now) in
+    rw (p.1, p.2) (IfSome_then _ {Q = λ fault. Valued (Err fault)}
+    (Fails-parse {A = g.row.A.Denot} c.args.text.now _ c.in_err-expression.ensures)
+    (λ fault reads. (Err fault, (Err fault, reads, refl), refl)))
 
 pub returns-in_err-flags : goal.returns-in_err-flags
 returns-in_err-flags g c =
     let p = err_from_is_err_and c.from_residual-in_err-flags.result
     c.from_residual-in_err-flags.ensures.1 in
     let one = c.in_ok-expression.ensures.2 in
-    rw (p.1, p.2) (FitsResult-failed {A = g.row.A.Denot}
-    (HasValue c.args.text.now (texts c.args.words.now)) _ _
-    (λ fault gives. (Err fault, inr (one.tree, one.reads, gives), refl)) c.in_err-flags.ensures)
+    let Valued = HasValue c.args.text.now (texts c.args.words.now) in
+    rw (p.1, p.2) (IfSome_then _ {Q = λ fault. Valued (Err fault)} c.in_err-flags.ensures
+    (λ fault gives. (Err fault, (Ok one.tree, one.reads, (Err fault, gives, refl)), refl)))
 
 pub returns : goal.returns
 returns g c =
@@ -42,6 +40,6 @@ returns g c =
     (rw (← are.known_are, ← are.unknown_are, ← holds, ← asks.shows) answers, search rules))
     _ _ _ _ (refl {a = c.in_ok-flags.flags}) evaluates.calls in (
       Ok (evaluates.one.tree ∷ trees.0),
-      (evaluates.one.reads, trees.1),
+      (Ok evaluates.one.tree, evaluates.one.reads, (Ok trees.0, trees.1, refl)),
       (evaluates.answers, answered, ap Ok evaluates.value_is),
     )

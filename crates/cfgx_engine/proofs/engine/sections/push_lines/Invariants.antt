@@ -1,5 +1,4 @@
-use Rattle.cfgx_engine.specs.Output.{answer_on}
-use Rattle.cfgx_engine.specs.Sections.{lines_of}
+use Rattle.cfgx_engine.specs.{Output.answer_on, Sections.lines_of}
 use Rattle.cfgx_engine.proofs.SectionLemmas.{Left}
 use Rattle.cfgx_engine.proofs.engine.sections.push_lines.Given as goal
 

@@ -1,7 +1,6 @@
 -- The verdicts in the lanes are those on the targets.
 use Rattle.std.proofs.Common.{◌∙◌, ap, length}
-use Rattle.std.proofs.lemmas.Result.{on_ok_weaker}
-use Rattle.std.proofs.lemmas.Slice.Zip.{AllZip-long}
+use Rattle.std.proofs.{lemmas.Result.on_ok_weaker, lemmas.Slice.Zip.AllZip-long}
 use Rattle.cfgx_grammar.specs.Tree.{asked}
 use Rattle.cfgx_grammar.proofs.Alike.{AllZip-append}
 use Rattle.cfgx_engine.specs.Auditing.{InLanes}

@@ -1,8 +1,6 @@
 use Rattle.std.proofs.Common.{None, Some, append-nil, arith, sym}
-use Rattle.std.proofs.lemmas.Result.{err_from_is_err_and}
-use Rattle.std.proofs.lemmas.Str.Pattern.{strip_prefix_char}
-use Rattle.cfgx_engine.proofs.FlagLemmas.{unknown_text-unmarked}
-use Rattle.cfgx_engine.proofs.OutputLemmas.{Fails-parse}
+use Rattle.std.proofs.{lemmas.Result.err_from_is_err_and, lemmas.Str.Pattern.strip_prefix_char}
+use Rattle.cfgx_engine.proofs.{FlagLemmas.unknown_text-unmarked, OutputLemmas.Fails-parse}
 use Rattle.cfgx_engine.proofs.engine.flags.Flags.add.Goals as goal
 
 -- the text after a `?` is the flag's

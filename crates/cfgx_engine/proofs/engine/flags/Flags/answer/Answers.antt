@@ -1,8 +1,7 @@
 use Rattle.cfgx_engine.proofs.engine.flags.Flags.answer.Goals as goal
 
 pub returns-then-is_named : goal.returns-then-is_named
-returns-then-is_named g c =
-    rw c.as_slice.ensures.value at (c.is_named.ensures.0 c.if-is_named.true)
+returns-then-is_named g c = rw c.as_slice.ensures.value at (c.is_named.ensures.0 c.if-is_named.true)
 
 pub returns-then-is_named-2 : goal.returns-then-is_named-2
 returns-then-is_named-2 g c =
