@@ -1,0 +1,37 @@
+//! Whether each text of the command line is a condition, and where it is at fault.
+use std::env::args;
+
+/// `struct cfgx_fault` of `cfgx.h`.
+#[repr(C)]
+#[derive(Default)]
+struct Fault {
+    offset: usize,
+    start: usize,
+    end: usize,
+    members: usize,
+    reason: u32,
+}
+
+extern "C" {
+    fn cfgx_check(text: *const u8, text_length: usize, fault: *mut Fault) -> u32;
+}
+
+/// What is said of a text.
+fn told(text: &str) -> String {
+    let mut fault = Fault::default();
+    // The pointer and the length are those of a text, and no other pointer leads to the fault.
+    match unsafe { cfgx_check(text.as_ptr(), text.len(), &mut fault) } {
+        0 => "a condition".to_string(),
+        1 => {
+            let span = fault.offset + fault.start..fault.offset + fault.end;
+            format!("reason {} at {span:?}", fault.reason)
+        }
+        status => format!("status {status}"),
+    }
+}
+
+fn main() {
+    for text in args().skip(1) {
+        println!("{text}: {}", told(&text));
+    }
+}

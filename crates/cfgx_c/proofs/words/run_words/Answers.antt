@@ -1,0 +1,22 @@
+-- The output is that of the words, or that of wrong use if they are not UTF-8.
+use Rattle.std.proofs.Common.{◌∙◌}
+use Rattle.std.proofs.lemmas.Bool.{false_from_ne_true}
+use Rattle.std.proofs.lemmas.Str.{IsUtf8-from_is_utf8, is_utf8-from_IsUtf8}
+use Rattle.cfgx_engine.specs.Request.{Request, request_of, texts}
+use Rattle.cfgx_c.proofs.Told.{told}
+use Rattle.cfgx_c.proofs.words.run_words.Goals as goal
+
+pub returns-in_default-clause-done : goal.returns-in_default-clause-done
+returns-in_default-clause-done c not =
+    let none = false_from_ne_true _ (λ utf8.
+    c.in_default.ensures.cases.0 (IsUtf8-from_is_utf8 _ utf8)) in
+    rw (none, c.from.ensures) (told Request.wrong_use (rw c.requires.0 at
+    (c.run.ensures.done (λ is. not (c.from.ensures ∙ is)))))
+
+pub returns-clause-done : goal.returns-clause-done
+returns-clause-done c not =
+    let cases = c.in-Ok.ensures.cases in
+    let words = rw (cases.0, ← c.as_slice.ensures.value) at c.in-Ok-words_of.ensures in
+    rw (is_utf8-from_IsUtf8 _ cases.1, ← words, c.from-2.ensures)
+    (told (request_of (texts c.as_slice.result.now)) (rw c.requires.0 at
+    (c.run-2.ensures.done (λ is. not (c.from-2.ensures ∙ is)))))

@@ -1,0 +1,16 @@
+-- What was pushed are the words that the text is split into.
+use Rattle.std.proofs.Common.{◌∙◌, ap, arith}
+use Rattle.std.proofs.lemmas.Iterator.Consumers.{YieldsList-at, YieldsList-end}
+use Rattle.std.proofs.lemmas.Iterator.Splits.{YieldsList-from_str_split}
+use Rattle.cfgx_engine.specs.Request.{texts}
+use Rattle.cfgx_c.proofs.words.words_of.Goals as goal
+
+pub returns : goal.returns
+returns c =
+    let split = c.split-word-items.ensures in
+    let yields = YieldsList-at c.into_iter-word-iterator.ensures.into_iter_gives
+    (YieldsList-from_str_split 0 c.args.text.now (omega arith) split.text split.has_more
+    split.pattern) in
+    let all = YieldsList-end yields c.loop-word.yielded _ c.loop-word.yielded_by _ _ c.in-None.is
+    c.next.ensures.steps in
+    ap texts c.loop-word.invariant ∙ all.0

@@ -1,0 +1,41 @@
+-- What a call of `cfgx_check` tells of a fault.
+-- Source: c/cfgx.h.
+use Rattle.std.specs.Prelude.{ℕ, List, codes, nat_eq, ◌&&◌, if◌then◌else◌}
+use Rattle.std.specs.List.{starts_with, ends_with}
+use Rattle.cfgx_syntax.specs.Error.{Cause, Refusal}
+use Rattle.cfgx_c.specs.declared.fault.Fault.{Fault}
+
+-- the number of a reason, in the order in which `Reason` has them
+abbrev pub number_of : Cause → ℕ
+number_of (Cause.invalid_not members) = 1
+number_of Cause.invalid_characters = 2
+number_of Cause.unclosed_parens = 3
+number_of Cause.unopened_parens = 4
+number_of Cause.unclosed_quotes = 5
+number_of Cause.unopened_quotes = 6
+number_of Cause.empty = 7
+number_of (Cause.unexpected terms) = 8
+number_of Cause.invalid_integer = 9
+number_of Cause.multiple_root_predicates = 10
+number_of Cause.invalid_has_atomic = 11
+number_of Cause.unknown_builtin = 12
+
+-- how many members a `not` has that is at fault for it, and 0 for every other reason
+abbrev pub members_of : Cause → ℕ
+members_of (Cause.invalid_not members) = members
+members_of cause = 0
+
+-- where in a text the stripped text begins: behind `cfg(` if that is taken off
+abbrev pub offset_of : List ℕ → ℕ
+offset_of text =
+    if starts_with nat_eq text (codes "cfg(") && ends_with nat_eq text (codes ")") then 4 else 0
+
+-- what is told of the fault of a text, once that is stripped
+abbrev pub told_of : List ℕ → Refusal → Fault
+told_of text refusal = record {
+  offset = offset_of text;
+  start = refusal.start;
+  end = refusal.end;
+  members = members_of refusal.cause;
+  reason = number_of refusal.cause;
+}

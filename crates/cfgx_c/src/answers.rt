@@ -1,0 +1,64 @@
+// Answers and values as bytes.
+
+ghost use Rattle.std.specs.Prelude.{◌≡◌, IfOk, drop, map};
+ghost use Rattle.cfgx_grammar.specs.Answer.{HasOneTree};
+ghost use Rattle.cfgx_grammar.specs.Filling.{three_valued};
+ghost use Rattle.cfgx_grammar.specs.Fold.{fold};
+ghost use Rattle.cfgx_grammar.specs.Given.{AreAnswersTo};
+ghost use Rattle.cfgx_grammar.specs.Tree.{asked};
+ghost use Rattle.cfgx_c.specs.Value.{answer_of, byte_of, first_answer};
+
+use cfg_expr::{Expression, Predicate};
+use std::alloc::{AllocError, Global};
+
+/// The byte that stands for a value.
+pub(crate) fn byte_of(value: Option<bool>) -> u8
+    ensures { result ≡ byte_of value }
+{
+    match value {
+        Some(false) => 0,
+        Some(true) => 1,
+        None => 2,
+    }
+}
+
+/// The answer that a byte stands for.
+fn answer_of(byte: u8) -> Option<bool>
+    ensures { result ≡ answer_of byte }
+{
+    match byte {
+        0 => Some(false),
+        1 => Some(true),
+        _ => None,
+    }
+}
+
+/// The first of the answers that are left, which is taken off them, and unknown if none is left.
+fn take_answer(left: &mut &[u8]) -> Option<bool>
+    ensures answer { result ≡ first_answer left.old.now }
+    ensures rest { left.new.now ≡ drop 1 left.old.now }
+{
+    let Some((first, others)) = left.split_first() else {
+        return None;
+    };
+    *left = others;
+    answer_of(*first)
+}
+
+/// The value of a condition over these answers.
+pub(crate) fn value_over(
+    alloc: Global,
+    condition: &Expression,
+    answers: &[u8],
+) -> Result<Option<bool>, AllocError>
+    requires { AreAnswersTo answers.now condition.now }
+    ensures { IfOk result (λ value. (one : HasOneTree condition.now)
+        × (value ≡ fold three_valued one.tree (map answer_of answers.now))) }
+{
+    let mut left = answers;
+    let value = condition.eval(
+        alloc,
+        &mut |_predicate: &Predicate<'_>| take_answer(&mut left),
+    )?;
+    Ok(value)
+}
