@@ -2,7 +2,7 @@
 //! damaged conditions, and characters in any order. What is accepted prints, spells and evaluates
 //! as it has to, and what is refused has a fault in the text, which prints.
 //!
-//! What is dear to prove where it goes out of scope is dropped by name.
+//! Values whose drop takes long to prove at the end of a scope are dropped by name.
 mod agreeing;
 mod making;
 mod numbers;

@@ -5,10 +5,14 @@
 #[cfg(test)]
 mod alike;
 #[cfg(test)]
+mod asking;
+#[cfg(test)]
 mod deep;
 #[cfg(test)]
 mod generated;
 #[cfg(test)]
 mod input;
+#[cfg(test)]
+mod many;
 #[cfg(test)]
 mod one_by_one;

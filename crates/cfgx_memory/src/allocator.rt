@@ -14,20 +14,27 @@ fn is_filled(heap: &Refusing<Global>) -> Result<bool, AllocError> {
     Ok(bytes.len() == 100)
 }
 
+// How many growths of the list are refused in turn, until a turn has too few for the next refusal.
+fn refused_growths(heap: &Refusing<Global>) -> Option<u64> {
+    for n in 1..=100u64 {
+        heap.refuse(n);
+        let is_filled = holds(is_filled(heap));
+        if is_filled == heap.has_refused() {
+            return None;
+        }
+        if is_filled {
+            return Some(n.saturating_sub(1));
+        }
+    }
+    None
+}
+
 #[test]
 fn each_growth_is_refused_in_turn(rt: HostRuntime) {
     let heap = Refusing::new(rt.alloc());
-    let mut refused = 0u64;
-    for n in 1..=100 {
-        heap.refuse(n);
-        if holds(is_filled(&heap)) {
-            break;
-        }
-        assert!(rt; heap.has_refused(), "growth {n}");
-        refused = n;
-    }
-    assert!(rt; !heap.has_refused());
-    assert!(rt; refused >= 3, "{refused} growths");
+    let refused = refused_growths(&heap);
+    drop(heap);
+    assert!(rt; refused.unwrap_or(0) >= 3);
 }
 
 // Whether the second growth from now is refused, leaves the list as it was, and is not refused
@@ -42,15 +49,22 @@ fn is_refused_the_second(heap: &Refusing<Global>) -> Result<bool, AllocError> {
     Ok(was_ahead && is_refused && stays && bytes.as_slice() == [7, 8].as_slice())
 }
 
+// Whether nothing is refused but the growth that is to be.
+fn refuses_only_one(heap: &Refusing<Global>) -> bool {
+    let was_filled = heap.has_refused() && holds(is_filled(heap));
+    heap.refuse(2);
+    let is_one = holds(is_refused_the_second(heap));
+    heap.refuse(1);
+    heap.refuse(0);
+    was_filled && is_one && holds(is_filled(heap))
+}
+
 #[test]
 fn only_one_growth_is_refused(rt: HostRuntime) {
     let heap = Refusing::new(rt.alloc());
-    assert!(rt; heap.has_refused() && holds(is_filled(&heap)));
-    heap.refuse(2);
-    assert!(rt; holds(is_refused_the_second(&heap)));
-    heap.refuse(1);
-    heap.refuse(0);
-    assert!(rt; holds(is_filled(&heap)));
+    let is_one = refuses_only_one(&heap);
+    drop(heap);
+    assert!(rt; is_one);
 }
 
 // Whether a block is known to be out if its list is forgotten, and to be back if it is dropped.

@@ -1,5 +1,7 @@
 //! Values and fillings worked out by hand, as rows.
-use crate::answers::{Answer, answer_of};
+use crate::answers::{Answer, agree, answer_of};
+use crate::holding::holds;
+use cfg_expr::{Decision, Expression};
 use std::alloc::{AllocError, Global};
 
 /// A text, the answers in the order of the questions, and the value if it is known, or else the
@@ -72,4 +74,53 @@ pub fn are_told(with_true: &[bool], with_false: &[bool], told: &str) -> bool {
         Some((one, other)) => has_digits(with_true, one) && has_digits(with_false, other),
         None => false,
     }
+}
+
+// Whether `polar_fillings` answers what a row tells.
+fn has_fillings(
+    alloc: Global,
+    expression: &Expression,
+    answers: &[Answer],
+    told: &str,
+) -> Result<bool, AllocError> {
+    if expression.predicates().left() != answers.len() {
+        return Ok(false);
+    }
+    let found = expression.polar_fillings(alloc, answers)?;
+    Ok(match &found {
+        Some((one, other)) => are_told(one.as_slice(), other.as_slice(), told),
+        None => !told.contains(' '),
+    })
+}
+
+// Whether `decide` answers what a row tells.
+fn is_decided(
+    alloc: Global,
+    expression: &Expression,
+    answers: &[Answer],
+    told: &str,
+) -> Result<bool, AllocError> {
+    if expression.predicates().left() != answers.len() {
+        return Ok(false);
+    }
+    let decision = expression.decide(alloc, answers)?;
+    Ok(match &decision {
+        Decision::Known(value) => told == if *value { "true" } else { "false" },
+        Decision::Unknown { if_true, if_false } => {
+            are_told(if_true.as_slice(), if_false.as_slice(), told)
+        }
+    })
+}
+
+/// Whether a row tells what the text is over these answers, of which there are as many as
+/// predicates, by each call.
+pub fn is_told(alloc: Global, text: &str, digits: &str, told: &str) -> Option<bool> {
+    let answers = answers_of(alloc, digits).ok()?;
+    let expression = Expression::parse(alloc, text).ok()?;
+    let answers = answers.as_slice();
+    Some(
+        agree(alloc, &expression, answers, told.parse().ok())
+            && holds(has_fillings(alloc, &expression, answers, told))
+            && holds(is_decided(alloc, &expression, answers, told)),
+    )
 }

@@ -13,7 +13,7 @@ pub fn holds<E: Drop>(answer: Result<bool, E>) -> bool {
 
 /// Whether this is the value, if there is no error.
 ///
-/// A value is dear to drop in a proof if its type is known. Here it is not.
+/// The proof of a drop takes long if the type of the value is known. Here it is not.
 pub fn gives<T: PartialEq + Drop, E: Drop>(answer: Result<T, E>, wanted: &T) -> Result<bool, E> {
     Ok(answer? == *wanted)
 }

@@ -76,8 +76,8 @@ fn text_of(alloc: Global, field: &str) -> Option<String> {
     String::from_str(alloc, field).ok()
 }
 
-// The texts that the fields of a row stand for, or nothing if one has no meaning.
-fn fields_of(alloc: Global, row: &str) -> Option<Vec<String>> {
+/// The texts that the fields of a row stand for, or nothing if one has no meaning.
+pub fn fields_of(alloc: Global, row: &str) -> Option<Vec<String>> {
     let mut fields = Vec::new(alloc);
     for field in row.split(" | ") {
         fields.push(text_of(alloc, field)?).ok()?;

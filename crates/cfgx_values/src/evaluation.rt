@@ -1,4 +1,3 @@
 //! Values of conditions, and the fillings that show why they are unknown.
-mod decisions;
 mod fillings;
 mod logics;

@@ -1,5 +1,4 @@
 //! Targets: their fields, rows and tables, and what they say of conditions.
-mod asking;
 mod conditions;
 mod fields;
 mod hashing;

@@ -1,8 +1,5 @@
-//! The rules of texts: a file for each heading of `docs/RULES.md`, and `pages` for its tables.
+//! The rules of texts: what their rows are checked for.
 mod definitions;
-mod faults;
-mod grammar;
-mod neighbours;
 mod order;
 mod pages;
 mod predicates;
@@ -12,37 +9,9 @@ mod stripping;
 mod tokens;
 
 use cfgx_testing::holding::holds;
-use cfgx_testing::rows::{Checked, check_tables, has_fault};
+use cfgx_testing::rows::has_fault;
 use cfgx_testing::streams::is_answer;
 use std::alloc::Global;
-
-const TABLES: &[Checked<'static>] = &[
-    ("fault", stripping::FAULTS, 6),
-    ("fault", tokens::FAULTS, 21),
-    ("fault", neighbours::FAULTS, 26),
-    ("fault", predicates::FAULTS, 50),
-    ("fault", faults::AT_A_PAREN, 10),
-    ("fault", faults::CUT_SHORT, 15),
-    ("fault", faults::NO_ROOT_OR_SEVERAL, 13),
-    ("predicates", tokens::WHITE_SPACE, 7),
-    ("predicates", grammar::LISTS_WITH_COMMAS, 29),
-    ("predicates", predicates::VALUES, 33),
-    ("predicates", predicates::LITERALS, 8),
-    ("predicates", order::INNER_LISTS_FIRST, 13),
-    ("stripped text", stripping::ORIGINALS, 12),
-    ("equality", stripping::PAIRS, 3),
-    ("items", tokens::ITEMS, 12),
-    ("type", predicates::TYPED, 17),
-    ("calls", order::CALLS, 2),
-    ("nodes", order::NODES, 5),
-    ("reason", printing::REASONS, 15),
-    ("what a fault prints", printing::PRINTED, 11),
-    ("spelling", spelling::ROWS, 18),
-    ("long spelling", spelling::LONG, 12),
-    ("fault of the page", pages::FAULTS, 29),
-    ("spelling of the page", pages::SPELLINGS, 19),
-    ("pick of the page", pages::PICKED, 6),
-];
 
 /// Whether `parse` prints these predicates, which a line feed divides.
 pub(crate) fn is_accepted(alloc: Global, text: &str, predicates: &str) -> bool {
@@ -50,6 +19,18 @@ pub(crate) fn is_accepted(alloc: Global, text: &str, predicates: &str) -> bool {
     match format!(in alloc; "{predicates}{end}") {
         Ok(written) => is_answer(alloc, &["parse", text], 0, written.as_str()),
         Err(_) => false,
+    }
+}
+
+// Whether what has no row is as it has to be.
+fn passes_alone(alloc: Global, name: &str) -> bool {
+    match name {
+        "equality of reasons" => printing::are_reasons_equal(),
+        "equality of faults" => holds(printing::are_faults_equal(alloc)),
+        "failure" => holds(printing::is_failure(alloc)),
+        "flag" => spelling::is_flag_spelled(alloc),
+        "debug" => holds(stripping::is_debug(alloc)),
+        _ => false,
     }
 }
 
@@ -82,8 +63,10 @@ fn passes_three(alloc: Global, check: &str, one: &str, other: &str, third: &str)
     }
 }
 
-fn passes(alloc: Global, check: &str, row: &[String]) -> bool {
+/// Whether the row passes the check of this name.
+pub(crate) fn passes(alloc: Global, check: &str, row: &[String]) -> bool {
     match row {
+        [name] if check == "alone" => passes_alone(alloc, name.as_str()),
         _ if check == "items" => tokens::has_items(alloc, row),
         [one, other] => passes_two(alloc, check, one.as_str(), other.as_str()),
         [one, other, third] => {
@@ -91,10 +74,4 @@ fn passes(alloc: Global, check: &str, row: &[String]) -> bool {
         }
         _ => false,
     }
-}
-
-#[test]
-fn rows_pass_their_checks(rt: HostRuntime) -> Result<(), String> {
-    let alloc = rt.alloc();
-    check_tables(alloc, TABLES, |check, row| passes(alloc, check, row))
 }

@@ -60,10 +60,12 @@ large | 1 | ~k~5000~
 large | 1 | ~k~100000~
 large | 50000 | any(~a,~50000~)
 large | 1 | ~not(~50000~a~)~50000~
-// To parse a text, its copy takes one growth, and from 48 bytes on the nodes take another.
+// To parse a text, its copy takes one growth, and the nodes take another from the second one on.
 parsed in 1 | 1 | ~k~1~
-parsed in 1 | 1 | ~k~47~
-parsed in 2 | 1 | ~k~48~
+parsed in 1 | 1 | ~k~48~
+parsed in 2 | 1 | not(a)
+parsed in 2 | 3 | all(a, b, c)
+parsed in 2 | 3 | any(~target_os = "a",~3~)
 "#;
 
 /// What parsing answers.
@@ -361,5 +363,5 @@ fn is_row(alloc: Global, fields: &[String]) -> bool {
 #[test]
 fn each_growth_of_each_call_is_refused(rt: HostRuntime) -> Result<(), String> {
     let alloc = rt.alloc();
-    check_rows(alloc, TEXTS, 42, |row| is_row(alloc, row))
+    check_rows(alloc, TEXTS, 44, |row| is_row(alloc, row))
 }

@@ -1,27 +1,33 @@
 //! An input that is read whole: the room doubles, from 64 KiB on, and every byte is given back.
 use super::Finding;
 use cfgx_engine::engine::{Input, Stop, read_input};
-use cfgx_testing::heap::{Heap, empty_heap, growths, has_every_block};
+use cfgx_testing::heap::{empty_heap, growths, has_every_block};
+use cfgx_testing::holding::holds;
 use cfgx_testing::streams::Pieces;
 use std::alloc::{AllocError, Allocator, Global};
 
 // Whether these bytes were read.
-fn is_read<A: Allocator>(answer: Result<Input<A>, Stop>, bytes: &[u8]) -> bool {
-    matches!(&answer, Ok(Input::Bytes(read)) if read.as_slice() == bytes)
+fn is_read<A: Allocator>(answer: Result<Input<A>, Stop>, bytes: &[u8]) -> Finding {
+    match &answer {
+        Ok(Input::Bytes(read)) => Ok(read.as_slice() == bytes),
+        Err(Stop::Memory) => Err(AllocError),
+        _ => Ok(false),
+    }
 }
 
 // Reads the bytes. Out of memory, no call of the source has failed, and what was read stays read:
 // reading again gives what follows it.
-fn reads(alloc: Global, heap: Heap<'_>, bytes: &[u8]) -> Finding {
+fn reads<A: Allocator>(out: Global, alloc: A, bytes: &[u8]) -> Finding {
     let mut source = Pieces::new(bytes, 65_536, 0);
-    let answer = read_input(heap, &mut source);
+    let answer = is_read(read_input(alloc, &mut source), bytes);
     let left = source.left;
-    if !matches!(answer, Err(Stop::Memory)) {
-        Ok(is_read(answer, bytes) && left.is_empty())
-    } else if source.failures == 0
-        && bytes.ends_with(left)
-        && is_read(read_input(alloc, &mut source), left)
-    {
+    if let Ok(is_whole) = answer {
+        return Ok(is_whole && left.is_empty());
+    }
+    if source.failures > 0 || !bytes.ends_with(left) {
+        return Ok(false);
+    }
+    if holds(is_read(read_input(out, &mut source), left)) {
         Err(AllocError)
     } else {
         Ok(false)
@@ -41,11 +47,16 @@ fn each_growth_of_an_input_is_refused(rt: HostRuntime) {
     }
 }
 
-// Whether the failed read of this number is answered, and gives back the bytes that were read.
+// Whether the failed read of this number is answered.
+fn is_stopped<A: Allocator>(alloc: A, failing_read: u64) -> bool {
+    let mut source = Pieces::new(b"0123456789", 3, failing_read);
+    matches!(read_input(alloc, &mut source), Err(Stop::Device))
+}
+
+// Whether it is, and gives back the bytes that were read.
 fn is_given_back(alloc: Global, failing_read: u64) -> bool {
     let heap = empty_heap(alloc);
-    let mut source = Pieces::new(b"0123456789", 3, failing_read);
-    let is_stopped = matches!(read_input(&heap, &mut source), Err(Stop::Device));
+    let is_stopped = is_stopped(&heap, failing_read);
     is_stopped && has_every_block(heap)
 }
 

@@ -87,14 +87,20 @@ without | 3 | eval | a
 without | 3 | target | nowhere | )
 "#;
 
-// Whether a run with no memory at all ends with this status, and writes what that says.
+// Whether a run ends with this status, and writes what that says.
+fn ends<A: SmallAllocator>(out: Global, alloc: A, words: &[&str], status: u8) -> bool {
+    let mut sink = Recorder::new(out);
+    let ended = run(alloc, words, &mut Ended, &mut sink);
+    let written = if status == 2 { USAGE } else { "" };
+    ended == status && sink.bytes.as_slice() == written.as_bytes()
+}
+
+// Whether it does with no memory at all.
 fn is_without(alloc: Global, words: &[&str], status: u8) -> bool {
     let heap = empty_heap(alloc);
     heap.refuse(EVERY);
-    let mut sink = Recorder::new(alloc);
-    let ended = run(&heap, words, &mut Ended, &mut sink);
-    let written = if status == 2 { USAGE } else { "" };
-    ended == status && sink.bytes.as_slice() == written.as_bytes() && has_every_block(heap)
+    let has_ended = ends(alloc, &heap, words, status);
+    has_ended && has_every_block(heap)
 }
 
 // Whether a run that is made so ends so.

@@ -3,14 +3,14 @@ use super::{Finding, Made};
 use cfg_expr::error::HasAtomicParseError as NoWidth;
 use cfg_expr::memory::SmallAllocator;
 use cfg_expr::targets::{
-    Families, HasAtomic, HasAtomicFailure, HasAtomics, TargetInfo, TargetTable,
+    Families, Family, HasAtomic, HasAtomicFailure, HasAtomics, TargetInfo, TargetTable,
 };
 use cfgx_fields::Field;
 use cfgx_testing::heap::{empty_heap, has_every_block, is_refused_in_turns};
 use cfgx_testing::holding::{gives, holds, prints};
 use cfgx_testing::rows::check_pairs;
 use cfgx_testing::texts::repeated;
-use std::alloc::{AllocError, Global};
+use std::alloc::{AllocError, Allocator, Global};
 use std::fmt::Display;
 use std::test::Fail;
 
@@ -49,12 +49,28 @@ fn owned<'a, K, A: SmallAllocator>(alloc: A, text: &str) -> Made<Field<'a, K, A>
     Ok(Field::new(String::from_str(alloc, text)?))
 }
 
-// A list of families that own these texts, which spaces divide.
+// Adds what was made. Its type is not known here, which makes its drop short to prove.
+fn push<T: Drop, A: Allocator>(list: &mut Vec<T, A>, made: Made<T>) -> Made<()> {
+    list.push(made?)?;
+    Ok(())
+}
+
+// Adds a family that owns its text for each of the texts, which spaces divide.
+fn push_families<'a, A: SmallAllocator + 'a>(
+    alloc: A,
+    families: &mut Vec<Family<'a, A>, A>,
+    names: &str,
+) -> Made<()> {
+    for name in names.split(' ') {
+        push(families, owned(alloc, name))?;
+    }
+    Ok(())
+}
+
+// A list of families that own these texts.
 fn families<'a, A: SmallAllocator + 'a>(alloc: A, names: &str) -> Made<Families<'a, A>> {
     let mut families = Vec::new(alloc);
-    for name in names.split(' ') {
-        families.push(owned(alloc, name)?)?;
-    }
+    push_families(alloc, &mut families, names)?;
     Families::new(alloc, families.into_iter())
 }
 

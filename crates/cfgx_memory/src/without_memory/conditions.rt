@@ -1,4 +1,7 @@
 //! Conditions that are asked, compared, printed, spelled and evaluated, and the logics.
+//!
+//! A function takes the heap that it has refuse, and as any allocator what it calls with. Both are
+//! the same, but a function of any allocator is shorter to prove than one of this heap.
 use crate::in_turn::conditions::{Read, called};
 use cfg_expr::expr::logic::Kleene64;
 use cfg_expr::expr::{Logic, Predicates, spell};
@@ -12,9 +15,9 @@ use cfgx_testing::rows::check_pairs;
 use std::alloc::Global;
 
 // What parsing the text answers with memory. Every growth after it is refused.
-fn read<'h>(heap: Heap<'h>, text: &str) -> Read<Heap<'h>> {
+fn read<A: SmallAllocator>(heap: Heap<'_>, alloc: A, text: &str) -> Read<A> {
     heap.refuse(0);
-    let read = Expression::parse(heap, text);
+    let read = Expression::parse(alloc, text);
     heap.refuse(EVERY);
     read
 }
@@ -28,8 +31,9 @@ fn are_equal<A: SmallAllocator>(one: &Read<A>, other: &Read<A>) -> Option<(bool,
 }
 
 // Whether the expression of the text is equal to that of `TEXT`, and its predicates, as is wanted.
-fn compares(heap: Heap<'_>, text: &str, wanted: (bool, bool)) -> bool {
-    let (one, other) = (read(heap, TEXT), read(heap, text));
+fn compares<A: SmallAllocator>(heap: Heap<'_>, alloc: A, text: &str, wanted: (bool, bool)) -> bool {
+    let one = read(heap, alloc, TEXT);
+    let other = read(heap, alloc, text);
     are_equal(&one, &other) == Some(wanted)
 }
 
@@ -73,8 +77,13 @@ fn is_such<A: SmallAllocator>(asked: Option<Predicate<'_>>, rows: &[TargetInfo<'
 }
 
 // Whether the first predicate of the text is true of the fourth of five rows alone.
-fn is_asked<A: SmallAllocator>(heap: Heap<'_>, text: &str, rows: &[TargetInfo<'_, A>]) -> bool {
-    match &read(heap, text) {
+fn is_asked<A: SmallAllocator>(
+    heap: Heap<'_>,
+    alloc: A,
+    text: &str,
+    rows: &[TargetInfo<'_, A>],
+) -> bool {
+    match &read(heap, alloc, text) {
         Ok(asked) => is_such(asked.predicates().next(), rows),
         Err(_) => false,
     }
@@ -85,7 +94,9 @@ fn is_asked<A: SmallAllocator>(heap: Heap<'_>, text: &str, rows: &[TargetInfo<'_
 fn is_asked_of<A: SmallAllocator>(heap: Heap<'_>, alloc: A, text: &str) -> bool {
     heap.refuse(0);
     let table = TargetTable::builtins(alloc);
-    holds_without_memory(heap, table, |table| is_asked(heap, text, table.rows()))
+    holds_without_memory(heap, table, |table| {
+        is_asked(heap, alloc, text, table.rows())
+    })
 }
 
 const TEXT: &str = "all(a, any(b), feature = \"a feature with a long name\")";
@@ -126,11 +137,11 @@ fn is_right<A: SmallAllocator>(out: Global, alloc: A, check: &str, read: Read<A>
 
 fn is_row(alloc: Global, heap: Heap<'_>, check: &str, text: &str) -> bool {
     match check {
-        "equal" => compares(heap, text, (true, true)),
-        "one comma more" => compares(heap, text, (false, true)),
-        "other predicates" => compares(heap, text, (false, false)),
+        "equal" => compares(heap, heap, text, (true, true)),
+        "one comma more" => compares(heap, heap, text, (false, true)),
+        "other predicates" => compares(heap, heap, text, (false, false)),
         "of the fourth" => is_asked_of(heap, heap, text),
-        _ => is_right(alloc, heap, check, read(heap, text)),
+        _ => is_right(alloc, heap, check, read(heap, heap, text)),
     }
 }
 

@@ -3,6 +3,7 @@ use crate::in_turn::targets::{NO_WIDTH, no_width};
 use cfg_expr::Expression;
 use cfg_expr::error::{Failure, ParseError, Reason};
 use cfg_expr::expr::lexer::{Lexer, LexerToken, Token};
+use cfg_expr::memory::SmallAllocator;
 use cfgx_testing::heap::{Heap, empty_heap, has_every_block, holds_without_memory};
 use cfgx_testing::holding::prints;
 use cfgx_testing::refusing::EVERY;
@@ -54,8 +55,8 @@ key) | unopened parens | key)\n   ^ unopened parens
 "#;
 
 // The fault of the text.
-fn fault<'h>(heap: Heap<'h>, text: &str) -> Result<ParseError<Heap<'h>>, AllocError> {
-    match Expression::parse(heap, text) {
+fn fault<A: SmallAllocator>(alloc: A, text: &str) -> Fault<A> {
+    match Expression::parse(alloc, text) {
         Err(Failure::Parse(error)) => Ok(error),
         _ => Err(AllocError),
     }
@@ -66,19 +67,39 @@ fn is_shown<A: Allocator>(alloc: Global, error: &ParseError<A>, told: &str, prin
     error.reason != Reason::Empty && error.description() == told && prints(alloc, error, printed)
 }
 
+/// A fault, or out of memory.
+type Fault<A> = Result<ParseError<A>, AllocError>;
+
+// Whether the first two are equal, and the third is not.
+fn are_equal<A: Allocator>(one: &Fault<A>, same: &Fault<A>, other: &Fault<A>) -> bool {
+    match (one, same, other) {
+        (Ok(one), Ok(same), Ok(other)) => one == same && one != other,
+        _ => false,
+    }
+}
+
+/// A text, its fault's description, and what that prints.
+type Row<'a> = (&'a str, &'a str, &'a str);
+
 // Whether the fault of the text is shown so, and equal to itself, and not to that of another text.
-fn is_row(alloc: Global, heap: Heap<'_>, text: &str, told: &str, printed: &str) -> bool {
+fn is_row<A: SmallAllocator>(out: Global, heap: Heap<'_>, alloc: A, row: Row<'_>) -> bool {
+    let (text, told, printed) = row;
     heap.refuse(0);
-    let faults = (fault(heap, text), fault(heap, text), fault(heap, "kei)"));
+    let one = fault(alloc, text);
+    let same = fault(alloc, text);
+    let other = fault(alloc, "kei)");
     heap.refuse(EVERY);
-    matches!(&faults, (Ok(one), Ok(same), Ok(other))
-        if one == same && one != other && is_shown(alloc, one, told, printed))
+    let is_shown = match &one {
+        Ok(one) => is_shown(out, one, told, printed),
+        Err(_) => false,
+    };
+    is_shown && are_equal(&one, &same, &other)
 }
 
 // Whether the fault of a text that is no width prints what it has to.
-fn prints_no_width(alloc: Global, heap: Heap<'_>) -> bool {
+fn prints_no_width<A: SmallAllocator>(out: Global, heap: Heap<'_>, alloc: A) -> bool {
     heap.refuse(0);
-    holds_without_memory(heap, no_width(heap), |error| prints(alloc, error, NO_WIDTH))
+    holds_without_memory(heap, no_width(alloc), |error| prints(out, error, NO_WIDTH))
 }
 
 #[test]
@@ -89,8 +110,8 @@ fn faults_take_no_memory(rt: HostRuntime) -> Result<(), String> {
         alloc,
         ROWS,
         3,
-        |text, told, printed| is_row(alloc, &heap, text, told, printed),
+        |text, told, printed| is_row(alloc, &heap, &heap, (text, told, printed)),
     )?;
-    assert!(rt; prints_no_width(alloc, &heap) && has_every_block(heap));
+    assert!(rt; prints_no_width(alloc, &heap, &heap) && has_every_block(heap));
     Ok(())
 }

@@ -26,18 +26,22 @@ fn are_two<A: SmallAllocator>(out: Global, list: &HasAtomics<A>, same: &HasAtomi
         && prints(out, list, "{8, ptr}")
 }
 
-fn are_widths(alloc: Global, heap: Heap<'_>) -> Result<bool, AllocError> {
+fn are_widths<A: SmallAllocator>(
+    out: Global,
+    heap: Heap<'_>,
+    alloc: A,
+) -> Result<bool, AllocError> {
     heap.refuse(0);
-    let list = HasAtomics::new(heap, SORTED.iter().copied())?;
-    let same = HasAtomics::new(heap, UNSORTED.iter().copied())?;
+    let list = HasAtomics::new(alloc, SORTED.iter().copied())?;
+    let same = HasAtomics::new(alloc, UNSORTED.iter().copied())?;
     heap.refuse(EVERY);
-    Ok(are_two(alloc, &list, &same))
+    Ok(are_two(out, &list, &same))
 }
 
 // Whether the text is read as this width.
-fn is_read(heap: Heap<'_>, text: &str, width: HasAtomic) -> bool {
+fn is_read<A: SmallAllocator>(heap: Heap<'_>, alloc: A, text: &str, width: HasAtomic) -> bool {
     heap.refuse(EVERY);
-    let is_read = holds(gives(HasAtomic::read(heap, text), &width));
+    let is_read = holds(gives(HasAtomic::read(alloc, text), &width));
     heap.refuse(0);
     is_read
 }
@@ -79,13 +83,17 @@ fn are_made<A: SmallAllocator>(
     Ok(are_two)
 }
 
-fn are_families(alloc: Global, heap: Heap<'_>) -> Result<bool, AllocError> {
+fn are_families<A: SmallAllocator>(
+    out: Global,
+    heap: Heap<'_>,
+    alloc: A,
+) -> Result<bool, AllocError> {
     heap.refuse(0);
-    let list = Families::unix_wasm(heap);
-    let same = Families::unix_wasm(heap);
-    let above = Families::wasm(heap);
+    let list = Families::unix_wasm(alloc);
+    let same = Families::unix_wasm(alloc);
+    let above = Families::wasm(alloc);
     heap.refuse(EVERY);
-    are_made(alloc, list, same, above)
+    are_made(out, list, same, above)
 }
 
 fn are_sorted(families: [Family<'_>; 2]) -> bool {
@@ -133,9 +141,15 @@ fn are_three_rows<A: SmallAllocator>(rows: &[TargetInfo<'_, A>]) -> bool {
 
 // Whether the three rows of these numbers are refused at this place and handed back, and whether
 // the first two are equal and the third is above both.
-fn are_refused(heap: Heap<'_>, numbers: &[usize], place: Option<usize>, is_first: bool) -> bool {
+fn are_refused<A: SmallAllocator>(
+    heap: Heap<'_>,
+    alloc: A,
+    numbers: &[usize],
+    place: Option<usize>,
+    is_first: bool,
+) -> bool {
     heap.refuse(0);
-    let rows = rows(heap, numbers);
+    let rows = rows(alloc, numbers);
     heap.refuse(EVERY);
     let are_three = matches!(&rows, Ok(rows) if are_three_rows(rows.as_slice()) == is_first);
     let found = place_of(rows);
@@ -160,13 +174,28 @@ fn lists_and_rows_take_no_memory(rt: HostRuntime) -> Result<(), &'static str> {
         ("orders", are_ordered(&first, &first, &second)),
         ("sorted", are_sorted([Family::unix(), Family::wasm()])),
         ("unsorted", !are_sorted([Family::wasm(), Family::unix()])),
-        ("lists of widths", holds(are_widths(rt.alloc(), &heap))),
-        ("a number", is_read(&heap, "+08", EIGHT)),
-        ("ptr", is_read(&heap, "ptr", HasAtomic::Pointer)),
-        ("lists of families", holds(are_families(rt.alloc(), &heap))),
-        ("a table", are_refused(&heap, &[0, 2, 4], None, false)),
-        ("no table", are_refused(&heap, &[0, 2, 2], Some(2), false)),
-        ("equal rows", are_refused(&heap, &[1, 1, 2], Some(1), true)),
+        (
+            "lists of widths",
+            holds(are_widths(rt.alloc(), &heap, &heap)),
+        ),
+        ("a number", is_read(&heap, &heap, "+08", EIGHT)),
+        ("ptr", is_read(&heap, &heap, "ptr", HasAtomic::Pointer)),
+        (
+            "lists of families",
+            holds(are_families(rt.alloc(), &heap, &heap)),
+        ),
+        (
+            "a table",
+            are_refused(&heap, &heap, &[0, 2, 4], None, false),
+        ),
+        (
+            "no table",
+            are_refused(&heap, &heap, &[0, 2, 2], Some(2), false),
+        ),
+        (
+            "equal rows",
+            are_refused(&heap, &heap, &[1, 1, 2], Some(1), true),
+        ),
         ("built in", holds_without_memory(&heap, table, is_builtin)),
     ])?;
     assert!(rt; has_every_block(heap));

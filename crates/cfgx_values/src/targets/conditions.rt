@@ -84,7 +84,8 @@ fn lanes_on(predicate: &Predicate<'_>, (rows, otherwise): Asked<'_>) -> Kleene64
     }
 }
 
-// Takes the predicate, and drops it by name, since what goes out of scope is dear to prove.
+// Takes the predicate, and drops it by name, since a drop at the end of the scope takes long to
+// prove.
 fn taken_lanes(predicate: Predicate<'_>, asked: Asked<'_>) -> Kleene64 {
     let lanes = lanes_on(&predicate, asked);
     drop(predicate);

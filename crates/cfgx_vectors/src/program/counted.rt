@@ -32,10 +32,9 @@ fn first_wrong_read<S: io::Read>(source: &mut Counted<S>) -> Option<usize> {
     None
 }
 
-#[test]
-fn a_counted_reader_counts_its_failed_reads(rt: HostRuntime) {
+fn are_reads_counted() -> bool {
     let mut source = Counted::new(Pieces::new(b"abcdefg", 3, 2));
-    assert_eq!(rt; first_wrong_read(&mut source), None);
+    first_wrong_read(&mut source).is_none()
 }
 
 /// A call, its bytes, how many of them it takes if it succeeds, and how many calls have failed by
@@ -66,8 +65,7 @@ fn first_wrong<S: io::Write>(sink: &mut Counted<S>, steps: &[Step]) -> Option<us
 }
 
 // A writer in memory of so many bytes takes none once it is full: a failed write.
-#[test]
-fn a_counted_writer_counts_its_failed_writes(rt: HostRuntime) {
+fn are_writes_counted() -> bool {
     let mut room = [0u8; 4];
     let mut sink = Counted::new(&mut room[..]);
     let steps: &[Step] = &[
@@ -77,20 +75,18 @@ fn a_counted_writer_counts_its_failed_writes(rt: HostRuntime) {
         ("write", b"e", Some(0), 1),
         ("flush", b"", Some(0), 1),
     ];
-    assert_eq!(rt; first_wrong(&mut sink, steps), None);
+    first_wrong(&mut sink, steps).is_none()
 }
 
 // A counted writer in memory gets the whole output.
-#[test]
-fn a_counted_writer_takes_the_whole(rt: HostRuntime) {
+fn is_whole_taken() -> bool {
     let mut room = [0u8; 6];
     let mut sink = Counted::new(&mut room[..]);
     let steps: &[Step] = &[
         ("whole", b"hello\n", Some(6), 0),
         ("whole", b"more", None, 1),
     ];
-    assert_eq!(rt; first_wrong(&mut sink, steps), None);
-    assert!(rt; room == *b"hello\n");
+    first_wrong(&mut sink, steps).is_none() && room == *b"hello\n"
 }
 
 // A stream whose first calls of each kind, so many of them, fail and whose later ones do not. It
@@ -151,8 +147,7 @@ impl io::Write for FirstFail {
     }
 }
 
-#[test]
-fn a_counted_writer_counts_errors(rt: HostRuntime) {
+fn are_errors_counted() -> bool {
     let mut sink = first_fail(u64::MAX, false);
     let steps: &[Step] = &[
         ("write", b"a", None, 1),
@@ -160,28 +155,46 @@ fn a_counted_writer_counts_errors(rt: HostRuntime) {
         ("whole", b"a", None, 3),
         ("whole", b"", None, 4),
     ];
-    assert_eq!(rt; first_wrong(&mut sink, steps), None);
+    first_wrong(&mut sink, steps).is_none()
 }
 
-#[test]
-fn a_counted_stream_tries_no_call_again(rt: HostRuntime) {
+fn is_no_call_tried_again() -> bool {
     let mut stream = first_fail(1, false);
     let mut bytes = [0u8; 4];
     let failing: &[Step] = &[("write", b"ab", None, 2), ("flush", b"", None, 3)];
     let going: &[Step] = &[("write", b"ab", Some(2), 3), ("flush", b"", Some(0), 3)];
-    assert!(rt; read(&mut stream, &mut bytes) == (None, 1));
-    assert!(rt; first_wrong(&mut stream, failing).is_none() && calls(&stream) == (1, 1, 1));
-    assert!(rt; read(&mut stream, &mut bytes) == (Some(0), 3));
-    assert!(rt; first_wrong(&mut stream, going).is_none() && calls(&stream) == (2, 2, 2));
+    read(&mut stream, &mut bytes) == (None, 1)
+        && first_wrong(&mut stream, failing).is_none()
+        && calls(&stream) == (1, 1, 1)
+        && read(&mut stream, &mut bytes) == (Some(0), 3)
+        && first_wrong(&mut stream, going).is_none()
+        && calls(&stream) == (2, 2, 2)
 }
 
-#[test]
-fn a_counted_writer_tries_no_empty_write_again(rt: HostRuntime) {
+fn is_no_empty_write_tried_again() -> bool {
     let mut sink = first_fail(1, true);
     let (failing, going): (&[Step], &[Step]) = (
         &[("write", b"ab", Some(0), 1)],
         &[("write", b"ab", Some(2), 1)],
     );
-    assert!(rt; first_wrong(&mut sink, failing).is_none() && calls(&sink) == (0, 1, 0));
-    assert!(rt; first_wrong(&mut sink, going).is_none() && calls(&sink) == (0, 2, 0));
+    first_wrong(&mut sink, failing).is_none()
+        && calls(&sink) == (0, 1, 0)
+        && first_wrong(&mut sink, going).is_none()
+        && calls(&sink) == (0, 2, 0)
+}
+
+/// Whether a counted stream is as the row says.
+pub(super) fn passes(row: &[String]) -> bool {
+    let [name] = row else {
+        return false;
+    };
+    match name.as_str() {
+        "reads" => are_reads_counted(),
+        "writes" => are_writes_counted(),
+        "whole" => is_whole_taken(),
+        "errors" => are_errors_counted(),
+        "no call again" => is_no_call_tried_again(),
+        "no empty write again" => is_no_empty_write_tried_again(),
+        _ => false,
+    }
 }

@@ -5,53 +5,29 @@ use cfgx_testing::triples::SIM;
 use cfgx_testing::words::words_of;
 use std::alloc::Global;
 
-// What the sink is set to, the status, what is written, how many calls there are of `write` and of
-// `flush`, the input, and the words.
-pub(super) const ENDINGS: &str = r#"
-\e | 0 | b\na\nc\n | 1 1 | \e | parse | all(a, any(b), c)
-each=1 | 0 | b\na\nc\n | 6 1 | \e | parse | all(a, any(b), c)
-each=4 | 0 | b\na\nc\n | 2 1 | \e | parse | all(a, any(b), c)
-each=2 failing=2 | 3 | b\n | 2 0 | \e | parse | all(a, any(b), c)
-room=4 | 3 | b\na\n | 2 0 | \e | parse | all(a, any(b), c)
-flush=1 | 3 | b\na\nc\n | 1 1 | \e | parse | all(a, any(b), c)
-each=1 flush=1 | 3 | b\na\nc\n | 6 1 | \e | parse | all(a, any(b), c)
-\e | 0 | \e | 0 1 | \e | parse | all()
-flush=1 | 3 | \e | 0 1 | \e | parse | all()
-failing=1 | 3 | \e | 1 0 | \e | parse | key)
-\e | 0 | VERDICTS | 1 1 | SECTIONS | pick | aarch64-apple-ios-sim
-each=1 | 0 | VERDICTS | 50 1 | SECTIONS | pick | aarch64-apple-ios-sim
-each=7 | 0 | VERDICTS | 8 1 | SECTIONS | pick | aarch64-apple-ios-sim
-each=7 failing=3 | 3 | a\tyes\nb\tunknow | 3 0 | SECTIONS | pick | aarch64-apple-ios-sim
-room=6 | 3 | a\tyes\n | 2 0 | SECTIONS | pick | aarch64-apple-ios-sim
-failing=1 | 3 | \e | 1 0 | SECTIONS | pick | aarch64-apple-ios-sim
-flush=1 | 3 | VERDICTS | 1 1 | SECTIONS | pick | aarch64-apple-ios-sim
-each=1 flush=1 | 3 | VERDICTS | 50 1 | SECTIONS | pick | aarch64-apple-ios-sim
-failing=1 | 0 | \e | 0 1 | \e | pick | aarch64-apple-ios-sim
-flush=1 | 3 | \e | 0 1 | \e | pick | aarch64-apple-ios-sim
-failing=1 | 3 | \e | 1 0 | x | pick | aarch64-apple-ios-sim
-flush=1 | 3 | line 1: no tab\n | 1 1 | x | pick | aarch64-apple-ios-sim
-// A write that takes no byte has failed.
-empty=1 | 3 | \e | 1 0 | \e | parse | all(a, any(b), c)
-each=2 empty=2 | 3 | b\n | 2 0 | \e | parse | all(a, any(b), c)
-each=7 empty=3 | 3 | a\tyes\nb\tunknow | 3 0 | SECTIONS | pick | aarch64-apple-ios-sim
-"#;
+// Sets the sink, as by `each=7`, if it is to take at most seven bytes a call.
+fn set(sink: &mut Recorder, setting: &str) -> Option<()> {
+    let (name, number) = setting.split_once('=')?;
+    let number = number.parse::<usize>().ok()?;
+    match name {
+        "each" => sink.each = number,
+        "room" => sink.room = number,
+        "failing" => sink.failing_write = number as u64,
+        "empty" => sink.empty_write = number as u64,
+        "flush" => sink.is_flush_failing = true,
+        _ => return None,
+    }
+    Some(())
+}
 
-// A sink with these settings, such as `each=7` if it takes at most seven bytes a call.
-fn sink_of(alloc: Global, settings: &str) -> Option<Recorder> {
-    let mut sink = Recorder::new(alloc);
+// Whether the sink is set by each of the settings.
+fn is_set(sink: &mut Recorder, settings: &str) -> bool {
     for setting in settings.split_whitespace() {
-        let (name, number) = setting.split_once('=')?;
-        let number = number.parse::<usize>().ok()?;
-        match name {
-            "each" => sink.each = number,
-            "room" => sink.room = number,
-            "failing" => sink.failing_write = number as u64,
-            "empty" => sink.empty_write = number as u64,
-            "flush" => sink.is_flush_failing = true,
-            _ => return None,
+        if set(sink, setting).is_none() {
+            return false;
         }
     }
-    Some(sink)
+    true
 }
 
 // Whether a run over the input ends with this status, and leaves the sink with these bytes and
@@ -81,8 +57,12 @@ fn leaves_as_told(alloc: Global, words: &[&str], row: &[String]) -> Option<bool>
     let (writes, flushes) = calls.split_once(' ')?;
     let calls = (writes.parse().ok()?, flushes.parse().ok()?);
     let left = (status.parse().ok()?, written.as_bytes(), calls);
-    let sink = sink_of(alloc, settings.as_str())?;
-    Some(leaves_so(alloc, words, input.as_str(), sink, left))
+    let mut sink = Recorder::new(alloc);
+    if is_set(&mut sink, settings.as_str()) {
+        Some(leaves_so(alloc, words, input.as_str(), sink, left))
+    } else {
+        None
+    }
 }
 
 /// Whether a run with the words of the row leaves the sink as the row says.

@@ -5,32 +5,15 @@ use std::alloc::Global;
 
 const TEN: &[u8] = b"0123456789";
 
-// The failing read of ten bytes in pieces of three, and the bytes that are then still to come. The
-// fifth read meets the end.
-const FAILING: &[(u64, &[u8])] = &[
-    (1, b"0123456789"),
-    (2, b"3456789"),
-    (3, b"6789"),
-    (4, b"9"),
-    (5, b""),
-];
-
 // Whether the failed read is answered, and is the last one.
-fn is_device(alloc: Global, failing_read: u64, left: &[u8]) -> bool {
+fn is_device(alloc: Global, failing_read: u64, left: &str) -> bool {
     let mut source = Pieces::new(TEN, 3, failing_read);
     let is_stopped = match read_input(alloc, &mut source) {
         Ok(_) => false,
         Err(found) => found == Stop::Device,
     };
     let calls = (source.reads, source.failures);
-    is_stopped && calls == (failing_read, 1) && source.left == left
-}
-
-#[test]
-fn a_failed_read_is_the_last_one(rt: HostRuntime) {
-    for (read, left) in FAILING {
-        assert!(rt; is_device(rt.alloc(), *read, left), "read {read}");
-    }
+    is_stopped && calls == (failing_read, 1) && source.left == left.as_bytes()
 }
 
 // Whether all these bytes are read, to the end, in so many calls.
@@ -43,31 +26,6 @@ fn is_read_whole(alloc: Global, bytes: &[u8], each: usize, reads: u64) -> bool {
     is_read && source.is_read_whole() && source.reads == reads
 }
 
-// How many calls read no byte of ten in pieces of three, one byte, two bytes, and so on.
-const READS: [u64; 11] = [1, 2, 2, 2, 3, 3, 3, 4, 4, 4, 5];
-
-#[test]
-fn a_source_is_read_to_its_end(rt: HostRuntime) {
-    for (length, reads) in READS.iter().enumerate() {
-        let bytes = &TEN[..length.min(TEN.len())];
-        assert!(rt;
-            is_read_whole(rt.alloc(), bytes, 3, *reads),
-            "{length} bytes"
-        );
-    }
-    assert!(rt; is_read_whole(rt.alloc(), TEN, usize::MAX, 2));
-}
-
-// How many bytes a source has, and how many come in one call at most.
-const LENGTHS: &[(usize, usize)] = &[
-    (0, 1),
-    (5_000, 1),
-    (65_535, usize::MAX),
-    (65_536, usize::MAX),
-    (65_537, usize::MAX),
-    (1_000_000, 4_096),
-];
-
 // Whether as many bytes are read as there are.
 fn has_length(alloc: Global, count: usize, each: usize) -> bool {
     let mut source = Counting { left: count, each };
@@ -77,9 +35,23 @@ fn has_length(alloc: Global, count: usize, each: usize) -> bool {
     }
 }
 
-#[test]
-fn inputs_have_their_lengths(rt: HostRuntime) {
-    for (count, each) in LENGTHS {
-        assert!(rt; has_length(rt.alloc(), *count, *each), "{count} bytes");
+/// Whether an input is read as a row says.
+pub(super) fn passes(alloc: Global, row: &[String]) -> bool {
+    match row {
+        [kind, read, left] if kind.as_str() == "failed" => {
+            read.parse()
+                .is_ok_and(|read| is_device(alloc, read, left.as_str()))
+        }
+        [kind, input, each, reads] if kind.as_str() == "whole" => {
+            match (each.parse(), reads.parse()) {
+                (Ok(each), Ok(reads)) => is_read_whole(alloc, input.as_bytes(), each, reads),
+                _ => false,
+            }
+        }
+        [kind, count, each] if kind.as_str() == "length" => match (count.parse(), each.parse()) {
+            (Ok(count), Ok(each)) => has_length(alloc, count, each),
+            _ => false,
+        },
+        _ => false,
     }
 }

@@ -34,23 +34,6 @@ pub(super) fn is_row_unread(alloc: Global, row: &[String]) -> bool {
     words_of(alloc, words).is_ok_and(|words| reads_nothing(alloc, words.as_slice(), ended))
 }
 
-// How many bytes a read has at most, an input, and how many reads there are: the last one meets the
-// end.
-pub(super) const READS: &str = r#"
-1 | \e | 1
-7 | \e | 1
-1 | \n | 2
-7 | \n | 2
-1 | a\tunix\n | 8
-2 | a\tunix\n | 5
-3 | a\tunix\n | 4
-6 | a\tunix\n | 3
-7 | a\tunix\n | 2
-8 | a\tunix\n | 2
-7 | x | 2
-1 | x\n\n | 4
-"#;
-
 /// Whether a run of `pick` over the input makes so many reads, none of them after the end.
 pub(super) fn has_reads(alloc: Global, row: &[String]) -> bool {
     let [each, input, reads] = row else {

@@ -6,7 +6,7 @@ ghost use Rattle.cfgx_syntax.specs.Stripping.{strip};
 ghost use Rattle.cfgx_syntax.specs.Token as spelled;
 
 // `cfg( )` is stripped once, and only if the text ends with it.
-fn stripped()
+pub(crate) fn stripped()
     ensures wrapped { strip (codes "cfg(key)") ≡ codes "key" }
     ensures empty { strip (codes "cfg()") ≡ [] }
     ensures once { strip (codes "cfg(cfg(a))") ≡ codes "cfg(a)" }
@@ -16,7 +16,7 @@ fn stripped()
 
 // Texts with their token lists. In `a 8 b` one token stands before the place where none can start.
 // U+00A0, of the bytes c2 a0, is white space.
-fn listed()
+pub(crate) fn listed()
     ensures stuck { AreItems (codes "a 8 b")
         (record { token = spelled.Token.key (codes "a"); start = 0; end = 1 } ∷ [])
         (Ending.no_token 2) }
@@ -33,7 +33,7 @@ fn listed()
 {}
 
 // What is refused with which cause and where.
-fn refused()
+pub(crate) fn refused()
     ensures stuck { lexical (codes "a 8 b") (Ending.no_token 2)
         ≡ Some (record { cause = expects_token; start = 2; end = 3 }) }
     ensures unclosed { lexical (codes "a \"bc") (Ending.unclosed_quotes 2)
@@ -45,7 +45,7 @@ fn refused()
 // value that lacks its last quote, one that runs past a quote, and one without its quotes; a token
 // taken for the place where none can start, a value taken for an unclosed quote, and white space
 // with a token after it.
-fn excluded()
+pub(crate) fn excluded()
     ensures short { Stands (codes "ab") 0
         (record { token = spelled.Token.key (codes "a"); start = 0; end = 1 }) → ⊥ }
     ensures function { Stands (codes "all") 0
@@ -60,11 +60,3 @@ fn excluded()
     ensures closed { EndsAs (codes "\"\"") 0 (Ending.unclosed_quotes 0) → ⊥ }
     ensures not_blank { EndsAs (codes " a") 0 Ending.blank → ⊥ }
 {}
-
-#[test]
-fn definitions_compute() {
-    stripped();
-    listed();
-    refused();
-    excluded();
-}

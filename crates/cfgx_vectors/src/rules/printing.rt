@@ -4,44 +4,6 @@ use cfgx_testing::holding::{gives, prints};
 use cfgx_testing::rows::is_fault;
 use std::alloc::{AllocError, Global};
 use std::ops::Range;
-use std::test::Fail;
-
-// Reasons, what they print, and what a fault says of itself.
-pub(super) const REASONS: &str = r#"
-InvalidNot(0) | not() takes 1 predicate, found 0 | not() takes 1 predicate
-InvalidNot(257) | not() takes 1 predicate, found 257 | not() takes 1 predicate
-InvalidCharacters | invalid character(s) | invalid character(s)
-UnclosedParens | unclosed parens | unclosed parens
-UnopenedParens | unopened parens | unopened parens
-UnclosedQuotes | unclosed quotes | unclosed quotes
-UnopenedQuotes | unopened quotes | unopened quotes
-Empty | empty expression | empty expression
-U[] | the term was not expected here | unexpected term
-U[`(`] | expected a `(` here | unexpected term
-U[`<key>` `all` `any` `not`] | expected one of `<key>`, `all`, `any`, `not` here | unexpected term
-InvalidInteger | invalid integer | invalid integer
-MultipleRootPredicates | multiple root predicates | multiple root predicates
-InvalidHasAtomic | expected integer or "ptr" | expected integer or "ptr"
-UnknownBuiltin | unknown built-in | unknown built-in
-"#;
-
-// Texts, faults, and what these print. The mark is from the start of a span, at one place, byte for
-// byte, or not at all. U+00E9 takes two bytes, so a mark after it stands too far to the right. The
-// last span, which only a caller can build, ends before it starts.
-pub(super) const PRINTED: &str = r#"
-key) | UnopenedParens at 3..4 | key)\n   ^ unopened parens
-not(key | UnclosedParens at 3..7 | not(key\n   - unclosed parens
-key = "abc | UnclosedQuotes at 6..10 | key = "abc\n      - unclosed quotes
-key" | UnopenedQuotes at 3..4 | key"\n   ^ unopened quotes
-foo ( | U[`=` `,` `)`] at 4..5 | foo (\n    ^ expected one of `=`, `,`, `)` here
-key = | U[`"<value>"`] at 5..5 | key =\n      expected a `"<value>"` here
-not(a, b) | InvalidNot(2) at 0..9 | not(a, b)\n^^^^^^^^^ not() takes 1 predicate, found 2
-a, target_os | U[`= "<target_cfg_value>"`] at 3..12 | a, target_os\n   ^^^^^^^^^ expected a `= "<t\
-arget_cfg_value>"` here
-\e | Empty at 0..0 | \n empty expression
-éx | U[] at 2..3 | éx\n  ^ the term was not expected here
-ab | Empty at 1..0 | ab\n  empty expression
-"#;
 
 // The reason of a name, with its number or its terms.
 fn reason_of(name: &str) -> Option<Reason> {
@@ -104,13 +66,13 @@ pub(super) fn is_printed(alloc: Global, text: &str, fault: &str, printed: &str) 
     }
 }
 
-#[test]
-fn equality_of_reasons_is_that_of_their_parts(rt: HostRuntime) {
+/// Whether equality of reasons is that of their parts.
+pub(super) fn are_reasons_equal() -> bool {
     let terms = Reason::Unexpected(&["big", "little"]);
-    assert!(rt; terms == Reason::Unexpected(&["big", "little"]));
-    assert!(rt; terms != Reason::Unexpected(&["big"]));
-    assert!(rt; Reason::InvalidNot(2) != Reason::InvalidNot(3));
-    assert!(rt; Reason::Empty != Reason::UnclosedParens);
+    terms == Reason::Unexpected(&["big", "little"])
+        && terms != Reason::Unexpected(&["big"])
+        && Reason::InvalidNot(2) != Reason::InvalidNot(3)
+        && Reason::Empty != Reason::UnclosedParens
 }
 
 // The fault of a `)` that closes nothing.
@@ -124,11 +86,9 @@ fn are_equal(alloc: Global, one: Range<usize>, other: Range<usize>) -> Result<bo
     gives(unopened(alloc, "a)", other), &one)
 }
 
-#[test]
-fn equality_is_that_of_the_parts(rt: HostRuntime) -> Result<(), Fail> {
-    assert!(rt; are_equal(rt.alloc(), 1..2, 1..2)?);
-    assert!(rt; !are_equal(rt.alloc(), 1..2, 1..3)?);
-    Ok(())
+/// Whether equality of faults is that of their parts.
+pub(super) fn are_faults_equal(alloc: Global) -> Result<bool, AllocError> {
+    Ok(are_equal(alloc, 1..2, 1..2)? && !are_equal(alloc, 1..2, 1..3)?)
 }
 
 // `?` makes a failure of either of its causes.
@@ -137,10 +97,11 @@ fn parse_failure(alloc: Global) -> Result<(), Failure> {
     Ok(())
 }
 
-#[test]
-fn a_failure_is_a_fault_or_out_of_memory(rt: HostRuntime) -> Result<(), Fail> {
-    let wanted = unopened(rt.alloc(), ")", 0..1)?;
-    assert!(rt; parse_failure(rt.alloc()) == Err(Failure::Parse(wanted)));
-    assert!(rt; Failure::<Global>::from(AllocError) == Failure::Memory(AllocError));
-    Ok(())
+/// Whether a failure is a fault or out of memory.
+pub(super) fn is_failure(alloc: Global) -> Result<bool, AllocError> {
+    let wanted = unopened(alloc, ")", 0..1)?;
+    Ok(
+        parse_failure(alloc) == Err(Failure::Parse(wanted))
+            && Failure::<Global>::from(AllocError) == Failure::Memory(AllocError),
+    )
 }

@@ -42,29 +42,6 @@ impl Write for Slow {
     }
 }
 
-// Texts, and the spellings of their predicates one after the other.
-pub(super) const ROWS: &str = r#"
-unix | target_family = "unix"
-windows | target_family = "windows"
-all(test, debug_assertions, proc_macro) | testdebug_assertionsproc_macro
-feature="" | feature = ""
-target_feature = "sse4.2" | target_feature = "sse4.2"
-panic="abort" | panic = "abort"
-any(target_abi = "", target_arch="x86") | target_abi = ""target_arch = "x86"
-target_os = "linux" | target_os = "linux"
-target_env = "gnu" | target_env = "gnu"
-target_vendor = "apple" | target_vendor = "apple"
-all(target_endian="big", target_endian="little") | target_endian = "big"target_endian = "little"
-target_has_atomic = "+08" | target_has_atomic = "8"
-target_has_atomic = "65535" | target_has_atomic = "65535"
-target_has_atomic = "ptr" | target_has_atomic = "ptr"
-target_pointer_width = "+064" | target_pointer_width = "64"
-all(target_pointer_width = "0", target_pointer_width = "255") | target_pointer_width = "0"target_po\
-inter_width = "255"
-loom | loom
-key="a\nb" | key = "a\nb"
-"#;
-
 // Spells the predicates of the text, and answers the kind of the error that ended this, if any.
 fn spell_each(alloc: Global, text: &str, writer: &mut Slow) -> Result<Option<ErrorKind>, Failure> {
     let expression = Expression::parse(alloc, text)?;
@@ -80,7 +57,8 @@ fn spell_all(predicates: Predicates<'_>, writer: &mut Slow) -> Option<ErrorKind>
     None
 }
 
-// Spells a predicate, which is dropped by name, since what goes out of scope is dear to prove.
+// Spells a predicate, and drops it by name, since a drop at the end of the scope takes long to
+// prove.
 fn spell_one(predicate: Predicate<'_>, writer: &mut Slow) -> io::Result<()> {
     let spelled = spell(&predicate, writer);
     drop(predicate);
@@ -107,22 +85,6 @@ fn is_spelled_by_any(alloc: Global, text: &str, spelled: &str) -> bool {
         .all(|each| holds(is_spelled(alloc, text, spelled, *each)))
 }
 
-// What stands before and after a text of 5,000 bytes in a predicate.
-pub(super) const LONG: &str = r#"
-\e | \e
-\e |  = "v"
-key = " | "
-feature = " | "
-target_feature = " | "
-panic = " | "
-target_abi = " | "
-target_arch = " | "
-target_os = " | "
-target_family = " | "
-target_env = " | "
-target_vendor = " | "
-"#;
-
 /// Whether the predicate is spelled as its text, in which 5,000 bytes stand between these two.
 pub(super) fn is_long(alloc: Global, front: &str, back: &str) -> bool {
     match repeated(alloc, front, "x", 5_000, back) {
@@ -131,12 +93,12 @@ pub(super) fn is_long(alloc: Global, front: &str, back: &str) -> bool {
     }
 }
 
-// No text asks such a flag, so only a caller can make it.
-#[test]
-fn a_flag_that_is_read_as_a_literal(rt: HostRuntime) {
-    let mut writer = slow_writer(rt.alloc(), 1);
-    assert!(rt; spell_one(Predicate::Flag("true"), &mut writer).is_ok());
-    assert_eq!(rt; writer.sink.bytes.as_slice(), b"true".as_slice());
+/// Whether a flag that is read as a literal is spelled. Only a caller can make it, since no text
+/// asks it.
+pub(super) fn is_flag_spelled(alloc: Global) -> bool {
+    let mut writer = slow_writer(alloc, 1);
+    spell_one(Predicate::Flag("true"), &mut writer).is_ok()
+        && writer.sink.bytes.as_slice() == b"true".as_slice()
 }
 
 // Whether the writer has this beginning of the spelling, and no call came after a failed one.

@@ -1,0 +1,32 @@
+//! Checks the rows of the files that its arguments name: of the rules of texts, of the answers of
+//! the Rust crate, and of the program `cfgx`. It prints each wrong row, and how many rows and
+//! fields each table has.
+#![tactic(auto)]
+
+mod program;
+mod rules;
+mod rust_crate;
+mod tables;
+
+use std::alloc::Global;
+use std::{env, fs, io};
+
+// Whether the fields of a row pass the check of the heading, which may have more behind a colon.
+fn passes(alloc: Global, heading: &str, row: &[String]) -> bool {
+    let (check, message) = heading.split_once(": ").unwrap_or((heading, ""));
+    match check {
+        "refused" => rust_crate::are_refused(alloc, row, message),
+        "accepted" => rust_crate::ask_marked(alloc, row),
+        "asked" => rust_crate::ask_told(alloc, row),
+        _ => rules::passes(alloc, check, row) || program::passes(alloc, check, row),
+    }
+}
+
+fn main(rt: HostRuntime) -> io::Result<()> {
+    for name in env::args(&rt)?.skip(1) {
+        let text = fs::read_to_string(&rt, name.as_str())?;
+        let told = tables::told(rt.alloc(), text.as_str())?;
+        println!(rt; "{name}\n{told}")?;
+    }
+    Ok(())
+}
