@@ -3,16 +3,21 @@
 pub mod adapters;
 mod boards;
 pub mod closures;
+mod compiled;
 pub mod features;
 pub mod fillings;
+pub mod first;
 pub mod lexing;
+pub mod lines;
 pub mod literals;
 pub mod logic;
 pub mod manifests;
 pub mod matcher;
 pub mod names;
+pub mod others;
 pub mod program;
 pub mod refusals;
+pub mod resolver;
 pub mod rows;
 pub mod running;
 pub mod sections;
@@ -30,6 +35,7 @@ use cfgx_testing::holding::holds;
 use cfgx_testing::rows::check_threes;
 use cfgx_testing::triples::{IOS, SIM};
 use closures::{count_asked, if_all_true, with_features};
+use compiled::{value_on_linux, value_on_windows};
 use manifests::{PREDICATES, SECTIONS, VERDICTS};
 use names::is_linux;
 use std::alloc::{AllocError, Global};
@@ -100,6 +106,15 @@ tables | all(target_os = "linux", feature = "x") | [[No, Unknown]]
 manifests | macos 64 | ["notify", "loom", "wide"]
 manifests | macos 32 | ["notify", "loom"]
 manifests | none 16 | ["loom"]
+// A target that is not built in: from the lines of a compiler, and written by hand.
+windows | all(windows, target_env = "msvc", target_vendor = "pc") | true
+windows | any(unix, target_os = "linux", target_abi = "llvm") | false
+windows | all(target_arch = "x86_64", target_pointer_width = "64", panic = "unwind") | true
+windows | all(target_endian = "little", target_has_atomic = "128", target_abi = "") | true
+windows | any(target_has_atomic = "32", target_endian = "big") | false
+linux | all(unix, target_os = "linux", target_env = "gnu", target_vendor = "unknown") | true
+linux | all(unix, feature = "x", not(any(feature = "y", test))) | true
+linux | any(windows, target_has_atomic = "128", target_abi = "x32") | false
 "#;
 
 // Whether an example answers what its row says.
@@ -176,6 +191,8 @@ fn is_answer(alloc: Global, example: &str, text: &str, told: &str) -> Finding {
             told,
         ),
         "manifests" => needs(alloc, text, told)?,
+        "windows" => shows(alloc, &value_on_windows(alloc, text)?, told),
+        "linux" => shows(alloc, &value_on_linux(alloc, text)?, told),
         IOS | SIM | "nowhere" => shows(alloc, &targets::value_on(alloc, text, example)?, told),
         _ => is_answer_of(alloc, example, &Expression::parse(alloc, text)?, told)?,
     })
@@ -183,7 +200,7 @@ fn is_answer(alloc: Global, example: &str, text: &str, told: &str) -> Finding {
 
 #[test]
 fn examples_answer(rt: HostRuntime) -> Result<(), String> {
-    check_threes(rt.alloc(), ANSWERS, 54, |example, text, told| {
+    check_threes(rt.alloc(), ANSWERS, 62, |example, text, told| {
         holds(is_answer(rt.alloc(), example, text, told))
     })
 }

@@ -35,22 +35,29 @@ fn sections_of(alloc: Global, dependencies: &[(&str, &str)]) -> Result<Vec<Secti
 }
 
 /// The input that the page shows. `.ci/examples` compares its blocks of text with these texts.
-pub const SECTIONS: &str = "dependencies.libc\tcfg(unix)\n\
-    dependencies.signal-hook\tcfg(unix)\n\
-    dependencies.notify\tcfg(any(windows, target_os = \"macos\"))\n\
-    dependencies.objc2\tcfg(all(target_vendor = \"apple\", not(loom)))\n\
-    dev-dependencies.loom\tcfg(loom)\n";
+pub const SECTIONS: &str = "objc2\tcfg(all(target_vendor = \"apple\", not(loom)))\n\
+    notify\tcfg(any(windows, target_os = \"macos\"))\n\
+    loom\tcfg(loom)\n\
+    libc\tcfg(unix)\n\
+    signal-hook\tcfg(unix)\n";
 
 /// What is written of it for the simulator.
-pub const VERDICTS: &str = "dependencies.libc\tyes\n\
-    dependencies.signal-hook\tyes\n\
-    dependencies.notify\tno\n\
-    dependencies.objc2\tunknown\n\
+pub const VERDICTS: &str = "objc2\tunknown\n\
     \ttrue with 01\n\
     \tfalse with 11\n\
-    dev-dependencies.loom\tunknown\n\
+    notify\tno\n\
+    loom\tunknown\n\
     \ttrue with 1\n\
-    \tfalse with 0\n";
+    \tfalse with 0\n\
+    libc\tyes\n\
+    signal-hook\tyes\n";
 
 /// The predicates of one of its conditions.
 pub const PREDICATES: &str = "loom\ntarget_vendor = \"apple\"\n";
+
+/// The value of each section on a target with Windows.
+pub const VALUES: &str = "objc2\tfalse\n\
+    notify\ttrue\n\
+    loom\tunknown\n\
+    libc\tfalse\n\
+    signal-hook\tfalse\n";

@@ -1,0 +1,102 @@
+//! Whether targets that are not built in answer what the pages say.
+use super::is_written;
+use super::lines::row_of;
+use super::manifests::{SECTIONS, VALUES};
+use super::others::{builtins_and, linux_row};
+use super::resolver::value_for;
+use cfg_expr::error::Failure;
+use cfg_expr::targets::{TargetInfo, TargetTable, get_builtin_target_by_triple};
+use cfgx_testing::holding::holds;
+use cfgx_testing::triples::IOS;
+use std::alloc::{AllocError, Global};
+
+// What `rustc --print cfg --target x86_64-pc-windows-msvc` of 1.95 prints, less most features.
+const WINDOWS: &str = "debug_assertions\n\
+    panic=\"unwind\"\n\
+    target_abi=\"\"\n\
+    target_arch=\"x86_64\"\n\
+    target_endian=\"little\"\n\
+    target_env=\"msvc\"\n\
+    target_family=\"windows\"\n\
+    target_feature=\"sse2\"\n\
+    target_has_atomic=\"128\"\n\
+    target_has_atomic=\"16\"\n\
+    target_has_atomic=\"8\"\n\
+    target_has_atomic=\"ptr\"\n\
+    target_os=\"windows\"\n\
+    target_pointer_width=\"64\"\n\
+    target_vendor=\"pc\"\n\
+    windows\n";
+
+const TRIPLE: &str = "x86_64-pc-windows-msvc";
+
+/// The value on the row that the lines of a compiler make.
+pub fn value_on_windows(alloc: Global, text: &str) -> Result<bool, Failure> {
+    let Some(row) = row_of(alloc, TRIPLE, WINDOWS)? else {
+        return Ok(false);
+    };
+    value_for(alloc, text, &row, &["x"])
+}
+
+/// The value on the row that is written by hand.
+pub fn value_on_linux(alloc: Global, text: &str) -> Result<bool, Failure> {
+    let row = linux_row(alloc)?;
+    value_for(alloc, text, &row, &["x"])
+}
+
+// What stands after the first tab.
+fn after_tab(line: &str) -> &str {
+    match line.split_once('\t') {
+        Some((_, rest)) => rest,
+        None => line,
+    }
+}
+
+// Whether `eval` with the lines of the compiler as FLAGs writes the value of this section.
+fn is_evaluated(alloc: Global, section: &str, told: &str) -> Result<bool, AllocError> {
+    let mut words = Vec::new(alloc);
+    words.push("eval")?;
+    words.push(after_tab(section))?;
+    for line in WINDOWS.lines() {
+        words.push(line)?;
+    }
+    words.push("?loom")?;
+    Ok(is_written(alloc, words.as_slice(), "", after_tab(told)))
+}
+
+#[test]
+fn sections_are_evaluated_with_the_lines_of_a_compiler(rt: HostRuntime) {
+    let alloc = rt.alloc();
+    for (section, told) in SECTIONS.lines().zip(VALUES.split_inclusive('\n')) {
+        assert!(rt; holds(is_evaluated(alloc, section, told)));
+    }
+}
+
+// Whether the built-in rows and this one make a table that has it, and one that is built in.
+fn makes_a_table(alloc: Global, row: TargetInfo<'static>) -> Result<bool, AllocError> {
+    let table = builtins_and(alloc, row)?;
+    let has_both = match &table {
+        Some(table) => has(table, TRIPLE) && has(table, IOS),
+        None => false,
+    };
+    Ok(has_both)
+}
+
+fn has(table: &TargetTable<'_>, triple: &str) -> bool {
+    get_builtin_target_by_triple(table, triple).is_some()
+}
+
+// Whether the lines of the compiler make a row with this triple, which then makes such a table.
+fn is_added(alloc: Global, triple: &'static str, lines: &'static str) -> Result<bool, AllocError> {
+    match row_of(alloc, triple, lines)? {
+        Some(row) => makes_a_table(alloc, row),
+        None => Ok(false),
+    }
+}
+
+#[test]
+fn rows_make_a_table_in_order(rt: HostRuntime) {
+    assert!(rt; holds(is_added(rt.alloc(), TRIPLE, WINDOWS)));
+    assert!(rt; matches!(is_added(rt.alloc(), IOS, WINDOWS), Ok(false)));
+    assert!(rt; matches!(is_added(rt.alloc(), TRIPLE, ""), Ok(false)));
+}

@@ -1,0 +1,21 @@
+//! The program with which `README.md` begins.
+use cfg_expr::{Expression, Predicate};
+use std::io;
+
+/// Prints the value of a condition if the feature `x` is on and nothing else is known.
+pub fn main(rt: HostRuntime) -> io::Result<()> {
+    let Ok(condition) = Expression::parse(rt.alloc(), "any(unix, feature = \"x\")") else {
+        return println!(rt; "a faulty text, or out of memory");
+    };
+    let mut answer = |asked: &Predicate<'_>| match asked {
+        Predicate::Feature(name) => Some(*name == "x"),
+        _ => None,
+    };
+    let value: Option<bool> = condition.eval(rt.alloc(), &mut answer)?;
+    println!(rt; "{value:?}")
+}
+
+#[test]
+fn the_program_runs(rt: HostRuntime) -> io::Result<()> {
+    main(rt)
+}

@@ -1,0 +1,62 @@
+//! The row of any target, from the lines of a compiler.
+use cfg_expr::targets::{
+    Abi, Arch, Env, Families, Family, HasAtomics, Os, Panic, TargetInfo, Triple, Vendor,
+};
+use cfgx_targets::reading::{read_endian, read_has_atomic, read_u8};
+use std::alloc::{AllocError, Global};
+
+/// The row of a target, made of the lines that `rustc --print cfg` prints of it: `None` if they
+/// give no pointer width or no byte order.
+pub fn row_of<'a>(
+    alloc: Global,
+    triple: &'a str,
+    lines: &'a str,
+) -> Result<Option<TargetInfo<'a>>, AllocError> {
+    let Some(pointer_width) = read_u8(first(lines, "target_pointer_width")) else {
+        return Ok(None);
+    };
+    let Some(endian) = read_endian(first(lines, "target_endian")) else {
+        return Ok(None);
+    };
+    let mut families = Vec::new(alloc);
+    let mut widths = Vec::new(alloc);
+    for line in lines.lines() {
+        if let Some(family) = value(line, "target_family") {
+            families.push(Family::new_const(family))?;
+        }
+        if let Some(width) = value(line, "target_has_atomic").and_then(read_has_atomic) {
+            widths.push(width)?;
+        }
+    }
+    Ok(Some(TargetInfo {
+        triple: Triple::new_const(triple),
+        os: Some(Os::new_const(first(lines, "target_os"))),
+        abi: Some(Abi::new_const(first(lines, "target_abi"))),
+        arch: Arch::new_const(first(lines, "target_arch")),
+        env: Some(Env::new_const(first(lines, "target_env"))),
+        vendor: Some(Vendor::new_const(first(lines, "target_vendor"))),
+        families: Families::new(alloc, families.into_iter())?,
+        pointer_width,
+        endian,
+        has_atomics: HasAtomics::new(alloc, widths.into_iter())?,
+        panic: Panic::new_const(first(lines, "panic")),
+    }))
+}
+
+// The value that the line gives the key, without its quotes.
+fn value<'a>(line: &'a str, key: &str) -> Option<&'a str> {
+    match line.split_once('=') {
+        Some((name, quoted)) if name == key => Some(quoted.trim_matches('"')),
+        _ => None,
+    }
+}
+
+// The first value of the key, and the empty text if no line gives one.
+fn first<'a>(lines: &'a str, key: &str) -> &'a str {
+    for line in lines.lines() {
+        if let Some(value) = value(line, key) {
+            return value;
+        }
+    }
+    ""
+}

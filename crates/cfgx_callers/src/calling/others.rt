@@ -1,0 +1,41 @@
+//! Targets that are not built in, written by hand.
+use cfg_expr::targets::{
+    Arch, Endian, Env, Families, HasAtomics, Os, Panic, TargetInfo, TargetTable, Triple, Vendor,
+};
+use std::alloc::{AllocError, Global};
+
+/// The row of a target that is not built in.
+pub fn linux_row(alloc: Global) -> Result<TargetInfo<'static>, AllocError> {
+    Ok(TargetInfo {
+        triple: Triple::new_const("x86_64-unknown-linux-gnu"),
+        os: Some(Os::linux()),
+        abi: None,
+        arch: Arch::x86_64(),
+        env: Some(Env::gnu()),
+        vendor: Some(Vendor::unknown()),
+        families: Families::unix(alloc)?,
+        pointer_width: 64,
+        endian: Endian::little,
+        has_atomics: HasAtomics::atomic_8_16_32_64_ptr(alloc)?,
+        panic: Panic::unwind(),
+    })
+}
+
+/// The built-in rows and one more: `None` if its triple is not above theirs.
+pub fn builtins_and(
+    alloc: Global,
+    row: TargetInfo<'static>,
+) -> Result<Option<TargetTable<'static>>, AllocError> {
+    let mut rows = builtin_rows(alloc)?;
+    rows.push(row)?;
+    Ok(TargetTable::from_rows(rows).ok())
+}
+
+fn builtin_rows(alloc: Global) -> Result<Vec<TargetInfo<'static>>, AllocError> {
+    let table = TargetTable::builtins(alloc)?;
+    let mut rows = Vec::new(alloc);
+    for row in table.rows() {
+        rows.push(row.try_clone(alloc)?)?;
+    }
+    Ok(rows)
+}
