@@ -76,8 +76,8 @@ pub fn are_told(with_true: &[bool], with_false: &[bool], told: &str) -> bool {
     }
 }
 
-// Whether `polar_fillings` answers what a row tells.
-fn has_fillings(
+// Whether `polar_fillings` and `decide` answer what a row tells.
+fn are_shown(
     alloc: Global,
     expression: &Expression,
     answers: &[Answer],
@@ -87,29 +87,18 @@ fn has_fillings(
         return Ok(false);
     }
     let found = expression.polar_fillings(alloc, answers)?;
-    Ok(match &found {
+    let has_fillings = match &found {
         Some((one, other)) => are_told(one.as_slice(), other.as_slice(), told),
         None => !told.contains(' '),
-    })
-}
-
-// Whether `decide` answers what a row tells.
-fn is_decided(
-    alloc: Global,
-    expression: &Expression,
-    answers: &[Answer],
-    told: &str,
-) -> Result<bool, AllocError> {
-    if expression.predicates().left() != answers.len() {
-        return Ok(false);
-    }
+    };
     let decision = expression.decide(alloc, answers)?;
-    Ok(match &decision {
+    let is_decided = match &decision {
         Decision::Known(value) => told == if *value { "true" } else { "false" },
         Decision::Unknown { if_true, if_false } => {
             are_told(if_true.as_slice(), if_false.as_slice(), told)
         }
-    })
+    };
+    Ok(has_fillings && is_decided)
 }
 
 /// Whether a row tells what the text is over these answers, of which there are as many as
@@ -120,7 +109,6 @@ pub fn is_told(alloc: Global, text: &str, digits: &str, told: &str) -> Option<bo
     let answers = answers.as_slice();
     Some(
         agree(alloc, &expression, answers, told.parse().ok())
-            && holds(has_fillings(alloc, &expression, answers, told))
-            && holds(is_decided(alloc, &expression, answers, told)),
+            && holds(are_shown(alloc, &expression, answers, told)),
     )
 }
