@@ -1,7 +1,7 @@
 -- What a call of `cfgx_check` tells of a fault.
 -- Source: c/cfgx.h.
-use Rattle.std.specs.Prelude.{ℕ, List, codes, nat_eq, ◌&&◌, if◌then◌else◌}
-use Rattle.std.specs.List.{starts_with, ends_with}
+use Rattle.std.specs.Prelude.{◌==◌, ℕ, List, length, if◌then◌else◌}
+use Rattle.cfgx_syntax.specs.Stripping.{strip}
 use Rattle.cfgx_syntax.specs.Error.{Cause, Refusal}
 use Rattle.cfgx_c.specs.declared.fault.Fault.{Fault}
 
@@ -27,8 +27,7 @@ members_of cause = 0
 
 -- where in a text the stripped text begins: behind `cfg(` if that is taken off
 abbrev pub offset_of : List ℕ → ℕ
-offset_of text =
-    if starts_with nat_eq text (codes "cfg(") && ends_with nat_eq text (codes ")") then 4 else 0
+offset_of text = if length (strip text) == length text then 0 else 4
 
 -- what is told of the fault of a text, once that is stripped
 abbrev pub told_of : List ℕ → Refusal → Fault

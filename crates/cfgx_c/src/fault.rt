@@ -5,6 +5,7 @@ ghost use Rattle.cfgx_syntax.specs.Error.{cause_of};
 ghost use Rattle.cfgx_c.specs.Check.{offset_of, members_of, number_of, told_of};
 
 use cfg_expr::error::{ParseError, Reason};
+use cfgx_syntax::stripping::strip;
 
 /// What is wrong with a text, and where. Places and lengths are in bytes.
 #[repr(C)]
@@ -56,9 +57,10 @@ fn members_of(reason: Reason) -> usize
 fn offset_of(text: &str) -> usize
     ensures { result ≡ offset_of text.now }
 {
-    match text.strip_prefix("cfg(") {
-        Some(inner) if inner.ends_with(')') => 4,
-        _ => 0,
+    if strip(text).len() == text.len() {
+        0
+    } else {
+        4
     }
 }
 
