@@ -4,7 +4,6 @@ use Rattle.std.proofs.lemmas.Slice.Eq.{bytes_eq-Decides}
 use Rattle.std.specs.Bool.{Decides, ◌==◌}
 use Rattle.std.specs.{Cmp.Lexicographic.pointwise, Str.bytes_eq, String.string_bytes}
 use Rattle.cfgx_syntax.specs.{declared.error.ParseError.ParseError, declared.error.Reason.Reason}
-use Rattle.cfgx_syntax.specs.declared.error.Reason.TheVariants as reason
 use Rattle.cfgx_syntax.specs.contracts.error.ReasonPartialEq.TheImpl as reason_eq
 use Rattle.cfgx_syntax.specs.Error.{cause_of, fault_of}
 

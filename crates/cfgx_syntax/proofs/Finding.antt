@@ -18,7 +18,7 @@ use Rattle.cfgx_syntax.proofs.Blanks.{IsTrimStart-here, IsTrimStart-past}
 use Rattle.cfgx_syntax.proofs.Scanning.{IsAfter, Stands-found, Ending-found, rest_is}
 use Rattle.cfgx_syntax.proofs.{Scanning.CanBeCut-found, TokenList.ItemsFrom-same}
 use Rattle.cfgx_syntax.proofs.Values.{BeginsWith-value, HasNoQuote-from}
-use Rattle.cfgx_syntax.proofs.Words.{BeginsWith-byte, BeginsWith-word, word_front}
+use Rattle.cfgx_syntax.proofs.WordLemmas.{BeginsWith-byte, BeginsWith-word, word_front}
 
 -- what is left of a text after the white space in front is a text
 abbrev Trimmed : List ℕ → Type 0

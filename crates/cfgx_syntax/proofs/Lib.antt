@@ -4,11 +4,11 @@ pub mod ErrorLemmas
 pub mod Finding
 pub mod FirstChar
 pub mod Fronts
-pub mod Lanes
+pub mod LaneLemmas
 pub mod Repeated
 pub mod Scanning
-pub mod Sizes
+pub mod ItemSizes
 pub mod TokenList
 pub mod Values
-pub mod Words
+pub mod WordLemmas
 pub mod Wrapping

@@ -7,7 +7,7 @@ use Rattle.std.proofs.lemmas.List.{take_at, get_or_at, take-take, drop-take, dro
 use Rattle.std.proofs.lemmas.Str.{IsCharBoundary-after_ascii}
 use Rattle.cfgx_syntax.specs.Token.{Token, is_quote, HasNoQuote, in_quotes}
 use Rattle.cfgx_syntax.specs.Lexer.{BeginsWith}
-use Rattle.cfgx_syntax.proofs.Words.{IsCut-front}
+use Rattle.cfgx_syntax.proofs.WordLemmas.{IsCut-front}
 
 -- a byte that is no quote fails the test
 is_quote-other : (byte : ℕ) → byte ≢ 34 → is_quote byte ≡ false

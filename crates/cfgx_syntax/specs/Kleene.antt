@@ -10,11 +10,11 @@ pub record Planes : Type 0 where
   pub is_false : ℕ
 
 -- no lane is both
-abbrev pub AreApart : ℕ → ℕ → Type 0
-AreApart is_true is_false = bit_and is_true is_false ≡ 0
+abbrev pub AreDisjoint : ℕ → ℕ → Type 0
+AreDisjoint is_true is_false = bit_and is_true is_false ≡ 0
 
-abbrev pub IsApart : Planes → Type 0
-IsApart planes = AreApart planes.is_true planes.is_false
+abbrev pub IsDisjoint : Planes → Type 0
+IsDisjoint planes = AreDisjoint planes.is_true planes.is_false
 
 -- the answer that two bits stand for: true, false, or unknown if neither is set
 abbrev pub answer_of_bits : ℕ → ℕ → Option Bool

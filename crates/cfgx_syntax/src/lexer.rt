@@ -64,7 +64,7 @@ fn is_blank(byte: u8) -> bool
 }
 
 /// How many of the first bytes are ASCII white space.
-#[tactic(auto, using(crate::proofs::Words::lengths))]
+#[tactic(auto, using(crate::proofs::WordLemmas::lengths))]
 fn blank_len(bytes: &[u8]) -> usize
     ensures len { result ≡ prefix_len is_blank bytes.now }
     ensures few { result ≤ length bytes.now }
@@ -113,7 +113,7 @@ fn continues_word(byte: u8) -> bool
 }
 
 /// How many of the first bytes may stand in a word.
-#[tactic(auto, using(crate::proofs::Words::lengths))]
+#[tactic(auto, using(crate::proofs::WordLemmas::lengths))]
 fn continued_len(bytes: &[u8]) -> usize
     ensures len { result ≡ prefix_len continues_word bytes.now }
     ensures few { result ≤ length bytes.now }
@@ -125,7 +125,7 @@ fn continued_len(bytes: &[u8]) -> usize
 }
 
 /// How many bytes spell the word that the text begins with.
-#[tactic(auto, using(crate::proofs::Words::lengths))]
+#[tactic(auto, using(crate::proofs::WordLemmas::lengths))]
 fn word_len(text: &str) -> usize
     requires some { 0 < length text.now }
     requires starts { starts_word (get_or text.now 0 0) ≡ true }

@@ -88,13 +88,6 @@ IsSorted-tail R x xs s k d _ lt =
     let next = s (suc k) d (omega arith) (omega arith) in
     grind arith
 
-pub IsSorted-from : {X : Type 0} (R : X → X → Ordering) (xs : List X) → Rises R xs → IsSorted R xs
-IsSorted-from R [] rises k d _ lt = absurd (omega (arith, lt))
-IsSorted-from R (x ∷ []) rises k d _ lt = absurd (omega (arith, lt))
-IsSorted-from R (x ∷ y ∷ ys) rises zero d _ lt = rises.0
-IsSorted-from R (x ∷ y ∷ ys) rises (suc k) d _ lt =
-    grind (arith, IsSorted-from R (y ∷ ys) rises.1 k d (omega arith) (omega (arith, lt)))
-
 Rises-from : {X : Type 0} (R : X → X → Ordering) (xs : List X) → IsSorted R xs → Rises R xs
 Rises-from R [] s = tt
 Rises-from R (x ∷ []) s = tt

@@ -1,8 +1,8 @@
 //! Sixty-four answers that may be unknown, joined all at once.
-#![tactic(auto, using(crate::proofs::Lanes::lanes))]
+#![tactic(auto, using(crate::proofs::LaneLemmas::lanes))]
 
 ghost use Rattle.std.specs.Prelude.{◌≡◌, ℕ, ◌<◌, Some, true, false};
-ghost use Rattle.cfgx_syntax.specs.Kleene.{AreApart, EachLane, IsApart, lane};
+ghost use Rattle.cfgx_syntax.specs.Kleene.{AreDisjoint, EachLane, IsDisjoint, lane};
 ghost use Rattle.cfgx_syntax.specs.Kleene.{planes_and, planes_bottom, planes_not, planes_or};
 ghost use Rattle.cfgx_syntax.specs.Kleene.{planes_top};
 ghost use Rattle.cfgx_syntax.specs.Logic.{kleene_and, kleene_not, kleene_or};
@@ -19,13 +19,13 @@ pub struct Kleene64 {
 }
 
 impl Model for Kleene64 {
-    ghost use Rattle.cfgx_syntax.specs.Kleene.{AreApart, Planes};
+    ghost use Rattle.cfgx_syntax.specs.Kleene.{AreDisjoint, Planes};
 
     ghost Value = { Planes };
 
     ghost view = { λ k. record { is_true = k.is_true; is_false = k.is_false } };
 
-    ghost invariant = { λ k. AreApart k.is_true k.is_false };
+    ghost invariant = { λ k. AreDisjoint k.is_true k.is_false };
 
     ghost inverse = { λ p. record { is_true = p.is_true; is_false = p.is_false } };
 }
@@ -34,7 +34,7 @@ impl Kleene64 {
     /// The answers whose true lanes are the bits of `is_true`, and whose false lanes are those of
     /// `is_false`. No bit may stand in both.
     pub fn new(is_true: u64, is_false: u64) -> Kleene64
-        requires { AreApart is_true is_false }
+        requires { AreDisjoint is_true is_false }
         ensures { result ≡ record { is_true = is_true; is_false = is_false } }
     {
         Kleene64 { is_true, is_false }
@@ -55,8 +55,8 @@ impl Kleene64 {
     }
 
     // No lane is both: so much of a value is not seen from outside.
-    pub(super) fn is_apart(&self)
-        ensures { IsApart self.now }
+    pub(super) fn is_disjoint(&self)
+        ensures { IsDisjoint self.now }
     {
         let _ = &self.is_true;
     }

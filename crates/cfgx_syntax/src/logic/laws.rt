@@ -2,7 +2,7 @@
 //! knows the law.
 ghost use Rattle.std.specs.Prelude.{◌≡◌, ◌↔◌, IsTrue};
 ghost use Rattle.std.specs.List.{AllByRecursion};
-ghost use Rattle.cfgx_syntax.specs.Kleene.{IsApart};
+ghost use Rattle.cfgx_syntax.specs.Kleene.{IsDisjoint};
 
 use super::Kleene64;
 
@@ -14,12 +14,12 @@ pub fn are_same_lanes(one: Kleene64, other: Kleene64) -> bool
 }
 
 /// No lane of any of the answers is both true and false.
-pub fn are_apart(answers: &[Kleene64])
-    ensures { AllByRecursion IsApart answers.now }
+pub fn are_disjoint(answers: &[Kleene64])
+    ensures { AllByRecursion IsDisjoint answers.now }
 {
     let mut left = answers;
     while let Some((answer, others)) = left.split_first() {
-        answer.is_apart();
+        answer.is_disjoint();
         left = others;
     }
 }

@@ -1,7 +1,7 @@
 -- White space goes on after ASCII white space only if a longer character is next.
 use Rattle.std.proofs.{Common.arith, Common.rules, lemmas.Grind.common_steps}
 use Rattle.cfgx_syntax.proofs.Blanks.{blank-ascii, trim_after, trim_blanks}
-use Rattle.cfgx_syntax.proofs.Words.{IsCharBoundary-after}
+use Rattle.cfgx_syntax.proofs.WordLemmas.{IsCharBoundary-after}
 use Rattle.cfgx_syntax.proofs.lexer.after_blanks.Goals as goal
 
 pub range_from-rest-requires : goal.range_from-rest-requires

@@ -1,7 +1,7 @@
 -- One byte is a token by itself, and a word runs as far as it can.
 use Rattle.std.proofs.{Common.arith, Common.rules, lemmas.Grind.common_steps, Math.Nat.sub-zero}
-use Rattle.cfgx_syntax.proofs.Words.{BeginsWith-byte, BeginsWith-word, word_front}
-use Rattle.cfgx_syntax.proofs.Words.{IsCharBoundary-after, continues_word-ascii}
+use Rattle.cfgx_syntax.proofs.WordLemmas.{BeginsWith-byte, BeginsWith-word, word_front}
+use Rattle.cfgx_syntax.proofs.WordLemmas.{IsCharBoundary-after, continues_word-ascii}
 use Rattle.cfgx_syntax.proofs.lexer.first_token.Goals as goal
 
 pub returns-in-40 : goal.returns-in-40
