@@ -1,18 +1,12 @@
 -- Trees of one shape and with the same literals, whose other leaves stand in a relation one by one.
-use Rattle.std.proofs.Common.{arith, ◌≡◌, ℕ, suc, zero, Bool, List, [], ◌∷◌, ◌++◌, length, drop}
-use Rattle.std.proofs.{Common.if◌then◌else◌, lemmas.Slice.Zip.AllZip-long}
+use Rattle.std.proofs.Common.{arith, ◌≡◌, Bool, List, [], ◌∷◌, ◌++◌, length}
+use Rattle.std.proofs.{lemmas.Slice.Zip.AllZip-long}
 use Rattle.std.specs.List.{AllZip}
 use Rattle.cfgx_grammar.specs.Tree.{ListFunction, Tree, Trees, is_function, is_leaf, asked}
 use Rattle.cfgx_grammar.specs.{Tree.asked_by, Fold.answered, Fold.answered_each}
+use Rattle.cfgx_grammar.specs.Filling.{polarities, polarities_each}
 
 -- Lists whose items stand in a relation.
-
-AllZip-drop : {T U : Type 0} (R : T → U → Type 0) (n : ℕ) (xs : List T) (ys : List U)
-    → AllZip R xs ys → AllZip R (drop n xs) (drop n ys)
-AllZip-drop R zero xs ys zipped = zipped
-AllZip-drop R (suc n) [] [] zipped = zipped
-AllZip-drop R (suc n) (x ∷ xs) (y ∷ ys) zipped = AllZip-drop R n xs ys zipped.1
-AllZip-drop R (suc n) _ _ zipped = absurd zipped
 
 pub AllZip-append : {T U : Type 0} (R : T → U → Type 0) (xs others : List T) (ys more : List U)
     → AllZip R xs ys → AllZip R others more → AllZip R (xs ++ others) (ys ++ more)
@@ -20,12 +14,6 @@ AllZip-append R [] others [] more zipped rest = rest
 AllZip-append R (x ∷ xs) others (y ∷ ys) more zipped rest =
     (zipped.0, AllZip-append R xs others ys more zipped.1 rest)
 AllZip-append R _ others _ more zipped rest = absurd zipped
-
--- one of two lists, on both sides
-pub AllZip-if : {T U : Type 0} (R : T → U → Type 0) (b : Bool) (xs others : List T)
-    (ys more : List U) → AllZip R xs ys → AllZip R others more
-    → AllZip R (if b then xs else others) (if b then ys else more)
-AllZip-if R b xs others ys more here rest = grind arith
 
 module _ {T U : Type 0} (R : T → U → Type 0) where
   mutual
@@ -87,30 +75,6 @@ module _ {T U : Type 0} (R : T → U → Type 0) where
   length-asked_by xs ys each = AllZip-long R _ _
       (asked_by-alike is_function is_function same_functions xs ys each)
 
--- Answers that are alike, dealt out to one tree, make trees that are alike.
-module _ {T U : Type 0} (R : T → U → Type 0) (one : T) (other : U) (related : R one other) where
-  mutual
-    pub answered-alike : {X : Type 0} (tree : Tree X) (xs : List T) (ys : List U) → AllZip R xs ys
-        → Alike R (answered one tree xs) (answered other tree ys)
-    answered-alike (Tree.leaf x) xs ys zipped = Alike.leaf _ _ (grind arith)
-    answered-alike (Tree.literal truth) xs ys zipped = Alike.literal truth
-    answered-alike (Tree.list function trees) xs ys zipped = Alike.list function _ _
-        (answered_each-alike trees _ _ _ _ zipped
-        (AllZip-drop R (length (asked_by is_function trees)) xs ys zipped))
-    answered-alike (Tree.not tree) xs ys zipped = Alike.not _ _ (answered-alike tree xs ys zipped)
-
-    answered_each-alike : {X : Type 0} (trees : Trees X) (xs others : List T) (ys further : List U)
-        → AllZip R xs ys → AllZip R others further
-        → AlikeEach R (answered_each one trees xs others) (answered_each other trees ys further)
-    answered_each-alike Trees.none xs others ys further inner own = AlikeEach.none
-    answered_each-alike (Trees.more (Tree.leaf x) trees) xs others ys further inner own =
-        AlikeEach.more _ _ _ _ (answered-alike (Tree.leaf x) others further own)
-        (answered_each-alike trees xs _ ys _ inner (AllZip-drop R 1 others further own))
-    answered_each-alike (Trees.more tree trees) xs others ys further inner own =
-        AlikeEach.more _ _ _ _ (answered-alike tree xs ys inner)
-        (answered_each-alike trees _ others _ further
-        (AllZip-drop R (length (asked tree)) xs ys inner) own)
-
 module _ {X T : Type 0} (otherwise : T) where
   mutual
     -- a tree keeps its shape when it is answered
@@ -129,3 +93,21 @@ module _ {X T : Type 0} (otherwise : T) where
         (answered-shape (Tree.leaf x) own) (answered_each-shape trees _ _)
     answered_each-shape (Trees.more tree trees) inner own =
         AlikeEach.more _ _ _ _ (answered-shape tree inner) (answered_each-shape trees _ _)
+
+-- and when its predicates become their polarities
+module _ {X : Type 0} where
+  mutual
+    pub polarities-shape : (polarity : Bool) (tree : Tree X)
+        → SameShape tree (polarities polarity tree)
+    polarities-shape polarity (Tree.leaf x) = Alike.leaf _ _ tt
+    polarities-shape polarity (Tree.literal truth) = Alike.literal truth
+    polarities-shape polarity (Tree.list function trees) =
+        Alike.list function _ _ (polarities_each-shape polarity trees)
+    polarities-shape polarity (Tree.not tree) =
+        Alike.not _ _ (polarities-shape _ tree)
+
+    pub polarities_each-shape : (polarity : Bool) (trees : Trees X)
+        → SameShapes trees (polarities_each polarity trees)
+    polarities_each-shape polarity Trees.none = AlikeEach.none
+    polarities_each-shape polarity (Trees.more tree trees) = AlikeEach.more _ _ _ _
+        (polarities-shape polarity tree) (polarities_each-shape polarity trees)

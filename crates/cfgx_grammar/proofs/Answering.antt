@@ -1,14 +1,14 @@
 -- What the parser answers for the one token list of a text, the grammar answers for the text.
-use Rattle.std.proofs.Common.{arith, ◌≡◌, ℕ, List, [], ◌∷◌, length, Some, Result, Ok, Err, sym}
-use Rattle.std.proofs.Common.{refl, ap, ◌∙◌, subst}
-use Rattle.cfgx_syntax.specs.Items.{Item, Ending, AreItems, HasOneTokenList, lexical}
+use Rattle.std.proofs.Common.{arith, ◌≡◌, ℕ, List, [], ◌∷◌, length, Some, None, Result, Ok, Err}
+use Rattle.std.proofs.Common.{refl}
+use Rattle.cfgx_syntax.specs.Items.{Item, Ending, AreItems, HasOneTokenList}
 use Rattle.cfgx_syntax.specs.Error.{Refusal}
 use Rattle.cfgx_syntax.proofs.TokenList.{ItemsFrom-same}
-use Rattle.cfgx_grammar.specs.{Question.Question, Tree.Tree, Grammar.IsTree, Grammar.HasTree}
+use Rattle.cfgx_grammar.specs.{Question.Question, Tree.Tree, Grammar.HasTree}
 use Rattle.cfgx_grammar.specs.Answer.{HasOneTree, HasReading, Reading, ReadsAs}
 use Rattle.cfgx_grammar.specs.parsing.State.{Builder, State, initial}
-use Rattle.cfgx_grammar.specs.parsing.Step.{and_then, step_each, conclude, ended_as, answer_from}
-use Rattle.cfgx_grammar.proofs.accepted.{tokens_of, ran, IsTree-accepted}
+use Rattle.cfgx_grammar.specs.parsing.Step.{step_each, conclude, answer_from}
+use Rattle.cfgx_grammar.proofs.accepted.{ran, IsTree-accepted}
 use Rattle.cfgx_grammar.proofs.faults.Steps.{EndAgrees, whole_agrees}
 use Rattle.cfgx_grammar.proofs.spelled.{Laws, tree_builder, tree_laws, tree_built, Finds}
 use Rattle.cfgx_grammar.proofs.spelled.{Finds-tree}
@@ -16,33 +16,21 @@ use Rattle.cfgx_grammar.proofs.spelled.{Finds-tree}
 module _ {W M L : Type 0} {builder : Builder W M L} (text : List ℕ)
     (one : HasOneTokenList text) where
   abbrev pub answer : Result (State builder) Refusal
-  answer = answer_from initial text one.items one.ending
-
-  -- what is found for a tree
-  pub record FindsTree (laws : Laws builder) (tree : Tree Question) : Type 0 where
-    pub found : Finds laws (length text) one.items tree
-    pub answers : answer ≡ Ok found.whole
+  answer = answer_from None initial text one.items one.ending
 
   -- a tree is spelled by the one token list
-  pub FindsTree-tree : (laws : Laws builder) (tree : Tree Question) → HasTree text tree
-      → FindsTree laws tree
-  FindsTree-tree laws tree has =
+  pub Finds-one : (laws : Laws builder) (tree : Tree Question) → HasTree text tree
+      → Finds laws text one.items one.ending tree
+  Finds-one laws tree has =
       let same = one.only has.items Ending.blank has.are_items in
-      let found = Finds-tree laws (length text) one.items tree
-      (subst (λ l. IsTree (tokens_of l) tree) same.0 has.spelled) in
-      record {
-        found = found;
-        answers = ap (and_then (ended_as text (lexical text one.ending))) found.runs
-            ∙ ap (λ e. ended_as text (lexical text e) found.read) (sym same.1)
-            ∙ found.concludes;
-      }
+      rw (same.0, same.1) at (Finds-tree laws text has.items tree has.spelled)
 
   -- what is accepted has a tree
   pub tree_of : (u : State builder) → answer ≡ Ok u → (tree : Tree Question) × HasTree text tree
   tree_of u e =
-      let r = ran (step_each initial one.items) (ended_as text (lexical text one.ending)) u e in
+      let r = ran (step_each None initial one.items) _ u e in
       let blank : one.ending ≡ Ending.blank = grind arith in
-      let ended : conclude (length text) r.0 ≡ Ok u = grind (arith, r.2) in
+      let ended : conclude r.0.0 (length text) r.0.1 ≡ Ok u = grind (arith, r.2) in
       grind (arith, ended, IsTree-accepted)
 
 -- What the parser that builds the tree answers for a text that reads so.
@@ -55,11 +43,11 @@ record Shown (text : List ℕ) (reading : Reading) : Type 0 where
   pub items : List Item
   pub ending : Ending
   pub are : AreItems text items ending
-  pub shows : Shows reading (answer_from initial text items ending)
+  pub shows : Shows reading (answer_from None initial text items ending)
 
 shown : (text : List ℕ) (reading : Reading) → HasReading text reading → Shown text reading
 shown text (Ok tree) has =
-    let f = Finds-tree tree_laws (length text) has.items tree has.spelled in
+    let f = Finds-tree tree_laws text has.items tree has.spelled in
     grind (arith, tree_built)
 shown text (Err fault) has =
     let agrees = whole_agrees tree_builder text has.items has.ending in

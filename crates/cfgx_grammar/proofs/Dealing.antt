@@ -1,55 +1,9 @@
 -- Answers that are dealt out to a tree are what the answered tree asks.
-use Rattle.std.proofs.{lemmas.Grind.common_steps, Common.append-nil, Common.take_all}
-use Rattle.std.proofs.Common.{append_assoc, drop_at, ◌≡◌, ◌≤◌, List, [], ◌∷◌, ◌++◌, length, take}
-use Rattle.std.proofs.Common.{refl, sym, ap, ◌∙◌, arith, length-append, length-drop, take-add}
+use Rattle.std.proofs.{Common.take_all}
+use Rattle.std.proofs.Common.{◌≡◌, ◌≤◌, List, [], ◌∷◌, ◌++◌, length, take}
+use Rattle.std.proofs.Common.{refl, arith, length-append, length-drop, take-add}
 use Rattle.cfgx_grammar.specs.Tree.{Tree, Trees, is_function, is_leaf, asked, asked_by}
 use Rattle.cfgx_grammar.specs.Fold.{left_after, answered, answered_each}
-use Rattle.cfgx_grammar.proofs.Alike.{Alike, AlikeEach, SameShape, SameShapes, length-asked}
-use Rattle.cfgx_grammar.proofs.Alike.{length-asked_by}
-
--- What a tree asks, dealt out to a tree of its shape, makes it again.
-module _ {X T : Type 0} (otherwise : T) where
-  -- the members of a list, whatever comes after
-  abbrev Remade : Trees X → Trees T → Type 0
-  Remade trees answers = (inner own : List T) → answered_each otherwise trees
-      (asked_by is_function answers ++ inner) (asked_by is_leaf answers ++ own) ≡ answers
-
-  list_front : (trees : Trees X) (answers : Trees T)
-      → length (asked_by is_function answers) ≡ length (asked_by is_function trees)
-      → Remade trees answers → (more : List T)
-      → let all = (asked_by is_function answers ++ asked_by is_leaf answers) ++ more in
-      answered_each otherwise trees all (left_after (asked_by is_function trees) all) ≡ answers
-  list_front trees answers many remade more = grind (arith, common_steps)
-
-  mutual
-    answered-front : (tree : Tree X) (answer : Tree T) → SameShape tree answer → (more : List T)
-        → answered otherwise tree (asked answer ++ more) ≡ answer
-    answered-front _ _ (Alike.leaf x y related) more = refl
-    answered-front _ _ (Alike.literal truth) more = refl
-    answered-front _ _ (Alike.list function xs ys each) more =
-        ap (Tree.list function) (list_front xs ys (length-asked_by _ xs ys each)
-        (answered_each-front xs ys each) more)
-    answered-front _ _ (Alike.not x y alike) more = ap Tree.not (answered-front x y alike more)
-
-    answered_each-front : (trees : Trees X) (answers : Trees T) → SameShapes trees answers
-        → Remade trees answers
-    answered_each-front _ _ AlikeEach.none inner own = refl
-    answered_each-front _ _ (AlikeEach.more _ _ xs ys (Alike.leaf x y related) rest) inner own =
-        ap (Trees.more (Tree.leaf y)) (answered_each-front xs ys rest inner own)
-    answered_each-front _ _ (AlikeEach.more _ _ xs ys (Alike.literal truth) rest) inner own =
-        ap (Trees.more (Tree.literal truth)) (answered_each-front xs ys rest inner own)
-    answered_each-front _ _ (AlikeEach.more x y xs ys alike rest) inner own =
-        let many = length-asked _ x y alike in
-        rw (append_assoc (asked y), answered-front x y alike _, drop_at (asked y) _ _ many)
-        (ap (Trees.more y) (answered_each-front xs ys rest inner own))
-
-  pub answered-asked : (tree : Tree X) (answer : Tree T) → SameShape tree answer
-      → answered otherwise tree (asked answer) ≡ answer
-  answered-asked tree answer shape =
-      ap (answered otherwise tree) (sym (append-nil (asked answer)))
-      ∙ answered-front tree answer shape []
-
--- And an answered tree asks the answers that it took.
 
 -- two parts of what is asked, one after another
 taken_both : {X T : Type 0} (first second : List X) (answers these those : List T)

@@ -1,160 +1,162 @@
 -- Three values are exact: a value is known exactly if every filling leads to it.
-use Rattle.std.proofs.Common.{◌≡◌, Bool, true, false, not, List, [], ◌∷◌, arith, length, Option}
-use Rattle.std.proofs.Common.{Some, refl, ap, ◌∙◌, map, unwrap_or}
-use Rattle.std.proofs.lemmas.List.{map-append}
+use Rattle.std.proofs.Common.{◌≡◌, ℕ, ◌+◌, Bool, true, false, not, List, [], ◌∷◌, ◌++◌, arith}
+use Rattle.std.proofs.Common.{length, Option, refl, sym, ◌∙◌, drop, unwrap_or}
+use Rattle.std.proofs.lemmas.List.{drop-drop}
 use Rattle.std.specs.List.{AllZip}
 use Rattle.cfgx_grammar.specs.Tree.{ListFunction, Tree, Trees, is_function, is_leaf, asked}
-use Rattle.cfgx_grammar.specs.Fold.{Operations, from_last, list_value, value_of, values_by}
-use Rattle.cfgx_grammar.specs.{Fold.answered, Fold.fold, Filling.filled_each, Filling.polar}
-use Rattle.cfgx_grammar.specs.Filling.{two_valued, three_valued, Agrees, IsFilling, IsExact, filled}
-use Rattle.cfgx_grammar.proofs.Alike.{Alike, AlikeEach, SameTests, AllZip-append, AllZip-if}
-use Rattle.cfgx_grammar.proofs.Alike.{same_functions, same_leaves, asked-alike, answered-alike}
-use Rattle.cfgx_grammar.proofs.Alike.{answered-shape}
-use Rattle.cfgx_grammar.proofs.Dealing.{answered-asked, asked-answered}
+use Rattle.cfgx_grammar.specs.Tree.{asked_by}
+use Rattle.cfgx_grammar.specs.Fold.{Operations, from_last, list_value, values_by, first_or}
+use Rattle.cfgx_grammar.specs.Fold.{answered_each, tree_fold}
+use Rattle.cfgx_grammar.specs.Filling.{two_valued, three_valued, filled_by, Agrees, IsFilling}
+use Rattle.cfgx_grammar.specs.Filling.{IsExact, polar, polarities, polarities_each}
+use Rattle.cfgx_grammar.proofs.Alike.{AllZip-append, length-asked, length-asked_by}
+use Rattle.cfgx_grammar.proofs.Alike.{polarities-shape, polarities_each-shape}
 
 -- Values of two logics that are related stay so.
 
--- the operations of two logics preserve a relation of their values
+-- the operations of two logics preserve a relation of their values for each polarity, which `not`
+-- turns over
 pub record Preserve {T U : Type 0} (one : Operations T) (other : Operations U)
-    (R : T → U → Type 0) : Type 0 where
-  pub top : R one.top other.top
-  pub bottom : R one.bottom other.bottom
-  pub and : (x y : T) (u v : U) → R x u → R y v → R (one.and x y) (other.and u v)
-  pub or : (x y : T) (u v : U) → R x u → R y v → R (one.or x y) (other.or u v)
-  pub not : (x : T) (u : U) → R x u → R (one.not x) (other.not u)
+    (R : Bool → T → U → Type 0) : Type 0 where
+  pub top : (p : Bool) → R p one.top other.top
+  pub bottom : (p : Bool) → R p one.bottom other.bottom
+  pub and : (p : Bool) (x y : T) (u v : U) → R p x u → R p y v → R p (one.and x y) (other.and u v)
+  pub or : (p : Bool) (x y : T) (u v : U) → R p x u → R p y v → R p (one.or x y) (other.or u v)
+  pub turn : (p : Bool) (x : T) (u : U) → R (not p) x u → R p (one.not x) (other.not u)
 
-module _ {T U : Type 0} (one : Operations T) (other : Operations U) (R : T → U → Type 0)
+-- the answers to predicates of these polarities are related; `top` stands for an answer that is
+-- missing
+abbrev pub Along : {T U : Type 0} → Operations T → Operations U → (Bool → T → U → Type 0)
+    → List Bool → List T → List U → Type 0
+Along one other R [] xs ys = Unit {0}
+Along one other R (p ∷ ps) xs ys = R p (first_or one.top xs) (first_or other.top ys)
+    × Along one other R ps (drop 1 xs) (drop 1 ys)
+
+module _ {T U : Type 0} (one : Operations T) (other : Operations U) (R : Bool → T → U → Type 0)
+  where
+    Along-append : (these those : List Bool) (xs : List T) (ys : List U)
+        → Along one other R (these ++ those) xs ys → (n : ℕ) → length these ≡ n
+        → Along one other R these xs ys × Along one other R those (drop n xs) (drop n ys)
+    Along-append [] those xs ys all n long = rw (sym long) (tt, all)
+    Along-append (p ∷ these) those xs ys all n long =
+        let rest = Along-append these those (drop 1 xs) (drop 1 ys) all.1 (length these) refl in
+        let many : 1 + length these ≡ n = omega (arith, long) in
+        ((all.0, rest.0), rw (← many, ← drop-drop _ 1 xs, ← drop-drop _ 1 ys) rest.1)
+
+module _ {T U : Type 0} (one : Operations T) (other : Operations U) (R : Bool → T → U → Type 0)
     (preserve : Preserve one other R) where
-  from_last_kept : (join : T → T → T) (other_join : U → U → U) (begin : T) (begun : U)
-      → R begin begun → ((x y : T) (u v : U) → R x u → R y v → R (join x y) (other_join u v))
-      → (xs : List T) (ys : List U) → AllZip R xs ys
-      → R (from_last join begin xs) (from_last other_join begun ys)
-  from_last_kept join other_join begin begun base each [] [] all = base
-  from_last_kept join other_join begin begun base each (x ∷ xs) (y ∷ ys) all =
-      grind (arith, from_last_kept join other_join begin begun base each xs ys all.1)
-  from_last_kept join other_join begin begun base each _ _ all = absurd all
+  from_last_kept : (p : Bool) (join : T → T → T) (other_join : U → U → U) (begin : T) (begun : U)
+      → R p begin begun
+      → ((x y : T) (u v : U) → R p x u → R p y v → R p (join x y) (other_join u v))
+      → (xs : List T) (ys : List U) → AllZip (R p) xs ys
+      → R p (from_last join begin xs) (from_last other_join begun ys)
+  from_last_kept p join other_join begin begun base each [] [] all = base
+  from_last_kept p join other_join begin begun base each (x ∷ xs) (y ∷ ys) all =
+      grind (arith, from_last_kept p join other_join begin begun base each xs ys all.1)
+  from_last_kept p join other_join begin begun base each _ _ all = absurd all
 
-  list_kept : (function : ListFunction) (xs : List T) (ys : List U) → AllZip R xs ys
-      → R (list_value one function xs) (list_value other function ys)
-  list_kept function xs ys all = grind (arith, from_last_kept)
+  list_kept : (p : Bool) (function : ListFunction) (xs : List T) (ys : List U)
+      → AllZip (R p) xs ys → R p (list_value one function xs) (list_value other function ys)
+  list_kept p function xs ys all = grind (arith, from_last_kept)
+
+  -- the values of the members that pass the test are related
+  abbrev Kept : Bool → Trees T → Trees U → Type 0
+  Kept p these those =
+      AllZip (R p) (values_by one is_function these) (values_by other is_function those)
+      × AllZip (R p) (values_by one is_leaf these) (values_by other is_leaf those)
 
   mutual
-    -- leaves that are related make related values
-    pub value_kept : (x : Tree T) (y : Tree U) → Alike R x y → R (value_of one x) (value_of other y)
-    value_kept _ _ (Alike.leaf x y related) = related
-    value_kept _ _ (Alike.literal true) = preserve.top
-    value_kept _ _ (Alike.literal false) = preserve.bottom
-    value_kept _ _ (Alike.list function xs ys each) =
-        list_kept function _ _ (AllZip-append R _ _ _ _
-        (values_kept is_function is_function (same_functions R) xs ys each)
-        (values_kept is_leaf is_leaf (same_leaves R) xs ys each))
-    value_kept _ _ (Alike.not x y alike) = preserve.not _ _ (value_kept x y alike)
+    -- answers that are related make related values
+    pub value_kept : {X : Type 0} (tree : Tree X) (p : Bool) (xs : List T) (ys : List U)
+        → Along one other R (asked (polarities p tree)) xs ys
+        → R p (tree_fold one tree xs) (tree_fold other tree ys)
+    value_kept (Tree.leaf x) p xs ys all = all.0
+    value_kept (Tree.literal true) p xs ys all = preserve.top p
+    value_kept (Tree.literal false) p xs ys all = preserve.bottom p
+    value_kept (Tree.list function trees) p xs ys all =
+        let parts = Along-append one other R _ _ xs ys all _
+        (length-asked_by _ trees _ (polarities_each-shape p trees)) in
+        let each = values_kept trees p xs ys _ _ parts.0 parts.1 in
+        list_kept p function _ _ (AllZip-append (R p) _ _ _ _ each.0 each.1)
+    value_kept (Tree.not tree) p xs ys all =
+        preserve.turn p _ _ (value_kept tree (not p) xs ys all)
 
-    values_kept : (f : Tree T → Bool) (g : Tree U → Bool) → SameTests R f g
-        → (xs : Trees T) (ys : Trees U) → AlikeEach R xs ys
-        → AllZip R (values_by one f xs) (values_by other g ys)
-    values_kept f g same _ _ AlikeEach.none = tt
-    values_kept f g same _ _ (AlikeEach.more x y xs ys first rest) =
-        grind (arith, AllZip-if, value_kept x y first, values_kept f g same xs ys rest)
+    values_kept : {X : Type 0} (trees : Trees X) (p : Bool) (xs : List T) (ys : List U)
+        (own : List T) (others : List U)
+        → Along one other R (asked_by is_function (polarities_each p trees)) xs ys
+        → Along one other R (asked_by is_leaf (polarities_each p trees)) own others
+        → Kept p (answered_each one.top trees xs own) (answered_each other.top trees ys others)
+    values_kept Trees.none p xs ys own others inner outer = (tt, tt)
+    values_kept (Trees.more (Tree.leaf x) trees) p xs ys own others inner outer =
+        let rest = values_kept trees p xs ys _ _ inner outer.1 in
+        (rest.0, (outer.0, rest.1))
+    values_kept {X = X} (Trees.more (Tree.literal truth) trees) p xs ys own others inner outer =
+        let rest = values_kept trees p xs ys own others inner outer in
+        (rest.0, (value_kept {X = X} (Tree.literal truth) p xs ys tt, rest.1))
+    values_kept (Trees.more tree trees) p xs ys own others inner outer =
+        let parts = Along-append one other R _ _ xs ys inner _
+        (length-asked _ tree _ (polarities-shape p tree)) in
+        let rest = values_kept trees p _ _ own others parts.1 outer in
+        ((value_kept tree p xs ys parts.0, rest.0), rest.1)
 
-  -- and so do answers that are related
-  pub fold_kept : {X : Type 0} (tree : Tree X) (xs : List T) (ys : List U) → AllZip R xs ys
-      → R (fold one tree xs) (fold other tree ys)
-  fold_kept tree xs ys all = grind (arith, value_kept, answered-alike)
+Along-all : {T U : Type 0} (one : Operations T) (other : Operations U) (R : T → U → Type 0)
+    → R one.top other.top → (ps : List Bool) (xs : List T) (ys : List U) → AllZip R xs ys
+    → Along one other (λ p. R) ps xs ys
+Along-all one other R top [] xs ys all = tt
+Along-all one other R top (p ∷ ps) [] [] all = (top, Along-all one other R top ps [] [] tt)
+Along-all one other R top (p ∷ ps) (x ∷ xs) (y ∷ ys) all =
+    (all.0, Along-all one other R top ps xs ys all.1)
+Along-all one other R top _ _ _ all = absurd all
+
+-- a relation of all answers holds of the values
+pub fold_kept : {T U X : Type 0} (one : Operations T) (other : Operations U) (R : T → U → Type 0)
+    → Preserve one other (λ p. R) → (tree : Tree X) (xs : List T) (ys : List U) → AllZip R xs ys
+    → R (tree_fold one tree xs) (tree_fold other tree ys)
+fold_kept one other R preserve tree xs ys all = value_kept one other (λ p. R) preserve tree true
+    xs ys (Along-all one other R (preserve.top true) _ xs ys all)
 
 -- a filling makes a known value
 
-agreement : Preserve three_valued two_valued Agrees
+agreement : Preserve three_valued two_valued (λ p. Agrees)
 agreement = grind arith
 
--- A polar filling leads to the value, with its own side in the place of an unknown one.
+-- a polar filling leads to the value, with `fill` in the place of an unknown one
 
-abbrev side : Bool → Option Bool → Bool
-side fill value = unwrap_or value fill
+abbrev Side : Bool → Option Bool → Bool → Type 0
+Side fill value side = side ≡ unwrap_or value fill
 
-from_last-sides : (join : Bool → Bool → Bool) (other_join : Option Bool → Option Bool → Option Bool)
-    (begin fill : Bool) (values : List (Option Bool))
-    → ((x y : Option Bool) → join (side fill x) (side fill y) ≡ side fill (other_join x y))
-    → from_last join begin (map (side fill) values)
-    ≡ side fill (from_last other_join (Some begin) values)
-from_last-sides join other_join begin fill [] each = refl
-from_last-sides join other_join begin fill (value ∷ values) each =
-    rw (from_last-sides join other_join begin fill values each) (each _ value)
+sides : Preserve three_valued two_valued Side
+sides = grind arith
 
--- the tests of the two trees agree
-abbrev AreFilledAlike : (Tree (Option Bool) → Bool) → (Tree Bool → Bool) → Type 0
-AreFilledAlike f g = (fill : Bool) (tree : Tree (Option Bool)) → g (filled fill tree) ≡ f tree
+Along-sides : (ps : List Bool) (answers : List (Option Bool))
+    → Along three_valued two_valued Side ps answers (filled_by answers ps)
+Along-sides [] answers = tt
+Along-sides (p ∷ ps) [] = (refl, Along-sides ps [])
+Along-sides (p ∷ ps) (answer ∷ answers) = (refl, Along-sides ps answers)
 
-list_value-side : (function : ListFunction) (fill : Bool) (values : List (Option Bool))
-    → list_value two_valued function (map (side fill) values)
-    ≡ side fill (list_value three_valued function values)
-list_value-side function fill values = grind (arith, from_last-sides)
-
-mutual
-  value-filled : (fill : Bool) (tree : Tree (Option Bool))
-      → value_of two_valued (filled fill tree) ≡ side fill (value_of three_valued tree)
-  value-filled fill (Tree.leaf answer) = refl
-  value-filled fill (Tree.literal true) = refl
-  value-filled fill (Tree.literal false) = refl
-  value-filled fill (Tree.list function trees) =
-      let inner = values-filled is_function is_function (λ filling tree. grind arith) fill trees in
-      let own = values-filled is_leaf is_leaf (λ filling tree. grind arith) fill trees in
-      rw (inner, own, ← map-append) (list_value-side function fill _)
-  value-filled fill (Tree.not tree) = rw (value-filled (not fill) tree) (grind arith)
-
-  values-filled : (f : Tree (Option Bool) → Bool) (g : Tree Bool → Bool) → AreFilledAlike f g
-      → (fill : Bool) (trees : Trees (Option Bool)) → values_by two_valued g
-      (filled_each fill trees) ≡ map (side fill) (values_by three_valued f trees)
-  values-filled f g same fill Trees.none = refl
-  values-filled f g same fill (Trees.more tree trees) =
-      grind (arith, values-filled f g same fill trees, value-filled fill tree)
-
--- A filling is like the answers in what it keeps of each.
-module _ {X : Type 0} (R : X → Option Bool → Type 0) (S : X → Bool → Type 0)
-    (each : (fill : Bool) (x : X) (known : Option Bool) → R x known → S x (side fill known)) where
-  mutual
-    filled-alike : (fill : Bool) (tree : Tree X) (answers : Tree (Option Bool))
-        → Alike R tree answers → Alike S tree (filled fill answers)
-    filled-alike fill _ _ (Alike.leaf x y related) = Alike.leaf _ _ (each fill x y related)
-    filled-alike fill _ _ (Alike.literal truth) = Alike.literal truth
-    filled-alike fill _ _ (Alike.list function xs ys all) =
-        Alike.list function _ _ (filled_each-alike fill xs ys all)
-    filled-alike fill _ _ (Alike.not x y alike) = Alike.not _ _ (filled-alike (not fill) x y alike)
-
-    filled_each-alike : (fill : Bool) (trees : Trees X) (answers : Trees (Option Bool))
-        → AlikeEach R trees answers → AlikeEach S trees (filled_each fill answers)
-    filled_each-alike fill _ _ AlikeEach.none = AlikeEach.none
-    filled_each-alike fill _ _ (AlikeEach.more x y xs ys first rest) = AlikeEach.more _ _ _ _
-        (filled-alike fill x y first) (filled_each-alike fill xs ys rest)
-
-AllZip-same : {A : Type 0} (xs : List A) → AllZip ◌≡◌ xs xs
-AllZip-same [] = tt
-AllZip-same (x ∷ xs) = (refl, AllZip-same xs)
+is_filling : (answers : List (Option Bool)) (ps : List Bool) → length answers ≡ length ps
+    → IsFilling answers (filled_by answers ps)
+is_filling [] ps long = tt
+is_filling (answer ∷ answers) [] long = absurd (omega (arith, long))
+is_filling (answer ∷ answers) (p ∷ ps) long =
+    (grind arith, is_filling answers ps (omega (arith, long)))
 
 -- Both directions.
 
 module _ {X : Type 0} (tree : Tree X) (answers : List (Option Bool))
     (all : length answers ≡ length (asked tree)) where
-  abbrev given : Tree (Option Bool)
-  given = answered three_valued.top tree answers
-
-  polar_value : (fill : Bool) → fold two_valued tree (polar tree answers fill)
-      ≡ side fill (fold three_valued tree answers)
-  polar_value fill =
-      ap (value_of two_valued) (answered-asked two_valued.top tree (filled fill given)
-      (filled-alike _ _ (λ filling x answer any. tt) fill tree given
-      (answered-shape three_valued.top tree answers)))
-      ∙ value-filled fill given
+  polar_value : (fill : Bool) → tree_fold two_valued tree (polar tree answers fill)
+      ≡ unwrap_or (tree_fold three_valued tree answers) fill
+  polar_value fill = value_kept three_valued two_valued Side sides tree fill answers _
+      (Along-sides _ answers)
 
   polar_filling : (fill : Bool) → IsFilling answers (polar tree answers fill)
-  polar_filling fill =
-      let same = answered-alike ◌≡◌ _ _ refl tree answers answers (AllZip-same answers) in
-      rw (asked-answered three_valued.top tree answers all)
-      at (asked-alike Agrees given (filled fill given) (filled-alike ◌≡◌ Agrees
-      (λ filling x answer same. grind arith) fill given given same))
+  polar_filling fill = is_filling answers _
+      (all ∙ sym (length-asked _ tree _ (polarities-shape fill tree)))
 
   pub IsExact-fold : IsExact tree answers
   IsExact-fold =
       let upper = polar_value true in
       let lower = polar_value false in
-      grind (arith, fold_kept, agreement, polar_filling)
+      let kept = fold_kept three_valued two_valued Agrees agreement tree answers in
+      grind (arith, kept, polar_filling)

@@ -1,13 +1,12 @@
 pub mod Alike
 pub mod Answering
 pub mod Arranging
+pub mod Continuing
 pub mod Dealing
 pub mod Exactness
-pub mod Mapping
+pub mod MappedValues
 pub mod Matched
-pub mod Reading
 pub mod Stripped
-pub mod Writing
 pub mod accepted
 pub mod alone
 pub mod faults

@@ -1,11 +1,10 @@
 -- Nothing is stripped from a text that has a tree: after the word `cfg` no `(` may stand.
-use Rattle.std.proofs.Common.{◌≡◌, ℕ, Bool, true, false, List, ◌∷◌, ◌++◌, nat_eq, sym, refl, ap}
+use Rattle.std.proofs.Common.{◌≡◌, ℕ, Bool, true, false, List, ◌∷◌, ◌++◌, nat_eq, refl, ap}
 use Rattle.std.proofs.Common.{◌∙◌, arith, codes}
 use Rattle.std.specs.List.{starts_with}
 use Rattle.std.proofs.{lemmas.Slice.Eq.starts_is, lemmas.Bool.Decides.Decides-eqb}
 use Rattle.cfgx_syntax.specs.{Stripping.strip, Token.Token, Items.Item, Items.Ending}
-use Rattle.cfgx_grammar.specs.{Question.Question, Tree.Tree, Grammar.HasTree, parsing.State.initial}
-use Rattle.cfgx_grammar.specs.parsing.Step.{step_each}
+use Rattle.cfgx_grammar.specs.{Question.Question, Tree.Tree, Grammar.HasTree}
 use Rattle.cfgx_syntax.proofs.TokenList.{Follows-stands}
 use Rattle.cfgx_grammar.proofs.spelled.{tree_laws, Finds-tree}
 
@@ -24,8 +23,8 @@ module _ (text rest : List ℕ) (is : text ≡ codes "cfg(" ++ rest) where
       let second = Follows-stands text 3 opening first.rest Ending.blank (grind arith) first.come in
       let items : has.items ≡ word ∷ opening ∷ second.rest = first.items_are
       ∙ ap (λ l. word ∷ l) second.items_are in
-      let found = Finds-tree tree_laws 0 has.items tree has.spelled in
-      absurd (cc (ap (step_each initial) (sym items) ∙ found.runs))
+      let found = Finds-tree tree_laws text (word ∷ opening ∷ second.rest) tree
+      (rw items at has.spelled) in absurd (cc found.answers)
 
 strip_by : (text : List ℕ) (tree : Tree Question) → HasTree text tree → (b : Bool)
     → starts_with nat_eq text (codes "cfg(") ≡ b → strip text ≡ text

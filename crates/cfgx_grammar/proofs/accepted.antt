@@ -12,10 +12,10 @@ use Rattle.cfgx_grammar.specs.parsing.State.{Function, Open, name_of, Word, Pend
 use Rattle.cfgx_grammar.specs.{parsing.State.initial, LastPredicate.class_of, LastPredicate.word_of}
 use Rattle.cfgx_grammar.specs.parsing.Step.{has_room, result_map, leaf_ended, ended_by}
 use Rattle.cfgx_grammar.specs.parsing.Step.{predicate_ended, new_open, and_then, opened}
-use Rattle.cfgx_grammar.specs.parsing.Step.{member_count, function_ended, closed_by, with_last}
+use Rattle.cfgx_grammar.specs.parsing.Step.{member_count, function_ended, closed_by}
 use Rattle.cfgx_grammar.specs.parsing.Step.{apply, step, step_each, one_root, conclude}
 use Rattle.cfgx_grammar.specs.{Classification.Class, Classification.class, FirstFault.lacks_value}
-use Rattle.cfgx_grammar.specs.Neighbours.{Kind, takes, kind_of}
+use Rattle.cfgx_grammar.specs.FollowSet.{Kind, takes, kind_of, next}
 
 -- The tree of a leaf: a predicate or a literal that stands alone.
 abbrev pub leaf_tree : Leaf → Tree Question
@@ -245,7 +245,7 @@ module _ {W M L : Type 0} {builder : Builder W M L} where
 
   -- `)` stands in front of what completes the function around
   Ends-close : (s u : State builder) (tokens : List Token) (c : Closes s u)
-      → Completes (Some Token.close_paren) (with_last Token.close_paren u) tokens
+      → Completes (Some Token.close_paren) u tokens
       → Ends c.2.stack c.2.roots 0 (Token.close_paren ∷ tokens)
   Ends-close s u tokens (top, rest, settled, is, room, ends, closed) completes = grind arith
 
@@ -264,7 +264,7 @@ module _ {W M L : Type 0} {builder : Builder W M L} where
     at token = record { token = token; start = start; end = end }
 
     abbrev After : Token → State builder → Type 0
-    After token v = Completes (Some token) (with_last token v) tokens
+    After token v = Completes (Some token) v tokens
 
     Completes-open : apply s (at Token.open_paren) Token.open_paren ≡ Ok u
         → After Token.open_paren u → Completes (Some Token.all) s (Token.open_paren ∷ tokens)
@@ -306,33 +306,35 @@ module _ {W M L : Type 0} {builder : Builder W M L} where
   one_rooted : (len : ℕ) (s u : State builder) → one_root len s ≡ Ok u → s.roots ≡ 1
   one_rooted len s u e = grind arith
 
-  concluded : (len : ℕ) (s u : State builder) → conclude len s ≡ Ok u
-      → (lacks_value s.last ≡ false) × (s.stack ≡ [])
+  concluded : (last : Option Token) (len : ℕ) (s u : State builder) → conclude last len s ≡ Ok u
+      → (lacks_value last ≡ false) × (s.stack ≡ [])
       × (and_then (one_root len) (predicate_ended s) ≡ Ok u)
-  concluded len s u e = grind arith
+  concluded last len s u e = grind arith
 
-  Completes-run : (items : List Item) (s t u : State builder) (len : ℕ)
-      → step_each s items ≡ Ok t → conclude len t ≡ Ok u → Completes s.last s (tokens_of items)
-  Completes-run [] s t u len runs ends =
-      let (whole, closed, rooted) = concluded len s u (ap (conclude len) (ok_same s t runs) ∙ ends)
-      in
+  Completes-run : (items : List Item) (last : Option Token) (s u : State builder)
+      (read : Option Token × State builder) (len : ℕ) → step_each last s items ≡ Ok read
+      → conclude read.0 len read.1 ≡ Ok u → Completes last s (tokens_of items)
+  Completes-run [] last s u read len runs ends =
+      let (whole, closed, rooted) = concluded last len s u
+      (ap (λ r. conclude r.0 len r.1) (ok_same (last, s) read runs) ∙ ends) in
       let (settled, ended, is_one) = ran (predicate_ended s) (one_root len) u rooted in
       let one = one_rooted len settled u is_one in
       let none : settled.stack ≡ [] = grind arith in
-      Completes-none s.last s settled [] (inr (whole, closed)) ended
+      Completes-none last s settled [] (inr (whole, closed)) ended
       (rw none (omega (arith, one), refl))
-  Completes-run (item ∷ items) s t u len runs ends =
-      let (next, steps, rest) = ran (step s item) (λ u. step_each u items) t runs in
-      let (may, applied, does, after) = allowed _ _ (apply s item item.token) _ next steps in
-      Completes-applied s applied (tokens_of items) item.start item.end s.last item.token may does
-      (subst (λ v. Completes v.last v (tokens_of items)) (sym after)
-      (Completes-run items next t u len rest ends))
+  Completes-run (item ∷ items) last s u read len runs ends =
+      let (t, steps, rest) = ran (step last s item) (λ t. step_each (Some item.token) t items) read
+      runs in
+      let applied : (next last item.token ≡ true) × (apply s item item.token ≡ Ok t) =
+      grind (arith, steps) in
+      Completes-applied s t _ item.start item.end last item.token applied.0 applied.1
+      (Completes-run items (Some item.token) t u read len rest ends)
 
   -- What the steps accept has a tree.
-  pub IsTree-accepted : (items : List Item) (s u : State builder) (len : ℕ)
-      → step_each initial items ≡ Ok s → conclude len s ≡ Ok u
-      → (tree : Tree Question) × IsTree (tokens_of items) tree
-  IsTree-accepted items s u len runs ends =
+  pub IsTree-accepted : (items : List Item) (u : State builder)
+      (read : Option Token × State builder) (len : ℕ) → step_each None initial items ≡ Ok read
+      → conclude read.0 len read.1 ≡ Ok u → (tree : Tree Question) × IsTree (tokens_of items) tree
+  IsTree-accepted items u read len runs ends =
       let (n, others, trees, after, are, none, list, (one, end)) =
-      Completes-run items initial s u len runs ends refl in
+      Completes-run items None initial u read len runs ends refl in
       grind (arith, list, end, one_tree, append-nil)

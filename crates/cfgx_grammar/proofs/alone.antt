@@ -12,7 +12,7 @@ use Rattle.cfgx_syntax.specs.Items.{Item, Ending, ItemsFrom, IsBlank, Stands, Ar
 use Rattle.cfgx_grammar.specs.Question.{Question, Leaf, TargetQuestion}
 use Rattle.cfgx_grammar.specs.Tree.{Tree, Trees, is_function, is_leaf, asked, asked_by}
 use Rattle.cfgx_grammar.specs.Grammar.{commas, IsMember, IsList, HasTree, leaf_tokens}
-use Rattle.cfgx_grammar.specs.Regular.{IsRegular, CanBeQuoted, IsAlone}
+use Rattle.cfgx_grammar.specs.WellFormed.{IsWellFormed, CanBeQuoted, IsAlone}
 use Rattle.cfgx_syntax.specs.Error.{Cause, invalid_integer, invalid_has_atomic}
 use Rattle.cfgx_targets.specs.Endian.{endian_text, endian_named}
 use Rattle.cfgx_targets.specs.HasAtomic.{IsWidth, atomic_text, atomic_named}
@@ -59,38 +59,39 @@ spelled_items text from [] ending come = tt
 spelled_items text from (item ∷ items) ending come =
     (grind arith, spelled_items text item.end items ending come.1)
 
-abbrev AreRegular : List Question → Type 0
-AreRegular questions = AllByRecursion IsRegular questions
+abbrev AreWellFormed : List Question → Type 0
+AreWellFormed questions = AllByRecursion IsWellFormed questions
 
 -- one of two
 kept_if : {A : Type 0} (P : A → Type 0) (b : Bool) (x y : A) → P x → P y → P (if b then x else y)
 kept_if P b x y here there = grind arith
 
 mutual
-  regular_member : (tokens : List Token) (tree : Tree Question) → AreSpelled tokens
-      → IsMember tokens tree → AreRegular (asked tree)
-  regular_member tokens (Tree.leaf question) spelled member = (grind arith, tt)
-  regular_member tokens (Tree.literal truth) spelled member = tt
-  regular_member tokens (Tree.list function trees) spelled (inner, is, list) =
+  well_formed_member : (tokens : List Token) (tree : Tree Question) → AreSpelled tokens
+      → IsMember tokens tree → AreWellFormed (asked tree)
+  well_formed_member tokens (Tree.leaf question) spelled member = (grind arith, tt)
+  well_formed_member tokens (Tree.literal truth) spelled member = tt
+  well_formed_member tokens (Tree.list function trees) spelled (inner, is, list) =
       let all = all_of_first IsSpelled inner _ (rw is at spelled).1.1 in
-      all_of_both IsRegular _ _ (regular_list is_function inner trees all list)
-      (regular_list is_leaf inner trees all list)
-  regular_member tokens (Tree.not tree) spelled (member, n, is, one) = regular_member member tree
+      all_of_both IsWellFormed _ _ (well_formed_list is_function inner trees all list)
+      (well_formed_list is_leaf inner trees all list)
+  well_formed_member tokens (Tree.not tree) spelled (member, n, is, one) =
+      well_formed_member member tree
       (all_of_first IsSpelled member _ (all_of_first IsSpelled _ _ (rw is at spelled).1.1)) one
 
-  regular_list : (test : Tree Question → Bool) (tokens : List Token) (trees : Trees Question)
-      → AreSpelled tokens → IsList tokens trees → AreRegular (asked_by test trees)
-  regular_list test tokens Trees.none spelled list = tt
-  regular_list test tokens (Trees.more tree trees) spelled (member, n, rest, is, apart, one, more) =
+  well_formed_list : (test : Tree Question → Bool) (tokens : List Token) (trees : Trees Question)
+      → AreSpelled tokens → IsList tokens trees → AreWellFormed (asked_by test trees)
+  well_formed_list test tokens Trees.none spelled list = tt
+  well_formed_list test tokens (Trees.more tree trees) spelled (member, n, rest, is, _, one, more) =
       let all = rw is at spelled in
       let beyond = all_of_second IsSpelled member (commas n ++ rest) all in
-      let here = regular_member member tree (all_of_first IsSpelled member _ all) one in
-      all_of_both IsRegular _ _ (kept_if AreRegular (test tree) _ [] here tt)
-      (regular_list test rest trees (all_of_second IsSpelled (commas n) rest beyond) more)
+      let here = well_formed_member member tree (all_of_first IsSpelled member _ all) one in
+      all_of_both IsWellFormed _ _ (kept_if AreWellFormed (test tree) _ [] here tt)
+      (well_formed_list test rest trees (all_of_second IsSpelled (commas n) rest beyond) more)
 
-pub regular_tree : (text : List ℕ) (tree : Tree Question) → HasTree text tree
-    → AreRegular (asked tree)
-regular_tree text tree has = grind (arith, spelled_items, regular_member, all_of_first)
+pub well_formed_tree : (text : List ℕ) (tree : Tree Question) → HasTree text tree
+    → AreWellFormed (asked tree)
+well_formed_tree text tree has = grind (arith, spelled_items, well_formed_member, all_of_first)
 
 -- The spelling of a predicate that can stand in a text is a text of this predicate alone.
 
@@ -101,8 +102,8 @@ text_of key (Some value) = key_and_value key value
 
 -- a key and perhaps a value say the predicate, and its spelling is theirs
 pub record IsSpelt (question : Question) : Type 0 where
-  pub regular : IsRegular question
-  pub spelled : spelling question ≡ text_of regular.key regular.value
+  pub well_formed : IsWellFormed question
+  pub spelled : spelling question ≡ text_of well_formed.key well_formed.value
 
 -- digits have no quote
 no_quote_digits : (digits : List ℕ) → AllDigits 10 digits → HasNoQuote digits
@@ -132,9 +133,9 @@ spelt_word : (word : List ℕ) (value : Option (List ℕ)) (question : Question)
     × (spelling question ≡ text_of word value) → IsSpelt question
 spelt_word word value question quoted (is, long, says, spelled) =
     let is_key : IsKey word = grind arith in
-    let regular : IsRegular question =
+    let well_formed : IsWellFormed question =
     record { key = word; value = value; is_key = is_key; can_be_quoted = quoted; says = says } in
-    record { regular = regular; spelled = spelled }
+    record { well_formed = well_formed; spelled = spelled }
 
 spelt_family : (name : List ℕ) → HasNoQuote name
     → IsSpelt (Question.target (TargetQuestion.family name))
@@ -294,13 +295,13 @@ items_alone key (Some value) is_key quoted =
     ((key_stands, (equals_stands, (value_stands, past))), refl)
 
 -- Its one tree: the spelling of a predicate that can stand in a text is a text of it alone.
-pub spelling_alone : (question : Question) → IsRegular question
+pub spelling_alone : (question : Question) → IsWellFormed question
     → IsAlone (spelling question) question
-spelling_alone question regular =
-    let good = rw regular.says at (good_class regular.key regular.value regular.can_be_quoted) in
+spelling_alone question is =
+    let good = rw is.says at (good_class is.key is.value is.can_be_quoted) in
     let s : IsSpelt question =
-    ⊎_elim (λ spelt. spelt) (λ is. record { regular = regular; spelled = is }) good in
-    let r = s.regular in
+    ⊎_elim (λ spelt. spelt) (λ spelled. record { well_formed = is; spelled = spelled }) good in
+    let r = s.well_formed in
     let (are, tokens) = items_alone r.key r.value r.is_key r.can_be_quoted in
     let has : HasTree (spelling question) (Tree.leaf question) = rw s.spelled (record {
       items = items_of r.key r.value;

@@ -3,8 +3,8 @@ use Rattle.std.proofs.Common.{◌≡◌, ℕ, zero, suc, ◌+◌, ◌-◌, ◌<�
 use Rattle.std.proofs.Common.{Option, Some, None, Ok, sym, refl, ap, ◌∙◌, arith, add-zero}
 use Rattle.std.proofs.Common.{append_assoc, length, take, drop, append-nil}
 use Rattle.std.proofs.Math.Seq.{take-append_seam, drop-append_seam}
-use Rattle.cfgx_syntax.specs.{Token.Token, Items.Item}
-use Rattle.cfgx_grammar.specs.{Question.Leaf, Question.Question, Neighbours.Kind, Neighbours.takes}
+use Rattle.cfgx_syntax.specs.{Token.Token, Items.Item, Items.Ending}
+use Rattle.cfgx_grammar.specs.{Question.Leaf, Question.Question, FollowSet.Kind, FollowSet.takes}
 use Rattle.cfgx_grammar.specs.{Classification.Class, Classification.class, FirstFault.lacks_value}
 use Rattle.cfgx_grammar.specs.{LastPredicate.word_of, LastPredicate.class_of, parsing.State.initial}
 use Rattle.cfgx_grammar.specs.{Tree.ListFunction, Tree.Tree, Tree.Trees, Tree.count, Grammar.IsTree}
@@ -12,7 +12,7 @@ use Rattle.cfgx_grammar.specs.Grammar.{commas, Separates, leaf_tokens, IsCall, I
 use Rattle.cfgx_grammar.specs.parsing.State.{Function, Pending, Builder, Open, State, name_of}
 use Rattle.cfgx_grammar.specs.parsing.Step.{with_member, one_more, ended_by, predicate_ended}
 use Rattle.cfgx_grammar.specs.parsing.Step.{new_open, has_room, function_ended, closed_by}
-use Rattle.cfgx_grammar.specs.parsing.Step.{with_parens, with_last, step_each, conclude, step}
+use Rattle.cfgx_grammar.specs.parsing.Step.{with_parens, step_each, answer_from, step}
 use Rattle.cfgx_grammar.proofs.accepted.{leaf_tree, tokens_of, ok_same, ran}
 
 -- The tokens of a tree are taken, from any state in which a member may come, and what is built
@@ -94,12 +94,12 @@ module _ {W M L : Type 0} {builder : Builder W M L} where
   grown zero s = s
   grown (suc n) s = grown n (with_member s)
 
-  abbrev settled : State builder → Option Token → W → State builder
-  settled s last written = record s { pending = None; last = last; written = written }
+  abbrev settled : State builder → W → State builder
+  settled s written = record s { pending = None; written = written }
 
   -- and after one more
-  abbrev pub between : State builder → Option Token → W → State builder
-  between s last written = with_member (settled s last written)
+  abbrev pub between : State builder → W → State builder
+  between s written = with_member (settled s written)
 
   -- the members are counted in the innermost function
   grown_top : (n : ℕ) (s : State builder) (top : Open M) (rest : List (Open M))
@@ -111,68 +111,69 @@ module _ {W M L : Type 0} {builder : Builder W M L} where
   abbrev pub inside : State builder → Function → Item → Item → State builder
   inside s function head opening = record s {
     stack = with_parens opening.start (new_open s function head) ∷ s.stack;
-    last = Some Token.open_paren;
     written = builder.function s.written;
   }
 
-  opens : (s : State builder) (function : Function) (head opening : Item) (rest : List Item)
-      → takes s.last Kind.name ≡ true → head.token ≡ name_of function
-      → opening.token ≡ Token.open_paren
-      → step_each s (head ∷ opening ∷ rest) ≡ step_each (inside s function head opening) rest
-  opens s function head opening rest may named is = grind arith
+  opens : (last : Option Token) (s : State builder) (function : Function) (head opening : Item)
+      (rest : List Item) → takes last Kind.name ≡ true → head.token ≡ name_of function
+      → opening.token ≡ Token.open_paren → step_each last s (head ∷ opening ∷ rest)
+      ≡ step_each (Some Token.open_paren) (inside s function head opening) rest
+  opens last s function head opening rest may named is = grind arith
 
   -- one part of the items, and then the other
-  steps_both : (xs ys : List Item) (s t : State builder) → step_each s xs ≡ Ok t
-      → step_each s (xs ++ ys) ≡ step_each t ys
-  steps_both [] ys s t runs = ap (λ u. step_each u ys) (ok_same s t runs)
-  steps_both (x ∷ xs) ys s t runs =
-      let (u, steps, rest) = ran (step s x) (λ v. step_each v xs) t runs in
-      rw steps (steps_both xs ys u t rest)
+  steps_both : (xs ys : List Item) (last : Option Token) (s : State builder)
+      (read : Option Token × State builder) → step_each last s xs ≡ Ok read
+      → step_each last s (xs ++ ys) ≡ step_each read.0 read.1 ys
+  steps_both [] ys last s read runs =
+      ap (λ r. step_each r.0 r.1 ys) (ok_same (last, s) read runs)
+  steps_both (x ∷ xs) ys last s read runs =
+      let (t, steps, rest) = ran (step last s x) (λ t. step_each (Some x.token) t xs) read runs in
+      rw steps (steps_both xs ys (Some x.token) t read rest)
 
   -- commas after a member that ends
-  commas_run : (n : ℕ) (xs : List Item) (s t : State builder) (written : W)
-      → tokens_of xs ≡ Token.comma ∷ commas n → takes t.last Kind.comma ≡ true
-      → predicate_ended t ≡ Ok (between s t.last written)
-      → step_each t xs ≡ Ok (between s (Some Token.comma) written)
-  commas_run zero (x ∷ []) s t written are may ends = grind arith
-  commas_run (suc n) (x ∷ xs) s t written are may ends =
+  commas_run : (n : ℕ) (xs : List Item) (last : Option Token) (s t : State builder) (written : W)
+      → tokens_of xs ≡ Token.comma ∷ commas n → takes last Kind.comma ≡ true
+      → predicate_ended t ≡ Ok (between s written)
+      → step_each last t xs ≡ Ok (Some Token.comma, between s written)
+  commas_run zero (x ∷ []) last s t written are may ends = grind arith
+  commas_run (suc n) (x ∷ xs) last s t written are may ends =
       let x_is : x.token ≡ Token.comma = cc in
-      rw (x_is, may, ends) (commas_run n xs s _ written (cc) refl refl)
-  commas_run _ _ s t written are may ends = absurd (cc)
+      rw (x_is, may, ends) (commas_run n xs _ s _ written (cc) refl refl)
+  commas_run _ _ last s t written are may ends = absurd (cc)
 
 module _ {W M L : Type 0} {builder : Builder W M L} (laws : Laws builder) where
-  -- The state when these items have been taken, a member and `n` commas after it; the predicate
-  -- has ended, or ends there.
-  pub record MemberEnds (s : State builder) (items member : List Item) (n : ℕ)
-      (tree : Tree Question) : Type 0 where
-    pub after : State builder
+  -- The last token and the state when these items have been taken, a member and `n` commas after
+  -- it; the predicate has ended, or ends there.
+  pub record MemberEnds (last : Option Token) (s : State builder) (items member : List Item)
+      (n : ℕ) (tree : Tree Question) : Type 0 where
+    pub read : Option Token × State builder
     pub written : W
-    pub runs : step_each s items ≡ Ok after
-    pub is_end : IsEnd after.last
-    pub ends : predicate_ended after ≡ Ok (between s after.last written)
+    pub runs : step_each last s items ≡ Ok read
+    pub is_end : IsEnd read.0
+    pub ends : predicate_ended read.1 ≡ Ok (between s written)
     pub builds : laws.MemberBuilds member s.written written tree
-    pub members_come : 0 < n → after ≡ between s (Some Token.comma) written
+    pub members_come : 0 < n → read ≡ (Some Token.comma, between s written)
 
-  -- the state when a list has been taken
-  pub record ListEnds (s : State builder) (items : List Item) (trees : Trees Question)
-      : Type 0 where
-    pub after : State builder
+  -- when a list has been taken
+  pub record ListEnds (last : Option Token) (s : State builder) (items : List Item)
+      (trees : Trees Question) : Type 0 where
+    pub read : Option Token × State builder
     pub written : W
-    pub runs : step_each s items ≡ Ok after
-    pub closes : takes after.last Kind.closing ≡ true
-    pub ends : predicate_ended after ≡ Ok (grown (count trees) (settled s after.last written))
+    pub runs : step_each last s items ≡ Ok read
+    pub closes : takes read.0 Kind.closing ≡ true
+    pub ends : predicate_ended read.1 ≡ Ok (grown (count trees) (settled s written))
     pub builds : laws.ListBuilds items s.written written trees
 
   -- a predicate or a literal, whose tokens have been taken
-  MemberEnds-pending : (s : State builder) (items : List Item) (pending : Pending) (last : Token)
-      (leaf : Leaf)
-      → step_each s items ≡ Ok (record s { pending = Some pending; last = Some last })
-      → IsEnd (Some last) → class_of pending ≡ Class.is leaf
+  MemberEnds-pending : (last : Option Token) (s : State builder) (items : List Item)
+      (pending : Pending) (end : Token) (leaf : Leaf)
+      → step_each last s items ≡ Ok (Some end, record s { pending = Some pending })
+      → IsEnd (Some end) → class_of pending ≡ Class.is leaf
       → laws.MemberBuilds items s.written
       (builder.leaf (builder.located pending leaf) s.written) (leaf_tree leaf)
-      → MemberEnds s items items 0 (leaf_tree leaf)
-  MemberEnds-pending s items pending last leaf runs is_end says builds = record {
-    after = record s { pending = Some pending; last = Some last };
+      → MemberEnds last s items items 0 (leaf_tree leaf)
+  MemberEnds-pending last s items pending end leaf runs is_end says builds = record {
+    read = (Some end, record s { pending = Some pending });
     written = _;
     runs = runs;
     is_end = is_end;
@@ -181,34 +182,34 @@ module _ {W M L : Type 0} {builder : Builder W M L} (laws : Laws builder) where
     members_come = λ some. absurd (omega arith);
   }
 
-  MemberEnds-leaf : (s : State builder) (items : List Item) (leaf : Leaf) (key : List ℕ)
-      (value : Option (List ℕ)) → takes s.last Kind.name ≡ true
+  MemberEnds-leaf : (last : Option Token) (s : State builder) (items : List Item) (leaf : Leaf)
+      (key : List ℕ) (value : Option (List ℕ)) → takes last Kind.name ≡ true
       → tokens_of items ≡ leaf_tokens key value → class key value ≡ Class.is leaf
-      → MemberEnds s items items 0 (leaf_tree leaf)
-  MemberEnds-leaf s (x ∷ []) leaf key None may is classed =
+      → MemberEnds last s items items 0 (leaf_tree leaf)
+  MemberEnds-leaf last s (x ∷ []) leaf key None may is classed =
       let x_is : x.token ≡ Token.key key = cc in
-      MemberEnds-pending s _ (key_at x key) (Token.key key) leaf (rw (x_is, may) refl)
+      MemberEnds-pending last s _ (key_at x key) (Token.key key) leaf (rw (x_is, may) refl)
       (refl, refl, refl) classed (laws.key x key leaf s.written x_is classed)
-  MemberEnds-leaf s (x ∷ y ∷ z ∷ []) leaf key (Some value) may is classed =
+  MemberEnds-leaf last s (x ∷ y ∷ z ∷ []) leaf key (Some value) may is classed =
       let x_is : x.token ≡ Token.key key = cc in
       let y_is : y.token ≡ Token.equals = cc in
       let z_is : z.token ≡ Token.value value = cc in
-      MemberEnds-pending s _ (value_at x key z value) (Token.value value) leaf
+      MemberEnds-pending last s _ (value_at x key z value) (Token.value value) leaf
       (rw (x_is, may, y_is, z_is) refl) (refl, refl, refl) classed
       (laws.value x y z key value leaf s.written x_is z_is classed)
-  MemberEnds-leaf s _ leaf key None may is classed = absurd (cc)
-  MemberEnds-leaf s _ leaf key (Some value) may is classed = absurd (cc)
+  MemberEnds-leaf last s _ leaf key None may is classed = absurd (cc)
+  MemberEnds-leaf last s _ leaf key (Some value) may is classed = absurd (cc)
 
   -- commas after a member
-  pub MemberEnds-commas : (n : ℕ) (s : State builder) (member beyond : List Item)
-      (tree : Tree Question) → tokens_of beyond ≡ commas n → MemberEnds s member member 0 tree
-      → MemberEnds s (member ++ beyond) member n tree
-  MemberEnds-commas zero s member beyond tree are i = grind (arith, no_items, append-nil)
-  MemberEnds-commas (suc n) s member beyond tree are i = record {
-    after = between s (Some Token.comma) i.written;
+  pub MemberEnds-commas : (n : ℕ) (last : Option Token) (s : State builder)
+      (member beyond : List Item) (tree : Tree Question) → tokens_of beyond ≡ commas n
+      → MemberEnds last s member member 0 tree → MemberEnds last s (member ++ beyond) member n tree
+  MemberEnds-commas zero last s member beyond tree are i = grind (arith, no_items, append-nil)
+  MemberEnds-commas (suc n) last s member beyond tree are i = record {
+    read = (Some Token.comma, between s i.written);
     written = i.written;
-    runs = steps_both member beyond s i.after i.runs
-        ∙ commas_run n beyond s i.after i.written are i.is_end.1 i.ends;
+    runs = steps_both member beyond last s i.read i.runs
+        ∙ commas_run n beyond i.read.0 s i.read.1 i.written are i.is_end.1 i.ends;
     is_end = (refl, refl, refl);
     ends = refl;
     builds = i.builds;
@@ -216,11 +217,11 @@ module _ {W M L : Type 0} {builder : Builder W M L} (laws : Laws builder) where
   }
 
   -- the last member, and a member in front of others
-  ListEnds-one : (s : State builder) (member beyond : List Item) (n : ℕ) (tree : Tree Question)
-      → MemberEnds s (member ++ beyond) member n tree
-      → ListEnds s (member ++ beyond) (Trees.more tree Trees.none)
-  ListEnds-one s member beyond n tree i = record {
-    after = i.after;
+  ListEnds-one : (last : Option Token) (s : State builder) (member beyond : List Item) (n : ℕ)
+      (tree : Tree Question) → MemberEnds last s (member ++ beyond) member n tree
+      → ListEnds last s (member ++ beyond) (Trees.more tree Trees.none)
+  ListEnds-one last s member beyond n tree i = record {
+    read = i.read;
     written = i.written;
     runs = i.runs;
     closes = i.is_end.0;
@@ -229,98 +230,99 @@ module _ {W M L : Type 0} {builder : Builder W M L} (laws : Laws builder) where
         (laws.more member beyond [] tree Trees.none _ _ _ i.builds (laws.none i.written));
   }
 
-  ListEnds-more : (s : State builder) (member beyond others : List Item) (n : ℕ)
-      (tree : Tree Question) (trees : Trees Question)
-      → MemberEnds s (member ++ beyond) member n tree → Separates n trees
-      → IsList (tokens_of others) trees → ((t : State builder) → takes t.last Kind.name ≡ true
-      → takes t.last Kind.closing ≡ true → t.pending ≡ None → ListEnds t others trees)
-      → ListEnds s (member ++ (beyond ++ others)) (Trees.more tree trees)
-  ListEnds-more s member beyond others n tree Trees.none i some list go_on =
-      rw (no_items others list, append-nil beyond) (ListEnds-one s member beyond n tree i)
-  ListEnds-more s member beyond others n tree (Trees.more second trees) i some list go_on =
-      let t = between s (Some Token.comma) i.written in
-      let l = go_on t refl refl refl in
+  ListEnds-more : (last : Option Token) (s : State builder) (member beyond others : List Item)
+      (n : ℕ) (tree : Tree Question) (trees : Trees Question)
+      → MemberEnds last s (member ++ beyond) member n tree → Separates n trees
+      → IsList (tokens_of others) trees
+      → ((t : State builder) → t.pending ≡ None → ListEnds (Some Token.comma) t others trees)
+      → ListEnds last s (member ++ (beyond ++ others)) (Trees.more tree trees)
+  ListEnds-more last s member beyond others n tree Trees.none i some list go_on =
+      rw (no_items others list, append-nil beyond) (ListEnds-one last s member beyond n tree i)
+  ListEnds-more last s member beyond others n tree (Trees.more second trees) i some list go_on =
+      let l = go_on (between s i.written) refl in
       record {
-        after = l.after;
+        read = l.read;
         written = l.written;
-        runs = rw (← append_assoc member beyond others) (steps_both (member ++ beyond) others s t
-            (i.runs ∙ ap Ok (i.members_come some)) ∙ l.runs);
+        runs = rw (← append_assoc member beyond others) (steps_both (member ++ beyond) others last
+            s _ (i.runs ∙ ap Ok (i.members_come some)) ∙ l.runs);
         closes = l.closes;
         ends = l.ends;
         builds = laws.more _ _ _ tree (Trees.more second trees) _ _ _ i.builds l.builds;
       }
 
   -- a call, by its members
-  MemberEnds-call : (s : State builder) (items : List Item) (function : Function)
-      (inner : List Token) (tree : Tree Question) (trees : Trees Question)
-      → takes s.last Kind.name ≡ true → IsCall (name_of function) (tokens_of items) inner
+  MemberEnds-call : (last : Option Token) (s : State builder) (items : List Item)
+      (function : Function) (inner : List Token) (tree : Tree Question) (trees : Trees Question)
+      → takes last Kind.name ≡ true → IsCall (name_of function) (tokens_of items) inner
       → has_room function (count trees) ≡ true
       → Calls builder laws.MemberBuilds laws.ListBuilds function tree trees
-      → ((start : State builder) (members : List Item) → takes start.last Kind.name ≡ true
-      → takes start.last Kind.closing ≡ true → start.pending ≡ s.pending
-      → tokens_of members ≡ inner → ListEnds start members trees) → MemberEnds s items items 0 tree
-  MemberEnds-call s (x ∷ y ∷ items) function inner tree trees may call room calls list =
-      let (first, last, are, first_are, last_is) = split_items items inner _ (cc) in
-      let (z, one, z_is) = one_item last Token.close_paren last_is in
-      let l = list (inside s function x y) first refl refl refl first_are in
+      → ((start : State builder) (members : List Item) → start.pending ≡ s.pending
+      → tokens_of members ≡ inner → ListEnds (Some Token.open_paren) start members trees)
+      → MemberEnds last s items items 0 tree
+  MemberEnds-call last s (x ∷ y ∷ items) function inner tree trees may call room calls list =
+      let (first, rest, are, first_are, rest_is) = split_items items inner _ (cc) in
+      let (z, one, z_is) = one_item rest Token.close_paren rest_is in
+      let l = list (inside s function x y) first refl first_are in
       let top = more (count trees) (with_parens y.start (new_open s function x)) in
-      let full = record (settled (inside s function x y) l.after.last l.written) {
-        stack = top ∷ s.stack;
-      } in
+      let full = record (settled (inside s function x y) l.written) { stack = top ∷ s.stack } in
       let members : 0 + count trees ≡ count trees = omega arith in
       let ends = l.ends ∙ ap Ok (grown_top (count trees) full _ s.stack) in
-      let closed : closed_by l.after z l.after.stack ≡ Ok (function_ended (top ∷ s.stack) full) =
-      grind arith in
+      let t = l.read.1 in
+      let closed : closed_by t z t.stack ≡ Ok (function_ended (top ∷ s.stack) full) = grind arith in
       rw (are, one) (record {
-        after = with_last Token.close_paren (function_ended (top ∷ s.stack) full);
+        read = (Some Token.close_paren, function_ended (top ∷ s.stack) full);
         written = builder.function_ended (builder.mark_of s.written) function (0 + count trees)
             l.written;
-        runs = opens s function x y _ may (cc) (cc) ∙ steps_both first _ _ l.after l.runs
-            ∙ rw (z_is, l.closes, closed) refl;
+        runs = opens last s function x y _ may (cc) (cc)
+            ∙ steps_both first _ _ _ l.read l.runs ∙ rw (z_is, l.closes, closed) refl;
         is_end = (refl, refl, refl);
         ends = refl;
         builds = rw members (calls x y z first s.written l.written l.builds);
         members_come = λ some. absurd (omega arith);
       })
-  MemberEnds-call s _ function inner tree trees may call room calls list = absurd (cc)
+  MemberEnds-call last s _ function inner tree trees may call room calls list = absurd (cc)
 
   mutual
-    pub MemberEnds-member : (tree : Tree Question) (s : State builder) (items : List Item)
-        → takes s.last Kind.name ≡ true → s.pending ≡ None → IsMember (tokens_of items) tree
-        → MemberEnds s items items 0 tree
-    MemberEnds-member (Tree.leaf question) s items may none (key, value, are, says) =
-        MemberEnds-leaf s items (Leaf.predicate question) key value may are says
-    MemberEnds-member (Tree.literal truth) s items may none (key, value, are, says) =
-        MemberEnds-leaf s items (Leaf.literal truth) key value may are says
-    MemberEnds-member (Tree.list function trees) s items may none (inner, call, list) =
-        MemberEnds-call s items (Function.list function) inner _ trees may call refl
+    pub MemberEnds-member : (tree : Tree Question) (last : Option Token) (s : State builder)
+        (items : List Item) → takes last Kind.name ≡ true → s.pending ≡ None
+        → IsMember (tokens_of items) tree → MemberEnds last s items items 0 tree
+    MemberEnds-member (Tree.leaf question) last s items may none (key, value, are, says) =
+        MemberEnds-leaf last s items (Leaf.predicate question) key value may are says
+    MemberEnds-member (Tree.literal truth) last s items may none (key, value, are, says) =
+        MemberEnds-leaf last s items (Leaf.literal truth) key value may are says
+    MemberEnds-member (Tree.list function trees) last s items may none (inner, call, list) =
+        MemberEnds-call last s items (Function.list function) inner _ trees may call refl
         (laws.list function trees)
-        (λ t members named closing same are. ListEnds-list trees t members named closing
-        (same ∙ none) (rw are list))
-    MemberEnds-member (Tree.not tree) s items may none (inner, n, call, spelled) =
-        MemberEnds-call s items Function.not (inner ++ commas n) _ (Trees.more tree Trees.none) may
-        call refl (laws.not tree) (λ t members named closing same are.
+        (λ t members same are. ListEnds-list trees _ t members refl refl (same ∙ none)
+        (rw are list))
+    MemberEnds-member (Tree.not tree) last s items may none (inner, n, call, spelled) =
+        MemberEnds-call last s items Function.not (inner ++ commas n) _
+        (Trees.more tree Trees.none) may call refl (laws.not tree) (λ t members same are.
         let (xs, ys, both, xs_are, ys_are) = split_items members inner (commas n) are in
-        rw both (ListEnds-one t xs ys n tree (MemberEnds-commas n t xs ys tree ys_are
-        (MemberEnds-member tree t xs named (same ∙ none) (rw xs_are spelled)))))
+        rw both (ListEnds-one _ t xs ys n tree (MemberEnds-commas n _ t xs ys tree ys_are
+        (MemberEnds-member tree _ t xs refl (same ∙ none) (rw xs_are spelled)))))
 
-    ListEnds-list : (trees : Trees Question) (s : State builder) (items : List Item)
-        → takes s.last Kind.name ≡ true → takes s.last Kind.closing ≡ true → s.pending ≡ None
-        → IsList (tokens_of items) trees → ListEnds s items trees
-    ListEnds-list Trees.none s items named close none list =
-        let end = ap (ended_by s) none ∙ (λ i. Ok (record s { pending = none i })) in
-        let done = laws.none s.written in
-        let empty : ListEnds s [] Trees.none =
-        record { after = s; written = _; runs = refl; closes = close; ends = end; builds = done } in
+    ListEnds-list : (trees : Trees Question) (last : Option Token) (s : State builder)
+        (items : List Item) → takes last Kind.name ≡ true → takes last Kind.closing ≡ true
+        → s.pending ≡ None → IsList (tokens_of items) trees → ListEnds last s items trees
+    ListEnds-list Trees.none last s items named close none list =
+        let empty : ListEnds last s [] Trees.none = record {
+          read = (last, s);
+          written = s.written;
+          runs = refl;
+          closes = close;
+          ends = ap (ended_by s) none ∙ (λ i. Ok (record s { pending = none i }));
+          builds = laws.none s.written;
+        } in
         rw (no_items items list) empty
-    ListEnds-list (Trees.more tree trees) s items named closing none
+    ListEnds-list (Trees.more tree trees) last s items named closing none
         (front, n, others, are, some, spelled, list) =
         let (xs, rest, both, xs_are, rest_are) = split_items items front (commas n ++ others) are in
         let (ys, zs, again, ys_are, zs_are) = split_items rest (commas n) others rest_are in
-        let i = MemberEnds-member tree s xs named none (rw xs_are spelled) in
-        rw (both, again) (ListEnds-more s xs ys zs n tree trees
-        (MemberEnds-commas n s xs ys tree ys_are i) some (rw zs_are list)
-        (λ t may close settled. ListEnds-list trees t zs may close settled (rw zs_are list)))
+        let i = MemberEnds-member tree last s xs named none (rw xs_are spelled) in
+        rw (both, again) (ListEnds-more last s xs ys zs n tree trees
+        (MemberEnds-commas n last s xs ys tree ys_are i) some (rw zs_are list)
+        (λ t settled. ListEnds-list trees _ t zs refl refl settled (rw zs_are list)))
 
 -- The builder that builds the tree itself.
 
@@ -386,34 +388,30 @@ tree_built items built tree is = is
 
 module _ {W M L : Type 0} {builder : Builder W M L} (laws : Laws builder) where
   -- the tokens are taken, and the tree is built of the first of them: commas may follow
-  pub record Finds (len : ℕ) (items : List Item) (tree : Tree Question) : Type 0 where
-    pub read : State builder
-    pub runs : step_each initial items ≡ Ok read
+  pub record Finds (text : List ℕ) (items : List Item) (ending : Ending) (tree : Tree Question)
+      : Type 0 where
     pub first : List Item
     pub rest : List Item
     pub items_are : items ≡ first ++ rest
     pub written : W
     pub builds : laws.MemberBuilds first builder.nothing written tree
     pub whole : State builder
-    pub concludes : conclude len read ≡ Ok whole
+    pub answers : answer_from None initial text items ending ≡ Ok whole
     pub whole_is : whole.written ≡ builder.root_ended written
 
-  pub Finds-tree : (len : ℕ) (items : List Item) (tree : Tree Question)
-      → IsTree (tokens_of items) tree → Finds len items tree
-  Finds-tree len items tree (member, n, is, spelled) =
+  pub Finds-tree : (text : List ℕ) (items : List Item) (tree : Tree Question)
+      → IsTree (tokens_of items) tree → Finds text items Ending.blank tree
+  Finds-tree text items tree (member, n, is, spelled) =
       let (xs, ys, both, xs_are, ys_are) = split_items items member (commas n) is in
-      let i = MemberEnds-commas laws n initial xs ys tree ys_are
-      (MemberEnds-member laws tree initial xs refl refl (rw xs_are spelled)) in
-      let settled = between initial i.after.last i.written in
+      let i = MemberEnds-commas laws n None initial xs ys tree ys_are
+      (MemberEnds-member laws tree None initial xs refl refl (rw xs_are spelled)) in
       record {
-        read = i.after;
-        runs = ap (step_each initial) both ∙ i.runs;
         first = xs;
         rest = ys;
         items_are = both;
         written = i.written;
         builds = i.builds;
-        whole = record settled { written = builder.root_ended i.written };
-        concludes = grind (arith, i.is_end.2);
+        whole = record (between initial i.written) { written = builder.root_ended i.written };
+        answers = grind (arith, both, i.runs, i.is_end.2);
         whole_is = refl;
       }

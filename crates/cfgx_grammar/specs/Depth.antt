@@ -7,7 +7,7 @@ use Rattle.std.specs.Prelude.{take, count_by, nat_lt, nat_le, slice_get, Option,
 use Rattle.std.specs.Prelude.{if◌then◌else◌}
 use Rattle.std.specs.Option.{option_or}
 use Rattle.cfgx_syntax.specs.{Token.Token, Items.Item}
-use Rattle.cfgx_grammar.specs.Neighbours.{Kind, kind_of, is_kind}
+use Rattle.cfgx_grammar.specs.FollowSet.{Kind, kind_of, is_kind}
 
 -- how many places below the number pass the test
 abbrev pub count_below : (ℕ → Bool) → ℕ → ℕ

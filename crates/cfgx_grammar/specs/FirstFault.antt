@@ -15,7 +15,7 @@ use Rattle.cfgx_grammar.specs.Classification.{Class}
 use Rattle.cfgx_grammar.specs.Depth.{depth, first_below, innermost, is_closing, members, names_not}
 use Rattle.cfgx_grammar.specs.Depth.{roots}
 use Rattle.cfgx_grammar.specs.LastPredicate.{KeyAndValue, class_of, part_of, predicate_last}
-use Rattle.cfgx_grammar.specs.Neighbours.{Kind, kind_of, is_kind, next, expected}
+use Rattle.cfgx_grammar.specs.FollowSet.{Kind, kind_of, is_kind, next, expected}
 
 abbrev pub refusal : Cause → ℕ → ℕ → Refusal
 refusal cause start end = record { cause = cause; start = start; end = end }
@@ -67,8 +67,8 @@ not_fault front close function = option_and_then
 -- At a token, with the tokens before it.
 
 -- it may not follow the token before it
-abbrev pub neighbour_fault : List Item → Item → Option Refusal
-neighbour_fault front item = when (not (next (last_token front) item.token))
+abbrev pub follow_fault : List Item → Item → Option Refusal
+follow_fault front item = when (not (next (last_token front) item.token))
     (refusal (unexpected (expected (last_token front))) item.start item.end)
 
 -- it is a `)` while no function is open
@@ -86,7 +86,7 @@ abbrev pub ended_fault : List Item → Item → Option Refusal
 ended_fault front item = if ends_predicate item.token then predicate_fault front else None
 
 abbrev pub fault_after : List Item → Item → Option Refusal
-fault_after front item = first_of (neighbour_fault front item ∷ unopened_fault front item
+fault_after front item = first_of (follow_fault front item ∷ unopened_fault front item
     ∷ closed_fault front item ∷ ended_fault front item ∷ [])
 
 -- the fault of the token at the place

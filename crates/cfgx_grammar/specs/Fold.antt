@@ -18,25 +18,25 @@ list_value logic ListFunction.all values = from_last logic.and logic.top values
 list_value logic ListFunction.any values = from_last logic.or logic.bottom values
 
 -- the value of a literal
-abbrev pub constant : {T : Type 0} → Operations T → Bool → T
-constant logic true = logic.top
-constant logic false = logic.bottom
+abbrev pub literal_value : {T : Type 0} → Operations T → Bool → T
+literal_value logic true = logic.top
+literal_value logic false = logic.bottom
 
 -- the value of a tree of answers: among the values of a list's members those of the functions come
 -- first, and then those of the leaves
 abbrev mutual
-  pub value_of : {T : Type 0} → Operations T → Tree T → T
-  value_of logic (Tree.leaf answer) = answer
-  value_of logic (Tree.literal truth) = constant logic truth
-  value_of logic (Tree.list function trees) = list_value logic function
+  pub tree_value : {T : Type 0} → Operations T → Tree T → T
+  tree_value logic (Tree.leaf answer) = answer
+  tree_value logic (Tree.literal truth) = literal_value logic truth
+  tree_value logic (Tree.list function trees) = list_value logic function
       (values_by logic is_function trees ++ values_by logic is_leaf trees)
-  value_of logic (Tree.not tree) = logic.not (value_of logic tree)
+  tree_value logic (Tree.not tree) = logic.not (tree_value logic tree)
 
   -- the values of the trees of a list that pass the test
   pub values_by : {T : Type 0} → Operations T → (Tree T → Bool) → Trees T → List T
   values_by logic test Trees.none = []
   values_by logic test (Trees.more tree trees) = if test tree
-      then value_of logic tree ∷ values_by logic test trees else values_by logic test trees
+      then tree_value logic tree ∷ values_by logic test trees else values_by logic test trees
 
 -- those of all the trees of a list
 abbrev pub values_of : {T : Type 0} → Operations T → Trees T → List T
@@ -71,5 +71,5 @@ abbrev mutual
       (answered_each otherwise trees inner (left_after (asked tree) own))
 
 -- the value of a tree over as many answers as it asks
-abbrev pub fold : {X T : Type 0} → Operations T → Tree X → List T → T
-fold logic tree answers = value_of logic (answered logic.top tree answers)
+abbrev pub tree_fold : {X T : Type 0} → Operations T → Tree X → List T → T
+tree_fold logic tree answers = tree_value logic (answered logic.top tree answers)

@@ -2,7 +2,7 @@
 use Rattle.std.proofs.Common.{◌≡◌, ◌+◌, List, [], ◌∷◌, refl, ap}
 use Rattle.cfgx_grammar.specs.parsing.Step.{over_top, root_more}
 use Rattle.cfgx_parser.specs.parsing.Fields.{open_of, opens_in, roots_in}
-use Rattle.cfgx_parser.specs.parsing.State.{OpenFunction}
+use Rattle.cfgx_parser.specs.parsing.NodeState.{OpenFunction}
 use Rattle.cfgx_parser.specs.declared.parser.FuncAndSpan.{FuncAndSpan}
 use Rattle.cfgx_parser.specs.declared.parser.OpenList.{OpenList}
 

@@ -9,16 +9,16 @@ use Rattle.cfgx_syntax.specs.Token.{Token, Spells}
 use Rattle.cfgx_syntax.proofs.Values.{value_inside}
 use Rattle.cfgx_grammar.specs.Question.{Question}
 use Rattle.cfgx_grammar.specs.Tree.{Tree}
-use Rattle.cfgx_grammar.proofs.Answering.{answer, tree_of, FindsTree-tree, HasOneTree-tree}
+use Rattle.cfgx_grammar.proofs.Answering.{answer, tree_of, Finds-one, HasOneTree-tree}
 use Rattle.cfgx_grammar.proofs.Answering.{only_tree}
 use Rattle.cfgx_grammar.proofs.alone.{all_of_first}
 use Rattle.cfgx_parser.specs.nodes.KeepsTree.{KeepsTree, KeepsOneTree}
 use Rattle.cfgx_parser.specs.nodes.Node.{Written, nothing, with_list_ended}
 use Rattle.cfgx_parser.specs.nodes.Prefix.{node_at, prefix, places}
 use Rattle.cfgx_parser.specs.nodes.WritesNodes.{IsPlaced, ArePlaced, WritesNodes}
-use Rattle.cfgx_parser.specs.parsing.State.{ParserState}
+use Rattle.cfgx_parser.specs.parsing.NodeState.{ParserState}
 use Rattle.cfgx_parser.specs.declared.nodes.ExprNode.{ExprNode}
-use Rattle.cfgx_parser.proofs.Sizes.{nodes-bytes}
+use Rattle.cfgx_parser.proofs.NodeSizes.{nodes-bytes}
 use Rattle.cfgx_parser.proofs.spelled.Laws.{own, inner, node_laws, laws_written}
 
 -- the text of a key or of a value stands at its place
@@ -59,14 +59,13 @@ module _ (text : List ℕ) (one : HasOneTokenList text) where
       → KeepsOneTree text u.written.nodes u.written.index
   KeepsOneTree-accepted u e =
       let (tree, has) = tree_of text one u e in
-      let f = FindsTree-tree text one (node_laws text) tree has in
+      let f = Finds-one text one (node_laws text) tree has in
       let whole = HasOneTree-tree has in
-      let same : Ok f.found.whole ≡ Ok u = sym f.answers ∙ e in
-      let written : with_list_ended 0 f.found.written ≡ u.written =
-      sym f.found.whole_is ∙ cc in
-      let writes = laws_written text f.found.first nothing f.found.written tree f.found.builds
-      (all_of_first _ f.found.first f.found.rest (rw f.found.items_are at placed)) in
-      let keeps = KeepsTree-writes text f.found.written u.written tree written writes in
+      let same : Ok f.whole ≡ Ok u = sym f.answers ∙ e in
+      let written : with_list_ended 0 f.written ≡ u.written = sym f.whole_is ∙ cc in
+      let writes = laws_written text f.first nothing f.written tree f.builds
+      (all_of_first _ f.first f.rest (rw f.items_are at placed)) in
+      let keeps = KeepsTree-writes text f.written u.written tree written writes in
       record { one = whole; keeps = rw (← only_tree whole tree has) keeps }
 
 pub few-nodes : {text : List ℕ} {nodes : List ExprNode} {asks : List ℕ}

@@ -1,11 +1,10 @@
-pub mod Asked
+pub mod AskedPredicates
 pub mod Innermost
 pub mod Kept
-pub mod Lanes
-pub mod Last
+pub mod MatchedLanes
+pub mod NodeSizes
 pub mod Places
-pub mod Reading
+pub mod ReadTokens
 pub mod Shapes
-pub mod Sizes
 pub mod Whole
 pub mod spelled

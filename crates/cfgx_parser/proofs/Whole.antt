@@ -51,7 +51,7 @@ module _ {A : Type 0} {text : List ℕ} {lexer : LexerState} {old : Parser A} (n
       → KeepsOneTree text new.writer.nodes.items new.writer.index.items
       × (strip text ≡ text) × HasOneTree text
   Accepted b reads =
-      let accepts = (given (Ok tt) b reads).1 in
+      let accepts = given (Ok tt) b reads in
       let (tree, has) = tree_of text b.one _ accepts in (
         KeepsOneTree-accepted text b.one _ accepts,
         strip-tree text tree has,

@@ -1,4 +1,4 @@
 -- The nodes of the tree that spells a text are written.
 pub mod Laws
-pub mod Located
-pub mod Written
+pub mod LocatedClasses
+pub mod WritingLemmas

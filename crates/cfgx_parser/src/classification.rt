@@ -1,6 +1,6 @@
 //! What a key and its value say, or what is wrong with them and where.
 ghost use Rattle.std.specs.Prelude.{◌≡◌, option_map};
-ghost use Rattle.cfgx_parser.specs.parsing.State.{classified};
+ghost use Rattle.cfgx_parser.specs.parsing.NodeState.{classified};
 ghost use Rattle.cfgx_parser.specs.parsing.Fields.{word_of, pending_of, class_result, bare_answer};
 ghost use Rattle.cfgx_parser.specs.parsing.Fields.{target_answer, other_answer};
 

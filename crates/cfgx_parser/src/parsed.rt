@@ -3,7 +3,7 @@ ghost use Rattle.std.specs.Prelude.{◌≡◌, ◌≤◌, length, map, IfOk};
 ghost use Rattle.std.specs.List.{AllByRecursion};
 ghost use Rattle.cfgx_syntax.specs.Stripping.{strip};
 ghost use Rattle.cfgx_grammar.specs.Answer.{Answers, HasOneTree};
-ghost use Rattle.cfgx_grammar.specs.Regular.{IsRegular};
+ghost use Rattle.cfgx_grammar.specs.WellFormed.{IsWellFormed};
 ghost use Rattle.cfgx_grammar.specs.Tree.{asked};
 ghost use Rattle.cfgx_parser.specs.nodes.Prefix.{node_at, prefix, places};
 
@@ -67,7 +67,7 @@ impl<A: SmallAllocator> Parsed<A> {
     /// The predicates in the order in which they are asked. It takes no memory.
     pub fn predicates(&self) -> Predicates<'_>
         ensures asked { (one : HasOneTree self.now) × (result ≡ asked one.tree) }
-        ensures regular { AllByRecursion IsRegular result }
+        ensures well_formed { AllByRecursion IsWellFormed result }
     {
         Predicates::new(
             self.original.as_str(),

@@ -4,8 +4,8 @@ ghost use Rattle.std.specs.Prelude.{option_map};
 ghost use Rattle.std.specs.Prelude.{map, reverse, IsTrue, OnOk, IfOk, Err};
 ghost use Rattle.cfgx_syntax.specs.Error.{cause_of, unexpected};
 ghost use Rattle.cfgx_syntax.specs.Lexer.{token_of, item_of};
-ghost use Rattle.cfgx_grammar.specs.Neighbours.{next, expected};
-ghost use Rattle.cfgx_parser.specs.parsing.State.{counted};
+ghost use Rattle.cfgx_grammar.specs.FollowSet.{next, expected};
+ghost use Rattle.cfgx_parser.specs.parsing.NodeState.{counted};
 ghost use Rattle.cfgx_grammar.specs.FirstFault.{refusal, lacks_value};
 ghost use Rattle.cfgx_grammar.specs.parsing.Step.{with_member, predicate_ended, has_room};
 ghost use Rattle.cfgx_grammar.specs.parsing.Step.{apply, step, unclosed, one_root, conclude};
@@ -231,9 +231,8 @@ fn unclosed(top: &FuncAndSpan, list: OpenList, len: usize) -> Fault
 impl<'a, A: SmallAllocator> Parser<'a, A> {
     ghost use Rattle.cfgx_grammar.specs.parsing.State.{initial};
     ghost use Rattle.cfgx_parser.specs.parsing.Parser.{state_of, Gives, Opens, WritesPending};
-    ghost use Rattle.cfgx_parser.specs.parsing.Parser.{parens_opened, value_added, IsQuoted};
-    ghost use Rattle.cfgx_parser.specs.parsing.Parser.{closed_at, concluded, HaltsAs, Says};
-    ghost use Rattle.cfgx_parser.specs.parsing.Parser.{Reads, Finishes, ReadsAll};
+    ghost use Rattle.cfgx_parser.specs.parsing.Parser.{parens_opened, value_added, IsQuoted, Says};
+    ghost use Rattle.cfgx_parser.specs.parsing.Parser.{closed_at, concluded, HaltsAs, ReadsAll};
 
     /// A parser that has read nothing of a text of so many bytes.
     pub(crate) fn new(alloc: A, len: usize) -> Self
@@ -406,7 +405,8 @@ impl<'a, A: SmallAllocator> Parser<'a, A> {
     /// Reads one token after the last one, or at the start.
     fn read(&mut self, last: LastToken, lexed: LexerToken<'a>) -> Result<(), Halt>
         requires quoted { IsQuoted lexed }
-        ensures { Reads last lexed.entry self.old self.new result }
+        ensures { Gives result self.new
+            (step (token_like last) (state_of self.old) (item_of lexed.entry)) }
     {
         if !may_follow(last, lexed.token) {
             return Err(self.halt(expected(last), lexed.span));
@@ -441,7 +441,7 @@ impl<'a, A: SmallAllocator> Parser<'a, A> {
 
     /// Ends a text of so many bytes after its last token, and completes its nodes.
     fn finish(&mut self, last: LastToken, len: usize) -> Result<(), Halt>
-        ensures { Finishes last len self.old self.new result }
+        ensures { Gives result self.new (conclude (token_like last) len (state_of self.old)) }
     {
         if lacks_value(last) {
             return Err(self.halt(Reason::Unexpected(&["\"<value>\""]), len..len));

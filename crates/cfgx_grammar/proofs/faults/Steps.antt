@@ -9,7 +9,7 @@ use Rattle.std.proofs.lemmas.Option.{slice_get_within, slice_get_past}
 use Rattle.cfgx_syntax.specs.{Token.Token, Items.Item, Items.Ending, Items.lexical}
 use Rattle.cfgx_syntax.specs.Error.{Refusal, invalid_not}
 use Rattle.cfgx_grammar.specs.{Tree.ListFunction, Depth.members, Depth.first_below}
-use Rattle.cfgx_grammar.specs.Neighbours.{Kind, takes, kind_of, is_kind, next}
+use Rattle.cfgx_grammar.specs.FollowSet.{Kind, takes, kind_of, is_kind, next}
 use Rattle.cfgx_grammar.specs.Depth.{names_function, is_closing, depth, depth_at, innermost}
 use Rattle.cfgx_grammar.specs.LastPredicate.{predicate_last, word_of, with_value}
 use Rattle.cfgx_grammar.specs.FirstFault.{predicate_fault, head_token, last_token, lacks_value}
@@ -20,7 +20,7 @@ use Rattle.cfgx_grammar.specs.{FirstFault.fault_at, FirstFault.first_fault, pars
 use Rattle.cfgx_grammar.specs.parsing.State.{Pending, Builder, Open, State, initial, Function}
 use Rattle.cfgx_grammar.specs.parsing.Step.{result_map, predicate_ended, over_top, one_more}
 use Rattle.cfgx_grammar.specs.parsing.Step.{and_then, member_count, has_room, function_ended}
-use Rattle.cfgx_grammar.specs.parsing.Step.{new_open, closed_by, opened, with_last, with_parens}
+use Rattle.cfgx_grammar.specs.parsing.Step.{new_open, closed_by, opened, with_parens}
 use Rattle.cfgx_grammar.specs.parsing.Step.{apply, step, unclosed, concluded_by, conclude}
 use Rattle.cfgx_grammar.specs.parsing.Step.{step_each, ended_as, answer_from, root_more}
 use Rattle.cfgx_grammar.proofs.faults.Levels.{Levels, IsLevel, start_of, Levels-same, Levels-member}
@@ -129,7 +129,6 @@ closed_end len items =
 
 module _ {W M L : Type 0} {builder : Builder W M L} where
   pub record Matches (front : List Item) (s : State builder) : Type 0 where
-    pub last : s.last ≡ last_token front
     pub pending : s.pending ≡ begun_last (reverse front)
     pub balance : closings front + length s.stack ≡ names front
     pub levels : Levels front s.roots (names_last (last_token front)) s.stack (going s.pending)
@@ -204,30 +203,27 @@ module _ {W M L : Type 0} {builder : Builder W M L} (front : List Item) (s : Sta
     balanced token height rises = grind (arith, common_steps)
 
     -- what the token leaves, by what it says of its own
-    matched : (token : Token) (t : State builder) (w : ℕ) → t.last ≡ Some token
+    matched : (token : Token) (t : State builder) (w : ℕ)
         → t.pending ≡ begun_token (at token) (reverse front) token → going t.pending ≡ w
         → Rises token (length t.stack)
         → Levels (more token) t.roots (names_function token) t.stack w → Matches (more token) t
-    matched token t w last pending goes rises levels = grind (arith, common_steps)
+    matched token t w pending goes rises levels = grind (arith, common_steps)
 
     -- a token that neither opens nor closes a function and begins no member
-    stays : (token : Token) (t : State builder) (w : ℕ) → t.last ≡ Some token
-        → names_function token ≡ false → is_kind Kind.name (kind_of token) ≡ false
-        → Rises token (length t.stack) → t.pending ≡ begun_token (at token) (reverse front) token
-        → going t.pending ≡ w → Levels front t.roots false t.stack w → Matches (more token) t
-    stays token t w last no_name other rises pending goes levels =
+    stays : (token : Token) (t : State builder) (w : ℕ) → names_function token ≡ false
+        → is_kind Kind.name (kind_of token) ≡ false → Rises token (length t.stack)
+        → t.pending ≡ begun_token (at token) (reverse front) token → going t.pending ≡ w
+        → Levels front t.roots false t.stack w → Matches (more token) t
+    stays token t w no_name other rises pending goes levels =
         grind (arith, common_steps, Levels-same, balanced, members_at_other)
-
-    -- what the token leads to, without it as the last one
-    abbrev After : Token → State builder → Type 0
-    After token t = Matches (more token) (with_last token t)
 
     -- the name of a function
     name_step : (function : Function) → takes (last_token front) Kind.name ≡ true
         → names_function (name_of function) ≡ true → is_closing (name_of function) ≡ false
         → is_kind Kind.name (kind_of (name_of function)) ≡ true
         → begun_token (at (name_of function)) (reverse front) (name_of function) ≡ None
-        → Meets (After (name_of function)) (Ok (opened s function (at (name_of function)))) None
+        → Meets (Matches (more (name_of function))) (Ok (opened s function (at (name_of function))))
+        None
     name_step function may is_name no_close begins none =
         let token = name_of function in
         let item = at token in
@@ -255,7 +251,7 @@ module _ {W M L : Type 0} {builder : Builder W M L} (front : List Item) (s : Sta
           count_is = members_at_end (more token) (length s.stack + 1) (length front + 1)
               (omega arith) ∙ sym (ap going pending) ∙ omega arith;
         } in
-        (refl, matched token _ _ refl (pending ∙ sym none) refl rises (rw is_name (here, outer)))
+        (refl, matched token _ _ (pending ∙ sym none) refl rises (rw is_name (here, outer)))
 
     -- `,` and `)`, in front of which a predicate ends
     ended_here : (takes (last_token front) Kind.closing ≡ true)
@@ -265,7 +261,7 @@ module _ {W M L : Type 0} {builder : Builder W M L} (front : List Item) (s : Sta
 
     function_closes : (t : State builder) (stack : List (Open M)) → t.stack ≡ stack
         → Ended front false s t → 0 < length s.stack
-        → Matches (more Token.close_paren) (with_last Token.close_paren (function_ended stack t))
+        → Matches (more Token.close_paren) (function_ended stack t)
     function_closes t [] is e some = absurd (omega (arith, e.height, ap length is, some))
     function_closes t (top ∷ rest) is e some =
         let token = Token.close_paren in
@@ -278,41 +274,41 @@ module _ {W M L : Type 0} {builder : Builder W M L} (front : List Item) (s : Sta
         let levels : Levels (more token) (root_more rest t.roots) false (over_top one_more rest) 0 =
         grind arith in
         let height : length (over_top one_more rest) + 1 ≡ length s.stack + 0 = grind arith in
-        matched token _ 0 refl e.settled (ap going e.settled) height levels
+        matched token _ 0 e.settled (ap going e.settled) height levels
 
     close_step : (stack : List (Open M)) → s.stack ≡ stack
         → Meets (Ended front false s) (predicate_ended s) (predicate_fault front)
-        → Meets (After Token.close_paren) (closed_by s (at Token.close_paren) stack)
+        → Meets (Matches (more Token.close_paren)) (closed_by s (at Token.close_paren) stack)
         (fault_by front (at Token.close_paren))
     close_step [] is ends = rw (eq-eqb (depth front) 0 (depth_is front s m ∙ ap length is)) refl
     close_step (top ∷ rest) is ends =
         let some : 0 < length s.stack = omega (arith, ap length is) in
         let inside = ne_eqb (depth front) 0 (λ zero. omega (arith, zero, deep_is top rest is)) in
-        let leads = meets_map (Ended front false s) (After Token.close_paren)
+        let leads = meets_map (Ended front false s) (Matches (more Token.close_paren))
         (λ t. function_ended t.stack t) (predicate_ended s) (predicate_fault front) ends
         (λ t e. function_closes t t.stack refl e some) in
         rw (inside, close_fault_is top rest is (at Token.close_paren) (predicate_fault front))
-        (meets_if (After Token.close_paren) (has_room top.function (member_count top s.pending))
-        _ _ _ _ (λ room. leads) (λ full. refl))
+        (meets_if _ (has_room top.function (member_count top s.pending)) _ _ _ _
+        (λ room. leads) (λ full. refl))
 
     -- one token, if it may stand there
     token_step : (token : Token) → next (last_token front) token ≡ true
-        → Meets (After token) (apply s (at token) token) (fault_by front (at token))
+        → Meets (Matches (more token)) (apply s (at token) token) (fault_by front (at token))
     token_step (Token.key text) may = let token = Token.key text in
         let a = says Kind.name (reverse front) may in
         let levels = Levels-member front (at token) s.roots s.stack
         (omega (arith, balanced token (length s.stack) refl)) (depth_is front s m) refl
         (rw (m.pending ∙ a.0, a.1) at m.levels) in
-        (refl, matched token _ 1 refl refl refl refl levels)
+        (refl, matched token _ 1 refl refl refl levels)
     token_step (Token.value text) may =
         let levels = rw (says Kind.value (reverse front) may) at m.levels in
         let pending = ap (option_map (with_value (word_of text (start + 1) (end - 1)))) m.pending
         ∙ value_says text start end (reverse front) may in
-        let left = stays (Token.value text) _ (going s.pending) refl refl refl refl pending
+        let left = stays (Token.value text) _ (going s.pending) refl refl refl pending
         (grind arith) levels in (refl, left)
     token_step Token.equals may = let a = says Kind.equals (reverse front) may in
         let levels = rw a.1 at m.levels in
-        (refl, stays Token.equals _ _ refl refl refl refl (m.pending ∙ a.0) refl levels)
+        (refl, stays Token.equals _ _ refl refl refl (m.pending ∙ a.0) refl levels)
     token_step Token.all may = name_step (Function.list ListFunction.all) may refl refl refl refl
     token_step Token.any may = name_step (Function.list ListFunction.any) may refl refl refl refl
     token_step Token.not may = name_step Function.not may refl refl refl refl
@@ -321,16 +317,16 @@ module _ {W M L : Type 0} {builder : Builder W M L} (front : List Item) (s : Sta
         let levels = Levels-open front (at token) s.roots (going s.pending) s.stack
         (omega (arith, balanced token (length s.stack) refl)) refl (rw a.1 at m.levels) in
         let rises : Rises token (length (over_top (with_parens start) s.stack)) = grind arith in
-        (refl, matched token _ _ refl (m.pending ∙ a.0) refl rises levels)
+        (refl, matched token _ _ (m.pending ∙ a.0) refl rises levels)
     token_step Token.close_paren may = close_step s.stack refl (ended_here (inl may))
     token_step Token.comma may = meets_each (Ended front false s) _ _ _ (ended_here (inr may))
-        (λ t e. stays Token.comma _ 0 refl refl refl (ap (λ n. n + 0) e.height) e.settled
+        (λ t e. stays Token.comma _ 0 refl refl (ap (λ n. n + 0) e.height) e.settled
         (ap going e.settled) e.levels)
 
     pub step_agrees : (token : Token)
-        → Meets (Matches (more token)) (step s (at token)) (fault_after front (at token))
-    step_agrees token = rw m.last (meets_when _ _ _ _ _
-        (λ may. meets_map _ _ _ _ _ (token_step token may) (λ t matches. matches)))
+        → Meets (Matches (more token)) (step (last_token front) s (at token))
+        (fault_after front (at token))
+    step_agrees token = meets_when _ _ _ _ _ (token_step token)
 
   end_stack : (len : ℕ) (stack : List (Open M)) → s.stack ≡ stack
       → lacks_value (last_token front) ≡ false
@@ -338,7 +334,8 @@ module _ {W M L : Type 0} {builder : Builder W M L} (front : List Item) (s : Sta
       (option_or (unclosed_innermost len front) (closed_end len front))
   end_stack len stack is whole = grind (arith, innermost-none, depth_is, open_fault_is)
 
-  pub end_agrees : (len : ℕ) → EndAgrees (conclude len s) (end_fault len front)
+  pub end_agrees : (len : ℕ)
+      → EndAgrees (conclude (last_token front) len s) (end_fault len front)
   end_agrees len = grind (arith, end_stack)
 
 -- What the steps answer for all tokens of a text is its first fault, or none.
@@ -357,23 +354,32 @@ first_is (item ∷ items) all front is =
     let rest = first_is items all _ (is ∙ sym (append_assoc front (item ∷ []) items)) in
     grind (arith, take-append_seam, slice_get_next, length_more, rest)
 
+last_token-more : (front : List Item) (item : Item)
+    → last_token (front ++ item ∷ []) ≡ Some item.token
+last_token-more front item = grind (arith, common_steps)
+
+-- the last token and the state after the tokens
+abbrev Read : {W M L : Type 0} {builder : Builder W M L} → List Item
+    → Option Token × State builder → Type 0
+Read front (last, s) = (last ≡ last_token front) × Matches front s
+
 scan : {W M L : Type 0} {builder : Builder W M L} (items front : List Item) (s : State builder)
-    → Matches front s
-    → Meets (Matches (front ++ items)) (step_each s items) (first_after front items)
-scan [] front s m = (refl, rw append-nil m)
+    → Matches front s → Meets (Read {builder = builder} (front ++ items))
+    (step_each (last_token front) s items) (first_after front items)
+scan [] front s m = (refl, rw append-nil (refl, m))
 scan (item ∷ items) front s m = meets_then _ _ _ _ _ _
     (step_agrees front s m item.start item.end item.token)
-    (λ t more. rw append_assoc at (scan items (front ++ item ∷ []) t more))
+    (λ t more. rw (append_assoc, last_token-more) at (scan items (front ++ item ∷ []) t more))
 
 module _ {W M L : Type 0} (builder : Builder W M L) (text : List ℕ) (items : List Item)
     (ending : Ending) where
-  at_end : (o : Option Refusal) (t : State builder) → Matches items t
-      → EndAgrees (ended_as text o t) (option_or o (end_fault (length text) items))
-  at_end o t m = grind (arith, end_agrees)
+  at_end : (o : Option Refusal) (read : Option Token × State builder) → Read items read
+      → EndAgrees (ended_as text o read) (option_or o (end_fault (length text) items))
+  at_end o (last, t) (is, m) = grind (arith, end_agrees)
 
-  pub whole_agrees : EndAgrees (answer_from (initial {builder = builder}) text items ending)
+  pub whole_agrees : EndAgrees (answer_from None (initial {builder = builder}) text items ending)
       (first_fault text items ending)
   whole_agrees = let start : Matches [] (initial {builder = builder}) =
-      record { last = refl; pending = refl; balance = refl; levels = refl } in
+      record { pending = refl; balance = refl; levels = refl } in
       rw (first_is items items [] refl) (meets_then _ _ _ _ _ _ (scan items [] initial start)
       (at_end (lexical text ending)))

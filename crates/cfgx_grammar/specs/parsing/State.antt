@@ -39,12 +39,11 @@ pub record Open (M : Type 0) : Type 0 where
   pub mark : M
 
 -- The open functions, the innermost first; the predicate that has not ended; how many members at
--- the root have ended; the last token; what was written.
+-- the root have ended; what was written. The last token stands beside it.
 pub record State {W M L : Type 0} (builder : Builder W M L) : Type 0 where
   pub stack : List (Open M)
   pub pending : Option Pending
   pub roots : ℕ
-  pub last : Option Token
   pub written : W
 
 abbrev pub initial : {W M L : Type 0} {builder : Builder W M L} → State builder
@@ -52,6 +51,5 @@ initial {builder = builder} = record {
   stack = [];
   pending = None;
   roots = 0;
-  last = None;
   written = builder.nothing;
 }

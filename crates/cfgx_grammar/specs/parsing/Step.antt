@@ -7,7 +7,7 @@ use Rattle.cfgx_syntax.specs.Items.{Item, Ending, lexical}
 use Rattle.cfgx_syntax.specs.Error.{Refusal, unexpected, unopened_parens, unclosed_parens}
 use Rattle.cfgx_syntax.specs.Error.{invalid_not, empty, multiple_root_predicates}
 use Rattle.cfgx_grammar.specs.{Classification.Class, FirstFault.refusal, FirstFault.lacks_value}
-use Rattle.cfgx_grammar.specs.{Neighbours.next, Neighbours.expected, Tree.ListFunction}
+use Rattle.cfgx_grammar.specs.{FollowSet.next, FollowSet.expected, Tree.ListFunction}
 use Rattle.cfgx_grammar.specs.LastPredicate.{word_of, with_value, part_of, class_of}
 use Rattle.cfgx_grammar.specs.parsing.State.{Function, Pending, Builder, Open, State}
 
@@ -131,19 +131,17 @@ module _ {W M L : Type 0} {builder : Builder W M L} where
   apply s item Token.close_paren = closed_by s item s.stack
   apply s item Token.comma = predicate_ended s
 
-  abbrev pub with_last : Token → State builder → State builder
-  with_last token s = record s { last = Some token }
+  -- one token after the last one, or at the start
+  abbrev pub step : Option Token → State builder → Item → Result (State builder) Refusal
+  step last s item = if next last item.token then apply s item item.token
+      else Err (refusal (unexpected (expected last)) item.start item.end)
 
-  -- one token
-  abbrev pub step : State builder → Item → Result (State builder) Refusal
-  step s item =
-      if next s.last item.token then result_map (with_last item.token) (apply s item item.token)
-      else Err (refusal (unexpected (expected s.last)) item.start item.end)
-
-  -- one token after another
-  abbrev pub step_each : State builder → List Item → Result (State builder) Refusal
-  step_each s [] = Ok s
-  step_each s (item ∷ items) = and_then (λ t. step_each t items) (step s item)
+  -- one token after another: what the last one is then, and the state
+  abbrev pub step_each : Option Token → State builder → List Item
+      → Result (Option Token × State builder) Refusal
+  step_each last s [] = Ok (last, s)
+  step_each last s (item ∷ items) =
+      and_then (λ t. step_each (Some item.token) t items) (step last s item)
 
   -- The end.
 
@@ -158,18 +156,20 @@ module _ {W M L : Type 0} {builder : Builder W M L} where
   concluded_by len s (top ∷ rest) = Err (unclosed len top top.parens)
   concluded_by len s [] = and_then (one_root len) (predicate_ended s)
 
-  -- the end of a text of so many bytes
-  abbrev pub conclude : ℕ → State builder → Result (State builder) Refusal
-  conclude len s = if lacks_value s.last then Err (refusal (unexpected (codes "\"<value>\"" ∷ []))
-      len len) else concluded_by len s s.stack
+  -- the end of a text of so many bytes after its last token
+  abbrev pub conclude : Option Token → ℕ → State builder → Result (State builder) Refusal
+  conclude last len s = if lacks_value last
+      then Err (refusal (unexpected (codes "\"<value>\"" ∷ [])) len len)
+      else concluded_by len s s.stack
 
   -- the end of the tokens, by what stands there
-  abbrev pub ended_as : List ℕ → Option Refusal → State builder → Result (State builder) Refusal
-  ended_as text None s = conclude (length text) s
-  ended_as text (Some refusal) s = Err refusal
-
-  -- what the whole of a text's tokens answers, from a state on
-  abbrev pub answer_from : State builder → List ℕ → List Item → Ending
+  abbrev pub ended_as : List ℕ → Option Refusal → Option Token × State builder
       → Result (State builder) Refusal
-  answer_from s text items ending =
-      and_then (ended_as text (lexical text ending)) (step_each s items)
+  ended_as text None (last, s) = conclude last (length text) s
+  ended_as text (Some refusal) _ = Err refusal
+
+  -- what the rest of a text's tokens answers, from the last token and a state on
+  abbrev pub answer_from : Option Token → State builder → List ℕ → List Item → Ending
+      → Result (State builder) Refusal
+  answer_from last s text items ending =
+      and_then (ended_as text (lexical text ending)) (step_each last s items)

@@ -14,14 +14,15 @@ use Rattle.cfgx_parser.specs.nodes.Node.{Written, begun, with_leaf}
 use Rattle.cfgx_parser.specs.nodes.Prefix.{Node, headed, prefix, prefix_each, places, places_by}
 use Rattle.cfgx_parser.specs.nodes.Prefix.{with_places}
 use Rattle.cfgx_parser.specs.nodes.WritesNodes.{IsPlaced, ArePlaced, WritesNodes}
-use Rattle.cfgx_parser.specs.parsing.State.{counted, node_builder}
+use Rattle.cfgx_parser.specs.parsing.NodeState.{counted, node_builder}
 use Rattle.cfgx_parser.specs.declared.nodes.ExprNode.TheVariants as node
 use Rattle.cfgx_grammar.proofs.alone.{all_of_first, all_of_second}
 use Rattle.cfgx_grammar.proofs.accepted.{leaf_tree}
 use Rattle.cfgx_grammar.proofs.spelled.{Calls, Laws}
-use Rattle.cfgx_parser.proofs.spelled.Located.{NamesClass, NamesClass-class}
-use Rattle.cfgx_parser.proofs.spelled.Written.{WritesNodes-none, WritesNodes-then, WritesNodes-leaf}
-use Rattle.cfgx_parser.proofs.spelled.Written.{WritesNodes-function, length-nodes}
+use Rattle.cfgx_parser.proofs.spelled.LocatedClasses.{NamesClass, NamesClass-class}
+use Rattle.cfgx_parser.proofs.spelled.WritingLemmas.{WritesNodes-none, WritesNodes-then}
+use Rattle.cfgx_parser.proofs.spelled.WritingLemmas.{WritesNodes-leaf, WritesNodes-function}
+use Rattle.cfgx_parser.proofs.spelled.WritingLemmas.{length-nodes}
 
 -- the places of what is asked with its list, and of what is asked before
 abbrev pub own : ℕ → Tree Question → List ℕ

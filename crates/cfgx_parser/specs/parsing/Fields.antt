@@ -7,7 +7,7 @@ use Rattle.cfgx_syntax.specs.declared.error.Reason.{Reason}
 use Rattle.cfgx_grammar.specs.Classification.{target_class, other_class}
 use Rattle.cfgx_grammar.specs.Tree.{ListFunction}
 use Rattle.cfgx_grammar.specs.parsing.State.{Function, Word, Pending}
-use Rattle.cfgx_parser.specs.parsing.State.{OpenFunction, located_class}
+use Rattle.cfgx_parser.specs.parsing.NodeState.{OpenFunction, located_class}
 use Rattle.cfgx_grammar.specs.FirstFault.{refusal}
 use Rattle.cfgx_parser.specs.declared.function.FuncKind.{FuncKind}
 use Rattle.cfgx_parser.specs.declared.function.FuncKind.TheVariants as kind

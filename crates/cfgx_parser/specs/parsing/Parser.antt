@@ -5,7 +5,6 @@ use Rattle.std.specs.declared.ops.Range.{Range}
 use Rattle.cfgx_syntax.specs.Token as spelled
 use Rattle.cfgx_syntax.specs.Items.{Item, Ending, ItemsFrom}
 use Rattle.cfgx_syntax.specs.LexerState.{LexerState}
-use Rattle.cfgx_syntax.specs.Lexer.{token_of, item_of}
 use Rattle.cfgx_syntax.specs.Error.{Refusal, fault_in, fault_of}
 use Rattle.cfgx_parser.specs.declared.parser.Fault.{Fault}
 use Rattle.cfgx_parser.specs.declared.parser.Halt.{Halt}
@@ -18,26 +17,21 @@ use Rattle.cfgx_syntax.specs.declared.lexer.Token.TheVariants as given
 use Rattle.cfgx_parser.specs.nodes.Writer.{written_of}
 use Rattle.cfgx_grammar.specs.parsing.State.{Function, Pending}
 use Rattle.cfgx_parser.specs.nodes.Node.{Written, with_leaf}
-use Rattle.cfgx_parser.specs.parsing.State.{ParserState, classified}
+use Rattle.cfgx_parser.specs.parsing.NodeState.{ParserState, classified}
 use Rattle.cfgx_grammar.specs.parsing.Step.{opened, closed_by, concluded_by, result_map}
-use Rattle.cfgx_grammar.specs.parsing.Step.{answer_from, over_top, with_parens, step, conclude}
+use Rattle.cfgx_grammar.specs.parsing.Step.{answer_from, over_top, with_parens}
 use Rattle.cfgx_grammar.specs.LastPredicate.{with_value, word_of}
-use Rattle.cfgx_parser.specs.parsing.Fields.{opens_in, roots_in, pending_of, last_of, shown}
-use Rattle.cfgx_parser.specs.declared.parser.LastToken.{LastToken}
+use Rattle.cfgx_parser.specs.parsing.Fields.{opens_in, roots_in, pending_of, shown}
 use Rattle.cfgx_parser.specs.declared.parser.Parser.{Parser}
 
--- after a last token, which the parser is told, or at the start
-abbrev pub state_at : {A : Type 0} → Option spelled.Token → Parser A → ParserState
-state_at last p = record {
+-- what the parser's fields keep
+abbrev pub state_of : {A : Type 0} → Parser A → ParserState
+state_of p = record {
   stack = opens_in p.list (reverse p.func_stack.items);
   pending = option_map pending_of p.pending;
   roots = roots_in p.list (reverse p.func_stack.items);
-  last = last;
   written = written_of p.writer;
 }
-
-abbrev pub state_of : {A : Type 0} → Parser A → ParserState
-state_of {A} p = state_at {A = A} None p
 
 -- a parser that halts at a fault has noted the one that the steps show
 abbrev pub HaltsAs : {A : Type 0} → Halt → Parser A → Result ParserState Refusal → Type 0
@@ -56,15 +50,11 @@ abbrev pub Says : {A : Type 0} → List ℕ → Halt → Parser A → Failure A 
 Says {A} text h parser failure = (answer : Result ParserState Refusal)
     → HaltsAs {A = A} h parser answer → FailsAs text failure answer
 
--- the answer of a function that goes one step, to a token that is the last one then
-abbrev pub GivesAt : {A : Type 0} → Option spelled.Token → Result (Unit {0}) Halt → Parser A
-    → Result ParserState Refusal → Type 0
-GivesAt {A} last (Ok done) new answer = answer ≡ Ok (state_at {A = A} last new)
-GivesAt {A} last (Err halt) new answer = HaltsAs {A = A} halt new answer
-
+-- the answer of a function that goes one step
 abbrev pub Gives : {A : Type 0} → Result (Unit {0}) Halt → Parser A → Result ParserState Refusal
     → Type 0
-Gives {A} = GivesAt {A = A} None
+Gives {A} (Ok done) new answer = answer ≡ Ok (state_of {A = A} new)
+Gives {A} (Err halt) new answer = HaltsAs {A = A} halt new answer
 
 abbrev pub item_at : Range ℕ → Item
 item_at span = record { token = spelled.Token.comma; start = span.start; end = span.end }
@@ -127,24 +117,10 @@ IsQuotedAt _ span = Unit {0}
 abbrev pub IsQuoted : LexerToken → Type 0
 IsQuoted lexed = IsQuotedAt lexed.token lexed.span
 
--- one token is read, whatever the last one is of which the parser is told
-abbrev pub Reads : {A : Type 0} → LastToken → LexerToken → Parser A → Parser A
-    → Result (Unit {0}) Halt → Type 0
-Reads {A} last lexed old new result = (before : Option spelled.Token) → last_of before ≡ last
-    → GivesAt {A = A} (Some (token_of lexed.token)) result new
-    (step (state_at {A = A} before old) (item_of lexed))
-
--- the text of so many bytes ends after it
-abbrev pub Finishes : {A : Type 0} → LastToken → ℕ → Parser A → Parser A
-    → Result (Unit {0}) Halt → Type 0
-Finishes {A} last len old new result = (before : Option spelled.Token) → last_of before ≡ last
-    → GivesAt {A = A} before result new (conclude len (state_at {A = A} before old))
-
 -- the answer of a parser that reads a text to its end
 abbrev pub Ends : {A : Type 0} → Result (Unit {0}) (Failure A) → List ℕ → Parser A
     → Result ParserState Refusal → Type 0
-Ends {A} (Ok done) text new answer = (last : Option spelled.Token)
-    × GivesAt {A = A} last (Ok done) new answer
+Ends {A} (Ok done) text new answer = answer ≡ Ok (state_of {A = A} new)
 Ends (Err failure) text new answer = FailsAs text failure answer
 
 abbrev pub ReadsAll : {A : Type 0} → LexerState → Parser A → Parser A → Result (Unit {0})
@@ -152,4 +128,4 @@ abbrev pub ReadsAll : {A : Type 0} → LexerState → Parser A → Parser A → 
 ReadsAll {A} lexer old new result =
     (items : List Item) (ending : Ending) → ItemsFrom lexer.text lexer.place items ending
     → Ends {A = A} result lexer.text new
-    (answer_from (state_of {A = A} old) lexer.text items ending)
+    (answer_from None (state_of {A = A} old) lexer.text items ending)

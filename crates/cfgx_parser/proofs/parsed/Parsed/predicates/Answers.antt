@@ -1,9 +1,9 @@
 -- The nodes are those of the text's one tree, and the predicates among them ask what it asks.
 use Rattle.std.proofs.Common.{◌∙◌, subst, sym}
 use Rattle.std.specs.List.{AllByRecursion}
-use Rattle.cfgx_grammar.specs.Regular.{IsRegular}
-use Rattle.cfgx_grammar.proofs.alone.{regular_tree}
-use Rattle.cfgx_parser.proofs.Asked.{NamePredicates-kept, questions_at-kept}
+use Rattle.cfgx_grammar.specs.WellFormed.{IsWellFormed}
+use Rattle.cfgx_grammar.proofs.alone.{well_formed_tree}
+use Rattle.cfgx_parser.proofs.AskedPredicates.{NamePredicates-kept, questions_at-kept}
 use Rattle.cfgx_parser.proofs.parsed.Parsed.predicates.Goals as goal
 
 pub new-requires : goal.new-requires
@@ -19,7 +19,8 @@ returns-clause-asked g c =
     (keeps.one, same ∙ rw c.self.view_is (questions_at-kept keeps.keeps))
 
 -- what a text asks can stand in a text
-pub returns-clause-regular : goal.returns-clause-regular
-returns-clause-regular g c =
+pub returns-clause-well_formed : goal.returns-clause-well_formed
+returns-clause-well_formed g c =
     let asks = returns-clause-asked g c in
-    subst (AllByRecursion IsRegular) (sym asks.1) (regular_tree _ asks.0.tree asks.0.reads.has)
+    subst (AllByRecursion IsWellFormed) (sym asks.1)
+    (well_formed_tree _ asks.0.tree asks.0.reads.has)

@@ -1,7 +1,7 @@
 -- Each token that the lexer gives is the next one, and the parser takes the step of it.
 use Rattle.std.proofs.Common.{Ok, Err}
 use Rattle.std.proofs.lemmas.Result.{err_from_is_err_and}
-use Rattle.cfgx_parser.proofs.Reading.{LeadsTo-read, ReadsAll-read, ReadsAll-fault, ReadsAll-end}
+use Rattle.cfgx_parser.proofs.ReadTokens.{LeadsTo-read, ReadsAll-read, ReadsAll-fault, ReadsAll-end}
 use Rattle.cfgx_parser.proofs.parser.Parser.read_all.Goals as goal
 
 pub returns-in_err-lexed : goal.returns-in_err-lexed
@@ -14,28 +14,22 @@ returns-in_err-lexed g c =
 pub loop-lexed-preserved : goal.loop-lexed-preserved
 loop-lexed-preserved g c =
     let gives = rw c.in_ok-lexed.was at c.in-Some.ensures.steps in
-    let before = c.loop-lexed.invariant in
-    rw c.of-last.ensures (LeadsTo-read {A = g.row.A.Denot} before c.read.new.self c.next.new.self
-    c.in_ok-lexed.lexed gives (c.in_default.ensures before.token before.kept))
+    rw c.of-last.ensures (LeadsTo-read {A = g.row.A.Denot} c.loop-lexed.invariant c.read.new.self
+    c.next.new.self c.in_ok-lexed.lexed gives c.in_default.ensures)
 
 pub returns-in-Err : goal.returns-in-Err
 returns-in-Err g c =
     let gives = rw c.in_ok-lexed.was at c.in-Some.ensures.steps in
-    let before = c.loop-lexed.invariant in
-    let fails = c.failure.ensures _ (c.in-Err.ensures before.token before.kept) in
-    ReadsAll-read {A = g.row.A.Denot} before c.read.new.self c.next.new.self _ c.failure.result
-    gives (rw c.original-text.ensures at fails)
+    ReadsAll-read {A = g.row.A.Denot} c.loop-lexed.invariant c.read.new.self c.next.new.self _
+    c.failure.result gives (rw c.original-text.ensures at (c.failure.ensures _ c.in-Err.ensures))
 
 pub returns-in-Ok : goal.returns-in-Ok
 returns-in-Ok g c =
-    let before = c.loop-lexed.invariant in
-    ReadsAll-end {A = g.row.A.Denot} before c.finish.new.self _ (Ok tt) c.original-text.ensures
-    c.in-None.ensures.steps.0 (before.token, c.in-Ok.ensures before.token before.kept)
+    ReadsAll-end {A = g.row.A.Denot} c.loop-lexed.invariant c.finish.new.self _ (Ok tt)
+    c.original-text.ensures c.in-None.ensures.steps.0 c.in-Ok.ensures
 
 pub returns-in-Err-finish : goal.returns-in-Err-finish
 returns-in-Err-finish g c =
-    let before = c.loop-lexed.invariant in
-    let halts = c.in-Err-finish.ensures before.token before.kept in
-    ReadsAll-end {A = g.row.A.Denot} before c.finish.new.self _
+    ReadsAll-end {A = g.row.A.Denot} c.loop-lexed.invariant c.finish.new.self _
     (Err c.failure-in-Err-finish.result) c.original-text.ensures c.in-None.ensures.steps.0
-    (c.failure-in-Err-finish.ensures _ halts)
+    (c.failure-in-Err-finish.ensures _ c.in-Err-finish.ensures)

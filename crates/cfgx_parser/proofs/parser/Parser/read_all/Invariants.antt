@@ -1,5 +1,5 @@
 -- What the rest of the text answers, the whole answers.
-use Rattle.cfgx_parser.proofs.Reading.{LeadsTo}
+use Rattle.cfgx_parser.proofs.ReadTokens.{LeadsTo}
 use Rattle.cfgx_parser.proofs.parser.Parser.read_all.Given as goal
 
 abbrev pub invariant-loop-lexed : goal.invariant-loop-lexed

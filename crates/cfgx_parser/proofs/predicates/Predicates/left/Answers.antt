@@ -1,6 +1,6 @@
 -- Each place names a predicate, and so a question.
 use Rattle.std.proofs.Common.{sym, ap, ◌∙◌, length}
-use Rattle.cfgx_parser.proofs.Asked.{length-questions_at}
+use Rattle.cfgx_parser.proofs.AskedPredicates.{length-questions_at}
 use Rattle.cfgx_parser.proofs.predicates.Predicates.left.Goals as goal
 
 pub returns : goal.returns

@@ -1,7 +1,7 @@
 -- The row that is added is the last one that is left; in the end none is.
 use Rattle.std.proofs.Common.{◌∙◌, ap}
 use Rattle.cfgx_syntax.specs.Kleene.{lane}
-use Rattle.cfgx_parser.proofs.Lanes.{Added-fit, Added-end}
+use Rattle.cfgx_parser.proofs.MatchedLanes.{Added-fit, Added-end}
 use Rattle.cfgx_parser.proofs.predicates.TargetPredicate.lanes.Goals as goal
 
 pub with_lowest-is_true-requires : goal.with_lowest-is_true-requires

@@ -8,8 +8,8 @@ use Rattle.std.proofs.lemmas.List.{length-append, length-map, nil_from_length}
 use Rattle.std.proofs.Math.Nat.{pow-succ'}
 use Rattle.std.proofs.Math.Pow.{pow_mono}
 use Rattle.std.proofs.lemmas.Nat.Bits.{bit_at-zero, bit_at-suc, bit_at_lowest}
-use Rattle.cfgx_syntax.specs.Kleene.{AreApart, EachLane, answer_of_bits}
-use Rattle.cfgx_syntax.proofs.Lanes.{AreApart-from}
+use Rattle.cfgx_syntax.specs.Kleene.{AreDisjoint, EachLane, answer_of_bits}
+use Rattle.cfgx_syntax.proofs.LaneLemmas.{AreDisjoint-from}
 
 abbrev pub digit : Bool → ℕ
 digit b = if b then 1 else 0
@@ -33,11 +33,11 @@ answer-digit : (b : Bool) → answer_of_bits (digit b) (digit (not b)) ≡ slice
 answer-digit b = grind arith
 
 -- at most one of both planes has a bit
-bits-apart : (bs : List Bool) (i : ℕ) → bit_at (bits bs) i + bit_at (bits (map not bs)) i ≤ 1
-bits-apart [] i = omega (arith, bit_at-zero i)
-bits-apart (b ∷ bs) zero = omega (arith, bit_at-first, digit-opposite b)
-bits-apart (b ∷ bs) (suc i) =
-    rw (bit_at-next b (bits bs) i, bit_at-next (not b) (bits (map not bs)) i) (bits-apart bs i)
+bits-disjoint : (bs : List Bool) (i : ℕ) → bit_at (bits bs) i + bit_at (bits (map not bs)) i ≤ 1
+bits-disjoint [] i = omega (arith, bit_at-zero i)
+bits-disjoint (b ∷ bs) zero = omega (arith, bit_at-first, digit-opposite b)
+bits-disjoint (b ∷ bs) (suc i) =
+    rw (bit_at-next b (bits bs) i, bit_at-next (not b) (bits (map not bs)) i) (bits-disjoint bs i)
 
 -- the lanes are the answers, and unknown past them
 lane-bits : (bs : List Bool) (i : ℕ)
@@ -78,11 +78,11 @@ module _ {T : Type 0} {answer : T → Bool} {rows left : List T} {is_true is_fal
 
   -- in the end they hold the answers of all rows
   pub Added-end : length left ≡ 0 → Added answer rows left is_true is_false
-      → AreApart is_true is_false
+      → AreDisjoint is_true is_false
       × EachLane (record { is_true = is_true; is_false = is_false }) (slice_get (map answer rows))
   Added-end none added =
       let all : rows ≡ added.done = rw (added.rows_are, nil_from_length left none) refl in
       rw (added.true_is, added.false_is, all) (
-        AreApart-from _ _ (bits-apart (map answer added.done)),
+        AreDisjoint-from _ _ (bits-disjoint (map answer added.done)),
         λ i below. lane-bits (map answer added.done) i,
       )

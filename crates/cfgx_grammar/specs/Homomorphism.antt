@@ -3,13 +3,13 @@
 use Rattle.std.specs.Prelude.{◌≡◌, ◌==◌, Bool, IsTrue, List, bit_and, map}
 use Rattle.cfgx_syntax.specs.Kleene.{Planes, EachLane, lane}
 use Rattle.cfgx_syntax.specs.contracts.logic.kleene.Kleene64Logic.TheImpl as lanes_logic
-use Rattle.cfgx_grammar.specs.{Tree.Tree, Fold.Operations, Fold.fold, Filling.three_valued}
+use Rattle.cfgx_grammar.specs.{Tree.Tree, Fold.Operations, Fold.tree_fold, Filling.three_valued}
 
 -- The map takes each constant and each operation of one logic to that of another. `Holds` is what
 -- is known of every value of the first one, such as the invariant of its type; what the operations
 -- make keeps it.
-pub record IsMap {T U : Type 0} (one : Operations T) (other : Operations U) (Holds : T → Type 0)
-    (to : T → U) : Type 0 where
+pub record IsHomomorphism {T U : Type 0} (one : Operations T) (other : Operations U)
+    (Holds : T → Type 0) (to : T → U) : Type 0 where
   pub top : Holds one.top × (to one.top ≡ other.top)
   pub bottom : Holds one.bottom × (to one.bottom ≡ other.bottom)
   pub and : (x y : T) → Holds x → Holds y
@@ -23,8 +23,8 @@ abbrev pub Passes : {T : Type 0} → (T → Bool) → T → Type 0
 Passes test x = IsTrue (test x)
 
 -- whether no lane is both true and false
-abbrev pub is_apart : Planes → Bool
-is_apart planes = bit_and planes.is_true planes.is_false == 0
+abbrev pub is_disjoint : Planes → Bool
+is_disjoint planes = bit_and planes.is_true planes.is_false == 0
 
 -- sixty-four answers at once
 abbrev pub lane_valued : Operations Planes
@@ -32,5 +32,5 @@ lane_valued = lanes_logic.ghosts
 
 -- in each lane, the value over the answers is that in three values over this lane of the answers
 abbrev pub IsByLane : {X : Type 0} → Tree X → List Planes → Type 0
-IsByLane tree answers =
-    EachLane (fold lane_valued tree answers) (λ i. fold three_valued tree (map (lane i) answers))
+IsByLane tree answers = EachLane (tree_fold lane_valued tree answers)
+    (λ i. tree_fold three_valued tree (map (lane i) answers))

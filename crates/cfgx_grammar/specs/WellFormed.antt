@@ -10,7 +10,7 @@ CanBeQuoted None = Unit {0}
 CanBeQuoted (Some value) = HasNoQuote value
 
 -- a key, and perhaps a value, say the predicate
-pub record IsRegular (question : Question) : Type 0 where
+pub record IsWellFormed (question : Question) : Type 0 where
   pub key : List ℕ
   pub value : Option (List ℕ)
   pub is_key : IsKey key

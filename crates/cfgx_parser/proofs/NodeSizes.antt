@@ -5,7 +5,7 @@ use Rattle.cfgx_syntax.specs.Token.{Token}
 use Rattle.cfgx_grammar.specs.Grammar.{leaf_tokens, list_name, IsCall, IsMember, IsList}
 use Rattle.cfgx_grammar.specs.Grammar.{commas, HasTree}
 use Rattle.cfgx_syntax.specs.Items.{Item, Ending}
-use Rattle.cfgx_syntax.proofs.Sizes.{items-bytes}
+use Rattle.cfgx_syntax.proofs.ItemSizes.{items-bytes}
 use Rattle.std.proofs.lemmas.List.{length-map}
 use Rattle.cfgx_grammar.specs.Question.{Question}
 use Rattle.cfgx_grammar.specs.Tree.{Tree, Trees}
