@@ -3,7 +3,7 @@ use Rattle.std.proofs.Common.{◌≡◌, ◌≤◌, ◌+◌, ℕ, min, suc, List
 use Rattle.std.proofs.lemmas.Slice.Zip.{AllZip-map}
 use Rattle.std.specs.{Borrow.MutBor, List.AllZip}
 use Rattle.cfgx_grammar.specs.Question.{Question}
-use Rattle.cfgx_grammar.specs.{Answer.HasOneTree, Tree.asked, Fold.Operations, Fold.fold}
+use Rattle.cfgx_grammar.specs.{Answer.HasOneTree, Tree.asked, Fold.Operations, Fold.tree_fold}
 use Rattle.cfg_expr.specs.Asking.{AnswersBy, Asker, Asks, Calls}
 use Rattle.cfg_expr.specs.Evaluation.{Evaluates, IsValueBy}
 
@@ -62,7 +62,7 @@ Evaluates-by {logic = logic} {asker} {before = before} {after} e answer_to by =
     before (asked e.one.tree) e.answers after by e.calls) in
     record {
       one = e.one;
-      value_is = e.value_is ∙ ap (fold logic e.one.tree) answers;
+      value_is = e.value_is ∙ ap (tree_fold logic e.one.tree) answers;
     }
 
 -- if the closure counts its calls from 0 up to a bound, the count is that of the questions

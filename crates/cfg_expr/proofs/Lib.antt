@@ -1,4 +1,4 @@
 pub mod Chains
-pub mod Filling
+pub mod Parities
 pub mod Parts
 pub mod evaluated

@@ -2,7 +2,7 @@
 -- Source: Kleene's strong logic.
 use Rattle.std.specs.Prelude.{◌≡◌, Bool, true, false, List, Option, Some, None}
 use Rattle.cfgx_grammar.specs.Tree.{Tree}
-use Rattle.cfgx_grammar.specs.Fold.{fold}
+use Rattle.cfgx_grammar.specs.Fold.{tree_fold}
 use Rattle.cfgx_grammar.specs.Filling.{IsExact, polar, three_valued}
 use Rattle.cfg_expr.specs.declared.expr.Decision.{Decision}
 use Rattle.cfg_expr.specs.declared.expr.Decision.TheVariants as decision
@@ -10,9 +10,9 @@ use Rattle.cfg_expr.specs.declared.expr.Decision.TheVariants as decision
 -- the value in three values is known, and is this one; or it is unknown, and these are the polar
 -- fillings with true and with false
 abbrev pub IsDecision : {X A : Type 0} → Tree X → List (Option Bool) → Decision A → Type 0
-IsDecision tree answers (decision.Known value) = fold three_valued tree answers ≡ Some value
+IsDecision tree answers (decision.Known value) = tree_fold three_valued tree answers ≡ Some value
 IsDecision tree answers (decision.Unknown if_true if_false) =
-    (fold three_valued tree answers ≡ None)
+    (tree_fold three_valued tree answers ≡ None)
     × (if_true.items ≡ polar tree answers true)
     × (if_false.items ≡ polar tree answers false)
 

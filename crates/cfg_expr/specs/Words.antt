@@ -1,7 +1,7 @@
 -- Words of other crates for the contracts of a caller of `parse` and `eval`.
 pub use Rattle.cfgx_syntax.specs.Stripping.{strip}
 pub use Rattle.cfgx_grammar.specs.Answer.{Answers, HasOneTree}
-pub use Rattle.cfgx_grammar.specs.Fold.{fold}
+pub use Rattle.cfgx_grammar.specs.Fold.{tree_fold}
 pub use Rattle.cfgx_grammar.specs.Grammar.{HasTree}
 pub use Rattle.cfgx_grammar.specs.Question.{Question, TargetQuestion}
 pub use Rattle.cfgx_grammar.specs.Tree.{Tree, asked}

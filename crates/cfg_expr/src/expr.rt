@@ -1,6 +1,6 @@
 //! Conditions, and the predicates that they ask.
 ghost use Rattle.std.specs.Prelude.{◌≡◌, ◌≤◌, Bool, List, Option, length, map, IfOk, IsOk, OnErr};
-ghost use Rattle.cfgx_syntax.specs.Kleene.{EachLane, IsApart, Planes, lane};
+ghost use Rattle.cfgx_syntax.specs.Kleene.{EachLane, IsDisjoint, Planes, lane};
 ghost use Rattle.cfgx_syntax.specs.Stripping.{strip};
 ghost use Rattle.std.specs.List.{AllByRecursion};
 ghost use Rattle.cfgx_grammar.specs.Given.{AreAnswersTo};
@@ -9,12 +9,12 @@ ghost use Rattle.cfg_expr.specs.Asking.{AnswersBy};
 ghost use Rattle.cfg_expr.specs.Deciding.{Decides};
 ghost use Rattle.cfg_expr.specs.Evaluation.{Evaluates, IsValueBy, MayEvaluate};
 ghost use Rattle.cfgx_grammar.specs.Filling.{IsExact, PolarFillings, three_valued};
-ghost use Rattle.cfgx_grammar.specs.Fold.{fold};
-ghost use Rattle.cfgx_grammar.specs.Mapping.{IsByLane, lane_valued};
+ghost use Rattle.cfgx_grammar.specs.Fold.{tree_fold};
+ghost use Rattle.cfgx_grammar.specs.Homomorphism.{IsByLane, lane_valued};
 ghost use Rattle.cfgx_grammar.specs.Question.{Question};
 ghost use Rattle.cfgx_grammar.specs.Tree.{Tree, asked};
 ghost use Rattle.cfgx_grammar.specs.Grammar.{HasTree};
-ghost use Rattle.cfgx_grammar.specs.Regular.{IsRegular};
+ghost use Rattle.cfgx_grammar.specs.WellFormed.{IsWellFormed};
 
 mod evaluating;
 mod filling;
@@ -29,7 +29,7 @@ use cfgx_parser::parsed::{Parsed, parse};
 pub use cfgx_parser::predicates::{Predicate, Predicates, TargetPredicate};
 use cfgx_syntax::logic::Kleene64;
 pub use cfgx_syntax::logic::Logic;
-use cfgx_syntax::logic::laws::are_apart;
+use cfgx_syntax::logic::laws::are_disjoint;
 pub use cfgx_syntax::{lexer, logic};
 pub use spelling::spell;
 use std::alloc::{AllocError, Allocator, Global};
@@ -145,7 +145,7 @@ impl<A: SmallAllocator> Expression<A> {
     /// memory.
     pub fn predicates(&self) -> Predicates<'_>
         ensures asked { (one : HasOneTree self.now) × (result ≡ asked one.tree) }
-        ensures regular { AllByRecursion IsRegular result }
+        ensures well_formed { AllByRecursion IsWellFormed result }
     {
         self.parsed.predicates()
     }
@@ -236,15 +236,15 @@ impl<A: SmallAllocator> Expression<A> {
         requires { AreAnswersTo answers.now self.now }
         // This holds of all answers to the text's one tree, also if the call is out of memory.
         ensures lanes { (one : HasOneTree self.now) × ((given : List Planes)
-            → AllByRecursion IsApart given → length given ≡ length (asked one.tree)
+            → AllByRecursion IsDisjoint given → length given ≡ length (asked one.tree)
             → IsByLane one.tree given) }
         ensures value { IfOk result (λ value. (one : HasOneTree self.now)
-            × (value ≡ fold lane_valued one.tree answers.now)
-            × EachLane value (λ i. fold three_valued one.tree (map (lane i) answers.now))) }
+            × (value ≡ tree_fold lane_valued one.tree answers.now)
+            × EachLane value (λ i. tree_fold three_valued one.tree (map (lane i) answers.now))) }
         ensures short { length self.now ≤ 32 → IsOk result }
     {
         // It does nothing but show that no lane of the answers is both true and false.
-        are_apart(answers);
+        are_disjoint(answers);
         evaluating::value_over(alloc, &self.parsed, answers)
     }
 }

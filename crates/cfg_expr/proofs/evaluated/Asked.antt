@@ -5,7 +5,7 @@ use Rattle.cfgx_grammar.specs.{Question.Question, Tree.Tree, Tree.asked}
 use Rattle.cfgx_parser.specs.nodes.Prefix.{places}
 use Rattle.cfg_expr.specs.Asking.{Asker, Asks, Calls, MayAsk, MayAskEach}
 use Rattle.cfg_expr.specs.declared.expr.evaluating.Member.{Member}
-use Rattle.cfg_expr.specs.nodes.Answers.{Asking, Ends, with_answers}
+use Rattle.cfg_expr.specs.nodes.AnswerSlots.{Asking, AnswersPut, with_answers}
 
 -- one call more
 Calls-then : {F T : Type 0} {asker : Asker F T} {start now after : F} {questions : List Question}
@@ -39,7 +39,7 @@ module _ {F T : Type 0} {asker : Asker F T} {start now : F} {questions rest : Li
 
   -- with all asked, the whole is over
   pub Asking-over : (tree : Tree Question) → questions ≡ asked tree → at ≡ places 0 tree
-      → rest ≡ [] → Ends asker tree start initial now slots
+      → rest ≡ [] → AnswersPut asker tree start initial now slots
   Asking-over tree questions_are places_are none =
       let all : questions ≡ asking.before = asking.all ∙ rw (none, append-nil asking.before) refl in
       record {

@@ -14,7 +14,7 @@ use Rattle.cfgx_parser.specs.nodes.Prefix.{Node, prefix, prefix_each, places, pl
 use Rattle.cfgx_parser.specs.nodes.Shape.{shape, shape_of}
 use Rattle.cfgx_parser.specs.declared.nodes.ExprNode.{ExprNode}
 use Rattle.cfgx_parser.proofs.Shapes.{length-shape, places-shape, shapes-shape}
-use Rattle.cfg_expr.specs.nodes.Answers.{no_answers, with_answers}
+use Rattle.cfg_expr.specs.nodes.AnswerSlots.{no_answers, with_answers}
 use Rattle.cfg_expr.specs.nodes.Reading.{Member, read}
 use Rattle.cfg_expr.specs.declared.expr.evaluating.Member.TheVariants as member
 use Rattle.cfg_expr.proofs.evaluated.Nodes.{read-mapped}

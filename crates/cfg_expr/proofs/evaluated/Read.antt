@@ -4,11 +4,11 @@ use Rattle.std.proofs.Common.{take, drop, get_or, suc, sym, refl, ap, ◌∙◌,
 use Rattle.std.proofs.{Common.length-append, Math.Seq.drop-append_seam, Math.Seq.take-append_seam}
 use Rattle.std.proofs.lemmas.List.{get_or-take, map-append, drop_more, take-take}
 use Rattle.cfgx_grammar.specs.Tree.{ListFunction, Tree, Trees, is_function, is_leaf, count}
-use Rattle.cfgx_grammar.specs.Fold.{Operations, constant, from_last, value_of, values_by}
+use Rattle.cfgx_grammar.specs.Fold.{Operations, literal_value, from_last, tree_value, values_by}
 use Rattle.cfgx_parser.specs.nodes.Prefix.{Node, list_func, prefix, prefix_each}
 use Rattle.cfgx_parser.specs.nodes.Shape.{Shape, shape_of}
 use Rattle.cfg_expr.specs.nodes.Reading.{Member, begin_of, join_of, values_in, top_value}
-use Rattle.cfg_expr.specs.nodes.Reading.{joined_list, put, read, held, stack_of}
+use Rattle.cfg_expr.specs.nodes.Reading.{joined_list, put, read, slots_of, stack_of}
 use Rattle.cfg_expr.specs.declared.expr.evaluating.Connective.{Connective}
 use Rattle.cfg_expr.specs.declared.expr.evaluating.Connective.TheVariants.{And, Or}
 use Rattle.cfg_expr.specs.declared.expr.evaluating.Stack.{Stack}
@@ -24,8 +24,8 @@ module _ {T : Type 0} (logic : Operations T) where
   -- a tree on the stack
   abbrev pub entry : Tree T → Member T
   entry (Tree.leaf answer) = member.Leaf answer
-  entry (Tree.literal truth) = member.Leaf (constant logic truth)
-  entry tree = member.Function (value_of logic tree)
+  entry (Tree.literal truth) = member.Leaf (literal_value logic truth)
+  entry tree = member.Function (tree_value logic tree)
 
   abbrev entries : Trees T → List (Member T)
   entries Trees.none = []
@@ -46,7 +46,7 @@ module _ {T : Type 0} (logic : Operations T) where
 
   -- on top it is the value of the tree
   pub value-entry : (tree : Tree T) (rest : List (Member T))
-      → top_value logic (entry tree ∷ rest) ≡ value_of logic tree
+      → top_value logic (entry tree ∷ rest) ≡ tree_value logic tree
   value-entry tree rest = grind arith
 
   -- the nodes in front of these read onto what these leave
@@ -92,7 +92,7 @@ module _ {T : Type 0} (logic : Operations T) where
 -- The nodes from the place on are read: the stack, and the slots in front of it.
 pub record Reading {T : Type 0} (logic : Operations T) (shapes : List Shape)
     (old : List (Member T)) (place : ℕ) (stack : Stack T) (slots : List (Member T)) : Type 0 where
-  pub below : place + held stack.top ≤ stack.others
+  pub below : place + slots_of stack.top ≤ stack.others
   pub within : stack.others ≤ length slots
   pub are : stack_of stack slots ≡ read logic (drop place shapes) (drop place old)
   pub front : take place slots ≡ take place old
@@ -103,7 +103,7 @@ pub Reading-next : {T : Type 0} {logic : Operations T} (shapes : List Shape)
     → stack_of next new ≡ put logic (get_or shapes place Shape.predicate)
     (get_or slots place otherwise) (stack_of stack slots)
     → take place new ≡ take place slots
-    → (place + held next.top ≤ next.others) × (next.others ≤ length new)
+    → (place + slots_of next.top ≤ next.others) × (next.others ≤ length new)
     → Reading logic shapes old place next new
 Reading-next shapes {old} {slots} place otherwise inside kept reading are front within =
     let one : get_or slots place otherwise ≡ get_or old place otherwise =

@@ -1,8 +1,8 @@
 -- How one pass over the nodes finds which predicates stand below an odd number of `not`, and with
 -- what the unknown answers to them are filled.
-use Rattle.std.specs.Prelude.{◌++◌, ℕ, Bool, true, false, not, List, [], ◌∷◌, drop, get_or, map}
-use Rattle.std.specs.Prelude.{replicate, Option, Some, unwrap_or}
-use Rattle.cfgx_grammar.specs.Fold.{first_or}
+use Rattle.std.specs.Prelude.{◌++◌, ℕ, Bool, true, false, not, List, [], ◌∷◌, get_or, map}
+use Rattle.std.specs.Prelude.{replicate, Option}
+use Rattle.cfgx_grammar.specs.Filling.{filled_by}
 use Rattle.cfgx_parser.specs.nodes.Shape.{Shape}
 use Rattle.cfgx_parser.specs.declared.function.Func.{Func}
 use Rattle.cfgx_parser.specs.declared.function.Func.TheVariants.{Not, All, Any}
@@ -36,13 +36,8 @@ abbrev pub pass : List Shape → List Bool → List Bool
 pass [] queue = queue
 pass (shape ∷ shapes) queue = pass shapes (gone_over shape queue)
 
--- the answers, and for unknown ones the truth value, turned over if its number of `not` is odd
-abbrev pub filled_by : List Bool → List (Option Bool) → Bool → List Bool
-filled_by [] answers fill = []
-filled_by (odd ∷ odds) answers fill = unwrap_or (first_or (Some true) answers) (turned fill odd)
-    ∷ filled_by odds (drop 1 answers) fill
-
--- if the parities of the nodes are known, and the places of the predicates
+-- the answers to the predicates at the places; unknown ones become `fill`, turned over below an odd
+-- number of `not`
 abbrev pub filled_at : List Bool → List ℕ → List (Option Bool) → Bool → List Bool
 filled_at odds places answers fill =
-    filled_by (map (λ place. get_or odds place false) places) answers fill
+    filled_by answers (map (turned fill) (map (λ place. get_or odds place false) places))

@@ -4,7 +4,7 @@
 use Rattle.std.specs.Prelude.{◌++◌, ℕ, Bool, true, false, List, [], ◌∷◌, length, min, take, drop}
 use Rattle.std.specs.Prelude.{Option, Some, None, unwrap_or}
 use Rattle.std.specs.List.{filter_map}
-use Rattle.cfgx_grammar.specs.Fold.{Operations, constant, from_last}
+use Rattle.cfgx_grammar.specs.Fold.{Operations, literal_value, from_last}
 use Rattle.cfgx_parser.specs.nodes.Shape.{Shape}
 use Rattle.cfgx_parser.specs.declared.function.Func.TheVariants.{Not, All, Any}
 use Rattle.cfg_expr.specs.declared.expr.evaluating.Connective.{Connective}
@@ -78,7 +78,7 @@ joined_list logic connective count stack = let present = min count (length stack
 abbrev pub put : {T : Type 0} → Operations T → Shape → Member T → List (Member T)
     → List (Member T)
 put logic Shape.predicate slot stack = slot ∷ stack
-put logic (Shape.literal truth) slot stack = member.Leaf (constant logic truth) ∷ stack
+put logic (Shape.literal truth) slot stack = member.Leaf (literal_value logic truth) ∷ stack
 put logic (Shape.function Not) slot stack =
     member.Function (logic.not (top_value logic stack)) ∷ drop 1 stack
 put logic (Shape.function (All count)) slot stack = joined_list logic And count stack
@@ -90,10 +90,10 @@ with_top (member.Leaf value) others = member.Leaf value ∷ others
 with_top (member.Function value) others = member.Function value ∷ others
 with_top member.Joined others = others
 
-abbrev pub held : {T : Type 0} → Member T → ℕ
-held (member.Leaf value) = 1
-held (member.Function value) = 1
-held member.Joined = 0
+abbrev pub slots_of : {T : Type 0} → Member T → ℕ
+slots_of (member.Leaf value) = 1
+slots_of (member.Function value) = 1
+slots_of member.Joined = 0
 
 abbrev pub is_held : {T : Type 0} → Member T → Bool
 is_held (member.Leaf value) = true

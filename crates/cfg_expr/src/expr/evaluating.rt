@@ -10,8 +10,7 @@ ghost use Rattle.std.specs.Prelude.{◌≡◌, ◌<◌, ◌≤◌, ◌+◌, ◌�
 ghost use Rattle.std.specs.Prelude.{length, map, replicate, set, get_or, take, drop};
 ghost use Rattle.std.specs.Prelude.{true, false, [], ◌||◌};
 ghost use Rattle.cfgx_grammar.specs.Answer.{HasOneTree};
-ghost use Rattle.cfgx_grammar.specs.Fold as tree_value;
-ghost use Rattle.cfgx_grammar.specs.Fold.{constant, from_last};
+ghost use Rattle.cfgx_grammar.specs.Fold.{from_last, literal_value, tree_fold};
 ghost use Rattle.cfgx_grammar.specs.Given.{AreAnswersTo};
 ghost use Rattle.cfgx_parser.specs.Predicate.{question_of};
 ghost use Rattle.cfgx_grammar.specs.Question.{Question};
@@ -20,10 +19,10 @@ ghost use Rattle.cfgx_parser.specs.nodes.Prefix.{places, prefix};
 ghost use Rattle.cfgx_parser.specs.nodes.Shape.{function, shape, shape_of};
 ghost use Rattle.cfg_expr.specs.Asking.{Asks, MayAsk};
 ghost use Rattle.cfg_expr.specs.Evaluation.{Evaluates, MayEvaluate};
-ghost use Rattle.cfg_expr.specs.nodes.Answers.{Ends, no_answers, with_answers};
+ghost use Rattle.cfg_expr.specs.nodes.AnswerSlots.{AnswersPut, no_answers, with_answers};
 ghost use Rattle.cfg_expr.specs.nodes.Reading.{begin_of, join_of, join_value, values_in, taken};
 ghost use Rattle.cfg_expr.specs.nodes.Reading.{any_value, value_in, value_or_top, joined, put};
-ghost use Rattle.cfg_expr.specs.nodes.Reading.{read, joined_list, top_value, held, is_held};
+ghost use Rattle.cfg_expr.specs.nodes.Reading.{read, joined_list, top_value, slots_of, is_held};
 ghost use Rattle.cfg_expr.specs.nodes.Reading.{stack_of};
 ghost use Rattle.cfg_expr.specs.declared.expr.evaluating.Member.TheVariants as member;
 ghost use Rattle.cfgx_parser.specs.declared.function.Func.TheVariants as func;
@@ -149,7 +148,7 @@ where
     A: SmallAllocator,
     requires { MayEvaluate EP.FnMut parsed.now ep.old }
     ensures { (one : HasOneTree parsed.now)
-        × Ends EP.FnMut one.tree ep.old slots.old ep.new slots.new }
+        × AnswersPut EP.FnMut one.tree ep.old slots.old ep.new slots.new }
 {
     let mut places = parsed.places().iter();
     for predicate in parsed.predicates() {
@@ -246,8 +245,8 @@ impl Connective {
 }
 
 /// The value of a literal.
-fn constant<T: Logic>(truth: bool) -> T
-    ensures { result ≡ constant T.Logic truth }
+fn literal_value<T: Logic>(truth: bool) -> T
+    ensures { result ≡ literal_value T.Logic truth }
 {
     if truth { T::top() } else { T::bottom() }
 }
@@ -257,9 +256,9 @@ fn put_top<T: Logic>(stack: Stack<T>, slots: &mut [Member<T>]) -> Stack<T>
     requires { (0 < stack.others) × (stack.others ≤ length slots.old) }
     ensures top { result.top ≡ member.Joined }
     ensures stack { drop result.others slots.new ≡ stack_of stack slots.old }
-    ensures front { (place : ℕ) → place + held stack.top ≤ stack.others
+    ensures front { (place : ℕ) → place + slots_of stack.top ≤ stack.others
         → take place slots.new ≡ take place slots.old }
-    ensures begins { result.others + held stack.top ≡ stack.others }
+    ensures begins { result.others + slots_of stack.top ≡ stack.others }
     ensures many { length slots.new ≡ length slots.old }
 {
     if let Member::Joined = stack.top {
@@ -277,25 +276,25 @@ fn put_top<T: Logic>(stack: Stack<T>, slots: &mut [Member<T>]) -> Stack<T>
 fn read_literal<T: Logic>(truth: bool, stack: Stack<T>, slots: &mut [Member<T>]) -> Stack<T>
     requires { (0 < stack.others) × (stack.others ≤ length slots.old) }
     ensures stack { stack_of result slots.new
-        ≡ member.Leaf (constant T.Logic truth) ∷ stack_of stack slots.old }
-    ensures front { (place : ℕ) → place + held stack.top ≤ stack.others
+        ≡ member.Leaf (literal_value T.Logic truth) ∷ stack_of stack slots.old }
+    ensures front { (place : ℕ) → place + slots_of stack.top ≤ stack.others
         → take place slots.new ≡ take place slots.old }
-    ensures within { (stack.others ≤ result.others + held stack.top)
-        × (held result.top ≤ 1) × (result.others ≤ length slots.new) }
+    ensures within { (stack.others ≤ result.others + slots_of stack.top)
+        × (slots_of result.top ≤ 1) × (result.others ≤ length slots.new) }
 {
     Stack {
-        top: Member::Leaf(constant(truth)),
+        top: Member::Leaf(literal_value(truth)),
         others: put_top(stack, slots).others,
     }
 }
 
 /// Reads a predicate: puts the answer at its place on the stack.
 fn read_predicate<T: Logic>(place: usize, stack: Stack<T>, slots: &mut [Member<T>]) -> Stack<T>
-    requires { (place + held stack.top < stack.others) × (stack.others ≤ length slots.old) }
+    requires { (place + slots_of stack.top < stack.others) × (stack.others ≤ length slots.old) }
     ensures stack { stack_of result slots.new
         ≡ get_or slots.old place member.Joined ∷ stack_of stack slots.old }
     ensures front { take place slots.new ≡ take place slots.old }
-    ensures within { (place + held result.top ≤ result.others)
+    ensures within { (place + slots_of result.top ≤ result.others)
         × (result.others ≤ length slots.new) }
 {
     let Stack { top, others } = put_top(stack, slots);
@@ -323,7 +322,7 @@ fn take_not<T: Logic>(others: usize, slots: &mut [Member<T>]) -> Stack<T>
     ensures stack { stack_of result slots.new
         ≡ put T.Logic (function func.Not) member.Joined (drop others slots.old) }
     ensures front { (place : ℕ) → place ≤ others → take place slots.new ≡ take place slots.old }
-    ensures within { (others ≤ result.others) × (held result.top ≤ 1)
+    ensures within { (others ≤ result.others) × (slots_of result.top ≤ 1)
         × (result.others ≤ length slots.new) }
 {
     if others < slots.len() {
@@ -346,7 +345,7 @@ fn read_not<T: Logic>(stack: Stack<T>, slots: &mut [Member<T>]) -> Stack<T>
         ≡ put T.Logic (function func.Not) member.Joined (stack_of stack slots.old) }
     ensures front { (place : ℕ) → place ≤ stack.others
         → take place slots.new ≡ take place slots.old }
-    ensures within { (stack.others ≤ result.others) × (held result.top ≤ 1)
+    ensures within { (stack.others ≤ result.others) × (slots_of result.top ≤ 1)
         × (result.others ≤ length slots.new) }
 {
     let others = stack.others;
@@ -379,10 +378,10 @@ fn read_list<T: Logic>(
     requires { (0 < stack.others) × (stack.others ≤ length slots.old) }
     ensures stack { stack_of result slots.new
         ≡ joined_list T.Logic connective count (stack_of stack slots.old) }
-    ensures front { (place : ℕ) → place + held stack.top ≤ stack.others
+    ensures front { (place : ℕ) → place + slots_of stack.top ≤ stack.others
         → take place slots.new ≡ take place slots.old }
-    ensures within { (stack.others ≤ result.others + held stack.top)
-        × (held result.top ≤ 1) × (result.others ≤ length slots.new) }
+    ensures within { (stack.others ≤ result.others + slots_of stack.top)
+        × (slots_of result.top ≤ 1) × (result.others ≤ length slots.new) }
 {
     let first = put_top(stack, slots).others;
     let end = first + count.min(slots.len() - first);
@@ -400,12 +399,12 @@ fn read_node<T: Logic>(
     stack: Stack<T>,
     slots: &mut [Member<T>],
 ) -> Stack<T>
-    requires { (place + held stack.top < stack.others) × (stack.others ≤ length slots.old) }
+    requires { (place + slots_of stack.top < stack.others) × (stack.others ≤ length slots.old) }
     ensures stack { stack_of result slots.new
         ≡ put T.Logic (shape node.now) (get_or slots.old place member.Joined)
         (stack_of stack slots.old) }
     ensures front { take place slots.new ≡ take place slots.old }
-    ensures within { (place + held result.top ≤ result.others)
+    ensures within { (place + slots_of result.top ≤ result.others)
         × (result.others ≤ length slots.new) }
 {
     match node {
@@ -460,7 +459,7 @@ fn read_value<T: Logic>(nodes: &[ExprNode], slots: &mut [Member<T>]) -> T
     ensures { (tree : Tree Question) (answers : List T)
         → map shape nodes.now ≡ map shape_of (prefix tree) → length answers ≡ length (asked tree)
         → slots.old ≡ with_answers (no_answers (length nodes.now)) (places 0 tree) answers
-        → result ≡ tree_value.fold T.Logic tree answers }
+        → result ≡ tree_fold T.Logic tree answers }
 {
     let stack = read_all(nodes, slots);
     top_value(stack, slots)
@@ -512,7 +511,7 @@ where
     requires { AreAnswersTo given.now parsed.now }
     ensures one { HasOneTree parsed.now }
     ensures value { IfOk result (λ value. (one : HasOneTree parsed.now)
-        × (value ≡ tree_value.fold T.Logic one.tree given.now)) }
+        × (value ≡ tree_fold T.Logic one.tree given.now)) }
     ensures short { length parsed.now ≤ 32 → IsOk result }
 {
     let nodes = parsed.nodes();

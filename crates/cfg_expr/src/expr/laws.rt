@@ -4,8 +4,8 @@ ghost use Rattle.std.specs.Prelude.{◌≡◌, ℕ, ◌<◌, Bool, List, length,
 ghost use Rattle.std.specs.List.{AllByRecursion};
 ghost use Rattle.cfgx_syntax.specs.Kleene.{lane};
 ghost use Rattle.cfgx_grammar.specs.Filling.{three_valued};
-ghost use Rattle.cfgx_grammar.specs.Fold.{answered, fold, list_value, value_of, values_of};
-ghost use Rattle.cfgx_grammar.specs.Mapping.{IsMap, Passes, is_apart, lane_valued};
+ghost use Rattle.cfgx_grammar.specs.Fold.{answered, tree_fold, list_value, tree_value, values_of};
+ghost use Rattle.cfgx_grammar.specs.Homomorphism.{IsHomomorphism, Passes, is_disjoint, lane_valued};
 ghost use Rattle.cfgx_grammar.specs.Question.{Question};
 ghost use Rattle.cfgx_grammar.specs.Tree.{ListFunction, Tree, Trees, arranged, asked};
 
@@ -15,12 +15,12 @@ use super::Logic;
 /// joins them from the last back by `and` to `top`, and `any` by `or` to `bottom`.
 pub fn lists_are_joined_as_arranged<T: Logic>()
     ensures { (function : ListFunction) (trees : Trees T)
-        → value_of T.Logic (Tree.list function trees)
+        → tree_value T.Logic (Tree.list function trees)
         ≡ list_value T.Logic function (values_of T.Logic (arranged trees)) }
 {}
 
 /// A tree over which answers are dealt out asks for just these answers, in their order, if there is
-/// one for each predicate. So `fold` is the value of the tree that asks for them.
+/// one for each predicate. So `tree_fold` is the value of the tree that asks for them.
 pub fn answered_trees_ask_their_answers<T: Logic>()
     ensures { (tree : Tree Question) (answers : List T) → length answers ≡ length (asked tree)
         → asked (answered T.Logic.top tree answers) ≡ answers }
@@ -29,14 +29,15 @@ pub fn answered_trees_ask_their_answers<T: Logic>()
 /// A map that takes each constant and each operation of one logic to that of another takes the
 /// value of a condition to its value over what the map makes of each answer. It has to do so for
 /// the values that pass a test, which are the answers and what the operations make of such values.
-pub fn maps_keep_values<T: Logic, U: Logic>()
-    ensures { (test : T → Bool) (to : T → U) → IsMap T.Logic U.Logic (Passes test) to
+pub fn homomorphisms_keep_values<T: Logic, U: Logic>()
+    ensures { (test : T → Bool) (to : T → U) → IsHomomorphism T.Logic U.Logic (Passes test) to
         → (tree : Tree Question) (answers : List T) → AllByRecursion (Passes test) answers
-        → to (fold T.Logic tree answers) ≡ fold U.Logic tree (map to answers) }
+        → to (tree_fold T.Logic tree answers) ≡ tree_fold U.Logic tree (map to answers) }
 {}
 
 /// The answer of a lane is such a map, from sixty-four answers to one that may be unknown, if no
 /// lane is both true and false.
-pub fn lanes_are_maps()
-    ensures { (i : ℕ) → i < 64 → IsMap lane_valued three_valued (Passes is_apart) (lane i) }
+pub fn lanes_are_homomorphisms()
+    ensures { (i : ℕ) → i < 64
+        → IsHomomorphism lane_valued three_valued (Passes is_disjoint) (lane i) }
 {}

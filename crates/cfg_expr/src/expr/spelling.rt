@@ -5,10 +5,10 @@ ghost use Rattle.std.specs.Fmt.{decimal};
 ghost use Rattle.cfgx_targets.specs.Endian.{endian_text};
 ghost use Rattle.cfgx_targets.specs.HasAtomic.{atomic_text};
 ghost use Rattle.cfgx_parser.specs.Predicate.{question_of, target_of};
-ghost use Rattle.cfgx_grammar.specs.Regular.{IsAlone, IsRegular};
+ghost use Rattle.cfgx_grammar.specs.WellFormed.{IsAlone, IsWellFormed};
 ghost use Rattle.cfgx_grammar.specs.Spelling.{spelling, target_spelling, key_and_value};
-ghost use Rattle.cfgx_grammar.specs.Writing.{Takes, Writes};
-ghost use Rattle.cfg_expr.specs.Value.{value_bytes};
+ghost use Rattle.cfg_expr.specs.Writing.{Takes, Writes};
+ghost use Rattle.cfg_expr.specs.ValueBytes.{value_bytes};
 
 use cfgx_parser::predicates::{Predicate, TargetPredicate};
 use cfgx_targets::atomic::HasAtomic;
@@ -32,7 +32,7 @@ fn write_once<'a, W: Write>(writer: &mut W, bytes: &'a [u8]) -> io::Result<&'a [
 }
 
 /// Writes all the bytes, in as many calls as the writer needs. No failed call is tried again.
-#[tactic(auto, using(cfgx_grammar::proofs::Writing::takes_more))]
+#[tactic(auto, using(crate::proofs::Parts::takes_more))]
 fn write_bytes<W: Write>(writer: &mut W, bytes: &[u8]) -> io::Result<()>
     ensures { Writes (W.contents writer.old) (W.contents writer.new) result bytes.now }
 {
@@ -194,7 +194,7 @@ fn write_predicate<W: Write, A: Allocator>(
 pub fn spell<W: Write, A: Allocator>(predicate: &Predicate<'_, A>, writer: &mut W) -> io::Result<()>
     ensures written { Writes (W.contents writer.old) (W.contents writer.new) result
         (spelling (question_of predicate.now)) }
-    ensures alone { IsRegular (question_of predicate.now)
+    ensures alone { IsWellFormed (question_of predicate.now)
         → IsAlone (spelling (question_of predicate.now)) (question_of predicate.now) }
 {
     write_predicate(predicate, writer)

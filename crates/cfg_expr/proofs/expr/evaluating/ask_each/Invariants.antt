@@ -1,4 +1,4 @@
-use Rattle.cfg_expr.specs.nodes.Answers.{Asking}
+use Rattle.cfg_expr.specs.nodes.AnswerSlots.{Asking}
 use Rattle.cfg_expr.proofs.expr.evaluating.ask_each.Given as goal
 
 abbrev pub invariant-loop-predicate : goal.invariant-loop-predicate

@@ -1,6 +1,6 @@
 -- There is room for the places that are left.
 use Rattle.std.proofs.Common.{◌≡◌, ◌≤◌}
-use Rattle.cfg_expr.specs.nodes.Answers.{no_answers}
+use Rattle.cfg_expr.specs.nodes.AnswerSlots.{no_answers}
 use Rattle.cfg_expr.proofs.expr.evaluating.no_answers.Given as goal
 
 abbrev pub invariant-loop-place : goal.invariant-loop-place

@@ -1,6 +1,6 @@
 -- The rest of the answers, put at the rest of the places, leaves what all of them leave.
 use Rattle.std.proofs.Common.{◌≡◌, drop}
-use Rattle.cfg_expr.specs.nodes.Answers.{with_answers}
+use Rattle.cfg_expr.specs.nodes.AnswerSlots.{with_answers}
 use Rattle.cfg_expr.proofs.expr.evaluating.put_each.Given as goal
 
 abbrev pub invariant-loop-answer : goal.invariant-loop-answer

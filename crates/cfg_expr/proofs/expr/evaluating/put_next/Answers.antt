@@ -1,7 +1,7 @@
 -- No place is left.
 use Rattle.std.proofs.Common.{◌≡◌, ◌∷◌, List, [], ap, refl}
 use Rattle.std.proofs.lemmas.List.{nil_from_length}
-use Rattle.cfg_expr.specs.{nodes.Answers.with_answers, declared.expr.evaluating.Member.Member}
+use Rattle.cfg_expr.specs.{nodes.AnswerSlots.with_answers, declared.expr.evaluating.Member.Member}
 use Rattle.cfg_expr.proofs.expr.evaluating.put_next.Goals as goal
 
 no_place : {T : Type 0} (slots : List (Member T)) (answers : List T)

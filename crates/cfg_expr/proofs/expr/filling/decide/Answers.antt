@@ -3,7 +3,7 @@ use Rattle.std.proofs.Common.{◌∙◌, Bool, ap, length, sym, true, false}
 use Rattle.cfgx_grammar.specs.Tree.{asked}
 use Rattle.cfgx_parser.proofs.Places.{length-places}
 use Rattle.cfgx_parser.specs.nodes.Prefix.{places}
-use Rattle.cfg_expr.proofs.{Filling.polar-kept, evaluated.Nodes.shapes-kept}
+use Rattle.cfg_expr.proofs.{Parities.polar-kept, evaluated.Nodes.shapes-kept}
 use Rattle.cfg_expr.proofs.expr.filling.decide.Goals as goal
 use Rattle.cfgx_grammar.proofs.Answering.{only_tree}
 
@@ -23,12 +23,10 @@ pub returns-in_ok-if_true-in-None-clause-decision
 returns-in_ok-if_true-in-None-clause-decision g c =
     let one = c.in_ok-value.ensures.value.0 in
     let asks = c.places.ensures in
-    let given = c.requires in
     let is = λ (fill : Bool). polar-kept c.nodes.result.now one.tree
     (shapes-kept c.nodes.result.now c.nodes.ensures.nodes one) _ c.places.result.now
     c.args.answers.now fill
     (asks.1 ∙ ap (places 0) (only_tree one asks.0.tree asks.0.reads.has))
-    (given.2 ∙ ap (λ tree. length (asked tree)) (only_tree one given.0 given.1))
     c.in_ok-odds-in-None.ensures in
     let found = c.in_ok-if_true-in-None.ensures in
     let unknown = sym c.in_ok-value.ensures.value.1 ∙ c.in-None.is in

@@ -1,6 +1,6 @@
 use Rattle.std.proofs.{Common.arith, lemmas.Result.err_from_is_err_and}
 use Rattle.std.proofs.lemmas.Fmt.{decimal_digit, decimal_step}
-use Rattle.cfgx_grammar.proofs.Writing.{front_of_first, writes_second}
+use Rattle.cfg_expr.proofs.Parts.{front_of_first, writes_second}
 use Rattle.cfg_expr.proofs.expr.spelling.+write_decimal.Goals as goal
 
 -- one digit

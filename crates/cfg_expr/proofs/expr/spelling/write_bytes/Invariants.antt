@@ -1,5 +1,5 @@
 use Rattle.std.proofs.Common.{length}
-use Rattle.cfgx_grammar.specs.Writing.{Takes}
+use Rattle.cfg_expr.specs.Writing.{Takes}
 use Rattle.cfg_expr.proofs.expr.spelling.write_bytes.Given as goal
 
 -- the bytes in front of `left` were taken

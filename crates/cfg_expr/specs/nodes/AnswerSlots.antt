@@ -28,7 +28,7 @@ module _ {F T : Type 0} (asker : Asker F T) where
         → with_answers slots left more ≡ with_answers initial places (given ++ more)
 
   -- all that a tree asks was asked, and the answers are put at the places of its predicates
-  pub record Ends (tree : Tree Question) (start : F) (initial : List (Member T)) (after : F)
+  pub record AnswersPut (tree : Tree Question) (start : F) (initial : List (Member T)) (after : F)
       (slots : List (Member T)) : Type 0 where
     pub answers : List T
     pub calls : Calls asker start (asked tree) answers after

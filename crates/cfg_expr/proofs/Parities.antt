@@ -1,0 +1,98 @@
+-- The pass over the nodes, and the places of the predicates, give the polar fillings.
+use Rattle.std.proofs.Common.{◌≡◌, ℕ, Bool, true, false, not, List, [], ◌∷◌, ◌++◌, map}
+use Rattle.std.proofs.Common.{replicate, Option, sym, refl, ap, ◌∙◌, append_assoc, map-id}
+use Rattle.std.proofs.{lemmas.Slice.Zip.AllZip-map, lemmas.List.append-nil, lemmas.List.map-append}
+use Rattle.cfgx_grammar.specs.{Question.Question}
+use Rattle.cfgx_grammar.specs.Tree.{ListFunction, Tree, Trees, asked, count}
+use Rattle.cfgx_grammar.specs.Filling.{filled_by, polar, polarities, polarities_each}
+use Rattle.cfgx_grammar.proofs.Alike.{Alike, AlikeEach, asked-alike, polarities-shape}
+use Rattle.cfgx_parser.specs.nodes.Prefix.{Node, list_func, prefix, prefix_each, places}
+use Rattle.cfgx_parser.specs.nodes.Shape.{Shape, shape, shape_of}
+use Rattle.cfgx_parser.specs.declared.nodes.ExprNode.{ExprNode}
+use Rattle.cfgx_parser.proofs.Shapes.{places-shape}
+use Rattle.cfg_expr.specs.nodes.Parity.{turned, gone_over, pass, filled_at}
+use Rattle.cfg_expr.proofs.evaluated.Nodes.{read-mapped}
+
+list_gone_over : (function : ListFunction) (n : ℕ) (odd : Bool) (queue : List Bool)
+    → gone_over (Shape.function (list_func function n)) (odd ∷ queue)
+    ≡ replicate n odd ++ (queue ++ false ∷ [])
+list_gone_over ListFunction.all n odd queue = refl
+list_gone_over ListFunction.any n odd queue = refl
+
+abbrev odd_in : Node Bool → Bool
+odd_in (Node.leaf odd) = odd
+odd_in (Node.literal truth) = false
+odd_in (Node.function func len) = false
+
+module _ {X : Type 0} where
+  abbrev odds : Bool → Tree X → List Bool
+  odds odd tree = map odd_in (prefix (polarities odd tree))
+
+  abbrev odds_each : Bool → Trees X → List Bool
+  odds_each odd trees = map odd_in (prefix_each (polarities_each odd trees))
+
+  -- the pass takes the trees that come first off, and adds the parities of their predicates
+  mutual
+    pass-tree : (tree : Tree X) (odd : Bool) (queue : List Bool) (rest : List Shape)
+        → pass (map shape_of (prefix tree) ++ rest) (odd ∷ queue)
+        ≡ pass rest (queue ++ odds odd tree)
+    pass-tree (Tree.list function trees) odd queue rest =
+        ap (pass (map shape_of (prefix_each trees) ++ rest))
+        (list_gone_over function (count trees) odd queue)
+        ∙ pass-each trees odd (queue ++ false ∷ []) rest ∙ rw append_assoc refl
+    pass-tree (Tree.not tree) odd queue rest =
+        pass-tree tree (not odd) (queue ++ false ∷ []) rest ∙ rw append_assoc refl
+    pass-tree tree odd queue rest = refl
+
+    pass-each : (trees : Trees X) (odd : Bool) (queue : List Bool) (rest : List Shape)
+        → pass (map shape_of (prefix_each trees) ++ rest) (replicate (count trees) odd ++ queue)
+        ≡ pass rest (queue ++ odds_each odd trees)
+    pass-each Trees.none odd queue rest = rw append-nil refl
+    pass-each (Trees.more tree trees) odd queue rest =
+        let others = replicate (count trees) odd in
+        let these = map shape_of (prefix tree) in
+        rw (map-append shape_of (prefix tree), map-append odd_in, append_assoc these)
+        (pass-tree tree odd (others ++ queue) _ ∙ rw (append_assoc others queue) refl
+        ∙ pass-each trees odd (queue ++ odds odd tree) rest ∙ rw append_assoc refl)
+
+-- The polarities for `fill` are those for false, turned over if `fill` is true.
+
+turned-not : (fill odd : Bool) → not (turned fill odd) ≡ turned fill (not odd)
+turned-not fill false = refl
+turned-not true true = refl
+turned-not false true = refl
+
+module _ (fill : Bool) where
+  abbrev Turned : Bool → Bool → Type 0
+  Turned odd polarity = polarity ≡ turned fill odd
+
+  mutual
+    turned-alike : {X : Type 0} (odd : Bool) (tree : Tree X)
+        → Alike Turned (polarities odd tree) (polarities (turned fill odd) tree)
+    turned-alike odd (Tree.leaf x) = Alike.leaf _ _ refl
+    turned-alike odd (Tree.literal truth) = Alike.literal truth
+    turned-alike odd (Tree.list function trees) =
+        Alike.list function _ _ (turned_each-alike odd trees)
+    turned-alike odd (Tree.not tree) = rw turned-not (Alike.not _ _ (turned-alike (not odd) tree))
+
+    turned_each-alike : {X : Type 0} (odd : Bool) (trees : Trees X) → AlikeEach Turned
+        (polarities_each odd trees) (polarities_each (turned fill odd) trees)
+    turned_each-alike odd Trees.none = AlikeEach.none
+    turned_each-alike odd (Trees.more tree trees) =
+        AlikeEach.more _ _ _ _ (turned-alike odd tree) (turned_each-alike odd trees)
+
+pub polar-kept : (nodes : List ExprNode) (tree : Tree Question)
+    → map shape nodes ≡ map shape_of (prefix tree) → (found : List Bool) (asks : List ℕ)
+    (answers : List (Option Bool)) (fill : Bool) → asks ≡ places 0 tree
+    → found ≡ pass (map shape nodes) (false ∷ [])
+    → filled_at found asks answers fill ≡ polar tree answers fill
+polar-kept nodes tree nodes_are found asks answers fill asks_are is =
+    let parities = polarities false tree in
+    let passed : found ≡ odds false tree = is ∙ rw nodes_are
+    (ap (λ l. pass l (false ∷ [])) (sym (append-nil (map shape_of (prefix tree))))
+    ∙ pass-tree tree false [] []) in
+    let places_are : asks ≡ places 0 parities = asks_are
+    ∙ places-shape tree parities (polarities-shape false tree) in
+    rw (passed, places_are, read-mapped parities odd_in false, map-id) (ap (filled_by answers)
+    (sym (AllZip-map (turned fill) (asked parities) _
+    (asked-alike (Turned fill) parities _ (turned-alike fill false tree)))))
