@@ -4,7 +4,7 @@ use Rattle.std.specs.Prelude.{◌≡◌, ◌==◌, ℕ, Bool, true, false, List,
 use Rattle.std.specs.Prelude.{length, map, if◌then◌else◌}
 use Rattle.cfgx_grammar.specs.Answer.{HasOneTree}
 use Rattle.cfgx_grammar.specs.Filling.{three_valued}
-use Rattle.cfgx_grammar.specs.Fold.{fold}
+use Rattle.cfgx_grammar.specs.Fold.{tree_fold}
 use Rattle.cfgx_grammar.specs.Tree.{asked}
 
 -- the answer that a byte stands for: 0 is false, 1 is true, and any other is unknown
@@ -23,7 +23,7 @@ byte_of None = 2
 pub record HasValue (text answers : List ℕ) (value : ℕ) : Type 0 where
   pub one : HasOneTree text
   pub count : length answers ≡ length (asked one.tree)
-  pub value_is : value ≡ byte_of (fold three_valued one.tree (map answer_of answers))
+  pub value_is : value ≡ byte_of (tree_fold three_valued one.tree (map answer_of answers))
 
 -- the first of these answers, and unknown if there is none
 abbrev pub first_answer : List ℕ → Option Bool

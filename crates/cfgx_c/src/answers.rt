@@ -3,7 +3,7 @@
 ghost use Rattle.std.specs.Prelude.{◌≡◌, IfOk, drop, map};
 ghost use Rattle.cfgx_grammar.specs.Answer.{HasOneTree};
 ghost use Rattle.cfgx_grammar.specs.Filling.{three_valued};
-ghost use Rattle.cfgx_grammar.specs.Fold.{fold};
+ghost use Rattle.cfgx_grammar.specs.Fold.{tree_fold};
 ghost use Rattle.cfgx_grammar.specs.Given.{AreAnswersTo};
 ghost use Rattle.cfgx_grammar.specs.Tree.{asked};
 ghost use Rattle.cfgx_c.specs.Value.{answer_of, byte_of, first_answer};
@@ -53,7 +53,7 @@ pub(crate) fn value_over(
 ) -> Result<Option<bool>, AllocError>
     requires { AreAnswersTo answers.now condition.now }
     ensures { IfOk result (λ value. (one : HasOneTree condition.now)
-        × (value ≡ fold three_valued one.tree (map answer_of answers.now))) }
+        × (value ≡ tree_fold three_valued one.tree (map answer_of answers.now))) }
 {
     let mut left = answers;
     let value = condition.eval(

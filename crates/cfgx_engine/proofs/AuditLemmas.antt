@@ -5,7 +5,7 @@ use Rattle.std.proofs.{Math.Seq.take-suc, lemmas.List.take_all, lemmas.Slice.Zip
 use Rattle.std.proofs.lemmas.Option.{slice_get_cases, slice_get_within}
 use Rattle.std.specs.List.{AllZip, slice_get}
 use Rattle.cfgx_syntax.specs.Kleene.{EachLane, Planes, lane}
-use Rattle.cfgx_grammar.specs.{Answer.HasOneTree, Tree.asked, Filling.three_valued, Fold.fold}
+use Rattle.cfgx_grammar.specs.{Answer.HasOneTree, Tree.asked, Filling.three_valued, Fold.tree_fold}
 use Rattle.cfgx_grammar.specs.Question.{Question, TargetQuestion}
 use Rattle.cfgx_grammar.proofs.Answering.{only_tree}
 use Rattle.cfgx_engine.specs.Auditing.{InLanes, lane_verdicts}
@@ -43,7 +43,7 @@ module _ {M : Type 0} (targets : List M) where
         → length targets ≤ 64 → given ≡ answers
         → (one : HasOneTree text) × AllZip (InLanes answer targets) (asked one.tree) answers
         → (one : HasOneTree text)
-        × EachLane value (λ i. fold three_valued one.tree (map (lane i) given))
+        × EachLane value (λ i. tree_fold three_valued one.tree (map (lane i) given))
         → AllZip (λ target verdict. IsVerdict (answer target) text verdict) targets
         (lane_verdicts (length targets) value)
     lane_verdicts-zipped {text} answers given value few same asks values =
@@ -55,6 +55,6 @@ module _ {M : Type 0} (targets : List M) where
         IsVerdict-by (answer target) text (lane i value) (record {
           one = values.0;
           value_is = values.1 i (omega (arith, few, slice_get_within targets i target is))
-              ∙ ap (fold three_valued values.0.tree) (ap (map (lane i)) same
+              ∙ ap (tree_fold three_valued values.0.tree) (ap (map (lane i)) same
               ∙ lane-answers i target is (asked values.0.tree) answers zipped);
         })) (length targets) (omega arith))

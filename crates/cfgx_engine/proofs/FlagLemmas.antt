@@ -9,7 +9,7 @@ use Rattle.std.specs.List.{AllByRecursion}
 use Rattle.cfgx_syntax.specs.Stripping.{strip}
 use Rattle.cfgx_syntax.specs.{Error.Fault, Error.failure_of, declared.error.Failure.Failure}
 use Rattle.cfgx_grammar.specs.{Question.Question, Tree.Tree, Answer.HasOneTree}
-use Rattle.cfgx_engine.specs.Answer.{AddsFlag, AreFlags, Fails}
+use Rattle.cfgx_engine.specs.EngineAnswer.{AddsFlag, AreFlags, Fails}
 use Rattle.cfgx_engine.specs.Flags.{flag_text, unknown_text}
 use Rattle.cfgx_engine.specs.Readings.{GivesAll, ParsesAs}
 use Rattle.cfgx_engine.specs.{Request.texts, declared.engine.flags.Flags.Flags}

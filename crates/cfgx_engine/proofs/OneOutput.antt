@@ -1,21 +1,31 @@
--- That a request has one output, whose status is not that of a refused run.
-use Rattle.std.proofs.Common.{◌≡◌, ℕ, ◌<◌, Bool, true, false, List, [], ◌∷◌, Option, Some, None}
-use Rattle.std.proofs.Common.{MatchBool, MatchOption, refl, ap, sym, ◌∙◌, arith, rules, map, length}
-use Rattle.std.proofs.Common.{nat_lt, Result, Ok, Err}
-use Rattle.std.specs.{Str.is_utf8, List.AllZip, List.enumerate_from, declared.alloc.Global.Global}
+-- That a request has one output at most, whose status is not that of a refused run, and that it has
+-- one if its words are UTF-8.
+use Rattle.std.proofs.Common.{◌≡◌, ℕ, ◌<◌, ◌+◌, ◌-◌, Bool, true, false, List, [], ◌∷◌, ◌++◌}
+use Rattle.std.proofs.Common.{Option, Some, None, Result, Ok, Err, MatchBool, MatchOption, ◌⊎◌, inl}
+use Rattle.std.proofs.Common.{inr, ⊎_elim, refl, ap, sym, ◌∙◌, subst, arith, rules, map, take}
+use Rattle.std.proofs.Common.{length, drop, get_or, zero, suc, take_at, codes, nat_lt, bytes_eq}
+use Rattle.std.specs.{List.AllByRecursion, List.AllZip, List.Any, List.enumerate_from, Str.is_utf8}
+use Rattle.std.specs.{List.join_with_byte, Str.Lines.strip_carriage_return}
+use Rattle.std.specs.declared.alloc.Global.{Global}
+use Rattle.std.proofs.lemmas.{Bool.cases_Bool, Bool.Decides.Decides-eqb, Grind.common_steps}
+use Rattle.std.proofs.lemmas.{Slice.Eq.bytes_eq-Decides, Slice.Eq.ends_is, Slice.Eq.starts_is}
+use Rattle.std.proofs.lemmas.List.{Sums.passes_at_first, Splits.join_with_byte-slice_split}
 use Rattle.cfgx_syntax.specs.{Stripping.strip, Error.Fault, Error.fault_in}
-use Rattle.cfgx_targets.specs.Builtins.{builtin_rows}
-use Rattle.cfgx_targets.specs.{Table.row_with, declared.info.TargetInfo.TargetInfo}
-use Rattle.cfgx_grammar.specs.Question.{Question}
-use Rattle.cfgx_grammar.specs.{Tree.Tree, Tree.asked, Filling.three_valued, Fold.fold}
-use Rattle.cfgx_engine.specs.Flags.{IsAnswer, flag_text, known_texts, unknown_texts}
-use Rattle.cfgx_engine.specs.{Input.input_limit, Request.Request, Sections.section_text}
+use Rattle.cfgx_targets.specs.{Builtins.builtin_rows, Table.row_with}
+use Rattle.cfgx_targets.specs.declared.info.TargetInfo.{TargetInfo}
+use Rattle.cfgx_grammar.specs.{Question.Question, Spelling.spelling, Tree.Tree, Tree.asked}
+use Rattle.cfgx_grammar.specs.{WellFormed.IsWellFormed, Filling.three_valued, Fold.tree_fold}
+use Rattle.cfgx_grammar.specs.{Answer.ReadsAs}
+use Rattle.cfgx_grammar.proofs.{Answering.only_tree, Answering.same_fault, alone.well_formed_tree}
+use Rattle.cfgx_grammar.proofs.alone.{spelling_alone}
+use Rattle.cfgx_engine.specs.Flags.{IsAnswer, Names, flag_text, known_texts, unknown_texts}
+use Rattle.cfgx_engine.specs.{Input.input_limit, Request.Request, Request.request_of}
 use Rattle.cfgx_engine.specs.Output.{HasValue, Output, ValueBy, answer_on, result_output}
 use Rattle.cfgx_engine.specs.Output.{tree_output, unknown_triple, usage, value_by}
 use Rattle.cfgx_engine.specs.Prints.{Picks, Prints, not_utf8, too_long}
 use Rattle.cfgx_engine.specs.Readings.{GivesAll, ParsesAs, value_then}
-use Rattle.cfgx_engine.specs.Sections.{Line, PrintsLine, line_of, lines_of, lines_output}
-use Rattle.cfgx_grammar.proofs.Answering.{same_fault}
+use Rattle.cfgx_engine.specs.Sections.{Line, PrintsLine, line_of, lines_of, lines_output, no_tab}
+use Rattle.cfgx_engine.specs.Sections.{section_text}
 
 -- at most one thing fits
 abbrev IsSingle : {X : Type 0} → (X → Type 0) → Type 0
@@ -44,25 +54,27 @@ decided-made make single low one other this that = (
   omega (arith, low this.0, ap (λ (o : Output). o.status) this.2),
 )
 
--- one that is chosen by a test, or by the row of a target
-decided-test : {On Off : Output → Type 0} (test : Bool) → IsDecided On → IsDecided Off
-    → IsDecided (λ output. MatchBool test (On output) (Off output))
-decided-test true on off = on
-decided-test false on off = off
+-- what is said of both outputs is said of the one that is chosen by a test, or by a target's row
+by_test : {On Off : Output → Type 0} (Says : (Output → Type 0) → Type 0) (test : Bool)
+    → (test ≡ true → Says On) → Says Off → Says (λ output. MatchBool test (On output) (Off output))
+by_test Says true on off = on refl
+by_test Says false on off = off
 
-decided-row : {On : TargetInfo Global → Output → Type 0} (found : Option (TargetInfo Global))
-    → ((row : TargetInfo Global) → IsDecided (On row))
-    → IsDecided (λ output. MatchOption found (output ≡ unknown_triple) (λ row. On row output))
-decided-row None on = decided unknown_triple (omega arith)
-decided-row (Some row) on = on row
+by_row : {On : TargetInfo Global → Output → Type 0} (Says : (Output → Type 0) → Type 0)
+    (triple : List ℕ) → Says (λ output. output ≡ unknown_triple)
+    → ((row : TargetInfo Global) → Says (On row))
+    → Says (λ output. MatchOption (row_with {A = Global} triple builtin_rows)
+    (output ≡ unknown_triple) (λ row. On row output))
+by_row {On} Says triple unknown on = elim (row_with {A = Global} triple builtin_rows) as (λ found.
+    Says (λ output. MatchOption found (output ≡ unknown_triple) (λ row. On row output)))
+    [ None ↦ unknown | Some row ↦ on row ]
 
 -- lists whose items fit one by one
 AllZip-single : {X Y : Type 0} {R : X → Y → Type 0} → ((x : X) → IsSingle (R x)) → (xs : List X)
     → IsSingle (AllZip R xs)
 AllZip-single each [] [] [] this that = refl
 AllZip-single each (x ∷ xs) (y ∷ ys) (z ∷ zs) this that =
-    let first = each x y z this.0 that.0 in
-    let others = AllZip-single each xs ys zs this.1 that.1 in cc
+    cc (each x y z this.0 that.0, AllZip-single each xs ys zs this.1 that.1)
 AllZip-single each _ _ _ this that = absurd (search rules)
 
 -- and values of which one is given for each item, or the first error
@@ -77,13 +89,11 @@ GivesAll-single each (x ∷ xs) one other (Ok value, gives, (rest, others, is)) 
 
 -- a text is read one way
 ParsesAs-single : (text : List ℕ) → IsSingle (ParsesAs text)
-ParsesAs-single text (Ok tree) (Ok other) this that = let same = that.only (Ok tree) this.has in cc
+ParsesAs-single text (Ok tree) (Ok other) this that = cc (that.only (Ok tree) this.has)
 ParsesAs-single text (Err fault) (Err other) this that =
     ap Err (this.2 ∙ ap (fault_in (strip text)) (same_fault this.1 that.1) ∙ sym that.2)
-ParsesAs-single text (Ok tree) (Err other) this that =
-    let same = that.1.only (Ok tree) this.has in absurd cc
-ParsesAs-single text (Err fault) (Ok other) this that =
-    let same = this.1.only (Ok other) that.has in absurd cc
+ParsesAs-single text (Ok tree) (Err _) this that = absurd (cc (that.1.only (Ok tree) this.has))
+ParsesAs-single text (Err _) (Ok other) this that = absurd (cc (this.1.only (Ok other) that.has))
 
 -- a value by the answers of the flags
 IsAnswer-single : (known unknown : List (List ℕ)) (question : Question)
@@ -96,7 +106,7 @@ ValueBy-single flags (Ok []) one other this that = absurd this
 ValueBy-single flags (Ok (tree ∷ trees)) one other this that =
     let answers = AllZip-single (IsAnswer-single (known_texts flags) (unknown_texts flags))
     (asked tree) this.0 that.0 this.1 that.1 in
-    this.2 ∙ ap (λ given. Ok (fold three_valued tree given)) answers ∙ sym that.2
+    this.2 ∙ ap (λ given. Ok (tree_fold three_valued tree given)) answers ∙ sym that.2
 ValueBy-single flags (Err fault) one other this that = this ∙ sym that
 
 HasValue-single : (text : List ℕ) (flags : List (List ℕ)) → IsSingle (HasValue text flags)
@@ -114,23 +124,187 @@ PrintsLine-single answer (number, Line.section name condition) one other this th
     single-made (section_text answer number name) (ParsesAs-single condition) one other this that
 
 Picks-decided : (answer : Question → Option Bool) (input : List ℕ) → IsDecided (Picks answer input)
-Picks-decided answer input = decided-test (nat_lt input_limit (length input))
-    (decided too_long (omega arith)) (decided-test (is_utf8 input)
-    (decided-made lines_output (GivesAll-single (PrintsLine-single answer)
+Picks-decided answer input = by_test IsDecided (nat_lt input_limit (length input))
+    (λ long. decided too_long (omega arith)) (by_test IsDecided (is_utf8 input) (λ utf8.
+    decided-made lines_output (GivesAll-single (PrintsLine-single answer)
     (enumerate_from 1 (map line_of (lines_of input)))) (λ printed. grind arith))
     (decided not_utf8 (omega arith)))
 
--- a request has one output on an input
+-- a request has one output at most on an input
 pub Prints-decided : (request : Request) (input : List ℕ) → IsDecided (Prints request input)
 Prints-decided (Request.parse text) input =
     decided-made tree_output (ParsesAs-single text) (λ read. grind arith)
 Prints-decided (Request.eval text flags) input =
     decided-made result_output (HasValue-single text flags) (λ value. grind arith)
 Prints-decided (Request.target triple text) input =
-    decided-row (row_with {A = Global} triple builtin_rows)
-    (λ row. decided-made result_output (single-made (value_by (answer_on row))
-    (ParsesAs-single text)) (λ value. grind arith))
-Prints-decided (Request.pick triple) input =
-    decided-row (row_with {A = Global} triple builtin_rows)
-    (λ row. Picks-decided (answer_on row) input)
+    by_row IsDecided triple (decided unknown_triple (omega arith)) (λ row. decided-made
+    result_output (single-made (value_by (answer_on row)) (ParsesAs-single text))
+    (λ value. grind arith))
+Prints-decided (Request.pick triple) input = by_row IsDecided triple
+    (decided unknown_triple (omega arith)) (λ row. Picks-decided (answer_on row) input)
 Prints-decided Request.wrong_use input = decided usage (omega arith)
+
+-- Something fits.
+abbrev HasSome : {X : Type 0} → (X → Type 0) → Type 0
+HasSome {X} Fits = (x : X) × Fits x
+
+-- what is made of it
+some_made : {X Y : Type 0} {Fits : X → Type 0} (make : X → Y) → HasSome Fits
+    → HasSome (λ y. (x : X) × Fits x × (y ≡ make x))
+some_made make one = (make one.0, (one.0, one.1, refl))
+
+-- It is known of a list whether an item fits, if it is known of each item whether it does.
+module _ {X : Type 0} {Q P : X → Type 0} (each : (x : X) → Q x → P x ⊎ ¬ P x) where
+  none_more : (x : X) (xs : List X) → ¬ P x → ¬ Any P xs → ¬ Any P (x ∷ xs)
+  none_more x xs first others (zero, y, below, is, fits) = first (subst P (sym is) fits)
+  none_more x xs first others (suc k, y, below, is, fits) = others (k, y, omega arith, is, fits)
+
+  Any-known : (xs : List X) → AllByRecursion Q xs → Any P xs ⊎ ¬ Any P xs
+  Any-known [] all = inr (λ any. absurd (omega (arith, any.2)))
+  Any-known (x ∷ xs) all = ⊎_elim (λ fits. inl (0, x, omega arith, refl, fits))
+      (λ first. ⊎_elim (λ any. inl (suc any.0, any.1, omega (arith, any.2), any.3, any.4))
+      (λ others. inr (none_more x xs first others)) (Any-known xs all.1)) (each x all.0)
+
+-- two predicates are the same if their spellings are
+same-known : (question : Question) → IsWellFormed question → (other : Question) → IsWellFormed other
+    → (other ≡ question) ⊎ ¬ (other ≡ question)
+same-known question well_formed other too =
+    let only = (spelling_alone question well_formed).reads.only (Ok (Tree.leaf other)) in
+    let tells = bytes_eq-Decides (spelling other) (spelling question) in
+    ⊎_elim (λ is. inl (cc (only (rw (tells.0 is) at (spelling_alone other too).reads.has))))
+    (λ differ. inr (λ same. absurd (cc (tells.1 (ap spelling same)))))
+    (cases_Bool (bytes_eq (spelling other) (spelling question)))
+
+-- values of which one is given for each item, or the first error
+GivesAll-some : {X T E : Type 0} (Gives : X → Result T E → Type 0) (xs : List X)
+    → AllByRecursion (λ x. HasSome (Gives x)) xs → HasSome (GivesAll Gives xs)
+GivesAll-some Gives [] all = (Ok [], refl)
+GivesAll-some Gives (x ∷ xs) ((Err error, gives), all) = (Err error, (Err error, gives, refl))
+GivesAll-some Gives (x ∷ xs) ((Ok value, gives), all) =
+    let rest = GivesAll-some Gives xs all in
+    (value_then value rest.0, (Ok value, gives, (rest.0, rest.1, refl)))
+
+-- What is known of UTF-8 texts: a test tells them, what stands before an ASCII byte of one is one,
+-- and so is what stands after it, and each reads as something.
+module _ (Q : List ℕ → Type 0) (tested : (text : List ℕ) → is_utf8 text ≡ true → Q text)
+    (cut : (text : List ℕ) (i : ℕ) → Q text → i < length text → get_or text i 0 < 128
+    → Q (take i text) × Q (drop (i + 1) text))
+    (reads : (text : List ℕ) → Q text → HasSome (ReadsAs text)) where
+  strip-is : (text : List ℕ) → Q text → Q (strip text)
+  unfolding strip
+  strip-is text is =
+      let front = (starts_is Decides-eqb text (codes "cfg(") _ refl).0 in
+      let back = (ends_is Decides-eqb text (codes ")") _ refl).0 in
+      let after = cut text 3 is in
+      let before = cut (drop 4 text) (length text - 1 - 4) in
+      grind (arith, common_steps)
+
+  ParsesAs-some : (text : List ℕ) → Q text → HasSome (ParsesAs text)
+  ParsesAs-some text is = parsed (reads _ (strip-is text is))
+    where
+      parsed : HasSome (ReadsAs (strip text)) → HasSome (ParsesAs text)
+      parsed (Ok tree, has) = (Ok tree, has)
+      parsed (Err refusal, has) = (Err (fault_in (strip text) refusal), (refusal, has, refl))
+
+  -- a text names a predicate if its tree asks it
+  Names-known : (question : Question) → IsWellFormed question → (text : List ℕ) → Q text
+      → Names text question ⊎ ¬ Names text question
+  Names-known question well_formed text is = named (reads text is)
+    where
+      named : HasSome (ReadsAs text) → Names text question ⊎ ¬ Names text question
+      named (Err refusal, read) = inr (λ names. absurd (cc (read.only (Ok names.0) names.1)))
+      named (Ok tree, read) = ⊎_elim
+          (λ any. inl (tree, read.has, (any.0, any.2, rw any.4 at any.3)))
+          (λ none. inr (λ names.
+          let found = rw (only_tree (record { tree = tree; reads = read }) _ names.1) at names.2 in
+          none (found.0, question, found.1, found.2, refl)))
+          (Any-known (same-known question well_formed) _ (well_formed_tree text tree read.has))
+
+  -- the answers of the flags
+  module _ (known unknown : List (List ℕ)) (these : AllByRecursion Q known)
+      (those : AllByRecursion Q unknown) where
+    answers-some : (questions : List Question) → AllByRecursion IsWellFormed questions
+        → HasSome (AllZip (IsAnswer known unknown) questions)
+    answers-some [] all = ([], tt)
+    answers-some (question ∷ questions) all =
+        let names = Names-known question all.0 in
+        let rest = answers-some questions all.1 in
+        ⊎_elim (λ is. (Some true ∷ rest.0, (is, rest.1))) (λ not.
+        ⊎_elim (λ is. (None ∷ rest.0, ((not, is), rest.1))) (λ none.
+        (Some false ∷ rest.0, ((not, none), rest.1))) (Any-known names unknown those))
+        (Any-known names known these)
+
+  flags-are : (R : List ℕ → Type 0) → ((text : List ℕ) → Q text → R text)
+      → (flags : List (List ℕ)) → AllByRecursion Q flags → AllByRecursion R (map flag_text flags)
+      × AllByRecursion Q (known_texts flags) × AllByRecursion Q (unknown_texts flags)
+  flags-are R each [] all = (tt, tt, tt)
+  flags-are R each (flag ∷ flags) all =
+      let rest = flags-are R each flags all.1 in
+      let marked = cut flag 0 all.0 in grind (arith, strip-is, each)
+
+  HasValue-some : (text : List ℕ) (flags : List (List ℕ)) → Q text → AllByRecursion Q flags
+      → HasSome (HasValue text flags)
+  HasValue-some text flags is all =
+      let texts = flags-are (λ text. HasSome (ParsesAs text)) ParsesAs-some flags all in
+      valued texts.1 texts.2
+      (GivesAll-some ParsesAs (text ∷ map flag_text flags) (ParsesAs-some text is, texts.0))
+    where
+      valued : AllByRecursion Q (known_texts flags) → AllByRecursion Q (unknown_texts flags)
+          → HasSome (GivesAll ParsesAs (text ∷ map flag_text flags)) → HasSome (HasValue text flags)
+      valued known unknown (Err fault, gives) = (Err fault, (Err fault, gives, refl))
+      valued known unknown (Ok [], gives) = absurd (grind arith)
+      valued known unknown (Ok (tree ∷ trees), gives) =
+          let read : ReadsAs (strip text) (Ok tree) = grind arith in
+          let all = answers-some _ _ known unknown _ (well_formed_tree _ tree read.has) in
+          (Ok (tree_fold three_valued tree all.0), (Ok (tree ∷ trees), gives, (all.0, all.1, refl)))
+
+  -- what is so of each line is so of those of an input
+  module _ (P : ℕ × Line → Type 0) (empty : (number : ℕ) → P (number, Line.empty))
+      (undivided : (number : ℕ) → P (number, Line.undivided))
+      (section : (number : _) (name text : _) → Q text → P (number, Line.section name text)) where
+    line-is : (number : ℕ) (text : List ℕ) → Q text
+        → P (number, line_of (strip_carriage_return text))
+    line-is number text is =
+        let bare : Q (strip_carriage_return text) = grind (arith, cut) in
+        grind (arith, cut, passes_at_first)
+
+    lines-are : (number : ℕ) (parts : List (List ℕ)) → Q (join_with_byte 10 parts)
+        → AllByRecursion P (enumerate_from number (map line_of (map strip_carriage_return parts)))
+    lines-are number [] is = tt
+    lines-are number (part ∷ []) is = (line-is number part is, tt)
+    lines-are number (part ∷ next ∷ parts) is =
+        let rest = join_with_byte 10 (next ∷ parts) in
+        let both = cut (part ++ 10 ∷ rest) (length part) is (grind (arith, common_steps))
+        (grind (arith, common_steps)) in
+        let after : drop (length part + 1) (part ++ 10 ∷ rest) ≡ rest = grind (arith, common_steps)
+        in (
+          line-is number part (simp take_at at both.0),
+          lines-are (number + 1) (next ∷ parts) (rw after at both.1),
+        )
+
+  -- what is so of each request is so of the one that words ask for
+  module _ (P : Request → Type 0) (parse : (text : List ℕ) → Q text → P (Request.parse text))
+      (eval : (text : List ℕ) (flags : List (List ℕ)) → Q text → AllByRecursion Q flags
+      → P (Request.eval text flags))
+      (target : (triple text : List ℕ) → Q text → P (Request.target triple text))
+      (pick : (triple : List ℕ) → P (Request.pick triple)) (wrong : P Request.wrong_use) where
+    request-is : (words : List (List ℕ)) → AllByRecursion Q words → P (request_of words)
+    request-is (name ∷ first ∷ second ∷ third ∷ more) all = grind arith
+    request-is _ all = grind arith
+
+  -- a request of such words has an output
+  pub Prints-some : (words : List (List ℕ)) (input : List ℕ) → AllByRecursion Q words
+      → HasSome (Prints (request_of words) input)
+  Prints-some words input = request-is (λ request. HasSome (Prints request input))
+      (λ text is. some_made tree_output (ParsesAs-some text is))
+      (λ text flags is all. some_made result_output (HasValue-some text flags is all))
+      (λ triple text is. by_row HasSome triple (unknown_triple, refl) (λ row. some_made
+      result_output (some_made (value_by (answer_on row)) (ParsesAs-some text is))))
+      (λ triple. by_row HasSome triple (unknown_triple, refl) (λ row. by_test HasSome
+      (nat_lt input_limit (length input)) (λ _. (too_long, refl)) (by_test HasSome (is_utf8 input)
+      (λ is. some_made lines_output (GivesAll-some (PrintsLine (answer_on row))
+      (enumerate_from 1 (map line_of (lines_of input)))
+      (lines-are (λ line. HasSome (PrintsLine (answer_on row) line)) (λ number. (Ok [], refl))
+      (λ number. (Err (no_tab number), refl)) (λ number name condition can.
+      some_made (section_text (answer_on row) number name) (ParsesAs-some condition can)) 1 _
+      (rw join_with_byte-slice_split (tested input is))))) (not_utf8, refl)))) (usage, refl) words

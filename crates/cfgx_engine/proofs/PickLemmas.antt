@@ -3,37 +3,38 @@ use Rattle.std.proofs.Common.{sym, ◌≡◌, ◌++◌, ◌<◌, ℕ, Bool, List
 use Rattle.std.proofs.Common.{None, Ok, arith, length-append, append-nil, le-ltb, lt-ltb}
 use Rattle.std.specs.Io.KnownBytes.{Consumes, IsAtEnd, Keeps}
 use Rattle.cfgx_grammar.specs.Question.{Question}
-use Rattle.cfgx_engine.specs.{Answer.PicksFrom, Output.Output, declared.engine.reading.Input.Input}
+use Rattle.cfgx_engine.specs.{EngineAnswer.PicksFrom, Output.Output}
+use Rattle.cfgx_engine.specs.declared.engine.reading.Input.{Input}
 use Rattle.cfgx_engine.specs.Input.{ReadsInput, input_limit}
 use Rattle.cfgx_engine.specs.{Prints.PicksInput, Prints.Prints, Prints.PrintsInput, Request.Request}
 use Rattle.cfgx_engine.specs.declared.engine.reading.Input.TheVariants as input
 
 -- what was read is a front of what a source holds, if it tells its bytes, and all of it at the end
-held : (old new : Option (List ℕ)) (front : List ℕ) → Consumes old new front
+source_held : (old new : Option (List ℕ)) (front : List ℕ) → Consumes old new front
     → (rest : List ℕ) × Keeps old (Some (front ++ rest)) × (IsAtEnd new → rest ≡ [])
-held None new front consumed = ([], tt, λ ended. refl)
-held (Some all) None front consumed = absurd consumed
-held (Some all) (Some left) front consumed = (left, sym consumed, λ ended. ended)
+source_held None new front consumed = ([], tt, λ ended. refl)
+source_held (Some all) None front consumed = absurd consumed
+source_held (Some all) (Some left) front consumed = (left, sym consumed, λ ended. ended)
 
--- what is written of an input that was read is what is written of what the source held
+-- what is written of an input that was read is what is written of what the source source_held
 pub PicksInput-read : {A : Type 0} (answer : Question → Option Bool) (old new : Option (List ℕ))
     (shown : Output) (given : Input A) → ReadsInput {A = A} old new (Ok given)
     → PicksFrom {A = A} answer given shown → PicksInput answer old shown
 PicksInput-read answer old new shown (input.Bytes bytes) reads picks =
-    let all = held old new bytes.items reads.1 in (
+    let all = source_held old new bytes.items reads.1 in (
       bytes.items,
       rw (all.2 reads.2, append-nil) at all.1,
       rw (le-ltb input_limit (length bytes.items) reads.0) picks,
     )
 PicksInput-read answer old new shown input.TooLong reads picks =
-    let all = held old new reads.0 reads.2 in
+    let all = source_held old new reads.0 reads.2 in
     let many : input_limit < length (reads.0 ++ all.0) =
     omega (arith, reads.1, length-append reads.0 all.0) in
     (reads.0 ++ all.0, all.1, rw (lt-ltb input_limit _ many) picks)
 
--- a request that prints the same on every input prints it on what is held
-pub PrintsInput-any : (given : Request) (held : Option (List ℕ)) (shown : Output)
+-- a request that prints the same on every input prints it on what is source_held
+pub PrintsInput-any : (given : Request) (source_held : Option (List ℕ)) (shown : Output)
     {request : Request} → given ≡ request → ((input : List ℕ) → Prints given input shown)
-    → PrintsInput request held shown
+    → PrintsInput request source_held shown
 PrintsInput-any given None shown is prints = ([], tt, rw (← is) (prints []))
 PrintsInput-any given (Some all) shown is prints = (all, refl, rw (← is) (prints all))

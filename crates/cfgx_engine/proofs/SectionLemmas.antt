@@ -8,7 +8,7 @@ use Rattle.std.specs.{Str.Pattern.FindsChar, declared.str.Split.Split}
 use Rattle.cfgx_grammar.specs.{Question.Question, Tree.Tree}
 use Rattle.cfg_expr.specs.{Deciding.IsDecision, declared.expr.Decision.Decision}
 use Rattle.cfg_expr.specs.declared.expr.Decision.TheVariants as decision
-use Rattle.cfgx_engine.specs.Answer.{Tells, decision_text}
+use Rattle.cfgx_engine.specs.EngineAnswer.{Tells, decision_text}
 use Rattle.cfgx_engine.specs.{declared.engine.sections.LineError.LineError, Input.input_limit}
 use Rattle.cfgx_engine.specs.{Output.Output, Output.faulty_output, Readings.GivesAll}
 use Rattle.cfgx_engine.specs.Sections.{Line, PrintsLine, PrintsLines, line_of, verdict_lines}

@@ -1,5 +1,5 @@
-pub mod Answer
 pub mod Auditing
+pub mod EngineAnswer
 pub mod Flags
 pub mod Input
 pub mod Output

@@ -9,7 +9,7 @@ use Rattle.cfgx_targets.specs.declared.info.TargetInfo.{TargetInfo}
 use Rattle.cfgx_grammar.specs.Question.{Question}
 use Rattle.cfgx_grammar.specs.Tree.{Tree, asked}
 use Rattle.cfgx_grammar.specs.Filling.{three_valued}
-use Rattle.cfgx_grammar.specs.Fold.{fold}
+use Rattle.cfgx_grammar.specs.Fold.{tree_fold}
 use Rattle.cfgx_grammar.specs.Matching.{meets}
 use Rattle.cfgx_grammar.specs.Spelling.{spelling}
 use Rattle.cfgx_engine.specs.Flags.{IsAnswer, flag_text, known_texts, unknown_texts}
@@ -71,7 +71,7 @@ abbrev pub ValueBy : List (List ℕ) → Result (List (Tree Question)) Fault
 ValueBy flags (Ok []) value = ⊥
 ValueBy flags (Ok (tree ∷ _)) value = (answers : List (Option Bool))
     × AllZip (IsAnswer (known_texts flags) (unknown_texts flags)) (asked tree) answers
-    × (value ≡ Ok (fold three_valued tree answers))
+    × (value ≡ Ok (tree_fold three_valued tree answers))
 ValueBy flags (Err fault) value = value ≡ Err fault
 
 -- the value of the text, whose predicates the flags answer; or the first fault, if the text is read
@@ -88,7 +88,7 @@ answer_on row = answer_by (meets row)
 -- the value of a tree with these answers, or the fault in its place
 abbrev pub value_by : (Question → Option Bool) → Result (Tree Question) Fault
     → Result (Option Bool) Fault
-value_by answer (Ok tree) = Ok (fold three_valued tree (map answer (asked tree)))
+value_by answer (Ok tree) = Ok (tree_fold three_valued tree (map answer (asked tree)))
 value_by answer (Err fault) = Err fault
 
 -- the value of the text with these answers, or its fault

@@ -57,9 +57,9 @@ Prints (Request.pick triple) input output =
 Prints Request.wrong_use input output = output ≡ usage
 
 -- the request reads its input
-abbrev pub Reads : Request → Type 0
-Reads (Request.pick triple) = IsSome (row_with {A = Global} triple builtin_rows)
-Reads request = ⊥
+abbrev pub TakesInput : Request → Type 0
+TakesInput (Request.pick triple) = IsSome (row_with {A = Global} triple builtin_rows)
+TakesInput request = ⊥
 
 -- this is the output of the request on the input that a source holds, or on some input if the
 -- source does not tell its bytes

@@ -11,7 +11,7 @@ use Rattle.cfgx_syntax.specs.Error.{Fault, error_text}
 use Rattle.cfgx_grammar.specs.Question.{Question}
 use Rattle.cfgx_grammar.specs.Tree.{Tree, asked}
 use Rattle.cfgx_grammar.specs.Filling.{polar, three_valued}
-use Rattle.cfgx_grammar.specs.Fold.{fold}
+use Rattle.cfgx_grammar.specs.Fold.{tree_fold}
 use Rattle.cfgx_engine.specs.Output.{Output, faulty_output}
 use Rattle.cfgx_engine.specs.Readings.{GivesAll, ParsesAs}
 
@@ -56,7 +56,7 @@ verdict_text None with_true with_false = codes "\tunknown\n"
 
 -- what stands there if this is the tree and these are the answers
 abbrev pub verdict_lines : {X : Type 0} → Tree X → List (Option Bool) → List ℕ
-verdict_lines tree answers = verdict_text (fold three_valued tree answers)
+verdict_lines tree answers = verdict_text (tree_fold three_valued tree answers)
     (polar tree answers true) (polar tree answers false)
 
 -- the message for the line with this number, which has no tab

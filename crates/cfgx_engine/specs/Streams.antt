@@ -3,7 +3,7 @@
 -- `std::io::Write::write` and `flush`.
 use Rattle.std.specs.Prelude.{ℕ, List, length, ◌==◌, ◌&&◌, nat_lt}
 use Rattle.std.specs.Prelude.{Result, Ok, Err, if◌then◌else◌}
-pub use Rattle.cfgx_grammar.specs.Writing.{Takes, TakesFront}
+pub use Rattle.cfg_expr.specs.Writing.{Takes, TakesFront}
 
 -- 1 if a call that answers this failed, else 0: an error is a failure
 abbrev pub failures_of : {T E : Type 0} → Result T E → ℕ

@@ -6,7 +6,7 @@ use Rattle.cfgx_grammar.specs.Question.{Question, TargetQuestion}
 use Rattle.cfgx_grammar.specs.Tree.{asked}
 use Rattle.cfgx_grammar.specs.Answer.{HasOneTree}
 use Rattle.cfgx_grammar.specs.Filling.{IsFilling, two_valued, three_valued}
-use Rattle.cfgx_grammar.specs.Fold.{fold}
+use Rattle.cfgx_grammar.specs.Fold.{tree_fold}
 use Rattle.cfgx_engine.specs.declared.resolve.Verdict.{Verdict}
 use Rattle.cfgx_engine.specs.declared.resolve.Verdict.TheVariants as verdict
 
@@ -26,13 +26,13 @@ pub record IsVerdict (answer : TargetQuestion → Bool) (condition : List ℕ) (
     : Type 0 where
   pub one : HasOneTree condition
   -- it is that of the tree's value
-  pub value_is : given ≡ verdict_of (fold three_valued one.tree
+  pub value_is : given ≡ verdict_of (tree_fold three_valued one.tree
       (map (answer_by answer) (asked one.tree)))
   -- it is `Yes` exactly if every filling of the answers makes the tree true
   pub yes : (given ≡ verdict.Yes) ↔ ((filling : List Bool)
       → IsFilling (map (answer_by answer) (asked one.tree)) filling
-      → fold two_valued one.tree filling ≡ true)
+      → tree_fold two_valued one.tree filling ≡ true)
   -- and `No` exactly if every filling makes it false
   pub no : (given ≡ verdict.No) ↔ ((filling : List Bool)
       → IsFilling (map (answer_by answer) (asked one.tree)) filling
-      → fold two_valued one.tree filling ≡ false)
+      → tree_fold two_valued one.tree filling ≡ false)

@@ -3,7 +3,7 @@ ghost use Rattle.std.specs.Prelude.{◌≡◌, ◌≢◌, ◌+◌, ◌<◌, ◌�
 ghost use Rattle.std.specs.Io.KnownBytes.{Appends};
 ghost use Rattle.std.specs.Cow.{cow_slice_items};
 ghost use Rattle.cfgx_engine.specs.Input.{ReadsFront};
-ghost use Rattle.cfgx_engine.specs.Prints.{Reads, WritesFront, WritesWhole};
+ghost use Rattle.cfgx_engine.specs.Prints.{TakesInput, WritesFront, WritesWhole};
 ghost use Rattle.cfgx_engine.specs.Request.{request_of, texts, Request};
 ghost use Rattle.cfgx_engine.specs.Streams.{TakesFront};
 
@@ -67,7 +67,7 @@ pub fn run<A: SmallAllocator, R: Source, W: Sink>(
         → W.failures writer.new ≡ W.failures writer.old + 1 }
 
     // Only a request that reads its input reads, and what it read stays read.
-    ensures reader { ¬ Reads (request_of (texts words.now)) → reader.new ≡ reader.old }
+    ensures reader { ¬ TakesInput (request_of (texts words.now)) → reader.new ≡ reader.old }
     ensures front { ReadsFront (R.unread reader.old) (R.unread reader.new) }
     ensures status { result ≤ 3 }
 {

@@ -1,15 +1,15 @@
 // The output of a run, which is built in memory.
 
 ghost use Rattle.std.specs.Prelude.{◌≡◌, ◌+◌, ◌<◌, [], IfOk, IsOk, string_bytes};
-ghost use Rattle.cfgx_engine.specs.Answer.{output_of, IsShort, PicksFrom, ShowsFailure};
-ghost use Rattle.cfgx_engine.specs.Answer.{ShowsResult};
+ghost use Rattle.cfgx_engine.specs.EngineAnswer.{output_of, IsShort, PicksFrom, ShowsFailure};
+ghost use Rattle.cfgx_engine.specs.EngineAnswer.{ShowsResult};
 ghost use Rattle.cfgx_engine.specs.Input.{stop_failures, ReadsFront};
 ghost use Rattle.cfgx_engine.specs.Output.{answer_on, text_line, value_text};
-ghost use Rattle.cfgx_engine.specs.Prints.{PicksInput, Prints, PrintsInput, Reads};
+ghost use Rattle.cfgx_engine.specs.Prints.{PicksInput, Prints, PrintsInput, TakesInput};
 ghost use Rattle.cfgx_engine.specs.Request.{request_of, texts, Request};
 
 use super::command::{Command, command_of};
-use super::flags::value_of;
+use super::flags::value_under;
 use super::listing::lines;
 use super::reading::{Input, Stop, read_input};
 use super::sections::sections_answer;
@@ -90,11 +90,11 @@ pub(super) fn answer_to<A: SmallAllocator, R: Source>(
     ensures wrong_use { request_of (texts words.now) ≡ Request.wrong_use → IsOk result }
     ensures count { R.failures reader.new ≡ R.failures reader.old + stop_failures result }
     ensures front { ReadsFront (R.unread reader.old) (R.unread reader.new) }
-    ensures others { ¬ Reads (request_of (texts words.now)) → reader.new ≡ reader.old }
+    ensures others { ¬ TakesInput (request_of (texts words.now)) → reader.new ≡ reader.old }
 {
     match command_of(words) {
         Command::Parse(text) => Ok(parse_answer(alloc, text)?),
-        Command::Eval(text, flags) => Ok(value_answer(alloc, value_of(alloc, text, flags))?),
+        Command::Eval(text, flags) => Ok(value_answer(alloc, value_under(alloc, text, flags))?),
         Command::Target(triple, text) => Ok(target_answer(alloc, triple, text)?),
         Command::Pick(triple) => pick_answer(alloc, triple, reader),
         Command::WrongUse => Ok(Answer::constant(USAGE, NOT_KNOWN)),
@@ -139,7 +139,7 @@ fn pick_answer<A: SmallAllocator, R: Source>(
         PrintsInput (Request.pick triple.now) (R.unread reader.old) (output_of a)) }
     ensures count { R.failures reader.new ≡ R.failures reader.old + stop_failures result }
     ensures front { ReadsFront (R.unread reader.old) (R.unread reader.new) }
-    ensures others { ¬ Reads (Request.pick triple.now) → reader.new ≡ reader.old }
+    ensures others { ¬ TakesInput (Request.pick triple.now) → reader.new ≡ reader.old }
 {
     let table = TargetTable::builtins(alloc)?;
     match get_builtin_target_by_triple(&table, triple) {

@@ -4,7 +4,7 @@ ghost use Rattle.std.specs.Prelude.{◌≡◌, ◌↔◌, Err, IfErr, IsTrue, On
 ghost use Rattle.cfgx_grammar.specs.Answer.{Answers};
 ghost use Rattle.cfgx_parser.specs.Predicate.{question_of};
 ghost use Rattle.cfgx_syntax.specs.Stripping.{strip};
-ghost use Rattle.cfgx_engine.specs.Answer.{AddsFlag, Fails, FitsResult, ReadsFlags};
+ghost use Rattle.cfgx_engine.specs.EngineAnswer.{AddsFlag, Fails, FitsResult, ReadsFlags};
 ghost use Rattle.cfgx_engine.specs.Flags.{flag_text, IsAnswer, IsNamed, Names};
 ghost use Rattle.cfgx_engine.specs.Request.{texts};
 ghost use Rattle.cfgx_engine.specs.Output.{HasValue};
@@ -140,7 +140,7 @@ impl<A: SmallAllocator> Flags<A> {
 }
 
 /// The value of the text. The text is read first, and then each flag in the order of the words.
-pub(super) fn value_of<A: SmallAllocator>(
+pub(super) fn value_under<A: SmallAllocator>(
     alloc: A,
     text: &str,
     words: &[&str],

@@ -1,10 +1,18 @@
 -- The output is that of the words, or that of wrong use if they are not UTF-8.
-use Rattle.std.proofs.Common.{◌∙◌}
+use Rattle.std.proofs.Common.{◌≡◌, ◌∙◌, ℕ, List, [], Some, sym}
 use Rattle.std.proofs.lemmas.Bool.{false_from_ne_true}
 use Rattle.std.proofs.lemmas.Str.{IsUtf8-from_is_utf8, is_utf8-from_IsUtf8}
+use Rattle.cfgx_engine.specs.{Output.Output, Prints.Prints, Prints.WritesWhole}
 use Rattle.cfgx_engine.specs.Request.{Request, request_of, texts}
-use Rattle.cfgx_c.proofs.Told.{told}
 use Rattle.cfgx_c.proofs.words.run_words.Goals as goal
+
+-- what a whole output says if the source and the sink tell their bytes
+told : (request : Request) {input kept : List ℕ} {status : ℕ}
+    → WritesWhole request (Some input) status (Some []) (Some kept)
+    → (output : Output) × Prints request input output × (output.status ≡ status)
+    × (output.bytes ≡ kept)
+told request (output, prints, status, appends) =
+    (output, rw prints.1 at prints.2, status, sym appends)
 
 pub returns-in_default-clause-done : goal.returns-in_default-clause-done
 returns-in_default-clause-done c not =

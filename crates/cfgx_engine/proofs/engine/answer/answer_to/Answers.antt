@@ -17,7 +17,7 @@ returns-in_ok-value_answer-in-Eval-clause-right g c =
     let text = c.in-Eval.text.now in
     let flags = texts c.in-Eval.flags.now in
     PrintsInput-any _ _ _ c.in-Eval.ensures (λ input.
-    result_output-shown {A = g.row.A.Denot} (HasValue text flags) _ _ c.value_of.ensures
+    result_output-shown {A = g.row.A.Denot} (HasValue text flags) _ _ c.value_under.ensures
     c.in_ok-value_answer-in-Eval.ensures)
 
 pub returns-in_ok-target_answer-in-Target-clause-right

@@ -1,5 +1,5 @@
 use Rattle.std.proofs.Common.{arith}
-use Rattle.cfgx_grammar.proofs.Writing.{takes_more}
+use Rattle.cfg_expr.proofs.Parts.{takes_more}
 use Rattle.cfgx_engine.proofs.engine.streams.write_in_turns.Goals as goal
 
 pub loop-left-preserved : goal.loop-left-preserved

@@ -1,5 +1,4 @@
-use Rattle.std.proofs.lemmas.List.{take_all}
-use Rattle.std.proofs.lemmas.Result.{err_from_is_err_and}
+use Rattle.std.proofs.{lemmas.List.take_all, lemmas.Result.err_from_is_err_and}
 use Rattle.cfgx_engine.proofs.FlagLemmas.{AreFlags-more, Fails-later}
 use Rattle.cfgx_engine.proofs.engine.flags.Flags.parse.Goals as goal
 
