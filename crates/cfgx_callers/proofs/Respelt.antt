@@ -1,12 +1,9 @@
 -- What is read of a text that asks one predicate alone.
 use Rattle.std.proofs.Common.{◌∙◌, List, ℕ, Ok, Err, sym, subst}
 use Rattle.std.specs.Prelude.{Result}
-use Rattle.cfgx_syntax.specs.Stripping.{strip}
-use Rattle.cfgx_syntax.specs.declared.error.Failure.{Failure}
+use Rattle.cfgx_syntax.specs.{Stripping.strip, declared.error.Failure.Failure}
 use Rattle.cfgx_syntax.specs.declared.error.Failure.TheVariants as failure
-use Rattle.cfgx_grammar.specs.Answer.{Answers}
-use Rattle.cfgx_grammar.specs.Question.{Question}
-use Rattle.cfgx_grammar.specs.Regular.{IsAlone}
+use Rattle.cfgx_grammar.specs.{Answer.Answers, Question.Question, WellFormed.IsAlone}
 use Rattle.cfgx_callers.specs.Callers.{IsReadAlone}
 use Rattle.cfgx_grammar.proofs.Answering.{HasOneTree-tree, not_both}
 

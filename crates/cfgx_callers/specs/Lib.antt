@@ -1,4 +1,3 @@
 pub mod Board
 pub mod Callers
-pub mod Decisions
 pub mod Terms

@@ -5,10 +5,7 @@
 pub mod auditing;
 #[cfg(test)]
 pub mod calling;
-pub mod decision;
 #[cfg(test)]
 pub mod evaluating;
-#[cfg(test)]
-pub mod filling;
 #[cfg(test)]
 pub mod respelling;

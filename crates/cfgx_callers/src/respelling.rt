@@ -1,6 +1,6 @@
 //! A caller who spells a predicate and reads the spelling again.
 ghost use Rattle.std.specs.Prelude.{IfSome};
-ghost use Rattle.cfgx_grammar.specs.Regular.{IsAlone, IsRegular};
+ghost use Rattle.cfgx_grammar.specs.WellFormed.{IsAlone, IsWellFormed};
 ghost use Rattle.cfgx_parser.specs.Predicate.{question_of};
 ghost use Rattle.cfgx_callers.specs.Callers.{IsReadAlone};
 
@@ -22,7 +22,7 @@ fn read_alone(alloc: Global, predicate: &Predicate<'_>, text: &str) -> Result<Ex
 /// The expression of a predicate's own spelling, which asks this predicate alone, or `None` if the
 /// spelling was not written.
 pub fn read_again(alloc: Global, predicate: &Predicate<'_>) -> Option<Result<Expression, Failure>>
-    requires { IsRegular (question_of predicate.now) }
+    requires { IsWellFormed (question_of predicate.now) }
     ensures { IfSome result (IsReadAlone (question_of predicate.now)) }
 {
     let mut bytes = Vec::new(alloc);
@@ -37,7 +37,7 @@ pub fn read_again(alloc: Global, predicate: &Predicate<'_>) -> Option<Result<Exp
 
 // Whether the predicate is spelled, and its spelling is this text, which asks one predicate.
 fn is_read_as(alloc: Global, predicate: &Predicate<'_>, text: &str) -> bool
-    requires { IsRegular (question_of predicate.now) }
+    requires { IsWellFormed (question_of predicate.now) }
 {
     match read_again(alloc, predicate) {
         Some(Ok(again)) => again.original() == text && again.predicates().left() == 1,

@@ -2,12 +2,13 @@
 use cfgx_testing::heap::{empty_heap, has_every_block};
 use cfgx_testing::holding::holds;
 use cfgx_testing::refusing::Refusing;
-use std::alloc::{AllocError, Global};
+use std::alloc::{AllocError, Allocator, Global};
 use std::mem::forget;
 
 // Whether 100 bytes are pushed to a list that starts with no block and outgrows each that it gets.
-fn is_filled(heap: &Refusing<Global>) -> Result<bool, AllocError> {
-    let mut bytes = Vec::new(heap);
+// A function of any allocator is shorter to prove than one of a heap.
+fn is_filled<A: Allocator>(alloc: A) -> Result<bool, AllocError> {
+    let mut bytes = Vec::new(alloc);
     for byte in 0..100u8 {
         bytes.push(byte)?;
     }
@@ -38,9 +39,12 @@ fn each_growth_is_refused_in_turn(rt: HostRuntime) {
 }
 
 // Whether the second growth from now is refused, leaves the list as it was, and is not refused
-// again.
-fn is_refused_the_second(heap: &Refusing<Global>) -> Result<bool, AllocError> {
-    let mut bytes = Vec::with_capacity(heap, 1)?;
+// again. Both arguments are the heap.
+fn is_refused_the_second<A: Allocator>(
+    heap: &Refusing<Global>,
+    alloc: A,
+) -> Result<bool, AllocError> {
+    let mut bytes = Vec::with_capacity(alloc, 1)?;
     bytes.push(7u8)?;
     let was_ahead = !heap.has_refused();
     let is_refused = bytes.push(8).is_err() && heap.has_refused();
@@ -53,7 +57,7 @@ fn is_refused_the_second(heap: &Refusing<Global>) -> Result<bool, AllocError> {
 fn refuses_only_one(heap: &Refusing<Global>) -> bool {
     let was_filled = heap.has_refused() && holds(is_filled(heap));
     heap.refuse(2);
-    let is_one = holds(is_refused_the_second(heap));
+    let is_one = holds(is_refused_the_second(heap, heap));
     heap.refuse(1);
     heap.refuse(0);
     was_filled && is_one && holds(is_filled(heap))
@@ -67,20 +71,26 @@ fn only_one_growth_is_refused(rt: HostRuntime) {
     assert!(rt; is_one);
 }
 
-// Whether a block is known to be out if its list is forgotten, and to be back if it is dropped.
-fn is_told(alloc: Global, is_forgotten: bool) -> Result<bool, AllocError> {
-    let heap = empty_heap(alloc);
-    let bytes = vec![in &heap; 0u8; 8]?;
+// Whether a list is made, and then forgotten or dropped.
+fn is_made<A: Allocator>(alloc: A, is_forgotten: bool) -> Result<bool, AllocError> {
+    let bytes = vec![in alloc; 0u8; 8]?;
     if is_forgotten {
         forget(bytes);
     } else {
         drop(bytes);
     }
-    Ok(has_every_block(heap) != is_forgotten)
+    Ok(true)
+}
+
+// Whether a block is known to be out if its list is forgotten, and to be back if it is dropped.
+fn is_told(alloc: Global, is_forgotten: bool) -> bool {
+    let heap = empty_heap(alloc);
+    let is_made = holds(is_made(&heap, is_forgotten));
+    is_made && has_every_block(heap) != is_forgotten
 }
 
 #[test]
 fn a_block_that_is_out_is_told(rt: HostRuntime) {
-    assert!(rt; holds(is_told(rt.alloc(), true)));
-    assert!(rt; holds(is_told(rt.alloc(), false)));
+    assert!(rt; is_told(rt.alloc(), true));
+    assert!(rt; is_told(rt.alloc(), false));
 }

@@ -3,12 +3,12 @@
 use super::streams::Kept;
 use cfg_expr::error::{Failure, Reason};
 use cfg_expr::expr::Logic;
-use cfg_expr::expr::laws::{lanes_are_maps, maps_keep_values};
+use cfg_expr::expr::laws::{homomorphisms_keep_values, lanes_are_homomorphisms};
 use cfg_expr::expr::lexer::Lexer;
 use cfg_expr::expr::logic::Kleene64;
-use cfg_expr::expr::logic::laws::are_apart;
+use cfg_expr::expr::logic::laws::are_disjoint;
 use cfg_expr::targets::{Endian, Families, Family, HasAtomic, HasAtomicFailure, HasAtomics, Os};
-use cfgx_engine::engine::laws::has_one_output;
+use cfgx_engine::engine::laws::{has_an_output, has_one_output};
 use cfgx_engine::engine::streams::write_whole;
 use cfgx_syntax::stripping::strip;
 use cfgx_targets::reading::{read_endian, read_has_atomic, read_u8, read_u16};
@@ -79,10 +79,11 @@ fn values_are_read_and_made(rt: HostRuntime) {
 
 // Calls the laws. Only a proof has use for them.
 fn call_laws() {
-    maps_keep_values::<bool, Option<bool>>();
-    lanes_are_maps();
+    homomorphisms_keep_values::<bool, Option<bool>>();
+    lanes_are_homomorphisms();
+    has_an_output();
     has_one_output();
-    are_apart(&[Kleene64::new(1, 2)]);
+    are_disjoint(&[Kleene64::new(1, 2)]);
 }
 
 // `Option` has an `and` and an `or` of its own, so these are named by the trait.

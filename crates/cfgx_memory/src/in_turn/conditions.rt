@@ -3,9 +3,9 @@ use super::decisions::{is_audited, is_decided, is_decided_on};
 use super::runs::is_run_in_turns;
 use super::{Finding, Made};
 use cfg_expr::error::{Failure, ParseError};
-use cfg_expr::expr::TargetMatcher;
 use cfg_expr::expr::lexer::{Lexer, Token};
 use cfg_expr::expr::logic::Kleene64;
+use cfg_expr::expr::{Predicates, TargetMatcher};
 use cfg_expr::memory::SmallAllocator;
 use cfg_expr::{Expression, Predicate, TargetPredicate};
 use cfgx_engine::resolve::{Section, Verdict, pick};
@@ -71,12 +71,22 @@ parsed in 2 | 3 | any(~target_os = "a",~3~)
 /// What parsing answers.
 pub(crate) type Read<A = Global> = Result<Expression<A>, Failure<A>>;
 
+/// What parsing the text answers.
+pub(crate) fn parsed<A: SmallAllocator>(alloc: A, text: &str) -> Read<A> {
+    Expression::parse(alloc, text)
+}
+
+/// Whether these are the same predicates in the same order.
+pub(crate) fn ask_alike(one: Predicates<'_>, other: Predicates<'_>) -> bool {
+    one.eq(other)
+}
+
 // Whether both have the same text, and the same predicates in their order.
 fn are_alike<A: SmallAllocator, B: SmallAllocator>(
     one: &Expression<A>,
     other: &Expression<B>,
 ) -> bool {
-    one.original() == other.original() && one.predicates().eq(other.predicates())
+    one.original() == other.original() && ask_alike(one.predicates(), other.predicates())
 }
 
 // The first token of `a 8 b`, and the fault after it. Either this fault or a refused growth ends
@@ -136,7 +146,7 @@ fn answer_after<A: SmallAllocator>(alloc: A, call: &str, read: &Read<A>, plain: 
 fn answer_to<A: SmallAllocator>(alloc: A, call: &str, text: &str, plain: &Read) -> Finding {
     let read = match call {
         "from_str" => Expression::from_str(alloc, text),
-        _ => Expression::parse(alloc, text),
+        _ => parsed(alloc, text),
     };
     answer_after(alloc, call, &read, plain)
 }
@@ -234,7 +244,7 @@ impl TargetMatcher for Nowhere {
 // A section whose name is its condition.
 fn section_of<A: SmallAllocator>(alloc: A, text: &str) -> Made<Section<A>> {
     let name = String::from_str(alloc, text)?;
-    match Expression::parse(alloc, text) {
+    match parsed(alloc, text) {
         Ok(condition) => Ok(Section { name, condition }),
         Err(_) => Err(AllocError),
     }
@@ -249,14 +259,19 @@ fn sections_of<A: SmallAllocator>(alloc: A, texts: &[&str]) -> Made<Vec<Section<
     Ok(sections)
 }
 
+// Whether this is the section of the text.
+fn is_of<A: SmallAllocator>(section: &Section<A>, text: &str) -> bool {
+    section.name.as_str() == text && section.condition.original() == text
+}
+
 // Whether these are the sections of the texts.
-fn are_of<A: SmallAllocator>(sections: &[Section<A>], texts: &[&str]) -> bool {
-    for (section, text) in sections.iter().zip(texts) {
-        if section.name.as_str() != *text || section.condition.original() != *text {
-            return false;
+fn are_of<A: SmallAllocator>(sections: &[Section<A>], texts: &[&str; 3]) -> bool {
+    match sections {
+        [one, other, third] => {
+            is_of(one, texts[0]) && is_of(other, texts[1]) && is_of(third, texts[2])
         }
+        _ => false,
     }
-    sections.len() == texts.len()
 }
 
 // Whether these are the verdicts on the three sections.
@@ -266,7 +281,7 @@ fn are_wanted<A: SmallAllocator>(verdicts: Made<Vec<Verdict, A>>) -> Finding {
 }
 
 // Whether they are. Out of memory too the sections stay as they were.
-fn are_picked<A: SmallAllocator>(alloc: A, sections: &[Section<A>], texts: &[&str]) -> Finding {
+fn are_picked<A: SmallAllocator>(alloc: A, sections: &[Section<A>], texts: &[&str; 3]) -> Finding {
     let are_wanted = are_wanted(pick(alloc, sections, &Nowhere));
     if are_of(sections, texts) {
         are_wanted
@@ -276,13 +291,18 @@ fn are_picked<A: SmallAllocator>(alloc: A, sections: &[Section<A>], texts: &[&st
 }
 
 // The verdicts on three sections, twice.
+fn are_picked_twice<A: SmallAllocator>(
+    alloc: A,
+    sections: &[Section<A>],
+    texts: &[&str; 3],
+) -> Finding {
+    Ok(are_picked(alloc, sections, texts)? && are_picked(alloc, sections, texts)?)
+}
+
 fn is_picked<A: SmallAllocator>(alloc: A, text: &str) -> Finding {
     let texts = [text, "windows", "not(windows)"];
     let sections = sections_of(alloc, &texts)?;
-    let first = are_picked(alloc, sections.as_slice(), &texts);
-    let second = are_picked(alloc, sections.as_slice(), &texts);
-    drop(sections);
-    Ok(first? && second?)
+    are_picked_twice(alloc, sections.as_slice(), &texts)
 }
 
 // Whether parsing the text answered this.
@@ -355,7 +375,7 @@ fn is_row(alloc: Global, fields: &[String]) -> bool {
         [kind, answer, text, original] => (kind, answer, text, original),
         _ => return false,
     };
-    let plain = Expression::parse(alloc, text.as_str());
+    let plain = parsed(alloc, text.as_str());
     is_plain(alloc, &plain, answer.as_str(), original.as_str())
         && is_kind(alloc, kind.as_str(), text.as_str(), &plain)
 }

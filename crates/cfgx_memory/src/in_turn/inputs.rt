@@ -43,7 +43,7 @@ fn growths_of(alloc: Global, length: usize) -> Option<u64> {
 fn each_growth_of_an_input_is_refused(rt: HostRuntime) {
     for (length, wanted) in [(0, 1), (10, 1), (300_000, 4)] {
         let found = growths_of(rt.alloc(), length);
-        assert_eq!(rt; found, Some(wanted), "{length} bytes");
+        assert!(rt; found == Some(wanted), "{length} bytes");
     }
 }
 

@@ -5,13 +5,26 @@ use cfgx_engine::engine::run;
 use cfgx_testing::heap::{empty_heap, growths, has_every_block};
 use cfgx_testing::refusing::EVERY;
 use cfgx_testing::rows::check_rows;
-use cfgx_testing::streams::{ALL, Ended, Pieces, Recorder, USAGE, is_left_so, is_written};
+use cfgx_testing::streams::{ALL, Pieces, Recorder, USAGE, is_left_so, is_written};
 use cfgx_testing::triples::SIM;
 use cfgx_testing::words::words_of;
 use std::alloc::{AllocError, Global};
 
 /// An input, the status of a run over it, and what it writes.
 type Wanted<'a> = (&'a str, u8, &'a [u8]);
+
+// How a run over the input ends: its status, what is left of the input, and what it wrote.
+fn ended<'i, A: SmallAllocator>(
+    out: Global,
+    alloc: A,
+    words: &[&str],
+    input: &'i str,
+) -> (u8, Pieces<'i>, Recorder) {
+    let mut source = Pieces::new(input.as_bytes(), ALL, 0);
+    let mut sink = Recorder::new(out);
+    let status = run(alloc, words, &mut source, &mut sink);
+    (status, source, sink)
+}
 
 // A run that ends as it has to with memory, all its input read, or out of memory: what it read then
 // stays read, and its sink was not called.
@@ -22,9 +35,7 @@ fn is_run<A: SmallAllocator>(
     wanted: &Wanted<'_>,
 ) -> Finding {
     let (input, wanted_status, written) = *wanted;
-    let mut source = Pieces::new(input.as_bytes(), ALL, 0);
-    let mut sink = Recorder::new(out);
-    let status = run(alloc, words, &mut source, &mut sink);
+    let (status, source, sink) = ended(out, alloc, words, input);
     if source.failures != 0 || !input.as_bytes().ends_with(source.left) {
         Ok(false)
     } else if status == 3 && is_left_so(&sink, b"", (0, 0), 0) {
@@ -42,8 +53,7 @@ fn growths_of(alloc: Global, words: &[&str], wanted: &Wanted<'_>) -> u64 {
 /// Whether each growth of a run that ends with this status is refused in turn. It writes what a run
 /// with memory does.
 pub(super) fn is_run_in_turns(alloc: Global, words: &[&str], status: u8) -> bool {
-    let mut sink = Recorder::new(alloc);
-    let ended = run(alloc, words, &mut Ended, &mut sink);
+    let (ended, _source, sink) = ended(alloc, alloc, words, "");
     ended == status && growths_of(alloc, words, &("", status, sink.bytes.as_slice())) > 0
 }
 
@@ -87,20 +97,16 @@ without | 3 | eval | a
 without | 3 | target | nowhere | )
 "#;
 
-// Whether a run ends with this status, and writes what that says.
-fn ends<A: SmallAllocator>(out: Global, alloc: A, words: &[&str], status: u8) -> bool {
-    let mut sink = Recorder::new(out);
-    let ended = run(alloc, words, &mut Ended, &mut sink);
-    let written = if status == 2 { USAGE } else { "" };
-    ended == status && sink.bytes.as_slice() == written.as_bytes()
-}
-
-// Whether it does with no memory at all.
+// Whether a run with no memory at all ends with this status: that of wrong use, which writes the
+// usage, or that of want of memory.
 fn is_without(alloc: Global, words: &[&str], status: u8) -> bool {
     let heap = empty_heap(alloc);
     heap.refuse(EVERY);
-    let has_ended = ends(alloc, &heap, words, status);
-    has_ended && has_every_block(heap)
+    let is_ended = match is_run(alloc, &heap, words, &("", 2, USAGE.as_bytes())) {
+        Ok(is_misused) => is_misused && status == 2,
+        Err(AllocError) => status == 3,
+    };
+    is_ended && has_every_block(heap)
 }
 
 // Whether a run that is made so ends so.

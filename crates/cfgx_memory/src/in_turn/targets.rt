@@ -14,17 +14,15 @@ use std::alloc::{AllocError, Allocator, Global};
 use std::fmt::Display;
 use std::test::Fail;
 
-// Whether what was made is equal to its copy, and both print this.
-fn are_given<T, A, F>(out: Global, alloc: A, made: Made<T>, text: &str, copy: F) -> Finding
-where
-    T: PartialEq + Display + Drop,
-    A: Copy + Drop,
-    F: Fn(&T, A) -> Made<T>,
-    requires { F.IsAlwaysCallable copy }
-{
-    let value = made?;
-    let copy = copy(&value, alloc)?;
-    Ok(copy == value && prints(out, &copy, text) && prints(out, &value, text))
+// Whether the value is equal to its copy, and both print this.
+fn is_given<T: PartialEq + Display + Drop>(
+    out: Global,
+    value: &T,
+    copy: Made<T>,
+    text: &str,
+) -> Finding {
+    let copy = copy?;
+    Ok(copy == *value && prints(out, &copy, text) && prints(out, value, text))
 }
 
 /// Two widths in their order.
@@ -41,7 +39,12 @@ fn widths<A: SmallAllocator>(alloc: A, end: u16) -> Made<HasAtomics<A>> {
 // A list of 10,000 widths, and its copy.
 fn copies_many_widths<A: SmallAllocator>(alloc: A) -> Finding {
     let list = widths(alloc, 10_000)?;
-    Ok(list.as_slice().len() == 10_000 && gives(list.try_clone(alloc), &list)?)
+    let is_copied = gives(list.try_clone(alloc), &list);
+    if list.as_slice().len() == 10_000 {
+        is_copied
+    } else {
+        Ok(false)
+    }
 }
 
 // A field that owns this text.
@@ -49,8 +52,8 @@ fn owned<'a, K, A: SmallAllocator>(alloc: A, text: &str) -> Made<Field<'a, K, A>
     Ok(Field::new(String::from_str(alloc, text)?))
 }
 
-// Adds what was made. Its type is not known here, which makes its drop short to prove.
-fn push<T: Drop, A: Allocator>(list: &mut Vec<T, A>, made: Made<T>) -> Made<()> {
+/// Adds what was made. Its type is not known here, which makes its drop short to prove.
+pub(crate) fn push<T: Drop, A: Allocator>(list: &mut Vec<T, A>, made: Made<T>) -> Made<()> {
     list.push(made?)?;
     Ok(())
 }
@@ -77,7 +80,12 @@ fn families<'a, A: SmallAllocator + 'a>(alloc: A, names: &str) -> Made<Families<
 // A list of 10,000 families, and its copy.
 fn copies_many_families<A: SmallAllocator>(alloc: A, names: &str) -> Finding {
     let list = families(alloc, names)?;
-    Ok(list.as_slice().len() == 10_000 && gives(list.try_clone(alloc), &list)?)
+    let is_copied = gives(list.try_clone(alloc), &list);
+    if list.as_slice().len() == 10_000 {
+        is_copied
+    } else {
+        Ok(false)
+    }
 }
 
 /// The fault of a text that is no width.
@@ -86,6 +94,11 @@ pub(crate) fn no_width<A: SmallAllocator>(alloc: A) -> Made<NoWidth<A>> {
         Err(HasAtomicFailure::Parse(error)) => Ok(error),
         _ => Err(AllocError),
     }
+}
+
+fn copies_a_fault<A: SmallAllocator>(out: Global, alloc: A, text: &str) -> Finding {
+    let fault = no_width(alloc)?;
+    is_given(out, &fault, fault.try_clone(alloc), text)
 }
 
 /// What that fault prints.
@@ -104,33 +117,79 @@ fn put<T: Drop>(place: &mut T, made: Made<T>) -> Made<()> {
     Ok(())
 }
 
-// Makes the row own all its texts and lists.
-fn own_all<'a, A: SmallAllocator + 'a>(alloc: A, row: &mut TargetInfo<'a, A>) -> Made<()> {
-    put(&mut row.triple, owned(alloc, TEXT))?;
-    put(&mut row.os, some_owned(alloc))?;
-    put(&mut row.abi, some_owned(alloc))?;
-    put(&mut row.arch, owned(alloc, TEXT))?;
-    put(&mut row.env, some_owned(alloc))?;
-    put(&mut row.vendor, some_owned(alloc))?;
-    put(&mut row.panic, owned(alloc, TEXT))?;
+// Makes the field own its text.
+fn own<'a, K: Drop, A: SmallAllocator>(alloc: A, field: &mut Field<'a, K, A>) -> Made<()> {
+    put(field, owned(alloc, TEXT))
+}
+
+// Makes it one that owns its text.
+fn own_some<'a, K: Drop, A: SmallAllocator>(
+    alloc: A,
+    field: &mut Option<Field<'a, K, A>>,
+) -> Made<()> {
+    put(field, some_owned(alloc))
+}
+
+// A function that writes to many fields takes long to prove, so there are three.
+fn own_names<'a, A: SmallAllocator + 'a>(alloc: A, row: &mut TargetInfo<'a, A>) -> Made<()> {
+    own(alloc, &mut row.triple)?;
+    own(alloc, &mut row.arch)?;
+    own(alloc, &mut row.panic)
+}
+
+fn own_platform<'a, A: SmallAllocator + 'a>(alloc: A, row: &mut TargetInfo<'a, A>) -> Made<()> {
+    own_some(alloc, &mut row.os)?;
+    own_some(alloc, &mut row.abi)?;
+    own_some(alloc, &mut row.env)?;
+    own_some(alloc, &mut row.vendor)
+}
+
+fn own_lists<'a, A: SmallAllocator + 'a>(alloc: A, row: &mut TargetInfo<'a, A>) -> Made<()> {
     put(&mut row.families, families(alloc, "wasm unix"))?;
     put(&mut row.has_atomics, widths(alloc, 10))
 }
 
-// Whether the first of five rows is equal to its copy, and the copy, once it owns all, to its own.
+// Makes the row own all its texts and lists.
+fn own_all<'a, A: SmallAllocator + 'a>(alloc: A, row: &mut TargetInfo<'a, A>) -> Made<()> {
+    own_names(alloc, row)?;
+    own_platform(alloc, row)?;
+    own_lists(alloc, row)
+}
+
+// Whether the row, once it owns all, is equal to its copy.
+fn copies_owned<'a, A: SmallAllocator + 'a>(alloc: A, row: &mut TargetInfo<'a, A>) -> Finding {
+    own_all(alloc, row)?;
+    gives(row.try_clone(alloc), row)
+}
+
+// Whether the copy is equal to the value, and then passes the check. The type is not known here,
+// which makes its drop short to prove.
+fn is_checked<T, C>(value: &T, copy: Made<T>, check: C) -> Finding
+where
+    T: PartialEq + Drop,
+    C: Fn(&mut T) -> Finding,
+    requires { C.IsAlwaysCallable check }
+{
+    let mut copy = copy?;
+    let is_equal = copy == *value;
+    let is_right = check(&mut copy);
+    if is_equal { is_right } else { Ok(false) }
+}
+
+// Whether the row is equal to its copy, and the copy, once it owns all, to its own.
+fn copies_a_row<'a, A: SmallAllocator + 'a>(alloc: A, row: &TargetInfo<'a, A>) -> Finding {
+    is_checked(row, row.try_clone(alloc), |copy| copies_owned(alloc, copy))
+}
+
+// Whether the first of five rows is.
 fn copies_the_first<A: SmallAllocator>(alloc: A, rows: &[TargetInfo<'_, A>]) -> Finding {
     match rows {
-        [row, _, _, _, _] => {
-            let mut copy = row.try_clone(alloc)?;
-            let is_equal = copy == *row;
-            own_all(alloc, &mut copy)?;
-            Ok(gives(copy.try_clone(alloc), &copy)? && is_equal)
-        }
+        [row, _, _, _, _] => copies_a_row(alloc, row),
         _ => Ok(false),
     }
 }
 
-fn copies_a_row<A: SmallAllocator>(alloc: A) -> Finding {
+fn copies_from_the_table<A: SmallAllocator>(alloc: A) -> Finding {
     let table = TargetTable::builtins(alloc)?;
     copies_the_first(alloc, table.rows())
 }
@@ -159,7 +218,8 @@ fn copies_families<A: SmallAllocator>(out: Global, alloc: A, call: &str, text: &
         "windows" => Families::windows(alloc),
         _ => families(alloc, "wasm unix b "),
     };
-    are_given(out, alloc, made, text, Families::try_clone)
+    let list = made?;
+    is_given(out, &list, list.try_clone(alloc), text)
 }
 
 fn copies_widths<A: SmallAllocator>(out: Global, alloc: A, call: &str, text: &str) -> Finding {
@@ -169,7 +229,8 @@ fn copies_widths<A: SmallAllocator>(out: Global, alloc: A, call: &str, text: &st
         "up to 32" => HasAtomics::atomic_8_16_32_ptr(alloc),
         _ => HasAtomics::new(alloc, UNSORTED.iter().copied()),
     };
-    are_given(out, alloc, made, text, HasAtomics::try_clone)
+    let list = made?;
+    is_given(out, &list, list.try_clone(alloc), text)
 }
 
 // What the call answers. What it prints is printed to the other allocator.
@@ -177,8 +238,8 @@ fn answer_to<A: SmallAllocator>(out: Global, alloc: A, call: &str, text: &str) -
     match call {
         "up to 128" | "up to 64" | "up to 32" | "widths" => copies_widths(out, alloc, call, text),
         "many widths" => copies_many_widths(alloc),
-        "a fault" => are_given(out, alloc, no_width(alloc), text, NoWidth::try_clone),
-        "a row" => copies_a_row(alloc),
+        "a fault" => copies_a_fault(out, alloc, text),
+        "a row" => copies_from_the_table(alloc),
         _ => copies_families(out, alloc, call, text),
     }
 }

@@ -2,7 +2,7 @@
 //!
 //! A function takes the heap that it has refuse, and as any allocator what it calls with. Both are
 //! the same, but a function of any allocator is shorter to prove than one of this heap.
-use crate::in_turn::conditions::{Read, called};
+use crate::in_turn::conditions::{Read, ask_alike, called, parsed};
 use cfg_expr::expr::logic::Kleene64;
 use cfg_expr::expr::{Logic, Predicates, spell};
 use cfg_expr::memory::SmallAllocator;
@@ -17,7 +17,7 @@ use std::alloc::Global;
 // What parsing the text answers with memory. Every growth after it is refused.
 fn read<A: SmallAllocator>(heap: Heap<'_>, alloc: A, text: &str) -> Read<A> {
     heap.refuse(0);
-    let read = Expression::parse(alloc, text);
+    let read = parsed(alloc, text);
     heap.refuse(EVERY);
     read
 }
@@ -25,7 +25,10 @@ fn read<A: SmallAllocator>(heap: Heap<'_>, alloc: A, text: &str) -> Read<A> {
 // Whether the expressions are equal, and their predicates.
 fn are_equal<A: SmallAllocator>(one: &Read<A>, other: &Read<A>) -> Option<(bool, bool)> {
     match (one, other) {
-        (Ok(one), Ok(other)) => Some((one == other, one.predicates().eq(other.predicates()))),
+        (Ok(one), Ok(other)) => Some((
+            one == other,
+            ask_alike(one.predicates(), other.predicates()),
+        )),
         _ => None,
     }
 }
@@ -39,7 +42,10 @@ fn compares<A: SmallAllocator>(heap: Heap<'_>, alloc: A, text: &str, wanted: (bo
 
 // Adds the spelling of the next predicate.
 fn is_spelled(predicates: &mut Predicates<'_>, bytes: &mut Vec<u8>) -> bool {
-    matches!(predicates.next(), Some(predicate) if spell(&predicate, bytes).is_ok())
+    match &predicates.next() {
+        Some(predicate) => spell(predicate, bytes).is_ok(),
+        None => false,
+    }
 }
 
 // Whether these numbers of predicates are left, one after another, which are spelled so.

@@ -1,6 +1,6 @@
 //! Tokens, faults, and what they print.
+use crate::in_turn::conditions::parsed;
 use crate::in_turn::targets::{NO_WIDTH, no_width};
-use cfg_expr::Expression;
 use cfg_expr::error::{Failure, ParseError, Reason};
 use cfg_expr::expr::lexer::{Lexer, LexerToken, Token};
 use cfg_expr::memory::SmallAllocator;
@@ -56,7 +56,7 @@ key) | unopened parens | key)\n   ^ unopened parens
 
 // The fault of the text.
 fn fault<A: SmallAllocator>(alloc: A, text: &str) -> Fault<A> {
-    match Expression::parse(alloc, text) {
+    match parsed(alloc, text) {
         Err(Failure::Parse(error)) => Ok(error),
         _ => Err(AllocError),
     }

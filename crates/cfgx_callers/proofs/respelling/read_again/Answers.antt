@@ -1,7 +1,6 @@
 -- What was written is the spelling.
 use Rattle.std.proofs.Common.{◌++◌, ◌∙◌, ap, subst, sym}
-use Rattle.cfgx_grammar.specs.Regular.{IsAlone}
-use Rattle.cfgx_grammar.specs.Spelling.{spelling}
+use Rattle.cfgx_grammar.specs.{WellFormed.IsAlone, Spelling.spelling}
 use Rattle.cfgx_parser.specs.Predicate.{question_of}
 use Rattle.cfgx_callers.proofs.respelling.read_again.Goals as goal
 
