@@ -47,30 +47,27 @@ fn copies_field<K: Drop, A: SmallAllocator>(alloc: A, text: &str) -> Finding {
     are_copied(alloc, owned, Field::new_const(text), Field::try_clone)
 }
 
-// A predicate of this kind that owns its text.
-fn owned<'a, A: SmallAllocator>(kind: &str, text: String<A>) -> TargetPredicate<'a, A> {
-    match kind {
-        "target_abi" => TargetPredicate::Abi(Abi::new(text)),
-        "target_arch" => TargetPredicate::Arch(Arch::new(text)),
-        "target_vendor" => TargetPredicate::Vendor(Vendor::new(text)),
-        "target_os" => TargetPredicate::Os(Os::new(text)),
-        "target_family" => TargetPredicate::Family(Family::new(text)),
-        "target_env" => TargetPredicate::Env(Env::new(text)),
-        _ => TargetPredicate::Panic(Panic::new(text)),
-    }
+// A predicate of this kind, whose field is made so of the text.
+macro_rules! predicate {
+    ($kind:ident $made:ident $text:ident) => {
+        match $kind {
+            "target_abi" => TargetPredicate::Abi(Abi::$made($text)),
+            "target_arch" => TargetPredicate::Arch(Arch::$made($text)),
+            "target_vendor" => TargetPredicate::Vendor(Vendor::$made($text)),
+            "target_os" => TargetPredicate::Os(Os::$made($text)),
+            "target_family" => TargetPredicate::Family(Family::$made($text)),
+            "target_env" => TargetPredicate::Env(Env::$made($text)),
+            _ => TargetPredicate::Panic(Panic::$made($text)),
+        }
+    };
 }
 
-// A predicate of this kind that borrows its text.
+fn owned<'a, A: SmallAllocator>(kind: &str, text: String<A>) -> TargetPredicate<'a, A> {
+    predicate!(kind new text)
+}
+
 fn borrowed<'a, A: SmallAllocator>(kind: &str, text: &'a str) -> TargetPredicate<'a, A> {
-    match kind {
-        "target_abi" => TargetPredicate::Abi(Abi::new_const(text)),
-        "target_arch" => TargetPredicate::Arch(Arch::new_const(text)),
-        "target_vendor" => TargetPredicate::Vendor(Vendor::new_const(text)),
-        "target_os" => TargetPredicate::Os(Os::new_const(text)),
-        "target_family" => TargetPredicate::Family(Family::new_const(text)),
-        "target_env" => TargetPredicate::Env(Env::new_const(text)),
-        _ => TargetPredicate::Panic(Panic::new_const(text)),
-    }
+    predicate!(kind new_const text)
 }
 
 // Predicates of this kind.
