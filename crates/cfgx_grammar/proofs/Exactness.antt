@@ -120,7 +120,7 @@ fold_kept one other R preserve tree xs ys all = value_kept one other (λ p. R) p
 agreement : Preserve three_valued two_valued (λ p. Agrees)
 agreement = grind arith
 
--- a polar filling leads to the value, with `fill` in the place of an unknown one
+-- the polar filling with `fill` gives the value, and `fill` if that is unknown
 
 abbrev Side : Bool → Option Bool → Bool → Type 0
 Side fill value side = side ≡ unwrap_or value fill

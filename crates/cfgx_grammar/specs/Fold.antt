@@ -61,7 +61,8 @@ abbrev mutual
       (answered_each otherwise trees answers (left_after (asked_by is_function trees) answers))
   answered otherwise (Tree.not tree) answers = Tree.not (answered otherwise tree answers)
 
-  -- the functions of a list take the inner answers, and its leaves its own
+  -- the same for the members of a list: `inner` has the answers to deal to its functions, and `own`
+  -- those to deal to its leaves
   pub answered_each : {X T : Type 0} → T → Trees X → List T → List T → Trees T
   answered_each otherwise Trees.none inner own = Trees.none
   answered_each otherwise (Trees.more tree trees) inner own = if is_function tree

@@ -48,7 +48,7 @@ takes last kind = list_any (is_kind kind) (followers last)
 abbrev pub next : Option Token → Token → Bool
 next last token = takes last (kind_of token)
 
--- what a fault says that it expected there
+-- what a fault says that it expected there; the last case is a function's name
 abbrev pub expected : Option Token → List (List ℕ)
 expected None = codes "<key>" ∷ codes "all" ∷ codes "any" ∷ codes "not" ∷ []
 expected (Some Token.open_paren) = codes "<key>" ∷ codes ")" ∷ codes "all" ∷ codes "any"

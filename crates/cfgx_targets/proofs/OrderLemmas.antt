@@ -3,7 +3,7 @@
 use Rattle.std.proofs.lemmas.Grind.{common_steps}
 use Rattle.std.proofs.{lemmas.Bool.cases_lt, lemmas.Bool.not-true, lemmas.Cmp.tied_itself}
 use Rattle.std.proofs.{lemmas.List.Sums.sum_by-cons, Common.arith, lemmas.Fn.always_returns_same}
-use Rattle.std.proofs.Common.{inl, inr, Bor, ◌≡◌, ◌↔◌, refl, sym, ap, subst, ◌∙◌, ℕ, zero, suc, ◌+◌}
+use Rattle.std.proofs.Common.{inl, inr, Bor, ◌≡◌, ◌↔◌, refl, sym, ap, subst, ◌∙◌, ℕ, suc, ◌+◌}
 use Rattle.std.proofs.Common.{◌<◌, ◌≤◌, Bool, true, false, not, List, [], ◌∷◌, length, get_or}
 use Rattle.std.proofs.lemmas.List.Sorted.{searchable_from_sorted, IsPermutation-sym}
 use Rattle.std.proofs.lemmas.List.Sorted.{IsPermutation-trans, sum_by-IsPermutation}
