@@ -10,14 +10,13 @@ use Rattle.cfgx_parser.specs.nodes.Prefix.{Node, list_func, prefix, prefix_each,
 use Rattle.cfgx_parser.specs.nodes.Shape.{Shape, shape, shape_of}
 use Rattle.cfgx_parser.specs.declared.nodes.ExprNode.{ExprNode}
 use Rattle.cfgx_parser.proofs.Shapes.{places-shape}
-use Rattle.cfg_expr.specs.nodes.Parity.{turned, gone_over, pass, filled_at}
+use Rattle.cfg_expr.specs.nodes.Parity.{turned, members_of, pass, filled_at}
 use Rattle.cfg_expr.proofs.evaluated.Nodes.{read-mapped}
 
-list_gone_over : (function : ListFunction) (n : ℕ) (odd : Bool) (queue : List Bool)
-    → gone_over (Shape.function (list_func function n)) (odd ∷ queue)
-    ≡ replicate n odd ++ (queue ++ false ∷ [])
-list_gone_over ListFunction.all n odd queue = refl
-list_gone_over ListFunction.any n odd queue = refl
+list_members : (function : ListFunction) (n : ℕ) (odd : Bool)
+    → members_of (Shape.function (list_func function n)) odd ≡ replicate n odd
+list_members ListFunction.all n odd = refl
+list_members ListFunction.any n odd = refl
 
 abbrev odd_in : Node Bool → Bool
 odd_in (Node.leaf odd) = odd
@@ -31,29 +30,23 @@ module _ {X : Type 0} where
   abbrev odds_each : Bool → Trees X → List Bool
   odds_each odd trees = map odd_in (prefix_each (polarities_each odd trees))
 
-  -- the pass takes the trees that come first off, and adds the parities of their predicates
+  -- of the nodes of a tree the pass finds the parities of its predicates
   mutual
-    pass-tree : (tree : Tree X) (odd : Bool) (queue : List Bool) (rest : List Shape)
-        → pass (map shape_of (prefix tree) ++ rest) (odd ∷ queue)
-        ≡ pass rest (queue ++ odds odd tree)
-    pass-tree (Tree.list function trees) odd queue rest =
-        ap (pass (map shape_of (prefix_each trees) ++ rest))
-        (list_gone_over function (count trees) odd queue)
-        ∙ pass-each trees odd (queue ++ false ∷ []) rest ∙ rw append_assoc refl
-    pass-tree (Tree.not tree) odd queue rest =
-        pass-tree tree (not odd) (queue ++ false ∷ []) rest ∙ rw append_assoc refl
-    pass-tree tree odd queue rest = refl
+    pass-tree : (tree : Tree X) (odd : Bool) (ahead : List Bool) (rest : List Shape)
+        → pass (map shape_of (prefix tree) ++ rest) (odd ∷ ahead)
+        ≡ odds odd tree ++ pass rest ahead
+    pass-tree (Tree.list function trees) odd ahead rest =
+        rw (list_members function (count trees) odd, pass-each trees odd ahead rest) refl
+    pass-tree (Tree.not tree) odd ahead rest = rw (pass-tree tree (not odd) ahead rest) refl
+    pass-tree tree odd ahead rest = refl
 
-    pass-each : (trees : Trees X) (odd : Bool) (queue : List Bool) (rest : List Shape)
-        → pass (map shape_of (prefix_each trees) ++ rest) (replicate (count trees) odd ++ queue)
-        ≡ pass rest (queue ++ odds_each odd trees)
-    pass-each Trees.none odd queue rest = rw append-nil refl
-    pass-each (Trees.more tree trees) odd queue rest =
-        let others = replicate (count trees) odd in
-        let these = map shape_of (prefix tree) in
-        rw (map-append shape_of (prefix tree), map-append odd_in, append_assoc these)
-        (pass-tree tree odd (others ++ queue) _ ∙ rw (append_assoc others queue) refl
-        ∙ pass-each trees odd (queue ++ odds odd tree) rest ∙ rw append_assoc refl)
+    pass-each : (trees : Trees X) (odd : Bool) (ahead : List Bool) (rest : List Shape)
+        → pass (map shape_of (prefix_each trees) ++ rest) (replicate (count trees) odd ++ ahead)
+        ≡ odds_each odd trees ++ pass rest ahead
+    pass-each Trees.none odd ahead rest = refl
+    pass-each (Trees.more tree trees) odd ahead rest =
+        rw (map-append shape_of (prefix tree), append_assoc (map shape_of (prefix tree)))
+        (rw (pass-tree tree odd, pass-each trees odd, map-append odd_in, append_assoc) refl)
 
 -- The polarities for `fill` are those for false, turned over if `fill` is true.
 
@@ -90,7 +83,7 @@ polar-kept nodes tree nodes_are found asks answers fill asks_are is =
     let parities = polarities false tree in
     let passed : found ≡ odds false tree = is ∙ rw nodes_are
     (ap (λ l. pass l (false ∷ [])) (sym (append-nil (map shape_of (prefix tree))))
-    ∙ pass-tree tree false [] []) in
+    ∙ pass-tree tree false [] [] ∙ append-nil (odds false tree)) in
     let places_are : asks ≡ places 0 parities = asks_are
     ∙ places-shape tree parities (polarities-shape false tree) in
     rw (passed, places_are, read-mapped parities odd_in false, map-id) (ap (filled_by answers)

@@ -16,6 +16,7 @@ ghost use Rattle.cfgx_grammar.specs.Tree.{Tree, asked};
 ghost use Rattle.cfgx_grammar.specs.Grammar.{HasTree};
 ghost use Rattle.cfgx_grammar.specs.WellFormed.{IsWellFormed};
 
+mod condition;
 mod evaluating;
 mod filling;
 pub mod laws;
@@ -31,6 +32,7 @@ use cfgx_syntax::logic::Kleene64;
 pub use cfgx_syntax::logic::Logic;
 use cfgx_syntax::logic::laws::are_disjoint;
 pub use cfgx_syntax::{lexer, logic};
+pub use condition::{Condition, ConditionReader};
 pub use spelling::spell;
 use std::alloc::{AllocError, Allocator, Global};
 use std::fmt;
@@ -111,6 +113,13 @@ impl<A: Allocator> fmt::Debug for Expression<A> {
 }
 
 impl<A: SmallAllocator> Expression<A> {
+    /// The condition, borrowed. It takes no memory.
+    pub fn condition(&self) -> Condition<'_>
+        ensures { result ≡ self.now }
+    {
+        Condition::new(self.parsed.as_ref())
+    }
+
     /// The expression of a text, which may stand in `cfg( )`.
     ///
     /// The error is the first fault of the text, or that `alloc` refused memory.
@@ -147,7 +156,7 @@ impl<A: SmallAllocator> Expression<A> {
         ensures asked { (one : HasOneTree self.now) × (result ≡ asked one.tree) }
         ensures well_formed { AllByRecursion IsWellFormed result }
     {
-        self.parsed.predicates()
+        self.condition().predicates()
     }
 
     /// The value of the condition if `ep` answers each predicate.
@@ -176,7 +185,7 @@ impl<A: SmallAllocator> Expression<A> {
         ensures refused { OnErr result (ep.new ≡ ep.old) }
         ensures short { length self.now ≤ 32 → IsOk result }
     {
-        evaluating::value_of(alloc, &self.parsed, ep)
+        evaluating::value_of(alloc, &self.parsed.as_ref(), ep)
     }
 
     /// Whether the answers decide the condition: its value, or a filling of the unknown answers for
@@ -197,7 +206,8 @@ impl<A: SmallAllocator> Expression<A> {
         ensures decision { IfOk result (λ decision. (one : HasOneTree self.now)
             × Decides one.tree answers.now decision) }
     {
-        filling::decide(alloc, &self.parsed, answers)
+        self.condition()
+            .decide(alloc, answers, Decision::Known(false))
     }
 
     /// The fillings of `decide` that show why the value over the answers is unknown, the one with
@@ -245,6 +255,6 @@ impl<A: SmallAllocator> Expression<A> {
     {
         // It does nothing but show that no lane of the answers is both true and false.
         are_disjoint(answers);
-        evaluating::value_over(alloc, &self.parsed, answers)
+        evaluating::value_over(alloc, &self.parsed.as_ref(), answers)
     }
 }

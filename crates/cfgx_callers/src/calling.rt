@@ -12,6 +12,7 @@ pub mod lines;
 pub mod literals;
 pub mod logic;
 pub mod manifests;
+pub mod many;
 pub mod matcher;
 pub mod names;
 pub mod others;
@@ -102,6 +103,8 @@ sections | any() | [No] [No]
 // And that of a condition in a table.
 tables | target_os = "none" | [[Yes, No]]
 tables | all(target_os = "linux", feature = "x") | [[No, Unknown]]
+// And how many of some conditions a board decides, between which semicolons stand.
+many | target_os = "none";any(a, unix);all(a, b, not(test), c, unix);test;not(unix);true | 4
 // Boards may need these. They know nothing of families and vendors, and do not tell of flags.
 manifests | macos 64 | ["notify", "loom", "wide"]
 manifests | macos 32 | ["notify", "loom"]
@@ -173,6 +176,15 @@ fn is_answer_of(alloc: Global, example: &str, expression: &Expression, told: &st
     })
 }
 
+// How many of the conditions a board decides, between which semicolons stand.
+fn count_decided(alloc: Global, conditions: &str) -> Result<usize, Failure> {
+    let mut texts = Vec::new(alloc);
+    for text in conditions.split(';') {
+        texts.push(text)?;
+    }
+    many::count_decided(alloc, texts.as_slice(), &BARE)
+}
+
 // Whether an example answers this. Those that are not named take an expression.
 fn is_answer(alloc: Global, example: &str, text: &str, told: &str) -> Finding {
     Ok(match example {
@@ -190,6 +202,7 @@ fn is_answer(alloc: Global, example: &str, text: &str, told: &str) -> Finding {
             &tables::table_of(alloc, &[text], &[BARE, LINUX])?,
             told,
         ),
+        "many" => shows(alloc, &count_decided(alloc, text)?, told),
         "manifests" => needs(alloc, text, told)?,
         "windows" => shows(alloc, &value_on_windows(alloc, text)?, told),
         "linux" => shows(alloc, &value_on_linux(alloc, text)?, told),
@@ -200,7 +213,7 @@ fn is_answer(alloc: Global, example: &str, text: &str, told: &str) -> Finding {
 
 #[test]
 fn examples_answer(rt: HostRuntime) -> Result<(), String> {
-    check_threes(rt.alloc(), ANSWERS, 62, |example, text, told| {
+    check_threes(rt.alloc(), ANSWERS, 63, |example, text, told| {
         holds(is_answer(rt.alloc(), example, text, told))
     })
 }

@@ -27,7 +27,7 @@ pub data Line : Type 0 where
   -- a section's name and its condition, with the first tab between them
   section : List ℕ → List ℕ → Line
 
-abbrev is_tab : ℕ → Bool
+abbrev pub is_tab : ℕ → Bool
 is_tab byte = byte == 9
 
 abbrev pub line_of : List ℕ → Line

@@ -12,7 +12,7 @@ ghost use Rattle.cfgx_engine.specs.Verdicts.{answer_by, IsVerdict, verdict_of};
 mod auditing;
 mod laws;
 
-use cfg_expr::expr::{Predicates, TargetMatcher};
+use cfg_expr::expr::{Condition, Predicates, TargetMatcher};
 use cfg_expr::memory::SmallAllocator;
 use cfg_expr::{Decision, Expression, Predicate};
 use std::alloc::{AllocError, Allocator, Global};
@@ -85,6 +85,24 @@ fn answer_each<A: SmallAllocator, M: TargetMatcher>(
     Ok(())
 }
 
+/// What `decide_on` answers for a condition that is only borrowed, in the memory of an earlier
+/// decision.
+pub(crate) fn decide_borrowed<A: SmallAllocator, M: TargetMatcher>(
+    alloc: A,
+    condition: &Condition<'_>,
+    matcher: &M,
+    answers: &mut Vec<Option<bool>, A>,
+    earlier: Decision<A>,
+) -> Result<Decision<A>, AllocError>
+    ensures decision { IfOk result (λ decision. (one : HasOneTree condition.now)
+        × Decides one.tree (map (answer_by (M.answer matcher.now)) (asked one.tree)) decision) }
+    ensures answers { OnOk result ((one : HasOneTree condition.now)
+        × (answers.new.items ≡ map (answer_by (M.answer matcher.now)) (asked one.tree))) }
+{
+    answer_each(matcher, condition.predicates(), answers)?;
+    condition.decide(alloc, answers.as_slice(), earlier)
+}
+
 /// What `decide` of a condition answers over the answers of a matcher. The matcher is asked once
 /// for each predicate on the target; every other predicate is unknown.
 ///
@@ -105,8 +123,8 @@ pub fn decide_on<A: SmallAllocator, M: TargetMatcher>(
     ensures answers { OnOk result ((one : HasOneTree condition.now)
         × (answers.new.items ≡ map (answer_by (M.answer matcher.now)) (asked one.tree))) }
 {
-    answer_each(matcher, condition.predicates(), answers)?;
-    condition.decide(alloc, answers.as_slice())
+    let none = Decision::Known(false);
+    decide_borrowed(alloc, &condition.condition(), matcher, answers, none)
 }
 
 /// The verdict of a value.

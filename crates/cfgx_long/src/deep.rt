@@ -1,7 +1,7 @@
 //! Deep, wide and long texts end in an answer.
 use cfg_expr::Expression;
 use cfg_expr::error::Failure;
-use cfg_expr::expr::Predicates;
+use cfg_expr::expr::{Condition, ConditionReader, Predicates};
 use cfgx_testing::holding::{holds, prints};
 use cfgx_testing::rows::{Checked, check_tables, has_fault};
 use cfgx_testing::words::is_run;
@@ -49,6 +49,36 @@ fn asks(alloc: Global, text: &str, count: &str) -> Result<bool, Failure> {
     Ok(is_kept && are(expression.predicates(), count.parse().ok()))
 }
 
+// Texts that one reader reads one after another, and how many predicates each asks.
+const READ: &str = r#"
+any(~a,~100000~) | 100000 | ~not(~100000~a~)~100000~ | 1 | a | 1
+"#;
+
+// Whether reading gave this text and so many predicates.
+fn is_read(read: &Result<Condition<'_>, Failure>, text: &str, count: &str) -> bool {
+    match read {
+        Ok(condition) => {
+            condition.original() == text && are(condition.predicates(), count.parse().ok())
+        }
+        Err(_) => false,
+    }
+}
+
+// Whether one reader reads all texts of the row.
+fn are_read(alloc: Global, row: &[String]) -> bool {
+    let mut reader = ConditionReader::new(alloc);
+    for pair in row.chunks(2) {
+        let is_right = match pair {
+            [text, count] => is_read(&reader.read(text.as_str()), text.as_str(), count.as_str()),
+            _ => false,
+        };
+        if !is_right {
+            return false;
+        }
+    }
+    !row.is_empty()
+}
+
 // A fault far from the start, which prints as many spaces.
 const FAR: &str = r#"
 1 | all(b~,~3000~c d)\n~ ~3007~^ expected one of `=`, `,`, `)` here\n | parse \
@@ -60,6 +90,7 @@ fn passes(alloc: Global, check: &str, row: &[String]) -> bool {
         [text, fault] if check == "fault" => {
             has_fault(alloc, text.as_str(), text.as_str(), fault.as_str())
         }
+        _ if check == "read" => are_read(alloc, row),
         [text, count] => holds(asks(alloc, text.as_str(), count.as_str())),
         _ => is_run(alloc, row),
     }
@@ -68,6 +99,7 @@ fn passes(alloc: Global, check: &str, row: &[String]) -> bool {
 const TABLES: &[Checked<'static>] = &[
     ("fault", FAULTS, 14),
     ("predicates", ACCEPTED, 7),
+    ("read", READ, 1),
     ("run", FAR, 1),
 ];
 

@@ -7,6 +7,7 @@ pub(crate) mod conditions;
 mod decisions;
 mod fields;
 mod inputs;
+pub(crate) mod reading;
 mod runs;
 pub(crate) mod targets;
 

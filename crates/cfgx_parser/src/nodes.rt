@@ -1,5 +1,5 @@
 //! The nodes in which a `Parsed` keeps its tree.
-ghost use Rattle.std.specs.Prelude.{◌≡◌, ◌≤◌, length, OnErr, OnOk, IfOk};
+ghost use Rattle.std.specs.Prelude.{◌≡◌, ◌≤◌, ◌-◌, length, OnErr, OnOk, IfOk};
 
 use crate::function::Func;
 use cfgx_syntax::memory::SmallAllocator;
@@ -111,6 +111,17 @@ const LEAST_RESERVED: usize = 3;
 /// it stands, and is not copied.
 const MOST_RESERVED: usize = 2560;
 
+/// For how many nodes, predicates and open functions there is room from the first text on, if many
+/// texts are read in the same memory.
+pub(crate) const KEPT_ROOM: usize = 8;
+
+/// For how many nodes of a text of so many bytes room is made at once.
+fn room_for(len: usize) -> usize {
+    (len / BYTES_FOR_A_NODE)
+        .max(LEAST_RESERVED)
+        .min(MOST_RESERVED)
+}
+
 /// The nodes of a tree as they are written, one pass over the text.
 #[derive(Drop)]
 pub(crate) struct Writer<A: SmallAllocator> {
@@ -139,10 +150,32 @@ impl<A: SmallAllocator> Writer<A> {
             nodes: SmallVec::new(alloc),
             leaves: SmallVec::new(alloc),
             index: SmallVec::new(alloc),
-            room: (len / BYTES_FOR_A_NODE)
-                .max(LEAST_RESERVED)
-                .min(MOST_RESERVED),
+            room: room_for(len),
         }
+    }
+
+    /// Forgets what was written, to write the nodes of a text of so many bytes. Its memory stays.
+    pub(crate) fn restart(&mut self, len: usize)
+        ensures { written_of self.new ≡ nothing }
+    {
+        self.nodes.clear();
+        self.leaves.clear();
+        self.index.clear();
+        self.room = room_for(len);
+    }
+
+    /// Whether the nodes are inline, so that no room is kept for them.
+    pub(crate) fn is_inline(&self) -> bool {
+        !self.nodes.spilled()
+    }
+
+    /// Makes room for a few of each that is not inline.
+    pub(crate) fn keep_room(&mut self) -> Result<(), AllocError>
+        ensures { written_of self.new ≡ written_of self.old }
+    {
+        self.leaves.reserve(KEPT_ROOM)?;
+        self.index.reserve(KEPT_ROOM)?;
+        self.nodes.reserve(KEPT_ROOM)
     }
 
     /// Makes room for one more node. The first time it is room for as many as the text is likely to
@@ -203,9 +236,20 @@ impl<A: SmallAllocator> Writer<A> {
         Ok(Mark { node, leaves })
     }
 
-    /// Ends a list: its own predicates, which come after the first `leaves`, are asked next.
-    #[inline(always)]
-    pub(crate) fn end_list(&mut self, leaves: usize) -> Result<(), AllocError>
+    /// Ends a list of one predicate.
+    fn end_leaf(&mut self) -> Result<(), AllocError>
+        ensures written { OnOk result (written_of self.new
+            ≡ with_list_ended (length (written_of self.old).leaves - 1) (written_of self.old)) }
+        ensures kept { KeepsNodes (written_of self.old) (written_of self.new) }
+    {
+        if let Some(place) = self.leaves.pop() {
+            self.index.push(place)?;
+        }
+        Ok(())
+    }
+
+    /// Ends a list of any number of predicates.
+    fn end_leaves(&mut self, leaves: usize) -> Result<(), AllocError>
         requires { leaves ≤ length (written_of self.old).leaves }
         ensures written { OnOk result
             (written_of self.new ≡ with_list_ended leaves (written_of self.old)) }
@@ -215,6 +259,24 @@ impl<A: SmallAllocator> Writer<A> {
             .extend_from_slice(&self.leaves.as_slice()[leaves..])?;
         self.leaves.truncate(leaves);
         Ok(())
+    }
+
+    /// Ends a list: its own predicates, which come after the first `leaves`, are asked next. Mostly
+    /// there is none or one, which takes fewer steps than a slice.
+    #[inline(always)]
+    pub(crate) fn end_list(&mut self, leaves: usize) -> Result<(), AllocError>
+        ensures written { OnOk result
+            (written_of self.new ≡ with_list_ended leaves (written_of self.old)) }
+        ensures kept { KeepsNodes (written_of self.old) (written_of self.new) }
+    {
+        let held = self.leaves.len();
+        if held <= leaves {
+            return Ok(());
+        }
+        if held - leaves == 1 {
+            return self.end_leaf();
+        }
+        self.end_leaves(leaves)
     }
 
     /// Completes the node of a function, of which no more members come.
@@ -236,9 +298,6 @@ impl<A: SmallAllocator> Writer<A> {
         ensures kept { KeepsNodes (written_of self.old) (written_of self.new) }
     {
         self.complete(mark.node, func);
-        if mark.leaves < self.leaves.len() {
-            self.end_list(mark.leaves)?;
-        }
-        Ok(())
+        self.end_list(mark.leaves)
     }
 }

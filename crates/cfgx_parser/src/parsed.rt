@@ -48,32 +48,15 @@ impl<A: Allocator> Parsed<A> {
 }
 
 impl<A: SmallAllocator> Parsed<A> {
-    /// The nodes of the tree, in source order: no more than the text has bytes.
-    pub fn nodes(&self) -> &[ExprNode]
-        ensures nodes { (one : HasOneTree self.now)
-            × (map (node_at self.now) result.now ≡ prefix one.tree) }
-        ensures few { length result.now ≤ length self.now }
+    /// What was read, borrowed.
+    pub fn as_ref(&self) -> ParsedRef<'_>
+        ensures { result ≡ self.now }
     {
-        self.nodes.as_slice()
-    }
-
-    /// The places of the predicates among the nodes, in the order in which they are asked.
-    pub fn places(&self) -> &[usize]
-        ensures { (one : HasOneTree self.now) × (result.now ≡ places 0 one.tree) }
-    {
-        self.index.as_slice()
-    }
-
-    /// The predicates in the order in which they are asked. It takes no memory.
-    pub fn predicates(&self) -> Predicates<'_>
-        ensures asked { (one : HasOneTree self.now) × (result ≡ asked one.tree) }
-        ensures well_formed { AllByRecursion IsWellFormed result }
-    {
-        Predicates::new(
-            self.original.as_str(),
-            self.nodes.as_slice(),
-            self.index.as_slice(),
-        )
+        ParsedRef {
+            original: self.original.as_str(),
+            nodes: self.nodes.as_slice(),
+            index: self.index.as_slice(),
+        }
     }
 
     /// The same text, with its nodes.
@@ -87,6 +70,61 @@ impl<A: SmallAllocator> Parsed<A> {
             nodes: SmallVec::from_clones(alloc, self.nodes.as_slice())?,
             index: SmallVec::from_slice(alloc, self.index.as_slice())?,
         })
+    }
+}
+
+/// A text that is a condition, with the nodes of its one tree, all borrowed. It is seen as its
+/// stripped text.
+#[derive(Drop)]
+pub struct ParsedRef<'a> {
+    original: &'a str,
+    /// In source order
+    nodes: &'a [ExprNode],
+    /// The places of the predicates among the nodes, in the order in which they are asked
+    index: &'a [usize],
+}
+
+impl<'a> Model for ParsedRef<'a> {
+    ghost use Rattle.std.specs.Prelude.{List, ℕ};
+    ghost use Rattle.cfgx_parser.specs.nodes.KeepsTree.{KeepsOneTree};
+
+    ghost Value = { List ℕ };
+
+    ghost view = { λ p. p.original.now };
+
+    ghost invariant = { λ p. KeepsOneTree p.original.now p.nodes.now p.index.now };
+}
+
+impl<'a> ParsedRef<'a> {
+    /// The text that was read, without the outer `cfg( )`.
+    pub fn original(&self) -> &'a str
+        ensures { result.now ≡ self.now }
+    {
+        self.original
+    }
+
+    /// The nodes of the tree, in source order: no more than the text has bytes.
+    pub fn nodes(&self) -> &'a [ExprNode]
+        ensures nodes { (one : HasOneTree self.now)
+            × (map (node_at self.now) result.now ≡ prefix one.tree) }
+        ensures few { length result.now ≤ length self.now }
+    {
+        self.nodes
+    }
+
+    /// The places of the predicates among the nodes, in the order in which they are asked.
+    pub fn places(&self) -> &'a [usize]
+        ensures { (one : HasOneTree self.now) × (result.now ≡ places 0 one.tree) }
+    {
+        self.index
+    }
+
+    /// The predicates in the order in which they are asked. It takes no memory.
+    pub fn predicates(&self) -> Predicates<'a>
+        ensures asked { (one : HasOneTree self.now) × (result ≡ asked one.tree) }
+        ensures well_formed { AllByRecursion IsWellFormed result }
+    {
+        Predicates::new(self.original, self.nodes, self.index)
     }
 }
 
@@ -107,4 +145,40 @@ pub fn parse<A: SmallAllocator>(alloc: A, original: &str) -> Result<Parsed<A>, F
         nodes,
         index,
     })
+}
+
+/// Reads one text after another, each in the memory of the one before.
+#[derive(Drop)]
+pub struct TextReader<'a, A: SmallAllocator> {
+    alloc: A,
+    parser: Parser<'a, A>,
+}
+
+impl<'a, A: SmallAllocator> TextReader<'a, A> {
+    /// A reader that has read nothing. It takes no memory.
+    pub fn new(alloc: A) -> Self {
+        TextReader {
+            alloc,
+            parser: Parser::new(alloc, 0),
+        }
+    }
+
+    /// Reads a text, which may stand in `cfg( )`. What it says lasts until the next text is read.
+    ///
+    /// The error is the first fault of the text, or that the allocator refused memory. Either way
+    /// the reader can read the next text.
+    pub fn read(&mut self, original: &'a str) -> Result<ParsedRef<'_>, Failure<A>>
+        ensures { Answers (strip original.now) result }
+    {
+        let lexer = Lexer::new(self.alloc, original);
+        let text = lexer.original();
+        self.parser.restart(text.len())?;
+        self.parser.read_all(self.alloc, lexer)?;
+        let parser = &self.parser;
+        Ok(ParsedRef {
+            original: text,
+            nodes: parser.nodes(),
+            index: parser.index(),
+        })
+    }
 }

@@ -14,7 +14,7 @@ ghost use Rattle.cfgx_parser.specs.parsing.Fields.{last_of, token_like, shown, c
 
 use crate::classification::{Pending, Word, classify};
 use crate::function::{Func, FuncKind};
-use crate::nodes::{ExprNode, Mark, Span, Writer};
+use crate::nodes::{ExprNode, KEPT_ROOM, Mark, Span, Writer};
 use cfgx_syntax::error::{Failure, Reason};
 use cfgx_syntax::lexer::{Lexer, LexerToken, Token};
 use cfgx_syntax::memory::SmallAllocator;
@@ -247,6 +247,32 @@ impl<'a, A: SmallAllocator> Parser<'a, A> {
         }
     }
 
+    /// Makes room that is not inline: what is inline is cleared before each text, and where a
+    /// function ends.
+    #[cold]
+    #[inline(never)]
+    fn keep_room(&mut self) -> Result<(), AllocError>
+        ensures { state_of self.new ≡ state_of self.old }
+    {
+        self.func_stack.reserve(KEPT_ROOM)?;
+        self.writer.keep_room()
+    }
+
+    /// Forgets what was read, to read a text of so many bytes. Its memory stays.
+    pub(crate) fn restart(&mut self, len: usize) -> Result<(), AllocError>
+        ensures { state_of self.new ≡ initial }
+    {
+        self.func_stack.clear();
+        self.list = OpenList::new();
+        self.pending = None;
+        self.fault = None;
+        self.writer.restart(len);
+        if self.writer.is_inline() {
+            self.keep_room()?;
+        }
+        Ok(())
+    }
+
     /// Notes a fault.
     fn halt(&mut self, reason: Reason, span: Span) -> Halt
         ensures { HaltsAs result self.new
@@ -469,6 +495,20 @@ impl<'a, A: SmallAllocator> Parser<'a, A> {
             Ok(()) => Ok(()),
             Err(halt) => Err(self.failure(alloc, text, halt)),
         }
+    }
+
+    /// The nodes that were written.
+    pub(crate) fn nodes(&self) -> &[ExprNode]
+        ensures { result.now ≡ self.now.writer.nodes.items }
+    {
+        self.writer.nodes.as_slice()
+    }
+
+    /// The places of the predicates among them.
+    pub(crate) fn index(&self) -> &[usize]
+        ensures { result.now ≡ self.now.writer.index.items }
+    {
+        self.writer.index.as_slice()
     }
 
     /// The nodes that were written, and the places of the predicates among them.

@@ -1,6 +1,8 @@
 //! Values and fillings worked out by hand, as rows.
 use crate::answers::{Answer, agree, answer_of};
 use crate::holding::holds;
+use cfg_expr::error::Failure;
+use cfg_expr::expr::ConditionReader;
 use cfg_expr::{Decision, Expression};
 use std::alloc::{AllocError, Global};
 
@@ -76,6 +78,16 @@ pub fn are_told(with_true: &[bool], with_false: &[bool], told: &str) -> bool {
     }
 }
 
+// Whether a row tells this decision.
+fn is_decided(decision: &Decision, told: &str) -> bool {
+    match decision {
+        Decision::Known(value) => told == if *value { "true" } else { "false" },
+        Decision::Unknown { if_true, if_false } => {
+            are_told(if_true.as_slice(), if_false.as_slice(), told)
+        }
+    }
+}
+
 // Whether `polar_fillings` and `decide` answer what a row tells.
 fn are_shown(
     alloc: Global,
@@ -91,14 +103,22 @@ fn are_shown(
         Some((one, other)) => are_told(one.as_slice(), other.as_slice(), told),
         None => !told.contains(' '),
     };
-    let decision = expression.decide(alloc, answers)?;
-    let is_decided = match &decision {
-        Decision::Known(value) => told == if *value { "true" } else { "false" },
-        Decision::Unknown { if_true, if_false } => {
-            are_told(if_true.as_slice(), if_false.as_slice(), told)
-        }
-    };
-    Ok(has_fillings && is_decided)
+    Ok(has_fillings && is_decided(&expression.decide(alloc, answers)?, told))
+}
+
+// Whether `decide` of the condition that a reader reads answers what a row tells, also in the
+// memory of an earlier decision.
+fn is_read(alloc: Global, text: &str, answers: &[Answer], told: &str) -> Result<bool, Failure> {
+    let mut reader = ConditionReader::new(alloc);
+    let condition = reader.read(text)?;
+    if condition.predicates().left() != answers.len() {
+        return Ok(false);
+    }
+    let decision = condition.decide(alloc, answers, Decision::Known(false))?;
+    if !is_decided(&decision, told) {
+        return Ok(false);
+    }
+    Ok(is_decided(&condition.decide(alloc, answers, decision)?, told))
 }
 
 /// Whether a row tells what the text is over these answers, of which there are as many as
@@ -109,6 +129,7 @@ pub fn is_told(alloc: Global, text: &str, digits: &str, told: &str) -> Option<bo
     let answers = answers.as_slice();
     Some(
         agree(alloc, &expression, answers, told.parse().ok())
-            && holds(are_shown(alloc, &expression, answers, told)),
+            && holds(are_shown(alloc, &expression, answers, told))
+            && holds(is_read(alloc, text, answers, told)),
     )
 }

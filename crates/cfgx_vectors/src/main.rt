@@ -1,9 +1,10 @@
 //! Checks the rows of the files that its arguments name: of the rules of texts, of the answers of
-//! the Rust crate, and of the program `cfgx`. It prints each wrong row, and how many rows and
-//! fields each table has.
+//! the Rust crate, and of the program `cfgx`. It prints each wrong row, how many rows and fields
+//! each table has, and how many of the fields of a file one reader reads as parsing does: all.
 #![tactic(auto)]
 
 mod program;
+mod reading;
 mod rules;
 mod rust_crate;
 mod tables;

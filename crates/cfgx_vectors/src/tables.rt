@@ -1,33 +1,38 @@
 //! Files of tables. A table is a heading, `# ` and what its rows are checked for, and its rows.
 use crate::passes;
+use crate::reading::{push_texts, read_alike};
 use cfgx_testing::rows::fields_of;
 use std::alloc::{AllocError, Global};
 use std::mem;
 
 // What is known of a file so far: the heading of its last table, how many rows and fields this has,
-// the row of which more lines are to come, and what is told of the tables.
+// the row of which more lines are to come, the texts of all rows, and what is told of the tables.
 #[derive(Drop)]
 struct Tables {
     heading: String,
     rows: usize,
     fields: usize,
     row: String,
+    texts: Vec<String>,
     told: String,
 }
 
-/// What is told of the tables of a file: a line for each wrong row and one for each table.
+/// What is told of the tables of a file: a line for each wrong row and one for each table, and how
+/// many texts are read alike.
 pub(crate) fn told(alloc: Global, text: &str) -> Result<String, AllocError> {
     let mut tables = Tables {
         heading: String::new(alloc),
         rows: 0,
         fields: 0,
         row: String::new(alloc),
+        texts: Vec::new(alloc),
         told: String::new(alloc),
     };
     for line in text.lines() {
         tables.take_line(alloc, line)?;
     }
     tables.end_table(alloc)?;
+    tables.end_file(alloc)?;
     Ok(tables.told)
 }
 
@@ -55,6 +60,7 @@ impl Tables {
         let (is_right, count) = match fields_of(alloc, row) {
             Some(fields) => {
                 let fields = fields.as_slice();
+                push_texts(alloc, &mut self.texts, fields)?;
                 (passes(alloc, self.heading.as_str(), fields), fields.len())
             }
             None => (false, 0),
@@ -87,5 +93,11 @@ impl Tables {
         self.rows = 0;
         self.fields = 0;
         Ok(())
+    }
+    // Tells how many texts are read alike.
+    fn end_file(&mut self, alloc: Global) -> Result<(), AllocError> {
+        let count = read_alike(alloc, self.texts.as_slice());
+        let told = format!(in alloc; "read alike: {count} fields\n")?;
+        self.told.push_str(told.as_str())
     }
 }

@@ -23,18 +23,23 @@ arity Not = 1
 arity (All count) = count
 arity (Any count) = count
 
--- One node more. In front the queue says of each tree that is still to come whether it stands below
--- an odd number of `not`, and after those of each node whether it is such a predicate.
-abbrev pub gone_over : Shape → List Bool → List Bool
-gone_over shape [] = []
-gone_over Shape.predicate (odd ∷ queue) = queue ++ odd ∷ []
-gone_over (Shape.literal truth) (odd ∷ queue) = queue ++ false ∷ []
-gone_over (Shape.function func) (odd ∷ queue) =
-    replicate (arity func) (turned odd (is_not func)) ++ (queue ++ false ∷ [])
+-- what is found of a node below an odd number of `not`, or an even one
+abbrev pub found_of : Shape → Bool → Bool
+found_of Shape.predicate odd = odd
+found_of shape odd = false
 
+-- what holds of its members
+abbrev pub members_of : Shape → Bool → List Bool
+members_of (Shape.function func) odd = replicate (arity func) (turned odd (is_not func))
+members_of shape odd = []
+
+-- What is found of the nodes one after another. Of each tree that is still to come, the next one
+-- first, it is given whether it stands below an odd number of `not`.
 abbrev pub pass : List Shape → List Bool → List Bool
-pass [] queue = queue
-pass (shape ∷ shapes) queue = pass shapes (gone_over shape queue)
+pass shapes [] = []
+pass [] (odd ∷ ahead) = []
+pass (shape ∷ shapes) (odd ∷ ahead) =
+    found_of shape odd ∷ pass shapes (members_of shape odd ++ ahead)
 
 -- the answers to the predicates at the places; unknown ones become `fill`, turned over below an odd
 -- number of `not`

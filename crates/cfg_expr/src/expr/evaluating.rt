@@ -8,7 +8,8 @@
 //! that was read.
 ghost use Rattle.std.specs.Prelude.{◌≡◌, ◌<◌, ◌≤◌, ◌+◌, ◌∷◌, ℕ, List, Some, IfOk, OnErr, IsOk};
 ghost use Rattle.std.specs.Prelude.{length, map, replicate, set, get_or, take, drop};
-ghost use Rattle.std.specs.Prelude.{true, false, [], ◌||◌};
+ghost use Rattle.std.specs.Prelude.{true, false, [], ◌||◌, OnOk};
+ghost use Rattle.smallvec.specs.SmallVec.{HasRoomFor};
 ghost use Rattle.cfgx_grammar.specs.Answer.{HasOneTree};
 ghost use Rattle.cfgx_grammar.specs.Fold.{from_last, literal_value, tree_fold};
 ghost use Rattle.cfgx_grammar.specs.Given.{AreAnswersTo};
@@ -30,7 +31,7 @@ ghost use Rattle.cfgx_parser.specs.declared.function.Func.TheVariants as func;
 use super::Func;
 use crate::memory::SmallAllocator;
 use cfgx_parser::nodes::ExprNode;
-use cfgx_parser::parsed::Parsed;
+use cfgx_parser::parsed::ParsedRef;
 use cfgx_parser::predicates::Predicate;
 use cfgx_syntax::logic::Logic;
 use smallvec::SmallVec;
@@ -141,11 +142,10 @@ fn put_next<T: Logic>(answer: T, places: &mut slice::Iter<'_, usize>, slots: &mu
 }
 
 /// Asks each predicate, in order, and puts its answer at its place among the nodes.
-fn ask_each<EP, T, A>(parsed: &Parsed<A>, slots: &mut [Member<T>], ep: &mut EP)
+fn ask_each<EP, T>(parsed: &ParsedRef<'_>, slots: &mut [Member<T>], ep: &mut EP)
 where
     EP: FnMut(&Predicate<'_>) -> T,
     T: Logic,
-    A: SmallAllocator,
     requires { MayEvaluate EP.FnMut parsed.now ep.old }
     ensures { (one : HasOneTree parsed.now)
         × AnswersPut EP.FnMut one.tree ep.old slots.old ep.new slots.new }
@@ -465,12 +465,29 @@ fn read_value<T: Logic>(nodes: &[ExprNode], slots: &mut [Member<T>]) -> T
     top_value(stack, slots)
 }
 
-/// No answer yet at any of this many places.
-fn no_answers<T: Logic, A: Allocator>(
+/// Adds a slot without an answer for each of this many places.
+fn add_slots<T: Logic, A: Allocator>(
+    slots: &mut SmallVec<Member<T>, 33, &A>,
+    count: usize,
+) -> Result<(), AllocError>
+    requires { slots.old.items ≡ [] }
+    ensures slots { OnOk result (slots.new.items ≡ no_answers count) }
+    ensures succeeds { HasRoomFor slots.old count → IsOk result }
+{
+    slots.reserve_exact(count)?;
+    for _place in 0..count {
+        slots.push_reserved(Member::Joined);
+    }
+    Ok(())
+}
+
+/// Slots without answers, for so many places. For long texts this takes fewer steps than
+/// `add_slots`, and for short ones more, since the inline room is moved.
+fn slots_of<T: Logic, A: Allocator>(
     alloc: &A,
     count: usize,
 ) -> Result<SmallVec<Member<T>, 33, &A>, AllocError>
-    ensures slots { IfOk result (λ slots. slots.items ≡ replicate count member.Joined) }
+    ensures slots { IfOk result (λ slots. slots.items ≡ no_answers count) }
     ensures succeeds { count ≤ 33 → IsOk result }
 {
     let mut slots = SmallVec::with_capacity(alloc, count)?;
@@ -483,7 +500,11 @@ fn no_answers<T: Logic, A: Allocator>(
 /// What `Expression::eval` answers.
 ///
 /// The error is that `alloc` refused memory for the answers.
-pub(crate) fn value_of<EP, T, A>(alloc: A, parsed: &Parsed<A>, ep: &mut EP) -> Result<T, AllocError>
+pub(crate) fn value_of<EP, T, A>(
+    alloc: A,
+    parsed: &ParsedRef<'_>,
+    ep: &mut EP,
+) -> Result<T, AllocError>
 where
     EP: FnMut(&Predicate<'_>) -> T,
     T: Logic,
@@ -495,7 +516,7 @@ where
     ensures short { length parsed.now ≤ 32 → IsOk result }
 {
     let nodes = parsed.nodes();
-    let mut answers = no_answers(&alloc, nodes.len())?;
+    let mut answers = slots_of(&alloc, nodes.len())?;
     let slots = answers.as_mut_slice();
     ask_each(parsed, slots, ep);
     Ok(read_value(nodes, slots))
@@ -504,7 +525,11 @@ where
 /// The value over answers that are there already, in the order of the questions.
 ///
 /// The error is that `alloc` refused memory for the answers.
-pub(crate) fn value_over<T, A>(alloc: A, parsed: &Parsed<A>, given: &[T]) -> Result<T, AllocError>
+pub(crate) fn value_over<T, A>(
+    alloc: A,
+    parsed: &ParsedRef<'_>,
+    given: &[T],
+) -> Result<T, AllocError>
 where
     T: Logic + Copy,
     A: SmallAllocator,
@@ -515,7 +540,9 @@ where
     ensures short { length parsed.now ≤ 32 → IsOk result }
 {
     let nodes = parsed.nodes();
-    let mut answers = no_answers(&alloc, nodes.len())?;
+    // They stay where they are made: to move the inline room takes as long as to read a short text.
+    let mut answers = SmallVec::new(&alloc);
+    add_slots(&mut answers, nodes.len())?;
     let slots = answers.as_mut_slice();
     put_each(parsed.places(), given, slots);
     Ok(read_value(nodes, slots))

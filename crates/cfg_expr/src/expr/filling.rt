@@ -1,13 +1,13 @@
 //! What is decided over answers of which some may be unknown: a value that is known, or the
 //! fillings with which the condition is true and false.
 //!
-//! One pass over the nodes finds which predicates stand below an odd number of `not`. A queue holds
-//! in front whether each tree does that is still to come, and after that what was found of the
-//! nodes that were gone over: a node takes the first one off, adds what it finds, and puts in
-//! front what holds of its members. A tree has at least one node, so the queue holds no more than
-//! one value for each node, and at the end what was found of them all, in order.
+//! One pass over the nodes finds which predicates stand below an odd number of `not`. A stack says
+//! of each tree that is still to come whether it does, with the next one on top: a node takes its
+//! own off, and puts on what holds of its members. A tree has at least one node, so the stack holds
+//! no more than one value for each node. Like what is found, it takes no memory for 33 nodes or
+//! fewer.
 ghost use Rattle.std.specs.Prelude.{◌≡◌, ◌++◌, ◌∷◌, true, false, [], length, map};
-ghost use Rattle.std.specs.Prelude.{replicate, IfOk, OnOk};
+ghost use Rattle.std.specs.Prelude.{replicate, reverse, List, IfOk, OnOk};
 ghost use Rattle.cfgx_grammar.specs.Given.{AreAnswersTo};
 ghost use Rattle.cfgx_grammar.specs.Answer.{HasOneTree};
 ghost use Rattle.cfgx_grammar.specs.Filling.{three_valued};
@@ -15,16 +15,16 @@ ghost use Rattle.cfgx_grammar.specs.Fold.{tree_fold};
 ghost use Rattle.cfgx_grammar.specs.Grammar.{HasTree};
 ghost use Rattle.cfgx_grammar.specs.Question.{Question};
 ghost use Rattle.cfgx_grammar.specs.Tree.{Tree, asked};
-ghost use Rattle.cfgx_parser.specs.nodes.Shape.{shape};
+ghost use Rattle.cfgx_parser.specs.nodes.Shape.{Shape, shape};
 ghost use Rattle.cfg_expr.specs.Deciding.{IsDecision};
-ghost use Rattle.cfg_expr.specs.nodes.Parity.{arity, filled_at, gone_over, pass};
+ghost use Rattle.cfg_expr.specs.nodes.Parity.{arity, filled_at, pass};
 
 use super::{Decision, Func, evaluating};
 use crate::memory::SmallAllocator;
 use cfgx_parser::nodes::ExprNode;
-use cfgx_parser::parsed::Parsed;
+use cfgx_parser::parsed::ParsedRef;
+use smallvec::SmallVec;
 use std::alloc::AllocError;
-use std::collections::VecDeque;
 
 /// How many members a function has.
 fn number_of(func: &Func) -> usize
@@ -36,16 +36,17 @@ fn number_of(func: &Func) -> usize
     }
 }
 
-/// Puts a truth value in front, this many times.
-fn put_in_front<A: SmallAllocator>(
+/// Puts a truth value on the stack, this many times.
+fn put_ahead<A: SmallAllocator>(
     count: usize,
     odd: bool,
-    queue: &mut VecDeque<bool, A>,
+    ahead: &mut SmallVec<bool, 33, &A>,
 ) -> Result<(), AllocError>
-    ensures { OnOk result (queue.new.items ≡ replicate count odd ++ queue.old.items) }
+    ensures { OnOk result
+        (reverse ahead.new.items ≡ replicate count odd ++ reverse ahead.old.items) }
 {
     for _member in 0..count {
-        queue.push_front(odd)?;
+        ahead.push(odd)?;
     }
     Ok(())
 }
@@ -54,69 +55,87 @@ fn put_in_front<A: SmallAllocator>(
 /// `not`.
 fn go_over<A: SmallAllocator>(
     node: &ExprNode,
-    queue: &mut VecDeque<bool, A>,
+    ahead: &mut SmallVec<bool, 33, &A>,
+    found: &mut SmallVec<bool, 33, &A>,
 ) -> Result<(), AllocError>
-    ensures { OnOk result (queue.new.items ≡ gone_over (shape node.now) queue.old.items) }
+    ensures { OnOk result ((rest : List Shape)
+        → found.new.items ++ pass rest (reverse ahead.new.items)
+        ≡ found.old.items ++ pass (shape node.now ∷ rest) (reverse ahead.old.items)) }
 {
-    if let Some(odd) = queue.pop_front() {
+    if let Some(odd) = ahead.pop() {
         match node {
             ExprNode::Fn { func, .. } => {
-                queue.push_back(false)?;
+                found.push(false)?;
                 let below = odd != matches!(func, Func::Not);
-                put_in_front(number_of(func), below, queue)?;
+                put_ahead(number_of(func), below, ahead)?;
             }
-            ExprNode::Predicate(_) => queue.push_back(odd)?,
-            ExprNode::Literal(_) => queue.push_back(false)?,
+            ExprNode::Predicate(_) => found.push(odd)?,
+            ExprNode::Literal(_) => found.push(false)?,
         }
     }
     Ok(())
 }
 
-/// Which nodes are predicates that stand below an odd number of `not`.
+/// Finds which nodes are predicates that stand below an odd number of `not`.
 fn parities<A: SmallAllocator>(
-    alloc: A,
     nodes: &[ExprNode],
-) -> Result<VecDeque<bool, A>, AllocError>
-    ensures { IfOk result (λ odds. odds.items ≡ pass (map shape nodes.now) (false ∷ [])) }
+    ahead: &mut SmallVec<bool, 33, &A>,
+    found: &mut SmallVec<bool, 33, &A>,
+) -> Result<(), AllocError>
+    ensures { OnOk result (found.new.items
+        ≡ found.old.items ++ pass (map shape nodes.now) (false ∷ reverse ahead.old.items)) }
 {
-    let mut queue = VecDeque::with_capacity(alloc, nodes.len())?;
-    queue.push_back(false)?;
+    found.reserve(nodes.len())?;
+    ahead.push(false)?;
     for node in nodes {
-        go_over(node, &mut queue)?;
+        go_over(node, ahead, found)?;
     }
-    Ok(queue)
+    Ok(())
 }
 
-/// The fillings with true and with false of the answers to the predicates at the places.
-fn fillings<A: SmallAllocator>(
-    alloc: A,
-    odds: &VecDeque<bool, A>,
+/// The memory of the fillings of an earlier decision, if it has any.
+fn room_of<A: SmallAllocator>(alloc: A, earlier: Decision<A>) -> (Vec<bool, A>, Vec<bool, A>) {
+    match earlier {
+        Decision::Known(_) => (Vec::new(alloc), Vec::new(alloc)),
+        Decision::Unknown { if_true, if_false } => (if_true, if_false),
+    }
+}
+
+/// Replaces what the vectors hold by the fillings with true and with false of the answers to the
+/// predicates at the places.
+fn fill<A: SmallAllocator>(
+    with_true: &mut Vec<bool, A>,
+    with_false: &mut Vec<bool, A>,
+    odds: &[bool],
     places: &[usize],
     answers: &[Option<bool>],
-) -> Result<(Vec<bool, A>, Vec<bool, A>), AllocError>
+) -> Result<(), AllocError>
     requires { length places.now ≡ length answers.now }
-    ensures with_true { IfOk result (λ found. found.0.items
-        ≡ filled_at odds.now.items places.now answers.now true) }
-    ensures with_false { IfOk result (λ found. found.1.items
-        ≡ filled_at odds.now.items places.now answers.now false) }
+    ensures with_true { OnOk result
+        (with_true.new.items ≡ filled_at odds.now places.now answers.now true) }
+    ensures with_false { OnOk result
+        (with_false.new.items ≡ filled_at odds.now places.now answers.now false) }
 {
-    let mut with_true = Vec::with_capacity(alloc, places.len())?;
-    let mut with_false = Vec::with_capacity(alloc, places.len())?;
+    with_true.clear();
+    with_false.clear();
+    with_true.reserve(places.len())?;
+    with_false.reserve(places.len())?;
     for (place, answer) in places.iter().zip(answers) {
         let odd = odds.get(*place).copied().unwrap_or(false);
         with_true.push(answer.unwrap_or(!odd))?;
         with_false.push(answer.unwrap_or(odd))?;
     }
-    Ok((with_true, with_false))
+    Ok(())
 }
 
-/// What `Expression::decide` answers.
+/// What `Expression::decide` answers, in the memory of an earlier decision.
 ///
 /// The error is that `alloc` refused memory.
 pub(crate) fn decide<A: SmallAllocator>(
     alloc: A,
-    parsed: &Parsed<A>,
+    parsed: &ParsedRef<'_>,
     answers: &[Option<bool>],
+    earlier: Decision<A>,
 ) -> Result<Decision<A>, AllocError>
     requires { AreAnswersTo answers.now parsed.now }
     ensures one { HasOneTree parsed.now }
@@ -126,8 +145,12 @@ pub(crate) fn decide<A: SmallAllocator>(
     match evaluating::value_over(alloc, parsed, answers)? {
         Some(value) => Ok(Decision::Known(value)),
         None => {
-            let odds = parities(alloc, parsed.nodes())?;
-            let (if_true, if_false) = fillings(alloc, &odds, parsed.places(), answers)?;
+            let mut ahead = SmallVec::new(&alloc);
+            let mut odds = SmallVec::new(&alloc);
+            parities(parsed.nodes(), &mut ahead, &mut odds)?;
+            let (mut if_true, mut if_false) = room_of(alloc, earlier);
+            let odds = odds.as_slice();
+            fill(&mut if_true, &mut if_false, odds, parsed.places(), answers)?;
             Ok(Decision::Unknown { if_true, if_false })
         }
     }

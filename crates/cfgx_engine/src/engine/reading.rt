@@ -11,8 +11,8 @@ use std::alloc::{AllocError, Allocator, Global};
 /// The most bytes that an input may have: 16 MiB.
 const LIMIT: usize = 16_777_216;
 
-/// The room for the first bytes.
-const FIRST_ROOM: usize = 65_536;
+/// How much room is made at once. It is cleared, so it is no more than a pipe gives in one read.
+const ROOM: usize = 65_536;
 
 /// An input that was read to its end, or is too long.
 #[derive(Drop)]
@@ -43,8 +43,7 @@ impl From<AllocError> for Stop {
     }
 }
 
-/// Makes room after the bytes that were read, twice as much as there is, if none is left. It
-/// answers whether memory was found.
+/// Makes room after the bytes that were read, if none is left. It answers whether memory was found.
 fn make_room<A: Allocator>(bytes: &mut Vec<u8, A>, filled: usize) -> bool
     requires { IsRoom bytes.old.items filled }
     ensures { IsTrue result → (filled < length bytes.new.items)
@@ -54,7 +53,7 @@ fn make_room<A: Allocator>(bytes: &mut Vec<u8, A>, filled: usize) -> bool
     if filled < bytes.len() {
         return true;
     }
-    let len = (2 * bytes.len()).clamp(FIRST_ROOM, LIMIT + 1);
+    let len = (bytes.len() + ROOM).min(LIMIT + 1);
     bytes.resize(len, 0).is_ok()
 }
 

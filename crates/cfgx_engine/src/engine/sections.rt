@@ -9,15 +9,18 @@ ghost use Rattle.cfgx_engine.specs.EngineAnswer.{line_view, output_of};
 ghost use Rattle.cfgx_engine.specs.Input.{input_limit};
 ghost use Rattle.cfgx_engine.specs.Output.{answer_on, faulty_output};
 ghost use Rattle.cfgx_engine.specs.Sections.{PrintsLine, PrintsLines, digits, filling_line};
-ghost use Rattle.cfgx_engine.specs.Sections.{line_fault, line_of, lines_of};
+ghost use Rattle.cfgx_engine.specs.Sections.{is_tab, line_fault, line_of, lines_of};
+ghost use Rattle.std.specs.List.{position_or_len};
 
 use super::answer::Answer;
-use crate::resolve::decide_on;
+use crate::resolve::decide_borrowed;
+use cfg_expr::Decision;
 use cfg_expr::error::Failure;
+use cfg_expr::expr::{Condition, ConditionReader};
 use cfg_expr::memory::SmallAllocator;
 use cfg_expr::targets::TargetInfo;
-use cfg_expr::{Decision, Expression};
 use std::alloc::{AllocError, Allocator};
+use std::mem;
 
 /// Why a line prints nothing.
 #[derive(Drop)]
@@ -57,16 +60,29 @@ fn without_return(text: &str) -> &str
     }
 }
 
-/// What a line says.
+/// How many bytes stand before the first tab.
+fn name_len(bytes: &[u8]) -> usize
+    ensures len { result ≡ position_or_len is_tab bytes.now }
+    ensures few { result ≤ length bytes.now }
+{
+    bytes.iter().take_while(|byte| **byte != b'\t').count()
+}
+
+/// What a line says. Names are short: to look at their bytes one by one takes half the steps of
+/// `split_once`.
 fn read_line(text: &str) -> Line<'_>
     ensures { line_view result ≡ line_of text.now }
 {
     if text.is_empty() {
         return Line::Empty;
     }
-    match text.split_once('\t') {
-        Some((name, condition)) => Line::Section { name, condition },
-        None => Line::Undivided,
+    let len = name_len(text.as_bytes());
+    if len == text.len() {
+        return Line::Undivided;
+    }
+    Line::Section {
+        name: &text[..len],
+        condition: &text[len + 1..],
     }
 }
 
@@ -116,21 +132,33 @@ fn push_decision<A: Allocator>(
     Ok(())
 }
 
-/// Adds what a section prints. The answers of the target to its predicates are put into `answers`.
+/// Memory that each section uses again.
+#[derive(Drop)]
+struct Room<A: Allocator> {
+    /// What the target answers to the predicates of the last section
+    answers: Vec<Option<bool>, A>,
+    /// What was decided of it
+    decision: Decision<A>,
+}
+
+/// Adds what a section prints.
 fn push_section<A: SmallAllocator>(
     alloc: A,
     row: &TargetInfo<'_, A>,
     name: &str,
-    condition: &Expression<A>,
-    answers: &mut Vec<Option<bool>, A>,
+    condition: &Condition<'_>,
+    room: &mut Room<A>,
     written: &mut Vec<u8, A>,
 ) -> Result<(), AllocError>
     ensures { OnOk result (AddsVerdict row.now condition.now (written.old.items ++ name.now)
         written.new.items) }
 {
-    let decision = decide_on(alloc, condition, row, answers)?;
+    let earlier = mem::replace(&mut room.decision, Decision::Known(false));
+    let answers = &mut room.answers;
+    let decision = decide_borrowed(alloc, condition, row, answers, earlier)?;
     written.extend_from_slice(name.as_bytes())?;
-    push_decision(&decision, written)
+    room.decision = decision;
+    push_decision(&room.decision, written)
 }
 
 /// The message of the line with this number, whose condition is not read for this reason.
@@ -149,12 +177,13 @@ fn told_failure<A: Allocator>(
 }
 
 /// Adds what the line with this number prints.
-fn push_line<A: SmallAllocator>(
+fn push_line<'a, A: SmallAllocator>(
     alloc: A,
     row: &TargetInfo<'_, A>,
     number: usize,
-    line: Line<'_>,
-    answers: &mut Vec<Option<bool>, A>,
+    line: Line<'a>,
+    conditions: &mut ConditionReader<'a, A>,
+    room: &mut Room<A>,
     written: &mut Vec<u8, A>,
 ) -> Result<(), LineError<A>>
     ensures ok { OnOk result (AddsLine (answer_on row.now) number (line_view line.entry)
@@ -168,8 +197,8 @@ fn push_line<A: SmallAllocator>(
             let told = format!(in alloc; "line {number}: no tab\n")?;
             Err(LineError::Faulty(told))
         }
-        Line::Section { name, condition } => match Expression::parse(alloc, condition) {
-            Ok(condition) => Ok(push_section(alloc, row, name, &condition, answers, written)?),
+        Line::Section { name, condition } => match conditions.read(condition) {
+            Ok(condition) => Ok(push_section(alloc, row, name, &condition, room, written)?),
             Err(failure) => Err(LineError::Faulty(told_failure(alloc, number, failure)?)),
         },
     }
@@ -187,13 +216,25 @@ fn push_lines<A: SmallAllocator>(
     ensures err { IfErr result (Tells (λ told. PrintsLines (answer_on row.now)
         (map line_of (lines_of text.now)) (faulty_output told))) }
 {
-    let mut answers = Vec::new(alloc);
+    let mut conditions = ConditionReader::new(alloc);
+    let mut room = Room {
+        answers: Vec::new(alloc),
+        decision: Decision::Known(false),
+    };
     let mut written = Vec::new(alloc);
     let mut number = 0;
     for text in text.split('\n') {
         number += 1;
         let line = read_line(without_return(text));
-        push_line(alloc, row, number, line, &mut answers, &mut written)?;
+        push_line(
+            alloc,
+            row,
+            number,
+            line,
+            &mut conditions,
+            &mut room,
+            &mut written,
+        )?;
     }
     Ok(written)
 }

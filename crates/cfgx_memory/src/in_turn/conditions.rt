@@ -1,5 +1,6 @@
 //! Conditions that are read, copied and evaluated.
 use super::decisions::{is_audited, is_decided, is_decided_on};
+use super::reading::is_read;
 use super::runs::is_run_in_turns;
 use super::{Finding, Made};
 use cfg_expr::error::{Failure, ParseError};
@@ -110,8 +111,11 @@ fn a_refused_growth_ends_the_lexer(rt: HostRuntime) {
     assert!(rt; is_refused_in_turns(rt.alloc(), |heap| lexes(heap)));
 }
 
-// Whether the faults are equal.
-fn are_same<A: SmallAllocator>(error: &ParseError<A>, fault: &ParseError) -> bool {
+/// Whether the faults are equal.
+pub(super) fn are_same<A: SmallAllocator, B: SmallAllocator>(
+    error: &ParseError<A>,
+    fault: &ParseError<B>,
+) -> bool {
     error.original.as_str() == fault.original.as_str()
         && error.span == fault.span
         && error.reason == fault.reason
@@ -145,6 +149,7 @@ fn answer_after<A: SmallAllocator>(alloc: A, call: &str, read: &Read<A>, plain: 
 // What the call answers for a text, of which this was read with memory.
 fn answer_to<A: SmallAllocator>(alloc: A, call: &str, text: &str, plain: &Read) -> Finding {
     let read = match call {
+        "read" => return is_read(alloc, text, plain),
         "from_str" => Expression::from_str(alloc, text),
         _ => parsed(alloc, text),
     };
@@ -346,10 +351,13 @@ fn is_copied_once(alloc: Global, text: &str, plain: &Read) -> bool {
     holds(answer_to(&heap, "try_clone", text, plain)) && has_every_block(heap)
 }
 
-// Whether each growth of each of the calls, and of runs over the text, is refused in turn.
+// Whether each growth of each of the calls, of a reader, and of runs over the text, is refused in
+// turn.
 fn is_run(alloc: Global, calls: &str, text: &str, plain: &Read) -> bool {
     let status = if plain.is_ok() { 0 } else { 1 };
-    are_refused(alloc, calls, text, plain) && runs_are_refused(alloc, text, status)
+    are_refused(alloc, calls, text, plain)
+        && growths_of(alloc, "read", text, plain).is_some()
+        && runs_are_refused(alloc, text, status)
 }
 
 // What is called with a text of the last kind.

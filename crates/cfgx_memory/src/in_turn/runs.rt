@@ -57,8 +57,8 @@ pub(super) fn is_run_in_turns(alloc: Global, words: &[&str], status: u8) -> bool
     ended == status && growths_of(alloc, words, &("", status, sink.bytes.as_slice())) > 0
 }
 
-// How a run is made, its status, and its words, or for `pick` on the simulator its input and what
-// is written of it.
+// How a run is made, its status, and its words. For `pick` on the simulator: the input of a run and
+// what it writes. For `pick alike`: these of two runs that take as many growths.
 const RUNS: &str = r#"
 in turns | 1 | parse | \e
 in turns | 0 | eval | a
@@ -85,6 +85,13 @@ pick | 0 | m\tany(not(feature = "x"), target_os = "linux", test)\
  | m\tunknown\n\ttrue with 001\n\tfalse with 100\n
 pick | 0 | \u{e9}\ttrue\r\n\r\n | \u{e9}\tyes\n
 pick | 0 | \e | \e
+// A line takes no memory if one as long was read before and the output has room. The first name has
+// 20 bytes, so the block of the output has 20 and then 40, and all lines write 34.
+pick alike | 0 | ~n~20~\tall(a, b, c, d, e, not(any(not(f))), windows)\n\
+ | ~n~20~\tno\n\
+ | ~n~20~\tall(a, b, c, d, e, not(any(not(f))), windows)\n\
+b\tall(a, b, c, d, e, not(any(not(f))), windows)\nc\twindows\n\
+ | ~n~20~\tno\nb\tno\nc\tno\n
 // With no memory at all, the status of wrong use is the same.
 without | 2
 without | 2 | parse
@@ -119,6 +126,11 @@ fn is_right(alloc: Global, made: &str, status: u8, words: &[&str]) -> bool {
         ("pick", [input, written]) => {
             growths_of(alloc, &["pick", SIM], &(*input, status, written.as_bytes())) > 0
         }
+        ("pick alike", [input, written, longer, more]) => {
+            let growths = growths_of(alloc, &["pick", SIM], &(*input, status, written.as_bytes()));
+            let others = growths_of(alloc, &["pick", SIM], &(*longer, status, more.as_bytes()));
+            growths > 0 && growths == others
+        }
         ("without", _) => is_without(alloc, words, status),
         _ => false,
     }
@@ -137,5 +149,5 @@ fn is_row(alloc: Global, fields: &[String]) -> bool {
 #[test]
 fn each_growth_of_each_run_is_refused(rt: HostRuntime) -> Result<(), String> {
     let alloc = rt.alloc();
-    check_rows(alloc, RUNS, 29, |row| is_row(alloc, row))
+    check_rows(alloc, RUNS, 30, |row| is_row(alloc, row))
 }

@@ -3,8 +3,9 @@
 //! A function takes the heap that it has refuse, and as any allocator what it calls with. Both are
 //! the same, but a function of any allocator is shorter to prove than one of this heap.
 use crate::in_turn::conditions::{Read, ask_alike, called, parsed};
+use crate::in_turn::reading::reads;
 use cfg_expr::expr::logic::Kleene64;
-use cfg_expr::expr::{Logic, Predicates, spell};
+use cfg_expr::expr::{ConditionReader, Logic, Predicates, spell};
 use cfg_expr::memory::SmallAllocator;
 use cfg_expr::targets::{TargetInfo, TargetTable};
 use cfg_expr::{Expression, Predicate, TargetPredicate};
@@ -38,6 +39,21 @@ fn compares<A: SmallAllocator>(heap: Heap<'_>, alloc: A, text: &str, wanted: (bo
     let one = read(heap, alloc, TEXT);
     let other = read(heap, alloc, text);
     are_equal(&one, &other) == Some(wanted)
+}
+
+// A text for which a reader takes a block for each of its four vectors.
+const LONG: &str = "all(a, b, c, d, e, not(any(not(f))))";
+
+// Whether a reader that has read `LONG` reads the text, and then `LONG` again, with every growth
+// refused.
+fn is_read_again<A: SmallAllocator>(heap: Heap<'_>, alloc: A, text: &str) -> bool {
+    let long = read(heap, alloc, LONG);
+    let short = read(heap, alloc, text);
+    let mut reader = ConditionReader::new(alloc);
+    heap.refuse(0);
+    let is_read = holds(reads(&mut reader, LONG, &long));
+    heap.refuse(EVERY);
+    is_read && holds(reads(&mut reader, text, &short)) && holds(reads(&mut reader, LONG, &long))
 }
 
 // Adds the spelling of the next predicate.
@@ -107,14 +123,17 @@ fn is_asked_of<A: SmallAllocator>(heap: Heap<'_>, alloc: A, text: &str) -> bool 
 
 const TEXT: &str = "all(a, any(b), feature = \"a feature with a long name\")";
 
-// Checks of expressions, and texts. The first five are compared with `TEXT`, and what is evaluated
-// has 31 or 32 bytes.
+// Checks of expressions, and texts. The first five are compared with `TEXT`, what is read again is
+// read after `LONG`, and what is evaluated has 31 or 32 bytes.
 const ASKED: &str = r#"
 text | all(a, any(b), feature = "a feature with a long name")
 predicates | all(a, any(b), feature = "a feature with a long name")
 equal | all(a, any(b), feature = "a feature with a long name")
 one comma more | all(a, any(b), feature = "a feature with a long name"),
 other predicates | all(a, any(b), c)
+read again | a
+read again | cfg(all(any(a, b), not(key = "v")))
+read again | any()
 of the fourth | target_abi = "sim"
 spelling | target_has_atomic = "+00128"
 eval | any(a,a,a,a,a,a,a,a,a,a,a,a,a,a)
@@ -130,7 +149,11 @@ const SPELLINGS: &str = "bafeature = \"a feature with a long name\"";
 // Whether the check holds of the expression.
 fn answers<A: SmallAllocator>(out: Global, alloc: A, check: &str, asked: &Expression<A>) -> bool {
     match check {
-        "text" => asked.original() == TEXT && prints(out, asked, TEXT),
+        "text" => {
+            asked.original() == TEXT
+                && asked.condition().original() == TEXT
+                && prints(out, asked, TEXT)
+        }
         "predicates" => are_spelled(out, asked.predicates(), &[3, 2, 1], SPELLINGS),
         "spelling" => are_spelled(out, asked.predicates(), &[1], "target_has_atomic = \"128\""),
         call => holds(called(alloc, call, asked)),
@@ -147,6 +170,7 @@ fn is_row(alloc: Global, heap: Heap<'_>, check: &str, text: &str) -> bool {
         "one comma more" => compares(heap, heap, text, (false, true)),
         "other predicates" => compares(heap, heap, text, (false, false)),
         "of the fourth" => is_asked_of(heap, heap, text),
+        "read again" => is_read_again(heap, heap, text),
         _ => is_right(alloc, heap, check, read(heap, heap, text)),
     }
 }
@@ -158,7 +182,7 @@ fn conditions_take_no_memory(rt: HostRuntime) -> Result<(), String> {
     check_pairs(
         alloc,
         ASKED,
-        13,
+        16,
         |check, text| is_row(alloc, &heap, check, text),
     )?;
     assert!(rt; has_every_block(heap));

@@ -67,6 +67,7 @@ fn shown(alloc: Global, nodes: &[ExprNode], places: &[usize]) -> Result<String, 
 /// Whether the parser leaves these for the text.
 pub(super) fn leaves(alloc: Global, text: &str, wanted: &str) -> Result<bool, Failure> {
     let parsed = parse(alloc, text)?;
-    let shown = shown(alloc, parsed.nodes(), parsed.places())?;
+    let borrowed = parsed.as_ref();
+    let shown = shown(alloc, borrowed.nodes(), borrowed.places())?;
     Ok(shown.as_str().trim_start() == wanted)
 }

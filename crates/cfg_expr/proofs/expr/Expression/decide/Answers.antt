@@ -1,23 +1,8 @@
--- The text has one tree, whose three values are exact.
-use Rattle.std.proofs.{Common.◌∙◌, Common.ap, Common.length, lemmas.Result.IfOk-weaker}
-use Rattle.cfgx_grammar.specs.Tree.{asked}
-use Rattle.cfgx_grammar.proofs.{Answering.only_tree, Exactness.IsExact-fold}
+-- The borrowed condition is seen as the expression is.
 use Rattle.cfg_expr.proofs.expr.Expression.decide.Goals as goal
 
 pub returns-clause-exact : goal.returns-clause-exact
-returns-clause-exact g c =
-    let one = rw c.self.view_is at c.decide.ensures.one in
-    (one, IsExact-fold one.tree)
+returns-clause-exact g c = rw c.condition.ensures at c.decide.ensures.exact
 
 pub returns-clause-decision : goal.returns-clause-decision
-returns-clause-decision g c =
-    let given = c.requires in
-    IfOk-weaker c.decide.result _ _ (λ decision decided.
-    let same = only_tree decided.0 given.0 given.1 in (
-      decided.0,
-      record {
-        is = decided.1;
-        exact = IsExact-fold decided.0.tree c.args.answers.now
-            (given.2 ∙ ap (λ tree. length (asked tree)) same);
-      },
-    )) (rw c.self.view_is at c.decide.ensures.decision)
+returns-clause-decision g c = rw c.condition.ensures at c.decide.ensures.decision

@@ -6,11 +6,11 @@ use Rattle.cfg_expr.proofs.expr.Expression.eval_lanes.Goals as goal
 
 pub returns-clause-lanes : goal.returns-clause-lanes
 returns-clause-lanes g c =
-    let one = rw c.self.view_is at c.value_over.ensures.one in
+    let one = rw (c.as_ref.ensures, c.self.view_is) at c.value_over.ensures.one in
     (one, λ given disjoint many. IsByLane-fold one.tree given disjoint)
 
 pub returns-clause-value : goal.returns-clause-value
-returns-clause-value g c = rw (sym c.self.view_is) (IfOk-weaker c.value_over.result _ _
+returns-clause-value g c = rw (sym c.self.view_is, ← c.as_ref.ensures) (IfOk-weaker c.value_over.result _ _
     (λ value found. (
       found.0,
       found.1,

@@ -1,5 +1,5 @@
--- What is kept of the text is seen as the expression is.
+-- The borrowed condition is seen as the expression is.
 use Rattle.cfg_expr.proofs.expr.Expression.predicates.Goals as goal
 
 pub returns-clause-asked : goal.returns-clause-asked
-returns-clause-asked g c = rw c.self.view_is at c.predicates.ensures.asked
+returns-clause-asked g c = rw c.condition.ensures at c.predicates.ensures.asked

@@ -10,7 +10,7 @@ returns-clause-value g c =
     let found = c.places.ensures in
     let given = c.requires in
     let many = given.2 ∙ ap (λ tree. length (asked tree)) (only_tree found.0 given.0 given.1) in
-    let blank = c.as_mut_slice-slots.ensures.value ∙ c.in_ok-answers.ensures.slots in (
+    let blank = c.as_mut_slice-slots.ensures.value ∙ c.in_ok-add_slots.ensures.slots in (
       found.0,
       c.read_value.ensures found.0.tree c.args.given.now
           (shapes-kept c.nodes-nodes.result.now c.nodes-nodes.ensures.nodes found.0) many

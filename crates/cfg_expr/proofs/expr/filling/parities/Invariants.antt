@@ -1,9 +1,10 @@
--- The rest of the pass leaves what the whole pass leaves.
-use Rattle.std.proofs.Common.{◌≡◌, [], ◌∷◌, drop, false, map}
+-- The rest of the pass finds what the whole pass finds.
+use Rattle.std.proofs.Common.{◌≡◌, ◌++◌, ◌∷◌, drop, false, map, reverse}
 use Rattle.cfgx_parser.specs.nodes.Shape.{shape}
 use Rattle.cfg_expr.specs.nodes.Parity.{pass}
 use Rattle.cfg_expr.proofs.expr.filling.parities.Given as goal
 
 abbrev pub invariant-loop-node : goal.invariant-loop-node
-invariant-loop-node g l = pass (map shape (drop l.node-index l.nodes)) l.queue.items
-    ≡ pass (map shape l.nodes) (false ∷ [])
+invariant-loop-node g l =
+    l.found.items ++ pass (map shape (drop l.node-index l.nodes)) (reverse l.ahead.items)
+    ≡ l.fn.found.items ++ pass (map shape l.nodes) (false ∷ reverse l.fn.ahead.items)

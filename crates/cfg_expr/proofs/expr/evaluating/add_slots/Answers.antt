@@ -1,7 +1,7 @@
 -- There is room for one more place, while fewer than all are held.
 use Rattle.std.proofs.Common.{◌∙◌, ap, arith, length, rules}
 use Rattle.std.proofs.lemmas.List.{length-replicate}
-use Rattle.cfg_expr.proofs.expr.evaluating.no_answers.Goals as goal
+use Rattle.cfg_expr.proofs.expr.evaluating.add_slots.Goals as goal
 
 pub push_reserved-requires : goal.push_reserved-requires
 push_reserved-requires g c =

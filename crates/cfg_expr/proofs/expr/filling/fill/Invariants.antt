@@ -1,13 +1,13 @@
 -- The answers that are left give the rest of both fillings.
 use Rattle.std.proofs.Common.{◌≡◌, ◌++◌, false, length, true}
 use Rattle.cfg_expr.specs.nodes.Parity.{filled_at}
-use Rattle.cfg_expr.proofs.expr.filling.fillings.Given as goal
+use Rattle.cfg_expr.proofs.expr.filling.fill.Given as goal
 
 abbrev pub invariant-loop-place : goal.invariant-loop-place
 invariant-loop-place g l =
     let places = l.place-iterator.a.rest.now in let answers = l.place-iterator.b.rest.now in
     (length places ≡ length answers)
-    × (l.with_true.items ++ filled_at l.odds.items places answers true
-    ≡ filled_at l.odds.items l.places l.answers true)
-    × (l.with_false.items ++ filled_at l.odds.items places answers false
-    ≡ filled_at l.odds.items l.places l.answers false)
+    × (l.with_true.items ++ filled_at l.odds places answers true
+    ≡ filled_at l.odds l.places l.answers true)
+    × (l.with_false.items ++ filled_at l.odds places answers false
+    ≡ filled_at l.odds l.places l.answers false)

@@ -1,0 +1,108 @@
+//! Conditions that are borrowed: those of expressions, and those that are read one after another.
+ghost use Rattle.std.specs.Prelude.{◌≡◌, Bool, List, Option, length, IfOk};
+ghost use Rattle.cfgx_syntax.specs.Stripping.{strip};
+ghost use Rattle.std.specs.List.{AllByRecursion};
+ghost use Rattle.cfgx_grammar.specs.Given.{AreAnswersTo};
+ghost use Rattle.cfgx_grammar.specs.Answer.{Answers, HasOneTree};
+ghost use Rattle.cfg_expr.specs.Deciding.{Decides};
+ghost use Rattle.cfgx_grammar.specs.Filling.{IsExact};
+ghost use Rattle.cfgx_grammar.specs.Tree.{asked};
+ghost use Rattle.cfgx_grammar.specs.WellFormed.{IsWellFormed};
+
+use super::{Decision, filling};
+use crate::error::Failure;
+use crate::memory::SmallAllocator;
+use cfgx_parser::parsed::{ParsedRef, TextReader};
+use cfgx_parser::predicates::Predicates;
+use std::alloc::{AllocError, Global};
+use std::marker::Model;
+
+/// A condition whose text and nodes are borrowed, from an `Expression` or a `ConditionReader`.
+/// Contracts see it as its stripped text.
+#[derive(Drop)]
+pub struct Condition<'a> {
+    parsed: ParsedRef<'a>,
+}
+
+impl<'a> Model for Condition<'a> {
+    ghost use Rattle.std.specs.Prelude.{List, ℕ};
+
+    ghost Value = { List ℕ };
+
+    ghost view = { λ c. c.parsed };
+}
+
+impl<'a> Condition<'a> {
+    /// The condition of a text that was read.
+    pub(super) fn new(parsed: ParsedRef<'a>) -> Self
+        ensures { result ≡ parsed.entry }
+    {
+        Condition { parsed }
+    }
+
+    /// The text that was read, without the outer `cfg( )`. Spans count its bytes.
+    pub fn original(&self) -> &'a str
+        ensures { result.now ≡ self.now }
+    {
+        self.parsed.original()
+    }
+
+    /// The predicates in the order in which they are asked, as those of an `Expression`.
+    pub fn predicates(&self) -> Predicates<'a>
+        ensures asked { (one : HasOneTree self.now) × (result ≡ asked one.tree) }
+        ensures well_formed { AllByRecursion IsWellFormed result }
+    {
+        self.parsed.predicates()
+    }
+
+    /// Whether the answers decide the condition, as `Expression::decide` says.
+    ///
+    /// The decision takes over the memory of an earlier one, for which `Decision::Known(false)`
+    /// does the first time.
+    ///
+    /// # Errors
+    ///
+    /// `AllocError`: `alloc` refused memory.
+    pub fn decide<A: SmallAllocator>(
+        &self,
+        alloc: A,
+        answers: &[Option<bool>],
+        earlier: Decision<A>,
+    ) -> Result<Decision<A>, AllocError>
+        requires { AreAnswersTo answers.now self.now }
+        // This holds of all answers to the text's one tree, also if the call is out of memory.
+        ensures exact { (one : HasOneTree self.now) × ((given : List (Option Bool))
+            → length given ≡ length (asked one.tree) → IsExact one.tree given) }
+        ensures decision { IfOk result (λ decision. (one : HasOneTree self.now)
+            × Decides one.tree answers.now decision) }
+    {
+        filling::decide(alloc, &self.parsed, answers, earlier)
+    }
+}
+
+/// Reads one condition after another, each in the memory of the one before. So it takes memory for
+/// a condition that needs more room than those before it, and for the text of a fault.
+#[derive(Drop)]
+pub struct ConditionReader<'a, A: SmallAllocator = Global> {
+    texts: TextReader<'a, A>,
+}
+
+impl<'a, A: SmallAllocator> ConditionReader<'a, A> {
+    /// A reader that has read nothing. It takes no memory.
+    pub fn new(alloc: A) -> Self {
+        ConditionReader {
+            texts: TextReader::new(alloc),
+        }
+    }
+
+    /// The condition of a text, which may stand in `cfg( )`. It lasts until the next one is read,
+    /// and borrows the text.
+    ///
+    /// The error is the first fault of the text, or that the allocator refused memory. Either way
+    /// the next text can be read.
+    pub fn read(&mut self, original: &'a str) -> Result<Condition<'_>, Failure<A>>
+        ensures { Answers (strip original.now) result }
+    {
+        Ok(Condition::new(self.texts.read(original)?))
+    }
+}

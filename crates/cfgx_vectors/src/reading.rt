@@ -1,0 +1,45 @@
+//! The texts of a file, which one reader reads one after another as parsing reads each of them.
+//! Each field of each row is such a text, without the marks of the answers of the Rust crate. A
+//! reader borrows its texts, so they are kept to the end of the file.
+use cfg_expr::Expression;
+use cfg_expr::error::Failure;
+use cfg_expr::expr::{Condition, ConditionReader};
+use std::alloc::{AllocError, Global};
+
+/// Adds the texts of a row.
+pub(crate) fn push_texts(
+    alloc: Global,
+    texts: &mut Vec<String>,
+    row: &[String],
+) -> Result<(), AllocError> {
+    for text in row {
+        texts.push(text.replace(alloc, "^", "")?)?;
+    }
+    Ok(())
+}
+
+// Whether reading and parsing a text give the same predicates of the same stripped text, or the
+// same fault.
+fn are_alike(read: &Result<Condition<'_>, Failure>, parsed: &Result<Expression, Failure>) -> bool {
+    match (read, parsed) {
+        (Ok(condition), Ok(expression)) => condition.original() == expression.original()
+            && condition.predicates().eq(expression.predicates()),
+        (Err(one), Err(other)) => one == other,
+        _ => false,
+    }
+}
+
+/// How many of the texts one reader reads as parsing does: all of them, or those in front of the
+/// first that it reads otherwise.
+pub(crate) fn read_alike(alloc: Global, texts: &[String]) -> usize {
+    let mut reader = ConditionReader::new(alloc);
+    let mut count = 0usize;
+    for text in texts {
+        let text = text.as_str();
+        if !are_alike(&reader.read(text), &Expression::parse(alloc, text)) {
+            return count;
+        }
+        count = count.saturating_add(1);
+    }
+    count
+}
