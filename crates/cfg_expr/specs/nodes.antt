@@ -1,5 +1,5 @@
--- How the nodes that a `Parsed` gives are evaluated and filled. Internal: no public contract names
--- it.
+-- How the nodes that a `ParsedRef` gives are evaluated and filled. Internal: no public contract
+-- names it.
 pub mod AnswerSlots
 pub mod Parity
 pub mod Reading

@@ -85,8 +85,7 @@ fn answer_each<A: SmallAllocator, M: TargetMatcher>(
     Ok(())
 }
 
-/// What `decide_on` answers for a condition that is only borrowed, in the memory of an earlier
-/// decision.
+/// `decide_on` for a borrowed condition, which may reuse the memory of an earlier decision.
 pub(crate) fn decide_borrowed<A: SmallAllocator, M: TargetMatcher>(
     alloc: A,
     condition: &Condition<'_>,

@@ -1,4 +1,4 @@
-//! The nodes in which a `Parsed` keeps its tree.
+//! The nodes in which a `Parsed` or a `ParsedRef` keeps its tree.
 ghost use Rattle.std.specs.Prelude.{◌≡◌, ◌≤◌, ◌-◌, length, OnErr, OnOk, IfOk};
 
 use crate::function::Func;

@@ -163,7 +163,8 @@ impl<'a, A: SmallAllocator> TextReader<'a, A> {
         }
     }
 
-    /// Reads a text, which may stand in `cfg( )`. What it says lasts until the next text is read.
+    /// Reads a text, which may stand in `cfg( )`. The result can be used until the next text is
+    /// read.
     ///
     /// The error is the first fault of the text, or that the allocator refused memory. Either way
     /// the reader can read the next text.

@@ -247,7 +247,7 @@ impl<'a, A: SmallAllocator> Parser<'a, A> {
         }
     }
 
-    /// Makes room that is not inline: what is inline is cleared before each text, and where a
+    /// Makes room that is not inline: what is inline is overwritten before each text, and where a
     /// function ends.
     #[cold]
     #[inline(never)]

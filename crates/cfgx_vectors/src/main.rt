@@ -1,6 +1,7 @@
 //! Checks the rows of the files that its arguments name: of the rules of texts, of the answers of
 //! the Rust crate, and of the program `cfgx`. It prints each wrong row, how many rows and fields
-//! each table has, and how many of the fields of a file one reader reads as parsing does: all.
+//! each table has, and how many fields of each file one reader reads as `parse` does, which has to
+//! be all of them.
 #![tactic(auto)]
 
 mod program;

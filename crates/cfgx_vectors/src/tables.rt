@@ -94,6 +94,7 @@ impl Tables {
         self.fields = 0;
         Ok(())
     }
+
     // Tells how many texts are read alike.
     fn end_file(&mut self, alloc: Global) -> Result<(), AllocError> {
         let count = read_alike(alloc, self.texts.as_slice());

@@ -57,8 +57,8 @@ impl<'a> Condition<'a> {
 
     /// Whether the answers decide the condition, as `Expression::decide` says.
     ///
-    /// The decision takes over the memory of an earlier one, for which `Decision::Known(false)`
-    /// does the first time.
+    /// It consumes an earlier decision, or `Decision::Known(false)` if there is none. If the value
+    /// is unknown, the new fillings reuse the memory of the earlier ones.
     ///
     /// # Errors
     ///
@@ -80,8 +80,8 @@ impl<'a> Condition<'a> {
     }
 }
 
-/// Reads one condition after another, each in the memory of the one before. So it takes memory for
-/// a condition that needs more room than those before it, and for the text of a fault.
+/// Reads one condition after another and reuses its memory. Only the first text, one that needs
+/// more room than each before it, and a faulty one take memory.
 #[derive(Drop)]
 pub struct ConditionReader<'a, A: SmallAllocator = Global> {
     texts: TextReader<'a, A>,

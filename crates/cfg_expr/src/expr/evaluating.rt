@@ -481,8 +481,8 @@ fn add_slots<T: Logic, A: Allocator>(
     Ok(())
 }
 
-/// Slots without answers, for so many places. For long texts this takes fewer steps than
-/// `add_slots`, and for short ones more, since the inline room is moved.
+/// Slots without answers, for this many places. `eval` makes them so: for long texts this takes
+/// fewer steps than `add_slots`, and for short ones more, since the inline room is moved.
 fn slots_of<T: Logic, A: Allocator>(
     alloc: &A,
     count: usize,

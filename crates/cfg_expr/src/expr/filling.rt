@@ -2,10 +2,10 @@
 //! fillings with which the condition is true and false.
 //!
 //! One pass over the nodes finds which predicates stand below an odd number of `not`. A stack says
-//! of each tree that is still to come whether it does, with the next one on top: a node takes its
-//! own off, and puts on what holds of its members. A tree has at least one node, so the stack holds
-//! no more than one value for each node. Like what is found, it takes no memory for 33 nodes or
-//! fewer.
+//! of each tree that is still to come whether it does, with the next one on top. The pass pops the
+//! value of each node, and pushes one for each of its members. A tree has at least one node, so the
+//! stack holds no more than one value for each node. Neither the stack nor the result takes memory
+//! for up to 33 nodes.
 ghost use Rattle.std.specs.Prelude.{◌≡◌, ◌++◌, ◌∷◌, true, false, [], length, map};
 ghost use Rattle.std.specs.Prelude.{replicate, reverse, List, IfOk, OnOk};
 ghost use Rattle.cfgx_grammar.specs.Given.{AreAnswersTo};

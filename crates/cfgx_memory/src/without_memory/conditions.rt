@@ -41,7 +41,7 @@ fn compares<A: SmallAllocator>(heap: Heap<'_>, alloc: A, text: &str, wanted: (bo
     are_equal(&one, &other) == Some(wanted)
 }
 
-// A text for which a reader takes a block for each of its four vectors.
+// A text with more nodes than a reader makes room for at first.
 const LONG: &str = "all(a, b, c, d, e, not(any(not(f))))";
 
 // Whether a reader that has read `LONG` reads the text, and then `LONG` again, with every growth

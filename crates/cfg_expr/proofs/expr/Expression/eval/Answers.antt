@@ -4,5 +4,6 @@ use Rattle.cfg_expr.proofs.Chains.{Evaluates-by}
 use Rattle.cfg_expr.proofs.expr.Expression.eval.Goals as goal
 
 pub returns-clause-by : goal.returns-clause-by
-returns-clause-by g c = rw (sym c.self.view_is, ← c.as_ref.ensures) (IfOk-weaker c.value_of.result _ _
+returns-clause-by g c =
+    rw (sym c.self.view_is, ← c.as_ref.ensures) (IfOk-weaker c.value_of.result _ _
     (λ value evaluates answer_to by. Evaluates-by evaluates answer_to by) c.value_of.ensures.value)

@@ -10,7 +10,8 @@ returns-clause-lanes g c =
     (one, λ given disjoint many. IsByLane-fold one.tree given disjoint)
 
 pub returns-clause-value : goal.returns-clause-value
-returns-clause-value g c = rw (sym c.self.view_is, ← c.as_ref.ensures) (IfOk-weaker c.value_over.result _ _
+returns-clause-value g c =
+    rw (sym c.self.view_is, ← c.as_ref.ensures) (IfOk-weaker c.value_over.result _ _
     (λ value found. (
       found.0,
       found.1,
