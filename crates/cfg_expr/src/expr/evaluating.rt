@@ -540,7 +540,8 @@ where
     ensures short { length parsed.now ≤ 32 → IsOk result }
 {
     let nodes = parsed.nodes();
-    // They stay where they are made: to move the inline room takes as long as to read a short text.
+    // They stay where they are made: moving the inline room takes some forty instructions, a
+    // twentieth of a short line of `cfgx pick`.
     let mut answers = SmallVec::new(&alloc);
     add_slots(&mut answers, nodes.len())?;
     let slots = answers.as_mut_slice();
