@@ -1,5 +1,5 @@
 //! The nodes in which a `Parsed` or a `ParsedRef` keeps its tree.
-ghost use Rattle.std.specs.Prelude.{◌≡◌, ◌≤◌, ◌-◌, length, OnErr, OnOk, IfOk};
+ghost use Rattle.std.specs.Prelude.{◌≡◌, ◌<◌, ◌≤◌, ◌-◌, ◌^◌, length, OnErr, OnOk, IfOk};
 
 use crate::function::Func;
 use cfgx_syntax::memory::SmallAllocator;
@@ -193,17 +193,21 @@ impl<A: SmallAllocator> Writer<A> {
         self.nodes.reserve_exact(room)
     }
 
-    /// Writes a node.
+    /// Writes a node, and answers its place.
     #[inline(always)]
-    fn push(&mut self, node: ExprNode) -> Result<(), AllocError>
+    fn push(&mut self, node: ExprNode) -> Result<usize, AllocError>
+        ensures place { IfOk result (λ place. place ≡ length (written_of self.old).nodes) }
         ensures written { OnOk result (written_of self.new ≡ with_node node (written_of self.old)) }
         ensures refused { OnErr result (written_of self.new ≡ written_of self.old) }
+        ensures countable { OnOk result (length (written_of self.new).nodes < 2 ^ 64) }
     {
-        if self.nodes.len() == self.nodes.capacity() {
+        let place = self.nodes.len();
+        if place == self.nodes.capacity() {
             self.make_room()?;
         }
         self.nodes.push_reserved(node);
-        Ok(())
+        prove!(place < self.nodes.len());
+        Ok(place)
     }
 
     /// Writes a predicate or a literal of the innermost list. A literal is not asked.
@@ -213,8 +217,7 @@ impl<A: SmallAllocator> Writer<A> {
         ensures kept { KeepsNodes (written_of self.old) (written_of self.new) }
     {
         let is_asked = matches!(leaf, ExprNode::Predicate(_));
-        self.push(leaf)?;
-        let place = self.nodes.len() - 1;
+        let place = self.push(leaf)?;
         if is_asked {
             self.leaves.push(place)?;
         }
@@ -230,9 +233,8 @@ impl<A: SmallAllocator> Writer<A> {
             (written_of self.new ≡ with_function (written_of self.old)) }
         ensures kept { KeepsNodes (written_of self.old) (written_of self.new) }
     {
-        self.push(ExprNode::default())?;
-        let node = self.nodes.len() - 1;
         let leaves = self.leaves.len();
+        let node = self.push(ExprNode::default())?;
         Ok(Mark { node, leaves })
     }
 

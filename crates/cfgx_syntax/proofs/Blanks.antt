@@ -1,14 +1,16 @@
 -- ASCII white space in front of a text, and the white space after that.
 use Rattle.std.proofs.Common.{◌≡◌, ℕ, ◌+◌, ◌<◌, true, false, List, [], ◌∷◌, ◌++◌, length, take}
-use Rattle.std.proofs.Common.{drop, get_or, sym, refl, ap, ◌∙◌, subst, arith, add-zero}
+use Rattle.std.proofs.Common.{Some, None, drop, get_or, sym, refl, ap, ◌∙◌, subst, arith, add-zero}
 use Rattle.std.proofs.Common.{length-append, length-drop, take-append-drop}
 use Rattle.std.proofs.{Math.Numerals.one-add, lemmas.List.get_or-drop, lemmas.Bool.cond_both}
 use Rattle.std.proofs.Math.Seq.{take-append-add, drop-append-add}
 use Rattle.std.proofs.lemmas.Str.{NoCharPasses-nil, NoCharPasses-append, encode_ascii}
 use Rattle.std.proofs.lemmas.List.Sums.{prefix_len_stops}
-use Rattle.std.specs.{Char.IsScalar, Char.is_not_whitespace, Char.is_ascii_graphic, List.prefix_len}
+use Rattle.std.specs.{Char.IsScalar, Char.is_not_whitespace, List.prefix_len}
 use Rattle.std.specs.Str.{IsTrimStart, NoCharPasses, EmptyOrStartsWithPassing}
-use Rattle.cfgx_syntax.specs.Lexer.{is_blank}
+use Rattle.cfgx_syntax.specs.Lexer.{BeginsWithClass, is_blank, is_of, may_be_white}
+use Rattle.cfgx_syntax.specs.declared.lexer.bytes.Class.{Class}
+use Rattle.cfgx_syntax.specs.declared.lexer.bytes.Class.TheVariants as class
 
 pub blank-ascii : (c : ℕ) → is_blank c ≡ true → c < 128
 blank-ascii c h = grind arith
@@ -83,7 +85,31 @@ module _ (text bytes rest : List ℕ) (n : ℕ) (len : n ≡ prefix_len is_blank
       rw (is, blanks, get_or-drop, add-zero) (prefix_len_stops is_blank text 0 inside) in
       trim_after rest (IsTrimStart-ascii rest low stops)
 
--- an ASCII character that is printed is no white space
-pub trim_graphic : (text : List ℕ) → is_ascii_graphic (get_or text 0 0) ≡ true
-    → IsTrimStart text text
-trim_graphic text h = grind (arith, IsTrimStart-ascii)
+above-blank : (byte : ℕ) → 32 < byte → byte < 128 → is_blank byte ≡ false
+above-blank byte above low = grind arith
+
+-- a byte of a class that is not white is ASCII, and above the white space there
+visible : (found : Class) (byte : ℕ) → is_of found byte ≡ true → may_be_white found ≡ false
+    → (32 < byte) × (byte < 128)
+visible class.Letter byte is white = grind arith
+visible class.Digit byte is white = grind arith
+visible class.Equals byte is white = grind arith
+visible class.OpenParen byte is white = grind arith
+visible class.CloseParen byte is white = grind arith
+visible class.Comma byte is white = grind arith
+visible class.Quote byte is white = grind arith
+visible class.Blank byte is white = cc
+visible class.Other byte is white = cc
+
+-- it is all, if no white space is next
+pub trim_visible : (text : List ℕ) (found : Class) → BeginsWithClass text (Some found)
+    → may_be_white found ≡ false → IsTrimStart text text
+trim_visible text found begins white =
+    let (above, low) = visible found (get_or text 0 0) begins.1 white in
+    IsTrimStart-ascii text (λ _. low) (λ _. above-blank (get_or text 0 0) above low)
+
+-- or if nothing is left
+pub trim_nothing : (text : List ℕ) → BeginsWithClass text None → IsTrimStart text text
+trim_nothing text empty = IsTrimStart-here text [] (λ some. absurd (omega (arith, some, empty)))
+
+pub ruleset trimmed_already = (trim_visible, trim_nothing)

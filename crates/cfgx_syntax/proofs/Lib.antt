@@ -1,4 +1,5 @@
 pub mod Blanks
+pub mod Classes
 pub mod Cutting
 pub mod ErrorLemmas
 pub mod Finding

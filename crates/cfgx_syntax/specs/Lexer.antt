@@ -1,10 +1,15 @@
 -- What a `Lexer` gives.
-use Rattle.std.specs.Prelude.{◌≡◌, ℕ, ◌<◌, ◌≤◌, ◌&&◌, Bool, false, List, length, take, drop}
-use Rattle.std.specs.Prelude.{slice_index, Option, Some, None, Result, Ok, Err, ◌⊎◌}
-use Rattle.std.specs.Char.{is_ascii, is_whitespace}
+use Rattle.std.specs.Prelude.{◌≡◌, ℕ, ◌<◌, ◌≤◌, ◌&&◌, ◌||◌, Bool, true, false, not, List, length}
+use Rattle.std.specs.Prelude.{codes, take, drop, slice_index, Option, Some, None, Result, Ok, Err}
+use Rattle.std.specs.Prelude.{◌⊎◌}
+use Rattle.std.specs.Char.{char_set_contains, is_ascii, is_ascii_digit, is_whitespace}
 use Rattle.cfgx_syntax.specs.{Cut.CanBeCut, Token.Spells, Token.IsWhole}
 use Rattle.cfgx_syntax.specs.{declared.error.Failure.Failure, declared.error.Reason.Reason}
 use Rattle.cfgx_syntax.specs.{declared.lexer.Token.Token, declared.lexer.LexerToken.LexerToken}
+use Rattle.cfgx_syntax.specs.{declared.lexer.bytes.Class.Class, declared.lexer.bytes.Run.Run}
+use Rattle.cfgx_syntax.specs.Token.{continues_word, is_quote, starts_word}
+use Rattle.cfgx_syntax.specs.declared.lexer.bytes.Class.TheVariants as class
+use Rattle.cfgx_syntax.specs.declared.lexer.bytes.Run.TheVariants as run
 use Rattle.cfgx_syntax.specs.Token as spelled
 use Rattle.cfgx_syntax.specs.Items.{Item, Ending, IsBlank, Stands, EndsAs, OpensNoValue, lexical}
 use Rattle.cfgx_syntax.specs.Items.{starts_token, expects_token}
@@ -54,6 +59,34 @@ GivesNext old (Some (Err failure)) new = GivesFault old failure new
 -- a byte that is ASCII white space
 abbrev pub is_blank : ℕ → Bool
 is_blank byte = is_ascii byte && is_whitespace byte
+
+-- a byte of the class; `Other` is for a byte of no other class
+abbrev pub is_of : Class → ℕ → Bool
+is_of class.Letter byte = starts_word byte
+is_of class.Digit byte = is_ascii_digit byte
+is_of class.Equals byte = char_set_contains (codes "=") byte
+is_of class.OpenParen byte = char_set_contains (codes "(") byte
+is_of class.CloseParen byte = char_set_contains (codes ")") byte
+is_of class.Comma byte = char_set_contains (codes ",") byte
+is_of class.Quote byte = is_quote byte
+is_of class.Blank byte = is_blank byte
+is_of class.Other byte = not (starts_token byte || continues_word byte || is_blank byte)
+
+-- a character of white space may begin with a byte of the class
+abbrev pub may_be_white : Class → Bool
+may_be_white class.Blank = true
+may_be_white class.Other = true
+may_be_white _ = false
+
+-- a text begins with a byte of the class, or is empty
+abbrev pub BeginsWithClass : List ℕ → Option Class → Type 0
+BeginsWithClass text None = length text ≡ 0
+BeginsWithClass text (Some first) = (0 < length text) × (is_of first (slice_index text 0) ≡ true)
+
+-- a byte that may stand in the run
+abbrev pub in_run : Run → ℕ → Bool
+in_run run.Blanks = is_blank
+in_run run.Word = continues_word
 
 -- the rest of a text begins with this token, which takes so many bytes
 pub record BeginsWith (rest : List ℕ) (token : spelled.Token) (len : ℕ) : Type 0 where

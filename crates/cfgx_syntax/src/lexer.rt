@@ -1,17 +1,20 @@
 //! Tokens of a `cfg()` text with the bytes that spell them.
-ghost use Rattle.std.specs.Prelude.{◌≡◌, ◌-◌, ◌<◌, ◌≤◌, length, slice_index, codes, get_or, true};
+ghost use Rattle.std.specs.Prelude.{◌≡◌, ◌-◌, ◌<◌, ◌≤◌, length, slice_index, codes, get_or};
+ghost use Rattle.std.specs.Prelude.{true, Some};
 ghost use Rattle.std.specs.List.{prefix_len};
 ghost use Rattle.std.specs.Str.{IsTrimStart};
 ghost use Rattle.cfgx_syntax.specs.Items.{HasOneTokenList};
-ghost use Rattle.cfgx_syntax.specs.Lexer.{token_of, BeginsAs, is_blank};
+ghost use Rattle.cfgx_syntax.specs.Lexer.{token_of, BeginsAs, BeginsWithClass};
 ghost use Rattle.cfgx_syntax.specs.LexerState.{starting};
 ghost use Rattle.cfgx_syntax.specs.Stripping.{strip};
-ghost use Rattle.cfgx_syntax.specs.Token.{starts_word, continues_word, IsWord, Spells};
+ghost use Rattle.cfgx_syntax.specs.Token.{continues_word, starts_word, IsWord, Spells};
 
+mod bytes;
 mod laws;
 
 use crate::error::{Failure, Reason};
 use crate::stripping::strip;
+use bytes::{Class, Run, first_class};
 use std::alloc::{Allocator, Global};
 use std::fmt;
 use std::marker::Model;
@@ -56,28 +59,12 @@ pub struct LexerToken<'a> {
     pub span: Range<usize>,
 }
 
-/// Whether the byte is ASCII white space.
-fn is_blank(byte: u8) -> bool
-    ensures { result ≡ is_blank byte }
-{
-    IS_BLANK[usize::from(byte)]
-}
-
-/// How many of the first bytes are ASCII white space.
-#[tactic(auto, using(crate::proofs::WordLemmas::lengths))]
-fn blank_len(bytes: &[u8]) -> usize
-    ensures len { result ≡ prefix_len is_blank bytes.now }
-    ensures few { result ≤ length bytes.now }
-{
-    bytes.iter().take_while(|byte| is_blank(**byte)).count()
-}
-
 /// The text without the white space in front of it, where ASCII white space stands in most cases.
 #[tactic(auto, using(crate::proofs::Blanks::trim_blanks))]
 fn after_blanks(text: &str) -> &str
     ensures { IsTrimStart text.now result.now }
 {
-    let rest = &text[blank_len(text.as_bytes())..];
+    let rest = &text[Run::Blanks.len(text.as_bytes())..];
     match rest.as_bytes().first() {
         // Only a longer character may be white space now.
         Some(first) if !first.is_ascii() => rest.trim_start(),
@@ -85,43 +72,22 @@ fn after_blanks(text: &str) -> &str
     }
 }
 
-/// The text without the white space in front of it.
-#[tactic(auto, using(crate::proofs::Blanks::trim_graphic))]
-fn trimmed(text: &str) -> &str
-    ensures { IsTrimStart text.now result.now }
+/// The text without the white space in front of it, and the class of the byte that is next, if
+/// there is one.
+#[tactic(auto, using(crate::proofs::Blanks::trimmed_already))]
+fn trimmed(text: &str) -> (&str, Option<Class>)
+    ensures trimmed { IsTrimStart text.now result.0.now }
+    ensures class { BeginsWithClass result.0.now result.1 }
 {
-    match text.as_bytes().first() {
-        // Mostly there is none: then the first byte tells so.
-        Some(first) if first.is_ascii_graphic() => text,
-        _ => after_blanks(text),
+    let Some(class) = first_class(text) else {
+        return (text, None);
+    };
+    // Mostly there is no white space, and the class tells so.
+    if !class.may_be_white() {
+        return (text, Some(class));
     }
-}
-
-/// Whether the byte may stand first in a word: an ASCII letter or `_`.
-fn starts_word(byte: u8) -> bool
-    ensures { result ≡ starts_word byte }
-{
-    byte.is_ascii_alphabetic() || byte == b'_'
-}
-
-/// Whether the byte may stand in a word: an ASCII letter, an ASCII digit or `_`. It is called for
-/// most bytes of a text, so it looks them up in a table.
-fn continues_word(byte: u8) -> bool
-    ensures { result ≡ continues_word byte }
-{
-    CONTINUES_WORD[usize::from(byte)]
-}
-
-/// How many of the first bytes may stand in a word.
-#[tactic(auto, using(crate::proofs::WordLemmas::lengths))]
-fn continued_len(bytes: &[u8]) -> usize
-    ensures len { result ≡ prefix_len continues_word bytes.now }
-    ensures few { result ≤ length bytes.now }
-{
-    bytes
-        .iter()
-        .take_while(|byte| continues_word(**byte))
-        .count()
+    let rest = after_blanks(text);
+    (rest, first_class(rest))
 }
 
 /// How many bytes spell the word that the text begins with.
@@ -131,7 +97,7 @@ fn word_len(text: &str) -> usize
     requires starts { starts_word (get_or text.now 0 0) ≡ true }
     ensures { result ≡ prefix_len continues_word text.now }
 {
-    continued_len(&text.as_bytes()[1..]) + 1
+    Run::Word.len(&text.as_bytes()[1..]) + 1
 }
 
 /// The token that a word spells.
@@ -160,25 +126,26 @@ fn value_token(text: &str) -> Result<(Token<'_>, usize), (Reason, usize)>
     }
 }
 
-/// The token that the text begins with, and how many bytes spell it. The error is why no token can
-/// start there, and how many bytes are at fault: one, also if a longer character stands there,
+/// The token that the text begins with, by the class of its first byte, and how many bytes spell
+/// it. The error is why no token can start there, and how many bytes are at fault: one, also if a longer character stands there,
 /// or all of them after a quote that is never closed.
-fn first_token(text: &str) -> Result<(Token<'_>, usize), (Reason, usize)>
-    requires { 0 < length text.now }
+fn first_token(text: &str, class: Class) -> Result<(Token<'_>, usize), (Reason, usize)>
+    requires { BeginsWithClass text.now (Some class) }
     ensures { BeginsAs text.now result }
 {
-    let first = text.as_bytes()[0];
-    match first {
-        b'(' => Ok((Token::OpenParen, 1)),
-        b')' => Ok((Token::CloseParen, 1)),
-        b',' => Ok((Token::Comma, 1)),
-        b'=' => Ok((Token::Equals, 1)),
-        b'"' => value_token(text),
-        _ if starts_word(first) => {
+    match class {
+        Class::Letter => {
             let len = word_len(text);
             Ok((word_token(&text[..len]), len))
         }
-        _ => Err((Reason::Unexpected(&["<key>", "all", "any", "not"]), 1)),
+        Class::Equals => Ok((Token::Equals, 1)),
+        Class::OpenParen => Ok((Token::OpenParen, 1)),
+        Class::CloseParen => Ok((Token::CloseParen, 1)),
+        Class::Comma => Ok((Token::Comma, 1)),
+        Class::Quote => value_token(text),
+        Class::Digit | Class::Blank | Class::Other => {
+            Err((Reason::Unexpected(&["<key>", "all", "any", "not"]), 1))
+        }
     }
 }
 
@@ -257,13 +224,11 @@ impl<'a, A: Allocator> Iterator for Lexer<'a, A> {
     ghost remaining = { λ l. at_most (length l.text - l.place) };
 
     fn next(&mut self) -> Option<Self::Item> {
-        let rest = trimmed(self.inner);
+        let (rest, class) = trimmed(self.inner);
         self.inner = rest;
-        if rest.is_empty() {
-            return None;
-        }
+        let class = class?;
         let start = self.original.len() - rest.len();
-        match first_token(rest) {
+        match first_token(rest, class) {
             Ok((token, len)) => {
                 self.inner = &rest[len..];
                 Some(Ok(LexerToken {
@@ -282,50 +247,3 @@ impl<'a, A: Allocator> Iterator for Lexer<'a, A> {
         }
     }
 }
-
-/// Which bytes may stand in a word.
-const CONTINUES_WORD: &[bool] = &[
-    false, false, false, false, false, false, false, false, false, false, false, false, false,
-    false, false, false, false, false, false, false, false, false, false, false, false, false,
-    false, false, false, false, false, false, false, false, false, false, false, false, false,
-    false, false, false, false, false, false, false, false, false, true, true, true, true, true,
-    true, true, true, true, true, false, false, false, false, false, false, false, true, true,
-    true, true, true, true, true, true, true, true, true, true, true, true, true, true, true, true,
-    true, true, true, true, true, true, true, true, false, false, false, false, true, false, true,
-    true, true, true, true, true, true, true, true, true, true, true, true, true, true, true, true,
-    true, true, true, true, true, true, true, true, true, false, false, false, false, false, false,
-    false, false, false, false, false, false, false, false, false, false, false, false, false,
-    false, false, false, false, false, false, false, false, false, false, false, false, false,
-    false, false, false, false, false, false, false, false, false, false, false, false, false,
-    false, false, false, false, false, false, false, false, false, false, false, false, false,
-    false, false, false, false, false, false, false, false, false, false, false, false, false,
-    false, false, false, false, false, false, false, false, false, false, false, false, false,
-    false, false, false, false, false, false, false, false, false, false, false, false, false,
-    false, false, false, false, false, false, false, false, false, false, false, false, false,
-    false, false, false, false, false, false, false, false, false, false, false, false, false,
-    false, false, false, false, false, false, false, false, false, false,
-];
-
-/// Which bytes are ASCII white space.
-const IS_BLANK: &[bool] = &[
-    false, false, false, false, false, false, false, false, false, true, true, true, true, true,
-    false, false, false, false, false, false, false, false, false, false, false, false, false,
-    false, false, false, false, false, true, false, false, false, false, false, false, false,
-    false, false, false, false, false, false, false, false, false, false, false, false, false,
-    false, false, false, false, false, false, false, false, false, false, false, false, false,
-    false, false, false, false, false, false, false, false, false, false, false, false, false,
-    false, false, false, false, false, false, false, false, false, false, false, false, false,
-    false, false, false, false, false, false, false, false, false, false, false, false, false,
-    false, false, false, false, false, false, false, false, false, false, false, false, false,
-    false, false, false, false, false, false, false, false, false, false, false, false, false,
-    false, false, false, false, false, false, false, false, false, false, false, false, false,
-    false, false, false, false, false, false, false, false, false, false, false, false, false,
-    false, false, false, false, false, false, false, false, false, false, false, false, false,
-    false, false, false, false, false, false, false, false, false, false, false, false, false,
-    false, false, false, false, false, false, false, false, false, false, false, false, false,
-    false, false, false, false, false, false, false, false, false, false, false, false, false,
-    false, false, false, false, false, false, false, false, false, false, false, false, false,
-    false, false, false, false, false, false, false, false, false, false, false, false, false,
-    false, false, false, false, false, false, false, false, false, false, false, false, false,
-    false, false, false, false, false, false, false, false,
-];

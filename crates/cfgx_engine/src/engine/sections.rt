@@ -61,11 +61,16 @@ fn without_return(text: &str) -> &str
 }
 
 /// How many bytes stand before the first tab.
+#[tactic(auto, using(cfgx_syntax::proofs::Classes::counted))]
 fn name_len(bytes: &[u8]) -> usize
     ensures len { result ≡ position_or_len is_tab bytes.now }
     ensures few { result ≤ length bytes.now }
 {
-    bytes.iter().take_while(|byte| **byte != b'\t').count()
+    let mut len = 0;
+    while len < bytes.len() && bytes[len] != b'\t' {
+        len += 1;
+    }
+    len
 }
 
 /// What a line says. Names are short: to look at their bytes one by one takes half the steps of

@@ -9,7 +9,7 @@ range_from-rest-requires c = grind (arith, common_steps, IsCharBoundary-after, b
 
 pub returns-in-Some : goal.returns-in-Some
 returns-in-Some c =
-    trim_after _ _ _ _ c.blank_len.ensures.len c.as_bytes.ensures.value
+    trim_after _ _ _ _ c.len.ensures.len c.as_bytes.ensures.value
     c.range_from-rest.ensures.value _ c.trim_start.ensures.value
 
 pub returns-in_default : goal.returns-in_default

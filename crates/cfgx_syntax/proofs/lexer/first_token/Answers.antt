@@ -1,20 +1,29 @@
 -- One byte is a token by itself, and a word runs as far as it can.
-use Rattle.std.proofs.{Common.arith, Common.rules, lemmas.Grind.common_steps, Math.Nat.sub-zero}
+use Rattle.std.proofs.Common.{◌≡◌, get_or, arith, rules}
+use Rattle.std.proofs.{lemmas.Grind.common_steps, Math.Nat.sub-zero}
 use Rattle.cfgx_syntax.proofs.WordLemmas.{BeginsWith-byte, BeginsWith-word, word_front}
 use Rattle.cfgx_syntax.proofs.WordLemmas.{IsCharBoundary-after, continues_word-ascii}
 use Rattle.cfgx_syntax.proofs.lexer.first_token.Goals as goal
 
-pub returns-in-40 : goal.returns-in-40
-returns-in-40 c = search (rules, BeginsWith-byte)
+pub returns-in-OpenParen : goal.returns-in-OpenParen
+returns-in-OpenParen c =
+    let first : get_or c.args.text.now 0 0 ≡ 40 = grind arith in
+    search (rules, BeginsWith-byte)
 
-pub returns-in-41 : goal.returns-in-41
-returns-in-41 c = search (rules, BeginsWith-byte)
+pub returns-in-CloseParen : goal.returns-in-CloseParen
+returns-in-CloseParen c =
+    let first : get_or c.args.text.now 0 0 ≡ 41 = grind arith in
+    search (rules, BeginsWith-byte)
 
-pub returns-in-44 : goal.returns-in-44
-returns-in-44 c = search (rules, BeginsWith-byte)
+pub returns-in-Comma : goal.returns-in-Comma
+returns-in-Comma c =
+    let first : get_or c.args.text.now 0 0 ≡ 44 = grind arith in
+    search (rules, BeginsWith-byte)
 
-pub returns-in-61 : goal.returns-in-61
-returns-in-61 c = search (rules, BeginsWith-byte)
+pub returns-in-Equals : goal.returns-in-Equals
+returns-in-Equals c =
+    let first : get_or c.args.text.now 0 0 ≡ 61 = grind arith in
+    search (rules, BeginsWith-byte)
 
 pub range-requires-clause-end_boundary : goal.range-requires-clause-end_boundary
 range-requires-clause-end_boundary c =
@@ -23,5 +32,5 @@ range-requires-clause-end_boundary c =
 pub word_token-requires : goal.word_token-requires
 word_token-requires c = grind (arith, common_steps, sub-zero, word_front)
 
-pub returns-in_default : goal.returns-in_default
-returns-in_default c = grind (arith, common_steps, BeginsWith-word, sub-zero)
+pub returns-in-Letter : goal.returns-in-Letter
+returns-in-Letter c = grind (arith, common_steps, BeginsWith-word, sub-zero)

@@ -7,7 +7,7 @@ use Rattle.cfgx_syntax.proofs.lexer.LexerIterator.next.Goals as goal
 
 pub returns-in-Ok-clause-steps : goal.returns-in-Ok-clause-steps
 returns-in-Ok-clause-steps g c =
-    let trimmed = c.trimmed-rest.ensures in
+    let trimmed = c.trimmed-class.ensures.trimmed in
     let beyond = IsAfter-trimmed _ _ _ c.self.invariant.0 trimmed in
     let token = token_of c.in-Ok.token in
     let begins = c.in-Ok.ensures in
@@ -20,7 +20,7 @@ returns-in-Ok-clause-steps g c =
 
 pub returns-in-Some-clause-steps : goal.returns-in-Some-clause-steps
 returns-in-Some-clause-steps g c =
-    let beyond = IsAfter-trimmed _ _ _ c.self.invariant.0 c.trimmed-rest.ensures in
+    let beyond = IsAfter-trimmed _ _ _ c.self.invariant.0 c.trimmed-class.ensures.trimmed in
     let cause = cause_of c.in-Err.reason in
     let found = Ending-found _ _ _ beyond cause c.in-Err.len (search rules) c.in-Err.ensures in
     rw (← c.self.view_is) (record {

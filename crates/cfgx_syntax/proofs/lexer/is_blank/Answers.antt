@@ -1,9 +1,0 @@
--- The table holds the answer for each byte.
-use Rattle.std.proofs.{Common.false, Common.arith, lemmas.List.FromFn.get_or-map-range_with_len}
-use Rattle.cfgx_syntax.specs.Lexer.{is_blank}
-use Rattle.cfgx_syntax.proofs.lexer.is_blank.Goals as goal
-
-pub returns : goal.returns
-returns c =
-    get_or-map-range_with_len is_blank 0 256 c.from.result c.args.byte false (omega arith)
-    (omega arith)
