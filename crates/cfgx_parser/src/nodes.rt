@@ -131,8 +131,14 @@ pub(crate) struct Writer<A: SmallAllocator> {
     pub(crate) leaves: SmallVec<usize, 4, A>,
     /// The places of the other predicates, in the order in which they are asked
     pub(crate) index: SmallVec<usize, 4, A>,
+    /// How many nodes there are. A `SmallVec` looks up where its elements are to tell its length
+    count: usize,
+    /// How many predicates of open lists there are
+    held: usize,
     /// For how many nodes room is made once the inline place is taken
     room: usize,
+    /// Both are counted
+    ghost counted: { (count ≡ length nodes.items) × (held ≡ length leaves.items) },
 }
 
 impl<A: SmallAllocator> Writer<A> {
@@ -150,6 +156,8 @@ impl<A: SmallAllocator> Writer<A> {
             nodes: SmallVec::new(alloc),
             leaves: SmallVec::new(alloc),
             index: SmallVec::new(alloc),
+            count: 0,
+            held: 0,
             room: room_for(len),
         }
     }
@@ -161,6 +169,8 @@ impl<A: SmallAllocator> Writer<A> {
         self.nodes.clear();
         self.leaves.clear();
         self.index.clear();
+        self.count = 0;
+        self.held = 0;
         self.room = room_for(len);
     }
 
@@ -201,12 +211,14 @@ impl<A: SmallAllocator> Writer<A> {
         ensures refused { OnErr result (written_of self.new ≡ written_of self.old) }
         ensures countable { OnOk result (length (written_of self.new).nodes < 2 ^ 64) }
     {
-        let place = self.nodes.len();
+        let place = self.count;
+        prove!(place == self.nodes.len());
         if place == self.nodes.capacity() {
             self.make_room()?;
         }
         self.nodes.push_reserved(node);
         prove!(place < self.nodes.len());
+        self.count = place + 1;
         Ok(place)
     }
 
@@ -220,6 +232,8 @@ impl<A: SmallAllocator> Writer<A> {
         let place = self.push(leaf)?;
         if is_asked {
             self.leaves.push(place)?;
+            prove!(self.held < self.leaves.len());
+            self.held += 1;
         }
         Ok(())
     }
@@ -233,8 +247,8 @@ impl<A: SmallAllocator> Writer<A> {
             (written_of self.new ≡ with_function (written_of self.old)) }
         ensures kept { KeepsNodes (written_of self.old) (written_of self.new) }
     {
-        let leaves = self.leaves.len();
         let node = self.push(ExprNode::default())?;
+        let leaves = self.held;
         Ok(Mark { node, leaves })
     }
 
@@ -245,6 +259,7 @@ impl<A: SmallAllocator> Writer<A> {
         ensures kept { KeepsNodes (written_of self.old) (written_of self.new) }
     {
         if let Some(place) = self.leaves.pop() {
+            self.held -= 1;
             self.index.push(place)?;
         }
         Ok(())
@@ -260,6 +275,7 @@ impl<A: SmallAllocator> Writer<A> {
         self.index
             .extend_from_slice(&self.leaves.as_slice()[leaves..])?;
         self.leaves.truncate(leaves);
+        self.held = leaves;
         Ok(())
     }
 
@@ -271,7 +287,7 @@ impl<A: SmallAllocator> Writer<A> {
             (written_of self.new ≡ with_list_ended leaves (written_of self.old)) }
         ensures kept { KeepsNodes (written_of self.old) (written_of self.new) }
     {
-        let held = self.leaves.len();
+        let held = self.held;
         if held <= leaves {
             return Ok(());
         }
@@ -286,9 +302,8 @@ impl<A: SmallAllocator> Writer<A> {
     fn complete(&mut self, place: usize, func: Func)
         ensures { written_of self.new ≡ completed place func (written_of self.old) }
     {
-        let nodes = self.nodes.len();
-        if place < nodes {
-            let len = nodes - place;
+        if place < self.count {
+            let len = self.count - place;
             self.nodes[place] = ExprNode::Fn { func, len };
         }
     }

@@ -355,12 +355,15 @@ impl<'a, A: SmallAllocator> Parser<'a, A> {
         ensures { OnOk result (Opens self.old self.new (function_of kind) span) }
     {
         let mark = self.writer.function()?;
-        self.func_stack.push(FuncAndSpan {
+        if self.func_stack.len() == self.func_stack.capacity() {
+            self.func_stack.reserve(1)?;
+        }
+        self.func_stack.push_reserved(FuncAndSpan {
             kind,
             span,
             mark,
             around: self.list,
-        })?;
+        });
         self.list = OpenList::new();
         Ok(())
     }

@@ -10,7 +10,7 @@ pub fn strip(text: &str) -> &str
     let Some(inner) = text.strip_prefix("cfg(") else {
         return text;
     };
-    match inner.strip_suffix(')') {
+    match inner.strip_suffix(")") {
         Some(kept) => kept,
         None => text,
     }

@@ -54,7 +54,7 @@ enum Line<'a> {
 fn without_return(text: &str) -> &str
     ensures { result.now ≡ strip_carriage_return text.now }
 {
-    match text.strip_suffix('\r') {
+    match text.strip_suffix("\r") {
         Some(text) => text,
         None => text,
     }

@@ -1,6 +1,6 @@
-use Rattle.std.proofs.Common.{◌≡◌, ◌≢◌, ℕ, ◌-◌, ◌+◌, ◌==◌, List, [], ◌∷◌, ◌++◌, None, length, take}
+use Rattle.std.proofs.Common.{◌≡◌, ◌≢◌, ℕ, ◌-◌, ◌+◌, ◌==◌, List, [], ◌∷◌, ◌++◌, length, take}
 use Rattle.std.proofs.Common.{slice_index, refl, ap, sym, ◌∙◌, arith, eqb-true}
-use Rattle.std.proofs.{lemmas.Bool.false_from_ne_true, lemmas.Str.Pattern.strip_suffix_char}
+use Rattle.std.proofs.{lemmas.Bool.false_from_ne_true}
 use Rattle.std.proofs.lemmas.List.{take_all, take_more}
 use Rattle.std.specs.Str.Lines.{strip_carriage_return}
 use Rattle.cfgx_engine.proofs.engine.sections.without_return.Goals as goal
@@ -17,6 +17,4 @@ keep-return (byte ∷ rest) lacks =
     ∙ ap (λ (b : ℕ). take last text ++ b ∷ []) (eqb-true _ _ is))))
 
 pub returns-in-None : goal.returns-in-None
-returns-in-None c =
-    sym (keep-return c.args.text.now
-    (strip_suffix_char 13 c.args.text.now None c.in-None.ensures.cases (omega arith)))
+returns-in-None c = sym (keep-return c.args.text.now c.in-None.ensures.cases)
