@@ -351,6 +351,7 @@ impl<'a, A: SmallAllocator> Parser<'a, A> {
     }
 
     /// Opens a function, whose name stands at the span.
+    #[inline(always)]
     fn open(&mut self, kind: FuncKind, span: Span) -> Result<(), AllocError>
         ensures { OnOk result (Opens self.old self.new (function_of kind) span) }
     {
@@ -407,28 +408,21 @@ impl<'a, A: SmallAllocator> Parser<'a, A> {
             (apply (state_of self.old) (item_of lexed.entry) (token_of lexed.entry.token)) }
     {
         let LexerToken { token, span } = lexed;
-        let kind = match token {
+        match token {
             Token::Key(text) => {
                 let key = Word { text, span };
                 self.pending = Some(Pending { key, value: None });
-                return Ok(());
             }
-            Token::Value(text) => {
-                self.add_value(text, span);
-                return Ok(());
-            }
-            Token::Equals => return Ok(()),
-            Token::OpenParen => {
-                self.open_parens(span.start);
-                return Ok(());
-            }
-            Token::CloseParen => return self.close(span),
-            Token::Comma => return self.end_predicate(),
-            Token::All => FuncKind::All,
-            Token::Any => FuncKind::Any,
-            Token::Not => FuncKind::Not,
-        };
-        Ok(self.open(kind, span)?)
+            Token::Value(text) => self.add_value(text, span),
+            Token::Equals => {}
+            Token::All => self.open(FuncKind::All, span)?,
+            Token::Any => self.open(FuncKind::Any, span)?,
+            Token::Not => self.open(FuncKind::Not, span)?,
+            Token::OpenParen => self.open_parens(span.start),
+            Token::CloseParen => self.close(span)?,
+            Token::Comma => self.end_predicate()?,
+        }
+        Ok(())
     }
 
     /// Reads one token after the last one, or at the start.
