@@ -1,12 +1,16 @@
 -- Where a value ends: at the first quote after the one that opens it.
-use Rattle.std.proofs.Common.{rules, ◌≡◌, ℕ, suc, ◌+◌, ◌-◌, ◌<◌, ◌≤◌, ◌≢◌, false, List, [], ◌∷◌}
+use Rattle.std.proofs.Common.{Some, rules, ◌≡◌, ℕ, suc, ◌+◌, ◌-◌, ◌<◌, ◌≤◌, ◌≢◌, false, List, [], ◌∷◌}
 use Rattle.std.proofs.Common.{◌++◌, length, take, drop, get_or, sym, refl, ap, ◌∙◌, arith}
 use Rattle.std.proofs.Common.{length-append, append_assoc, length-take, length-drop}
 use Rattle.std.specs.{Prelude.codes, Prelude.slice_range, Str.IsUtf8}
-use Rattle.std.proofs.lemmas.List.{take_at, get_or_at, take-take, drop-take, drop-drop}
+use Rattle.std.proofs.Math.Seq.{split_at}
+use Rattle.std.proofs.lemmas.List.{get_or-take, take_at, get_or_at, take-take, drop-take, drop-drop}
 use Rattle.std.proofs.lemmas.Str.{IsCharBoundary-after_ascii}
 use Rattle.cfgx_syntax.specs.Token.{Token, is_quote, HasNoQuote, in_quotes}
-use Rattle.cfgx_syntax.specs.Lexer.{BeginsWith}
+use Rattle.cfgx_syntax.specs.Lexer.{BeginsWith, FindsQuote, in_run}
+use Rattle.cfgx_syntax.specs.declared.lexer.bytes.Run.TheVariants as run
+use Rattle.std.proofs.lemmas.List.Sums.{prefix_len_passes, prefix_len_stops}
+use Rattle.std.specs.List.{prefix_len}
 use Rattle.cfgx_syntax.proofs.WordLemmas.{IsCut-front}
 
 -- a byte that is no quote fails the test
@@ -55,3 +59,25 @@ BeginsWith-value text inside beyond utf8 none is =
     let ends = IsCharBoundary-after_ascii text (n + 1) utf8 (omega arith) (omega arith) in
     let spelled : take (n + 2) text ≡ quoted = rw whole (take_at quoted beyond (n + 2) wide) in
     search (rules, IsCut-front)
+
+-- or between its first byte and the first quote after it
+pub BeginsWith-first : (text rest : List ℕ) (len : ℕ) → IsUtf8 text → text ≡ codes "\"" ++ rest
+    → FindsQuote rest (Some len) → BeginsWith text (Token.value (take len rest)) (len + 2)
+BeginsWith-first text rest len utf8 is (inside, quote, none) =
+    let long : length (take len rest) ≡ len = omega (arith, length-take len rest, inside) in
+    let parts : rest ≡ take len rest ++ (34 ∷ drop (suc len) rest) =
+    rw quote at (split_at rest len 0 inside) in
+    let plain = HasNoQuote-from (take len rest) (λ i lt is.
+    let before : i < len = omega (arith, lt, long) in none i before (rw get_or-take at is)) in
+    rw long at (BeginsWith-value text (take len rest) (drop (suc len) rest) utf8 plain
+    (rw parts at is))
+
+-- the first quote of a text stands where the bytes in front that are none end
+pub FindsQuote-front : (text : List ℕ) (wide len : ℕ) → wide ≤ length text
+    → len ≡ prefix_len (in_run run.Value) (take wide text) → len < wide
+    → FindsQuote text (Some len)
+FindsQuote-front text wide len inside is short =
+    let long = length-take wide text in
+    let stops = prefix_len_stops (in_run run.Value) (take wide text) 0 (omega (arith, is, long)) in
+    let quote : get_or text len 0 ≡ 34 = grind (arith, get_or-take, stops) in
+    (omega arith, quote, λ i lt. grind (arith, get_or-take, prefix_len_passes))

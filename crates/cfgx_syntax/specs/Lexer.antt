@@ -1,7 +1,8 @@
 -- What a `Lexer` gives.
-use Rattle.std.specs.Prelude.{◌≡◌, ℕ, ◌<◌, ◌≤◌, ◌&&◌, ◌||◌, Bool, true, false, not, List, length}
+use Rattle.std.specs.Prelude.{◌≡◌, ◌≢◌, ℕ, ◌<◌, ◌≤◌, ◌&&◌, ◌||◌, Bool, true, false, not, List, length}
 use Rattle.std.specs.Prelude.{codes, take, drop, slice_index, Option, Some, None, Result, Ok, Err}
 use Rattle.std.specs.Prelude.{◌⊎◌}
+use Rattle.std.specs.Option.{MatchOption}
 use Rattle.std.specs.Char.{char_set_contains, is_ascii, is_ascii_digit, is_whitespace}
 use Rattle.cfgx_syntax.specs.{Cut.CanBeCut, Token.Spells, Token.IsWhole}
 use Rattle.cfgx_syntax.specs.{declared.error.Failure.Failure, declared.error.Reason.Reason}
@@ -87,6 +88,14 @@ BeginsWithClass text (Some first) = (0 < length text) × (is_of first (slice_ind
 abbrev pub in_run : Run → ℕ → Bool
 in_run run.Blanks = is_blank
 in_run run.Word = continues_word
+in_run run.Value = λ byte. not (is_quote byte)
+
+-- the first quote among the bytes stands at the place, or there is none
+abbrev pub FindsQuote : List ℕ → Option ℕ → Type 0
+FindsQuote bytes found = MatchOption found
+    ((i : ℕ) → i < length bytes → slice_index bytes i ≢ slice_index (codes "\"") 0)
+    (λ place. (place < length bytes) × (slice_index bytes place ≡ slice_index (codes "\"") 0)
+    × ((i : ℕ) → i < place → slice_index bytes i ≢ slice_index (codes "\"") 0))
 
 -- the rest of a text begins with this token, which takes so many bytes
 pub record BeginsWith (rest : List ℕ) (token : spelled.Token) (len : ℕ) : Type 0 where

@@ -14,7 +14,7 @@ mod laws;
 
 use crate::error::{Failure, Reason};
 use crate::stripping::strip;
-use bytes::{Class, Run, first_class};
+use bytes::{Class, Run, first_class, quote_in};
 use std::alloc::{Allocator, Global};
 use std::fmt;
 use std::marker::Model;
@@ -120,8 +120,9 @@ fn value_token(text: &str) -> Result<(Token<'_>, usize), (Reason, usize)>
     requires quote { slice_index text.now 0 ≡ slice_index (codes "\"") 0 }
     ensures { BeginsAs text.now result }
 {
-    match text[1..].split_once('"') {
-        Some((inside, _)) => Ok((Token::Value(inside), inside.len() + 2)),
+    let rest = &text[1..];
+    match quote_in(rest) {
+        Some(len) => Ok((Token::Value(&rest[..len]), len + 2)),
         None => Err((Reason::UnclosedQuotes, text.len())),
     }
 }

@@ -151,6 +151,10 @@ impl Logic for Option<bool> {
     fn not(self) -> Option<bool>
         ensures { result ≡ kleene_not self }
     {
-        self.map(|known| !known)
+        match self {
+            Some(false) => Some(true),
+            Some(_) => Some(false),
+            None => None,
+        }
     }
 }

@@ -1,10 +1,11 @@
 -- A closure that is asked one question after another.
-use Rattle.std.proofs.Common.{◌≡◌, ℕ, List, [], ◌∷◌, ◌++◌, refl, sym, ◌∙◌, append_assoc, arith}
+use Rattle.std.proofs.Common.{◌≡◌, ℕ, List, [], ◌∷◌, ◌++◌, length, set, ap, refl, sym, ◌∙◌, append_assoc, arith}
 use Rattle.std.proofs.lemmas.List.{append-nil}
 use Rattle.cfgx_grammar.specs.{Question.Question, Tree.Tree, Tree.asked}
 use Rattle.cfgx_parser.specs.nodes.Prefix.{places}
 use Rattle.cfg_expr.specs.Asking.{Asker, Asks, Calls, MayAsk, MayAskEach}
 use Rattle.cfg_expr.specs.declared.expr.evaluating.Member.{Member}
+use Rattle.cfg_expr.specs.declared.expr.evaluating.Member.TheVariants as member
 use Rattle.cfg_expr.specs.nodes.AnswerSlots.{Asking, AnswersPut, with_answers}
 
 -- one call more
@@ -24,17 +25,18 @@ module _ {F T : Type 0} {asker : Asker F T} {start now : F} {questions rest : Li
   Asking-may {question} {others} is may = grind arith
 
   pub Asking-next : {question : Question} {others : List Question} {answer : T} {after : F}
-      {next : List ℕ} {new : List (Member T)} → rest ≡ question ∷ others
-      → Asks asker now question answer after → ((more : List T)
-      → with_answers new next more ≡ with_answers slots left (answer ∷ more))
+      {place : ℕ} {next : List ℕ} {new : List (Member T)} → rest ≡ question ∷ others
+      → Asks asker now question answer after → left ≡ place ∷ next
+      → new ≡ set slots place (member.Leaf answer)
       → Asking asker start questions at initial after others next new
-  Asking-next {question} {others} {answer} is asks puts = record {
+  Asking-next {question} {others} {answer} is asks left_is put = record {
     before = asking.before ++ question ∷ [];
     given = asking.given ++ answer ∷ [];
     calls = Calls-then asking.calls asks;
     all = asking.all ∙ rw (is, append_assoc asking.before (question ∷ []) others) refl;
-    puts = λ more. puts more ∙ asking.puts (answer ∷ more)
-        ∙ rw (append_assoc asking.given (answer ∷ []) more) refl;
+    as_many = omega (arith, asking.as_many, ap length is, ap length left_is);
+    puts = λ more. rw (put, append_assoc asking.given (answer ∷ []) more)
+        (rw left_is at (asking.puts (answer ∷ more)));
   }
 
   -- with all asked, the whole is over

@@ -1,5 +1,5 @@
 -- Answers at the places of nodes, and how they come there: a closure is asked them.
-use Rattle.std.specs.Prelude.{◌≡◌, ◌++◌, ℕ, List, [], ◌∷◌, replicate, set}
+use Rattle.std.specs.Prelude.{◌≡◌, ◌++◌, ℕ, List, [], ◌∷◌, length, replicate, set}
 use Rattle.cfgx_grammar.specs.Question.{Question}
 use Rattle.cfgx_grammar.specs.Tree.{Tree, asked}
 use Rattle.cfgx_parser.specs.nodes.Prefix.{places}
@@ -24,6 +24,7 @@ module _ {F T : Type 0} (asker : Asker F T) where
     pub given : List T
     pub calls : Calls asker start before given now
     pub all : questions ≡ before ++ rest
+    pub as_many : length left ≡ length rest
     pub puts : (more : List T)
         → with_answers slots left more ≡ with_answers initial places (given ++ more)
 

@@ -153,7 +153,10 @@ where
     let mut places = parsed.places().iter();
     for predicate in parsed.predicates() {
         let answer = ask(predicate, ep);
-        put_next(answer, &mut places, slots);
+        let Some(place) = places.next() else {
+            unreachable!()
+        };
+        put_member(Member::Leaf(answer), *place, slots);
     }
 }
 

@@ -1,7 +1,7 @@
 //! Classes of bytes, and runs of them.
 ghost use Rattle.std.specs.Prelude.{◌≡◌, ◌≤◌, length, true};
 ghost use Rattle.std.specs.List.{prefix_len};
-ghost use Rattle.cfgx_syntax.specs.Lexer.{in_run, is_of, may_be_white, BeginsWithClass};
+ghost use Rattle.cfgx_syntax.specs.Lexer.{in_run, is_of, may_be_white, BeginsWithClass, FindsQuote};
 
 use Class::*;
 
@@ -61,6 +61,8 @@ pub(super) enum Run {
     Blanks,
     /// What may stand in a word: ASCII letters, ASCII digits and `_`
     Word,
+    /// What may stand in a value: any byte but `"`
+    Value,
 }
 
 impl Run {
@@ -71,6 +73,7 @@ impl Run {
         match self {
             Run::Blanks => matches!(class_of(byte), Class::Blank),
             Run::Word => matches!(class_of(byte), Class::Letter | Class::Digit),
+            Run::Value => byte != b'"',
         }
     }
 
@@ -108,6 +111,24 @@ impl Run {
         len + self.count(&bytes[len..])
     }
 }
+
+/// Where the first quote stands. Most values are short, and then it takes fewer steps to look at one
+/// byte after another than to prepare the search of `find`. It is not put inline, as `find` was not.
+#[inline(never)]
+pub(super) fn quote_in(text: &str) -> Option<usize>
+    ensures { FindsQuote text.now result }
+{
+    let bytes = text.as_bytes();
+    let front = &bytes[..bytes.len().min(SHORT_VALUE)];
+    let len = Run::Value.len(front);
+    if len < front.len() {
+        return Some(len);
+    }
+    text.find('"')
+}
+
+/// How many bytes are looked at one after another.
+const SHORT_VALUE: usize = 16;
 
 /// The class of each byte.
 const CLASSES: &[Class] = &[

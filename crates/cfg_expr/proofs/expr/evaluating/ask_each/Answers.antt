@@ -1,19 +1,28 @@
 -- One call more.
-use Rattle.std.proofs.Common.{◌∙◌, [], ap, refl, subst, sym}
+use Rattle.std.proofs.Common.{◌≡◌, ◌∙◌, [], length, ap, arith, refl, subst, sym}
+use Rattle.cfgx_grammar.specs.Tree.{asked}
 use Rattle.cfgx_parser.specs.nodes.Prefix.{places}
+use Rattle.cfgx_parser.proofs.Places.{length-places}
 use Rattle.cfg_expr.specs.Asking.{Calls, MayAskEach}
 use Rattle.cfg_expr.proofs.evaluated.Asked.{Asking-may, Asking-next, Asking-over}
 use Rattle.cfg_expr.proofs.expr.evaluating.ask_each.Goals as goal
 use Rattle.cfgx_grammar.proofs.Answering.{only_tree}
 
 pub loop-predicate-init : goal.loop-predicate-init
-loop-predicate-init g c = record {
-  before = [];
-  given = [];
-  calls = Calls.none _;
-  all = refl;
-  puts = λ more. refl;
-}
+loop-predicate-init g c =
+    let asks = c.predicates-predicate-items.ensures.asked in
+    let found = c.places.ensures in
+    let one : found.0.tree ≡ asks.0.tree = only_tree asks.0 found.0.tree found.0.reads.has in
+    record {
+      before = [];
+      given = [];
+      calls = Calls.none _;
+      all = refl;
+      as_many = ap length (c.iter-places.ensures.rest ∙ found.1) ∙ length-places found.0.tree
+          ∙ ap (λ tree. length (asked tree)) one
+          ∙ sym (ap length (c.into_iter-predicate-iterator.ensures.into_iter_gives ∙ asks.1));
+      puts = λ more. refl;
+    }
 
 pub ask-answer-requires : goal.ask-answer-requires
 ask-answer-requires g c =
@@ -26,7 +35,12 @@ ask-answer-requires g c =
 pub loop-predicate-preserved : goal.loop-predicate-preserved
 loop-predicate-preserved g c =
     Asking-next c.loop-predicate.invariant c.in-Some.ensures.steps c.ask-answer.ensures
-    c.put_next.ensures
+    c.in-Some-next.ensures.steps c.put_member.ensures
+
+pub unreachable-requires : goal.unreachable-requires
+unreachable-requires g c =
+    let left = c.loop-predicate.invariant.as_many in
+    omega (arith, left, ap length c.in-Some.ensures.steps, c.in_default.ensures.steps.0)
 
 pub returns : goal.returns
 returns g c =
