@@ -258,14 +258,14 @@ impl<'a, A: SmallAllocator> Parser<'a, A> {
         self.writer.keep_room()
     }
 
-    /// Forgets what was read, to read a text of so many bytes. Its memory stays.
+    /// Forgets what was read, to read a text of so many bytes. Its memory stays. A fault was taken
+    /// by the failure that told it.
     pub(crate) fn restart(&mut self, len: usize) -> Result<(), AllocError>
         ensures { state_of self.new ≡ initial }
     {
         self.func_stack.clear();
         self.list = OpenList::new();
         self.pending = None;
-        self.fault = None;
         self.writer.restart(len);
         if self.writer.is_inline() {
             self.keep_room()?;

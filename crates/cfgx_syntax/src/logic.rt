@@ -151,10 +151,6 @@ impl Logic for Option<bool> {
     fn not(self) -> Option<bool>
         ensures { result ≡ kleene_not self }
     {
-        match self {
-            Some(false) => Some(true),
-            Some(_) => Some(false),
-            None => None,
-        }
+        self.map(|known| !known)
     }
 }
