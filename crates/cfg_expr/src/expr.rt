@@ -185,7 +185,7 @@ impl<A: SmallAllocator> Expression<A> {
         ensures refused { OnErr result (ep.new ≡ ep.old) }
         ensures short { length self.now ≤ 32 → IsOk result }
     {
-        evaluating::value_of(alloc, &self.parsed.as_ref(), ep)
+        self.condition().eval(alloc, ep)
     }
 
     /// Whether the answers decide the condition: its value, or a filling of the unknown answers for

@@ -1,15 +1,18 @@
 //! Conditions that are borrowed: those of expressions, and those that are read one after another.
-ghost use Rattle.std.specs.Prelude.{◌≡◌, Bool, List, Option, length, IfOk};
+ghost use Rattle.std.specs.Prelude.{◌≡◌, ◌≤◌, Bool, List, Option, length, IfOk, IsOk, OnErr};
 ghost use Rattle.cfgx_syntax.specs.Stripping.{strip};
 ghost use Rattle.std.specs.List.{AllByRecursion};
 ghost use Rattle.cfgx_grammar.specs.Given.{AreAnswersTo};
 ghost use Rattle.cfgx_grammar.specs.Answer.{Answers, HasOneTree};
+ghost use Rattle.cfg_expr.specs.Asking.{AnswersBy};
 ghost use Rattle.cfg_expr.specs.Deciding.{Decides};
+ghost use Rattle.cfg_expr.specs.Evaluation.{Evaluates, IsValueBy, MayEvaluate};
 ghost use Rattle.cfgx_grammar.specs.Filling.{IsExact};
+ghost use Rattle.cfgx_grammar.specs.Question.{Question};
 ghost use Rattle.cfgx_grammar.specs.Tree.{asked};
 ghost use Rattle.cfgx_grammar.specs.WellFormed.{IsWellFormed};
 
-use super::{Decision, filling};
+use super::{Decision, Logic, Predicate, evaluating, filling};
 use crate::error::Failure;
 use crate::memory::SmallAllocator;
 use cfgx_parser::parsed::{ParsedRef, TextReader};
@@ -53,6 +56,29 @@ impl<'a> Condition<'a> {
         ensures well_formed { AllByRecursion IsWellFormed result }
     {
         self.parsed.predicates()
+    }
+
+    /// The value of the condition if `ep` answers each predicate, as `Expression::eval` says.
+    ///
+    /// # Errors
+    ///
+    /// `AllocError`: `alloc` refused memory. `ep` is as it was, so nothing was asked.
+    pub fn eval<EP, T, A>(&self, alloc: A, ep: &mut EP) -> Result<T, AllocError>
+    where
+        EP: FnMut(&Predicate<'_>) -> T,
+        T: Logic,
+        A: SmallAllocator,
+        requires { MayEvaluate EP.FnMut self.now ep.old }
+        ensures value { IfOk result (λ value.
+            Evaluates T.Logic EP.FnMut self.now ep.old value ep.new) }
+        // What follows of a closure that no call changes, as one without state.
+        ensures by { IfOk result (λ value. (answer_to : Question → T)
+            → AnswersBy EP.FnMut ep.old answer_to
+            → IsValueBy T.Logic self.now answer_to value) }
+        ensures refused { OnErr result (ep.new ≡ ep.old) }
+        ensures short { length self.now ≤ 32 → IsOk result }
+    {
+        evaluating::value_of(alloc, &self.parsed, ep)
     }
 
     /// Whether the answers decide the condition, as `Expression::decide` says.

@@ -11,6 +11,7 @@ ghost use Rattle.cfgx_engine.specs.Output.{HasValue};
 ghost use Rattle.cfgx_engine.specs.Readings.{ParsesAs};
 
 use cfg_expr::error::Failure;
+use cfg_expr::expr::ConditionReader;
 use cfg_expr::memory::SmallAllocator;
 use cfg_expr::{Expression, Predicate};
 use std::marker::Model;
@@ -147,8 +148,9 @@ pub(super) fn value_under<A: SmallAllocator>(
 ) -> Result<Option<bool>, Failure<A>>
     ensures { FitsResult (HasValue text.now (texts words.now)) result }
 {
-    let expression = Expression::parse(alloc, text)?;
+    let mut conditions = ConditionReader::new(alloc);
+    let condition = conditions.read(text)?;
     let flags = Flags::parse(alloc, words)?;
     let mut answer = |predicate: &Predicate<'_>| flags.answer(predicate);
-    Ok(expression.eval(alloc, &mut answer)?)
+    Ok(condition.eval(alloc, &mut answer)?)
 }

@@ -1,9 +1,5 @@
--- What follows of a closure that no call changes.
-use Rattle.std.proofs.{Common.sym, lemmas.Result.IfOk-weaker}
-use Rattle.cfg_expr.proofs.Chains.{Evaluates-by}
+-- The borrowed condition is seen as the expression is.
 use Rattle.cfg_expr.proofs.expr.Expression.eval.Goals as goal
 
 pub returns-clause-by : goal.returns-clause-by
-returns-clause-by g c =
-    rw (sym c.self.view_is, ← c.as_ref.ensures) (IfOk-weaker c.value_of.result _ _
-    (λ value evaluates answer_to by. Evaluates-by evaluates answer_to by) c.value_of.ensures.value)
+returns-clause-by g c = rw c.condition.ensures at c.eval.ensures.by

@@ -8,26 +8,26 @@ use Rattle.cfgx_engine.specs.{Output.HasValue, Request.texts}
 use Rattle.cfgx_engine.proofs.{FlagLemmas.trees_of, OutputLemmas.Fails-parse}
 use Rattle.cfgx_engine.proofs.engine.flags.value_under.Goals as goal
 
-pub returns-in_err-expression : goal.returns-in_err-expression
-returns-in_err-expression g c =
+pub returns-in_err-condition : goal.returns-in_err-condition
+returns-in_err-condition g c =
     let p = err_from_is_err_and c.from_residual.result c.from_residual.ensures.1 in
     let Valued = HasValue c.args.text.now (texts c.args.words.now) in
     rw (p.1, p.2) (IfSome_then _ {Q = λ fault. Valued (Err fault)}
-    (Fails-parse {A = g.row.A.Denot} c.args.text.now _ c.in_err-expression.ensures)
+    (Fails-parse {A = g.row.A.Denot} c.args.text.now _ c.in_err-condition.ensures)
     (λ fault reads. (Err fault, (Err fault, reads, refl), refl)))
 
 pub returns-in_err-flags : goal.returns-in_err-flags
 returns-in_err-flags g c =
     let p = err_from_is_err_and c.from_residual-in_err-flags.result
     c.from_residual-in_err-flags.ensures.1 in
-    let one = c.in_ok-expression.ensures.2 in
+    let one = c.in_ok-condition.ensures.2 in
     let Valued = HasValue c.args.text.now (texts c.args.words.now) in
     rw (p.1, p.2) (IfSome_then _ {Q = λ fault. Valued (Err fault)} c.in_err-flags.ensures
     (λ fault gives. (Err fault, (Ok one.tree, one.reads, (Err fault, gives, refl)), refl)))
 
 pub returns : goal.returns
 returns g c =
-    let evaluates = rw c.in_ok-expression.ensures.0 at c.in_ok-eval.ensures.value in
+    let evaluates = rw c.in_ok-condition.ensures.0 at c.in_ok-eval.ensures.value in
     let are = c.in_ok-flags.ensures in
     let words = texts c.args.words.now in
     let trees = trees_of words are.each in
