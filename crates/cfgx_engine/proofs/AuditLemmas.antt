@@ -33,9 +33,7 @@ module _ {M : Type 0} (targets : List M) where
         → map (lane i) answers ≡ map (answer_by (answer target)) questions
     lane-answers i target is [] [] zipped = refl
     lane-answers i target is (q ∷ questions) (a ∷ answers) zipped =
-        let first = zipped.0 i target is in
-        let others = lane-answers i target is questions answers zipped.1 in
-        λ j. first j ∷ others j
+        grind (arith, lane-answers i target is questions answers zipped.1)
     lane-answers i target is _ _ zipped = absurd zipped
 
     -- so the lane of a target has its verdict

@@ -13,7 +13,7 @@ use Rattle.std.proofs.lemmas.List.{Sums.passes_at_first, Splits.join_with_byte-s
 use Rattle.cfgx_syntax.specs.{Stripping.strip, Error.Fault, Error.fault_in}
 use Rattle.cfgx_targets.specs.{Builtins.builtin_rows, Table.row_with}
 use Rattle.cfgx_targets.specs.declared.info.TargetInfo.{TargetInfo}
-use Rattle.cfgx_grammar.specs.{Question.Question, Spelling.spelling, Tree.Tree, Tree.asked}
+use Rattle.cfgx_grammar.specs.{Question.Question, Spelling.spelling, Tree.Tree}
 use Rattle.cfgx_grammar.specs.{WellFormed.IsWellFormed, Filling.three_valued, Fold.tree_fold}
 use Rattle.cfgx_grammar.specs.{Answer.ReadsAs}
 use Rattle.cfgx_grammar.proofs.{Answering.only_tree, Answering.same_fault, alone.well_formed_tree}
@@ -49,10 +49,7 @@ decided shown low one other this that =
 -- one that is made of the one thing that fits
 decided-made : {X : Type 0} {Fits : X → Type 0} (make : X → Output) → IsSingle Fits
     → ((x : X) → (make x).status < 3) → IsDecided (λ output. (x : X) × Fits x × (output ≡ make x))
-decided-made make single low one other this that = (
-  single-made make single one other this that,
-  omega (arith, low this.0, ap (λ (o : Output). o.status) this.2),
-)
+decided-made make single low one other this that = grind (arith, single-made)
 
 -- what is said of both outputs is said of the one that is chosen by a test, or by a target's row
 by_test : {On Off : Output → Type 0} (Says : (Output → Type 0) → Type 0) (test : Bool)
@@ -81,11 +78,7 @@ AllZip-single each _ _ _ this that = absurd (search rules)
 GivesAll-single : {X T E : Type 0} {Gives : X → Result T E → Type 0}
     → ((x : X) → IsSingle (Gives x)) → (xs : List X) → IsSingle (GivesAll Gives xs)
 GivesAll-single each [] one other this that = this ∙ sym that
-GivesAll-single each (x ∷ xs) one other (Err error, gives, is) that =
-    is ∙ sym (rw (each x that.0 (Err error) that.1 gives) at that.2)
-GivesAll-single each (x ∷ xs) one other (Ok value, gives, (rest, others, is)) that =
-    let after = rw (each x that.0 (Ok value) that.1 gives) at that.2 in
-    is ∙ ap (value_then value) (GivesAll-single each xs rest after.0 others after.1) ∙ sym after.2
+GivesAll-single each (x ∷ xs) one other this that = grind (arith, GivesAll-single each xs)
 
 -- a text is read one way
 ParsesAs-single : (text : List ℕ) → IsSingle (ParsesAs text)
@@ -102,33 +95,21 @@ IsAnswer-single known unknown question one other this that = grind arith
 
 ValueBy-single : (flags : List (List ℕ)) (read : Result (List (Tree Question)) Fault)
     → IsSingle (ValueBy flags read)
-ValueBy-single flags (Ok []) one other this that = absurd this
-ValueBy-single flags (Ok (tree ∷ trees)) one other this that =
-    let answers = AllZip-single (IsAnswer-single (known_texts flags) (unknown_texts flags))
-    (asked tree) this.0 that.0 this.1 that.1 in
-    this.2 ∙ ap (λ given. Ok (tree_fold three_valued tree given)) answers ∙ sym that.2
-ValueBy-single flags (Err fault) one other this that = this ∙ sym that
+ValueBy-single flags read one other this that = grind (arith, AllZip-single, IsAnswer-single)
 
 HasValue-single : (text : List ℕ) (flags : List (List ℕ)) → IsSingle (HasValue text flags)
 HasValue-single text flags one other this that =
-    let same = GivesAll-single ParsesAs-single (text ∷ map flag_text flags) this.0 that.0 this.1
-    that.1 in
-    ValueBy-single flags that.0 one other (rw same at this.2) that.2
+    grind (arith, GivesAll-single, ParsesAs-single, ValueBy-single)
 
 -- what the lines of sections print
 PrintsLine-single : (answer : Question → Option Bool) (numbered : ℕ × Line)
     → IsSingle (PrintsLine answer numbered)
-PrintsLine-single answer (number, Line.empty) one other this that = this ∙ sym that
-PrintsLine-single answer (number, Line.undivided) one other this that = this ∙ sym that
-PrintsLine-single answer (number, Line.section name condition) one other this that =
-    single-made (section_text answer number name) (ParsesAs-single condition) one other this that
+PrintsLine-single answer numbered one other this that =
+    grind (arith, single-made, ParsesAs-single)
 
 Picks-decided : (answer : Question → Option Bool) (input : List ℕ) → IsDecided (Picks answer input)
-Picks-decided answer input = by_test IsDecided (nat_lt input_limit (length input))
-    (λ long. decided too_long (omega arith)) (by_test IsDecided (is_utf8 input) (λ utf8.
-    decided-made lines_output (GivesAll-single (PrintsLine-single answer)
-    (enumerate_from 1 (map line_of (lines_of input)))) (λ printed. grind arith))
-    (decided not_utf8 (omega arith)))
+Picks-decided answer input =
+    grind (arith, GivesAll-single, PrintsLine-single, by_test, decided, decided-made)
 
 -- a request has one output at most on an input
 pub Prints-decided : (request : Request) (input : List ℕ) → IsDecided (Prints request input)
@@ -264,9 +245,7 @@ module _ (Q : List ℕ → Type 0) (tested : (text : List ℕ) → is_utf8 text 
       (section : (number : _) (name text : _) → Q text → P (number, Line.section name text)) where
     line-is : (number : ℕ) (text : List ℕ) → Q text
         → P (number, line_of (strip_carriage_return text))
-    line-is number text is =
-        let bare : Q (strip_carriage_return text) = grind (arith, cut) in
-        grind (arith, cut, passes_at_first)
+    line-is number text is = grind (arith, passes_at_first)
 
     lines-are : (number : ℕ) (parts : List (List ℕ)) → Q (join_with_byte 10 parts)
         → AllByRecursion P (enumerate_from number (map line_of (map strip_carriage_return parts)))

@@ -1,13 +1,12 @@
 -- What `pick` writes, by what was read.
-use Rattle.std.proofs.Common.{sym, ◌≡◌, ◌++◌, ◌<◌, ℕ, Bool, List, [], length, refl, Option, Some}
+use Rattle.std.proofs.Common.{sym, ◌≡◌, ◌++◌, ℕ, Bool, List, [], refl, Option, Some}
 use Rattle.std.proofs.Common.{None, Ok, arith, length-append, append-nil, le-ltb, lt-ltb}
 use Rattle.std.specs.Io.KnownBytes.{Consumes, IsAtEnd, Keeps}
 use Rattle.cfgx_grammar.specs.Question.{Question}
 use Rattle.cfgx_engine.specs.{EngineAnswer.PicksFrom, Output.Output}
 use Rattle.cfgx_engine.specs.declared.engine.reading.Input.{Input}
-use Rattle.cfgx_engine.specs.Input.{ReadsInput, input_limit}
+use Rattle.cfgx_engine.specs.Input.{ReadsInput}
 use Rattle.cfgx_engine.specs.{Prints.PicksInput, Prints.Prints, Prints.PrintsInput, Request.Request}
-use Rattle.cfgx_engine.specs.declared.engine.reading.Input.TheVariants as input
 
 -- what was read is a front of what a source holds, if it tells its bytes, and all of it at the end
 source_held : (old new : Option (List ℕ)) (front : List ℕ) → Consumes old new front
@@ -20,17 +19,8 @@ source_held (Some all) (Some left) front consumed = (left, sym consumed, λ ende
 pub PicksInput-read : {A : Type 0} (answer : Question → Option Bool) (old new : Option (List ℕ))
     (shown : Output) (given : Input A) → ReadsInput {A = A} old new (Ok given)
     → PicksFrom {A = A} answer given shown → PicksInput answer old shown
-PicksInput-read answer old new shown (input.Bytes bytes) reads picks =
-    let all = source_held old new bytes.items reads.1 in (
-      bytes.items,
-      rw (all.2 reads.2, append-nil) at all.1,
-      rw (le-ltb input_limit (length bytes.items) reads.0) picks,
-    )
-PicksInput-read answer old new shown input.TooLong reads picks =
-    let all = source_held old new reads.0 reads.2 in
-    let many : input_limit < length (reads.0 ++ all.0) =
-    omega (arith, reads.1, length-append reads.0 all.0) in
-    (reads.0 ++ all.0, all.1, rw (lt-ltb input_limit _ many) picks)
+PicksInput-read answer old new shown given reads picks =
+    grind (arith, append-nil, length-append, le-ltb, lt-ltb, source_held)
 
 -- a request that prints the same on every input prints it on what is source_held
 pub PrintsInput-any : (given : Request) (source_held : Option (List ℕ)) (shown : Output)

@@ -36,16 +36,11 @@ SameShape {T} {U} = Alike (λ (x : T) (y : U). Unit {0})
 abbrev pub SameShapes : {T U : Type 0} → Trees T → Trees U → Type 0
 SameShapes {T} {U} = AlikeEach (λ (x : T) (y : U). Unit {0})
 
--- two tests that have the same answer for any two trees that are alike
-abbrev pub SameTests : {T U : Type 0} (R : T → U → Type 0) → (Tree T → Bool) → (Tree U → Bool)
-    → Type 0
-SameTests {T} {U} R f g = (x : Tree T) (y : Tree U) → Alike R x y → f x ≡ g y
-
 module _ {T U : Type 0} (R : T → U → Type 0) where
-  pub same_functions : SameTests R is_function is_function
+  same_functions : (x : Tree T) (y : Tree U) → Alike R x y → is_function x ≡ is_function y
   same_functions x y alike = grind arith
 
-  pub same_leaves : SameTests R is_leaf is_leaf
+  same_leaves : (x : Tree T) (y : Tree U) → Alike R x y → is_leaf x ≡ is_leaf y
   same_leaves x y alike = grind arith
 
   mutual
@@ -58,9 +53,9 @@ module _ {T U : Type 0} (R : T → U → Type 0) where
         (asked_by-alike is_leaf is_leaf same_leaves xs ys each)
     asked-alike _ _ (Alike.not x y alike) = asked-alike x y alike
 
-    pub asked_by-alike : (f : Tree T → Bool) (g : Tree U → Bool) → SameTests R f g
-        → (xs : Trees T) (ys : Trees U) → AlikeEach R xs ys
-        → AllZip R (asked_by f xs) (asked_by g ys)
+    pub asked_by-alike : (f : Tree T → Bool) (g : Tree U → Bool)
+        → ((x : Tree T) (y : Tree U) → Alike R x y → f x ≡ g y) → (xs : Trees T) (ys : Trees U)
+        → AlikeEach R xs ys → AllZip R (asked_by f xs) (asked_by g ys)
     asked_by-alike f g same _ _ AlikeEach.none = tt
     asked_by-alike f g same _ _ (AlikeEach.more x y xs ys first rest) =
         let here = asked-alike x y first in

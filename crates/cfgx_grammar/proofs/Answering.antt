@@ -21,9 +21,7 @@ module _ {W M L : Type 0} {builder : Builder W M L} (text : List ℕ)
   -- a tree is spelled by the one token list
   pub Finds-one : (laws : Laws builder) (tree : Tree Question) → HasTree text tree
       → Finds laws text one.items one.ending tree
-  Finds-one laws tree has =
-      let same = one.only has.items Ending.blank has.are_items in
-      rw (same.0, same.1) at (Finds-tree laws text has.items tree has.spelled)
+  Finds-one laws tree has = grind (arith, Finds-tree)
 
   -- what is accepted has a tree
   pub tree_of : (u : State builder) → answer ≡ Ok u → (tree : Tree Question) × HasTree text tree

@@ -185,33 +185,22 @@ module _ {W M L : Type 0} {builder : Builder W M L} where
   pub Completes-ended : (last : Option Token) (s t : State builder) (tokens : List Token)
       → takes last Kind.comma ≡ true → predicate_ended s ≡ Ok t → RestOf Separates t 0 tokens
       → Completes last s tokens
-  Completes-ended (Some Token.comma) s t tokens may ends r = grind arith
-  Completes-ended (Some Token.close_paren) s t tokens may ends r = grind (arith, same_ended)
-  Completes-ended (Some (Token.key _)) s t tokens may ends r = λ key is.
-      LeafRest-ended s t tokens _ is ends r
-  Completes-ended (Some (Token.value _)) s t tokens may ends r = λ key value is.
-      LeafRest-ended s t tokens _ is ends r
-  Completes-ended _ s t tokens may ends r = absurd (false≢true may)
+  Completes-ended last s t tokens may ends r =
+      let ended = λ (p : Pending) (is : s.pending ≡ Some p).
+      LeafRest-ended s t tokens p is ends r in
+      let same = λ (none : s.pending ≡ None). same_ended s t none ends in
+      grind (arith, ended, same)
 
   -- where `)` may come, or the end of the text, no member is left
   pub Completes-none : (last : Option Token) (s t : State builder) (tokens : List Token)
       → (takes last Kind.closing ≡ true) ⊎ ((lacks_value last ≡ false) × (s.stack ≡ []))
       → predicate_ended s ≡ Ok t → Ends t.stack t.roots 0 tokens → Completes last s tokens
-  Completes-none None s t tokens may ends e = λ none.
-      rw (same_ended s t none ends) (Rest-none NoComma t.stack t.roots 0 tokens refl e)
-  Completes-none (Some Token.open_paren) s t tokens may ends e = λ none.
-      rw (same_ended s t none ends) (Rest-none NoComma t.stack t.roots 0 tokens refl e)
-  Completes-none (Some Token.comma) s t tokens may ends e =
-      Completes-ended (Some Token.comma) s t _ refl ends (Rest-none Separates _ _ 0 _ tt e)
-  Completes-none (Some Token.close_paren) s t tokens may ends e =
-      Completes-ended (Some Token.close_paren) s t _ refl ends (Rest-none Separates _ _ 0 _ tt e)
-  Completes-none (Some (Token.key text)) s t tokens may ends e =
-      Completes-ended (Some (Token.key text)) s t _ refl ends (Rest-none Separates _ _ 0 _ tt e)
-  Completes-none (Some (Token.value text)) s t tokens may ends e =
-      Completes-ended (Some (Token.value text)) s t _ refl ends (Rest-none Separates _ _ 0 _ tt e)
-  Completes-none _ s t tokens (inl may) ends e = absurd (false≢true may)
-  Completes-none (Some Token.equals) s t tokens (inr may) ends e = absurd (false≢true (sym may.0))
-  Completes-none _ s t tokens (inr (whole, closed)) ends e = λ top rest is. absurd (cc)
+  Completes-none last s t tokens may ends e =
+      let named = λ (name : takes last Kind.name ≡ true). Completes-member last s tokens name
+      (λ none. rw (same_ended s t none ends) (Rest-none NoComma t.stack t.roots 0 tokens refl e)) in
+      let after = λ (comma : takes last Kind.comma ≡ true). Completes-ended last s t tokens comma
+      ends (Rest-none Separates t.stack t.roots 0 tokens tt e) in
+      grind (arith, named, after)
 
 -- What the steps accept is spelled by a tree: each token stands in front of what completes the
 -- state after it.
@@ -289,12 +278,8 @@ module _ {W M L : Type 0} {builder : Builder W M L} where
         (Rest-name (Function.list ListFunction.any) s u (at Token.any) _ does completes)
     Completes-applied last Token.not may does completes =
         Completes-member last s _ may (Rest-name Function.not s u (at Token.not) _ does completes)
-    Completes-applied (Some Token.all) Token.open_paren may does completes =
-        Completes-open does completes
-    Completes-applied (Some Token.any) Token.open_paren may does completes =
-        Completes-open does completes
-    Completes-applied (Some Token.not) Token.open_paren may does completes =
-        Completes-open does completes
+    Completes-applied last Token.open_paren may does completes =
+        grind (arith, Completes-open does completes)
     Completes-applied last Token.close_paren may does completes =
         let c = Closes-stack s u (at Token.close_paren) s.stack refl does in
         Completes-none last s c.2 _ (inl may) c.5 (Ends-close s u tokens c completes)

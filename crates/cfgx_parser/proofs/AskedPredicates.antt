@@ -26,9 +26,7 @@ shown_same text nodes place question is = grind (arith, slice_get-map (node_at t
 filtered : {X Y : Type 0} (h : X → Option Y) (xs : List X)
     (ys : List Y) → map h xs ≡ map (λ (y : Y). Some y) ys → filter_map h xs ≡ ys
 filtered h [] [] e = refl
-filtered h (x ∷ xs) (y ∷ ys) e =
-    let first : h x ≡ Some y = cc in
-    rw first (ap (λ l. y ∷ l) (filtered h xs ys (cc)))
+filtered h (x ∷ xs) (y ∷ ys) e = grind (arith, filtered h xs ys (cc))
 filtered h xs ys e = absurd (cc)
 
 -- where a predicate is found

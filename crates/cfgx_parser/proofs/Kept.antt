@@ -14,7 +14,7 @@ use Rattle.cfgx_grammar.proofs.Answering.{only_tree}
 use Rattle.cfgx_grammar.proofs.alone.{all_of_first}
 use Rattle.cfgx_parser.specs.nodes.KeepsTree.{KeepsTree, KeepsOneTree}
 use Rattle.cfgx_parser.specs.nodes.Node.{Written, nothing, with_list_ended}
-use Rattle.cfgx_parser.specs.nodes.Prefix.{node_at, prefix, places}
+use Rattle.cfgx_parser.specs.nodes.Prefix.{prefix, places}
 use Rattle.cfgx_parser.specs.nodes.WritesNodes.{IsPlaced, ArePlaced, WritesNodes}
 use Rattle.cfgx_parser.specs.parsing.NodeState.{ParserState}
 use Rattle.cfgx_parser.specs.declared.nodes.ExprNode.{ExprNode}
@@ -36,11 +36,7 @@ asked_root tree = grind (arith, append-nil)
 KeepsTree-writes : (text : List ℕ) (w v : Written) (tree : Tree Question) → with_list_ended 0 w ≡ v
     → WritesNodes text nothing w (prefix tree) (own 0 tree) (inner 0 tree)
     → KeepsTree text v.nodes v.index tree
-KeepsTree-writes text w v tree is a = rw (← is) (record {
-  nodes_are = rw a.nodes_are a.shown_are;
-  cuts = rw a.nodes_are a.cuts;
-  index_are = rw (a.index_are, a.leaves_are) (asked_root tree);
-})
+KeepsTree-writes text w v tree is a = grind (arith, asked_root)
 
 module _ (text : List ℕ) (one : HasOneTokenList text) where
   -- keys and values stand at their places
@@ -71,6 +67,4 @@ module _ (text : List ℕ) (one : HasOneTokenList text) where
 pub few-nodes : {text : List ℕ} {nodes : List ExprNode} {asks : List ℕ}
     → KeepsOneTree text nodes asks
     → length nodes ≤ length text
-few-nodes {text} {nodes} keeps =
-    rw (← length-map nodes (node_at text), keeps.keeps.nodes_are)
-    (nodes-bytes text keeps.one.tree keeps.one.reads.has)
+few-nodes {text} {nodes} keeps = grind (arith, length-map, nodes-bytes)

@@ -67,22 +67,10 @@ module _ {T : Type 0} {answer : T → Bool} {rows left : List T} {is_true is_fal
   pub Added-fit : (before : List T) (row : T) → left ≡ before ++ row ∷ [] → length rows ≤ 64
       → Added answer rows left is_true is_false → (is_true < 2 ^ 63) × (is_false < 2 ^ 63)
   Added-fit before row left_is few added =
-      let given = map answer added.done in
-      let all = ap length added.rows_are ∙ length-append left added.done in
-      let last = ap length left_is ∙ length-append before (row ∷ []) in
-      let below : length given ≤ 63 = omega (arith, all, last, length-map added.done answer) in
-      let opposite : length (map not given) ≤ 63 = omega (arith, length-map given not, below) in (
-        omega (arith, added.true_is, bits-lt given, pow_mono below),
-        omega (arith, added.false_is, bits-lt (map not given), pow_mono opposite),
-      )
+      grind (arith, bits-lt, length-append, length-map, pow_mono)
 
   -- in the end they hold the answers of all rows
   pub Added-end : length left ≡ 0 → Added answer rows left is_true is_false
       → AreDisjoint is_true is_false
       × EachLane (record { is_true = is_true; is_false = is_false }) (slice_get (map answer rows))
-  Added-end none added =
-      let all : rows ≡ added.done = rw (added.rows_are, nil_from_length left none) refl in
-      rw (added.true_is, added.false_is, all) (
-        AreDisjoint-from _ _ (bits-disjoint (map answer added.done)),
-        λ i below. lane-bits (map answer added.done) i,
-      )
+  Added-end none added = grind (arith, AreDisjoint-from, bits-disjoint, lane-bits, nil_from_length)

@@ -4,7 +4,6 @@ use Rattle.std.proofs.Common.{arith, length-append}
 use Rattle.cfgx_syntax.specs.Token.{Token}
 use Rattle.cfgx_grammar.specs.Grammar.{leaf_tokens, list_name, IsCall, IsMember, IsList}
 use Rattle.cfgx_grammar.specs.Grammar.{commas, HasTree}
-use Rattle.cfgx_syntax.specs.Items.{Item, Ending}
 use Rattle.cfgx_syntax.proofs.ItemSizes.{items-bytes}
 use Rattle.std.proofs.lemmas.List.{length-map}
 use Rattle.cfgx_grammar.specs.Question.{Question}
@@ -43,8 +42,4 @@ mutual
 -- and a text has no more nodes than bytes
 pub nodes-bytes : (text : List ℕ) (tree : Tree Question) → HasTree text tree
     → length (prefix tree) ≤ length text
-nodes-bytes text tree has =
-    let is = has.spelled in
-    let bytes = items-bytes text 0 has.items Ending.blank (omega arith) has.are_items in
-    let tokens = length-map has.items (λ (item : Item). item.token) in
-    omega (arith, tree-tokens tree is.0 is.3, tokens, ap length is.2, length-append {A = Token})
+nodes-bytes text tree has = grind (arith, items-bytes, length-append, length-map, tree-tokens)

@@ -57,9 +57,7 @@ module _ {X : Type 0} (tree : Tree X) where
   pub read-places : {Y : Type 0} (read : ℕ → Y) (of : X → Y)
       → ((place : ℕ) (x : X) → slice_get (prefix tree) place ≡ Some (Node.leaf x)
       → read place ≡ of x) → map read (places 0 tree) ≡ map of (asked tree)
-  read-places read of each = read-asked read of (places 0 tree) (asked tree)
-      (asked-alike _ _ tree (reads-tree read of tree 0 (λ i n x at is.
-      let same : n ≡ i = omega arith in each n x (rw same is))))
+  read-places read of each = grind (arith, asked-alike, read-asked, reads-tree)
 
   -- there is one for each predicate
   pub length-places : length (places 0 tree) ≡ length (asked tree)

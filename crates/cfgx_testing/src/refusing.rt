@@ -42,25 +42,19 @@ impl<B: Allocator> Refusing<B> {
     pub fn has_refused(&self) -> bool {
         self.countdown.get() == 0
     }
+}
 
-    // Takes one growth off the countdown. True if that ends it, or if every growth is
-    // refused, which no clause can say: a cell's number is no part of its value.
-    fn ends_countdown(&self) -> bool {
-        let ahead = self.countdown.get();
-        if ahead == EVERY {
-            return true;
-        }
-        if ahead > 0 {
-            self.countdown.set(ahead - 1);
-        }
-        ahead == 1
+// Takes one growth off the countdown. True if that ends it, or if every growth is refused, which no
+// clause can say: a cell's number is no part of its value.
+fn ends_countdown(countdown: &Cell<u64>) -> bool {
+    let ahead = countdown.get();
+    if ahead == EVERY {
+        return true;
     }
-
-    fn inner(&self) -> &B
-        ensures { result.now ≡ self.now.inner }
-    {
-        &self.inner
+    if ahead > 0 {
+        countdown.set(ahead - 1);
     }
+    ahead == 1
 }
 
 unsafe impl<B: Allocator> Allocator for Refusing<B> {
@@ -68,13 +62,13 @@ unsafe impl<B: Allocator> Allocator for Refusing<B> {
     ghost dealloc_token = { λ refusing. B.dealloc_token refusing.inner };
 
     fn allocate(&self, size: usize, align: usize) -> Result<*mut u8, AllocError> {
-        if self.ends_countdown() {
+        if ends_countdown(&self.countdown) {
             return Err(AllocError);
         }
-        self.inner().allocate(size, align)
+        self.inner.allocate(size, align)
     }
 
     unsafe fn deallocate(&self, ptr: *mut u8, size: usize, align: usize) {
-        self.inner().deallocate(ptr, size, align);
+        self.inner.deallocate(ptr, size, align);
     }
 }

@@ -1,6 +1,6 @@
 -- Answers that are put at the places of a tree's predicates, in the order in which it asks, stand
 -- there as its nodes do.
-use Rattle.std.proofs.Common.{◌≡◌, ⊎_elim, ℕ, zero, suc, ◌+◌, ◌-◌, ◌<◌, List, [], ◌∷◌, ◌++◌, length}
+use Rattle.std.proofs.Common.{◌≡◌, ⊎_elim, ℕ, zero, suc, ◌+◌, ◌-◌, ◌<◌, List, [], ◌∷◌, length}
 use Rattle.std.proofs.Common.{map, get_or, set, refl, sym, ap, ◌∙◌, arith}
 use Rattle.std.proofs.{lemmas.Bool.cases_eq, lemmas.Bool.cases_lt, lemmas.Grind.get_or-set_at}
 use Rattle.std.proofs.lemmas.List.{append-nil, ext_get_or, get_or-append_right, get_or-set_other}
@@ -10,6 +10,7 @@ use Rattle.std.specs.List.{AllByRecursion}
 use Rattle.cfgx_grammar.specs.Tree.{Tree, Trees, is_function, is_leaf, asked}
 use Rattle.cfgx_grammar.specs.Fold.{Operations, answered}
 use Rattle.cfgx_grammar.proofs.{Alike.answered-shape, Dealing.asked-answered}
+use Rattle.cfgx_grammar.proofs.alone.{all_of_first, all_of_second}
 use Rattle.cfgx_parser.specs.nodes.Prefix.{Node, prefix, prefix_each, places, places_by}
 use Rattle.cfgx_parser.specs.nodes.Shape.{shape, shape_of}
 use Rattle.cfgx_parser.specs.declared.nodes.ExprNode.{ExprNode}
@@ -23,12 +24,6 @@ use Rattle.cfg_expr.proofs.evaluated.Read.{slot_of, entry, read-tree}
 -- the place is none of these
 abbrev Misses : ℕ → List ℕ → Type 0
 Misses place places = AllByRecursion (λ other. place ≡ other → ⊥) places
-
-Misses-both : (place : ℕ) (these those : List ℕ) → Misses place (these ++ those)
-    → Misses place these × Misses place those
-Misses-both place [] those misses = (tt, misses)
-Misses-both place (first ∷ these) those misses =
-    let both = Misses-both place these those misses.1 in ((misses.0, both.0), both.1)
 
 module _ {T : Type 0} where
   -- what is in the slot at a place
@@ -65,8 +60,9 @@ module _ {T : Type 0} where
         → Misses place (places first tree) → at (slots (prefix tree)) offset ≡ member.Joined
     covered (Tree.leaf x) first place zero is misses = absurd (misses.0 (omega (arith, is)))
     covered (Tree.list function trees) first place (suc offset) is misses =
-        let both = Misses-both place (places_by is_function (first + 1) trees) _ misses in
-        each-covered trees (first + 1) place offset (omega (arith, is)) both.0 both.1
+        let these = places_by is_function (first + 1) trees in
+        each-covered trees (first + 1) place offset (omega (arith, is))
+        (all_of_first _ these _ misses) (all_of_second _ these _ misses)
     covered (Tree.not tree) first place (suc offset) is misses =
         covered tree (first + 1) place offset (omega (arith, is)) misses
     covered (Tree.literal truth) first place (suc offset) is misses = refl
@@ -84,13 +80,12 @@ module _ {T : Type 0} where
     each-covered (Trees.more tree trees) first place offset is inner own =
         let these = slots (prefix tree) in
         let count = length-map (prefix tree) slot_of in
-        let both = Misses-both place (places first tree) _ inner in
         ap (λ l. at l offset) (map-append slot_of (prefix tree) (prefix_each trees)) ∙ ⊎_elim
         (λ below. get_or_append_left these _ member.Joined offset (omega (arith, count))
-        ∙ covered tree first place offset is both.0)
+        ∙ covered tree first place offset is (all_of_first _ (places first tree) _ inner))
         (λ past. get_or-append_right these _ _ offset member.Joined count past
         ∙ each-covered trees _ place (offset - length (prefix tree)) (omega (arith, is))
-        both.1 own) (cases_lt offset (length (prefix tree)))
+        (all_of_second _ (places first tree) _ inner) own) (cases_lt offset (length (prefix tree)))
 
   placed : (tree : Tree T) → with_answers (no_answers (length (prefix tree))) (places 0 tree)
       (asked tree) ≡ slots (prefix tree)

@@ -144,11 +144,6 @@ module _ (front : List Item) (item : Item) where
       → members_at more level from ≡ members_at front level from
   members_at_other level from begins = members_at_more level from false (grind arith)
 
-  -- it lies deeper
-  pub members_at_deeper : (level from : ℕ) → level < depth front
-      → members_at more level from ≡ members_at front level from
-  members_at_deeper level from deeper = members_at_more level from false (grind arith)
-
   IsOpenAt-more : (level : ℕ) (function : Function) (start end place : ℕ) → level < depth more
       → IsOpenAt front level function start end place → IsOpenAt more level function start end place
   IsOpenAt-more level function start end place deep is =
@@ -186,7 +181,8 @@ module _ (front : List Item) (item : Item) where
         (λ place lt counted. members_at_name (length rest + 1) (place + 1)
         (omega (arith, lt)) (at ∙ omega arith) begins ∙ ap (λ n. n + 1) counted ∙ omega arith) l,
     Levels-same roots 1 rest (omega (arith, deep))
-        (λ level from le. members_at_deeper level from (omega (arith, at, le))) levels,
+        (λ level from le. members_at_more level from false
+        (let deeper : level < depth front = omega (arith, at, le) in grind arith)) levels,
   )
 
   -- the token is the `(` of the innermost function

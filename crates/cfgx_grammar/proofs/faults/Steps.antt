@@ -1,6 +1,6 @@
 -- What the parser refuses it refuses with the first fault.
 use Rattle.std.proofs.{lemmas.Grind.common_steps, Math.Seq.take-append_seam}
-use Rattle.std.proofs.Common.{take, ◌≡◌, ◌⊎◌, inl, inr, ℕ, ◌+◌, Bool, true, false, List, [], ◌∷◌}
+use Rattle.std.proofs.Common.{take, ◌≡◌, ◌⊎◌, inl, ℕ, ◌+◌, Bool, true, false, List, [], ◌∷◌}
 use Rattle.std.proofs.Common.{◌++◌, length, reverse, cond, Option, Some, None, Result, Ok, Err, sym}
 use Rattle.std.proofs.Common.{refl, ap, ◌∙◌, arith, suc, ◌-◌, ◌<◌, option_map, take_all}
 use Rattle.std.proofs.Common.{append_assoc, count_by, option_and_then, if◌then◌else◌, lt-ltb}
@@ -96,10 +96,6 @@ module _ {A B : Type 0} (P : A → Type 0) (Q : B → Type 0) where
       → Meets P r fault → ((t : A) → P t → Meets Q (f t) next)
       → Meets Q (and_then f r) (option_or fault next)
   meets_then f r fault next meets each = grind arith
-
-meets_each : {A : Type 0} (P Q : A → Type 0) (r : Result A Refusal) (fault : Option Refusal)
-    → Meets P r fault → ((t : A) → P t → Q t) → Meets Q r fault
-meets_each P Q r fault meets each = grind arith
 
 abbrev pub EndAgrees : {A : Type 0} → Result A Refusal → Option Refusal → Type 0
 EndAgrees r fault = Meets (λ _. Unit {0}) r fault
@@ -319,9 +315,7 @@ module _ {W M L : Type 0} {builder : Builder W M L} (front : List Item) (s : Sta
         let rises : Rises token (length (over_top (with_parens start) s.stack)) = grind arith in
         (refl, matched token _ _ (m.pending ∙ a.0) refl rises levels)
     token_step Token.close_paren may = close_step s.stack refl (ended_here (inl may))
-    token_step Token.comma may = meets_each (Ended front false s) _ _ _ (ended_here (inr may))
-        (λ t e. stays Token.comma _ 0 refl refl (ap (λ n. n + 0) e.height) e.settled
-        (ap going e.settled) e.levels)
+    token_step Token.comma may = grind (arith, ended_here, stays)
 
     pub step_agrees : (token : Token)
         → Meets (Matches (more token)) (step (last_token front) s (at token))

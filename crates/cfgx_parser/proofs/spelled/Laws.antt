@@ -1,5 +1,5 @@
 -- The nodes of a tree are written for its items: the laws of the builder of nodes.
-use Rattle.std.proofs.Common.{◌≡◌, ℕ, ◌+◌, true, false, List, [], ◌∷◌, ◌++◌, length, Option}
+use Rattle.std.proofs.Common.{◌≡◌, ℕ, ◌+◌, true, false, List, [], ◌++◌, length, Option}
 use Rattle.std.proofs.Common.{option_map, rules, arith, Some, None, refl, ap, subst}
 use Rattle.std.specs.Prelude.{if◌then◌else◌}
 use Rattle.std.proofs.lemmas.List.{append-nil, length_push}
@@ -10,7 +10,7 @@ use Rattle.cfgx_grammar.specs.Classification.{Class, class}
 use Rattle.cfgx_grammar.specs.Tree.{Tree, Trees, is_function, is_leaf, count}
 use Rattle.cfgx_grammar.specs.parsing.State.{Function}
 use Rattle.cfgx_parser.specs.nodes.Located.{located, at, IsSpan, ValueHasCut}
-use Rattle.cfgx_parser.specs.nodes.Node.{Written, begun, with_leaf}
+use Rattle.cfgx_parser.specs.nodes.Node.{Written, with_leaf}
 use Rattle.cfgx_parser.specs.nodes.Prefix.{Node, headed, prefix, prefix_each, places, places_by}
 use Rattle.cfgx_parser.specs.nodes.Prefix.{with_places}
 use Rattle.cfgx_parser.specs.nodes.WritesNodes.{IsPlaced, ArePlaced, WritesNodes}
@@ -74,18 +74,13 @@ module _ (text : List ℕ) where
       → MemberWrites xs w v tree → ListWrites zs v u trees
       → ListWrites (xs ++ (ys ++ zs)) w u (Trees.more tree trees)
   list_writes xs ys zs tree trees w v u writes more placed =
-      let first = writes (all_of_first _ xs (ys ++ zs) placed) in
-      let others = more (all_of_second _ ys zs (all_of_second _ xs (ys ++ zs) placed)) in
-      WritesNodes-then first (rw (length-nodes first) at others)
+      grind (arith, WritesNodes-then, all_of_first, all_of_second, length-nodes)
 
   call_writes : (function : Function) (tree : Tree Question) (trees : Trees Question)
       → Called function tree trees
       → Calls node_builder MemberWrites ListWrites function tree trees
   call_writes function tree trees called head opening closing members w v writes placed =
-      let written = writes (all_of_first _ members (closing ∷ []) placed.1.1) in
-      let place = length_push w.nodes begun in
-      rw (called.prefix_is, called.is_no_leaf, called.is_one, called.places_are, ← place)
-      (WritesNodes-function (counted function (count trees)) written)
+      grind (arith, WritesNodes-function, all_of_first, length_push)
 
   pub node_laws : Laws node_builder
   node_laws = record {

@@ -1,161 +1,124 @@
--- A growth that ends the countdown is refused. Any other ends with what came from the inner
--- allocator, which the walk does not look into: with its block if there is one, so that one
--- ending, `ends`, serves it and the refusal. Assumes `Logic`.
-use Rattle.std.proofs.Common.{ℕ, Bool, false, List, [], ◌∷◌, refl, w64}
-use seplogic.Ra.Ura.{Ura}
-use mir.Syntax.{Fn}
-use mir.MapTy.{inst_fn}
-use mir.Val.{Val, vbool, vint, vptr}
-use base.Logic.{SProp, ent}
-use prog.Memory.{Memory}
-use prog.Routine.{Routine}
-use prog.Wp.{Env, WpFn, Tables}
-use types.Logic.{Logic}
+-- A growth that ends the countdown is refused. Any other ends as the inner allocator answers, with
+-- its block if there is one. The walk reaches both fields behind `self` directly: `h` is the inner
+-- allocator and `p` its place, `n` and `al` the size and the alignment that are asked for, and
+-- `beyond` is not needed before the end. Assumes `Logic`.
+use Rattle.std.proofs.Common.{ℕ, ◌+◌, Bool, true, false, List, [], ◌∷◌, Ok, Err, refl, ap, w64}
+use Rattle.std.proofs.Common.{Bor}
+use mir.Syntax.{Args, Fn, a_type, dnil, dcons}
+use mir.Val.{Val}
+use base.Logic.{id⊢}
+use base.Fml.{ftrue, fsep, flft}
+use prog.Memory.{align, size, up}
 use types.Part.{agg}
-use types.Run.{lit, enter, no_more, and_then, first, branches, skips, exec, returns, returns_within}
-use types.ByLocal.{alloc_all, pass_all, free_all, look_at, get, sets, lands_as, env, holding}
-use types.Kit.{Sq, prop, runs, at_ret, ‵, raw, ◌⊛◌, ◌$◌, ◌∵◌, !, qed, done, move, keep, drop}
-use types.Kit.{use1, split, join, fsplit, fjoin, suffices}
-use contract.BorrowLft.{◌⊑◌}
-use contract.Monad.{Fun, fact}
+use types.Run.{lit, addr, fld, stop, enter, no_more, and_then, first, branches, skips, exec}
+use types.Run.{returns, returns_within}
+use types.ByLocal.{alloc_all, pass_all, free_all, look_at, get, through, sets, lands_as, env}
+use types.Kit.{Item, Sq, prop, at_ret, ‵, raw, some, later, ◌⊛◌, ◌$◌, ◌∵◌, !, qed, done, move}
+use types.Kit.{drop, keep, use0, use1, use2, split, join, fsplit, fjoin, feq_i, feq_l, pick, await}
+use types.Kit.{suffices}
+use contract.BorrowLft.{◌⊑◌, ⊑_trans}
+use contract.Monad.{fact}
 use contract.Running.{tables, tables_of}
-use sound.WpLaws.{FmC, fm_of}
-use denote.Builtin.{usize}
+use denote.Builtin.{bool, usize, RefOf}
 use denote.Exit.{yes}
+use denote.Param.{bounded, param}
 use denote.RattleType.{owns}
+use denote.RawPtr.{block_ptr}
 use denote.Plain.{uint_vals, uint_Tells}
 use denote.Ref.{shr_vals}
-use denote.Signature.{plain, types_at}
-use denote.Steps.{heard, nothing}
-use denote.Triple.Clauses.{Clauses, Ended}
-use denote.Triple.Statement.{Triple}
+use denote.Signature.{Slot, plain, types_at}
+use denote.Steps.{heard, nothing, only}
+use denote.Triple.Call.{calls_at}
 use denote.Triple.Walked.{Stays, stay_dropped, Goes-dropped, walk_of}
-use Rattle.std.specs.Allocator.{HasLayout}
-use Rattle.std.proofs.alloc.Calls.{Al, Answer-typed, answer_val, got, token, takes_key, Takes}
-use Rattle.std.proofs.alloc.Shapes.{after}
+use Rattle.std.specs.Allocator.{HasLayout, block_if_ok}
+use Rattle.std.proofs.alloc.Calls.{Al, α, seen, token, Answer, answer_val, Answer-typed, Answer-Ok}
+use Rattle.std.proofs.alloc.Calls.{Answer-err, Answered, answers, Takes, at_takes, Takes-goes}
+use Rattle.std.proofs.alloc.Calls.{Takes-gives}
 use Rattle.std.proofs.raw_atomic.Walks.{leaves, proved}
-use Rattle.cfgx_testing.proofs.refusing.Loan.{type_args, Loan, loan_of, Request, request}
-use Rattle.cfgx_testing.proofs.refusing.Loan.{countdown_at, inner_at, by_ref}
-use Rattle.cfgx_testing.proofs.refusing.Loan.{Countdown, Inner, lent, alive}
-use Rattle.cfgx_testing.proofs.refusing.Loan.{counts_down, reaches_inner}
-use Rattle.cfgx_testing.proofs.refusing.Loan.{allocates, as_answer, answer_owned, answer_made}
-use Rattle.cfgx_testing.proofs.refusing.Refusing.ends_countdown.Met as countdown
-use Rattle.cfgx_testing.proofs.refusing.Refusing.inner.Met as inner
+use Rattle.cfgx_testing.specs.contracts.refusing.Refusing as refusing
+use Rattle.cfgx_testing.specs.contracts.refusing.ends_countdown as ending
+use Rattle.cfgx_testing.proofs.refusing.ends_countdown.Met as ending_met
 use Rattle.cfgx_testing.specs.contracts.refusing.RefusingAllocator.allocate as f
 use Rattle.cfgx_testing.proofs.refusing.RefusingAllocator.allocate.Statement.{statement}
 use Rattle.cfgx_testing.proofs.refusing.RefusingAllocator.allocate.Code as code
-
-module _ (Z : Al) where
-  abbrev function : Fn
-  function = inst_fn (type_args Z) code.function
-
-  abbrev parts : Ended
-  parts = f.ended Z.row Z.g Z.d Z.drops
-
-  abbrev spent : Stays parts.signature.params parts.kept
-  spent = (stay_dropped (by_ref Z) yes, (stay_dropped _ yes, (stay_dropped _ yes, tt)))
-
-module _ (Z : Al) {M : Type 1} {𝓤 : Ura M} (𝓛 : Logic 𝓤) (at_mem : Memory → SProp 𝓤)
-    (run : Routine → Fun 𝓤) (loan : Loan Z) (asked : Request) where
-  abbrev clauses : Clauses 𝓤 (parts Z)
-  clauses = f.clauses Z.row Z.g Z.d Z.drops 𝓛 at_mem run
-
-  abbrev bound : (walk_of 𝓛 (parts Z) (spent Z) clauses).Ghost
-  bound = (
-    (
-      (loan.short, (loan.long, tt)),
-      (loan.short_share, (loan.long_share, tt)),
-      (loan.within, tt),
-      (loan.self, (asked.bytes, (asked.aligned, tt))),
-      (shr_vals loan.self, (uint_vals w64 asked.bytes, (uint_vals w64 asked.aligned, tt))),
-    ),
-    asked.ty,
-  )
-
-  abbrev Ends : Val → SProp 𝓤
-  Ends = (walk_of 𝓛 (parts Z) (spent Z) clauses).post bound
-
-  ends : (came : Bool × (ℕ × ℕ)) → Sq 𝓛 (‵ (got (token Z loan.self.now.inner) asked.ty came.0
-      came.1.0 came.1.1) ∷ alive Z loan ∷ []) (prop (Ends (answer_val came.0 came.1.0 came.1.1)))
-  ends came =
-      suffices ! _ (leaves 𝓛 (parts Z) (spent Z) clauses bound (answer_val came.0 came.1.0 came.1.1)
-      (as_answer came) (tt, (tt, (tt, tt))) (tt, (tt, (tt, tt)))) $
-      use1 𝓛 (answer_owned 𝓛 Z loan.self.now.inner asked.ty came)
-      (answer_made 𝓛 Z loan.self.now.inner asked.ty came) $ nothing ! $ nothing ! $ fjoin ! $
-      nothing ! $ fjoin ! $ nothing ! $ fjoin ! $ join ! $ move ! (1 ∷ 0 ∷ []) $ done !
-
-  module _ (𝓣 : Tables 𝓤 𝓛.H) (counts : Triple 𝓤 (𝓣.C (countdown_at Z)) (Countdown Z 𝓛 at_mem run))
-      (reaches : Triple 𝓤 (𝓣.C (inner_at Z)) (Inner Z 𝓛 at_mem run))
-      (takes : Triple 𝓤 (𝓣.C (takes_key Z)) (Takes Z 𝓛 at_mem run)) where
-    frames : FmC 𝓤 𝓛.H 𝓛.laws 𝓣.C
-    frames = fm_of 𝓤 𝓛.H 𝓛.laws 𝓣
-
-    abbrev handed : List Val
-    handed = vptr loan.self.ref_ptr.0 loan.self.ref_ptr.1 ∷ vint w64 asked.bytes ∷ vint w64
-        asked.aligned ∷ []
-
-    module _ (lives : loan.long ⊑ Z.row.lives) (layout : HasLayout asked.ty asked.bytes
-        asked.aligned) (l : ℕ → ℕ) where
-      abbrev cells : Env 𝓤 𝓛.H
-      cells = env (function Z).locals l
-
-      -- what is left to do once the growth is known not to end the countdown
-      let_through : (ended : Bool) → Sq 𝓛 (lent Z 𝓛 at_mem run loan ∷ alive Z loan ∷ holding 𝓛 cells
-          ((4, vbool ended) ∷ (3, vint w64 asked.aligned) ∷ (2, vint w64 asked.bytes) ∷
-          (1, vptr loan.self.ref_ptr.0 loan.self.ref_ptr.1) ∷ []))
-          (runs 𝓣.C 𝓣.Λ cells (after 2 (function Z).body) (at_ret cells Ends))
-      let_through ended =
-          reaches_inner Z 𝓛 at_mem run loan ! frames reaches lives
-          (and_then ! (get ! refl) (no_more !)) (λ p v is. lands_as ! is refl (tt, tt) $
-          allocates Z 𝓛 at_mem run loan p asked lives layout ! frames takes
-          (and_then ! (get ! refl) (and_then ! (get ! refl)
-          (and_then ! (get ! refl) (no_more !)))) (λ came w is'.
-          lands_as ! is' refl (Answer-typed came.0 came.1.0 came.1.1) $
-          returns ! (look_at ! 0 refl) $ free_all ! refl $ ends came))
-
-    walk : ent 𝓤 ((walk_of 𝓛 (parts Z) (spent Z) clauses).pre bound)
-        (WpFn 𝓤 𝓛.H 𝓣.C 𝓣.Λ (function Z) handed Ends)
-    walk =
-        qed 𝓛 ((alive Z loan ⊛ ‵ (owns (types_at (parts Z).signature.params bound.0.0) bound.0.3
-        bound.0.4)) ∷ (raw (fact 𝓤 (loan.long ⊑ Z.row.lives)) ⊛ raw
-        (fact 𝓤 (HasLayout asked.ty asked.bytes asked.aligned))) ∷ []) ∵
-        split ! $ move ! (2 ∷ []) $ split ! $ heard ! _
-        (λ lives. heard ! _ (λ layout. move ! (1 ∷ []) $ fsplit ! $ fsplit ! $
-        keep ! (1 ∷ 3 ∷ []) $
-        enter ! 𝓣.C 𝓣.Λ (function Z) handed Ends $ alloc_all !
-        (λ l. pass_all ! refl (
-          (tt, tt),
-          (
-            (tt, record { fits = asked.bytes_fit }),
-            ((tt, record { fits = asked.aligned_fits }), tt),
-          ),
-        ) $
-        counts_down Z 𝓛 at_mem run loan ! frames counts lives (and_then ! (get ! refl) (no_more !))
-        (λ ended v is. lands_as ! is refl (tt, tt) $
-        first ! $ branches ! (get ! refl)
-        (λ refused. sets ! (agg ! (no_more !)) refl (tt, tt) $
-        sets ! (agg ! (and_then ! (lit ! tt) (and_then ! (get ! refl) (no_more !)))) refl
-        (Answer-typed false 0 0) $
-        returns_within ! Ends refl (look_at ! 0 refl) $ free_all ! refl $ drop ! $ nothing ! $
-        ends (false, (0, 0)))
-        (λ passed. skips ! $ exec ! 𝓣.C 𝓣.Λ (cells lives layout l) (after 2 (function Z).body)
-        (at_ret (cells lives layout l) Ends) $ let_through lives layout l ended)))))
 
 pub allocate_spec : {M : Type 1} → statement M
 unfolding tables_of
 allocate_spec 𝓤 𝓛 𝓜 𝓡 wired row laws g d drops met dropped =
     let Z : Al = record { row = row; laws = laws; g = g; d = d; drops = drops } in
-    let word = Goes-dropped 𝓛 2 (plain (λ _. usize)) yes (λ κs x f. refl) in
-    proved 𝓛 (parts Z) (spent Z) (f.clauses row g d drops 𝓛 𝓜.mem 𝓡.returns) 𝓜 𝓡
-    (Goes-dropped 𝓛 2 (by_ref Z) yes (λ κs x f. refl), (word, (word, tt)))
-    (f.Key.name (type_args Z)) (function Z) (code.unfolded 𝓤 𝓛.H 𝓜 𝓡 wired (row, tt) d drops)
-    (λ κs. (shr_vals, (uint_vals w64, (uint_vals w64, tt))))
-    (λ κs. ((λ r vs is. is.0), (uint_Tells w64, (uint_Tells w64, tt)))) (λ κs qs bounds a τ are.
-    let loan : Loan Z = loan_of Z κs.0 κs.1.0 qs.0 qs.1.0 bounds.0 a.0 in
-    let asked : Request =
-    request τ a.1.0 a.1.1.0 are.1.0.1 are.1.1.0.1 in
-    walk Z 𝓛 𝓜.mem 𝓡.returns loan asked (tables_of 𝓤 𝓛.H 𝓜 (tables 𝓤 𝓛.H 𝓜 𝓡 𝓡.env))
-    (countdown.met 𝓤 𝓛 𝓜 𝓡 (code.calls-cfgx_testing::refusing::Refusing::ends_countdown 𝓡.env wired)
-    row laws g d drops met dropped)
-    (inner.met 𝓤 𝓛 𝓜 𝓡 (code.calls-cfgx_testing::refusing::Refusing::inner 𝓡.env wired) row laws g d
-    drops met dropped) (met.allocate drops))
+    let T = f.ended row g d drops in let c = f.clauses row g d drops 𝓛 𝓜.mem 𝓡.returns in
+    let self : Slot 2 = RefOf (0 ∷ []) tt (plain (λ _. refusing.the_row (param 0 row))) (λ _. tt) in
+    let spent : Stays T.signature.params T.kept =
+    (stay_dropped self yes, (stay_dropped _ yes, (stay_dropped _ yes, tt))) in
+    let W = walk_of 𝓛 T spent c in
+    let 𝓣 = tables_of 𝓤 𝓛.H 𝓜 (tables 𝓤 𝓛.H 𝓜 𝓡 𝓡.env) in
+    let frames = sound.WpLaws.fm_of 𝓤 𝓛.H 𝓛.laws 𝓣 in
+    let args : Args = bounded (a_type ∷ []) (row, tt) (dcons d (dcons drops dnil)) in
+    let function : Fn = mir.MapTy.inst_fn args code.function in
+    let goes = Goes-dropped 𝓛 2 (plain (λ _. usize)) yes (λ κs x f. refl) in
+    let vals = uint_vals w64 in let tells = uint_Tells w64 in
+    proved 𝓛 T spent c 𝓜 𝓡 (Goes-dropped 𝓛 2 self yes (λ κs x f. refl), (goes, (goes, tt)))
+    (f.Key.name args) function (code.unfolded 𝓤 𝓛.H 𝓜 𝓡 wired (row, tt) d drops)
+    (λ κs. (shr_vals, (vals, (vals, tt)))) (λ κs. ((λ r vs is. is.0), (tells, (tells, tt))))
+    (λ κs qs bounds a τ are.
+    let κ = κs.0 in let q = qs.0 in let h = a.0.now.inner in let n = a.1.0 in let al = a.1.1.0 in
+    let n_fits = are.1.0.1 in let al_fits = are.1.1.0.1 in
+    let at = a.0.ref_ptr in let p : ℕ × ℕ = (at.0, at.1 + up (align (α Z)) 0) in
+    let y : W.Ghost = ((κs, qs, bounds, a, (shr_vals a.0, (vals n, (vals al, tt)))), τ) in
+    let beyond : Item 𝓤 = ‵ (flft κs.1.0 qs.1.0) ⊛ ‵ ftrue in
+    let ends : (v : Val) (r : Answer.Denot) → Sq 𝓛 (‵ (Answer.own_val r (v ∷ [])) ∷
+    ‵ (block_if_ok (token Z h) τ r) ∷ ‵ (flft κ q) ∷ beyond ∷ []) (prop (W.post y v)) = λ v r.
+    suffices ! _ (leaves 𝓛 T spent c y v r (tt, (tt, (tt, tt))) (tt, (tt, (tt, tt)))) $ join ! $
+    nothing ! $ nothing ! $ fjoin ! $ nothing ! $ fjoin ! $ nothing ! $ fjoin ! $ join ! $
+    move ! (1 ∷ 2 ∷ []) $ join ! $ done ! in
+    let refused : Sq 𝓛 (‵ (flft κ q) ∷ beyond ∷ []) (prop (W.post y (answer_val false 0 0))) =
+    nothing ! $ use0 𝓛 (‵ (Answer.own_val (Err (record {})) (answer_val false 0 0 ∷ [])))
+    (Answer-err 𝓛) $ ends _ (Err (record {})) in
+    qed 𝓛 (((‵ (flft κ q) ⊛ beyond) ⊛ ‵ (owns (types_at T.signature.params κs) a y.0.4)) ∷
+    (raw (fact 𝓤 (κs.1.0 ⊑ row.lives)) ⊛ raw (fact 𝓤 (HasLayout τ n al))) ∷ []) ∵
+    move ! (1 ∷ []) $ split ! $ heard ! _ (λ lives. heard ! _ (λ layout. split ! $ split ! $
+    move ! (2 ∷ []) $ fsplit ! $ fsplit ! $ move ! (1 ∷ []) $ denote.Opens.unhide ! $ fsplit ! $
+    fsplit ! $ use1 𝓛 (‵ (seen Z κ p h)) (id⊢ 𝓤 _) $ move ! (1 ∷ []) $ fsplit ! $
+    -- [the countdown; a token; the inner allocator; the other token]
+    keep ! (0 ∷ 6 ∷ 2 ∷ 7 ∷ []) $ enter ! 𝓣.C 𝓣.Λ function _ _ $ alloc_all ! (λ l.
+    pass_all ! refl
+    ((tt, tt), ((tt, record { fits = n_fits }), ((tt, record { fits = al_fits }), tt))) $
+    sets ! (addr ! (through ! refl (fld ! refl (stop !)))) refl (tt, tt) $
+    let counts = denote.Triple.Spec.triple_of 𝓛 ending.signature (ending.spec 𝓛 𝓜.mem 𝓡.returns) in
+    let cell : Bor _ = record {
+      ref_ptr = (at.0, at.1 + up 8 (up (align (α Z)) 0 + size (α Z)));
+      now = a.0.now.countdown;
+    } in
+    let z : counts.Ghost = (((κ, tt), (q, tt), tt, (cell, tt), (shr_vals cell, tt)), tt) in
+    feq_i ! (List Val) (shr_vals cell) _ refl $ fjoin ! $ nothing ! $ move ! (1 ∷ []) $ fjoin ! $
+    nothing ! $ move ! (2 ∷ []) $ join ! $ join ! $ nothing ! $ move ! (1 ∷ []) $
+    use2 𝓛 (raw (counts.pre z)) (id⊢ 𝓤 _) $ calls_at ! frames counts
+    (ending_met.met 𝓤 𝓛 𝓜 𝓡 (code.calls-cfgx_testing::refusing::ends_countdown 𝓡.env wired)) z
+    (and_then ! (get ! refl) (no_more !)) (λ v. use1 𝓛 (later (some (λ (ended : Bool).
+    ((‵ (flft κ q) ⊛ ‵ ftrue) ⊛ ‵ (bool.own_val ended (v ∷ []))) ⊛
+    some (λ (last : Unit {0} × Unit {0}). ‵ (fsep ftrue ftrue) ⊛ ‵ ftrue)))) (id⊢ 𝓤 _) $
+    await ! tt $ pick ! (λ ended. split ! $ move ! (1 ∷ []) $ drop ! $ split ! $ split ! $
+    move ! (1 ∷ []) $ drop ! $ move ! (1 ∷ []) $ feq_l ! (λ is.
+    lands_as ! (ap only is) refl (tt, tt) $ first ! $ branches ! (get ! refl)
+    (λ is_last. sets ! (agg ! (no_more !)) refl (tt, tt) $
+    sets ! (agg ! (and_then ! (lit ! tt) (and_then ! (get ! refl) (no_more !)))) refl
+    (Answer-typed false 0 0) $ returns_within ! (W.post y) refl (look_at ! 0 refl) $
+    free_all ! refl $ move ! (1 ∷ []) $ drop ! $ refused)
+    (λ goes_on. skips ! $ exec ! 𝓣.C 𝓣.Λ (env function.locals l)
+    (Rattle.std.proofs.alloc.Shapes.after 3 function.body) (at_ret _ (W.post y)) $
+    sets ! (addr ! (through ! refl (fld ! refl (stop !)))) refl (tt, tt) $
+    let takes = Takes Z 𝓛 𝓜.mem 𝓡.returns in
+    let x = at_takes Z 𝓛 𝓜.mem 𝓡.returns κ q p h n al τ in
+    move ! (1 ∷ []) $ use2 𝓛 (raw (takes.pre x)) (Takes-goes Z 𝓛 𝓜.mem 𝓡.returns κ q p h
+    (⊑_trans κ κs.1.0 row.lives bounds.0 lives) n al τ layout.0 layout.1 n_fits al_fits) $
+    calls_at ! frames takes (met.allocate drops) x
+    (and_then ! (get ! refl) (and_then ! (get ! refl) (and_then ! (get ! refl) (no_more !)))) (λ v.
+    use1 𝓛 (later (raw (Answered Z 𝓛 𝓜.mem 𝓡.returns h τ v) ⊛ ‵ (flft κ q)))
+    (Takes-gives Z 𝓛 𝓜.mem 𝓡.returns κ q p h n al τ v) $ await ! tt $ split ! $
+    answers Z ! 𝓜.mem 𝓡.returns h τ v
+    (λ b o is. fjoin ! $ lands_as ! is refl (Answer-typed true b o) $
+    returns ! (look_at ! 0 refl) $ free_all ! refl $
+    use0 𝓛 (‵ (Answer.own_val (Ok (block_ptr b o)) (answer_val true b o ∷ []))) (Answer-Ok 𝓛 b o) $
+    ends _ (Ok (block_ptr b o)))
+    (λ is. lands_as ! is refl (Answer-typed false 0 0) $ returns ! (look_at ! 0 refl) $
+    free_all ! refl $ refused))))))))))
