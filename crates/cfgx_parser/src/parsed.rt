@@ -168,6 +168,7 @@ impl<'a, A: SmallAllocator> TextReader<'a, A> {
     ///
     /// The error is the first fault of the text, or that the allocator refused memory. Either way
     /// the reader can read the next text.
+    #[inline(always)]
     pub fn read(&mut self, original: &'a str) -> Result<ParsedRef<'_>, Failure<A>>
         ensures { Answers (strip original.now) result }
     {

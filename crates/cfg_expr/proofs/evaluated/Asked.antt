@@ -6,7 +6,7 @@ use Rattle.cfgx_parser.specs.nodes.Prefix.{places}
 use Rattle.cfg_expr.specs.Asking.{Asker, Asks, Calls, MayAsk, MayAskEach}
 use Rattle.cfg_expr.specs.declared.expr.evaluating.Member.{Member}
 use Rattle.cfg_expr.specs.declared.expr.evaluating.Member.TheVariants as member
-use Rattle.cfg_expr.specs.nodes.AnswerSlots.{Asking, AnswersPut, with_answers}
+use Rattle.cfg_expr.specs.nodes.AnswerSlots.{Asking, AnswersPut}
 
 -- one call more
 Calls-then : {F T : Type 0} {asker : Asker F T} {start now after : F} {questions : List Question}

@@ -126,6 +126,7 @@ impl<'a, A: SmallAllocator> ConditionReader<'a, A> {
     ///
     /// The error is the first fault of the text, or that the allocator refused memory. Either way
     /// the next text can be read.
+    #[inline(always)]
     pub fn read(&mut self, original: &'a str) -> Result<Condition<'_>, Failure<A>>
         ensures { Answers (strip original.now) result }
     {
