@@ -260,6 +260,7 @@ impl<'a, A: SmallAllocator> Parser<'a, A> {
 
     /// Forgets what was read, to read a text of so many bytes. Its memory stays. A fault was taken
     /// by the failure that told it.
+    #[inline(always)]
     pub(crate) fn restart(&mut self, len: usize) -> Result<(), AllocError>
         ensures { state_of self.new ≡ initial }
     {
