@@ -4,4 +4,6 @@
 #[cfg(test)]
 mod evaluation;
 #[cfg(test)]
+mod long;
+#[cfg(test)]
 mod targets;

@@ -2,9 +2,8 @@
 use super::manifests::may_need;
 use super::matcher::Board;
 use super::sections::verdicts_on;
-use super::{Finding, shows};
+use super::shows;
 use cfg_expr::error::Failure;
-use cfgx_testing::holding::holds;
 use std::alloc::Global;
 
 /// A board of 16 bits without an operating system.
@@ -20,15 +19,19 @@ pub const LINUX: Board<'static> = Board {
 };
 
 // Whether the board says this of the sections of a manifest.
-fn says(alloc: Global, board: &Board<'_>, manifest: &[(&str, &str)], verdicts: &str) -> Finding {
-    Ok(shows(alloc, &verdicts_on(alloc, board, manifest)?, verdicts))
+fn says(alloc: Global, board: &Board<'_>, manifest: &[(&str, &str)], verdicts: &str) -> bool {
+    shows(alloc, verdicts_on(alloc, board, manifest), verdicts)
 }
 
 /// Whether `BARE` and `LINUX` say this of a section with this condition.
-pub fn both_say(alloc: Global, condition: &str, verdicts: &str) -> Finding {
-    let (one, other) = verdicts.split_once(' ').unwrap_or((verdicts, ""));
+pub fn both_say(alloc: Global, condition: &str, verdicts: &str) -> bool {
     let manifest = [("", condition)];
-    Ok(says(alloc, &BARE, &manifest, one)? && says(alloc, &LINUX, &manifest, other)?)
+    match verdicts.split_once(' ') {
+        Some((one, other)) => {
+            says(alloc, &BARE, &manifest, one) && says(alloc, &LINUX, &manifest, other)
+        }
+        None => false,
+    }
 }
 
 const MANIFEST: &[(&str, &str)] = &[
@@ -44,7 +47,7 @@ const MANIFEST: &[(&str, &str)] = &[
 #[test]
 fn sections_are_picked_and_faults_refused(rt: HostRuntime) {
     let alloc = rt.alloc();
-    assert!(rt; holds(says(alloc, &BARE, MANIFEST, "[Yes, No, Unknown, No]")));
+    assert!(rt; says(alloc, &BARE, MANIFEST, "[Yes, No, Unknown, No]"));
     assert!(rt; verdicts_on(alloc, &BARE, &[("a", "b)")]).is_err());
     let needed = may_need(alloc, &[("libc", "cfg(unix")], &BARE);
     assert!(rt; matches!(needed, Err(Failure::Parse(_))));
@@ -59,9 +62,9 @@ const DEPENDENCIES: &[(&str, &str)] = &[
 ];
 
 /// Whether a build for a board of this system and these bits may need these.
-pub fn needs(alloc: Global, board: &str, names: &str) -> Finding {
+pub fn needs(alloc: Global, board: &str, names: &str) -> bool {
     let (os, bits) = board.split_once(' ').unwrap_or((board, ""));
     let pointer_width = bits.parse().unwrap_or(0);
     let board = Board { os, pointer_width };
-    Ok(shows(alloc, &may_need(alloc, DEPENDENCIES, &board)?, names))
+    shows(alloc, may_need(alloc, DEPENDENCIES, &board), names)
 }

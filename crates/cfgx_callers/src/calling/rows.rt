@@ -34,9 +34,12 @@ fn on_each(
     Ok(Some(expression.eval_lanes(alloc, answers.as_slice())?))
 }
 
+// The predicate is dropped by name, since a drop at the end of the scope takes long to prove.
 fn lanes(predicate: Predicate<'_>, rows: &[TargetInfo]) -> Kleene64 {
-    match &predicate {
+    let lanes = match &predicate {
         Predicate::Target(target) if rows.len() <= 64 => target.lanes(rows),
         _ => Kleene64::new(0, 0),
-    }
+    };
+    drop(predicate);
+    lanes
 }
