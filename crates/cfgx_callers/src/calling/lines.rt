@@ -28,6 +28,8 @@ pub fn row_of<'a>(
             widths.push(width)?;
         }
     }
+    let families = Families::new(alloc, families.into_iter())?;
+    let has_atomics = HasAtomics::new(alloc, widths.into_iter())?;
     Ok(Some(TargetInfo {
         triple: Triple::new_const(triple),
         os: Some(Os::new_const(first(lines, "target_os"))),
@@ -35,10 +37,10 @@ pub fn row_of<'a>(
         arch: Arch::new_const(first(lines, "target_arch")),
         env: Some(Env::new_const(first(lines, "target_env"))),
         vendor: Some(Vendor::new_const(first(lines, "target_vendor"))),
-        families: Families::new(alloc, families.into_iter())?,
+        families,
         pointer_width,
         endian,
-        has_atomics: HasAtomics::new(alloc, widths.into_iter())?,
+        has_atomics,
         panic: Panic::new_const(first(lines, "panic")),
     }))
 }

@@ -42,7 +42,7 @@ fn fill<M: TargetMatcher>(answers: &mut [Option<bool>], asked: Predicates<'_>, t
 }
 
 fn answer_of<M: TargetMatcher>(predicate: Predicate<'_>, target: &M) -> Option<bool> {
-    match &predicate {
+    match predicate {
         Predicate::Target(asked) => Some(asked.matches(target)),
         _ => None,
     }

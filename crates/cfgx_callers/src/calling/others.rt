@@ -6,6 +6,8 @@ use std::alloc::{AllocError, Global};
 
 /// The row of a target that is not built in.
 pub fn linux_row(alloc: Global) -> Result<TargetInfo<'static>, AllocError> {
+    let families = Families::unix(alloc)?;
+    let has_atomics = HasAtomics::atomic_8_16_32_64_ptr(alloc)?;
     Ok(TargetInfo {
         triple: Triple::new_const("x86_64-unknown-linux-gnu"),
         os: Some(Os::linux()),
@@ -13,10 +15,10 @@ pub fn linux_row(alloc: Global) -> Result<TargetInfo<'static>, AllocError> {
         arch: Arch::x86_64(),
         env: Some(Env::gnu()),
         vendor: Some(Vendor::unknown()),
-        families: Families::unix(alloc)?,
+        families,
         pointer_width: 64,
         endian: Endian::little,
-        has_atomics: HasAtomics::atomic_8_16_32_64_ptr(alloc)?,
+        has_atomics,
         panic: Panic::unwind(),
     })
 }

@@ -25,14 +25,19 @@ pub fn value_for(
     Ok(value)
 }
 
-/// Prints the value of a condition on Linux with the feature `x`.
-pub fn main(rt: HostRuntime) -> io::Result<()> {
-    let row = linux_row(rt.alloc())?;
-    match value_for(rt.alloc(), "all(unix, feature = \"x\")", &row, &["x"]) {
+fn print_value(rt: &HostRuntime, value: Result<bool, Failure>) -> io::Result<()> {
+    match value {
         Ok(value) => println!(rt; "{value}"),
         Err(Failure::Parse(fault)) => println!(rt; "{fault}"),
         Err(Failure::Memory(error)) => Err(error.into()),
     }
+}
+
+/// Prints the value of a condition on Linux with the feature `x`.
+pub fn main(rt: HostRuntime) -> io::Result<()> {
+    let row = linux_row(rt.alloc())?;
+    let value = value_for(rt.alloc(), "all(unix, feature = \"x\")", &row, &["x"]);
+    print_value(&rt, value)
 }
 
 #[test]
