@@ -1,0 +1,6 @@
+-- The text is the one that was parsed.
+use Rattle.std.proofs.Common.{rules}
+use Rattle.cfg_expr.proofs.expr.Expression.original.Goals as goal
+
+pub returns : goal.returns
+returns g c = search rules
