@@ -4,6 +4,4 @@
 #[cfg(test)]
 mod evaluation;
 #[cfg(test)]
-mod long;
-#[cfg(test)]
 mod targets;
