@@ -1,9 +1,9 @@
 //! The texts of a file, which one reader reads one after another as parsing reads each of them.
 //! Each field of each row is such a text, without the marks of the answers of the Rust crate. A
 //! reader borrows its texts, so they are kept to the end of the file.
-use cfg_expr::Expression;
 use cfg_expr::error::Failure;
 use cfg_expr::expr::{Condition, ConditionReader};
+use cfg_expr::{Expression, Predicate};
 use std::alloc::{AllocError, Global};
 
 /// Adds the texts of a row.
@@ -18,12 +18,26 @@ pub(crate) fn push_texts(
     Ok(())
 }
 
-// Whether reading and parsing a text give the same predicates of the same stripped text, or the
-// same fault.
-fn are_alike(read: &Result<Condition<'_>, Failure>, parsed: &Result<Expression, Failure>) -> bool {
+// The value of a condition if each predicate is true, or `None` if there is no memory.
+fn value_of(alloc: Global, condition: &Condition<'_>) -> Option<bool> {
+    let mut yes = |_asked: &Predicate<'_>| true;
+    condition.eval(alloc, &mut yes).ok()
+}
+
+// Whether reading and parsing a text give the same predicates of the same stripped text, and the
+// same value, or the same fault.
+fn are_alike(
+    alloc: Global,
+    read: &Result<Condition<'_>, Failure>,
+    parsed: &Result<Expression, Failure>,
+) -> bool {
     match (read, parsed) {
-        (Ok(condition), Ok(expression)) => condition.original() == expression.original()
-            && condition.predicates().eq(expression.predicates()),
+        (Ok(condition), Ok(expression)) => {
+            condition.original() == expression.original()
+                && condition.predicates().eq(expression.predicates())
+                && value_of(alloc, condition).is_some()
+                && value_of(alloc, condition) == value_of(alloc, &expression.condition())
+        }
         (Err(one), Err(other)) => one == other,
         _ => false,
     }
@@ -36,7 +50,7 @@ pub(crate) fn read_alike(alloc: Global, texts: &[String]) -> usize {
     let mut count = 0usize;
     for text in texts {
         let text = text.as_str();
-        if !are_alike(&reader.read(text), &Expression::parse(alloc, text)) {
+        if !are_alike(alloc, &reader.read(text), &Expression::parse(alloc, text)) {
             return count;
         }
         count = count.saturating_add(1);
