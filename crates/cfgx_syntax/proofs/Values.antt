@@ -1,6 +1,6 @@
 -- Where a value ends: at the first quote after the one that opens it.
-use Rattle.std.proofs.Common.{Some, rules, ◌≡◌, ℕ, suc, ◌+◌, ◌-◌, ◌<◌, ◌≤◌, ◌≢◌, false, List, [], ◌∷◌}
-use Rattle.std.proofs.Common.{◌++◌, length, take, drop, get_or, sym, refl, ap, ◌∙◌, arith}
+use Rattle.std.proofs.Common.{rules, ◌≡◌, ℕ, suc, ◌+◌, ◌-◌, ◌<◌, ◌≤◌, ◌≢◌, false, List, [], ◌∷◌}
+use Rattle.std.proofs.Common.{Some, ◌++◌, length, take, drop, get_or, sym, refl, ap, ◌∙◌, arith}
 use Rattle.std.proofs.Common.{length-append, append_assoc, length-take, length-drop}
 use Rattle.std.specs.{Prelude.codes, Prelude.slice_range, Str.IsUtf8}
 use Rattle.std.proofs.Math.Seq.{split_at}

@@ -1,7 +1,7 @@
 -- What a `Lexer` gives.
-use Rattle.std.specs.Prelude.{◌≡◌, ◌≢◌, ℕ, ◌<◌, ◌≤◌, ◌&&◌, ◌||◌, Bool, true, false, not, List, length}
-use Rattle.std.specs.Prelude.{codes, take, drop, slice_index, Option, Some, None, Result, Ok, Err}
-use Rattle.std.specs.Prelude.{◌⊎◌}
+use Rattle.std.specs.Prelude.{◌≡◌, ◌≢◌, ℕ, ◌<◌, ◌≤◌, ◌&&◌, ◌||◌, ◌⊎◌, Bool, true, false, not}
+use Rattle.std.specs.Prelude.{List, length, codes, take, drop, slice_index, Option, Some, None}
+use Rattle.std.specs.Prelude.{Result, Ok, Err}
 use Rattle.std.specs.Option.{MatchOption}
 use Rattle.std.specs.Char.{char_set_contains, is_ascii, is_ascii_digit, is_whitespace}
 use Rattle.cfgx_syntax.specs.{Cut.CanBeCut, Token.Spells, Token.IsWhole}

@@ -128,8 +128,8 @@ fn value_token(text: &str) -> Result<(Token<'_>, usize), (Reason, usize)>
 }
 
 /// The token that the text begins with, by the class of its first byte, and how many bytes spell
-/// it. The error is why no token can start there, and how many bytes are at fault: one, also if a longer character stands there,
-/// or all of them after a quote that is never closed.
+/// it. The error is why no token can start there, and how many bytes are at fault: one, also if a
+/// longer character stands there, or all of them after a quote that is never closed.
 fn first_token(text: &str, class: Class) -> Result<(Token<'_>, usize), (Reason, usize)>
     requires { BeginsWithClass text.now (Some class) }
     ensures { BeginsAs text.now result }

@@ -77,15 +77,15 @@ impl Run {
         }
     }
 
-    /// How many of the first bytes are, one after another.
+    /// How many of the first bytes are, looked at one by one.
     fn count(self, bytes: &[u8]) -> usize
         ensures { result ≡ prefix_len (in_run self) bytes.now }
     {
         bytes.iter().take_while(|byte| self.has(**byte)).count()
     }
 
-    /// How many of the first bytes are. Four of them are looked at in each turn, which takes two
-    /// thirds of the steps.
+    /// How many of the first bytes are. Each turn looks at four of them, which takes two thirds of
+    /// the steps.
     #[inline(always)]
     #[tactic(auto, using(crate::proofs::Classes::counted))]
     pub(super) fn len(self, bytes: &[u8]) -> usize
@@ -112,8 +112,8 @@ impl Run {
     }
 }
 
-/// Where the first quote stands. Most values are short, and then it takes fewer steps to look at one
-/// byte after another than to prepare the search of `find`. It is not put inline, as `find` was not.
+/// Where the first quote stands. Most values are short: for these it takes fewer steps to look at
+/// one byte after another than to prepare the search of `find`.
 #[inline(never)]
 pub(super) fn quote_in(text: &str) -> Option<usize>
     ensures { FindsQuote text.now result }
@@ -127,7 +127,7 @@ pub(super) fn quote_in(text: &str) -> Option<usize>
     text.find('"')
 }
 
-/// How many bytes are looked at one after another.
+/// How many bytes `quote_in` looks at one after another.
 const SHORT_VALUE: usize = 16;
 
 /// The class of each byte.
