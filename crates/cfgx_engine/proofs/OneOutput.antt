@@ -29,17 +29,17 @@ use Rattle.cfgx_engine.specs.Sections.{section_text}
 
 -- at most one thing fits
 abbrev IsSingle : {X : Type 0} → (X → Type 0) → Type 0
-IsSingle {X} Fits = (one other : X) → Fits one → Fits other → one ≡ other
+IsSingle {X} Holds = (one other : X) → Holds one → Holds other → one ≡ other
 
 -- what is made of the one thing that fits
-single-made : {X Y : Type 0} {Fits : X → Type 0} (make : X → Y) → IsSingle Fits
-    → IsSingle (λ y. (x : X) × Fits x × (y ≡ make x))
+single-made : {X Y : Type 0} {Holds : X → Type 0} (make : X → Y) → IsSingle Holds
+    → IsSingle (λ y. (x : X) × Holds x × (y ≡ make x))
 single-made make single one other this that =
     this.2 ∙ ap make (single this.0 that.0 this.1 that.1) ∙ sym that.2
 
 -- at most one output fits, and a run that writes it was not refused
 abbrev pub IsDecided : (Output → Type 0) → Type 0
-IsDecided Fits = (one other : Output) → Fits one → Fits other → (one ≡ other) × (one.status < 3)
+IsDecided Holds = (one other : Output) → Holds one → Holds other → (one ≡ other) × (one.status < 3)
 
 -- an output that is written out
 decided : (shown : Output) → shown.status < 3 → IsDecided (λ output. output ≡ shown)
@@ -47,8 +47,8 @@ decided shown low one other this that =
     (this ∙ sym that, omega (arith, ap (λ (o : Output). o.status) this))
 
 -- one that is made of the one thing that fits
-decided-made : {X : Type 0} {Fits : X → Type 0} (make : X → Output) → IsSingle Fits
-    → ((x : X) → (make x).status < 3) → IsDecided (λ output. (x : X) × Fits x × (output ≡ make x))
+decided-made : {X : Type 0} {Holds : X → Type 0} (make : X → Output) → IsSingle Holds
+    → ((x : X) → (make x).status < 3) → IsDecided (λ output. (x : X) × Holds x × (output ≡ make x))
 decided-made make single low one other this that = grind (arith, single-made)
 
 -- what is said of both outputs is said of the one that is chosen by a test, or by a target's row
@@ -127,11 +127,11 @@ Prints-decided Request.wrong_use input = decided usage (omega arith)
 
 -- Something fits.
 abbrev HasSome : {X : Type 0} → (X → Type 0) → Type 0
-HasSome {X} Fits = (x : X) × Fits x
+HasSome {X} Holds = (x : X) × Holds x
 
 -- what is made of it
-some_made : {X Y : Type 0} {Fits : X → Type 0} (make : X → Y) → HasSome Fits
-    → HasSome (λ y. (x : X) × Fits x × (y ≡ make x))
+some_made : {X Y : Type 0} {Holds : X → Type 0} (make : X → Y) → HasSome Holds
+    → HasSome (λ y. (x : X) × Holds x × (y ≡ make x))
 some_made make one = (make one.0, (one.0, one.1, refl))
 
 -- It is known of a list whether an item fits, if it is known of each item whether it does.

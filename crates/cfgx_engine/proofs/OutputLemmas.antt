@@ -22,10 +22,10 @@ shown_fault None fits shows = absurd shows
 shown_fault (Some fault) fits shows = (fault, fits, shows)
 
 -- an answer shows the value that is given, or the fault in its place
-pub result_output-shown : {A : Type 0} (Fits : Result (Option Bool) Fault → Type 0)
-    (result : Result (Option Bool) (Failure A)) (shown : Output) → FitsResult {A = A} Fits result
+pub result_output-shown : {A : Type 0} (Holds : Result (Option Bool) Fault → Type 0)
+    (result : Result (Option Bool) (Failure A)) (shown : Output) → FitsResult {A = A} Holds result
     → ShowsResult {A = A} result shown
-    → (value : Result (Option Bool) Fault) × Fits value × (shown ≡ result_output value)
-result_output-shown Fits (Ok value) shown gives shows = (Ok value, gives, shows)
-result_output-shown Fits (Err failed) shown fails shows =
+    → (value : Result (Option Bool) Fault) × Holds value × (shown ≡ result_output value)
+result_output-shown Holds (Ok value) shown gives shows = (Ok value, gives, shows)
+result_output-shown Holds (Err failed) shown fails shows =
     let one = shown_fault (failure_of failed) fails shows in (Err one.0, one.1, one.2)

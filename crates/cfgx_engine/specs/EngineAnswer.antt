@@ -55,12 +55,12 @@ ShowsResult (Err failed) output = ShowsFailure failed output
 
 -- this holds of the fault; out of memory nothing is said
 abbrev pub Fails : {A : Type 0} → (Fault → Type 0) → Failure A → Type 0
-Fails Fits failed = IfSome (failure_of failed) Fits
+Fails Holds failed = IfSome (failure_of failed) Holds
 
 -- this holds of the value, or of the fault in its place; out of memory nothing is said
 abbrev pub FitsResult : {T A : Type 0} → (Result T Fault → Type 0) → Result T (Failure A) → Type 0
-FitsResult Fits (Ok value) = Fits (Ok value)
-FitsResult Fits (Err failed) = Fails (λ fault. Fits (Err fault)) failed
+FitsResult Holds (Ok value) = Holds (Ok value)
+FitsResult Holds (Err failed) = Fails (λ fault. Holds (Err fault)) failed
 
 -- the flag of a word, whose text has one tree, is added to the flags of its kind
 pub record AddsFlag {A : Type 0} (word : List ℕ) (old new : Flags A) : Type 0 where
@@ -115,5 +115,5 @@ AddsLine answer number line old new =
 
 -- this holds of the message of a fault; out of memory nothing is said
 abbrev pub Tells : {A : Type 0} → (List ℕ → Type 0) → LineError A → Type 0
-Tells Fits (line_error.Faulty text) = Fits (string_bytes text)
-Tells Fits (line_error.Memory error) = Unit {0}
+Tells Holds (line_error.Faulty text) = Holds (string_bytes text)
+Tells Holds (line_error.Memory error) = Unit {0}
