@@ -33,10 +33,11 @@ fn are_alike(
 ) -> bool {
     match (read, parsed) {
         (Ok(condition), Ok(expression)) => {
-            condition.original() == expression.original()
+            let value = value_of(alloc, condition);
+            value.is_some()
+                && value == value_of(alloc, &expression.condition())
+                && condition.original() == expression.original()
                 && condition.predicates().eq(expression.predicates())
-                && value_of(alloc, condition).is_some()
-                && value_of(alloc, condition) == value_of(alloc, &expression.condition())
         }
         (Err(one), Err(other)) => one == other,
         _ => false,
