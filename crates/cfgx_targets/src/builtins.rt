@@ -7,6 +7,7 @@ use crate::atomic::HasAtomic;
 use crate::endian::Endian;
 use crate::info::TargetInfo;
 use crate::list::SortedList;
+use crate::made::{beside, push};
 use crate::table::TargetTable;
 use cfgx_fields::{Abi, Arch, Env, Family, Os, Panic, Triple, Vendor};
 use std::alloc::{AllocError, Allocator};
@@ -27,8 +28,7 @@ impl<'a, A: Allocator> SortedList<'a, Family<'a, A>, A> {
     pub fn unix_wasm(alloc: A) -> Result<Self, AllocError>
         ensures { IfOk result (λ list. list ≡ codes "unix" ∷ codes "wasm" ∷ []) }
     {
-        let mut families = one(alloc, Family::unix())?;
-        families.push(Family::wasm())?;
+        let families = two(alloc, Family::unix(), Family::wasm())?;
         Ok(SortedList::from_sorted(families))
     }
 
@@ -65,6 +65,15 @@ fn one<T: Drop, A: Allocator>(alloc: A, item: T) -> Result<Vec<T, A>, AllocError
 {
     let mut items = Vec::new(alloc);
     items.push(item)?;
+    Ok(items)
+}
+
+// A vector of these two items, in memory of `alloc`.
+fn two<T: Drop, A: Allocator>(alloc: A, item: T, other: T) -> Result<Vec<T, A>, AllocError>
+    ensures { IfOk result (λ items. items.items ≡ item ∷ other ∷ []) }
+{
+    let mut items = one(alloc, item)?;
+    items.push(other)?;
     Ok(items)
 }
 
@@ -155,13 +164,24 @@ const TVOS: &str = "aarch64-apple-tvos";
 fn rows<'a, A: Allocator + Copy>(alloc: A) -> Result<Vec<TargetInfo<'a, A>, A>, AllocError>
     ensures { IfOk result (λ rows. rows.items ≡ builtin_rows) }
 {
-    let mut rows: Vec<TargetInfo<'a, A>, A> = Vec::with_capacity(alloc, 5)?;
-    push_apple(&mut rows, alloc, DARWIN, "macos", None)?;
-    push_apple(&mut rows, alloc, IOS, "ios", None)?;
-    push_apple(&mut rows, alloc, MACABI, "ios", Some("macabi"))?;
-    push_apple(&mut rows, alloc, SIM, "ios", Some("sim"))?;
-    push_apple(&mut rows, alloc, TVOS, "tvos", None)?;
+    let mut rows = Vec::with_capacity(alloc, 5)?;
+    push_rows(&mut rows, alloc)?;
     Ok(rows)
+}
+
+// Adds the rows of these targets to a list of none.
+fn push_rows<'a, A: Allocator + Copy>(
+    rows: &mut Vec<TargetInfo<'a, A>, A>,
+    alloc: A,
+) -> Result<(), AllocError>
+    requires { rows.old.items ≡ [] }
+    ensures { OnOk result (rows.new.items ≡ builtin_rows) }
+{
+    push_apple(rows, alloc, DARWIN, "macos", None)?;
+    push_apple(rows, alloc, IOS, "ios", None)?;
+    push_apple(rows, alloc, MACABI, "ios", Some("macabi"))?;
+    push_apple(rows, alloc, SIM, "ios", Some("sim"))?;
+    push_apple(rows, alloc, TVOS, "tvos", None)
 }
 
 // Adds a target of Apple's with this triple and operating system. The variant, if there is one,
@@ -177,12 +197,13 @@ fn push_apple<'a, A: Allocator + Copy>(
         triple.now os.now (option_copied variant.entry) (option_copied variant.entry) ∷ []) }
 {
     let families = SortedList::unix(alloc)?;
-    let has_atomics = SortedList::atomic_8_16_32_64_128_ptr(alloc)?;
+    let widths = SortedList::atomic_8_16_32_64_128_ptr(alloc);
+    let (families, has_atomics) = beside(families, widths)?;
     let (abi, env) = match variant {
         Some(name) => (Some(Abi::new_const(name)), Some(Env::new_const(name))),
         None => (None, None),
     };
-    rows.push(TargetInfo {
+    let row = TargetInfo {
         triple: Triple::new_const(triple),
         os: Some(Os::new_const(os)),
         abi,
@@ -194,6 +215,6 @@ fn push_apple<'a, A: Allocator + Copy>(
         endian: Endian::little,
         has_atomics,
         panic: Panic::unwind(),
-    })?;
-    Ok(())
+    };
+    push(rows, Ok(row))
 }

@@ -4,6 +4,7 @@ ghost use Rattle.std.specs.Prelude.{◌≡◌, ◌↔◌, ◌∷◌, ◌++◌, [
 ghost use Rattle.std.specs.Prelude.{OnOk};
 
 use crate::list::{Member, SortedList, are_sorted};
+use crate::made::push;
 use cfgx_fields::Family;
 use std::alloc::{AllocError, Allocator, Global};
 use std::borrow::CowSlice;
@@ -82,7 +83,5 @@ fn push_copy<'a, A: Allocator + Copy>(
 ) -> Result<(), AllocError>
     ensures { OnOk result (copies.new.items ≡ copies.old.items ++ family.now ∷ []) }
 {
-    let copy = family.try_clone(alloc)?;
-    copies.push(copy)?;
-    Ok(())
+    push(copies, family.try_clone(alloc))
 }

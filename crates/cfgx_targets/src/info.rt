@@ -5,6 +5,7 @@ ghost use Rattle.std.specs.Prelude.{◌≡◌, IfOk};
 use crate::atomics::HasAtomics;
 use crate::endian::Endian;
 use crate::families::Families;
+use crate::made::beside;
 use cfgx_fields::{Abi, Arch, Env, Field, Os, Panic, Triple, Vendor};
 use std::alloc::{AllocError, Allocator, Global};
 
@@ -71,9 +72,11 @@ impl<'a, A: Allocator + Copy> TargetInfo<'a, A> {
     pub fn try_clone(&self, alloc: A) -> Result<Self, AllocError>
         ensures { IfOk result (λ copy. copy ≡ self.now) }
     {
-        let (triple, arch, vendor) = self.copied_names(alloc)?;
-        let (os, abi, env) = self.copied_platform(alloc)?;
-        let (families, has_atomics, panic) = self.copied_lists(alloc)?;
+        let names = self.copied_names(alloc)?;
+        let (names, platform) = beside(names, self.copied_platform(alloc))?;
+        let (both, lists) = beside((names, platform), self.copied_lists(alloc))?;
+        let ((triple, arch, vendor), (os, abi, env)) = both;
+        let (families, has_atomics, panic) = lists;
         Ok(TargetInfo {
             triple,
             os,
@@ -90,23 +93,23 @@ impl<'a, A: Allocator + Copy> TargetInfo<'a, A> {
     }
 }
 
-// In three groups: on each way out of a function the checker goes over all that is owned there, so
-// one function that copies every field takes it far longer.
 impl<'a, A: Allocator + Copy> TargetInfo<'a, A> {
     fn copied_names(&self, alloc: A) -> Result<Names<'a, A>, AllocError>
         ensures { IfOk result (λ copy. copy ≡ (self.now.triple, self.now.arch, self.now.vendor)) }
     {
         let triple = self.triple.try_clone(alloc)?;
-        let arch = self.arch.try_clone(alloc)?;
-        Ok((triple, arch, copied_field(&self.vendor, alloc)?))
+        let both = beside(triple, self.arch.try_clone(alloc))?;
+        let ((triple, arch), vendor) = beside(both, copied_field(&self.vendor, alloc))?;
+        Ok((triple, arch, vendor))
     }
 
     fn copied_platform(&self, alloc: A) -> Result<Platform<'a, A>, AllocError>
         ensures { IfOk result (λ copy. copy ≡ (self.now.os, self.now.abi, self.now.env)) }
     {
         let os = copied_field(&self.os, alloc)?;
-        let abi = copied_field(&self.abi, alloc)?;
-        Ok((os, abi, copied_field(&self.env, alloc)?))
+        let both = beside(os, copied_field(&self.abi, alloc))?;
+        let ((os, abi), env) = beside(both, copied_field(&self.env, alloc))?;
+        Ok((os, abi, env))
     }
 
     fn copied_lists(&self, alloc: A) -> Result<Lists<'a, A>, AllocError>
@@ -114,7 +117,8 @@ impl<'a, A: Allocator + Copy> TargetInfo<'a, A> {
             (λ copy. copy ≡ (self.now.families, self.now.has_atomics, self.now.panic)) }
     {
         let families = self.families.try_clone(alloc)?;
-        let has_atomics = self.has_atomics.try_clone(alloc)?;
-        Ok((families, has_atomics, self.panic.try_clone(alloc)?))
+        let both = beside(families, self.has_atomics.try_clone(alloc))?;
+        let ((families, has_atomics), panic) = beside(both, self.panic.try_clone(alloc))?;
+        Ok((families, has_atomics, panic))
     }
 }

@@ -10,5 +10,6 @@ pub mod families;
 pub mod info;
 mod laws;
 pub mod list;
+mod made;
 pub mod reading;
 pub mod table;

@@ -1,6 +1,6 @@
 -- The rows are pushed in their order.
 use Rattle.std.proofs.Common.{rules}
-use Rattle.cfgx_targets.proofs.builtins.rows.Goals as goal
+use Rattle.cfgx_targets.proofs.builtins.push_rows.Goals as goal
 
 pub returns : goal.returns
 returns g c = search rules
