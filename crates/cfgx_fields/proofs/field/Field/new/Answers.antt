@@ -1,6 +1,0 @@
--- The text is kept.
-use Rattle.std.proofs.Common.{rules}
-use Rattle.cfgx_fields.proofs.field.Field.new.Goals as goal
-
-pub returns : goal.returns
-returns g c = search rules

@@ -1,6 +1,0 @@
--- The planes are kept.
-use Rattle.std.proofs.Common.{rules}
-use Rattle.cfgx_syntax.proofs.logic.kleene.Kleene64.new.Goals as goal
-
-pub returns : goal.returns
-returns c = search rules

@@ -1,6 +1,0 @@
--- The derived order goes by the variants first.
-use Rattle.std.proofs.Common.{rules}
-use Rattle.cfgx_targets.proofs.laws.width_order.Goals as goal
-
-pub returns : goal.returns
-returns c = search rules
