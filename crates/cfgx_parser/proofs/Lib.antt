@@ -5,6 +5,7 @@ pub mod MatchedLanes
 pub mod NodeSizes
 pub mod Places
 pub mod ReadTokens
+pub mod Rooms
 pub mod Shapes
 pub mod Whole
 pub mod spelled

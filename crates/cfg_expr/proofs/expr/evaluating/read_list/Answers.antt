@@ -1,5 +1,6 @@
 -- The members are in front of what is left of the slots.
 use Rattle.std.proofs.Common.{◌≡◌, ◌+◌, ◌-◌, ◌++◌, ◌∷◌, ℕ, List, append_assoc, ap, arith}
+use Rattle.std.proofs.lemmas.Grind.{common_steps}
 use Rattle.std.proofs.Common.{drop, take, drop_at, length, length-append, min, sym}
 use Rattle.std.proofs.lemmas.List.{length-drop, length-take}
 use Rattle.cfg_expr.specs.nodes.Reading.{stack_of}
@@ -32,3 +33,9 @@ returns-clause-stack g c =
     (part-dropped (take first slots) c.join_members-value.new.members
     (drop (first + c.min.result - first) (drop first slots)) (first + c.min.result)
     (omega (arith, front, part))))
+
+pub offset_bounds-slots-first : goal.offset_bounds-slots-first
+offset_bounds-slots-first g c = grind (arith, common_steps)
+
+pub returns-clause-front : goal.returns-clause-front
+returns-clause-front g c = grind (arith, common_steps)

@@ -1,0 +1,11 @@
+use Rattle.cfgx_parser.proofs.Rooms.{arith, room}
+use Rattle.cfgx_parser.proofs.nodes.Writer.end_leaves.Goals as goal
+
+pub extend_from_slice-requires : goal.extend_from_slice-requires
+extend_from_slice-requires g c = room _ _ _ g.met.A.SmallAllocator.small (omega arith)
+
+pub as_slice-requires : goal.as_slice-requires
+as_slice-requires g c = room _ _ _ g.met.A.SmallAllocator.small (omega arith)
+
+pub truncate-requires : goal.truncate-requires
+truncate-requires g c = room _ _ _ g.met.A.SmallAllocator.small (omega arith)
