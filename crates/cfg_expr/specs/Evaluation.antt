@@ -1,4 +1,4 @@
--- What `Expression::eval` asks and answers.
+-- What `eval` of a condition asks and answers.
 use Rattle.std.specs.Prelude.{◌≡◌, ℕ, List, map}
 use Rattle.cfgx_grammar.specs.Question.{Question}
 use Rattle.cfgx_grammar.specs.Tree.{Tree, asked}

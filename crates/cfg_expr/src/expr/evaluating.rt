@@ -1,4 +1,4 @@
-//! The value of an expression. Each predicate is asked, in order, and its answer is put at the
+//! The value of a condition. Each predicate is asked, in order, and its answer is put at the
 //! place of its node. Then the nodes are read from the last to the first with one stack: a
 //! predicate puts its answer on it, a literal its value, and a function puts there, in the place of
 //! its members, which are on top, what they make. What is left on the stack is the value.
@@ -153,6 +153,7 @@ where
     let mut places = parsed.places().iter();
     for predicate in parsed.predicates() {
         let answer = ask(predicate, ep);
+        // There are as many places as predicates.
         let Some(place) = places.next() else {
             unreachable!()
         };
@@ -500,7 +501,7 @@ fn slots_of<T: Logic, A: Allocator>(
     Ok(slots)
 }
 
-/// What `Expression::eval` answers.
+/// What `Condition::eval` answers.
 ///
 /// The error is that `alloc` refused memory for the answers.
 pub(crate) fn value_of<EP, T, A>(

@@ -66,7 +66,7 @@ pub(super) enum Run {
 }
 
 impl Run {
-    /// Whether the byte may be one of them.
+    /// Whether the byte may stand in the run.
     fn has(self, byte: u8) -> bool
         ensures { result ≡ in_run self byte }
     {
@@ -77,15 +77,15 @@ impl Run {
         }
     }
 
-    /// How many of the first bytes are, looked at one by one.
+    /// How many bytes of the run the bytes begin with, looked at one by one.
     fn count(self, bytes: &[u8]) -> usize
         ensures { result ≡ prefix_len (in_run self) bytes.now }
     {
         bytes.iter().take_while(|byte| self.has(**byte)).count()
     }
 
-    /// How many of the first bytes are. Each turn looks at four of them, which takes two thirds of
-    /// the steps.
+    /// How many bytes of the run the bytes begin with. Each turn looks at four of them, which takes
+    /// two thirds of the steps.
     #[inline(always)]
     #[tactic(auto, using(crate::proofs::Classes::counted))]
     pub(super) fn len(self, bytes: &[u8]) -> usize
