@@ -3,6 +3,7 @@ use crate::calling::tables::table_of;
 use cfg_expr::targets::{TargetInfo, TargetTable};
 use cfgx_engine::resolve::Verdict;
 use cfgx_testing::answers::answer_of;
+use cfgx_testing::holding::push;
 use cfgx_testing::rows::check_pairs;
 use std::alloc::{AllocError, Global};
 use std::test::Fail;
@@ -18,13 +19,24 @@ any(target_env = "macabi", all(unix, not(test))) | ??1??
 all() | 11111
 "#;
 
+// Adds so many rows: all of these in turn.
+fn push_in_turn<'a>(
+    alloc: Global,
+    all: &[TargetInfo<'a>],
+    count: usize,
+    rows: &mut Vec<TargetInfo<'a>>,
+) -> Result<(), AllocError> {
+    for row in all.iter().cycle().take(count) {
+        push(rows, row.try_clone(alloc))?;
+    }
+    Ok(())
+}
+
 // So many rows: those of the five targets in turn.
 fn rows_in_turn(alloc: Global, count: usize) -> Result<Vec<TargetInfo<'static>>, AllocError> {
     let table = TargetTable::builtins(alloc)?;
     let mut rows = Vec::new(alloc);
-    for row in table.rows().iter().cycle().take(count) {
-        rows.push(row.try_clone(alloc)?)?;
-    }
+    push_in_turn(alloc, table.rows(), count, &mut rows)?;
     Ok(rows)
 }
 

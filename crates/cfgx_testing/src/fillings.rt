@@ -1,8 +1,7 @@
 //! Values and fillings worked out by hand, as rows.
 use crate::answers::{Answer, agree, answer_of};
 use crate::holding::holds;
-use cfg_expr::error::Failure;
-use cfg_expr::expr::ConditionReader;
+use cfg_expr::expr::{Condition, ConditionReader};
 use cfg_expr::{Decision, Expression};
 use std::alloc::{AllocError, Global};
 
@@ -106,19 +105,30 @@ fn are_shown(
     Ok(has_fillings && is_decided(&expression.decide(alloc, answers)?, told))
 }
 
-// Whether `decide` of the condition that a reader reads answers what a row tells, also in the
-// memory of an earlier decision.
-fn is_read(alloc: Global, text: &str, answers: &[Answer], told: &str) -> Result<bool, Failure> {
-    let mut reader = ConditionReader::new(alloc);
-    let condition = reader.read(text)?;
+// Whether `decide` of the condition answers what a row tells, also in the memory of an earlier
+// decision.
+fn decides(
+    alloc: Global,
+    condition: &Condition<'_>,
+    answers: &[Answer],
+    told: &str,
+) -> Result<bool, AllocError> {
     if condition.predicates().left() != answers.len() {
         return Ok(false);
     }
     let decision = condition.decide(alloc, answers, Decision::Known(false))?;
-    if !is_decided(&decision, told) {
-        return Ok(false);
+    let is_right = is_decided(&decision, told);
+    let again = condition.decide(alloc, answers, decision)?;
+    Ok(is_right && is_decided(&again, told))
+}
+
+// Whether it does for the condition that a reader reads.
+fn is_read(alloc: Global, text: &str, answers: &[Answer], told: &str) -> bool {
+    let mut reader = ConditionReader::new(alloc);
+    match reader.read(text) {
+        Ok(condition) => holds(decides(alloc, &condition, answers, told)),
+        Err(_failure) => false,
     }
-    Ok(is_decided(&condition.decide(alloc, answers, decision)?, told))
 }
 
 /// Whether a row tells what the text is over these answers, of which there are as many as
@@ -130,6 +140,6 @@ pub fn is_told(alloc: Global, text: &str, digits: &str, told: &str) -> Option<bo
     Some(
         agree(alloc, &expression, answers, told.parse().ok())
             && holds(are_shown(alloc, &expression, answers, told))
-            && holds(is_read(alloc, text, answers, told)),
+            && is_read(alloc, text, answers, told),
     )
 }

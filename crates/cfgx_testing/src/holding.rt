@@ -1,5 +1,5 @@
 //! What a check answers.
-use std::alloc::Global;
+use std::alloc::{AllocError, Allocator, Global};
 use std::fmt::Display;
 use std::hash::{DefaultHasher, Hash, Hasher};
 
@@ -16,6 +16,15 @@ pub fn holds<E: Drop>(answer: Result<bool, E>) -> bool {
 /// The proof of a drop takes long if the type of the value is known. Here it is not.
 pub fn gives<T: PartialEq + Drop, E: Drop>(answer: Result<T, E>, wanted: &T) -> Result<bool, E> {
     Ok(answer? == *wanted)
+}
+
+/// Adds what was made, if there is no error. The type is not known here either.
+pub fn push<T: Drop, A: Allocator>(
+    list: &mut Vec<T, A>,
+    made: Result<T, AllocError>,
+) -> Result<(), AllocError> {
+    list.push(made?)?;
+    Ok(())
 }
 
 /// Whether all checks hold. The error is the name of the first one that does not.

@@ -9,6 +9,7 @@ use crate::streams::{SECTIONS, USAGE, VERDICTS};
 use cfg_expr::Expression;
 use cfg_expr::error::{Failure, ParseError, Reason};
 use std::alloc::{AllocError, Global};
+use std::str::Split;
 
 // Adds what a piece after a backslash stands for, unless it is no escape.
 fn push_meant(text: &mut String, piece: &str) -> Option<()> {
@@ -54,14 +55,20 @@ fn push_times(text: &mut String, piece: &str, times: &str) -> Option<()> {
     Some(())
 }
 
+// Adds each piece as many times as the next part says, and the part after both.
+fn push_parts(text: &mut String, mut parts: Split<'_, char>) -> Option<()> {
+    while let Some(piece) = parts.next() {
+        push_times(text, piece, parts.next()?)?;
+        text.push_str(parts.next()?).ok()?;
+    }
+    Some(())
+}
+
 // The text with its pieces repeated, or nothing if one has no number.
 fn expanded(alloc: Global, field: &str) -> Option<String> {
     let mut parts = field.split('~');
     let mut text = String::from_str(alloc, parts.next()?).ok()?;
-    while let Some(piece) = parts.next() {
-        push_times(&mut text, piece, parts.next()?)?;
-        text.push_str(parts.next()?).ok()?;
-    }
+    push_parts(&mut text, parts)?;
     Some(text)
 }
 

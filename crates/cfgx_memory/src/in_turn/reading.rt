@@ -50,16 +50,21 @@ fn refuses<A: SmallAllocator>(reader: &mut ConditionReader<'_, A>) -> Finding {
     }
 }
 
-/// Whether one reader answers what parsing answered, before it reads a faulty text and after it.
+// Whether the reader answers what parsing answered, before it reads a faulty text and after it.
+fn reads_twice<'t, A: SmallAllocator, B: SmallAllocator>(
+    reader: &mut ConditionReader<'t, A>,
+    text: &'t str,
+    parsed: &Read<B>,
+) -> Finding {
+    Ok(reads(reader, text, parsed)? && refuses(reader)? && reads(reader, text, parsed)?)
+}
+
+/// Whether one reader does.
 pub(super) fn is_read<A: SmallAllocator, B: SmallAllocator>(
     alloc: A,
     text: &str,
     parsed: &Read<B>,
 ) -> Finding {
     let mut reader = ConditionReader::new(alloc);
-    Ok(
-        reads(&mut reader, text, parsed)?
-            && refuses(&mut reader)?
-            && reads(&mut reader, text, parsed)?,
-    )
+    reads_twice(&mut reader, text, parsed)
 }

@@ -7,10 +7,10 @@ use cfg_expr::targets::{
 };
 use cfgx_fields::Field;
 use cfgx_testing::heap::{empty_heap, has_every_block, is_refused_in_turns};
-use cfgx_testing::holding::{gives, holds, prints};
+use cfgx_testing::holding::{gives, holds, prints, push};
 use cfgx_testing::rows::check_pairs;
 use cfgx_testing::texts::repeated;
-use std::alloc::{AllocError, Allocator, Global};
+use std::alloc::{AllocError, Global};
 use std::fmt::Display;
 use std::test::Fail;
 
@@ -50,12 +50,6 @@ fn copies_many_widths<A: SmallAllocator>(alloc: A) -> Finding {
 // A field that owns this text.
 fn owned<'a, K, A: SmallAllocator>(alloc: A, text: &str) -> Made<Field<'a, K, A>> {
     Ok(Field::new(String::from_str(alloc, text)?))
-}
-
-/// Adds what was made. Its type is not known here, which makes its drop short to prove.
-pub(crate) fn push<T: Drop, A: Allocator>(list: &mut Vec<T, A>, made: Made<T>) -> Made<()> {
-    list.push(made?)?;
-    Ok(())
 }
 
 // Adds a family that owns its text for each of the texts, which spaces divide.

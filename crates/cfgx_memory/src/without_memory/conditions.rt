@@ -44,16 +44,27 @@ fn compares<A: SmallAllocator>(heap: Heap<'_>, alloc: A, text: &str, wanted: (bo
 // A text with more nodes than a reader makes room for at first.
 const LONG: &str = "all(a, b, c, d, e, not(any(not(f))))";
 
-// Whether a reader that has read `LONG` reads the text, and then `LONG` again, with every growth
-// refused.
+// Whether the reader, once it has read `LONG`, reads the text, and then `LONG` again, with every
+// growth refused.
+fn reads_again<'t, A: SmallAllocator>(
+    heap: Heap<'_>,
+    reader: &mut ConditionReader<'t, A>,
+    text: &'t str,
+    short: &Read<A>,
+    long: &Read<A>,
+) -> bool {
+    heap.refuse(0);
+    let is_read = holds(reads(reader, LONG, long));
+    heap.refuse(EVERY);
+    is_read && holds(reads(reader, text, short)) && holds(reads(reader, LONG, long))
+}
+
+// Whether a reader does.
 fn is_read_again<A: SmallAllocator>(heap: Heap<'_>, alloc: A, text: &str) -> bool {
     let long = read(heap, alloc, LONG);
     let short = read(heap, alloc, text);
     let mut reader = ConditionReader::new(alloc);
-    heap.refuse(0);
-    let is_read = holds(reads(&mut reader, LONG, &long));
-    heap.refuse(EVERY);
-    is_read && holds(reads(&mut reader, text, &short)) && holds(reads(&mut reader, LONG, &long))
+    reads_again(heap, &mut reader, text, &short, &long)
 }
 
 // Adds the spelling of the next predicate.

@@ -25,7 +25,7 @@ fn are_items(item: &LexerToken<'_>, token: Token<'_>, span: &Range<usize>) -> bo
 }
 
 // Whether the lexer strips the text, and gives its first items.
-fn gives_items<A: Allocator>(mut lexer: Lexer<'_, A>) -> bool {
+fn gives_items<A: Allocator>(lexer: &mut Lexer<'_, A>) -> bool {
     if lexer.original() != "key = \"v\" 8" || lexer.items_left_bound() != 11 {
         return false;
     }
@@ -38,12 +38,16 @@ fn gives_items<A: Allocator>(mut lexer: Lexer<'_, A>) -> bool {
     true
 }
 
+fn is_lexed<A: Allocator>(alloc: A) -> bool {
+    let mut lexer = Lexer::new(alloc, "cfg(key = \"v\" 8)");
+    gives_items(&mut lexer)
+}
+
 #[test]
 fn tokens_take_no_memory(rt: HostRuntime) {
     let heap = empty_heap(rt.alloc());
     heap.refuse(EVERY);
-    let are_given = gives_items(Lexer::new(&heap, "cfg(key = \"v\" 8)"));
-    assert!(rt; are_given && Token::Key("a") == Token::Key("a") && Token::Any != Token::All);
+    assert!(rt; is_lexed(&heap) && Token::Key("a") == Token::Key("a") && Token::Any != Token::All);
 }
 
 // A text, its fault's description, and what that prints.

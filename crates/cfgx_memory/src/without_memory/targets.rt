@@ -1,13 +1,13 @@
 //! Byte orders, widths, lists, rows and tables.
 use super::are_ordered;
-use crate::in_turn::targets::{SORTED, UNSORTED, push};
+use crate::in_turn::targets::{SORTED, UNSORTED};
 use cfg_expr::memory::SmallAllocator;
 use cfg_expr::targets::{
     Endian, Families, Family, HasAtomic, HasAtomics, TargetInfo, TargetTable,
     get_builtin_target_by_triple,
 };
 use cfgx_testing::heap::{Heap, empty_heap, has_every_block, holds_without_memory};
-use cfgx_testing::holding::{all_hold, gives, holds, prints};
+use cfgx_testing::holding::{all_hold, gives, holds, prints, push};
 use cfgx_testing::refusing::EVERY;
 use cfgx_testing::triples::{DARWIN, TVOS};
 use std::alloc::{AllocError, Global};
@@ -46,6 +46,11 @@ fn is_read<A: SmallAllocator>(heap: Heap<'_>, alloc: A, text: &str, width: HasAt
     is_read
 }
 
+// Whether the list has a family of this name.
+fn has<A: SmallAllocator>(list: &Families<'_, A>, name: &str) -> bool {
+    list.contains(&Family::new_const(name))
+}
+
 // Whether these are lists of two families, of the same two, and of one that is above. A list of
 // none is empty.
 fn are_two_families<'f, A: SmallAllocator>(
@@ -56,9 +61,9 @@ fn are_two_families<'f, A: SmallAllocator>(
 ) -> bool {
     are_ordered(list, same, above)
         && list.as_slice().len() == 2
-        && list.contains(&Family::unix())
-        && list.contains(&Family::wasm())
-        && !list.contains(&Family::windows())
+        && has(list, "unix")
+        && has(list, "wasm")
+        && !has(list, "windows")
         && prints(alloc, list, "{unix, wasm}")
         && Families::<'_, A>::new_const(&[]).as_slice().is_empty()
 }
@@ -67,20 +72,16 @@ fn are_two_families<'f, A: SmallAllocator>(
 type Made<'f, A> = Result<Families<'f, A>, AllocError>;
 
 // Whether these are such lists, if each of them was made.
-fn are_made<A: SmallAllocator>(
+fn are_made<'f, A: SmallAllocator>(
     alloc: Global,
-    list: Made<'_, A>,
-    same: Made<'_, A>,
-    above: Made<'_, A>,
+    list: &Made<'f, A>,
+    same: &Made<'f, A>,
+    above: &Made<'f, A>,
 ) -> Result<bool, AllocError> {
-    let list = list?;
-    let same = same?;
-    let above = above?;
-    let are_two = are_two_families(alloc, &list, &same, &above);
-    drop(list);
-    drop(same);
-    drop(above);
-    Ok(are_two)
+    match (list, same, above) {
+        (Ok(list), Ok(same), Ok(above)) => Ok(are_two_families(alloc, list, same, above)),
+        _ => Err(AllocError),
+    }
 }
 
 fn are_families<A: SmallAllocator>(
@@ -93,7 +94,7 @@ fn are_families<A: SmallAllocator>(
     let same = Families::unix_wasm(alloc);
     let above = Families::wasm(alloc);
     heap.refuse(EVERY);
-    are_made(out, list, same, above)
+    are_made(out, &list, &same, &above)
 }
 
 fn are_sorted(families: [Family<'_>; 2]) -> bool {
