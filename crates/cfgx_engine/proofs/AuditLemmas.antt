@@ -10,8 +10,7 @@ use Rattle.cfgx_grammar.specs.Question.{Question, TargetQuestion}
 use Rattle.cfgx_grammar.proofs.Answering.{only_tree}
 use Rattle.cfgx_engine.specs.Auditing.{InLanes, lane_verdicts}
 use Rattle.cfgx_engine.specs.Verdicts.{IsVerdict, answer_by, verdict_of}
-use Rattle.cfgx_engine.specs.declared.resolve.Verdict.{Verdict}
-use Rattle.cfgx_engine.proofs.VerdictLemmas.{IsVerdict-by}
+use Rattle.cfgx_engine.{specs.declared.resolve.Verdict.Verdict, proofs.VerdictLemmas.IsVerdict-by}
 
 module _ {M : Type 0} (targets : List M) where
   -- what holds of each target and of the verdict in its lane holds of them one after another

@@ -1,11 +1,10 @@
 -- The flags of words, one word after another.
 use Rattle.std.proofs.Common.{◌≡◌, ◌≢◌, ℕ, List, [], ◌∷◌, ◌++◌, None, Ok, Err, codes, map, refl, ap}
 use Rattle.std.proofs.Common.{◌<◌, ◌+◌, zero, suc, Bor, bytes_eq, length, get_or, take, arith}
-use Rattle.std.proofs.lemmas.Bool.{false_from_ne_true}
+use Rattle.std.{proofs.lemmas.Bool.false_from_ne_true, specs.List.AllByRecursion}
 use Rattle.std.proofs.{lemmas.List.map-append, lemmas.List.take_more, lemmas.Option.IfSome_then}
 use Rattle.std.proofs.lemmas.List.Elements.{All-from_recursion, All-push, filter_map-append}
 use Rattle.std.proofs.{lemmas.List.Elements.recursion_from_All, lemmas.Slice.Eq.bytes_eq-Decides}
-use Rattle.std.specs.List.{AllByRecursion}
 use Rattle.cfgx_syntax.specs.Stripping.{strip}
 use Rattle.cfgx_syntax.specs.{Error.Fault, Error.failure_of, declared.error.Failure.Failure}
 use Rattle.cfgx_grammar.specs.{Question.Question, Tree.Tree, Answer.HasOneTree}

@@ -15,9 +15,8 @@ use Rattle.cfgx_targets.specs.{Builtins.builtin_rows, Table.row_with}
 use Rattle.cfgx_targets.specs.declared.info.TargetInfo.{TargetInfo}
 use Rattle.cfgx_grammar.specs.{Question.Question, Spelling.spelling, Tree.Tree}
 use Rattle.cfgx_grammar.specs.{WellFormed.IsWellFormed, Filling.three_valued, Fold.tree_fold}
-use Rattle.cfgx_grammar.specs.{Answer.ReadsAs}
+use Rattle.cfgx_grammar.{specs.Answer.ReadsAs, proofs.alone.spelling_alone}
 use Rattle.cfgx_grammar.proofs.{Answering.only_tree, Answering.same_fault, alone.well_formed_tree}
-use Rattle.cfgx_grammar.proofs.alone.{spelling_alone}
 use Rattle.cfgx_engine.specs.Flags.{IsAnswer, Names, flag_text, known_texts, unknown_texts}
 use Rattle.cfgx_engine.specs.{Input.input_limit, Request.Request, Request.request_of}
 use Rattle.cfgx_engine.specs.Output.{HasValue, Output, ValueBy, answer_on, result_output}
@@ -104,8 +103,7 @@ HasValue-single text flags one other this that =
 -- what the lines of sections print
 PrintsLine-single : (answer : Question → Option Bool) (numbered : ℕ × Line)
     → IsSingle (PrintsLine answer numbered)
-PrintsLine-single answer numbered one other this that =
-    grind (arith, single-made, ParsesAs-single)
+PrintsLine-single answer numbered one other this that = grind (arith, single-made, ParsesAs-single)
 
 Picks-decided : (answer : Question → Option Bool) (input : List ℕ) → IsDecided (Picks answer input)
 Picks-decided answer input =
@@ -177,8 +175,7 @@ module _ (Q : List ℕ → Type 0) (tested : (text : List ℕ) → is_utf8 text 
       let front = (starts_is Decides-eqb text (codes "cfg(") _ refl).0 in
       let back = (ends_is Decides-eqb text (codes ")") _ refl).0 in
       let after = cut text 3 is in
-      let before = cut (drop 4 text) (length text - 1 - 4) in
-      grind (arith, common_steps)
+      let before = cut (drop 4 text) (length text - 1 - 4) in grind (arith, common_steps)
 
   ParsesAs-some : (text : List ℕ) → Q text → HasSome (ParsesAs text)
   ParsesAs-some text is = parsed (reads _ (strip-is text is))

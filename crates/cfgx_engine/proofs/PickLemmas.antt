@@ -4,8 +4,7 @@ use Rattle.std.proofs.Common.{None, Ok, arith, length-append, append-nil, le-ltb
 use Rattle.std.specs.Io.KnownBytes.{Consumes, IsAtEnd, Keeps}
 use Rattle.cfgx_grammar.specs.Question.{Question}
 use Rattle.cfgx_engine.specs.{EngineAnswer.PicksFrom, Output.Output}
-use Rattle.cfgx_engine.specs.declared.engine.reading.Input.{Input}
-use Rattle.cfgx_engine.specs.Input.{ReadsInput}
+use Rattle.cfgx_engine.{specs.declared.engine.reading.Input.Input, specs.Input.ReadsInput}
 use Rattle.cfgx_engine.specs.{Prints.PicksInput, Prints.Prints, Prints.PrintsInput, Request.Request}
 
 -- what was read is a front of what a source holds, if it tells its bytes, and all of it at the end

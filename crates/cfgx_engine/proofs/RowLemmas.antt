@@ -1,8 +1,7 @@
 -- Rows of targets, whatever allocator their texts would be owned in.
 use Rattle.std.proofs.Common.{◌≡◌, arith, ℕ, Bool, List, [], ◌∷◌, Option, map, find, option_map}
 use Rattle.std.proofs.Common.{bytes_eq, refl, ap, sym, ◌∙◌}
-use Rattle.std.proofs.Math.Path.{fun_ext}
-use Rattle.std.specs.declared.alloc.Global.{Global}
+use Rattle.std.{proofs.Math.Path.fun_ext, specs.declared.alloc.Global.Global}
 use Rattle.cfgx_targets.specs.Builtins.{builtin_rows}
 use Rattle.cfgx_targets.specs.{Table.row_with, declared.info.TargetInfo.TargetInfo}
 use Rattle.cfgx_grammar.specs.{Question.TargetQuestion, Matching.meets}

@@ -1,10 +1,9 @@
 -- What the lines of sections print, one after another.
 use Rattle.std.proofs.Common.{◌≡◌, ◌≤◌, ℕ, ◌+◌, Bool, true, false, List, [], ◌∷◌, ◌++◌, length, map}
 use Rattle.std.proofs.Common.{refl, ap, sym, Option, Some, None, Result, Ok, Err, append_assoc}
-use Rattle.std.proofs.lemmas.Iterator.{YieldsList}
-use Rattle.std.specs.List.{concat, enumerate_from}
+use Rattle.std.{proofs.lemmas.Iterator.YieldsList, specs.List.concat, specs.List.enumerate_from}
+use Rattle.std.{specs.Str.Pattern.FindsChar, specs.declared.str.Split.Split}
 use Rattle.std.specs.{Prelude.string_bytes, Str.Iter.split_steps, Str.Lines.strip_carriage_return}
-use Rattle.std.specs.{Str.Pattern.FindsChar, declared.str.Split.Split}
 use Rattle.cfgx_grammar.specs.{Question.Question, Tree.Tree}
 use Rattle.cfg_expr.specs.{Deciding.IsDecision, declared.expr.Decision.Decision}
 use Rattle.cfg_expr.specs.declared.expr.Decision.TheVariants as decision

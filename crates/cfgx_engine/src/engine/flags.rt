@@ -74,7 +74,9 @@ fn is_same(one: &Predicate<'_>, other: &Predicate<'_>) -> bool
 fn is_asked(named: Predicate<'_>, asked: &Predicate<'_>) -> bool
     ensures { IsTrue result ↔ (question_of named.entry ≡ question_of asked.now) }
 {
-    is_same(&named, asked)
+    let is_asked = is_same(&named, asked);
+    drop(named);
+    is_asked
 }
 
 /// Whether one of the flags names the predicate. It is asked twice for each predicate, mostly of no
@@ -149,6 +151,18 @@ pub(super) fn value_under<A: SmallAllocator>(
     ensures { FitsResult (HasValue text.now (texts words.now)) result }
 {
     let mut conditions = ConditionReader::new(alloc);
+    value_read(alloc, text, words, &mut conditions)
+}
+
+/// The value, by a reader that the caller owns. At a `?` the proof goes over all that is owned.
+fn value_read<'a, A: SmallAllocator>(
+    alloc: A,
+    text: &'a str,
+    words: &[&str],
+    conditions: &mut ConditionReader<'a, A>,
+) -> Result<Option<bool>, Failure<A>>
+    ensures { FitsResult (HasValue text.now (texts words.now)) result }
+{
     let condition = conditions.read(text)?;
     let flags = Flags::parse(alloc, words)?;
     let mut answer = |predicate: &Predicate<'_>| flags.answer(predicate);

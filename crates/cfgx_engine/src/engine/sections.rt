@@ -226,20 +226,30 @@ fn push_lines<A: SmallAllocator>(
         answers: Vec::new(alloc),
         decision: Decision::Known(false),
     };
+    lines_read(alloc, row, text, &mut conditions, &mut room)
+}
+
+/// What they print, by a reader and in room that the caller owns. At a `?` the proof goes over all
+/// that is owned.
+fn lines_read<'a, A: SmallAllocator>(
+    alloc: A,
+    row: &TargetInfo<'_, A>,
+    text: &'a str,
+    conditions: &mut ConditionReader<'a, A>,
+    room: &mut Room<A>,
+) -> Result<Vec<u8, A>, LineError<A>>
+    requires { length text.now ≤ input_limit }
+    ensures ok { IfOk result (λ written. PrintsLines (answer_on row.now)
+        (map line_of (lines_of text.now)) (record { bytes = written.items; status = 0 })) }
+    ensures err { IfErr result (Tells (λ told. PrintsLines (answer_on row.now)
+        (map line_of (lines_of text.now)) (faulty_output told))) }
+{
     let mut written = Vec::new(alloc);
     let mut number = 0;
     for text in text.split('\n') {
         number += 1;
         let line = read_line(without_return(text));
-        push_line(
-            alloc,
-            row,
-            number,
-            line,
-            &mut conditions,
-            &mut room,
-            &mut written,
-        )?;
+        push_line(alloc, row, number, line, conditions, room, &mut written)?;
     }
     Ok(written)
 }

@@ -20,10 +20,12 @@ fn lanes_of<M: TargetMatcher>(predicate: Predicate<'_>, targets: &[M]) -> Kleene
     requires { length targets.now ≤ 64 }
     ensures { InLanes M.answer targets.now (question_of predicate.entry) result }
 {
-    match &predicate {
+    let lanes = match &predicate {
         Predicate::Target(target) => target.lanes(targets),
         _ => Kleene64::new(0, 0),
-    }
+    };
+    drop(predicate);
+    lanes
 }
 
 /// What the targets answer to each predicate of the condition, in order.

@@ -1,5 +1,4 @@
-use Rattle.std.proofs.Common.{take}
-use Rattle.std.specs.List.{AllZip}
+use Rattle.std.{proofs.Common.take, specs.List.AllZip}
 use Rattle.cfgx_engine.specs.Verdicts.{IsVerdict}
 use Rattle.cfgx_engine.proofs.resolve.pick.Given as goal
 

@@ -1,6 +1,5 @@
 use Rattle.std.proofs.Common.{refl}
-use Rattle.cfgx_engine.specs.Request.{Request}
-use Rattle.cfgx_engine.proofs.PickLemmas.{PrintsInput-any}
+use Rattle.cfgx_engine.{specs.Request.Request, proofs.PickLemmas.PrintsInput-any}
 use Rattle.cfgx_engine.proofs.RowLemmas.{answer_on-same, builtin-same}
 use Rattle.cfgx_engine.proofs.engine.answer.pick_answer.Goals as goal
 

@@ -1,5 +1,4 @@
-use Rattle.std.proofs.Common.{take}
-use Rattle.std.specs.List.{All}
+use Rattle.std.{proofs.Common.take, specs.List.All}
 use Rattle.cfgx_parser.specs.Predicate.{question_of}
 use Rattle.cfgx_engine.specs.Flags.{Names}
 use Rattle.cfgx_engine.proofs.engine.flags.is_named.Given as goal

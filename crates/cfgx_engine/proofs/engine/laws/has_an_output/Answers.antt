@@ -1,7 +1,6 @@
-use Rattle.std.proofs.Common.{◌+◌}
+use Rattle.std.{proofs.Common.◌+◌, specs.Str.IsUtf8}
 use Rattle.std.proofs.lemmas.Str.{IsCharBoundary-after_ascii, IsCharBoundary-before_ascii}
 use Rattle.std.proofs.lemmas.Str.{IsUtf8-drop, IsUtf8-from_is_utf8, IsUtf8-take}
-use Rattle.std.specs.Str.{IsUtf8}
 use Rattle.cfgx_syntax.proofs.Finding.{HasOneTokenList-of}
 use Rattle.cfgx_grammar.proofs.Answering.{reads_one_way}
 use Rattle.cfgx_engine.proofs.OneOutput.{Prints-some}

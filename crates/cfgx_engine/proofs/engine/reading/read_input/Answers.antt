@@ -1,8 +1,7 @@
 -- What was read is what the source gave.
 use Rattle.std.proofs.Common.{◌≡◌, ℕ, List, ◌++◌, Option, Some, None, append_assoc, arith, refl}
 use Rattle.std.proofs.Common.{rules, ◌∙◌, ap, length, take_at}
-use Rattle.std.proofs.Math.Seq.{take-add}
-use Rattle.std.specs.Io.KnownBytes.{Consumes}
+use Rattle.std.{proofs.Math.Seq.take-add, specs.Io.KnownBytes.Consumes}
 use Rattle.cfgx_engine.proofs.engine.reading.read_input.Goals as goal
 
 -- what two reads took is what both took, one after the other

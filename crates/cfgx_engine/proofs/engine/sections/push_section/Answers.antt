@@ -1,8 +1,7 @@
 -- What was decided stands after the name.
 use Rattle.std.proofs.{Common.map, lemmas.Result.on_ok_weaker}
 use Rattle.cfgx_grammar.specs.Tree.{asked}
-use Rattle.cfgx_engine.specs.Output.{answer_on}
-use Rattle.cfgx_engine.proofs.SectionLemmas.{verdict_lines-decision}
+use Rattle.cfgx_engine.{specs.Output.answer_on, proofs.SectionLemmas.verdict_lines-decision}
 use Rattle.cfgx_engine.proofs.engine.sections.push_section.Goals as goal
 
 pub returns : goal.returns

@@ -1,8 +1,7 @@
 -- A tab is one byte, so a text can be cut before and after it.
 use Rattle.std.proofs.Common.{◌≡◌, ◌≢◌, ◌<◌, ◌≤◌, ℕ, List, arith, false, get_or, length, not}
-use Rattle.std.proofs.lemmas.List.Sums.{prefix_len_stops}
+use Rattle.std.{proofs.lemmas.List.Sums.prefix_len_stops, specs.List.position_or_len}
 use Rattle.std.proofs.lemmas.Str.{IsCharBoundary-after_ascii, IsCharBoundary-before_ascii}
-use Rattle.std.specs.List.{position_or_len}
 use Rattle.cfgx_engine.specs.Sections.{is_tab}
 use Rattle.cfgx_engine.proofs.engine.sections.read_line.Goals as goal
 

@@ -1,8 +1,7 @@
 use Rattle.std.proofs.Common.{◌≡◌, ◌≢◌, ℕ, ◌-◌, ◌+◌, ◌==◌, List, [], ◌∷◌, ◌++◌, length, take}
 use Rattle.std.proofs.Common.{slice_index, refl, ap, sym, ◌∙◌, arith, eqb-true}
-use Rattle.std.proofs.{lemmas.Bool.false_from_ne_true}
+use Rattle.std.{proofs.lemmas.Bool.false_from_ne_true, specs.Str.Lines.strip_carriage_return}
 use Rattle.std.proofs.lemmas.List.{take_all, take_more}
-use Rattle.std.specs.Str.Lines.{strip_carriage_return}
 use Rattle.cfgx_engine.proofs.engine.sections.without_return.Goals as goal
 
 -- only a carriage return at the end is taken off

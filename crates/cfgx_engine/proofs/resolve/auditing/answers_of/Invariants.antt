@@ -1,6 +1,5 @@
 -- Each question so far has its answer.
-use Rattle.std.proofs.Common.{◌≡◌, ◌++◌, List}
-use Rattle.std.specs.List.{AllZip}
+use Rattle.std.{proofs.Common.◌≡◌, proofs.Common.◌++◌, proofs.Common.List, specs.List.AllZip}
 use Rattle.cfgx_grammar.specs.Question.{Question}
 use Rattle.cfgx_engine.specs.Auditing.{InLanes}
 use Rattle.cfgx_engine.proofs.resolve.auditing.answers_of.Given as goal

@@ -1,10 +1,8 @@
 -- The verdicts in the lanes are those on the targets.
 use Rattle.std.proofs.Common.{◌∙◌, ap, length}
 use Rattle.std.proofs.{lemmas.Result.on_ok_weaker, lemmas.Slice.Zip.AllZip-long}
-use Rattle.cfgx_grammar.specs.Tree.{asked}
-use Rattle.cfgx_grammar.proofs.Alike.{AllZip-append}
-use Rattle.cfgx_engine.specs.Auditing.{InLanes}
-use Rattle.cfgx_engine.proofs.AuditLemmas.{lane_verdicts-zipped}
+use Rattle.cfgx_grammar.{specs.Tree.asked, proofs.Alike.AllZip-append}
+use Rattle.cfgx_engine.{specs.Auditing.InLanes, proofs.AuditLemmas.lane_verdicts-zipped}
 use Rattle.cfgx_engine.proofs.resolve.auditing.push_piece.Goals as goal
 
 pub eval_lanes-requires : goal.eval_lanes-requires

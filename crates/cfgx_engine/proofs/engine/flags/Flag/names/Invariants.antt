@@ -1,5 +1,4 @@
-use Rattle.std.proofs.Common.{◌↔◌}
-use Rattle.std.specs.List.{Contains}
+use Rattle.std.{proofs.Common.◌↔◌, specs.List.Contains}
 use Rattle.cfgx_parser.specs.Predicate.{question_of}
 use Rattle.cfgx_engine.proofs.engine.flags.Flag.names.Given as goal
 

@@ -6,7 +6,7 @@ use Rattle.cfgx_parser.specs.Predicate.{question_of}
 use Rattle.cfgx_engine.specs.Flags.{IsAnswer, known_texts, unknown_texts}
 use Rattle.cfgx_engine.specs.{Output.HasValue, Request.texts}
 use Rattle.cfgx_engine.proofs.{FlagLemmas.trees_of, OutputLemmas.Fails-parse}
-use Rattle.cfgx_engine.proofs.engine.flags.value_under.Goals as goal
+use Rattle.cfgx_engine.proofs.engine.flags.value_read.Goals as goal
 
 pub returns-in_err-condition : goal.returns-in_err-condition
 returns-in_err-condition g c =

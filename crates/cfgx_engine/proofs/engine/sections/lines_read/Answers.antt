@@ -1,11 +1,10 @@
 use Rattle.std.proofs.Common.{[], ℕ, ◌==◌, ◌∙◌, ap, append-nil, arith, length, refl, Ok}
 use Rattle.std.proofs.{lemmas.Iterator.Consumers.YieldsList-at, lemmas.List.Sums.count_by-le-length}
-use Rattle.std.proofs.lemmas.Iterator.Splits.{YieldsList-from_str_split}
+use Rattle.std.{proofs.lemmas.Iterator.Splits.YieldsList-from_str_split, specs.List.slice_split}
 use Rattle.std.proofs.{lemmas.List.Splits.length-slice_split, lemmas.Result.err_from_is_err_and}
-use Rattle.std.specs.List.{slice_split}
 use Rattle.cfgx_engine.proofs.SectionLemmas.{PrintsLines-rest, PrintsRest-more, PrintsRest-told}
 use Rattle.cfgx_engine.proofs.SectionLemmas.{Tells-weaker, yields-none, yields-some}
-use Rattle.cfgx_engine.proofs.engine.sections.push_lines.Goals as goal
+use Rattle.cfgx_engine.proofs.engine.sections.lines_read.Goals as goal
 use Rattle.cfgx_engine.specs.{Sections.line_of, Output.faulty_output}
 
 -- nothing was passed
