@@ -1,7 +1,6 @@
 -- What a chain of calls says to a caller of `eval`.
 use Rattle.std.proofs.Common.{◌≡◌, ◌≤◌, ◌+◌, ℕ, min, suc, List, length, refl, ap, ◌∙◌, arith, sym}
-use Rattle.std.proofs.lemmas.Slice.Zip.{AllZip-map}
-use Rattle.std.specs.{Borrow.MutBor, List.AllZip}
+use Rattle.std.{proofs.lemmas.Slice.Zip.AllZip-map, specs.Borrow.MutBor, specs.List.AllZip}
 use Rattle.cfgx_grammar.specs.Question.{Question}
 use Rattle.cfgx_grammar.specs.{Answer.HasOneTree, Tree.asked, Fold.Operations, Fold.tree_fold}
 use Rattle.cfg_expr.specs.Asking.{AnswersBy, Asker, Asks, Calls}
@@ -74,5 +73,4 @@ pub Evaluates-count : {F T : Type 0} {logic : Operations T} {asker : Asker F T} 
     → (one : HasOneTree text) × (count ≡ min (length (asked one.tree)) most)
 Evaluates-count {asker = asker} {before = before} {after} seen most e each starts ends =
     let all = Calls-count asker seen most each (omega (arith, starts)) e.calls in
-    let is = ends (sym all.1) in
-    (e.one, omega (arith, all.0, starts, is))
+    let is = ends (sym all.1) in (e.one, omega (arith, all.0, starts, is))

@@ -1,4 +1,5 @@
 pub mod Chains
 pub mod Parities
 pub mod Parts
+pub mod Rooms
 pub mod evaluated

@@ -8,8 +8,7 @@ use Rattle.cfgx_grammar.specs.Filling.{filled_by, polar, polarities, polarities_
 use Rattle.cfgx_grammar.proofs.Alike.{Alike, AlikeEach, asked-alike, polarities-shape}
 use Rattle.cfgx_parser.specs.nodes.Prefix.{Node, list_func, prefix, prefix_each, places}
 use Rattle.cfgx_parser.specs.nodes.Shape.{Shape, shape, shape_of}
-use Rattle.cfgx_parser.specs.declared.nodes.ExprNode.{ExprNode}
-use Rattle.cfgx_parser.proofs.Shapes.{places-shape}
+use Rattle.cfgx_parser.{specs.declared.nodes.ExprNode.ExprNode, proofs.Shapes.places-shape}
 use Rattle.cfg_expr.specs.nodes.Parity.{turned, members_of, pass, filled_at}
 use Rattle.cfg_expr.proofs.evaluated.Nodes.{read-mapped}
 

@@ -1,7 +1,6 @@
 -- How writes one after another add up.
 use Rattle.std.proofs.Common.{arith, ℕ, List, ◌++◌, Option, Result, Ok, Err, ap, sym, ◌∙◌, refl}
-use Rattle.std.proofs.Common.{append_assoc}
-use Rattle.std.specs.Io.KnownBytes.{Appends}
+use Rattle.std.{proofs.Common.append_assoc, specs.Io.KnownBytes.Appends}
 use Rattle.cfg_expr.specs.Writing.{Takes, TakesFront, Writes}
 
 -- known bytes that grow twice

@@ -1,7 +1,6 @@
 -- Trees of one shape and with the same literals, whose other leaves stand in a relation one by one.
 use Rattle.std.proofs.Common.{arith, ◌≡◌, Bool, List, [], ◌∷◌, ◌++◌, length}
-use Rattle.std.proofs.{lemmas.Slice.Zip.AllZip-long}
-use Rattle.std.specs.List.{AllZip}
+use Rattle.std.{proofs.lemmas.Slice.Zip.AllZip-long, specs.List.AllZip}
 use Rattle.cfgx_grammar.specs.Tree.{ListFunction, Tree, Trees, is_function, is_leaf, asked}
 use Rattle.cfgx_grammar.specs.{Tree.asked_by, Fold.answered, Fold.answered_each}
 use Rattle.cfgx_grammar.specs.Filling.{polarities, polarities_each}
@@ -59,8 +58,7 @@ module _ {T U : Type 0} (R : T → U → Type 0) where
     asked_by-alike f g same _ _ AlikeEach.none = tt
     asked_by-alike f g same _ _ (AlikeEach.more x y xs ys first rest) =
         let here = asked-alike x y first in
-        let others = asked_by-alike f g same xs ys rest in
-        grind (arith, AllZip-append)
+        let others = asked_by-alike f g same xs ys rest in grind (arith, AllZip-append)
 
   pub length-asked : (x : Tree T) (y : Tree U) → Alike R x y → length (asked y) ≡ length (asked x)
   length-asked x y alike = AllZip-long R (asked x) (asked y) (asked-alike x y alike)
@@ -98,8 +96,7 @@ module _ {X : Type 0} where
     polarities-shape polarity (Tree.literal truth) = Alike.literal truth
     polarities-shape polarity (Tree.list function trees) =
         Alike.list function _ _ (polarities_each-shape polarity trees)
-    polarities-shape polarity (Tree.not tree) =
-        Alike.not _ _ (polarities-shape _ tree)
+    polarities-shape polarity (Tree.not tree) = Alike.not _ _ (polarities-shape _ tree)
 
     pub polarities_each-shape : (polarity : Bool) (trees : Trees X)
         → SameShapes trees (polarities_each polarity trees)

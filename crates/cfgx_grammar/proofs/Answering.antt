@@ -2,8 +2,7 @@
 use Rattle.std.proofs.Common.{arith, ◌≡◌, ℕ, List, [], ◌∷◌, length, Some, None, Result, Ok, Err}
 use Rattle.std.proofs.Common.{refl}
 use Rattle.cfgx_syntax.specs.Items.{Item, Ending, AreItems, HasOneTokenList}
-use Rattle.cfgx_syntax.specs.Error.{Refusal}
-use Rattle.cfgx_syntax.proofs.TokenList.{ItemsFrom-same}
+use Rattle.cfgx_syntax.{specs.Error.Refusal, proofs.TokenList.ItemsFrom-same}
 use Rattle.cfgx_grammar.specs.{Question.Question, Tree.Tree, Grammar.HasTree}
 use Rattle.cfgx_grammar.specs.Answer.{HasOneTree, HasReading, Reading, ReadsAs}
 use Rattle.cfgx_grammar.specs.parsing.State.{Builder, State, initial}
@@ -45,8 +44,7 @@ record Shown (text : List ℕ) (reading : Reading) : Type 0 where
 
 shown : (text : List ℕ) (reading : Reading) → HasReading text reading → Shown text reading
 shown text (Ok tree) has =
-    let f = Finds-tree tree_laws text has.items tree has.spelled in
-    grind (arith, tree_built)
+    let f = Finds-tree tree_laws text has.items tree has.spelled in grind (arith, tree_built)
 shown text (Err fault) has =
     let agrees = whole_agrees tree_builder text has.items has.ending in
     record {

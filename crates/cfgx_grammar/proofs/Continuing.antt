@@ -25,8 +25,7 @@ module _ {W M L : Type 0} {builder : Builder W M L} {text : List ℕ} {from plac
       (and_then (λ u. step_each (Some item.token) u rest) r))
   Continues-token item r stands steps items ending come =
       let so_far = c.rest_of items ending come in
-      let f = Follows-stands text place item so_far.0 ending stands so_far.1 in
-      grind arith
+      let f = Follows-stands text place item so_far.0 ending stands so_far.1 in grind arith
 
   -- no token is left
   pub Continues-ended : (end : Ending) → EndsAs text place end

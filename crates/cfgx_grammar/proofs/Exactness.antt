@@ -1,16 +1,14 @@
 -- Three values are exact: a value is known exactly if every filling leads to it.
 use Rattle.std.proofs.Common.{◌≡◌, ℕ, ◌+◌, Bool, true, false, not, List, [], ◌∷◌, ◌++◌, arith}
 use Rattle.std.proofs.Common.{length, Option, refl, sym, ◌∙◌, drop, unwrap_or}
-use Rattle.std.proofs.lemmas.List.{drop-drop}
-use Rattle.std.specs.List.{AllZip}
+use Rattle.std.{proofs.lemmas.List.drop-drop, specs.List.AllZip}
 use Rattle.cfgx_grammar.specs.Tree.{ListFunction, Tree, Trees, is_function, is_leaf, asked}
-use Rattle.cfgx_grammar.specs.Tree.{asked_by}
+use Rattle.cfgx_grammar.{specs.Tree.asked_by, specs.Fold.answered_each, specs.Fold.tree_fold}
+use Rattle.cfgx_grammar.{proofs.Alike.polarities-shape, proofs.Alike.polarities_each-shape}
 use Rattle.cfgx_grammar.specs.Fold.{Operations, from_last, list_value, values_by, first_or}
-use Rattle.cfgx_grammar.specs.Fold.{answered_each, tree_fold}
 use Rattle.cfgx_grammar.specs.Filling.{two_valued, three_valued, filled_by, Agrees, IsFilling}
 use Rattle.cfgx_grammar.specs.Filling.{IsExact, polar, polarities, polarities_each}
 use Rattle.cfgx_grammar.proofs.Alike.{AllZip-append, length-asked, length-asked_by}
-use Rattle.cfgx_grammar.proofs.Alike.{polarities-shape, polarities_each-shape}
 
 -- Values of two logics that are related stay so.
 
@@ -78,8 +76,7 @@ module _ {T U : Type 0} (one : Operations T) (other : Operations U) (R : Bool �
         (length-asked_by _ trees _ (polarities_each-shape p trees)) in
         let each = values_kept trees p xs ys _ _ parts.0 parts.1 in
         list_kept p function _ _ (AllZip-append (R p) _ _ _ _ each.0 each.1)
-    value_kept (Tree.not tree) p xs ys all =
-        preserve.turn p _ _ (value_kept tree (not p) xs ys all)
+    value_kept (Tree.not tree) p xs ys all = preserve.turn p _ _ (value_kept tree (not p) xs ys all)
 
     values_kept : {X : Type 0} (trees : Trees X) (p : Bool) (xs : List T) (ys : List U)
         (own : List T) (others : List U)
@@ -88,8 +85,7 @@ module _ {T U : Type 0} (one : Operations T) (other : Operations U) (R : Bool �
         → Kept p (answered_each one.top trees xs own) (answered_each other.top trees ys others)
     values_kept Trees.none p xs ys own others inner outer = (tt, tt)
     values_kept (Trees.more (Tree.leaf x) trees) p xs ys own others inner outer =
-        let rest = values_kept trees p xs ys _ _ inner outer.1 in
-        (rest.0, (outer.0, rest.1))
+        let rest = values_kept trees p xs ys _ _ inner outer.1 in (rest.0, (outer.0, rest.1))
     values_kept {X = X} (Trees.more (Tree.literal truth) trees) p xs ys own others inner outer =
         let rest = values_kept trees p xs ys own others inner outer in
         (rest.0, (value_kept {X = X} (Tree.literal truth) p xs ys tt, rest.1))

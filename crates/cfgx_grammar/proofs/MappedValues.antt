@@ -8,8 +8,7 @@ use Rattle.cfgx_syntax.proofs.LaneLemmas.{EachLane-and, EachLane-or, EachLane-no
 use Rattle.cfgx_syntax.proofs.LaneLemmas.{EachLane-bottom}
 use Rattle.cfgx_grammar.specs.{Tree.Tree, Fold.Operations, Fold.tree_fold, Filling.three_valued}
 use Rattle.cfgx_grammar.specs.Homomorphism.{IsHomomorphism, IsByLane, Passes, is_disjoint}
-use Rattle.cfgx_grammar.specs.Homomorphism.{lane_valued}
-use Rattle.cfgx_grammar.proofs.Exactness.{fold_kept}
+use Rattle.cfgx_grammar.{specs.Homomorphism.lane_valued, proofs.Exactness.fold_kept}
 
 module _ {T U : Type 0} (one : Operations T) (other : Operations U) (Holds : T → Type 0)
     (to : T → U) (is : IsHomomorphism one other Holds to) where

@@ -1,8 +1,7 @@
 -- Nothing is stripped from a text that has a tree: after the word `cfg` no `(` may stand.
 use Rattle.std.proofs.Common.{◌≡◌, ℕ, Bool, true, false, List, ◌∷◌, ◌++◌, nat_eq, refl, ap}
-use Rattle.std.proofs.Common.{◌∙◌, arith, codes}
-use Rattle.std.specs.List.{starts_with}
-use Rattle.std.proofs.{lemmas.Slice.Eq.starts_is, lemmas.Bool.Decides.Decides-eqb}
+use Rattle.std.{proofs.Common.◌∙◌, proofs.Common.arith, proofs.Common.codes, specs.List.starts_with}
+use Rattle.std.{proofs.lemmas.Slice.Eq.starts_is, proofs.lemmas.Bool.Decides.Decides-eqb}
 use Rattle.cfgx_syntax.specs.{Stripping.strip, Token.Token, Items.Item, Items.Ending}
 use Rattle.cfgx_grammar.specs.{Question.Question, Tree.Tree, Grammar.HasTree}
 use Rattle.cfgx_syntax.proofs.TokenList.{Follows-stands}

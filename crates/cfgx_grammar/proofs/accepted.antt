@@ -178,8 +178,7 @@ module _ {W M L : Type 0} {builder : Builder W M L} where
       → predicate_ended s ≡ Ok t → RestOf Separates t 0 tokens → LeafRest s p.key.text
       (leaf_tokens p.key.text (option_map (λ v. v.text) p.value) ++ tokens)
   LeafRest-ended s t tokens p is ends r =
-      let e = LeafEnds-ended s t p is ends in
-      grind arith
+      let e = LeafEnds-ended s t p is ends in grind arith
 
   -- where a comma may come, what stands in front of it ends
   pub Completes-ended : (last : Option Token) (s t : State builder) (tokens : List Token)
@@ -188,8 +187,7 @@ module _ {W M L : Type 0} {builder : Builder W M L} where
   Completes-ended last s t tokens may ends r =
       let ended = λ (p : Pending) (is : s.pending ≡ Some p).
       LeafRest-ended s t tokens p is ends r in
-      let same = λ (none : s.pending ≡ None). same_ended s t none ends in
-      grind (arith, ended, same)
+      let same = λ (none : s.pending ≡ None). same_ended s t none ends in grind (arith, ended, same)
 
   -- where `)` may come, or the end of the text, no member is left
   pub Completes-none : (last : Option Token) (s t : State builder) (tokens : List Token)

@@ -124,8 +124,7 @@ module _ {W M L : Type 0} {builder : Builder W M L} where
   steps_both : (xs ys : List Item) (last : Option Token) (s : State builder)
       (read : Option Token × State builder) → step_each last s xs ≡ Ok read
       → step_each last s (xs ++ ys) ≡ step_each read.0 read.1 ys
-  steps_both [] ys last s read runs =
-      ap (λ r. step_each r.0 r.1 ys) (ok_same (last, s) read runs)
+  steps_both [] ys last s read runs = ap (λ r. step_each r.0 r.1 ys) (ok_same (last, s) read runs)
   steps_both (x ∷ xs) ys last s read runs =
       let (t, steps, rest) = ran (step last s x) (λ t. step_each (Some x.token) t xs) read runs in
       rw steps (steps_both xs ys (Some x.token) t read rest)

@@ -3,16 +3,13 @@ use Rattle.std.proofs.Common.{◌≡◌, ℕ, zero, suc, List, [], ◌∷◌}
 use Rattle.std.proofs.Common.{length, map, Option, Some, option_map, refl, ap, arith, rules}
 use Rattle.std.specs.List.{AllByRecursion, slice_get, filter_map}
 use Rattle.std.proofs.lemmas.Option.{slice_get-map}
-use Rattle.cfgx_grammar.specs.Question.{Question}
-use Rattle.cfgx_grammar.specs.Tree.{Tree, asked}
-use Rattle.cfgx_parser.specs.nodes.Located.{question_at}
+use Rattle.cfgx_grammar.{specs.Question.Question, specs.Tree.Tree, specs.Tree.asked}
+use Rattle.cfgx_parser.{specs.nodes.Located.question_at, specs.nodes.WritesNodes.NodeHasCut}
+use Rattle.cfgx_parser.{specs.declared.nodes.ExprNode.ExprNode, proofs.Places.read-places}
 use Rattle.cfgx_parser.specs.nodes.Prefix.{Node, node_at}
-use Rattle.cfgx_parser.specs.nodes.WritesNodes.{NodeHasCut}
 use Rattle.cfgx_parser.specs.nodes.KeepsTree.{KeepsTree, predicate_at, questions_at}
 use Rattle.cfgx_parser.specs.nodes.KeepsTree.{NamesPredicate, NamePredicates}
-use Rattle.cfgx_parser.specs.declared.nodes.ExprNode.{ExprNode}
 use Rattle.cfgx_parser.specs.declared.nodes.ExprNode.TheVariants as node
-use Rattle.cfgx_parser.proofs.Places.{read-places}
 
 -- what is asked at a place
 abbrev question_in : List ℕ → List ExprNode → ℕ → Option Question

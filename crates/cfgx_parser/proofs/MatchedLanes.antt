@@ -1,12 +1,9 @@
 -- Answers one after another as the bits of two planes, the first one lowest.
 use Rattle.std.proofs.Common.{◌≡◌, ◌∙◌, ◌+◌, ◌*◌, ◌<◌, ◌≤◌, ◌^◌, ℕ, zero, suc, Bool, true, false}
 use Rattle.std.proofs.Common.{not, List, [], ◌∷◌, ◌++◌, length, map, refl, ap, arith}
-use Rattle.std.specs.Prelude.{if◌then◌else◌}
-use Rattle.std.specs.Int.{bit_at}
-use Rattle.std.specs.List.{slice_get}
+use Rattle.std.{specs.Prelude.if◌then◌else◌, specs.Int.bit_at, specs.List.slice_get}
+use Rattle.std.{proofs.Math.Nat.pow-succ', proofs.Math.Pow.pow_mono}
 use Rattle.std.proofs.lemmas.List.{length-append, length-map, nil_from_length}
-use Rattle.std.proofs.Math.Nat.{pow-succ'}
-use Rattle.std.proofs.Math.Pow.{pow_mono}
 use Rattle.std.proofs.lemmas.Nat.Bits.{bit_at-zero, bit_at-suc, bit_at_lowest}
 use Rattle.cfgx_syntax.specs.Kleene.{AreDisjoint, EachLane, answer_of_bits}
 use Rattle.cfgx_syntax.proofs.LaneLemmas.{AreDisjoint-from}

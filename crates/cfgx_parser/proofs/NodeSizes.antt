@@ -1,13 +1,10 @@
 -- How many nodes the tree of so many tokens has, and that of so many bytes.
 use Rattle.std.proofs.Common.{◌≡◌, ℕ, ◌+◌, ◌≤◌, List, ◌++◌, length, Option, ap}
-use Rattle.std.proofs.Common.{arith, length-append}
-use Rattle.cfgx_syntax.specs.Token.{Token}
+use Rattle.std.{proofs.Common.arith, proofs.Common.length-append, proofs.lemmas.List.length-map}
+use Rattle.cfgx_syntax.{specs.Token.Token, proofs.ItemSizes.items-bytes}
 use Rattle.cfgx_grammar.specs.Grammar.{leaf_tokens, list_name, IsCall, IsMember, IsList}
-use Rattle.cfgx_grammar.specs.Grammar.{commas, HasTree}
-use Rattle.cfgx_syntax.proofs.ItemSizes.{items-bytes}
-use Rattle.std.proofs.lemmas.List.{length-map}
-use Rattle.cfgx_grammar.specs.Question.{Question}
-use Rattle.cfgx_grammar.specs.Tree.{Tree, Trees}
+use Rattle.cfgx_grammar.{specs.Grammar.commas, specs.Grammar.HasTree, specs.Question.Question}
+use Rattle.cfgx_grammar.{specs.Tree.Tree, specs.Tree.Trees}
 use Rattle.cfgx_parser.specs.nodes.Prefix.{prefix, prefix_each}
 
 -- a node takes a token at least

@@ -3,19 +3,16 @@
 use Rattle.std.proofs.Common.{◌≡◌, ℕ, List, [], ◌∷◌, length, drop, Option, Some, Result, Ok, Err}
 use Rattle.std.proofs.Common.{arith}
 use Rattle.cfgx_syntax.specs.Items.{Item, Ending, IsBlank}
-use Rattle.cfgx_syntax.specs.LexerState.{LexerState}
+use Rattle.cfgx_syntax.{specs.LexerState.LexerState, specs.declared.error.Failure.Failure}
+use Rattle.cfgx_syntax.{specs.declared.lexer.LexerToken.LexerToken, specs.Token.Token}
 use Rattle.cfgx_syntax.specs.Lexer.{GivesItem, GivesFault, item_of, token_of}
-use Rattle.cfgx_syntax.specs.declared.error.Failure.{Failure}
 use Rattle.cfgx_syntax.specs.declared.error.Failure.TheVariants as failure
-use Rattle.cfgx_syntax.specs.declared.lexer.LexerToken.{LexerToken}
-use Rattle.cfgx_syntax.specs.Token.{Token}
 use Rattle.cfgx_grammar.proofs.Continuing.{Continues, Continues-token, Continues-ended}
-use Rattle.cfgx_parser.specs.parsing.NodeState.{ParserState}
+use Rattle.cfgx_parser.{specs.parsing.NodeState.ParserState, specs.parsing.Fields.last_of}
+use Rattle.cfgx_parser.{specs.parsing.Fields.token_like, specs.declared.parser.LastToken.LastToken}
+use Rattle.cfgx_parser.{specs.declared.parser.Parser.Parser}
 use Rattle.cfgx_grammar.specs.parsing.Step.{step, conclude, answer_from}
 use Rattle.cfgx_parser.specs.parsing.Parser.{state_of, FailsAs, Ends, ReadsAll}
-use Rattle.cfgx_parser.specs.parsing.Fields.{last_of, token_like}
-use Rattle.cfgx_parser.specs.declared.parser.LastToken.{LastToken}
-use Rattle.cfgx_parser.specs.declared.parser.Parser.{Parser}
 
 -- what the parser keeps of the last token decides the answer
 answer-like : (last : Option Token) (s : ParserState) (text : List ℕ) (items : List Item)

@@ -7,8 +7,7 @@ use Prim.Native.Nat.{max}
 -- its size, with n bytes of elements inline, and an allocator of that alignment and size
 abbrev listed : (align size n : ℕ) → ℕ
 listed align size n =
-    let inline = max 8 (max 8 (max align 1)) in
-    let heap = max 8 inline in
+    let inline = max 8 (max 8 (max align 1)) in let heap = max 8 inline in
     let both = max (max inline 1) (max (max heap 1) 1) in
     up (max both 1) (up both 0 + up both (max (up inline 1 + up inline (up align n + size))
     (max (up heap 1 + up heap (up align 24 + size)) 1)))

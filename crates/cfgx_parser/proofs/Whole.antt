@@ -1,21 +1,16 @@
 -- What reading the whole text gives, `parse` answers.
 use Rattle.std.proofs.Common.{◌≡◌, ℕ, List, Result, Ok, Err}
-use Rattle.std.specs.Prelude.{IsErrAnd}
-use Rattle.std.proofs.lemmas.Result.{err_from_is_err_and}
-use Rattle.cfgx_syntax.specs.Items.{HasOneTokenList}
-use Rattle.cfgx_syntax.specs.LexerState.{LexerState, starting}
-use Rattle.cfgx_syntax.specs.Stripping.{strip}
+use Rattle.std.{specs.Prelude.IsErrAnd, proofs.lemmas.Result.err_from_is_err_and}
+use Rattle.cfgx_syntax.{specs.Items.HasOneTokenList, specs.Stripping.strip}
 use Rattle.cfgx_syntax.specs.declared.error.Failure.{Failure}
+use Rattle.cfgx_syntax.specs.LexerState.{LexerState, starting}
 use Rattle.cfgx_syntax.specs.declared.error.Failure.TheVariants as failure
-use Rattle.cfgx_grammar.specs.Answer.{Answers, HasOneTree}
-use Rattle.cfgx_parser.specs.nodes.KeepsTree.{KeepsOneTree}
-use Rattle.cfgx_grammar.specs.parsing.State.{initial}
-use Rattle.cfgx_parser.specs.parsing.Parser.{state_of, Ends, ReadsAll}
-use Rattle.cfgx_parser.specs.declared.parser.Parser.{Parser}
-use Rattle.cfgx_grammar.proofs.Answering.{HasOneTree-tree, ReadsAs-refused, answer, tree_of}
-use Rattle.cfgx_grammar.proofs.Answering.{reads_one_way}
+use Rattle.cfgx_grammar.{specs.Answer.Answers, specs.Answer.HasOneTree, proofs.Stripped.strip-tree}
+use Rattle.cfgx_parser.{specs.nodes.KeepsTree.KeepsOneTree, specs.declared.parser.Parser.Parser}
 use Rattle.cfgx_parser.proofs.Kept.{KeepsOneTree-accepted}
-use Rattle.cfgx_grammar.proofs.Stripped.{strip-tree}
+use Rattle.cfgx_grammar.{specs.parsing.State.initial, proofs.Answering.reads_one_way}
+use Rattle.cfgx_parser.specs.parsing.Parser.{state_of, Ends, ReadsAll}
+use Rattle.cfgx_grammar.proofs.Answering.{HasOneTree-tree, ReadsAs-refused, answer, tree_of}
 
 -- the start of a text, and of the parser
 pub record Begins {A : Type 0} (text : List ℕ) (lexer : LexerState)

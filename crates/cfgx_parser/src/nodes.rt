@@ -131,13 +131,13 @@ pub(crate) struct Writer<A: SmallAllocator> {
     pub(crate) leaves: SmallVec<usize, 4, A>,
     /// The places of the other predicates, in the order in which they are asked
     pub(crate) index: SmallVec<usize, 4, A>,
-    /// How many nodes there are. A `SmallVec` looks up where its elements are to tell its length
+    /// How many nodes there are: a `SmallVec` has to find out where its elements are to tell that
     count: usize,
     /// How many predicates of open lists there are
     held: usize,
     /// For how many nodes room is made once the inline place is taken
     room: usize,
-    /// Both are counted
+    /// The two counts are the lengths of their lists
     ghost counted: { (count ≡ length nodes.items) × (held ≡ length leaves.items) },
 }
 

@@ -357,6 +357,7 @@ impl<'a, A: SmallAllocator> Parser<'a, A> {
         ensures { OnOk result (Opens self.old self.new (function_of kind) span) }
     {
         let mark = self.writer.function()?;
+        // A comparison costs less than the call, which is out of line.
         if self.func_stack.len() == self.func_stack.capacity() {
             self.func_stack.reserve(1)?;
         }

@@ -37,9 +37,9 @@ front-blank (c ∷ cs) =
     (front-blank cs)))
     (λ _. NoCharPasses-nil is_not_whitespace)
 
--- What is left of a text when the white space in front is off.
+-- A text without the white space at its front.
 
--- it is all, if nothing is left or another character is next
+-- a text that is empty or begins with another character is whole
 pub IsTrimStart-here : (text more : List ℕ)
     → EmptyOrStartsWithPassing is_not_whitespace text more → IsTrimStart text text
 IsTrimStart-here text more starts =
@@ -54,7 +54,7 @@ IsTrimStart-ascii (c ∷ cs) low stops =
     IsTrimStart-here (c ∷ cs) cs
     (λ _. (c, visible, rw (encode_ascii c ascii) refl, ascii-scalar c ascii))
 
--- after white space, it is what is left of the rest
+-- white space before a text goes together with that at the front of the text
 pub IsTrimStart-past : (front text rest : List ℕ) → NoCharPasses is_not_whitespace front
     → IsTrimStart text rest → IsTrimStart (front ++ text) rest
 IsTrimStart-past front text rest blank (n, is, white, starts, short) = (
@@ -88,7 +88,7 @@ module _ (text bytes rest : List ℕ) (n : ℕ) (len : n ≡ prefix_len is_blank
 above-blank : (byte : ℕ) → 32 < byte → byte < 128 → is_blank byte ≡ false
 above-blank byte above low = grind arith
 
--- a byte of a class that is not white is ASCII, and above the white space there
+-- a byte of a class that begins no white space is ASCII, and above the space
 visible : (found : Class) (byte : ℕ) → is_of found byte ≡ true → may_be_white found ≡ false
     → (32 < byte) × (byte < 128)
 visible class.Letter byte is white = grind arith
@@ -101,14 +101,14 @@ visible class.Quote byte is white = grind arith
 visible class.Blank byte is white = cc
 visible class.Other byte is white = cc
 
--- it is all, if no white space is next
+-- a text that begins with such a byte is whole
 pub trim_visible : (text : List ℕ) (found : Class) → BeginsWithClass text (Some found)
     → may_be_white found ≡ false → IsTrimStart text text
 trim_visible text found begins white =
     let (above, low) = visible found (get_or text 0 0) begins.1 white in
     IsTrimStart-ascii text (λ _. low) (λ _. above-blank (get_or text 0 0) above low)
 
--- or if nothing is left
+-- an empty text is whole
 pub trim_nothing : (text : List ℕ) → BeginsWithClass text None → IsTrimStart text text
 trim_nothing text empty = IsTrimStart-here text [] (λ some. absurd (omega (arith, some, empty)))
 

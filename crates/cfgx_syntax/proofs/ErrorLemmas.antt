@@ -1,7 +1,6 @@
 -- Equality of reasons and of faults is that of variants, numbers and texts..
 use Rattle.std.proofs.Common.{arith, ◌≡◌, ℕ, Bool, List, [], ◌∷◌, ◌&&◌, Bor, map, nat_eq}
-use Rattle.std.proofs.lemmas.Slice.Eq.{bytes_eq-Decides}
-use Rattle.std.specs.Bool.{Decides, ◌==◌}
+use Rattle.std.{proofs.lemmas.Slice.Eq.bytes_eq-Decides, specs.Bool.Decides, specs.Bool.◌==◌}
 use Rattle.std.specs.{Cmp.Lexicographic.pointwise, Str.bytes_eq, String.string_bytes}
 use Rattle.cfgx_syntax.specs.{declared.error.ParseError.ParseError, declared.error.Reason.Reason}
 use Rattle.cfgx_syntax.specs.contracts.error.ReasonPartialEq.TheImpl as reason_eq

@@ -44,8 +44,7 @@ trimmed text utf8 = subst Trimmed utf8.1.1 (trimmed_chars utf8.0 utf8.1.0)
 
 cases_text : (xs ys : List ℕ) → (xs ≡ ys) ⊎ (xs ≢ ys)
 cases_text xs ys =
-    let test = bytes_eq-Decides xs ys in
-    grind arith
+    let test = bytes_eq-Decides xs ys in grind arith
 
 -- each word spells a token
 word_spells : (word : List ℕ) → IsWord word → (token : Token) × Spells word token

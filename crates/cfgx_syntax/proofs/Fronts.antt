@@ -2,11 +2,10 @@
 use Rattle.std.proofs.Common.{◌≡◌, ℕ, ◌+◌, ◌-◌, ◌<◌, ◌≤◌, ◌≢◌, true, false, List, [], ◌∷◌, ◌++◌}
 use Rattle.std.proofs.Common.{length, take, drop, get_or, sym, refl, ◌∙◌, arith, ap, cond}
 use Rattle.std.proofs.Common.{append_assoc, append-nil, length-append, length-take, length-take-le}
-use Rattle.std.specs.{Prelude.codes, Str.bytes_eq}
+use Rattle.std.{specs.Prelude.codes, specs.Str.bytes_eq, proofs.lemmas.Slice.Eq.bytes_eq-Decides}
 use Rattle.std.specs.List.{list_all, list_any, prefix_len, position_or_len}
 use Rattle.std.proofs.lemmas.List.{get_or-take, take_at, take-append-drop}
 use Rattle.std.proofs.lemmas.Bool.{and_parts, or_parts, false_from_ne_true}
-use Rattle.std.proofs.lemmas.Slice.Eq.{bytes_eq-Decides}
 use Rattle.cfgx_syntax.specs.Token.{Token, starts_word, continues_word, is_quote, IsWord}
 use Rattle.cfgx_syntax.specs.Token.{HasNoQuote, Spells, IsWhole, EndsWord}
 use Rattle.cfgx_syntax.specs.Items.{OpensNoValue, starts_token}

@@ -1,9 +1,8 @@
 -- A text many times over.
 use Rattle.std.proofs.Common.{◌≡◌, ℕ, zero, suc, ◌+◌, ◌*◌, ◌/◌, ◌%◌, List, [], ◌∷◌, ◌++◌, replicate}
 use Rattle.std.proofs.Common.{refl, ap, arith, append_assoc}
-use Rattle.std.specs.List.{repeat}
+use Rattle.std.{specs.List.repeat, proofs.lemmas.List.append-nil}
 use Rattle.std.proofs.Math.Nat.{zero-add, suc-add, zero-mul}
-use Rattle.std.proofs.lemmas.List.{append-nil}
 
 module _ (xs : List ℕ) where
   repeat-append : (m n : ℕ) → repeat m xs ++ repeat n xs ≡ repeat (m + n) xs

@@ -1,9 +1,8 @@
 -- What the lexer finds after white space stands in the whole text.
 use Rattle.std.proofs.Common.{Some, rules, ◌≡◌, ℕ, ◌+◌, ◌-◌, ◌<◌, ◌≤◌, min, true, false, List}
 use Rattle.std.proofs.Common.{length, inl, inr, ◌⊎◌, refl, drop, get_or, ap, subst, arith}
-use Rattle.std.proofs.{Common.length-drop}
+use Rattle.std.{proofs.Common.length-drop, proofs.lemmas.Str.byte_from_char}
 use Rattle.std.proofs.lemmas.List.{take_min, drop_min, drop-drop}
-use Rattle.std.proofs.lemmas.Str.{byte_from_char}
 use Rattle.std.specs.{Prelude.slice_range, Str.IsTrimStart}
 use Rattle.cfgx_syntax.specs.{Cut.CanBeCut, Error.Cause, Token.Token, LexerState.LexerState}
 use Rattle.cfgx_syntax.specs.Items.{EndsAs, lexical, IsBlank, Stands, IsStuck, IsUnclosed}

@@ -96,8 +96,7 @@ pub Follows-stands : (text : List ℕ) (place : ℕ) (item : Item) (items : List
 Follows-stands text place item [] ending stands come =
     absurd (let wrong = Comes-same text place (inl item) (inr ending) stands come in cc)
 Follows-stands text place item (other ∷ others) ending stands come =
-    let both = Comes-same text place (inl other) (inl item) come.0 stands in
-    grind arith
+    let both = Comes-same text place (inl other) (inl item) come.0 stands in grind arith
 
 -- from a place on, the items and the ending are determined
 pub ItemsFrom-same : (text : List ℕ) (from : ℕ) (items others : List Item) (ending end : Ending)

@@ -3,14 +3,13 @@ use Rattle.std.proofs.Common.{rules, ◌≡◌, ℕ, suc, ◌+◌, ◌-◌, ◌<
 use Rattle.std.proofs.Common.{Some, ◌++◌, length, take, drop, get_or, sym, refl, ap, ◌∙◌, arith}
 use Rattle.std.proofs.Common.{length-append, append_assoc, length-take, length-drop}
 use Rattle.std.specs.{Prelude.codes, Prelude.slice_range, Str.IsUtf8}
-use Rattle.std.proofs.Math.Seq.{split_at}
+use Rattle.std.{proofs.Math.Seq.split_at, proofs.lemmas.Str.IsCharBoundary-after_ascii}
+use Rattle.std.specs.List.{prefix_len}
 use Rattle.std.proofs.lemmas.List.{get_or-take, take_at, get_or_at, take-take, drop-take, drop-drop}
-use Rattle.std.proofs.lemmas.Str.{IsCharBoundary-after_ascii}
 use Rattle.cfgx_syntax.specs.Token.{Token, is_quote, HasNoQuote, in_quotes}
 use Rattle.cfgx_syntax.specs.Lexer.{BeginsWith, FindsQuote, in_run}
 use Rattle.cfgx_syntax.specs.declared.lexer.bytes.Run.TheVariants as run
 use Rattle.std.proofs.lemmas.List.Sums.{prefix_len_passes, prefix_len_stops}
-use Rattle.std.specs.List.{prefix_len}
 use Rattle.cfgx_syntax.proofs.WordLemmas.{IsCut-front}
 
 -- a byte that is no quote fails the test
@@ -60,7 +59,7 @@ BeginsWith-value text inside beyond utf8 none is =
     let spelled : take (n + 2) text ≡ quoted = rw whole (take_at quoted beyond (n + 2) wide) in
     search (rules, IsCut-front)
 
--- or between its first byte and the first quote after it
+-- a text that begins with a quote begins with the value up to the next quote
 pub BeginsWith-first : (text rest : List ℕ) (len : ℕ) → IsUtf8 text → text ≡ codes "\"" ++ rest
     → FindsQuote rest (Some len) → BeginsWith text (Token.value (take len rest)) (len + 2)
 BeginsWith-first text rest len utf8 is (inside, quote, none) =
@@ -72,7 +71,7 @@ BeginsWith-first text rest len utf8 is (inside, quote, none) =
     rw long at (BeginsWith-value text (take len rest) (drop (suc len) rest) utf8 plain
     (rw parts at is))
 
--- the first quote of a text stands where the bytes in front that are none end
+-- the first quote of a text stands after the bytes at its front that are no quotes
 pub FindsQuote-front : (text : List ℕ) (wide len : ℕ) → wide ≤ length text
     → len ≡ prefix_len (in_run run.Value) (take wide text) → len < wide
     → FindsQuote text (Some len)

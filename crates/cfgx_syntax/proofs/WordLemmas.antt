@@ -65,8 +65,7 @@ pub BeginsWith-byte : (text bytes : List ℕ) (token : Token) (byte : ℕ) → I
 BeginsWith-byte [] bytes token byte utf8 some same is low spelled whole value = grind arith
 BeginsWith-byte (first ∷ rest) bytes token byte utf8 some same is low spelled whole value =
     let at : first ≡ byte = rw same at is in
-    let cut = IsCharBoundary-after_ascii (first ∷ rest) 0 utf8 some (omega arith) in
-    grind arith
+    let cut = IsCharBoundary-after_ascii (first ∷ rest) 0 utf8 some (omega arith) in grind arith
 
 -- a text begins with the token that its first word spells
 pub BeginsWith-word : (text : List ℕ) (token : Token) → IsUtf8 text

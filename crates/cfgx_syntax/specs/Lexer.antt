@@ -1,4 +1,4 @@
--- What a `Lexer` gives.
+-- What a `Lexer` gives: the items of a text one after another, and its fault where they end.
 use Rattle.std.specs.Prelude.{◌≡◌, ◌≢◌, ℕ, ◌<◌, ◌≤◌, ◌&&◌, ◌||◌, ◌⊎◌, Bool, true, false, not}
 use Rattle.std.specs.Prelude.{List, length, codes, take, drop, slice_index, Option, Some, None}
 use Rattle.std.specs.Prelude.{Result, Ok, Err}

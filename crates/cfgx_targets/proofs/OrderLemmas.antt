@@ -85,8 +85,7 @@ Rises R (x ∷ y ∷ ys) = (is_lt (R y x) ≡ false) × Rises R (y ∷ ys)
 IsSorted-tail : {X : Type 0} (R : X → X → Ordering) (x : X) (xs : List X) → IsSorted R (x ∷ xs)
     → IsSorted R xs
 IsSorted-tail R x xs s k d _ lt =
-    let next = s (suc k) d (omega arith) (omega arith) in
-    grind arith
+    let next = s (suc k) d (omega arith) (omega arith) in grind arith
 
 Rises-from : {X : Type 0} (R : X → X → Ordering) (xs : List X) → IsSorted R xs → Rises R xs
 Rises-from R [] s = tt

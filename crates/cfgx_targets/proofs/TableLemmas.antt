@@ -87,8 +87,7 @@ module _ {A : Type 0} (rows : List (TargetInfo A)) where
         subst (λ z. slice_cmp nat_cmp one.triple z.triple ≡ Less) (sym is_row)
         (increasing-far k place row h inside) in
         let alike = alike_right nat_list_cmp_total row.triple triple one.triple equal in
-        let less = sym alike ∙ below in
-        has_triple triple one Less less)
+        let less = sym alike ∙ below in has_triple triple one Less less)
 
     -- if it finds none, no row has the triple
     pub row_with-missing : (triple : List ℕ) (place : ℕ)

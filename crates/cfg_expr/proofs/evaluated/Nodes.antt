@@ -5,9 +5,8 @@ use Rattle.std.proofs.lemmas.Option.{get_or_from_slice_get, slice_get_within}
 use Rattle.cfgx_grammar.specs.{Answer.HasOneTree, Tree.Tree, Tree.asked}
 use Rattle.cfgx_parser.specs.nodes.Prefix.{Node, node_at, places, prefix}
 use Rattle.cfgx_parser.specs.nodes.Shape.{shape, shape_of}
-use Rattle.cfgx_parser.specs.declared.nodes.ExprNode.{ExprNode}
+use Rattle.cfgx_parser.{specs.declared.nodes.ExprNode.ExprNode, proofs.Places.read-places}
 use Rattle.cfgx_parser.specs.declared.nodes.ExprNode.TheVariants as node
-use Rattle.cfgx_parser.proofs.Places.{read-places}
 use Rattle.cfgx_grammar.proofs.Answering.{only_tree}
 
 shapes-shown : (text : List ℕ) (nodes : List ExprNode)

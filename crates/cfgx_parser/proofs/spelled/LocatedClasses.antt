@@ -1,8 +1,7 @@
 -- A predicate that is read from its key and value is the one that its node names in the text.
 use Rattle.std.proofs.Common.{◌≡◌, ℕ, List, [], ◌∷◌, Option, Some, None, option_map}
 use Rattle.std.proofs.Common.{arith, rules, refl}
-use Rattle.std.specs.List.{AllByRecursion}
-use Rattle.std.specs.declared.ops.Range.{Range}
+use Rattle.std.{specs.List.AllByRecursion, specs.declared.ops.Range.Range}
 use Rattle.std.proofs.lemmas.Slice.Eq.{bytes_eq-Decides}
 use Rattle.cfgx_syntax.specs.Error.{Cause}
 use Rattle.cfgx_grammar.specs.Question.{Leaf, Question, TargetQuestion}

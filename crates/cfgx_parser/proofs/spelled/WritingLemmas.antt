@@ -3,14 +3,12 @@ use Rattle.std.proofs.Common.{◌≡◌, ℕ, ◌+◌, List, [], ◌∷◌, ◌+
 use Rattle.std.proofs.Common.{refl, arith, append_assoc, length-append}
 use Rattle.std.proofs.lemmas.List.{append-nil, map-append, length-map, length_push, set_at, take_at}
 use Rattle.std.proofs.lemmas.List.{drop_at}
-use Rattle.cfgx_grammar.specs.Question.{Question}
-use Rattle.cfgx_grammar.proofs.alone.{all_of_both}
+use Rattle.cfgx_grammar.{specs.Question.Question, proofs.alone.all_of_both}
 use Rattle.cfgx_parser.specs.nodes.Node.{Written, mark_of, asked_at, with_leaf}
 use Rattle.cfgx_parser.specs.nodes.Node.{with_function, with_function_ended}
 use Rattle.cfgx_parser.specs.nodes.Prefix.{Node, node_at, headed}
 use Rattle.cfgx_parser.specs.nodes.WritesNodes.{NodeHasCut, WritesNodes}
-use Rattle.cfgx_parser.specs.declared.function.Func.{Func}
-use Rattle.cfgx_parser.specs.declared.nodes.ExprNode.{ExprNode}
+use Rattle.cfgx_parser.{specs.declared.function.Func.Func, specs.declared.nodes.ExprNode.ExprNode}
 
 pub WritesNodes-none : (text : List ℕ) (w : Written) → WritesNodes text w w [] [] []
 WritesNodes-none text w = grind (arith, append-nil)

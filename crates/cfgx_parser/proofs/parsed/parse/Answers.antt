@@ -3,8 +3,7 @@ use Rattle.std.proofs.Common.{rules, ap, ◌∙◌}
 use Rattle.std.proofs.lemmas.Result.{err_from_is_err_and}
 use Rattle.cfgx_syntax.specs.Stripping.{strip}
 use Rattle.cfgx_parser.proofs.Whole.{Begins, Answers-fails, Answers-memory, Accepted}
-use Rattle.cfgx_parser.proofs.parsed.parse.Given.{Over}
-use Rattle.cfgx_parser.proofs.parsed.parse.Goals.{After-read_all}
+use Rattle.cfgx_parser.{proofs.parsed.parse.Given.Over, proofs.parsed.parse.Goals.After-read_all}
 use Rattle.cfgx_parser.proofs.parsed.parse.Goals as goal
 
 -- the parser starts at the text's start

@@ -7,23 +7,19 @@ use Rattle.cfgx_syntax.proofs.lexer.first_token.Goals as goal
 
 pub returns-in-OpenParen : goal.returns-in-OpenParen
 returns-in-OpenParen c =
-    let first : get_or c.args.text.now 0 0 ≡ 40 = grind arith in
-    search (rules, BeginsWith-byte)
+    let first : get_or c.args.text.now 0 0 ≡ 40 = grind arith in search (rules, BeginsWith-byte)
 
 pub returns-in-CloseParen : goal.returns-in-CloseParen
 returns-in-CloseParen c =
-    let first : get_or c.args.text.now 0 0 ≡ 41 = grind arith in
-    search (rules, BeginsWith-byte)
+    let first : get_or c.args.text.now 0 0 ≡ 41 = grind arith in search (rules, BeginsWith-byte)
 
 pub returns-in-Comma : goal.returns-in-Comma
 returns-in-Comma c =
-    let first : get_or c.args.text.now 0 0 ≡ 44 = grind arith in
-    search (rules, BeginsWith-byte)
+    let first : get_or c.args.text.now 0 0 ≡ 44 = grind arith in search (rules, BeginsWith-byte)
 
 pub returns-in-Equals : goal.returns-in-Equals
 returns-in-Equals c =
-    let first : get_or c.args.text.now 0 0 ≡ 61 = grind arith in
-    search (rules, BeginsWith-byte)
+    let first : get_or c.args.text.now 0 0 ≡ 61 = grind arith in search (rules, BeginsWith-byte)
 
 pub range-requires-clause-end_boundary : goal.range-requires-clause-end_boundary
 range-requires-clause-end_boundary c =

@@ -1,6 +1,5 @@
 -- In the end all families have been copied.
-use Rattle.std.proofs.Common.{arith}
-use Rattle.std.proofs.lemmas.Grind.{common_steps}
+use Rattle.std.{proofs.Common.arith, proofs.lemmas.Grind.common_steps}
 use Rattle.cfgx_targets.proofs.families.copied.Goals as goal
 
 pub returns : goal.returns

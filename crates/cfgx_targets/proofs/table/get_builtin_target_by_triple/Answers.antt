@@ -1,7 +1,6 @@
 use Rattle.std.proofs.Common.{rules, sym, ◌∙◌, ap, nat_cmp, Ok, Err}
 use Rattle.std.specs.Cmp.Lexicographic.{slice_cmp}
-use Rattle.cfgx_targets.specs.Table.{row_with}
-use Rattle.cfgx_targets.proofs.OrderLemmas.{binary_search_by-gives}
+use Rattle.cfgx_targets.{specs.Table.row_with, proofs.OrderLemmas.binary_search_by-gives}
 use Rattle.cfgx_targets.proofs.TableLemmas.{row_with-found, row_with-missing}
 use Rattle.cfgx_targets.proofs.table.get_builtin_target_by_triple.Goals as goal
 

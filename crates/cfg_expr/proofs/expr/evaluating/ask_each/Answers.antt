@@ -1,12 +1,10 @@
 -- One call more.
 use Rattle.std.proofs.Common.{◌≡◌, ◌∙◌, [], length, ap, arith, refl, subst, sym}
-use Rattle.cfgx_grammar.specs.Tree.{asked}
-use Rattle.cfgx_parser.specs.nodes.Prefix.{places}
-use Rattle.cfgx_parser.proofs.Places.{length-places}
+use Rattle.cfgx_grammar.{specs.Tree.asked, proofs.Answering.only_tree}
+use Rattle.cfgx_parser.{specs.nodes.Prefix.places, proofs.Places.length-places}
 use Rattle.cfg_expr.specs.Asking.{Calls, MayAskEach}
 use Rattle.cfg_expr.proofs.evaluated.Asked.{Asking-may, Asking-next, Asking-over}
 use Rattle.cfg_expr.proofs.expr.evaluating.ask_each.Goals as goal
-use Rattle.cfgx_grammar.proofs.Answering.{only_tree}
 
 pub loop-predicate-init : goal.loop-predicate-init
 loop-predicate-init g c =

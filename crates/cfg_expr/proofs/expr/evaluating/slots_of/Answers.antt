@@ -1,9 +1,15 @@
 -- There is room for one more place, while fewer than all are held.
-use Rattle.std.proofs.Common.{◌∙◌, ap, arith, length, rules}
+use Rattle.std.proofs.Common.{◌∙◌, ap, arith, length}
 use Rattle.std.proofs.lemmas.List.{length-replicate}
+use Rattle.cfg_expr.proofs.Rooms.{room}
 use Rattle.cfg_expr.proofs.expr.evaluating.slots_of.Goals as goal
 
 pub push_reserved-requires : goal.push_reserved-requires
 push_reserved-requires g c =
-    let held = ap length c.loop-place.invariant.0 ∙ length-replicate c.loop-place._place _ in
-    (search rules, omega (arith, held, c.loop-place-test.true, c.loop-place.invariant.1))
+    let held = ap length c.loop-place.invariant.0 ∙ length-replicate c.loop-place._place _ in (
+      room _ _ g.met.T.Logic.small,
+      omega (arith, held, c.loop-place-test.true, c.loop-place.invariant.1),
+    )
+
+pub with_capacity-requires : goal.with_capacity-requires
+with_capacity-requires g c = room _ _ g.met.T.Logic.small

@@ -1,6 +1,6 @@
 -- The answers that the closure gave stand at the places of the text's one tree.
 use Rattle.std.proofs.Common.{◌∙◌}
-use Rattle.cfg_expr.proofs.{Chains.Calls-length, evaluated.Nodes.shapes-kept}
+use Rattle.cfg_expr.proofs.{Chains.Calls-length, Rooms.room, evaluated.Nodes.shapes-kept}
 use Rattle.cfg_expr.proofs.expr.evaluating.value_of.Goals as goal
 
 pub returns-clause-value : goal.returns-clause-value
@@ -16,3 +16,9 @@ returns-clause-value g c =
           (shapes-kept c.nodes-nodes.result.now c.nodes-nodes.ensures.nodes one)
           (Calls-length g.EP.FnMut ends.calls) (rw blank at ends.slots_are);
     }
+
+pub slots_of-requires : goal.slots_of-requires
+slots_of-requires g c = room _ _ g.met.T.Logic.small
+
+pub as_mut_slice-slots-requires : goal.as_mut_slice-slots-requires
+as_mut_slice-slots-requires g c = room _ _ g.met.T.Logic.small

@@ -1,9 +1,8 @@
 -- The answers that are given stand at the places of the text's one tree.
 use Rattle.std.proofs.Common.{◌∙◌, ap, length}
-use Rattle.cfgx_grammar.specs.Tree.{asked}
-use Rattle.cfg_expr.proofs.evaluated.Nodes.{shapes-kept}
+use Rattle.cfgx_grammar.{specs.Tree.asked, proofs.Answering.only_tree}
+use Rattle.cfg_expr.{proofs.evaluated.Nodes.shapes-kept, proofs.Rooms.room}
 use Rattle.cfg_expr.proofs.expr.evaluating.value_over.Goals as goal
-use Rattle.cfgx_grammar.proofs.Answering.{only_tree}
 
 pub returns-clause-value : goal.returns-clause-value
 returns-clause-value g c =
@@ -16,3 +15,12 @@ returns-clause-value g c =
           (shapes-kept c.nodes-nodes.result.now c.nodes-nodes.ensures.nodes found.0) many
           (rw (blank, found.1) at c.put_each.ensures),
     )
+
+pub new-answers-requires : goal.new-answers-requires
+new-answers-requires g c = room _ _ g.met.T.Logic.small
+
+pub add_slots-requires : goal.add_slots-requires
+add_slots-requires g c = (room _ _ g.met.T.Logic.small, c.new-answers.ensures.items)
+
+pub as_mut_slice-slots-requires : goal.as_mut_slice-slots-requires
+as_mut_slice-slots-requires g c = room _ _ g.met.T.Logic.small

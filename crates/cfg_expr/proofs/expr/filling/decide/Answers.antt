@@ -1,11 +1,9 @@
 -- The pass and the places give the fillings of the text's tree.
 use Rattle.std.proofs.Common.{◌∙◌, Bool, ap, length, sym, true, false}
-use Rattle.cfgx_grammar.specs.Tree.{asked}
-use Rattle.cfgx_parser.proofs.Places.{length-places}
-use Rattle.cfgx_parser.specs.nodes.Prefix.{places}
+use Rattle.cfgx_grammar.{specs.Tree.asked, proofs.Answering.only_tree}
+use Rattle.cfgx_parser.{proofs.Places.length-places, specs.nodes.Prefix.places}
 use Rattle.cfg_expr.proofs.{Parities.polar-kept, evaluated.Nodes.shapes-kept}
 use Rattle.cfg_expr.proofs.expr.filling.decide.Goals as goal
-use Rattle.cfgx_grammar.proofs.Answering.{only_tree}
 
 pub fill-requires : goal.fill-requires
 fill-requires g c =

@@ -1,5 +1,4 @@
-use Rattle.cfgx_grammar.specs.Homomorphism.{Passes}
-use Rattle.cfgx_grammar.proofs.MappedValues.{tree_fold-mapped}
+use Rattle.cfgx_grammar.{specs.Homomorphism.Passes, proofs.MappedValues.tree_fold-mapped}
 use Rattle.cfg_expr.proofs.expr.laws.homomorphisms_keep_values.Goals as goal
 
 pub returns : goal.returns

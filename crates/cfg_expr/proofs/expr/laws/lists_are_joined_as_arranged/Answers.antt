@@ -1,6 +1,5 @@
 use Rattle.std.proofs.Common.{ap}
-use Rattle.cfgx_grammar.specs.Fold.{list_value}
-use Rattle.cfgx_grammar.proofs.Arranging.{values_of-arranged}
+use Rattle.cfgx_grammar.{specs.Fold.list_value, proofs.Arranging.values_of-arranged}
 use Rattle.cfg_expr.proofs.expr.laws.lists_are_joined_as_arranged.Goals as goal
 
 pub returns : goal.returns

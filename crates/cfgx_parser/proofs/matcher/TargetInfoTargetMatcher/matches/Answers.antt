@@ -1,7 +1,5 @@
-use Rattle.std.proofs.Common.{rules}
-use Rattle.std.proofs.lemmas.Bool.Decides.{same_from_decides}
-use Rattle.std.proofs.lemmas.Map.Made.{is_member-Decides}
-use Rattle.std.proofs.lemmas.Slice.Eq.{bytes_eq-Decides}
+use Rattle.std.{proofs.Common.rules, proofs.lemmas.Bool.Decides.same_from_decides}
+use Rattle.std.{proofs.lemmas.Map.Made.is_member-Decides, proofs.lemmas.Slice.Eq.bytes_eq-Decides}
 use Rattle.cfgx_grammar.proofs.Matched.{is_same_width-Decides}
 use Rattle.cfgx_parser.proofs.matcher.TargetInfoTargetMatcher.matches.Goals as goal
 

@@ -1,7 +1,6 @@
 -- No function is open, so the innermost list is the root.
 use Rattle.std.proofs.Common.{◌≡◌, false, List, [], ◌∷◌, length, sym, refl, ap, ◌∙◌, arith}
-use Rattle.std.proofs.Math.Dec.{ltb}
-use Rattle.std.proofs.lemmas.Bool.{ltb-false}
+use Rattle.std.{proofs.Math.Dec.ltb, proofs.lemmas.Bool.ltb-false}
 use Rattle.cfgx_parser.specs.declared.parser.FuncAndSpan.{FuncAndSpan}
 use Rattle.cfgx_parser.proofs.parser.Parser.end_root.Goals as goal
 

@@ -11,5 +11,4 @@ pub reserve-requires : goal.reserve-requires
 reserve-requires g c = room _ _ _ g.met.A.SmallAllocator.small (omega arith)
 
 pub push_reserved-requires : goal.push_reserved-requires
-push_reserved-requires g c =
-    (room _ _ _ g.met.A.SmallAllocator.small (omega arith), search rules)
+push_reserved-requires g c = (room _ _ _ g.met.A.SmallAllocator.small (omega arith), search rules)

@@ -1,6 +1,5 @@
 -- Each token that the lexer gives is the next one, and the parser takes the step of it.
-use Rattle.std.proofs.Common.{Ok, Err}
-use Rattle.std.proofs.lemmas.Result.{err_from_is_err_and}
+use Rattle.std.{proofs.Common.Ok, proofs.Common.Err, proofs.lemmas.Result.err_from_is_err_and}
 use Rattle.cfgx_parser.proofs.ReadTokens.{LeadsTo-read, ReadsAll-read, ReadsAll-fault, ReadsAll-end}
 use Rattle.cfgx_parser.proofs.parser.Parser.read_all.Goals as goal
 

@@ -1,8 +1,7 @@
 -- What follows the white space stands in the whole text.
-use Rattle.std.proofs.Common.{arith, rules}
-use Rattle.cfgx_syntax.specs.{Error.cause_of, Lexer.token_of}
+use Rattle.std.{proofs.Common.arith, proofs.Common.rules, proofs.lemmas.Grind.common_steps}
+use Rattle.cfgx_syntax.{specs.Error.cause_of, specs.Lexer.token_of, proofs.Scanning.state_at}
 use Rattle.cfgx_syntax.proofs.Scanning.{IsAfter-trimmed, Stands-found, CanBeCut-found, Ending-found}
-use Rattle.cfgx_syntax.proofs.Scanning.{state_at}
 use Rattle.cfgx_syntax.proofs.lexer.LexerIterator.next.Goals as goal
 
 pub returns-in-Ok-clause-steps : goal.returns-in-Ok-clause-steps
@@ -31,3 +30,12 @@ returns-in-Some-clause-steps g c =
       fails = c.of.ensures;
       is_over = state_at _ _ _ (omega arith);
     })
+
+pub invariant_of-self : goal.invariant_of-self
+invariant_of-self g c = grind (arith, common_steps)
+
+pub invariant_of-self-in-Ok : goal.invariant_of-self-in-Ok
+invariant_of-self-in-Ok g c = grind (arith, common_steps)
+
+pub invariant_of-self-in-Err : goal.invariant_of-self-in-Err
+invariant_of-self-in-Err g c = grind (arith, common_steps)

@@ -1,6 +1,5 @@
 -- If no lane of what is left is both, then none of all is.
-use Rattle.std.proofs.Common.{length}
-use Rattle.std.specs.List.{AllByRecursion}
+use Rattle.std.{proofs.Common.length, specs.List.AllByRecursion}
 use Rattle.cfgx_syntax.specs.Kleene.{IsDisjoint}
 use Rattle.cfgx_syntax.proofs.logic.laws.are_disjoint.Given as goal
 

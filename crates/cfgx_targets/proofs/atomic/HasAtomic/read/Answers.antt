@@ -1,6 +1,5 @@
 use Rattle.std.proofs.Common.{rules, Ok, Err}
-use Rattle.cfgx_targets.specs.HasAtomic.{ReadsAtomic}
-use Rattle.cfgx_targets.proofs.AtomicLemmas.{ReadsAtomic-text}
+use Rattle.cfgx_targets.{specs.HasAtomic.ReadsAtomic, proofs.AtomicLemmas.ReadsAtomic-text}
 use Rattle.cfgx_targets.proofs.atomic.HasAtomic.read.Goals as goal
 
 pub returns-in-Some-clause-printed : goal.returns-in-Some-clause-printed

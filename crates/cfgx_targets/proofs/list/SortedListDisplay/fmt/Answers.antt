@@ -1,6 +1,5 @@
 -- The members stand between the braces.
-use Rattle.std.proofs.Common.{arith}
-use Rattle.std.proofs.lemmas.Grind.{common_steps}
+use Rattle.std.{proofs.Common.arith, proofs.lemmas.Grind.common_steps}
 use Rattle.cfgx_targets.proofs.list.SortedListDisplay.fmt.Goals as goal
 
 pub returns-clause-writes : goal.returns-clause-writes

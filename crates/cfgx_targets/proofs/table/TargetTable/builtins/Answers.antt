@@ -1,6 +1,5 @@
 use Rattle.std.proofs.Common.{subst, sym}
-use Rattle.cfgx_targets.specs.Table.{AreIncreasing}
-use Rattle.cfgx_targets.proofs.TableLemmas.{builtin_rows-increasing}
+use Rattle.cfgx_targets.{specs.Table.AreIncreasing, proofs.TableLemmas.builtin_rows-increasing}
 use Rattle.cfgx_targets.proofs.table.TargetTable.builtins.Goals as goal
 
 pub from_increasing-requires : goal.from_increasing-requires

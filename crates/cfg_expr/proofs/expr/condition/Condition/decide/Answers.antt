@@ -6,8 +6,7 @@ use Rattle.cfg_expr.proofs.expr.condition.Condition.decide.Goals as goal
 
 pub returns-clause-exact : goal.returns-clause-exact
 returns-clause-exact g c =
-    let one = rw c.self.view_is at c.decide.ensures.one in
-    (one, IsExact-fold one.tree)
+    let one = rw c.self.view_is at c.decide.ensures.one in (one, IsExact-fold one.tree)
 
 pub returns-clause-decision : goal.returns-clause-decision
 returns-clause-decision g c =

@@ -1,7 +1,6 @@
 -- Each member is one step of the pass.
 use Rattle.std.proofs.Common.{◌≡◌, ◌+◌, ◌-◌, ap, sym, arith}
-use Rattle.cfg_expr.specs.nodes.Reading.{is_held}
-use Rattle.cfg_expr.proofs.evaluated.Joined.{Joins-next}
+use Rattle.cfg_expr.{specs.nodes.Reading.is_held, proofs.evaluated.Joined.Joins-next}
 use Rattle.cfg_expr.proofs.expr.evaluating.Connective.join_kind.Goals as goal
 
 pub loop-place-preserved : goal.loop-place-preserved

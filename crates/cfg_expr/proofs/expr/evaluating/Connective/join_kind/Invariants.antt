@@ -1,6 +1,5 @@
 -- What the members from the place on make.
-use Rattle.cfg_expr.specs.nodes.Reading.{join_of}
-use Rattle.cfg_expr.proofs.evaluated.Joined.{Joins}
+use Rattle.cfg_expr.{specs.nodes.Reading.join_of, proofs.evaluated.Joined.Joins}
 use Rattle.cfg_expr.proofs.expr.evaluating.Connective.join_kind.Given as goal
 
 abbrev pub invariant-loop-place : goal.invariant-loop-place
