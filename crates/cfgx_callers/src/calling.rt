@@ -127,8 +127,8 @@ fn prints<T: std::fmt::Debug>(alloc: Global, value: &T, text: &str) -> bool {
     }
 }
 
-// Whether there is a value, and it prints this. The examples have no `?` of their own, since a
-// function with many of them takes long to prove.
+// Whether the answer is a value that prints as the text. The examples have no `?` of their own,
+// since a function with many of them takes long to prove.
 fn shows<T: std::fmt::Debug + Drop, E: Drop>(
     alloc: Global,
     answer: Result<T, E>,
@@ -187,10 +187,10 @@ fn is_answer_of(alloc: Global, example: &str, expression: &Expression, told: &st
 }
 
 fn is_answer_on(alloc: Global, example: &str, text: &str, told: &str) -> bool {
-    match &Expression::parse(alloc, text) {
-        Ok(expression) => is_answer_of(alloc, example, expression, told),
-        Err(_) => false,
-    }
+    let Ok(expression) = Expression::parse(alloc, text) else {
+        return false;
+    };
+    is_answer_of(alloc, example, &expression, told)
 }
 
 fn is_named(alloc: Global, text: &str) -> Result<bool, AllocError> {

@@ -10,7 +10,7 @@ use cfg_expr::expr::Logic;
 use cfg_expr::{Expression, Predicate};
 use cfgx_testing::answers::value_with;
 use cfgx_testing::holding::holds;
-use cfgx_testing::rows::{check_rows, check_threes};
+use cfgx_testing::rows::{Checked, check_tables};
 use std::alloc::{AllocError, Global};
 use terms::Terms;
 
@@ -118,20 +118,10 @@ any(a, feature = "b") | b feature | false
 all(a, b) | a | false
 "#;
 
-// The value of the text with these flags, two at most.
-fn value_by(alloc: Global, text: &str, flags: &str) -> Option<bool> {
+// The value of the expression with these flags, two at most.
+fn value_by(alloc: Global, expression: &Expression, flags: &str) -> Option<bool> {
     let (one, other) = flags.split_once(' ').unwrap_or((flags, ""));
-    match &Expression::parse(alloc, text) {
-        Ok(expression) => value_with_flags(alloc, expression, &[one, other]).ok(),
-        Err(_) => None,
-    }
-}
-
-#[test]
-fn values_by_a_list_of_flags(rt: HostRuntime) -> Result<(), String> {
-    check_threes(rt.alloc(), BY_FLAGS, 5, |text, flags, value| {
-        value_by(rt.alloc(), text, flags) == Some(value == "true")
-    })
+    value_with_flags(alloc, expression, &[one, other]).ok()
 }
 
 // Texts, how many questions are asked, and the terms that join the predicates, by their names and
@@ -176,33 +166,50 @@ fn has_terms(
     Ok(questions.parse() == Ok(count) && is_named && is_numbered)
 }
 
-// Whether the text has what the row says.
-fn is_row(alloc: Global, row: &[String]) -> bool {
-    let [text, questions, names, calls] = row else {
-        return false;
-    };
-    let (questions, names, calls) = (questions.as_str(), names.as_str(), calls.as_str());
-    match &Expression::parse(alloc, text.as_str()) {
-        Ok(expression) => holds(has_terms(alloc, expression, questions, names, calls)),
-        Err(_) => false,
+// Whether the expression has what the rest of its row says.
+fn has(alloc: Global, expression: &Expression, wanted: &[String]) -> bool {
+    match wanted {
+        [flags, value] => {
+            value_by(alloc, expression, flags.as_str()) == Some(value.as_str() == "true")
+        }
+        [questions, names, calls] => holds(has_terms(
+            alloc,
+            expression,
+            questions.as_str(),
+            names.as_str(),
+            calls.as_str(),
+        )),
+        _ => false,
     }
 }
 
+// Whether the text has what the row says.
+fn is_row(alloc: Global, row: &[String]) -> bool {
+    let [text, wanted @ ..] = row else {
+        return false;
+    };
+    let Ok(expression) = Expression::parse(alloc, text.as_str()) else {
+        return false;
+    };
+    has(alloc, &expression, wanted)
+}
+
+const TABLES: &[Checked<'_>] = &[
+    ("values by a list of flags", BY_FLAGS, 5),
+    ("terms are written and questions counted", TERMS, 12),
+];
+
 #[test]
-fn terms_are_written_and_questions_counted(rt: HostRuntime) -> Result<(), String> {
+fn callers_have_their_values(rt: HostRuntime) -> Result<(), String> {
     let alloc = rt.alloc();
-    check_rows(alloc, TERMS, 12, |row| is_row(alloc, row))
+    check_tables(alloc, TABLES, |_name, row| is_row(alloc, row))
 }
 
 // The value over these answers, one after another, and how many questions are asked.
 fn value_of(alloc: Global, text: &str, answers: &[Lawless]) -> Option<(Lawless, usize)> {
-    match &Expression::parse(alloc, text) {
-        Ok(expression) => {
-            let value = value_with(alloc, expression, answers);
-            value.zip(questions_of(alloc, expression).ok())
-        }
-        Err(_) => None,
-    }
+    let expression = Expression::parse(alloc, text).ok()?;
+    let value = value_with(alloc, &expression, answers);
+    value.zip(questions_of(alloc, &expression).ok())
 }
 
 // `any(b)` is `bottom`, which is 2; then 3 * 1 + 30 = 33, 3 * 33 + 10 = 109, 3 * 109 + 2 = 329. Of

@@ -47,10 +47,13 @@ fn is_read_as(alloc: Global, predicate: &Predicate<'_>, text: &str) -> bool
 
 // Whether this holds of the first predicate of the expression.
 fn is_first_read_as(alloc: Global, expression: &Expression, text: &str) -> bool {
-    match expression.predicates().next() {
-        Some(predicate) => is_read_as(alloc, &predicate, text),
+    let first = expression.predicates().next();
+    let is_read = match &first {
+        Some(predicate) => is_read_as(alloc, predicate, text),
         None => false,
-    }
+    };
+    drop(first);
+    is_read
 }
 
 #[test]

@@ -2,12 +2,12 @@
 use cfg_expr::Expression;
 use cfg_expr::expr::logic::Kleene64;
 use cfgx_testing::answers::{Answer, agree, answer_of, are_lanes, value_in_lanes, value_with};
-use cfgx_testing::rows::check_threes;
+use cfgx_testing::holding::holds;
 use std::alloc::{AllocError, Global};
 
 /// A text, how many predicates it asks, and its values if these are all true, all false, and all
 /// unknown.
-const ROWS: &str = r#"
+pub(crate) const ALIKE: &str = r#"
 all() | 0 | 111
 any() | 0 | 000
 not(all()) | 0 | 000
@@ -77,6 +77,17 @@ fn is_value(
     }
 }
 
+// Whether these are the values in lanes over the answers, by two calls.
+fn have_lanes(alloc: Global, expression: &Expression, digits: &[u8], answers: &[Kleene64]) -> bool {
+    let value = value_with(alloc, expression, answers);
+    match value {
+        Some(lanes) => {
+            are_lanes(lanes, digits) && value_in_lanes(alloc, expression, answers) == value
+        }
+        None => false,
+    }
+}
+
 // Whether these are the values in lanes of which the first is true, the second false, and all
 // others are unknown, in so many answers.
 fn agree_in_lanes(
@@ -86,36 +97,22 @@ fn agree_in_lanes(
     count: usize,
 ) -> Result<bool, AllocError> {
     let answers = vec![in alloc; Kleene64::new(0b01, 0b10); count]?;
-    let value = value_with(alloc, expression, answers.as_slice());
-    let in_lanes = value_in_lanes(alloc, expression, answers.as_slice());
-    Ok(value == in_lanes && value.is_some_and(|value| are_lanes(value, digits)))
+    Ok(have_lanes(alloc, expression, digits, answers.as_slice()))
 }
 
 // Whether these are the values if the answers are all true, all false, and all unknown.
-fn have_values(
-    alloc: Global,
-    expression: &Expression,
-    digits: &[u8],
-    count: usize,
-) -> Result<bool, AllocError> {
+fn have_all_values(alloc: Global, expression: &Expression, digits: &[u8], count: usize) -> bool {
     for (digit, answer) in digits.iter().zip([Some(true), Some(false), None]) {
-        if !is_value(alloc, expression, answer, *digit, count)? {
-            return Ok(false);
+        if !holds(is_value(alloc, expression, answer, *digit, count)) {
+            return false;
         }
     }
-    Ok(digits.len() == 3 && agree_in_lanes(alloc, expression, digits, count)?)
+    digits.len() == 3 && holds(agree_in_lanes(alloc, expression, digits, count))
 }
 
-// Whether the text asks so many predicates and has these values.
-fn is_right(alloc: Global, text: &str, count: &str, digits: &str) -> Option<bool> {
+/// Whether the text asks so many predicates and has these values.
+pub(crate) fn have_values(alloc: Global, text: &str, count: &str, digits: &str) -> Option<bool> {
     let count = count.parse::<usize>().ok()?;
     let expression = Expression::parse(alloc, text).ok()?;
-    have_values(alloc, &expression, digits.as_bytes(), count).ok()
-}
-
-#[test]
-fn values_of_short_wide_and_deep_texts(rt: HostRuntime) -> Result<(), String> {
-    check_threes(rt.alloc(), ROWS, 37, |text, count, digits| {
-        is_right(rt.alloc(), text, count, digits) == Some(true)
-    })
+    Some(have_all_values(alloc, &expression, digits.as_bytes(), count))
 }

@@ -5,7 +5,6 @@ use cfg_expr::expr::TargetMatcher;
 use cfg_expr::{Decision, Expression, TargetPredicate};
 use cfgx_engine::resolve::{Section, Verdict, audit, decide_on, pick};
 use cfgx_testing::holding::holds;
-use cfgx_testing::rows::check_threes;
 use std::alloc::{AllocError, Global};
 use std::cell::Cell;
 
@@ -32,8 +31,8 @@ fn unasked() -> Counting {
     }
 }
 
-// A condition, what a target says of it that meets each predicate, and how often it is asked.
-const ASKED: &str = r#"
+/// A condition, what a target says of it that meets each predicate, and how often it is asked.
+pub(crate) const ASKED: &str = r#"
 unix | Yes | 1
 not(unix) | No | 1
 any(unix, not(unix)) | Yes | 2
@@ -115,22 +114,20 @@ fn wanted_of(told: &str) -> Verdict {
     }
 }
 
-fn is_asked(alloc: Global, text: &str, told: &str, count: usize) -> Result<bool, Failure> {
+/// Whether the target of each call says this of the condition, and is asked so often.
+pub(crate) fn is_asked(
+    alloc: Global,
+    text: &str,
+    told: &str,
+    count: &str,
+) -> Result<bool, Failure> {
+    let Ok(count) = count.parse::<usize>() else {
+        return Ok(false);
+    };
     let wanted = wanted_of(told);
     let condition = Expression::parse(alloc, text)?;
-    Ok(
-        is_audited(alloc, &condition, wanted, count)?
-            && is_decided(alloc, &condition, wanted, count)?
-            && is_picked(alloc, condition, wanted, count)?,
-    )
-}
-
-#[test]
-fn each_target_is_asked_once(rt: HostRuntime) -> Result<(), String> {
-    check_threes(rt.alloc(), ASKED, 12, |text, told, count| {
-        match count.parse() {
-            Ok(count) => holds(is_asked(rt.alloc(), text, told, count)),
-            Err(_) => false,
-        }
-    })
+    let is_audited = holds(is_audited(alloc, &condition, wanted, count));
+    let is_decided = holds(is_decided(alloc, &condition, wanted, count));
+    let is_picked = holds(is_picked(alloc, condition, wanted, count));
+    Ok(is_audited && is_decided && is_picked)
 }

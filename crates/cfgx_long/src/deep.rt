@@ -2,13 +2,11 @@
 use cfg_expr::Expression;
 use cfg_expr::error::Failure;
 use cfg_expr::expr::{Condition, ConditionReader, Predicates};
-use cfgx_testing::holding::{holds, prints};
-use cfgx_testing::rows::{Checked, check_tables, has_fault};
-use cfgx_testing::words::is_run;
+use cfgx_testing::holding::prints;
 use std::alloc::Global;
 
-// Faulty texts, and their faults.
-const FAULTS: &str = r#"
+/// Faulty texts, and their faults.
+pub(crate) const FAULTS: &str = r#"
 ~all(~100000~ | UnclosedParens at 399999..400000
 ~not(~100000~a | UnclosedParens at 399999..400001
 not(~all(),~300~) | InvalidNot(300) at 0..1805
@@ -25,8 +23,8 @@ any(~a,~49998~8) | U[`<key>` `all` `any` `not`] at 100000..100001
 all(b~,~3000~c d) | U[`=` `,` `)`] at 3007..3008
 "#;
 
-// Accepted texts, and how many predicates they ask.
-const ACCEPTED: &str = r#"
+/// Accepted texts, and how many predicates they ask.
+pub(crate) const ACCEPTED: &str = r#"
 any(~a,~100~) | 100
 any(~a,~100000~) | 100000
 ~not(~100000~a~)~100000~ | 1
@@ -42,15 +40,15 @@ fn are(predicates: Predicates<'_>, count: Option<usize>) -> bool {
     Some(predicates.left()) == count && Some(predicates.count()) == count
 }
 
-// Whether the text asks so many predicates, and its expression keeps and prints it.
-fn asks(alloc: Global, text: &str, count: &str) -> Result<bool, Failure> {
+/// Whether the text asks so many predicates, and its expression keeps and prints it.
+pub(crate) fn asks(alloc: Global, text: &str, count: &str) -> Result<bool, Failure> {
     let expression = Expression::parse(alloc, text)?;
     let is_kept = expression.original() == text && prints(alloc, &expression, text);
     Ok(is_kept && are(expression.predicates(), count.parse().ok()))
 }
 
-// Texts that one reader reads one after another, and how many predicates each asks.
-const READ: &str = r#"
+/// Texts that one reader reads one after another, and how many predicates each asks.
+pub(crate) const READ: &str = r#"
 any(~a,~100000~) | 100000 | ~not(~100000~a~)~100000~ | 1 | a | 1
 "#;
 
@@ -64,8 +62,8 @@ fn is_read(read: &Result<Condition<'_>, Failure>, text: &str, count: &str) -> bo
     }
 }
 
-// Whether one reader reads all texts of the row.
-fn are_read(alloc: Global, row: &[String]) -> bool {
+/// Whether one reader reads all texts of the row.
+pub(crate) fn are_read(alloc: Global, row: &[String]) -> bool {
     let mut reader = ConditionReader::new(alloc);
     for pair in row.chunks(2) {
         let is_right = match pair {
@@ -79,32 +77,8 @@ fn are_read(alloc: Global, row: &[String]) -> bool {
     !row.is_empty()
 }
 
-// A fault far from the start, which prints as many spaces.
-const FAR: &str = r#"
+/// A fault far from the start, which prints as many spaces.
+pub(crate) const FAR: &str = r#"
 1 | all(b~,~3000~c d)\n~ ~3007~^ expected one of `=`, `,`, `)` here\n | parse \
 | all(b~,~3000~c d)
 "#;
-
-fn passes(alloc: Global, check: &str, row: &[String]) -> bool {
-    match row {
-        [text, fault] if check == "fault" => {
-            has_fault(alloc, text.as_str(), text.as_str(), fault.as_str())
-        }
-        _ if check == "read" => are_read(alloc, row),
-        [text, count] => holds(asks(alloc, text.as_str(), count.as_str())),
-        _ => is_run(alloc, row),
-    }
-}
-
-const TABLES: &[Checked<'static>] = &[
-    ("fault", FAULTS, 14),
-    ("predicates", ACCEPTED, 7),
-    ("read", READ, 1),
-    ("run", FAR, 1),
-];
-
-#[test]
-fn rows_pass_their_checks(rt: HostRuntime) -> Result<(), String> {
-    let alloc = rt.alloc();
-    check_tables(alloc, TABLES, |check, row| passes(alloc, check, row))
-}

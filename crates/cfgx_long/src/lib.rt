@@ -7,6 +7,8 @@ mod alike;
 #[cfg(test)]
 mod asking;
 #[cfg(test)]
+mod checks;
+#[cfg(test)]
 mod deep;
 #[cfg(test)]
 mod generated;

@@ -2,13 +2,11 @@
 use cfg_expr::Expression;
 use cfg_expr::expr::logic::Kleene64;
 use cfgx_testing::answers::value_in_lanes;
-use cfgx_testing::fillings::is_told;
-use cfgx_testing::rows::check_threes;
 use cfgx_testing::texts::repeated;
 use std::alloc::Global;
 
-// Rows as those of `FILLINGS`.
-const LARGE: &str = r#"
+/// Rows as those of `FILLINGS`.
+pub(crate) const LARGE: &str = r#"
 any(~a,~100000~) | ~?~100000~ | ~1~100000~ ~0~100000~
 any(~a,~100000~true) | ~?~100000~ | true
 all(~a,~100000~any()) | ~?~100000~ | false
@@ -16,13 +14,6 @@ all(~a,~100000~any()) | ~?~100000~ | false
 ~not(~99999~a~)~99999~ | ? | 0 1
 ~not(~99999~a~)~99999~ | 1 | false
 "#;
-
-#[test]
-fn fillings_of_a_hundred_thousand_members(rt: HostRuntime) -> Result<(), String> {
-    check_threes(rt.alloc(), LARGE, 6, |text, answers, told| {
-        is_told(rt.alloc(), text, answers, told) == Some(true)
-    })
-}
 
 const MANY: usize = 100_000;
 

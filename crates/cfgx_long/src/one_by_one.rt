@@ -1,19 +1,32 @@
 //! The fillings of all short conditions over all answers, one by one.
 use cfg_expr::Expression;
 use cfgx_testing::answers::{Answer, agree, value_with};
+use cfgx_testing::holding::push;
 use std::alloc::{AllocError, Global};
 use std::test::Fail;
+
+// Adds the text, its `not`, and those that are a function of it and one of the texts.
+fn push_grown(
+    alloc: Global,
+    more: &mut Vec<String>,
+    text: &str,
+    texts: &[String],
+) -> Result<(), AllocError> {
+    push(more, String::from_str(alloc, text))?;
+    push(more, format!(in alloc; "not({text})"))?;
+    for other in texts {
+        for name in ["all", "any"] {
+            push(more, format!(in alloc; "{name}({text},{other})"))?;
+        }
+    }
+    Ok(())
+}
 
 // The texts, those that are a `not` of one of them, and those that are a function of two.
 fn grown(alloc: Global, texts: &[String]) -> Result<Vec<String>, AllocError> {
     let mut more = Vec::new(alloc);
     for text in texts {
-        more.push(format!(in alloc; "{text}")?)?;
-        more.push(format!(in alloc; "not({text})")?)?;
-        for other in texts {
-            more.push(format!(in alloc; "all({text},{other})")?)?;
-            more.push(format!(in alloc; "any({text},{other})")?)?;
-        }
+        push_grown(alloc, &mut more, text.as_str(), texts)?;
     }
     Ok(more)
 }

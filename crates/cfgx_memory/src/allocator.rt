@@ -1,6 +1,6 @@
 //! The allocator that refuses on demand, and the arena that counts its blocks.
 use cfgx_testing::heap::{empty_heap, has_every_block};
-use cfgx_testing::holding::holds;
+use cfgx_testing::holding::{all_hold, holds};
 use cfgx_testing::refusing::Refusing;
 use std::alloc::{AllocError, Allocator, Global};
 use std::mem::forget;
@@ -30,14 +30,6 @@ fn refused_growths(heap: &Refusing<Global>) -> Option<u64> {
     None
 }
 
-#[test]
-fn each_growth_is_refused_in_turn(rt: HostRuntime) {
-    let heap = Refusing::new(rt.alloc());
-    let refused = refused_growths(&heap);
-    drop(heap);
-    assert!(rt; refused.unwrap_or(0) >= 3);
-}
-
 // Whether the second growth from now is refused, leaves the list as it was, and is not refused
 // again. Both arguments are the heap.
 fn is_refused_the_second<A: Allocator>(
@@ -63,14 +55,6 @@ fn refuses_only_one(heap: &Refusing<Global>) -> bool {
     was_filled && is_one && holds(is_filled(heap))
 }
 
-#[test]
-fn only_one_growth_is_refused(rt: HostRuntime) {
-    let heap = Refusing::new(rt.alloc());
-    let is_one = refuses_only_one(&heap);
-    drop(heap);
-    assert!(rt; is_one);
-}
-
 // Whether a list is made, and then forgotten or dropped.
 fn is_made<A: Allocator>(alloc: A, is_forgotten: bool) -> Result<bool, AllocError> {
     let bytes = vec![in alloc; 0u8; 8]?;
@@ -90,7 +74,15 @@ fn is_told(alloc: Global, is_forgotten: bool) -> bool {
 }
 
 #[test]
-fn a_block_that_is_out_is_told(rt: HostRuntime) {
-    assert!(rt; is_told(rt.alloc(), true));
-    assert!(rt; is_told(rt.alloc(), false));
+fn growths_are_refused_and_blocks_told(rt: HostRuntime) -> Result<(), &'static str> {
+    let heap = Refusing::new(rt.alloc());
+    all_hold(&[
+        ("only one growth is refused", refuses_only_one(&heap)),
+        (
+            "each growth is refused in turn",
+            refused_growths(&heap).unwrap_or(0) >= 3,
+        ),
+        ("a block that is out is told", is_told(rt.alloc(), true)),
+        ("a block that is back is told", is_told(rt.alloc(), false)),
+    ])
 }

@@ -1,6 +1,7 @@
 //! Values and fillings worked out by hand, as rows.
 use crate::answers::{Answer, agree, answer_of};
 use crate::holding::holds;
+use cfg_expr::error::Failure;
 use cfg_expr::expr::{Condition, ConditionReader};
 use cfg_expr::{Decision, Expression};
 use std::alloc::{AllocError, Global};
@@ -87,6 +88,14 @@ fn is_decided(decision: &Decision, told: &str) -> bool {
     }
 }
 
+// Whether a row tells these fillings, or a value if there are none.
+fn has_fillings(found: &Option<(Vec<bool>, Vec<bool>)>, told: &str) -> bool {
+    match found {
+        Some((one, other)) => are_told(one.as_slice(), other.as_slice(), told),
+        None => !told.contains(' '),
+    }
+}
+
 // Whether `polar_fillings` and `decide` answer what a row tells.
 fn are_shown(
     alloc: Global,
@@ -97,12 +106,10 @@ fn are_shown(
     if expression.predicates().left() != answers.len() {
         return Ok(false);
     }
-    let found = expression.polar_fillings(alloc, answers)?;
-    let has_fillings = match &found {
-        Some((one, other)) => are_told(one.as_slice(), other.as_slice(), told),
-        None => !told.contains(' '),
-    };
-    Ok(has_fillings && is_decided(&expression.decide(alloc, answers)?, told))
+    Ok(
+        has_fillings(&expression.polar_fillings(alloc, answers)?, told)
+            && is_decided(&expression.decide(alloc, answers)?, told),
+    )
 }
 
 // Whether `decide` of the condition answers what a row tells, also in the memory of an earlier
@@ -122,13 +129,22 @@ fn decides(
     Ok(is_right && is_decided(&again, told))
 }
 
-// Whether it does for the condition that a reader reads.
+// Whether it does for the condition that the reader reads.
+fn is_read_by<'a>(
+    alloc: Global,
+    reader: &mut ConditionReader<'a>,
+    text: &'a str,
+    answers: &[Answer],
+    told: &str,
+) -> Result<bool, Failure> {
+    let condition = reader.read(text)?;
+    Ok(decides(alloc, &condition, answers, told)?)
+}
+
+// Whether it does for the condition that a new reader reads.
 fn is_read(alloc: Global, text: &str, answers: &[Answer], told: &str) -> bool {
     let mut reader = ConditionReader::new(alloc);
-    match reader.read(text) {
-        Ok(condition) => holds(decides(alloc, &condition, answers, told)),
-        Err(_failure) => false,
-    }
+    holds(is_read_by(alloc, &mut reader, text, answers, told))
 }
 
 /// Whether a row tells what the text is over these answers, of which there are as many as

@@ -104,6 +104,28 @@ where
     }
 }
 
+// Adds a line of a table to the row. The answer is whether the row has ended, or nothing if it
+// cannot be taken apart or its fields do not pass the check.
+fn take_line<F>(alloc: Global, row: &mut String, line: &str, check: &F) -> Option<bool>
+where
+    F: Fn(&[String]) -> bool,
+    requires { F.IsAlwaysCallable check.now }
+{
+    if row.is_empty() && (line.is_empty() || line.starts_with("// ")) {
+        return Some(false);
+    }
+    let front = line.strip_suffix('\\');
+    row.push_str(front.unwrap_or(line)).ok()?;
+    if front.is_some() {
+        return Some(false);
+    }
+    if !passes(alloc, row.as_str(), check) {
+        return None;
+    }
+    row.clear();
+    Some(true)
+}
+
 /// How many rows the table has, if each can be taken apart and its fields pass the check.
 ///
 /// The error is the first row of which that is not so.
@@ -115,19 +137,9 @@ where
     let mut rows = 0usize;
     let mut row = String::new(alloc);
     for line in table.lines() {
-        if row.is_empty() && (line.is_empty() || line.starts_with("// ")) {
-            continue;
-        }
-        let front = line.strip_suffix('\\');
-        if row.push_str(front.unwrap_or(line)).is_err() {
-            return Err(row);
-        }
-        if front.is_none() {
-            if !passes(alloc, row.as_str(), check) {
-                return Err(row);
-            }
-            row.clear();
-            rows = rows.saturating_add(1);
+        match take_line(alloc, &mut row, line, check) {
+            Some(has_ended) => rows = rows.saturating_add(usize::from(has_ended)),
+            None => return Err(row),
         }
     }
     if row.is_empty() { Ok(rows) } else { Err(row) }

@@ -1,3 +1,2 @@
-//! Values of conditions, and the fillings that show why they are unknown.
-mod fillings;
+//! Values of conditions in other logics.
 mod logics;

@@ -1,9 +1,9 @@
 //! Targets: their fields, rows and tables, and what they say of conditions.
-mod conditions;
+pub(crate) mod conditions;
 mod fields;
 mod hashing;
-mod lists;
+pub(crate) mod lists;
 mod named;
 mod rows;
-mod tables;
+pub(crate) mod tables;
 mod verdicts;

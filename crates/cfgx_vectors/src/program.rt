@@ -18,14 +18,11 @@ fn is_row_picked(alloc: Global, each: usize, row: &[String]) -> bool {
         [status, input, written, triple] => (status, input, written, triple.as_str()),
         _ => return false,
     };
-    let (words, input) = (["pick", triple], input.as_bytes());
-    status.parse().is_ok_and(|status| is_run_over(
-        alloc,
-        &words,
-        each,
-        input,
-        (written.as_str(), status),
-    ))
+    let Ok(status) = status.parse() else {
+        return false;
+    };
+    let ended = (written.as_str(), status);
+    is_run_over(alloc, &["pick", triple], each, input.as_bytes(), ended)
 }
 
 // Whether the row passes by sinks that take a few bytes a call, or all, and each call that fails is

@@ -44,14 +44,18 @@ fn are_alike(
     }
 }
 
+// Whether the reader reads the text as parsing does.
+fn is_read_alike<'a>(alloc: Global, reader: &mut ConditionReader<'a>, text: &'a str) -> bool {
+    are_alike(alloc, &reader.read(text), &Expression::parse(alloc, text))
+}
+
 /// How many of the texts one reader reads as parsing does: all of them, or those in front of the
 /// first that it reads otherwise.
 pub(crate) fn read_alike(alloc: Global, texts: &[String]) -> usize {
     let mut reader = ConditionReader::new(alloc);
     let mut count = 0usize;
     for text in texts {
-        let text = text.as_str();
-        if !are_alike(alloc, &reader.read(text), &Expression::parse(alloc, text)) {
+        if !is_read_alike(alloc, &mut reader, text.as_str()) {
             return count;
         }
         count = count.saturating_add(1);

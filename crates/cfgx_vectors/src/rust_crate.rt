@@ -65,18 +65,39 @@ fn printed(
     format!(in alloc; "{text}{spaces}{marks}{reason}\n").ok()
 }
 
+// The text in an outer `cfg( )`, if it stands in one, and how many bytes stand before it.
+fn stripped(text: &str) -> (&str, usize) {
+    match text.strip_prefix("cfg(") {
+        Some(rest) => match rest.strip_suffix(')') {
+            Some(inner) => (inner, 4),
+            None => (text, 0),
+        },
+        None => (text, 0),
+    }
+}
+
+// What is printed for the text without its marks, if it is refused where it is marked.
+fn refusal(alloc: Global, text: &str, marked: &str, message: &str) -> Option<String> {
+    let (inner, taken) = stripped(text);
+    let (front, rest) = marked.split_once('^')?;
+    let length = match rest.split_once('^') {
+        Some((fault, _)) => fault.len(),
+        None => 1,
+    };
+    printed(
+        alloc,
+        inner,
+        front.len().saturating_sub(taken),
+        length,
+        message,
+    )
+}
+
 // Whether the text without its marks is refused there with this message.
 fn is_refused(alloc: Global, marked: &str, message: &str) -> Option<bool> {
     let text = marked.replace(alloc, "^", "").ok()?;
     let text = text.as_str();
-    let (front, rest) = marked.split_once('^')?;
-    let length = rest.split_once('^').map_or(1, |(fault, _)| fault.len());
-    let inner = text
-        .strip_prefix("cfg(")
-        .and_then(|rest| rest.strip_suffix(')'));
-    let taken = if inner.is_some() { 4 } else { 0 };
-    let start = front.len().saturating_sub(taken);
-    let written = printed(alloc, inner.unwrap_or(text), start, length, message)?;
+    let written = refusal(alloc, text, marked, message)?;
     Some(is_answer(alloc, &["parse", text], 1, written.as_str()))
 }
 

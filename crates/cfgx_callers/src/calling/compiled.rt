@@ -30,18 +30,24 @@ const WINDOWS: &str = "debug_assertions\n\
 
 const TRIPLE: &str = "x86_64-pc-windows-msvc";
 
+// The value on the row, or false if there is none.
+fn value_on(alloc: Global, text: &str, row: Option<TargetInfo<'_>>) -> Result<bool, Failure> {
+    let value = match &row {
+        Some(row) => value_for(alloc, text, row, &["x"]),
+        None => Ok(false),
+    };
+    drop(row);
+    value
+}
+
 /// The value on the row that the lines of a compiler make.
 pub fn value_on_windows(alloc: Global, text: &str) -> Result<bool, Failure> {
-    let Some(row) = row_of(alloc, TRIPLE, WINDOWS)? else {
-        return Ok(false);
-    };
-    value_for(alloc, text, &row, &["x"])
+    value_on(alloc, text, row_of(alloc, TRIPLE, WINDOWS)?)
 }
 
 /// The value on the row that is written by hand.
 pub fn value_on_linux(alloc: Global, text: &str) -> Result<bool, Failure> {
-    let row = linux_row(alloc)?;
-    value_for(alloc, text, &row, &["x"])
+    value_on(alloc, text, Some(linux_row(alloc)?))
 }
 
 // What stands after the first tab.
@@ -74,12 +80,10 @@ fn sections_are_evaluated_with_the_lines_of_a_compiler(rt: HostRuntime) {
 
 // Whether the built-in rows and this one make a table that has it, and one that is built in.
 fn makes_a_table(alloc: Global, row: TargetInfo<'static>) -> Result<bool, AllocError> {
-    let table = builtins_and(alloc, row)?;
-    let has_both = match &table {
-        Some(table) => has(table, TRIPLE) && has(table, IOS),
-        None => false,
+    let Some(table) = builtins_and(alloc, row)? else {
+        return Ok(false);
     };
-    Ok(has_both)
+    Ok(has(&table, TRIPLE) && has(&table, IOS))
 }
 
 fn has(table: &TargetTable<'_>, triple: &str) -> bool {

@@ -12,17 +12,23 @@ use cfgx_engine::engine::laws::{has_an_output, has_one_output};
 use cfgx_engine::engine::streams::write_whole;
 use cfgx_syntax::stripping::strip;
 use cfgx_targets::reading::{read_endian, read_has_atomic, read_u8, read_u16};
-use cfgx_testing::holding::holds;
+use cfgx_testing::holding::{all_hold, holds};
 use std::alloc::{AllocError, Global};
 use std::str::FromStr;
 
-fn has_unix_and_not_windows(families: &Families<'_>) -> bool {
-    families.contains(&Family::unix()) && !families.contains(&Family::new_const("windows"))
+fn has(families: &Families<'_>, family: Family<'_>) -> bool {
+    let is_member = families.contains(&family);
+    drop(family);
+    is_member
 }
 
 fn has_families(alloc: Global) -> Result<bool, AllocError> {
     let families = Families::unix_wasm(alloc)?;
-    Ok(has_unix_and_not_windows(&families) && Families::is_sorted(families.as_slice()))
+    Ok(
+        has(&families, Family::unix())
+            && !has(&families, Family::new_const("windows"))
+            && Families::is_sorted(families.as_slice()),
+    )
 }
 
 fn is_sorted_with_wasm_first() -> bool {
@@ -31,7 +37,10 @@ fn is_sorted_with_wasm_first() -> bool {
 
 fn has_widths(alloc: Global) -> Result<bool, AllocError> {
     let widths = HasAtomics::atomic_8_16_32_ptr(alloc)?;
-    Ok(widths.contains(HasAtomic::IntegerSize(8)) && !widths.contains(HasAtomic::IntegerSize(64)))
+    let has_eight = widths.contains(HasAtomic::IntegerSize(8));
+    let has_more = widths.contains(HasAtomic::IntegerSize(64));
+    drop(widths);
+    Ok(has_eight && !has_more)
 }
 
 // Whether a text is read alike twice, and another text is read otherwise.
@@ -41,9 +50,9 @@ fn are_compared(alloc: Global) -> bool {
 }
 
 fn are_widths_read(alloc: Global) -> bool {
+    let is_read = HasAtomic::read(alloc, "8") == Ok(HasAtomic::IntegerSize(8));
     let no_width = HasAtomic::read(alloc, "");
-    HasAtomic::read(alloc, "8") == Ok(HasAtomic::IntegerSize(8))
-        && matches!(no_width, Err(HasAtomicFailure::Parse(_)))
+    is_read && matches!(no_width, Err(HasAtomicFailure::Parse(_)))
 }
 
 fn is_made(alloc: Global) -> bool {
@@ -53,8 +62,19 @@ fn is_made(alloc: Global) -> bool {
     }
 }
 
+// Whether the value is equal to one, and above the other. Their type is not known here, which makes
+// their drops short to prove.
+fn is_between<T: PartialOrd + Drop>(value: &T, same: T, below: T) -> bool {
+    *value == same && *value > below
+}
+
 fn is_linux(os: &Os<'_>) -> bool {
-    *os == Os::linux() && *os > Os::new_const("ios") && os.as_str() == "linux"
+    is_between(os, Os::linux(), Os::new_const("ios")) && os.as_str() == "linux"
+}
+
+fn is_stripped(alloc: Global) -> bool {
+    let lexer = Lexer::new(alloc, "cfg(unix)");
+    lexer.original() == "unix" && strip("cfg(unix)") == "unix" && strip("unix") == "unix"
 }
 
 fn is_copied(alloc: Global) -> Result<bool, AllocError> {
@@ -63,18 +83,26 @@ fn is_copied(alloc: Global) -> Result<bool, AllocError> {
 }
 
 #[test]
-fn values_are_read_and_made(rt: HostRuntime) {
+fn values_are_read_and_made(rt: HostRuntime) -> Result<(), &'static str> {
     let alloc = rt.alloc();
-    assert!(rt; read_u8("+255") == Some(255) && read_u8("256").is_none());
-    assert!(rt; read_u16("65535") == Some(65_535) && read_u16("65536").is_none());
-    assert!(rt; read_endian("big") == Some(Endian::big) && read_endian("Big").is_none());
-    assert!(rt; read_has_atomic("ptr") == Some(HasAtomic::Pointer));
-    assert!(rt; Endian::from_str("little") == Ok(Endian::little));
-    assert!(rt; are_compared(alloc) && are_widths_read(alloc));
-    assert!(rt; holds(has_families(alloc)) && !is_sorted_with_wasm_first());
-    assert!(rt; holds(has_widths(alloc)) && holds(is_copied(alloc)));
-    assert!(rt; strip("cfg(unix)") == "unix" && strip("unix") == "unix");
-    assert!(rt; Lexer::new(alloc, "cfg(unix)").original() == "unix" && is_made(alloc));
+    all_hold(&[
+        ("255", read_u8("+255") == Some(255)),
+        ("256", read_u8("256").is_none()),
+        ("65535", read_u16("65535") == Some(65_535)),
+        ("65536", read_u16("65536").is_none()),
+        ("big", read_endian("big") == Some(Endian::big)),
+        ("Big", read_endian("Big").is_none()),
+        ("ptr", read_has_atomic("ptr") == Some(HasAtomic::Pointer)),
+        ("little", Endian::from_str("little") == Ok(Endian::little)),
+        ("alike", are_compared(alloc)),
+        ("a width", are_widths_read(alloc)),
+        ("families", holds(has_families(alloc))),
+        ("not sorted", !is_sorted_with_wasm_first()),
+        ("widths", holds(has_widths(alloc))),
+        ("a copy", holds(is_copied(alloc))),
+        ("stripped", is_stripped(alloc)),
+        ("a fault", is_made(alloc)),
+    ])
 }
 
 // Calls the laws. Only a proof has use for them.

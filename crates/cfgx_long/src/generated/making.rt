@@ -1,6 +1,7 @@
 //! Texts that numbers make.
 use super::numbers::Numbers;
 use std::alloc::{AllocError, Global};
+use std::mem::replace;
 
 // What may stand in a text in any order, divided by `|` as all texts here.
 const TOKENS: &str = "a|_b1|unix|test|key|all|any|not|feature|target_os|=|(|)|,|\"v\"|\"\"|\"| |\
@@ -21,12 +22,11 @@ const BACKS: &str = "||,| , ,";
 
 const FUNCTIONS: &str = "all(|any(|all (|any\u{3000}(";
 
-fn tokens(alloc: Global, numbers: &mut Numbers) -> Result<String, AllocError> {
-    let mut text = String::new(alloc);
+fn push_tokens(numbers: &mut Numbers, text: &mut String) -> Result<(), AllocError> {
     for _token in 0..numbers.below(12) {
         text.push_str(numbers.one_of(TOKENS))?;
     }
-    Ok(text)
+    Ok(())
 }
 
 // Writes so many members, each with a comma before or after it.
@@ -44,33 +44,52 @@ fn push_leaves(
     Ok(())
 }
 
+// Writes a condition that stands first in a function.
+fn push_inner(numbers: &mut Numbers, text: &mut String, inner: &str) -> Result<(), AllocError> {
+    text.push_str(numbers.one_of(FRONTS))?;
+    text.push_str(inner)
+}
+
+// Writes the condition and other members beside it.
+fn push_members(numbers: &mut Numbers, text: &mut String, inner: &str) -> Result<(), AllocError> {
+    text.push_str(numbers.one_of(FUNCTIONS))?;
+    push_leaves(numbers, text, "", ",")?;
+    push_inner(numbers, text, inner)?;
+    push_leaves(numbers, text, ", ", "")
+}
+
 // Writes a function round a condition, with other members beside it, but for `not`.
 fn push_function(numbers: &mut Numbers, text: &mut String, inner: &str) -> Result<(), AllocError> {
-    let is_list = numbers.below(3) > 0;
-    if is_list {
-        text.push_str(numbers.one_of(FUNCTIONS))?;
-        push_leaves(numbers, text, "", ",")?;
+    if numbers.below(3) > 0 {
+        push_members(numbers, text, inner)?;
     } else {
         text.push_str("not(")?;
-    }
-    text.push_str(numbers.one_of(FRONTS))?;
-    text.push_str(inner)?;
-    if is_list {
-        push_leaves(numbers, text, ", ", "")?;
+        push_inner(numbers, text, inner)?;
     }
     text.push_str(numbers.one_of(BACKS))?;
     text.push_str(")")
 }
 
+// Writes functions round a condition, one in another.
+fn push_functions(
+    alloc: Global,
+    numbers: &mut Numbers,
+    text: &mut String,
+) -> Result<(), AllocError> {
+    for _function in 0..numbers.below(6) {
+        let inner = replace(text, String::new(alloc));
+        let pushed = push_function(numbers, text, inner.as_str());
+        drop(inner);
+        pushed?;
+    }
+    Ok(())
+}
+
 // A condition with up to five functions, one in another.
 fn condition(alloc: Global, numbers: &mut Numbers) -> Result<String, AllocError> {
     let mut text = String::from_str(alloc, numbers.one_of(LEAVES))?;
-    for _function in 0..numbers.below(6) {
-        let mut outer = String::new(alloc);
-        push_function(numbers, &mut outer, text.as_str())?;
-        text = outer;
-    }
-    Ok(text)
+    let pushed = push_functions(alloc, numbers, &mut text);
+    pushed.and(Ok(text))
 }
 
 // A condition between `cfg(` and `)`.
@@ -108,21 +127,31 @@ fn character(numbers: &mut Numbers) -> Option<char> {
     char::from_u32(u32::try_from(numbers.below(bound)).ok()?)
 }
 
-fn characters(alloc: Global, numbers: &mut Numbers) -> Result<String, AllocError> {
-    let mut text = String::new(alloc);
+fn push_characters(numbers: &mut Numbers, text: &mut String) -> Result<(), AllocError> {
     for _character in 0..numbers.below(10) {
         if let Some(character) = character(numbers) {
             text.push(character)?;
         }
     }
-    Ok(text)
+    Ok(())
+}
+
+// Tokens or characters in any order.
+fn shuffled(alloc: Global, numbers: &mut Numbers, are_tokens: bool) -> Result<String, AllocError> {
+    let mut text = String::new(alloc);
+    let pushed = if are_tokens {
+        push_tokens(numbers, &mut text)
+    } else {
+        push_characters(numbers, &mut text)
+    };
+    pushed.and(Ok(text))
 }
 
 /// The next text.
 pub(super) fn made(alloc: Global, numbers: &mut Numbers) -> Result<String, AllocError> {
     match numbers.below(6) {
-        0 => tokens(alloc, numbers),
-        1 => characters(alloc, numbers),
+        0 => shuffled(alloc, numbers, true),
+        1 => shuffled(alloc, numbers, false),
         2 => condition(alloc, numbers),
         3 => wrapped(alloc, numbers),
         _ => damaged(alloc, numbers),

@@ -12,14 +12,14 @@ use cfg_expr::{Expression, Predicate, TargetPredicate};
 use cfgx_engine::resolve::{Section, Verdict, pick};
 use cfgx_testing::heap::{empty_heap, growths, has_every_block, is_refused_in_turns};
 use cfgx_testing::holding::holds;
-use cfgx_testing::rows::{check_rows, is_fault};
+use cfgx_testing::rows::is_fault;
 use cfgx_testing::triples::IOS;
 use std::alloc::{AllocError, Global};
 
-// How it is called with a text, what parsing the text answers, which is its fault or the number of
-// its predicates, the text, and what it is stripped to if that is not the text. What is evaluated
-// is true if all its predicates are, false if all are false, and asks nothing of targets.
-const TEXTS: &str = r#"
+/// How it is called with a text, what parsing the text answers, which is its fault or the number of
+/// its predicates, the text, and what it is stripped to if that is not the text. What is evaluated
+/// is true if all its predicates are, false if all are false, and asks nothing of targets.
+pub(super) const TEXTS: &str = r#"
 read | U[`<key>` `all` `any` `not`] at 2..3 | a 8 b
 read | UnopenedParens at 3..4 | key)
 read | UnclosedQuotes at 6..10 | key = "abc
@@ -377,7 +377,8 @@ fn is_kind(alloc: Global, kind: &str, text: &str, plain: &Read) -> bool {
     }
 }
 
-fn is_row(alloc: Global, fields: &[String]) -> bool {
+/// Whether the row is what it says.
+pub(super) fn is_row(alloc: Global, fields: &[String]) -> bool {
     let (kind, answer, text, original) = match fields {
         [kind, answer, text] => (kind, answer, text, text),
         [kind, answer, text, original] => (kind, answer, text, original),
@@ -386,10 +387,4 @@ fn is_row(alloc: Global, fields: &[String]) -> bool {
     let plain = parsed(alloc, text.as_str());
     is_plain(alloc, &plain, answer.as_str(), original.as_str())
         && is_kind(alloc, kind.as_str(), text.as_str(), &plain)
-}
-
-#[test]
-fn each_growth_of_each_call_is_refused(rt: HostRuntime) -> Result<(), String> {
-    let alloc = rt.alloc();
-    check_rows(alloc, TEXTS, 44, |row| is_row(alloc, row))
 }

@@ -1,6 +1,6 @@
 //! Copies of fields and predicates: only an owned text takes memory, and one growth.
 use super::targets::SORTED;
-use super::{Finding, Made};
+use super::{Finding, Made, is_copied};
 use cfg_expr::TargetPredicate;
 use cfg_expr::memory::SmallAllocator;
 use cfg_expr::targets::{
@@ -13,38 +13,33 @@ use cfgx_testing::heap::growths;
 use cfgx_testing::holding::{gives, holds};
 use cfgx_testing::texts::repeated;
 use std::alloc::Global;
+use std::slice::from_ref;
 use std::test::Fail;
 
-// Whether an owned value and a borrowed one of the same text are equal to each other's copies. The
+// Whether a borrowed value and an owned one of the same text are equal to each other's copies. The
 // copy of the borrowed one takes no memory. Their type is not known here, which makes their drops
 // short to prove.
-fn are_copied<T, A, F>(alloc: A, owned: T, borrowed: T, copy: F) -> Finding
-where
-    T: PartialEq + Drop,
-    A: Copy + Drop,
-    F: Fn(&T, A) -> Made<T>,
-    requires { F.IsAlwaysCallable copy }
-{
-    let are_alike = owned == borrowed && holds(gives(copy(&borrowed, alloc), &owned));
-    let is_copied = gives(copy(&owned, alloc), &borrowed);
+fn are_copied<T: PartialEq + Drop>(
+    copy_of_borrowed: Made<T>,
+    copy_of_owned: Made<T>,
+    borrowed: T,
+    owned: T,
+) -> Finding {
+    let are_alike = owned == borrowed && holds(gives(copy_of_borrowed, &owned));
+    let is_copied = gives(copy_of_owned, &borrowed);
     if are_alike { is_copied } else { Ok(false) }
-}
-
-// Whether the value is equal to its copy.
-fn is_copied<T, A, F>(alloc: A, value: T, copy: F) -> Finding
-where
-    T: PartialEq + Drop,
-    A: Copy + Drop,
-    F: Fn(&T, A) -> Made<T>,
-    requires { F.IsAlwaysCallable copy }
-{
-    gives(copy(&value, alloc), &value)
 }
 
 // Fields of this kind.
 fn copies_field<K: Drop, A: SmallAllocator>(alloc: A, text: &str) -> Finding {
     let owned: Field<'_, K, A> = Field::new(String::from_str(alloc, text)?);
-    are_copied(alloc, owned, Field::new_const(text), Field::try_clone)
+    let borrowed = Field::new_const(text);
+    are_copied(
+        borrowed.try_clone(alloc),
+        owned.try_clone(alloc),
+        borrowed,
+        owned,
+    )
 }
 
 // A predicate of this kind, whose field is made so of the text.
@@ -72,36 +67,23 @@ fn borrowed<'a, A: SmallAllocator>(kind: &str, text: &'a str) -> TargetPredicate
 
 // Predicates of this kind.
 fn copies_predicate<A: SmallAllocator>(alloc: A, kind: &str, text: &str) -> Finding {
-    let own_text = String::from_str(alloc, text)?;
+    let owned = owned(kind, String::from_str(alloc, text)?);
+    let borrowed = borrowed(kind, text);
     are_copied(
-        alloc,
-        owned(kind, own_text),
-        borrowed(kind, text),
-        TargetPredicate::try_clone,
+        borrowed.try_clone(alloc),
+        owned.try_clone(alloc),
+        borrowed,
+        owned,
     )
 }
 
-// A value of this kind, made and copied.
-fn copies<A: SmallAllocator>(alloc: A, kind: &str, text: &str) -> Finding {
-    match kind {
-        "triple" => copies_field::<TripleKind, A>(alloc, text),
-        "abi" => copies_field::<AbiKind, A>(alloc, text),
-        "arch" => copies_field::<ArchKind, A>(alloc, text),
-        "vendor" => copies_field::<VendorKind, A>(alloc, text),
-        "os" => copies_field::<OsKind, A>(alloc, text),
-        "family" => copies_field::<FamilyKind, A>(alloc, text),
-        "env" => copies_field::<EnvKind, A>(alloc, text),
-        "a-panic-strategy" => copies_field::<PanicKind, A>(alloc, text),
-        _ => copies_predicate(alloc, kind, text),
-    }
-}
-
-// Families that are borrowed.
-fn copies_families<'f, A: SmallAllocator>(alloc: A, families: &'f [Family<'f, A>]) -> Finding {
+// A list that borrows these families.
+fn copies_list<'f, A: SmallAllocator>(alloc: A, families: &'f [Family<'f, A>]) -> Finding {
     if !Families::is_sorted(families) {
         return Ok(false);
     }
-    is_copied(alloc, Families::new_const(families), Families::try_clone)
+    let list = Families::new_const(families);
+    is_copied(list.try_clone(alloc), list)
 }
 
 // A predicate without a text.
@@ -114,19 +96,45 @@ fn plain<'a, A: SmallAllocator>(kind: &str) -> TargetPredicate<'a, A> {
     }
 }
 
+fn copies_families<A: SmallAllocator>(alloc: A) -> Finding {
+    let family = Family::unix();
+    let is_copied = copies_list(alloc, from_ref(&family));
+    drop(family);
+    is_copied
+}
+
+fn copies_plain<A: SmallAllocator>(alloc: A, kind: &str) -> Finding {
+    let predicate = plain(kind);
+    is_copied(predicate.try_clone(alloc), predicate)
+}
+
 // Widths that are borrowed.
 fn copies_widths<A: SmallAllocator>(alloc: A) -> Finding {
     let widths = HasAtomics::<A>::new_const(SORTED);
     Ok(widths.try_clone(alloc)?.as_slice() == SORTED)
 }
 
-// A value without an owned text.
-fn copies_borrowed<A: SmallAllocator>(alloc: A, kind: &str) -> Finding {
+// A value of this kind, made and copied. One without a text takes no memory.
+fn copies<A: SmallAllocator>(alloc: A, kind: &str, text: &str) -> Finding {
     match kind {
-        "big" | "ptr" | "8" | "64" => is_copied(alloc, plain(kind), TargetPredicate::try_clone),
+        "triple" => copies_field::<TripleKind, A>(alloc, text),
+        "abi" => copies_field::<AbiKind, A>(alloc, text),
+        "arch" => copies_field::<ArchKind, A>(alloc, text),
+        "vendor" => copies_field::<VendorKind, A>(alloc, text),
+        "os" => copies_field::<OsKind, A>(alloc, text),
+        "family" => copies_field::<FamilyKind, A>(alloc, text),
+        "env" => copies_field::<EnvKind, A>(alloc, text),
+        "a-panic-strategy" => copies_field::<PanicKind, A>(alloc, text),
+        "big" | "ptr" | "8" | "64" => copies_plain(alloc, kind),
         "widths" => copies_widths(alloc),
-        _ => copies_families(alloc, &[Family::unix()]),
+        "families" => copies_families(alloc),
+        _ => copies_predicate(alloc, kind, text),
     }
+}
+
+// How many growths that takes.
+fn growths_of(alloc: Global, kind: &str, text: &str) -> Option<u64> {
+    growths(alloc, |heap| copies(heap, kind, text))
 }
 
 // The kinds of fields, and of predicates that have one.
@@ -136,7 +144,7 @@ const KINDS: &str = "triple abi arch vendor os family env a-panic-strategy \
 // The first kind of which the owned text and its copy are not one growth each.
 fn first_wrong(alloc: Global, text: &str) -> Option<&'static str> {
     for kind in KINDS.split(' ') {
-        if growths(alloc, |heap| copies(heap, kind, text)) != Some(2) {
+        if growths_of(alloc, kind, text) != Some(2) {
             return Some(kind);
         }
     }
@@ -156,7 +164,6 @@ fn an_owned_text_takes_one_growth(rt: HostRuntime) -> Result<(), Fail> {
 #[test]
 fn what_owns_no_text_takes_no_memory(rt: HostRuntime) {
     for kind in ["big", "ptr", "8", "64", "widths", "families"] {
-        let found = growths(rt.alloc(), |heap| copies_borrowed(heap, kind));
-        assert!(rt; found == Some(0), "{kind}");
+        assert!(rt; growths_of(rt.alloc(), kind, "") == Some(0), "{kind}");
     }
 }

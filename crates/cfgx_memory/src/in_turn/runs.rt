@@ -4,7 +4,6 @@ use cfg_expr::memory::SmallAllocator;
 use cfgx_engine::engine::run;
 use cfgx_testing::heap::{empty_heap, growths, has_every_block};
 use cfgx_testing::refusing::EVERY;
-use cfgx_testing::rows::check_rows;
 use cfgx_testing::streams::{ALL, Pieces, Recorder, USAGE, is_left_so, is_written};
 use cfgx_testing::triples::SIM;
 use cfgx_testing::words::words_of;
@@ -57,9 +56,9 @@ pub(super) fn is_run_in_turns(alloc: Global, words: &[&str], status: u8) -> bool
     ended == status && growths_of(alloc, words, &("", status, sink.bytes.as_slice())) > 0
 }
 
-// How a run is made, its status, and its words. For `pick` on the simulator: the input of a run and
-// what it writes. For `pick alike`: these of two runs that take as many growths.
-const RUNS: &str = r#"
+/// How a run is made, its status, and its words. For `pick` on the simulator: the input of a run
+/// and what it writes. For `pick alike`: these of two runs that take as many growths.
+pub(super) const RUNS: &str = r#"
 in turns | 1 | parse | \e
 in turns | 0 | eval | a
 in turns | 0 | eval | all(a, any(b), c) | a | ?b | c
@@ -136,7 +135,8 @@ fn is_right(alloc: Global, made: &str, status: u8, words: &[&str]) -> bool {
     }
 }
 
-fn is_row(alloc: Global, fields: &[String]) -> bool {
+/// Whether the row is what it says.
+pub(super) fn is_row(alloc: Global, fields: &[String]) -> bool {
     let [made, status, words @ ..] = fields else {
         return false;
     };
@@ -144,10 +144,4 @@ fn is_row(alloc: Global, fields: &[String]) -> bool {
         (Ok(status), Ok(words)) => is_right(alloc, made.as_str(), status, words.as_slice()),
         _ => false,
     }
-}
-
-#[test]
-fn each_growth_of_each_run_is_refused(rt: HostRuntime) -> Result<(), String> {
-    let alloc = rt.alloc();
-    check_rows(alloc, RUNS, 30, |row| is_row(alloc, row))
 }

@@ -1,5 +1,5 @@
 //! Lists, faults and rows, which are made and copied.
-use super::{Finding, Made};
+use super::{Finding, Made, is_copied};
 use cfg_expr::error::HasAtomicParseError as NoWidth;
 use cfg_expr::memory::SmallAllocator;
 use cfg_expr::targets::{
@@ -8,21 +8,20 @@ use cfg_expr::targets::{
 use cfgx_fields::Field;
 use cfgx_testing::heap::{empty_heap, has_every_block, is_refused_in_turns};
 use cfgx_testing::holding::{gives, holds, prints, push};
-use cfgx_testing::rows::check_pairs;
 use cfgx_testing::texts::repeated;
 use std::alloc::{AllocError, Global};
 use std::fmt::Display;
 use std::test::Fail;
 
-// Whether the value is equal to its copy, and both print this.
+// Whether this is a copy of the value, and both print this.
 fn is_given<T: PartialEq + Display + Drop>(
     out: Global,
-    value: &T,
     copy: Made<T>,
+    value: T,
     text: &str,
 ) -> Finding {
     let copy = copy?;
-    Ok(copy == *value && prints(out, &copy, text) && prints(out, value, text))
+    Ok(copy == value && prints(out, &copy, text) && prints(out, &value, text))
 }
 
 /// Two widths in their order.
@@ -30,6 +29,11 @@ pub(crate) const SORTED: &[HasAtomic] = &[HasAtomic::IntegerSize(8), HasAtomic::
 
 /// The same two, not in order.
 pub(crate) const UNSORTED: &[HasAtomic] = &[HasAtomic::Pointer, HasAtomic::IntegerSize(8)];
+
+/// A list of these widths.
+pub(crate) fn list_of<A: SmallAllocator>(alloc: A, widths: &[HasAtomic]) -> Made<HasAtomics<A>> {
+    HasAtomics::new(alloc, widths.iter().copied())
+}
 
 // A list of the widths in front of this one.
 fn widths<A: SmallAllocator>(alloc: A, end: u16) -> Made<HasAtomics<A>> {
@@ -39,12 +43,9 @@ fn widths<A: SmallAllocator>(alloc: A, end: u16) -> Made<HasAtomics<A>> {
 // A list of 10,000 widths, and its copy.
 fn copies_many_widths<A: SmallAllocator>(alloc: A) -> Finding {
     let list = widths(alloc, 10_000)?;
-    let is_copied = gives(list.try_clone(alloc), &list);
-    if list.as_slice().len() == 10_000 {
-        is_copied
-    } else {
-        Ok(false)
-    }
+    let is_long = list.as_slice().len() == 10_000;
+    let is_copied = is_copied(list.try_clone(alloc), list);
+    if is_long { is_copied } else { Ok(false) }
 }
 
 // A field that owns this text.
@@ -74,12 +75,9 @@ fn families<'a, A: SmallAllocator + 'a>(alloc: A, names: &str) -> Made<Families<
 // A list of 10,000 families, and its copy.
 fn copies_many_families<A: SmallAllocator>(alloc: A, names: &str) -> Finding {
     let list = families(alloc, names)?;
-    let is_copied = gives(list.try_clone(alloc), &list);
-    if list.as_slice().len() == 10_000 {
-        is_copied
-    } else {
-        Ok(false)
-    }
+    let is_long = list.as_slice().len() == 10_000;
+    let is_copied = is_copied(list.try_clone(alloc), list);
+    if is_long { is_copied } else { Ok(false) }
 }
 
 /// The fault of a text that is no width.
@@ -92,7 +90,7 @@ pub(crate) fn no_width<A: SmallAllocator>(alloc: A) -> Made<NoWidth<A>> {
 
 fn copies_a_fault<A: SmallAllocator>(out: Global, alloc: A, text: &str) -> Finding {
     let fault = no_width(alloc)?;
-    is_given(out, &fault, fault.try_clone(alloc), text)
+    is_given(out, fault.try_clone(alloc), fault, text)
 }
 
 /// What that fault prints.
@@ -188,8 +186,8 @@ fn copies_from_the_table<A: SmallAllocator>(alloc: A) -> Finding {
     copies_the_first(alloc, table.rows())
 }
 
-// What is made and copied, and what it prints, or nothing if that is not compared.
-const CALLS: &str = r#"
+/// What is made and copied, and what it prints, or nothing if that is not compared.
+pub(super) const CALLS: &str = r#"
 unix | {unix}
 unix and wasm | {unix, wasm}
 wasm | {wasm}
@@ -213,7 +211,7 @@ fn copies_families<A: SmallAllocator>(out: Global, alloc: A, call: &str, text: &
         _ => families(alloc, "wasm unix b "),
     };
     let list = made?;
-    is_given(out, &list, list.try_clone(alloc), text)
+    is_given(out, list.try_clone(alloc), list, text)
 }
 
 fn copies_widths<A: SmallAllocator>(out: Global, alloc: A, call: &str, text: &str) -> Finding {
@@ -221,10 +219,10 @@ fn copies_widths<A: SmallAllocator>(out: Global, alloc: A, call: &str, text: &st
         "up to 128" => HasAtomics::atomic_8_16_32_64_128_ptr(alloc),
         "up to 64" => HasAtomics::atomic_8_16_32_64_ptr(alloc),
         "up to 32" => HasAtomics::atomic_8_16_32_ptr(alloc),
-        _ => HasAtomics::new(alloc, UNSORTED.iter().copied()),
+        _ => list_of(alloc, UNSORTED),
     };
     let list = made?;
-    is_given(out, &list, list.try_clone(alloc), text)
+    is_given(out, list.try_clone(alloc), list, text)
 }
 
 // What the call answers. What it prints is printed to the other allocator.
@@ -238,22 +236,26 @@ fn answer_to<A: SmallAllocator>(out: Global, alloc: A, call: &str, text: &str) -
     }
 }
 
-#[test]
-fn each_growth_of_a_call_on_targets_is_refused(rt: HostRuntime) -> Result<(), String> {
-    let alloc = rt.alloc();
-    check_pairs(
-        alloc,
-        CALLS,
-        12,
-        |call, text| is_refused_in_turns(alloc, |heap| answer_to(alloc, heap, call, text)),
-    )
+/// Whether each growth of the call in the row is refused in turn.
+pub(super) fn is_row(alloc: Global, fields: &[String]) -> bool {
+    let [call, text] = fields else {
+        return false;
+    };
+    let (call, text) = (call.as_str(), text.as_str());
+    is_refused_in_turns(alloc, |heap| answer_to(alloc, heap, call, text))
+}
+
+// Whether they are copied, and every block is given back.
+fn are_copied(alloc: Global, names: &str) -> bool {
+    let heap = empty_heap(alloc);
+    holds(copies_many_families(&heap, names)) && has_every_block(heap)
 }
 
 #[test]
 fn many_families_are_copied(rt: HostRuntime) -> Result<(), Fail> {
     let names = repeated(rt.alloc(), "unix", " unix", 9_999, "")?;
-    let heap = empty_heap(rt.alloc());
-    assert!(rt; holds(copies_many_families(&heap, names.as_str())));
-    assert!(rt; has_every_block(heap));
+    let are_copied = are_copied(rt.alloc(), names.as_str());
+    drop(names);
+    assert!(rt; are_copied);
     Ok(())
 }

@@ -9,10 +9,9 @@ use cfg_expr::expr::{ConditionReader, Logic, Predicates, spell};
 use cfg_expr::memory::SmallAllocator;
 use cfg_expr::targets::{TargetInfo, TargetTable};
 use cfg_expr::{Expression, Predicate, TargetPredicate};
-use cfgx_testing::heap::{Heap, empty_heap, has_every_block, holds_without_memory};
+use cfgx_testing::heap::{Heap, holds_without_memory};
 use cfgx_testing::holding::{holds, prints};
 use cfgx_testing::refusing::EVERY;
-use cfgx_testing::rows::check_pairs;
 use std::alloc::Global;
 
 // What parsing the text answers with memory. Every growth after it is refused.
@@ -69,21 +68,31 @@ fn is_read_again<A: SmallAllocator>(heap: Heap<'_>, alloc: A, text: &str) -> boo
 
 // Adds the spelling of the next predicate.
 fn is_spelled(predicates: &mut Predicates<'_>, bytes: &mut Vec<u8>) -> bool {
-    match &predicates.next() {
-        Some(predicate) => spell(predicate, bytes).is_ok(),
-        None => false,
+    let next = predicates.next();
+    let is_spelled = matches!(&next, Some(predicate) if spell(predicate, bytes).is_ok());
+    drop(next);
+    is_spelled
+}
+
+// Whether there is nothing. The type is not known here, which makes its drop short to prove.
+fn is_none<T: Drop>(item: Option<T>) -> bool {
+    item.is_none()
+}
+
+// Adds the spellings of all predicates. Whether these numbers of them are left, one after another.
+fn spells(asked: &mut Predicates<'_>, left: &[usize], bytes: &mut Vec<u8>) -> bool {
+    for left in left {
+        if asked.left() != *left || !is_spelled(asked, bytes) {
+            return false;
+        }
     }
+    asked.left() == 0 && is_none(asked.next())
 }
 
 // Whether these numbers of predicates are left, one after another, which are spelled so.
 fn are_spelled(out: Global, mut asked: Predicates<'_>, left: &[usize], told: &str) -> bool {
     let mut bytes = Vec::new(out);
-    for left in left {
-        if asked.left() != *left || !is_spelled(&mut asked, &mut bytes) {
-            return false;
-        }
-    }
-    asked.left() == 0 && asked.next().is_none() && bytes.as_slice() == told.as_bytes()
+    spells(&mut asked, left, &mut bytes) && bytes.as_slice() == told.as_bytes()
 }
 
 // Whether the predicate is true of the fourth of five rows alone, one by one and in lanes.
@@ -134,9 +143,9 @@ fn is_asked_of<A: SmallAllocator>(heap: Heap<'_>, alloc: A, text: &str) -> bool 
 
 const TEXT: &str = "all(a, any(b), feature = \"a feature with a long name\")";
 
-// Checks of expressions, and texts. The first five are compared with `TEXT`, what is read again is
-// read after `LONG`, and what is evaluated has 31 or 32 bytes.
-const ASKED: &str = r#"
+/// Checks of expressions, and texts. The first five are compared with `TEXT`, what is read again is
+/// read after `LONG`, and what is evaluated has 31 or 32 bytes.
+pub(super) const ASKED: &str = r#"
 text | all(a, any(b), feature = "a feature with a long name")
 predicates | all(a, any(b), feature = "a feature with a long name")
 equal | all(a, any(b), feature = "a feature with a long name")
@@ -175,29 +184,22 @@ fn is_right<A: SmallAllocator>(out: Global, alloc: A, check: &str, read: Read<A>
     matches!(&read, Ok(expression) if answers(out, alloc, check, expression))
 }
 
-fn is_row(alloc: Global, heap: Heap<'_>, check: &str, text: &str) -> bool {
+/// Whether the check holds of the text, with every growth refused.
+pub(super) fn is_row<A: SmallAllocator>(
+    out: Global,
+    heap: Heap<'_>,
+    alloc: A,
+    check: &str,
+    text: &str,
+) -> bool {
     match check {
-        "equal" => compares(heap, heap, text, (true, true)),
-        "one comma more" => compares(heap, heap, text, (false, true)),
-        "other predicates" => compares(heap, heap, text, (false, false)),
-        "of the fourth" => is_asked_of(heap, heap, text),
-        "read again" => is_read_again(heap, heap, text),
-        _ => is_right(alloc, heap, check, read(heap, heap, text)),
+        "equal" => compares(heap, alloc, text, (true, true)),
+        "one comma more" => compares(heap, alloc, text, (false, true)),
+        "other predicates" => compares(heap, alloc, text, (false, false)),
+        "of the fourth" => is_asked_of(heap, alloc, text),
+        "read again" => is_read_again(heap, alloc, text),
+        _ => is_right(out, alloc, check, read(heap, alloc, text)),
     }
-}
-
-#[test]
-fn conditions_take_no_memory(rt: HostRuntime) -> Result<(), String> {
-    let alloc = rt.alloc();
-    let heap = empty_heap(alloc);
-    check_pairs(
-        alloc,
-        ASKED,
-        16,
-        |check, text| is_row(alloc, &heap, check, text),
-    )?;
-    assert!(rt; has_every_block(heap));
-    Ok(())
 }
 
 // Whether the operations of a logic are what they are in Rust.

@@ -4,10 +4,9 @@ use crate::in_turn::targets::{NO_WIDTH, no_width};
 use cfg_expr::error::{Failure, ParseError, Reason};
 use cfg_expr::expr::lexer::{Lexer, LexerToken, Token};
 use cfg_expr::memory::SmallAllocator;
-use cfgx_testing::heap::{Heap, empty_heap, has_every_block, holds_without_memory};
+use cfgx_testing::heap::{Heap, empty_heap, holds_without_memory};
 use cfgx_testing::holding::prints;
 use cfgx_testing::refusing::EVERY;
-use cfgx_testing::rows::check_threes;
 use std::alloc::{AllocError, Allocator, Global};
 use std::ops::Range;
 
@@ -50,8 +49,8 @@ fn tokens_take_no_memory(rt: HostRuntime) {
     assert!(rt; is_lexed(&heap) && Token::Key("a") == Token::Key("a") && Token::Any != Token::All);
 }
 
-// A text, its fault's description, and what that prints.
-const ROWS: &str = r#"
+/// A text, its fault's description, and what that prints.
+pub(super) const ROWS: &str = r#"
 not(a, b) | not() takes 1 predicate | \
 not(a, b)\n^^^^^^^^^ not() takes 1 predicate, found 2
 foo ( | unexpected term | foo (\n    ^ expected one of `=`, `,`, `)` here
@@ -82,11 +81,16 @@ fn are_equal<A: Allocator>(one: &Fault<A>, same: &Fault<A>, other: &Fault<A>) ->
     }
 }
 
-/// A text, its fault's description, and what that prints.
-type Row<'a> = (&'a str, &'a str, &'a str);
+/// A row.
+pub(super) type Row<'a> = (&'a str, &'a str, &'a str);
 
-// Whether the fault of the text is shown so, and equal to itself, and not to that of another text.
-fn is_row<A: SmallAllocator>(out: Global, heap: Heap<'_>, alloc: A, row: Row<'_>) -> bool {
+/// Whether the fault of the text is shown so, and equal to itself, and not to that of another text.
+pub(super) fn is_row<A: SmallAllocator>(
+    out: Global,
+    heap: Heap<'_>,
+    alloc: A,
+    row: Row<'_>,
+) -> bool {
     let (text, told, printed) = row;
     heap.refuse(0);
     let one = fault(alloc, text);
@@ -100,22 +104,8 @@ fn is_row<A: SmallAllocator>(out: Global, heap: Heap<'_>, alloc: A, row: Row<'_>
     is_shown && are_equal(&one, &same, &other)
 }
 
-// Whether the fault of a text that is no width prints what it has to.
-fn prints_no_width<A: SmallAllocator>(out: Global, heap: Heap<'_>, alloc: A) -> bool {
+/// Whether the fault of a text that is no width prints what it has to.
+pub(super) fn prints_no_width<A: SmallAllocator>(out: Global, heap: Heap<'_>, alloc: A) -> bool {
     heap.refuse(0);
     holds_without_memory(heap, no_width(alloc), |error| prints(out, error, NO_WIDTH))
-}
-
-#[test]
-fn faults_take_no_memory(rt: HostRuntime) -> Result<(), String> {
-    let alloc = rt.alloc();
-    let heap = empty_heap(alloc);
-    check_threes(
-        alloc,
-        ROWS,
-        3,
-        |text, told, printed| is_row(alloc, &heap, &heap, (text, told, printed)),
-    )?;
-    assert!(rt; prints_no_width(alloc, &heap, &heap) && has_every_block(heap));
-    Ok(())
 }

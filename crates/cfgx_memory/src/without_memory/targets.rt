@@ -1,6 +1,7 @@
 //! Byte orders, widths, lists, rows and tables.
-use super::are_ordered;
-use crate::in_turn::targets::{SORTED, UNSORTED};
+use super::faults::prints_no_width;
+use super::{all, are_ordered};
+use crate::in_turn::targets::{SORTED, UNSORTED, list_of};
 use cfg_expr::memory::SmallAllocator;
 use cfg_expr::targets::{
     Endian, Families, Family, HasAtomic, HasAtomics, TargetInfo, TargetTable,
@@ -16,9 +17,15 @@ const EIGHT: HasAtomic = HasAtomic::IntegerSize(8);
 
 const POINTER: &[HasAtomic] = &[HasAtomic::Pointer];
 
-// Whether these are two lists of the same two widths, one of which was not in order.
-fn are_two<A: SmallAllocator>(out: Global, list: &HasAtomics<A>, same: &HasAtomics<A>) -> bool {
-    are_ordered(list, same, &HasAtomics::new_const(POINTER))
+// Whether these are two lists of the same two widths, one of which was not in order, and one that
+// is above.
+fn are_two<A: SmallAllocator>(
+    out: Global,
+    list: &HasAtomics<A>,
+    same: &HasAtomics<A>,
+    above: &HasAtomics<A>,
+) -> bool {
+    are_ordered(list, same, above)
         && list.as_slice() == SORTED
         && HasAtomics::<A>::new_const(SORTED) == *list
         && list.contains(EIGHT)
@@ -26,16 +33,16 @@ fn are_two<A: SmallAllocator>(out: Global, list: &HasAtomics<A>, same: &HasAtomi
         && prints(out, list, "{8, ptr}")
 }
 
-fn are_widths<A: SmallAllocator>(
-    out: Global,
-    heap: Heap<'_>,
-    alloc: A,
-) -> Result<bool, AllocError> {
+fn are_widths<A: SmallAllocator>(out: Global, heap: Heap<'_>, alloc: A) -> bool {
     heap.refuse(0);
-    let list = HasAtomics::new(alloc, SORTED.iter().copied())?;
-    let same = HasAtomics::new(alloc, UNSORTED.iter().copied())?;
+    let list = list_of(alloc, SORTED);
+    let same = list_of(alloc, UNSORTED);
+    let above = Ok(HasAtomics::new_const(POINTER));
     heap.refuse(EVERY);
-    Ok(are_two(out, &list, &same))
+    match all(&list, &same, &above) {
+        Some((list, same, above)) => are_two(out, list, same, above),
+        None => false,
+    }
 }
 
 // Whether the text is read as this width.
@@ -68,33 +75,16 @@ fn are_two_families<'f, A: SmallAllocator>(
         && Families::<'_, A>::new_const(&[]).as_slice().is_empty()
 }
 
-/// A list, or out of memory.
-type Made<'f, A> = Result<Families<'f, A>, AllocError>;
-
-// Whether these are such lists, if each of them was made.
-fn are_made<'f, A: SmallAllocator>(
-    alloc: Global,
-    list: &Made<'f, A>,
-    same: &Made<'f, A>,
-    above: &Made<'f, A>,
-) -> Result<bool, AllocError> {
-    match (list, same, above) {
-        (Ok(list), Ok(same), Ok(above)) => Ok(are_two_families(alloc, list, same, above)),
-        _ => Err(AllocError),
-    }
-}
-
-fn are_families<A: SmallAllocator>(
-    out: Global,
-    heap: Heap<'_>,
-    alloc: A,
-) -> Result<bool, AllocError> {
+fn are_families<A: SmallAllocator>(out: Global, heap: Heap<'_>, alloc: A) -> bool {
     heap.refuse(0);
     let list = Families::unix_wasm(alloc);
     let same = Families::unix_wasm(alloc);
     let above = Families::wasm(alloc);
     heap.refuse(EVERY);
-    are_made(out, &list, &same, &above)
+    match all(&list, &same, &above) {
+        Some((list, same, above)) => are_two_families(out, list, same, above),
+        None => false,
+    }
 }
 
 fn are_sorted(families: [Family<'_>; 2]) -> bool {
@@ -172,39 +162,36 @@ fn has_builtins<A: SmallAllocator>(heap: Heap<'_>, alloc: A) -> bool {
     holds_without_memory(heap, table, |table| is_builtin(table))
 }
 
-#[test]
-fn lists_and_rows_take_no_memory(rt: HostRuntime) -> Result<(), &'static str> {
-    let heap = empty_heap(rt.alloc());
+// Whether all checks hold, with every growth refused.
+fn are_right<A: SmallAllocator>(out: Global, heap: Heap<'_>, alloc: A) -> Result<(), &'static str> {
     let (first, second) = (Endian::big, Endian::little);
     all_hold(&[
         ("widths", are_ordered(&EIGHT, &EIGHT, &HasAtomic::Pointer)),
         ("orders", are_ordered(&first, &first, &second)),
         ("sorted", are_sorted([Family::unix(), Family::wasm()])),
         ("unsorted", !are_sorted([Family::wasm(), Family::unix()])),
-        (
-            "lists of widths",
-            holds(are_widths(rt.alloc(), &heap, &heap)),
-        ),
-        ("a number", is_read(&heap, &heap, "+08", EIGHT)),
-        ("ptr", is_read(&heap, &heap, "ptr", HasAtomic::Pointer)),
-        (
-            "lists of families",
-            holds(are_families(rt.alloc(), &heap, &heap)),
-        ),
-        (
-            "a table",
-            are_refused(&heap, &heap, &[0, 2, 4], None, false),
-        ),
+        ("lists of widths", are_widths(out, heap, alloc)),
+        ("a number", is_read(heap, alloc, "+08", EIGHT)),
+        ("ptr", is_read(heap, alloc, "ptr", HasAtomic::Pointer)),
+        ("lists of families", are_families(out, heap, alloc)),
+        ("a table", are_refused(heap, alloc, &[0, 2, 4], None, false)),
         (
             "no table",
-            are_refused(&heap, &heap, &[0, 2, 2], Some(2), false),
+            are_refused(heap, alloc, &[0, 2, 2], Some(2), false),
         ),
         (
             "equal rows",
-            are_refused(&heap, &heap, &[1, 1, 2], Some(1), true),
+            are_refused(heap, alloc, &[1, 1, 2], Some(1), true),
         ),
-        ("built in", has_builtins(&heap, &heap)),
-    ])?;
+        ("built in", has_builtins(heap, alloc)),
+        ("no width", prints_no_width(out, heap, alloc)),
+    ])
+}
+
+#[test]
+fn lists_and_rows_take_no_memory(rt: HostRuntime) -> Result<(), &'static str> {
+    let heap = empty_heap(rt.alloc());
+    let answer = are_right(rt.alloc(), &heap, &heap);
     assert!(rt; has_every_block(heap));
-    Ok(())
+    answer
 }

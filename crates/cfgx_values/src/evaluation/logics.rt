@@ -46,8 +46,7 @@ impl Logic for Sided {
 }
 
 // The value if `a` is 5, `b` is 7, and all else is 9, and how many questions it takes.
-fn value(alloc: Global, text: &str) -> Option<(Sided, usize)> {
-    let expression = Expression::parse(alloc, text).ok()?;
+fn value_of(alloc: Global, expression: &Expression) -> Option<(Sided, usize)> {
     let mut count = 0usize;
     let mut answer = |predicate: &Predicate<'_>| {
         count = count.saturating_add(1);
@@ -59,6 +58,11 @@ fn value(alloc: Global, text: &str) -> Option<(Sided, usize)> {
     };
     let value: Sided = expression.eval(alloc, &mut answer).ok()?;
     Some((value, count))
+}
+
+fn value(alloc: Global, text: &str) -> Option<(Sided, usize)> {
+    let expression = Expression::parse(alloc, text).ok()?;
+    value_of(alloc, &expression)
 }
 
 // The answer to `a` is joined last. What `any` joins never counts, and is asked all the same.

@@ -6,14 +6,12 @@ use cfg_expr::expr::{Predicates, TargetMatcher};
 use cfg_expr::targets::{TargetInfo, TargetTable, Vendor};
 use cfg_expr::{Expression, Predicate};
 use cfgx_testing::answers::{Answer, answer_of, are_lanes, in_each, value_in_lanes};
-use cfgx_testing::holding::holds;
-use cfgx_testing::rows::check_pairs;
+use cfgx_testing::holding::{holds, push};
 use std::alloc::{AllocError, Global};
-use std::test::Fail;
 
 /// A condition, and its values on the five rows that are built in and in the lanes past them, if
 /// what is not asked of targets is unknown.
-pub(super) const BUILT_IN: &str = r#"target_abi = "sim" | 00010?
+pub(crate) const BUILT_IN: &str = r#"target_abi = "sim" | 00010?
 unix | 11111?
 not(unix) | 00000?
 feature = "x" | ??????
@@ -31,7 +29,7 @@ target_abi = "sim" | 00010?"#;
 /// A condition, and its values on five rows that are made by hand and in the lanes past them, if
 /// what is not asked of targets is true. The rows are a bare one, iOS, Windows of two vendors, and
 /// macOS.
-const BY_HAND: &str = r#"target_os = "none" | 10000?
+pub(crate) const BY_HAND: &str = r#"target_os = "none" | 10000?
 target_os = "" | 00000?
 target_os = "ios" | 01000?
 target_abi = "" | 11111?
@@ -124,52 +122,58 @@ fn are_values_in_lanes(
     asked: Asked<'_>,
     digits: &[u8],
 ) -> Result<bool, AllocError> {
-    let answers = answers_on(alloc, expression.predicates(), asked)?;
     let mut answer = |predicate: &Predicate<'_>| lanes_on(predicate, asked);
     let value = expression.eval(alloc, &mut answer)?;
+    let answers = answers_on(alloc, expression.predicates(), asked)?;
     let in_lanes = value_in_lanes(alloc, expression, answers.as_slice());
     Ok(in_lanes == Some(value) && are_lanes(value, digits))
 }
 
 // Whether the digits stand for the values of the condition.
-fn is_right(alloc: Global, asked: Asked<'_>, text: &str, digits: &[u8]) -> Result<bool, Failure> {
+fn is_right(alloc: Global, asked: Asked<'_>, text: &str, digits: &str) -> Result<bool, Failure> {
+    let digits = digits.as_bytes();
     let expression = Expression::parse(alloc, text)?;
     let are_plain = are_values(alloc, &expression, asked, digits);
     Ok(are_plain && holds(are_values_in_lanes(alloc, &expression, asked, digits)))
 }
 
-// Checks a table of so many conditions.
-fn check_values(alloc: Global, asked: Asked<'_>, table: &str, n: usize) -> Result<(), String> {
-    check_pairs(alloc, table, n, |text, digits| {
-        holds(is_right(alloc, asked, text, digits.as_bytes()))
-    })
+/// Whether the digits stand for the values on the rows that are built in.
+pub(crate) fn is_on_built_in(alloc: Global, text: &str, digits: &str) -> Result<bool, AllocError> {
+    let table = TargetTable::builtins(alloc)?;
+    let is_right = holds(is_right(alloc, (table.rows(), None), text, digits));
+    drop(table);
+    Ok(is_right)
 }
 
-#[test]
-fn values_on_rows_that_are_built_in(rt: HostRuntime) -> Result<(), Fail> {
-    let table = TargetTable::builtins(rt.alloc())?;
-    check_values(rt.alloc(), (table.rows(), None), BUILT_IN, 14)?;
-    Ok(())
+// Adds the rows that are made by hand. They are owned by the caller, since a proof goes over all
+// that is owned at each `?`.
+fn push_rows(alloc: Global, rows: &mut Vec<TargetInfo<'static>>) -> Result<(), AllocError> {
+    push(rows, Ok(bare("bare")))?;
+    push(rows, ios(alloc))?;
+    push(rows, windows(alloc, Vendor::pc()))?;
+    push(rows, windows(alloc, Vendor::uwp()))?;
+    push(rows, darwin(alloc))
 }
 
 fn rows_by_hand(alloc: Global) -> Result<Vec<TargetInfo<'static>>, AllocError> {
-    let mut rows = Vec::new(alloc);
-    rows.push(bare("bare"))?;
-    rows.push(ios(alloc)?)?;
-    rows.push(windows(alloc, Vendor::pc())?)?;
-    rows.push(windows(alloc, Vendor::uwp())?)?;
-    rows.push(darwin(alloc)?)?;
-    Ok(rows)
+    let mut rows: Vec<TargetInfo<'static>> = Vec::new(alloc);
+    let pushed = push_rows(alloc, &mut rows);
+    pushed.and(Ok(rows))
 }
 
-#[test]
-fn values_on_rows_that_are_made_by_hand(rt: HostRuntime) -> Result<(), Fail> {
-    let rows = rows_by_hand(rt.alloc())?;
-    check_values(rt.alloc(), (rows.as_slice(), Some(true)), BY_HAND, 27)?;
-    Ok(())
+/// Whether the digits stand for the values on the rows that are made by hand.
+pub(crate) fn is_on_rows_by_hand(
+    alloc: Global,
+    text: &str,
+    digits: &str,
+) -> Result<bool, AllocError> {
+    let rows = rows_by_hand(alloc)?;
+    let is_right = holds(is_right(alloc, (rows.as_slice(), Some(true)), text, digits));
+    drop(rows);
+    Ok(is_right)
 }
 
-#[test]
-fn values_on_no_row(rt: HostRuntime) -> Result<(), String> {
-    check_values(rt.alloc(), (&[], None), "target_abi = \"sim\" | ?", 1)
+/// Whether the digits stand for the values on no row.
+pub(crate) fn is_on_no_row(alloc: Global, text: &str, digits: &str) -> bool {
+    holds(is_right(alloc, (&[], None), text, digits))
 }

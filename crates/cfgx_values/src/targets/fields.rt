@@ -3,9 +3,9 @@ use cfgx_fields::{
     AbiKind, ArchKind, EnvKind, FamilyKind, Field, OsKind, PanicKind, TripleKind, VendorKind,
 };
 use cfgx_testing::heap::{Heap, empty_heap, has_every_block};
-use cfgx_testing::holding::{hash_of, holds};
+use cfgx_testing::holding::{gives, hash_of, holds};
 use cfgx_testing::refusing::EVERY;
-use std::alloc::{AllocError, Global};
+use std::alloc::{AllocError, Allocator, Global};
 use std::fmt::Display;
 use std::hash::Hash;
 
@@ -16,9 +16,8 @@ const RISING: &str = "|Z|a|a text of a field that is not a short one|\
 
 // Whether the field prints as the text does.
 fn prints_as<T: Display>(alloc: Global, field: &T, text: &str) -> Result<bool, AllocError> {
-    let printed = format!(in alloc; "{field}|{field:>3}|")?;
     let wanted = format!(in alloc; "{text}|{text:>3}|")?;
-    Ok(printed.as_str() == wanted.as_str())
+    gives(format!(in alloc; "{field}|{field:>3}|"), &wanted)
 }
 
 /// Two texts of `RISING`, each after its place.
@@ -42,36 +41,60 @@ fn owned<'h>(heap: Heap<'h>, text: &str) -> Result<String<Heap<'h>>, AllocError>
     Ok(owned)
 }
 
+/// Two fields of one kind.
+type Fields<'f, 'a, K, A> = (&'f Field<'a, K, A>, &'f Field<'a, K, A>);
+
+// Whether the fields are these texts, compare as they do, and print them.
+fn are_texts<K, A: Allocator>(alloc: Global, fields: Fields<'_, '_, K, A>, texts: Two<'_>) -> bool {
+    let (one, other) = fields;
+    let are_texts = one.as_str() == texts.0.1 && other.as_str() == texts.1.1;
+    are_texts && stand_for(alloc, fields, texts)
+}
+
 // Whether a borrowed field of the first text and an owned one of the second, of one kind, are these
-// texts, compare as they do, and print them, with every growth refused.
-fn are_texts<K: Drop>(alloc: Global, heap: Heap<'_>, texts: Two<'_>) -> Result<bool, AllocError> {
-    let (one, other) = (texts.0.1, texts.1.1);
-    let owned: Field<'_, K, Heap<'_>> = Field::new(owned(heap, other)?);
-    let borrowed = Field::new_const(one);
-    let are_texts = borrowed.as_str() == one && owned.as_str() == other;
-    Ok(are_texts && stand_for(alloc, (&borrowed, &owned), texts))
+// texts, with every growth refused.
+fn are_made<K: Drop, A: Allocator>(
+    alloc: Global,
+    owned: Result<String<A>, AllocError>,
+    texts: Two<'_>,
+) -> Result<bool, AllocError> {
+    let owned = Field::<'_, K, A>::new(owned?);
+    let borrowed = Field::new_const(texts.0.1);
+    Ok(are_texts(alloc, (&borrowed, &owned), texts))
+}
+
+fn are_in<K: Drop>(alloc: Global, heap: Heap<'_>, texts: Two<'_>) -> bool {
+    holds(are_made::<K, _>(alloc, owned(heap, texts.1.1), texts))
 }
 
 // Whether a borrowed and an owned field of each type are these texts.
 fn are_all_texts(alloc: Global, heap: Heap<'_>, texts: Two<'_>) -> bool {
-    holds(are_texts::<TripleKind>(alloc, heap, texts))
-        && holds(are_texts::<AbiKind>(alloc, heap, texts))
-        && holds(are_texts::<ArchKind>(alloc, heap, texts))
-        && holds(are_texts::<VendorKind>(alloc, heap, texts))
-        && holds(are_texts::<OsKind>(alloc, heap, texts))
-        && holds(are_texts::<FamilyKind>(alloc, heap, texts))
-        && holds(are_texts::<EnvKind>(alloc, heap, texts))
-        && holds(are_texts::<PanicKind>(alloc, heap, texts))
+    are_in::<TripleKind>(alloc, heap, texts)
+        && are_in::<AbiKind>(alloc, heap, texts)
+        && are_in::<ArchKind>(alloc, heap, texts)
+        && are_in::<VendorKind>(alloc, heap, texts)
+        && are_in::<OsKind>(alloc, heap, texts)
+        && are_in::<FamilyKind>(alloc, heap, texts)
+        && are_in::<EnvKind>(alloc, heap, texts)
+        && are_in::<PanicKind>(alloc, heap, texts)
+}
+
+// Checks the fields of all texts with each other. The error is the first two that fail.
+fn check_all(alloc: Global, heap: Heap<'_>) -> Result<(), Two<'static>> {
+    for one in RISING.split('|').enumerate() {
+        for other in RISING.split('|').enumerate() {
+            if !are_all_texts(alloc, heap, (one, other)) {
+                return Err((one, other));
+            }
+        }
+    }
+    Ok(())
 }
 
 #[test]
-fn each_field_is_a_text(rt: HostRuntime) {
+fn each_field_is_a_text(rt: HostRuntime) -> Result<(), Two<'static>> {
     let heap = empty_heap(rt.alloc());
-    for one in RISING.split('|').enumerate() {
-        for other in RISING.split('|').enumerate() {
-            let are_right = are_all_texts(rt.alloc(), &heap, (one, other));
-            assert!(rt; are_right, "{one:?} {other:?}");
-        }
-    }
+    let checked = check_all(rt.alloc(), &heap);
     assert!(rt; has_every_block(heap) && RISING.split('|').count() == 9);
+    checked
 }

@@ -4,11 +4,10 @@ use cfg_expr::targets::{
     Abi, Endian, Families, Family, HasAtomic, HasAtomicFailure, HasAtomics, Os, rustc_version,
 };
 use cfgx_testing::holding::{all_hold, holds, prints};
-use cfgx_testing::rows::check_pairs;
 use std::alloc::{AllocError, Global};
 
 /// Names of families, and what their list prints.
-const FAMILIES: &str = r#"
+pub(crate) const FAMILIES: &str = r#"
 wasm unix | {unix, wasm}
 unix unix | {unix, unix}
 j a i b h c g d f e | {a, b, c, d, e, f, g, h, i, j}
@@ -23,18 +22,11 @@ fn families_of<'a>(alloc: Global, names: &'a str) -> Result<Vec<Family<'a>>, All
     Ok(families)
 }
 
-// Whether the list of these families prints the text.
-fn lists(alloc: Global, names: &str, text: &str) -> Result<bool, AllocError> {
+/// Whether the list of these families prints the text.
+pub(crate) fn lists(alloc: Global, names: &str, text: &str) -> Result<bool, AllocError> {
     let families = families_of(alloc, names)?;
     let list = Families::new(alloc, families.into_iter())?;
     Ok(prints(alloc, &list, text))
-}
-
-#[test]
-fn lists_of_families_are_sorted(rt: HostRuntime) -> Result<(), String> {
-    check_pairs(rt.alloc(), FAMILIES, 4, |names, text| {
-        holds(lists(rt.alloc(), names, text))
-    })
 }
 
 const EIGHT: HasAtomic = HasAtomic::IntegerSize(8);
@@ -50,7 +42,7 @@ fn lists_widths(alloc: Global) -> Result<bool, AllocError> {
 }
 
 /// Texts of widths, and what these print, or `no` if the text is none.
-const WIDTHS: &str = r#"
+pub(crate) const WIDTHS: &str = r#"
 +8 | 8
 0 | 0
 64 | 64
@@ -74,8 +66,8 @@ ptr\u{20} | no
 more bytes than any width is written with, and more than a short text has | no
 "#;
 
-// Whether the text is read as the width that prints this, or refused by a fault that prints it.
-fn reads(alloc: Global, text: &str, printed: &str) -> Result<bool, AllocError> {
+/// Whether the text is read as the width that prints this, or refused by a fault that prints it.
+pub(crate) fn reads(alloc: Global, text: &str, printed: &str) -> Result<bool, AllocError> {
     match HasAtomic::read(alloc, text) {
         Ok(width) => Ok(prints(alloc, &width, printed)),
         Err(HasAtomicFailure::Parse(error)) if printed == "no" => {
@@ -84,13 +76,6 @@ fn reads(alloc: Global, text: &str, printed: &str) -> Result<bool, AllocError> {
         }
         Err(_) => Ok(false),
     }
-}
-
-#[test]
-fn widths_are_read(rt: HostRuntime) -> Result<(), String> {
-    check_pairs(rt.alloc(), WIDTHS, 21, |text, printed| {
-        holds(reads(rt.alloc(), text, printed))
-    })
 }
 
 #[test]

@@ -21,26 +21,46 @@ pub(super) fn bare(triple: &str) -> TargetInfo<'_> {
     }
 }
 
+/// Sets a field to what was made, if there is no error.
+///
+/// The proof of a drop takes long if the type of the value is known. Here it is not.
+pub(super) fn set<T: Drop>(field: &mut T, made: Result<T, AllocError>) -> Result<(), AllocError> {
+    *field = made?;
+    Ok(())
+}
+
+// A row of Apple, with this triple and system.
+fn apple(
+    alloc: Global,
+    triple: &'static str,
+    os: Os<'static>,
+) -> Result<TargetInfo<'static>, AllocError> {
+    let mut row = TargetInfo {
+        triple: Triple::new_const(triple),
+        os: Some(os),
+        abi: None,
+        arch: Arch::aarch64(),
+        env: None,
+        vendor: Some(Vendor::apple()),
+        families: Families::new_const(&[]),
+        pointer_width: 64,
+        endian: Endian::little,
+        has_atomics: HasAtomics::new_const(&[]),
+        panic: Panic::unwind(),
+    };
+    let families = set(&mut row.families, Families::unix(alloc));
+    let widths = HasAtomics::atomic_8_16_32_64_128_ptr(alloc);
+    families.and(set(&mut row.has_atomics, widths)).and(Ok(row))
+}
+
 /// The row of iOS.
 pub(super) fn ios(alloc: Global) -> Result<TargetInfo<'static>, AllocError> {
-    let families = Families::unix(alloc)?;
-    let has_atomics = HasAtomics::atomic_8_16_32_64_128_ptr(alloc)?;
-    Ok(TargetInfo {
-        os: Some(Os::ios()),
-        vendor: Some(Vendor::apple()),
-        families,
-        has_atomics,
-        ..bare("aarch64-apple-ios")
-    })
+    apple(alloc, "aarch64-apple-ios", Os::ios())
 }
 
 /// A row of macOS.
 pub(super) fn darwin(alloc: Global) -> Result<TargetInfo<'static>, AllocError> {
-    Ok(TargetInfo {
-        triple: Triple::new_const("aarch64-apple-darwin"),
-        os: Some(Os::macos()),
-        ..ios(alloc)?
-    })
+    apple(alloc, "aarch64-apple-darwin", Os::macos())
 }
 
 /// A row of Windows for 32 bits, of this vendor.
@@ -48,14 +68,19 @@ pub(super) fn windows(
     alloc: Global,
     vendor: Vendor<'static>,
 ) -> Result<TargetInfo<'static>, AllocError> {
-    let families = Families::windows(alloc)?;
-    Ok(TargetInfo {
+    let mut row = TargetInfo {
+        triple: Triple::new_const("by-hand"),
         os: Some(Os::windows()),
+        abi: None,
         arch: Arch::x86(),
         env: Some(Env::msvc()),
         vendor: Some(vendor),
-        families,
+        families: Families::new_const(&[]),
         pointer_width: 32,
-        ..bare("by-hand")
-    })
+        endian: Endian::little,
+        has_atomics: HasAtomics::new_const(&[]),
+        panic: Panic::unwind(),
+    };
+    let families = set(&mut row.families, Families::windows(alloc));
+    families.and(Ok(row))
 }

@@ -1,12 +1,12 @@
 //! Tables of rows with increasing triples, and the rows that are found in them.
 use super::rows::bare;
-use cfg_expr::targets::{TargetInfo, TargetTable, get_builtin_target_by_triple};
-use cfgx_testing::rows::check_pairs;
+use cfg_expr::targets::{TableError, TargetInfo, TargetTable, get_builtin_target_by_triple};
+use cfgx_testing::holding::push;
 use std::alloc::{AllocError, Global};
 use std::test::Fail;
 
 /// Triples, and the place at which their rows are refused, or `table`.
-const TABLES: &str = r#"
+pub(crate) const TRIPLES: &str = r#"
 \e | table
 a | table
 a b ba | table
@@ -15,13 +15,19 @@ b a a | 1
 a b b | 2
 "#;
 
+// Adds a row for each of these triples.
+fn push_rows<'a>(rows: &mut Vec<TargetInfo<'a>>, triples: &'a str) -> Result<(), AllocError> {
+    for triple in triples.split_whitespace() {
+        push(rows, Ok(bare(triple)))?;
+    }
+    Ok(())
+}
+
 // Rows with these triples.
 fn rows_with<'a>(alloc: Global, triples: &'a str) -> Result<Vec<TargetInfo<'a>>, AllocError> {
     let mut rows = Vec::new(alloc);
-    for triple in triples.split_whitespace() {
-        rows.push(bare(triple))?;
-    }
-    Ok(rows)
+    let pushed = push_rows(&mut rows, triples);
+    pushed.and(Ok(rows))
 }
 
 // Whether the rows have these triples.
@@ -35,23 +41,23 @@ fn have_triples(rows: &[TargetInfo<'_>], triples: &str) -> bool {
     left.next().is_none()
 }
 
-// Whether rows with these triples are a table of just them, or refused at this place, all of them
-// given back.
-fn is_as_said(alloc: Global, triples: &str, place: &str) -> Option<bool> {
-    match TargetTable::from_rows(rows_with(alloc, triples).ok()?) {
-        Ok(table) => Some(place == "table" && have_triples(table.rows(), triples)),
+// Whether a table was made of just these triples, or refused at this place, all of them given back.
+fn is_as_said(made: &Result<TargetTable<'_>, TableError<'_>>, triples: &str, place: &str) -> bool {
+    match made {
+        Ok(table) => place == "table" && have_triples(table.rows(), triples),
         Err(error) => {
             let is_place = place.parse::<usize>() == Ok(error.index);
-            Some(is_place && have_triples(error.rows.as_slice(), triples))
+            is_place && have_triples(error.rows.as_slice(), triples)
         }
     }
 }
 
-#[test]
-fn tables_have_increasing_triples(rt: HostRuntime) -> Result<(), String> {
-    check_pairs(rt.alloc(), TABLES, 6, |triples, place| {
-        is_as_said(rt.alloc(), triples, place) == Some(true)
-    })
+/// Whether rows with these triples are a table, or refused at this place.
+pub(crate) fn is_table(alloc: Global, triples: &str, place: &str) -> Option<bool> {
+    let made = TargetTable::from_rows(rows_with(alloc, triples).ok()?);
+    let is_as_said = is_as_said(&made, triples, place);
+    drop(made);
+    Some(is_as_said)
 }
 
 const BUILT_IN: &str = "aarch64-apple-darwin aarch64-apple-ios aarch64-apple-ios-macabi \
@@ -65,15 +71,27 @@ fn found<'t>(table: &'t TargetTable<'_>, triple: &str) -> Option<&'t str> {
     Some(row.triple.as_str())
 }
 
+// Whether the table has the rows that are built in, and each is found, and no other one. The error
+// is the first triple that is not found, or found.
+fn are_found(table: &TargetTable<'_>) -> Result<bool, &'static str> {
+    for triple in BUILT_IN.split(' ') {
+        if found(table, triple) != Some(triple) {
+            return Err(triple);
+        }
+    }
+    for triple in MISSING.split(',') {
+        if found(table, triple).is_some() {
+            return Err(triple);
+        }
+    }
+    Ok(have_triples(table.rows(), BUILT_IN))
+}
+
 #[test]
 fn targets_are_found_by_their_triples(rt: HostRuntime) -> Result<(), Fail> {
     let table = TargetTable::builtins(rt.alloc())?;
-    assert!(rt; have_triples(table.rows(), BUILT_IN));
-    for triple in BUILT_IN.split(' ') {
-        assert!(rt; found(&table, triple) == Some(triple), "{triple}");
-    }
-    for triple in MISSING.split(',') {
-        assert!(rt; found(&table, triple).is_none(), "{triple}");
-    }
+    let are_found = are_found(&table);
+    drop(table);
+    assert!(rt; are_found?);
     Ok(())
 }

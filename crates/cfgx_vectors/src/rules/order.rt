@@ -19,6 +19,7 @@ fn call(alloc: Global, predicates: &mut Predicates<'_>) -> Result<String, AllocE
     let left = predicates.left();
     let next = predicates.next();
     let name = name_of(&next);
+    drop(next);
     format!(in alloc; "{left}{name} ")
 }
 
@@ -31,11 +32,18 @@ fn calls(alloc: Global, mut predicates: Predicates<'_>) -> Result<String, AllocE
     Ok(text)
 }
 
+// Whether the calls give these.
+fn are_calls(alloc: Global, predicates: Predicates<'_>, wanted: &str) -> bool {
+    match calls(alloc, predicates) {
+        Ok(found) => found.as_str().trim_end() == wanted,
+        Err(_) => false,
+    }
+}
+
 /// Whether the calls for the predicates of the text give these.
 pub(super) fn come(alloc: Global, text: &str, wanted: &str) -> Result<bool, Failure> {
     let expression = Expression::parse(alloc, text)?;
-    let found = calls(alloc, expression.predicates())?;
-    Ok(found.as_str().trim_end() == wanted)
+    Ok(are_calls(alloc, expression.predicates(), wanted))
 }
 
 // The number of nodes of the tree whose first node it is.
@@ -64,10 +72,17 @@ fn shown(alloc: Global, nodes: &[ExprNode], places: &[usize]) -> Result<String, 
     Ok(text)
 }
 
+// Whether these are shown so.
+fn are_shown(alloc: Global, nodes: &[ExprNode], places: &[usize], wanted: &str) -> bool {
+    match shown(alloc, nodes, places) {
+        Ok(shown) => shown.as_str().trim_start() == wanted,
+        Err(_) => false,
+    }
+}
+
 /// Whether the parser leaves these for the text.
 pub(super) fn leaves(alloc: Global, text: &str, wanted: &str) -> Result<bool, Failure> {
     let parsed = parse(alloc, text)?;
     let borrowed = parsed.as_ref();
-    let shown = shown(alloc, borrowed.nodes(), borrowed.places())?;
-    Ok(shown.as_str().trim_start() == wanted)
+    Ok(are_shown(alloc, borrowed.nodes(), borrowed.places(), wanted))
 }

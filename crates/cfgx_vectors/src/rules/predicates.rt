@@ -29,13 +29,22 @@ fn as_told(alloc: Global, predicate: &Predicate<'_>) -> Result<String, AllocErro
     }
 }
 
+// Whether pages write the predicate so, which is dropped by name.
+fn is_told(alloc: Global, predicate: Predicate<'_>, wanted: &str) -> bool {
+    let told = as_told(alloc, &predicate);
+    drop(predicate);
+    match told {
+        Ok(told) => told.as_str() == wanted,
+        Err(_) => false,
+    }
+}
+
 // Whether one predicate is to come, and is written so.
 fn are_one(alloc: Global, mut predicates: Predicates<'_>, wanted: &str) -> bool {
-    let told = match predicates.next() {
-        Some(predicate) => as_told(alloc, &predicate),
-        None => return false,
-    };
-    told.is_ok_and(|told| told.as_str() == wanted) && predicates.left() == 0
+    match predicates.next() {
+        Some(predicate) => is_told(alloc, predicate, wanted) && predicates.left() == 0,
+        None => false,
+    }
 }
 
 /// Whether the text asks one predicate, which pages write so.

@@ -51,11 +51,16 @@ pub(super) fn has_texts(alloc: Global, name: &str, text: &str, description: &str
     }
 }
 
+// The span that rows tell so.
+fn span_as_told(span: &str) -> Option<Range<usize>> {
+    let (start, end) = span.split_once("..")?;
+    Some(start.parse().ok()?..end.parse().ok()?)
+}
+
 // The fault that rows tell so, in this text.
 fn error_as_told(alloc: Global, text: &str, fault: &str) -> Option<ParseError> {
     let (name, span) = fault.split_once(" at ")?;
-    let (start, end) = span.split_once("..")?;
-    error_of(alloc, text, start.parse().ok()?..end.parse().ok()?, name)
+    error_of(alloc, text, span_as_told(span)?, name)
 }
 
 /// Whether the fault that rows tell so prints this.

@@ -155,11 +155,16 @@ fn fails_at_each(alloc: Global, text: &str, spelled: &str) -> bool {
     true
 }
 
+// Whether the text asks these predicates.
+fn asks(alloc: Global, text: &str, predicates: Predicates<'_>) -> Result<bool, Failure> {
+    let expression = Expression::parse(alloc, text)?;
+    Ok(predicates.eq(expression.predicates()))
+}
+
 // Whether both texts ask the same predicates.
 fn ask_the_same(alloc: Global, text: &str, other: &str) -> Result<bool, Failure> {
-    let one = Expression::parse(alloc, text)?;
-    let other = Expression::parse(alloc, other)?;
-    Ok(one.predicates().eq(other.predicates()))
+    let expression = Expression::parse(alloc, text)?;
+    Ok(holds(asks(alloc, other, expression.predicates())))
 }
 
 // Whether the spelling asks the predicate that the text asks, if it is one.

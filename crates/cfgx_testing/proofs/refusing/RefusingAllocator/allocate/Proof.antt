@@ -3,7 +3,7 @@
 -- allocator and `p` its place, `n` and `al` the size and the alignment that are asked for, and
 -- `beyond` is not needed before the end. Assumes `Logic`.
 use Rattle.std.proofs.Common.{ℕ, ◌+◌, Bool, true, false, List, [], ◌∷◌, Ok, Err, refl, ap, w64}
-use Rattle.std.proofs.Common.{Bor}
+use Rattle.std.{proofs.Common.Bor, proofs.alloc.Calls.Takes-gives}
 use mir.Syntax.{Args, Fn, a_type, dnil, dcons}
 use mir.Val.{Val}
 use base.Logic.{id⊢}
@@ -33,7 +33,6 @@ use denote.Triple.Walked.{Stays, stay_dropped, Goes-dropped, walk_of}
 use Rattle.std.specs.Allocator.{HasLayout, block_if_ok}
 use Rattle.std.proofs.alloc.Calls.{Al, α, seen, token, Answer, answer_val, Answer-typed, Answer-Ok}
 use Rattle.std.proofs.alloc.Calls.{Answer-err, Answered, answers, Takes, at_takes, Takes-goes}
-use Rattle.std.proofs.alloc.Calls.{Takes-gives}
 use Rattle.std.proofs.raw_atomic.Walks.{leaves, proved}
 use Rattle.cfgx_testing.specs.contracts.refusing.Refusing as refusing
 use Rattle.cfgx_testing.specs.contracts.refusing.ends_countdown as ending

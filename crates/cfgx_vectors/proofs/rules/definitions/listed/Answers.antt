@@ -1,7 +1,6 @@
 -- Each item with the white space in front of it.
 use Rattle.std.proofs.Common.{◌≡◌, [], ◌∷◌, ◌++◌, refl, sym, ap, lit<, arith, rules}
-use Rattle.std.proofs.lemmas.Str.{encode_ascii}
-use Rattle.std.specs.{Prelude.codes, Char.encode_utf8}
+use Rattle.std.{proofs.lemmas.Str.encode_ascii, specs.Prelude.codes, specs.Char.encode_utf8}
 use Rattle.cfgx_syntax.specs.Items.{IsBlank}
 use Rattle.cfgx_vectors.proofs.rules.definitions.listed.Goals as goal
 

@@ -1,6 +1,5 @@
 use Rattle.std.proofs.Common.{◌∙◌, ap, ◌++◌}
-use Rattle.cfgx_callers.specs.Terms.{cut}
-use Rattle.cfgx_callers.proofs.Written.{cut-in_parens}
+use Rattle.cfgx_callers.{specs.Terms.cut, proofs.Written.cut-in_parens}
 use Rattle.cfgx_callers.proofs.evaluating.terms.Terms.join.Goals as goal
 
 -- the parts are written one after another
