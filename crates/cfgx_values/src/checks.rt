@@ -11,7 +11,7 @@ use cfgx_testing::holding::holds;
 use cfgx_testing::rows::{Checked, check_tables};
 use std::alloc::Global;
 
-/// Each table, and how many rows it has. Of fillings the values and the fillings are worked out by
+/// Each table, and how many rows it has. The values and fillings of the first one are worked out by
 /// hand.
 const TABLES: &[Checked<'static>] = &[
     ("fillings", FILLINGS, 37),
