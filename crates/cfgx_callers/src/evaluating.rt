@@ -166,32 +166,31 @@ fn has_terms(
     Ok(questions.parse() == Ok(count) && is_named && is_numbered)
 }
 
-// Whether the expression has what the rest of its row says.
-fn has(alloc: Global, expression: &Expression, wanted: &[String]) -> bool {
+// Whether the expression has what the rest of its row in this table says.
+fn has(alloc: Global, table: &str, expression: &Expression, wanted: &[String]) -> bool {
     match wanted {
         [flags, value] => {
-            value_by(alloc, expression, flags.as_str()) == Some(value.as_str() == "true")
+            let found = value_by(alloc, expression, flags.as_str());
+            table == "values by a list of flags" && found == Some(value.as_str() == "true")
         }
-        [questions, names, calls] => holds(has_terms(
-            alloc,
-            expression,
-            questions.as_str(),
-            names.as_str(),
-            calls.as_str(),
-        )),
+        [questions, names, calls] => {
+            let (questions, names, calls) = (questions.as_str(), names.as_str(), calls.as_str());
+            table == "terms are written and questions counted"
+                && holds(has_terms(alloc, expression, questions, names, calls))
+        }
         _ => false,
     }
 }
 
-// Whether the text has what the row says.
-fn is_row(alloc: Global, row: &[String]) -> bool {
+// Whether the text has what the row in this table says.
+fn is_row(alloc: Global, table: &str, row: &[String]) -> bool {
     let [text, wanted @ ..] = row else {
         return false;
     };
     let Ok(expression) = Expression::parse(alloc, text.as_str()) else {
         return false;
     };
-    has(alloc, &expression, wanted)
+    has(alloc, table, &expression, wanted)
 }
 
 const TABLES: &[Checked<'_>] = &[
@@ -202,7 +201,7 @@ const TABLES: &[Checked<'_>] = &[
 #[test]
 fn callers_have_their_values(rt: HostRuntime) -> Result<(), String> {
     let alloc = rt.alloc();
-    check_tables(alloc, TABLES, |_name, row| is_row(alloc, row))
+    check_tables(alloc, TABLES, |table, row| is_row(alloc, table, row))
 }
 
 // The value over these answers, one after another, and how many questions are asked.

@@ -53,9 +53,11 @@ fn is_read<A: SmallAllocator>(heap: Heap<'_>, alloc: A, text: &str, width: HasAt
     is_read
 }
 
-// Whether the list has a family of this name.
-fn has<A: SmallAllocator>(list: &Families<'_, A>, name: &str) -> bool {
-    list.contains(&Family::new_const(name))
+// Whether the list has the family, which is dropped by name.
+fn has<A: SmallAllocator>(list: &Families<'_, A>, family: Family<'_>) -> bool {
+    let is_member = list.contains(&family);
+    drop(family);
+    is_member
 }
 
 // Whether these are lists of two families, of the same two, and of one that is above. A list of
@@ -68,9 +70,9 @@ fn are_two_families<'f, A: SmallAllocator>(
 ) -> bool {
     are_ordered(list, same, above)
         && list.as_slice().len() == 2
-        && has(list, "unix")
-        && has(list, "wasm")
-        && !has(list, "windows")
+        && has(list, Family::unix())
+        && has(list, Family::wasm())
+        && !has(list, Family::windows())
         && prints(alloc, list, "{unix, wasm}")
         && Families::<'_, A>::new_const(&[]).as_slice().is_empty()
 }
