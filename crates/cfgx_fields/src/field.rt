@@ -1,13 +1,22 @@
-//! The type behind all field types: a text of `cfgx_syntax`, marked with its kind.
+//! The type behind all field types: a text that is borrowed or owned, marked with its kind, which
+//! compares by its bytes alone.
 
-ghost use Rattle.std.specs.Prelude.{◌≡◌, IfOk, Some, string_bytes};
-ghost use Rattle.std.specs.Cmp.Rules.{comparing};
-ghost use Rattle.std.specs.Fmt.{styled_text};
+ghost use Rattle.std.specs.Prelude.{◌≡◌, ◌↔◌, IfOk, IsTrue, Some};
+ghost use Rattle.std.specs.Prelude.{fold, nat_eq, refl, string_bytes};
+ghost use Rattle.std.specs.Cmp.{partial_equiv_from_equiv};
+ghost use Rattle.std.specs.Cmp.Lexicographic.{nat_list_cmp_total, nat_list_eq_equiv};
+ghost use Rattle.std.specs.Cmp.Lexicographic.{pointwise, slice_cmp, texts_po, texts_ties};
+ghost use Rattle.std.specs.Cmp.Rules.{hashing};
+ghost use Rattle.std.specs.Fmt.{debug_str, styled_text};
+ghost use Rattle.std.specs.Hash as fed;
+ghost use Rattle.std.specs.Ordering.{nat_cmp};
 ghost use Rattle.std.proofs.Common.{rules};
 
-use cfgx_syntax::text::{ByBytes, Text};
 use std::alloc::{AllocError, Allocator, Global};
+use std::borrow::CowStr;
+use std::cmp::Ordering;
 use std::fmt;
+use std::hash::{Hash, Hasher};
 use std::marker::{Model, PhantomData};
 
 /// A text of the kind `K`, borrowed for `'a` or owned in the allocator `A`.
@@ -15,45 +24,39 @@ use std::marker::{Model, PhantomData};
 /// Both behave alike: contracts see the list of its bytes, and `==`, the order and the hash are
 /// those of `str`, which depend on the bytes alone. Fields of two kinds have two types.
 #[derive(Drop)]
-#[derive_where(Debug, PartialEq, Eq, PartialOrd, Ord, Hash)]
 pub struct Field<'a, K, A: Allocator = Global> {
-    text: Text<'a, A>,
-    #[derive_where(skip)]
+    text: CowStr<'a, A>,
     kind: PhantomData<K>,
 }
 
 impl<'a, K, A: Allocator> Model for Field<'a, K, A> {
     ghost use Rattle.std.specs.Prelude.{List, ℕ};
+    ghost use Rattle.std.specs.Cow.{cow_str_bytes};
 
     ghost Value = { List ℕ };
 
-    ghost view = { λ field. field.text };
-
-    ghost inverse = { λ bytes. record { text = bytes; kind = record {} } };
+    ghost view = { λ field. cow_str_bytes field.text };
 }
 
 impl<'a, K, A: Allocator> Field<'a, K, A> {
-    const fn of(text: Text<'a, A>) -> Self
-        ensures { result ≡ text.entry }
-    {
-        Field {
-            text,
-            kind: PhantomData,
-        }
-    }
-
     /// Owns the text that it is given, and takes no memory.
     pub fn new(text: String<A>) -> Self
         ensures { result ≡ string_bytes text }
     {
-        Self::of(Text::new(text))
+        Field {
+            text: CowStr::Owned(text),
+            kind: PhantomData,
+        }
     }
 
     /// Borrows the text that it is given, and takes no memory.
     pub const fn new_const(text: &'a str) -> Self
         ensures { result ≡ text.now }
     {
-        Self::of(Text::new_const(text))
+        Field {
+            text: CowStr::Borrowed(text),
+            kind: PhantomData,
+        }
     }
 
     /// The text.
@@ -70,19 +73,66 @@ impl<'a, K, A: Allocator> Field<'a, K, A> {
     pub fn try_clone(&self, alloc: A) -> Result<Self, AllocError>
         ensures { IfOk result (λ copy. copy ≡ self.now) }
     {
-        Ok(Self::of(self.text.try_clone(alloc)?))
+        match &self.text {
+            CowStr::Borrowed(text) => Ok(Field::new_const(*text)),
+            CowStr::Owned(text) => Ok(Field::new(String::from_str(alloc, text.as_str())?)),
+        }
     }
 }
 
-// The promise of the derives above.
-impl<K, A: Allocator> ByBytes for Field<'_, K, A> {
-    ghost bytes = { λ text. text };
+impl<K, A: Allocator> PartialEq for Field<'_, K, A> {
+    ghost eq = { pointwise nat_eq };
 
-    ghost equal_by_bytes = { λ one other. Prim.search (comparing, rules) };
+    ghost laws = { partial_equiv_from_equiv nat_list_eq_equiv };
 
-    ghost ordered_by_bytes = { λ one other. Prim.search (comparing, rules) };
+    fn eq(&self, other: &Self) -> bool
+        ensures value { result ≡ pointwise nat_eq self.now other.now }
+        ensures same_bytes { IsTrue result ↔ (self.now ≡ other.now) }
+    {
+        self.as_str() == other.as_str()
+    }
+}
 
-    ghost hashed_by_bytes = { λ text. Prim.search rules };
+impl<K, A: Allocator> Eq for Field<'_, K, A> {
+    ghost laws = { nat_list_eq_equiv };
+}
+
+impl<K, A: Allocator> PartialOrd for Field<'_, K, A> {
+    ghost partial_cmp = { λ one other. Some (slice_cmp nat_cmp one other) };
+
+    ghost laws = { texts_po };
+
+    fn partial_cmp(&self, other: &Self) -> Option<Ordering> {
+        Some(self.cmp(other))
+    }
+}
+
+impl<K, A: Allocator> Ord for Field<'_, K, A> {
+    ghost cmp = { slice_cmp nat_cmp };
+
+    ghost total = { nat_list_cmp_total };
+
+    ghost matches_partial_cmp = { λ one other. refl };
+
+    ghost matches_eq = { texts_ties };
+
+    fn cmp(&self, other: &Self) -> Ordering
+        ensures { result ≡ slice_cmp nat_cmp self.now other.now }
+    {
+        self.as_str().cmp(other.as_str())
+    }
+}
+
+impl<K, A: Allocator> Hash for Field<'_, K, A> {
+    ghost hash_input = { fed.str };
+
+    ghost respects_eq = { Prim.search (hashing, rules) };
+
+    fn hash<H: Hasher>(&self, state: &mut H)
+        ensures { state.new ≡ fold H.write state.old (fed.str self.now) }
+    {
+        self.as_str().hash(state);
+    }
 }
 
 impl<K, A: Allocator> fmt::Display for Field<'_, K, A> {
@@ -91,6 +141,15 @@ impl<K, A: Allocator> fmt::Display for Field<'_, K, A> {
     ghost styled_output = { λ text style. Some (styled_text style text) };
 
     fn fmt<W: fmt::Write>(&self, f: &mut fmt::Formatter<W>) -> fmt::Result {
-        self.text.fmt(f)
+        f.pad(self.as_str())
+    }
+}
+
+impl<K, A: Allocator> fmt::Debug for Field<'_, K, A> {
+    ghost debug_output = { debug_str };
+
+    fn fmt<W: fmt::Write>(&self, f: &mut fmt::Formatter<W>) -> fmt::Result {
+        let text = self.as_str();
+        fmt::Debug::fmt(&text, f)
     }
 }

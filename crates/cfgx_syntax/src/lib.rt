@@ -1,5 +1,5 @@
 //! What a `cfg()` text is made of: its tokens, the faults of reading it, the values that it can
-//! have, the text that a field holds, and the allocators of what is made of it.
+//! have, and the allocators of what is made of it.
 #![tactic(auto)]
 
 pub mod error;
@@ -7,4 +7,3 @@ pub mod lexer;
 pub mod logic;
 pub mod memory;
 pub mod stripping;
-pub mod text;

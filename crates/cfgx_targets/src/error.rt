@@ -2,16 +2,20 @@
 
 ghost use Rattle.std.specs.Prelude.{◌≡◌, ◌++◌, ◌↔◌, IfOk, IsTrue, Some, codes};
 
-use cfgx_syntax::text::Text;
+use cfgx_fields::Field;
 use std::alloc::{AllocError, Allocator, Global};
 use std::fmt;
 use std::marker::Model;
+
+// Marks a text that should have named a width of atomics.
+#[derive(Drop)]
+struct WidthKind;
 
 /// A text that names no width of atomics. Contracts see it as that text.
 #[derive(Drop)]
 #[derive_where(Debug, PartialEq, Eq)]
 pub struct HasAtomicParseError<A: Allocator = Global> {
-    text: Text<'static, A>,
+    text: Field<'static, WidthKind, A>,
 }
 
 impl<A: Allocator> Model for HasAtomicParseError<A> {
@@ -32,7 +36,7 @@ impl<A: Allocator> HasAtomicParseError<A> {
         ensures { IfOk result (λ error. error ≡ text.now) }
     {
         Ok(HasAtomicParseError {
-            text: Text::new(String::from_str(alloc, text)?),
+            text: Field::new(String::from_str(alloc, text)?),
         })
     }
 

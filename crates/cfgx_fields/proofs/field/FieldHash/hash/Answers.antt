@@ -1,6 +1,6 @@
 -- The bytes alone are fed.
 use Rattle.std.proofs.Common.{rules}
-use Rattle.cfgx_syntax.proofs.text.TextHash.hash.Goals as goal
+use Rattle.cfgx_fields.proofs.field.FieldHash.hash.Goals as goal
 
 pub returns : goal.returns
 returns g c = search rules

@@ -1,6 +1,6 @@
 -- Texts are compared by their bytes.
 use Rattle.std.proofs.Common.{rules}
-use Rattle.cfgx_syntax.proofs.text.TextPartialEq.eq.Goals as goal
+use Rattle.cfgx_fields.proofs.field.FieldPartialEq.eq.Goals as goal
 
 pub returns : goal.returns
 returns g c = search rules

@@ -1,6 +1,6 @@
 -- Texts are ordered by their bytes.
 use Rattle.std.proofs.Common.{rules}
-use Rattle.cfgx_syntax.proofs.text.TextOrd.cmp.Goals as goal
+use Rattle.cfgx_fields.proofs.field.FieldOrd.cmp.Goals as goal
 
 pub returns : goal.returns
 returns g c = search rules
