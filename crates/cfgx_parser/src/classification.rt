@@ -9,24 +9,15 @@ use cfgx_syntax::error::Reason;
 use cfgx_targets::reading::{read_endian, read_has_atomic, read_u8};
 
 /// Bytes of the text, and where they stand.
-#[derive(Drop)]
+#[derive(Clone, Copy)]
 pub(crate) struct Word<'a> {
     pub(crate) text: &'a str,
     pub(crate) span: Span,
 }
 
-impl Word<'_> {
-    /// Where they stand, for what keeps it.
-    fn span(&self) -> Span
-        ensures { result ≡ self.now.span }
-    {
-        self.span.start..self.span.end
-    }
-}
-
 /// A predicate or literal that has not ended: its key, and its value, without the quotes, if that
 /// was read.
-#[derive(Drop)]
+#[derive(Clone, Copy)]
 pub(crate) struct Pending<'a> {
     pub(crate) key: Word<'a>,
     pub(crate) value: Option<Word<'a>>,
@@ -41,7 +32,7 @@ fn bare(leaf: ExprNode, value: &Option<Word<'_>>) -> Result<ExprNode, Refused>
 {
     match value {
         None => Ok(leaf),
-        Some(value) => Err((Reason::Unexpected(&[]), value.span())),
+        Some(value) => Err((Reason::Unexpected(&[]), value.span)),
     }
 }
 
@@ -75,7 +66,7 @@ fn target(which: &str, key: &Word<'_>, value: Word<'_>) -> Result<ExprNode, Refu
             Some(width) => Ok(Predicate(Target(PointerWidth(width)))),
             None => Err((Reason::InvalidInteger, span)),
         },
-        _ => Err((Reason::Unexpected(TARGET_KEYS), key.span())),
+        _ => Err((Reason::Unexpected(TARGET_KEYS), key.span)),
     }
 }
 
@@ -86,19 +77,16 @@ fn other(key: &Word<'_>, value: &Option<Word<'_>>) -> Result<ExprNode, Refused>
 {
     let Some(which) = key.text.strip_prefix("target_") else {
         return Ok(ExprNode::Predicate(InnerPredicate::Other {
-            identifier: key.span(),
-            value: value.as_ref().map(|value| value.span()),
+            identifier: key.span,
+            value: value.map(|value| value.span),
         }));
     };
     match value {
         Some(value) => {
-            let (text, span) = (value.text, value.span());
+            let (text, span) = (value.text, value.span);
             target(which, key, Word { text, span })
         }
-        None => Err((
-            Reason::Unexpected(&["= \"<target_cfg_value>\""]),
-            key.span(),
-        )),
+        None => Err((Reason::Unexpected(&["= \"<target_cfg_value>\""]), key.span)),
     }
 }
 
@@ -113,18 +101,18 @@ pub(crate) fn classify(pending: &Pending<'_>) -> Result<ExprNode, Refused>
     match key.text {
         "true" => bare(Literal(true), value),
         "false" => bare(Literal(false), value),
-        "unix" => bare(Predicate(Target(InnerTarget::Family(key.span()))), value),
-        "windows" => bare(Predicate(Target(InnerTarget::Family(key.span()))), value),
+        "unix" => bare(Predicate(Target(InnerTarget::Family(key.span))), value),
+        "windows" => bare(Predicate(Target(InnerTarget::Family(key.span))), value),
         "test" => bare(Predicate(Test), value),
         "debug_assertions" => bare(Predicate(DebugAssertions), value),
         "proc_macro" => bare(Predicate(ProcMacro), value),
         "feature" => match value {
-            Some(value) => Ok(Predicate(Feature(value.span()))),
-            None => Err((Reason::Unexpected(&["= \"<feature_name>\""]), key.span())),
+            Some(value) => Ok(Predicate(Feature(value.span))),
+            None => Err((Reason::Unexpected(&["= \"<feature_name>\""]), key.span)),
         },
         "panic" => match value {
-            Some(value) => Ok(Predicate(Target(InnerTarget::Panic(value.span())))),
-            None => Err((Reason::Unexpected(&["= \"<panic_strategy>\""]), key.span())),
+            Some(value) => Ok(Predicate(Target(InnerTarget::Panic(value.span)))),
+            None => Err((Reason::Unexpected(&["= \"<panic_strategy>\""]), key.span)),
         },
         _ => other(key, value),
     }

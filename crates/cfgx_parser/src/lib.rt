@@ -3,7 +3,7 @@
 
 mod classification;
 pub mod function;
-mod laws;
+pub mod laws;
 pub mod matcher;
 pub mod nodes;
 pub mod parsed;

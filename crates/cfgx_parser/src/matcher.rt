@@ -67,6 +67,23 @@ fn with_lowest(plane: u64, bit: bool) -> u64
     2 * plane + u64::from(bit)
 }
 
+// What each of the rows answers, in its lane.
+fn answers<T: TargetMatcher>(predicate: &TargetPredicate<'_>, rows: &[T]) -> Kleene64
+    requires { length rows.now ≤ 64 }
+    ensures { EachLane result
+        (slice_get (map (λ row. T.answer row (target_of predicate.now)) rows.now)) }
+{
+    let (mut is_true, mut is_false) = (0, 0);
+    let mut left = rows;
+    while let Some((row, before)) = left.split_last() {
+        let answer = row.matches(predicate);
+        is_true = with_lowest(is_true, answer);
+        is_false = with_lowest(is_false, !answer);
+        left = before;
+    }
+    Kleene64::new(is_true, is_false)
+}
+
 impl<'a, A: Allocator> TargetPredicate<'a, A> {
     /// Whether the predicate is true of the target, as the target answers.
     pub fn matches<T: TargetMatcher>(&self, target: &T) -> bool
@@ -82,16 +99,7 @@ impl<'a, A: Allocator> TargetPredicate<'a, A> {
         ensures { EachLane result
             (slice_get (map (λ row. T.answer row (target_of self.now)) rows.now)) }
     {
-        let predicate = self.borrowed();
-        let (mut is_true, mut is_false) = (0, 0);
-        let mut left = rows;
-        while let Some((row, before)) = left.split_last() {
-            let answer = row.matches(&predicate);
-            is_true = with_lowest(is_true, answer);
-            is_false = with_lowest(is_false, !answer);
-            left = before;
-        }
-        Kleene64::new(is_true, is_false)
+        answers(&self.borrowed(), rows)
     }
 
     // The predicate of the same kind and text, which is borrowed: the allocator that may own the

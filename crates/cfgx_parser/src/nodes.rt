@@ -10,11 +10,26 @@ use std::alloc::AllocError;
 use std::mem;
 use std::ops::Range;
 
-/// Bytes of a text.
-pub type Span = Range<usize>;
+/// Bytes of a text, as a `Range`, but `Copy`.
+#[derive(Clone, Copy)]
+pub struct Span {
+    /// The first one
+    pub start: usize,
+    /// The one after the last
+    pub end: usize,
+}
+
+impl From<Range<usize>> for Span {
+    ghost from_gives = { λ range span. span ≡ record { start = range.start; end = range.end } };
+
+    fn from(range: Range<usize>) -> Span {
+        let Range { start, end } = range;
+        Span { start, end }
+    }
+}
 
 /// A predicate on the target, by where its text stands.
-#[derive(Clone, Drop)]
+#[derive(Clone, Copy)]
 pub enum InnerTarget {
     /// `target_abi`, by its value
     Abi(Span),
@@ -39,7 +54,7 @@ pub enum InnerTarget {
 }
 
 /// A predicate, by where its parts stand in the text.
-#[derive(Clone, Drop)]
+#[derive(Clone, Copy)]
 pub enum InnerPredicate {
     /// A predicate on the target
     Target(InnerTarget),
@@ -63,7 +78,7 @@ pub enum InnerPredicate {
 }
 
 /// A node of a condition. A function stands in front of its members, in source order.
-#[derive(Clone, Drop)]
+#[derive(Clone, Copy)]
 pub enum ExprNode {
     /// A function
     Fn {

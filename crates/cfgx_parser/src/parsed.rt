@@ -67,7 +67,7 @@ impl<A: SmallAllocator> Parsed<A> {
     {
         Ok(Parsed {
             original: String::from_str(alloc, self.original.as_str())?,
-            nodes: SmallVec::from_clones(alloc, self.nodes.as_slice())?,
+            nodes: SmallVec::from_slice(alloc, self.nodes.as_slice())?,
             index: SmallVec::from_slice(alloc, self.index.as_slice())?,
         })
     }

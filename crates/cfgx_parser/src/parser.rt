@@ -43,7 +43,7 @@ impl OpenList {
 }
 
 /// A function whose `)` was not read yet.
-#[derive(Drop)]
+#[derive(Clone, Copy)]
 pub(crate) struct FuncAndSpan {
     kind: FuncKind,
     /// Where its name stands
@@ -58,7 +58,7 @@ impl Default for FuncAndSpan {
     fn default() -> Self {
         FuncAndSpan {
             kind: FuncKind::Not,
-            span: 0..0,
+            span: Span { start: 0, end: 0 },
             mark: Mark { node: 0, leaves: 0 },
             around: OpenList::new(),
         }
@@ -104,7 +104,7 @@ impl LastToken {
 }
 
 /// What is wrong with the text.
-#[derive(Drop)]
+#[derive(Clone, Copy)]
 pub(crate) struct Fault {
     reason: Reason,
     /// The bytes that are at fault
@@ -219,11 +219,14 @@ fn unclosed(top: &FuncAndSpan, list: OpenList, len: usize) -> Fault
     match list.parens_index {
         Some(place) => Fault {
             reason: Reason::UnclosedParens,
-            span: place..len,
+            span: Span {
+                start: place,
+                end: len,
+            },
         },
         None => Fault {
             reason: Reason::Unexpected(&["("]),
-            span: top.span.start..top.span.end,
+            span: top.span,
         },
     }
 }
@@ -289,7 +292,10 @@ impl<'a, A: SmallAllocator> Parser<'a, A> {
         ensures { Says original.now halt self.old result }
     {
         match (halt, self.fault.take()) {
-            (Halt::Fault, Some(fault)) => { Failure::of(alloc, original, fault.span, fault.reason) }
+            (Halt::Fault, Some(fault)) => {
+                let Span { start, end } = fault.span;
+                Failure::of(alloc, original, start..end, fault.reason)
+            }
             _ => Failure::Memory(AllocError),
         }
     }
@@ -380,7 +386,8 @@ impl<'a, A: SmallAllocator> Parser<'a, A> {
         };
         let members = self.list.members + usize::from(self.pending.is_some());
         if !has_room(top.kind, members) {
-            return Err(self.halt(Reason::InvalidNot(members), top.span.start..span.end));
+            let (start, end) = (top.span.start, span.end);
+            return Err(self.halt(Reason::InvalidNot(members), Span { start, end }));
         }
         self.write_pending()?;
         self.list = top.around;
@@ -398,7 +405,10 @@ impl<'a, A: SmallAllocator> Parser<'a, A> {
         if let Some(pending) = &mut self.pending {
             pending.value = Some(Word {
                 text,
-                span: span.start + 1..span.end - 1,
+                span: Span {
+                    start: span.start + 1,
+                    end: span.end - 1,
+                },
             });
         }
     }
@@ -410,6 +420,7 @@ impl<'a, A: SmallAllocator> Parser<'a, A> {
             (apply (state_of self.old) (item_of lexed.entry) (token_of lexed.entry.token)) }
     {
         let LexerToken { token, span } = lexed;
+        let span = Span::from(span);
         match token {
             Token::Key(text) => {
                 let key = Word { text, span };
@@ -434,7 +445,7 @@ impl<'a, A: SmallAllocator> Parser<'a, A> {
             (step (token_like last) (state_of self.old) (item_of lexed.entry)) }
     {
         if !may_follow(last, lexed.token) {
-            return Err(self.halt(expected(last), lexed.span));
+            return Err(self.halt(expected(last), lexed.span.into()));
         }
         self.apply(lexed)
     }
@@ -445,10 +456,11 @@ impl<'a, A: SmallAllocator> Parser<'a, A> {
         requires { self.old.func_stack.items ≡ [] }
         ensures { Gives result self.new (one_root len (state_of self.old)) }
     {
+        let whole = Span { start: 0, end: len };
         match self.list.members {
-            0 => Err(self.halt(Reason::Empty, 0..len)),
+            0 => Err(self.halt(Reason::Empty, whole)),
             1 => Ok(self.writer.end_list(0)?),
-            _ => Err(self.halt(Reason::MultipleRootPredicates, 0..len)),
+            _ => Err(self.halt(Reason::MultipleRootPredicates, whole)),
         }
     }
 
@@ -469,7 +481,8 @@ impl<'a, A: SmallAllocator> Parser<'a, A> {
         ensures { Gives result self.new (conclude (token_like last) len (state_of self.old)) }
     {
         if lacks_value(last) {
-            return Err(self.halt(Reason::Unexpected(&["\"<value>\""]), len..len));
+            let (start, end) = (len, len);
+            return Err(self.halt(Reason::Unexpected(&["\"<value>\""]), Span { start, end }));
         }
         self.end_root(len)
     }

@@ -1,7 +1,7 @@
 -- The nodes of a tree are written for its items: the laws of the builder of nodes.
 use Rattle.std.proofs.Common.{◌≡◌, ℕ, ◌+◌, true, false, List, [], ◌++◌, length, Option}
 use Rattle.std.proofs.Common.{option_map, rules, arith, Some, None, refl, ap, subst}
-use Rattle.std.{specs.Prelude.if◌then◌else◌, specs.declared.ops.Range.Range}
+use Rattle.std.specs.Prelude.{if◌then◌else◌}
 use Rattle.std.proofs.lemmas.List.{append-nil, length_push}
 use Rattle.cfgx_syntax.specs.Items.{Item}
 use Rattle.cfgx_grammar.{specs.Question.Leaf, specs.Question.Question, specs.Classification.Class}
@@ -16,6 +16,7 @@ use Rattle.cfgx_parser.{specs.nodes.Prefix.with_places, proofs.spelled.WritingLe
 use Rattle.cfgx_parser.specs.nodes.WritesNodes.{IsPlaced, ArePlaced, WritesNodes}
 use Rattle.cfgx_parser.specs.parsing.NodeState.{counted, node_builder}
 use Rattle.cfgx_parser.specs.declared.nodes.ExprNode.TheVariants as node
+use Rattle.cfgx_parser.specs.declared.nodes.Span.{Span}
 use Rattle.cfgx_parser.proofs.spelled.LocatedClasses.{NamesClass, NamesClass-class}
 use Rattle.cfgx_parser.proofs.spelled.WritingLemmas.{WritesNodes-none, WritesNodes-then}
 use Rattle.cfgx_parser.proofs.spelled.WritingLemmas.{WritesNodes-leaf, WritesNodes-function}
@@ -52,7 +53,7 @@ module _ (text : List ℕ) where
       → WritesNodes text w v (prefix_each trees) (places_by is_leaf (length w.nodes) trees)
       (places_by is_function (length w.nodes) trees)
 
-  leaf_writes : (w : Written) (key_span : Range ℕ) (span : Option (Range ℕ)) (leaf : Leaf)
+  leaf_writes : (w : Written) (key_span : Span) (span : Option Span) (leaf : Leaf)
       → IsSpan text key_span → ValueHasCut text span
       → class (at text key_span) (option_map (at text) span) ≡ Class.is leaf
       → let tree = leaf_tree leaf in

@@ -1,7 +1,8 @@
 -- A predicate that is read from its key and value is the one that its node names in the text.
 use Rattle.std.proofs.Common.{◌≡◌, ℕ, List, [], ◌∷◌, Option, Some, None, option_map}
 use Rattle.std.proofs.Common.{arith, rules, refl}
-use Rattle.std.{specs.List.AllByRecursion, specs.declared.ops.Range.Range}
+use Rattle.std.specs.List.{AllByRecursion}
+use Rattle.cfgx_parser.specs.declared.nodes.Span.{Span}
 use Rattle.std.proofs.lemmas.Slice.Eq.{bytes_eq-Decides}
 use Rattle.cfgx_syntax.specs.Error.{Cause}
 use Rattle.cfgx_grammar.specs.Question.{Leaf, Question, TargetQuestion}
@@ -10,20 +11,20 @@ use Rattle.cfgx_grammar.specs.Classification.{if_read, target_feature, target_cl
 use Rattle.cfgx_parser.specs.nodes.Located.{predicate_located, question_at, at, IsSpan, HasCut}
 use Rattle.cfgx_parser.specs.nodes.Located.{ValueHasCut}
 
-module _ (text : List ℕ) (key_span : Range ℕ) where
+module _ (text : List ℕ) (key_span : Span) where
   -- the predicate of these places is the question, and can be cut out of the text
-  abbrev pub Names : Option (Range ℕ) → Question → Type 0
+  abbrev pub Names : Option Span → Question → Type 0
   Names value_span question =
       (question_at text (predicate_located key_span value_span question) ≡ question)
       × HasCut text (predicate_located key_span value_span question)
 
   -- what is read is named; a literal has no parts
-  abbrev pub NamesClass : Option (Range ℕ) → Class → Type 0
+  abbrev pub NamesClass : Option Span → Class → Type 0
   NamesClass value_span (Class.is (Leaf.predicate question)) = Names value_span question
   NamesClass value_span _ = Unit {0}
 
   -- a table names what each of its rules names
-  by_rules : {V : Type 0} (span : Option (Range ℕ)) (name : List ℕ) (value : V) (otherwise : Class)
+  by_rules : {V : Type 0} (span : Option Span) (name : List ℕ) (value : V) (otherwise : Class)
       (rules : List (Rule V))
       → AllByRecursion (λ rule. name ≡ rule.name → NamesClass span (rule.read value)) rules
       → NamesClass span otherwise → NamesClass span (by_name rules name value otherwise)
@@ -32,26 +33,26 @@ module _ (text : List ℕ) (key_span : Range ℕ) where
       let others = by_rules span name value otherwise rest each.1 last in
       grind (arith, bytes_eq-Decides, each.0, others)
 
-  names_read : {X : Type 0} (span : Range ℕ) (ask : X → TargetQuestion) (cause : Cause)
+  names_read : {X : Type 0} (span : Span) (ask : X → TargetQuestion) (cause : Cause)
       (x : Option X) → ((y : X) → Names (Some span) (Question.target (ask y)))
       → NamesClass (Some span) (if_read ask cause x)
   names_read span ask cause x names = grind arith
 
-  names_feature : (span : Range ℕ) (value : List ℕ) → at text span ≡ value → IsSpan text span
+  names_feature : (span : Span) (value : List ℕ) → at text span ≡ value → IsSpan text span
       → NamesClass (Some span) (target_feature value)
   names_feature span value is cut = grind arith
 
-  names_target : (span : Range ℕ) (name : List ℕ) → IsSpan text span
+  names_target : (span : Span) (name : List ℕ) → IsSpan text span
       → NamesClass (Some span) (target_class name (at text span))
   names_target span name cut = by_rules (Some span) name (at text span) _ target_rules
       (search (rules, names_read, names_feature)) tt
 
-  names_other : (span : Option (Range ℕ)) (key : List ℕ) → at text key_span ≡ key
+  names_other : (span : Option Span) (key : List ℕ) → at text key_span ≡ key
       → IsSpan text key_span → ValueHasCut text span
       → NamesClass span (other_class key (option_map (at text) span))
   names_other span key is key_cut cut = grind (arith, names_target)
 
-  pub NamesClass-class : (span : Option (Range ℕ)) → IsSpan text key_span → ValueHasCut text span
+  pub NamesClass-class : (span : Option Span) → IsSpan text key_span → ValueHasCut text span
       → NamesClass span (class (at text key_span) (option_map (at text) span))
   unfolding class
   NamesClass-class None key_cut cut = by_rules None (at text key_span) None _ key_rules

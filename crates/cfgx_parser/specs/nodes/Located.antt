@@ -1,6 +1,6 @@
 -- A leaf by where its parts stand in the text.
 use Rattle.std.specs.Prelude.{ℕ, List, slice_range, Option, Some, None, unwrap_or}
-use Rattle.std.specs.declared.ops.Range.{Range}
+use Rattle.cfgx_parser.specs.declared.nodes.Span.{Span}
 use Rattle.cfgx_syntax.specs.Cut.{IsCut}
 use Rattle.cfgx_grammar.specs.Question.{Leaf, Question, TargetQuestion}
 use Rattle.cfgx_parser.specs.declared.nodes.InnerTarget.{InnerTarget}
@@ -11,7 +11,7 @@ use Rattle.cfgx_parser.specs.declared.nodes.ExprNode.{ExprNode}
 use Rattle.cfgx_parser.specs.declared.nodes.ExprNode.TheVariants as node
 
 -- the target predicate whose text, if it has one, stands at the span
-abbrev pub target_at : Range ℕ → TargetQuestion → InnerTarget
+abbrev pub target_at : Span → TargetQuestion → InnerTarget
 target_at span (TargetQuestion.abi text) = target.Abi span
 target_at span (TargetQuestion.arch text) = target.Arch span
 target_at span (TargetQuestion.endian endian) = target.Endian endian
@@ -24,7 +24,7 @@ target_at span (TargetQuestion.pointer_width width) = target.PointerWidth width
 target_at span (TargetQuestion.vendor text) = target.Vendor span
 
 -- the predicate whose key and value stand there
-abbrev pub predicate_located : Range ℕ → Option (Range ℕ) → Question → InnerPredicate
+abbrev pub predicate_located : Span → Option Span → Question → InnerPredicate
 predicate_located key value (Question.target question) = inner.Target
     (target_at (unwrap_or value key) question)
 predicate_located key value Question.test = inner.Test
@@ -37,13 +37,13 @@ predicate_located key value (Question.flag text) = inner.Other key None
 predicate_located key value (Question.key_value text other) = inner.Other key value
 
 -- the node of the leaf whose key and value stand there
-abbrev pub located : Range ℕ → Option (Range ℕ) → Leaf → ExprNode
+abbrev pub located : Span → Option Span → Leaf → ExprNode
 located key value (Leaf.predicate question) =
     node.Predicate (predicate_located key value question)
 located key value (Leaf.literal truth) = node.Literal truth
 
 -- the bytes of the text at the span
-abbrev pub at : List ℕ → Range ℕ → List ℕ
+abbrev pub at : List ℕ → Span → List ℕ
 at text span = slice_range text span.start span.end
 
 abbrev pub target_question_at : List ℕ → InnerTarget → TargetQuestion
@@ -58,7 +58,7 @@ target_question_at text (target.Panic span) = TargetQuestion.panic (at text span
 target_question_at text (target.PointerWidth width) = TargetQuestion.pointer_width width
 target_question_at text (target.Vendor span) = TargetQuestion.vendor (at text span)
 
-abbrev pub other_at : List ℕ → Range ℕ → Option (Range ℕ) → Question
+abbrev pub other_at : List ℕ → Span → Option Span → Question
 other_at text key None = Question.flag (at text key)
 other_at text key (Some value) = Question.key_value (at text key) (at text value)
 
@@ -73,7 +73,7 @@ question_at text (inner.TargetFeature span) = Question.target_feature (at text s
 question_at text (inner.Other key value) = other_at text key value
 
 -- the bytes at the span can be cut out of the text
-abbrev pub IsSpan : List ℕ → Range ℕ → Type 0
+abbrev pub IsSpan : List ℕ → Span → Type 0
 IsSpan text span = IsCut text span.start span.end
 
 abbrev pub TargetHasCut : List ℕ → InnerTarget → Type 0
@@ -88,7 +88,7 @@ TargetHasCut text (target.Panic span) = IsSpan text span
 TargetHasCut text (target.PointerWidth width) = Unit {0}
 TargetHasCut text (target.Vendor span) = IsSpan text span
 
-abbrev pub ValueHasCut : List ℕ → Option (Range ℕ) → Type 0
+abbrev pub ValueHasCut : List ℕ → Option Span → Type 0
 ValueHasCut text None = Unit {0}
 ValueHasCut text (Some span) = IsSpan text span
 

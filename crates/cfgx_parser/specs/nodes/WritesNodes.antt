@@ -7,7 +7,7 @@ use Rattle.cfgx_syntax.specs.Items.{Item}
 use Rattle.cfgx_parser.specs.nodes.Located.{IsSpan, HasCut, at}
 use Rattle.cfgx_parser.specs.nodes.Node.{Written}
 use Rattle.cfgx_parser.specs.nodes.Prefix.{Node, node_at}
-use Rattle.std.specs.declared.ops.Range.{Range}
+use Rattle.cfgx_parser.specs.declared.nodes.Span.{Span}
 use Rattle.cfgx_parser.specs.declared.nodes.ExprNode.{ExprNode}
 use Rattle.cfgx_parser.specs.declared.nodes.ExprNode.TheVariants as node
 
@@ -17,7 +17,7 @@ NodeHasCut text (node.Predicate predicate) = HasCut text predicate
 NodeHasCut text (node.Literal truth) = Unit {0}
 
 -- a word stands at its span, and can be cut out of the text there
-abbrev pub Holds : List ℕ → Range ℕ → List ℕ → Type 0
+abbrev pub Holds : List ℕ → Span → List ℕ → Type 0
 Holds text span word = (at text span ≡ word) × IsSpan text span
 
 -- the text of a key or of a value stands at its place

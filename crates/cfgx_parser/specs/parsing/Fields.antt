@@ -1,7 +1,7 @@
 -- The state that the parser's fields keep.
 use Rattle.std.specs.Prelude.{ℕ, ◌+◌, List, [], ◌∷◌, Option, Some, None}
 use Rattle.std.specs.Prelude.{option_map, Result, Ok, Err}
-use Rattle.std.specs.declared.ops.Range.{Range}
+use Rattle.cfgx_parser.specs.declared.nodes.Span.{Span}
 use Rattle.cfgx_syntax.specs.Error.{Refusal, unexpected, cause_of}
 use Rattle.cfgx_syntax.specs.declared.error.Reason.{Reason}
 use Rattle.cfgx_grammar.specs.Classification.{target_class, other_class}
@@ -28,10 +28,10 @@ abbrev pub pending_of : code_pending.Pending → Pending
 pending_of p = record { key = word_of p.key; value = option_map word_of p.value }
 
 -- what is wrong, and where
-abbrev pub refused : Reason × Range ℕ → Refusal
+abbrev pub refused : Reason × Span → Refusal
 refused r = refusal (cause_of r.0) r.1.start r.1.end
 
-abbrev pub class_result : Result ExprNode (Reason × Range ℕ) → Result ExprNode Refusal
+abbrev pub class_result : Result ExprNode (Reason × Span) → Result ExprNode Refusal
 class_result (Ok leaf) = Ok leaf
 class_result (Err r) = Err (refused r)
 

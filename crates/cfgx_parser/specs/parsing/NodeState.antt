@@ -1,6 +1,6 @@
 -- The state of the parser that builds nodes.
 use Rattle.std.specs.Prelude.{ℕ, option_map, Result}
-use Rattle.std.specs.declared.ops.Range.{Range}
+use Rattle.cfgx_parser.specs.declared.nodes.Span.{Span}
 use Rattle.cfgx_syntax.specs.Error.{Refusal}
 use Rattle.cfgx_grammar.specs.Classification.{Class}
 use Rattle.cfgx_grammar.specs.LastPredicate.{class_of}
@@ -20,7 +20,7 @@ abbrev pub counted : Function → ℕ → Func
 counted Function.not n = func.Not
 counted (Function.list function) n = list_func function n
 
-abbrev pub span_of : Word → Range ℕ
+abbrev pub span_of : Word → Span
 span_of word = record { start = word.start; end = word.end }
 
 -- what the parser's steps do to the nodes

@@ -2,6 +2,7 @@
 use Rattle.std.specs.Prelude.{◌≡◌, ℕ, ◌+◌, ◌-◌, ◌≤◌, List, length, reverse, option_map}
 use Rattle.std.specs.Prelude.{Option, Some, None, Result, Ok, Err}
 use Rattle.std.specs.declared.ops.Range.{Range}
+use Rattle.cfgx_parser.specs.declared.nodes.Span.{Span}
 use Rattle.cfgx_syntax.specs.Token as spelled
 use Rattle.cfgx_syntax.specs.Items.{Item, Ending, ItemsFrom}
 use Rattle.cfgx_syntax.specs.LexerState.{LexerState}
@@ -56,10 +57,10 @@ abbrev pub Gives : {A : Type 0} → Result (Unit {0}) Halt → Parser A → Resu
 Gives {A} (Ok done) new answer = answer ≡ Ok (state_of {A = A} new)
 Gives {A} (Err halt) new answer = HaltsAs {A = A} halt new answer
 
-abbrev pub item_at : Range ℕ → Item
+abbrev pub item_at : Span → Item
 item_at span = record { token = spelled.Token.comma; start = span.start; end = span.end }
 
-abbrev pub Opens : {A : Type 0} → Parser A → Parser A → Function → Range ℕ → Type 0
+abbrev pub Opens : {A : Type 0} → Parser A → Parser A → Function → Span → Type 0
 Opens {A} old new function span =
     state_of {A = A} new ≡ opened (state_of {A = A} old) function (item_at span)
 
@@ -96,14 +97,14 @@ WritesPending {A} old new (Err halt) = HaltsAs {A = A} halt new
 abbrev pub parens_opened : ParserState → ℕ → ParserState
 parens_opened s place = record s { stack = over_top (with_parens place) s.stack }
 
-abbrev pub closed_at : ParserState → Range ℕ → Result ParserState Refusal
+abbrev pub closed_at : ParserState → Span → Result ParserState Refusal
 closed_at s span = closed_by s (item_at span) s.stack
 
 -- the end of a text of so many bytes in which no value is missing
 abbrev pub concluded : ParserState → ℕ → Result ParserState Refusal
 concluded s len = concluded_by len s s.stack
 
-abbrev pub value_added : ParserState → List ℕ → Range ℕ → ParserState
+abbrev pub value_added : ParserState → List ℕ → Span → ParserState
 value_added s text span = record s {
   pending = option_map
       (with_value (word_of text (span.start + 1) (span.end - 1))) s.pending;

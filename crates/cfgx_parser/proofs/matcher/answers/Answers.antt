@@ -2,7 +2,7 @@
 use Rattle.std.proofs.Common.{◌∙◌, ap}
 use Rattle.cfgx_syntax.specs.Kleene.{lane}
 use Rattle.cfgx_parser.proofs.MatchedLanes.{Added-fit, Added-end}
-use Rattle.cfgx_parser.proofs.predicates.TargetPredicate.lanes.Goals as goal
+use Rattle.cfgx_parser.proofs.matcher.answers.Goals as goal
 
 pub with_lowest-is_true-requires : goal.with_lowest-is_true-requires
 with_lowest-is_true-requires g c =
@@ -17,5 +17,4 @@ new-requires g c = (Added-end c.in_default.ensures.cases c.loop-row.invariant).0
 
 pub returns : goal.returns
 returns g c i below =
-    rw (← c.borrowed-predicate.ensures) (ap (lane i) c.new.ensures
-    ∙ (Added-end c.in_default.ensures.cases c.loop-row.invariant).1 i below)
+    ap (lane i) c.new.ensures ∙ (Added-end c.in_default.ensures.cases c.loop-row.invariant).1 i below

@@ -1,19 +1,17 @@
 -- The copies are equal to what is copied.
-use Rattle.std.proofs.Common.{◌≡◌, ◌∙◌, arith, rules}
+use Rattle.std.proofs.Common.{◌∙◌, arith}
 use Rattle.cfgx_parser.proofs.Rooms.{room}
-use Rattle.std.proofs.lemmas.List.Elements.{same_from_all_zip}
 use Rattle.cfgx_parser.proofs.parsed.Parsed.try_clone.Goals as goal
 
 pub invariant_of-result : goal.invariant_of-result
 invariant_of-result g c =
     let text = c.in_ok-from_str.ensures.ok ∙ c.as_str.ensures.value in
-    let nodes : c.in_ok-from_clones.field-0.items ≡ c.self.inside.nodes.items =
-    same_from_all_zip _ _ _ c.in_ok-from_clones.ensures.ok (search rules) ∙ c.as_slice.ensures in
-    let index = c.in_ok-from_slice.ensures.ok ∙ c.as_slice-2.ensures in
+    let nodes = c.in_ok-from_slice.ensures.ok ∙ c.as_slice.ensures in
+    let index = c.in_ok-from_slice-2.ensures.ok ∙ c.as_slice-2.ensures in
     rw (text, nodes, index) c.self.invariant
 
-pub from_clones-requires : goal.from_clones-requires
-from_clones-requires g c = room _ _ _ g.met.A.SmallAllocator.small (omega arith)
+pub from_slice-requires-2 : goal.from_slice-requires-2
+from_slice-requires-2 g c = room _ _ _ g.met.A.SmallAllocator.small (omega arith)
 
 pub from_slice-requires : goal.from_slice-requires
 from_slice-requires g c = room _ _ _ g.met.A.SmallAllocator.small (omega arith)
