@@ -1,11 +1,12 @@
 //! What is known of one target.
 
-ghost use Rattle.std.specs.Prelude.{◌≡◌, IfOk};
+ghost use Rattle.std.specs.Prelude.{◌≡◌, IfOk, OnOk};
 
 use crate::atomics::HasAtomics;
 use crate::endian::Endian;
 use crate::families::Families;
-use crate::made::beside;
+use crate::list::SortedList;
+use crate::made::{after, put};
 use cfgx_fields::{Abi, Arch, Env, Field, Os, Panic, Triple, Vendor};
 use std::alloc::{AllocError, Allocator, Global};
 
@@ -55,15 +56,6 @@ fn copied_field<'a, K, A: Allocator>(
     }
 }
 
-// The triple, the architecture and the vendor.
-type Names<'a, A> = (Triple<'a, A>, Arch<'a, A>, Option<Vendor<'a, A>>);
-
-// The operating system, the ABI and the environment.
-type Platform<'a, A> = (Option<Os<'a, A>>, Option<Abi<'a, A>>, Option<Env<'a, A>>);
-
-// The families, the widths of atomics and the panic strategy.
-type Lists<'a, A> = (Families<'a, A>, HasAtomics<A>, Panic<'a, A>);
-
 impl<'a, A: Allocator + Copy> TargetInfo<'a, A> {
     /// A target equal to this one. What is borrowed is borrowed again and takes no memory; what is
     /// owned is copied into `alloc`.
@@ -72,53 +64,58 @@ impl<'a, A: Allocator + Copy> TargetInfo<'a, A> {
     pub fn try_clone(&self, alloc: A) -> Result<Self, AllocError>
         ensures { IfOk result (λ copy. copy ≡ self.now) }
     {
-        let names = self.copied_names(alloc)?;
-        let (names, platform) = beside(names, self.copied_platform(alloc))?;
-        let (both, lists) = beside((names, platform), self.copied_lists(alloc))?;
-        let ((triple, arch, vendor), (os, abi, env)) = both;
-        let (families, has_atomics, panic) = lists;
-        Ok(TargetInfo {
-            triple,
-            os,
-            abi,
-            arch,
-            env,
-            vendor,
-            families,
-            pointer_width: self.pointer_width,
-            endian: self.endian,
-            has_atomics,
-            panic,
-        })
-    }
-}
-
-impl<'a, A: Allocator + Copy> TargetInfo<'a, A> {
-    fn copied_names(&self, alloc: A) -> Result<Names<'a, A>, AllocError>
-        ensures { IfOk result (λ copy. copy ≡ (self.now.triple, self.now.arch, self.now.vendor)) }
-    {
-        let triple = self.triple.try_clone(alloc)?;
-        let both = beside(triple, self.arch.try_clone(alloc))?;
-        let ((triple, arch), vendor) = beside(both, copied_field(&self.vendor, alloc))?;
-        Ok((triple, arch, vendor))
+        let mut copy = Self::blank(self.pointer_width, self.endian);
+        let copied = copy.copy_parts(self, alloc);
+        after(copied, copy)
     }
 
-    fn copied_platform(&self, alloc: A) -> Result<Platform<'a, A>, AllocError>
-        ensures { IfOk result (λ copy. copy ≡ (self.now.os, self.now.abi, self.now.env)) }
+    // A target whose texts and lists are still to be put in.
+    fn blank(pointer_width: u8, endian: Endian) -> Self
+        ensures width { result.pointer_width ≡ pointer_width }
+        ensures order { result.endian ≡ endian }
     {
-        let os = copied_field(&self.os, alloc)?;
-        let both = beside(os, copied_field(&self.abi, alloc))?;
-        let ((os, abi), env) = beside(both, copied_field(&self.env, alloc))?;
-        Ok((os, abi, env))
+        TargetInfo {
+            triple: Field::new_const(""),
+            os: None,
+            abi: None,
+            arch: Field::new_const(""),
+            env: None,
+            vendor: None,
+            families: SortedList::new_const(&[]),
+            pointer_width,
+            endian,
+            has_atomics: SortedList::new_const(&[]),
+            panic: Field::new_const(""),
+        }
     }
 
-    fn copied_lists(&self, alloc: A) -> Result<Lists<'a, A>, AllocError>
-        ensures { IfOk result
-            (λ copy. copy ≡ (self.now.families, self.now.has_atomics, self.now.panic)) }
+    // Puts in copies of the other's texts and lists.
+    fn copy_parts(&mut self, other: &Self, alloc: A) -> Result<(), AllocError>
+        ensures { OnOk result (self.new ≡ record other.now {
+          pointer_width = self.old.pointer_width;
+          endian = self.old.endian;
+        }) }
     {
-        let families = self.families.try_clone(alloc)?;
-        let both = beside(families, self.has_atomics.try_clone(alloc))?;
-        let ((families, has_atomics), panic) = beside(both, self.panic.try_clone(alloc))?;
-        Ok((families, has_atomics, panic))
+        put(&mut self.triple, other.triple.try_clone(alloc))?;
+        put(&mut self.arch, other.arch.try_clone(alloc))?;
+        put(&mut self.panic, other.panic.try_clone(alloc))?;
+        put(&mut self.families, other.families.try_clone(alloc))?;
+        put(&mut self.has_atomics, other.has_atomics.try_clone(alloc))?;
+        self.copy_options(other, alloc)
+    }
+
+    // Puts in copies of the other's fields that may be missing.
+    fn copy_options(&mut self, other: &Self, alloc: A) -> Result<(), AllocError>
+        ensures { OnOk result (self.new ≡ record self.old {
+          os = other.now.os;
+          abi = other.now.abi;
+          env = other.now.env;
+          vendor = other.now.vendor;
+        }) }
+    {
+        put(&mut self.os, copied_field(&other.os, alloc))?;
+        put(&mut self.abi, copied_field(&other.abi, alloc))?;
+        put(&mut self.env, copied_field(&other.env, alloc))?;
+        put(&mut self.vendor, copied_field(&other.vendor, alloc))
     }
 }

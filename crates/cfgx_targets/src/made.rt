@@ -27,3 +27,19 @@ pub(crate) fn push<T: Drop, A: Allocator>(
     members.push(next?)?;
     Ok(())
 }
+
+/// Puts the next part in its place, if it is made.
+pub(crate) fn put<T: Drop>(place: &mut T, next: Result<T, AllocError>) -> Result<(), AllocError>
+    ensures { OnOk result (IsOkAnd next (λ part. place.new ≡ part)) }
+{
+    *place = next?;
+    Ok(())
+}
+
+/// What was made, if the last step of making it was done.
+pub(crate) fn after<T: Drop>(done: Result<(), AllocError>, made: T) -> Result<T, AllocError>
+    ensures { IfOk result (λ it. it ≡ made) × IfOk result (λ it. done ≡ Ok tt) }
+{
+    done?;
+    Ok(made)
+}
