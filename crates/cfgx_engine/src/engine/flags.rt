@@ -14,6 +14,7 @@ use cfg_expr::error::Failure;
 use cfg_expr::expr::ConditionReader;
 use cfg_expr::memory::SmallAllocator;
 use cfg_expr::{Expression, Predicate};
+use cfgx_parser::laws::are_same_predicates;
 use std::marker::Model;
 
 /// A text that names the predicates that its tree asks. Contracts see the text.
@@ -62,19 +63,12 @@ impl<A: SmallAllocator> Flag<A> {
     }
 }
 
-/// Whether the two ask the same.
-fn is_same(one: &Predicate<'_>, other: &Predicate<'_>) -> bool
-    ensures { IsTrue result ↔ (question_of one.now ≡ question_of other.now) }
-{
-    one == other
-}
-
 /// Whether a predicate that a flag names is the one that is asked. It is dropped here, since the
 /// proof of a loop that drops it would go by its kinds.
 fn is_asked(named: Predicate<'_>, asked: &Predicate<'_>) -> bool
     ensures { IsTrue result ↔ (question_of named.entry ≡ question_of asked.now) }
 {
-    let is_asked = is_same(&named, asked);
+    let is_asked = are_same_predicates(&named, asked);
     drop(named);
     is_asked
 }
