@@ -1,5 +1,5 @@
 -- What the slots of answers take in memory fits, where values are small.
-use Rattle.std.proofs.Common.{ℕ, ◌+◌, ◌*◌, ◌<◌, ◌≤◌, ◌^◌, rules}
+use Rattle.std.proofs.Common.{ℕ, ◌+◌, ◌*◌, ◌<◌, ◌≤◌, ◌^◌, arith}
 use prog.Memory.{up}
 use Prim.Native.Nat.{max}
 
@@ -14,4 +14,4 @@ slots align size =
     up (max all 1) (up all 0 + up all (max (up inline 1 + up inline (up 8 (up 8 rows + 8) + 8)) 40))
 
 pub room : (align size : ℕ) → (size ≤ 2 ^ 32) × (align ≤ 2 ^ 32) → slots align size < 2 ^ 63
-room align size small = search rules
+room align size small = grind arith

@@ -17,4 +17,5 @@ new-requires g c = (Added-end c.in_default.ensures.cases c.loop-row.invariant).0
 
 pub returns : goal.returns
 returns g c i below =
-    ap (lane i) c.new.ensures ∙ (Added-end c.in_default.ensures.cases c.loop-row.invariant).1 i below
+    ap (lane i) c.new.ensures
+    ∙ (Added-end c.in_default.ensures.cases c.loop-row.invariant).1 i below
