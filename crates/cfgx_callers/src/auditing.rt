@@ -1,16 +1,14 @@
-//! A table of conditions by targets, which are audited sixty-four at a time.
-use crate::calling::tables::table_of;
+//! Conditions on many targets, which are audited sixty-four at a time.
+use cfg_expr::Expression;
 use cfg_expr::targets::{TargetInfo, TargetTable};
-use cfgx_engine::resolve::Verdict;
+use cfgx_engine::resolve::{Verdict, audit};
 use cfgx_testing::answers::answer_of;
-use cfgx_testing::holding::push;
-use cfgx_testing::rows::check_pairs;
+use cfgx_testing::holding::{holds, push};
 use std::alloc::{AllocError, Global};
-use std::test::Fail;
 
-// Texts, and whether they are true of the five targets that are built in, `?` for unknown: those of
-// macOS, of iOS, of iOS with the ABIs `macabi` and `sim`, and of tvOS.
-const AUDITED: &str = r#"
+/// Texts, and whether they are true of the five targets that are built in, `?` for unknown: those
+/// of macOS, of iOS, of iOS with the ABIs `macabi` and `sim`, and of tvOS.
+pub const AUDITED: &str = r#"
 target_abi = "sim" | 00010
 any(target_abi = "sim", target_os = "macos") | 10010
 not(any(target_os = "ios", target_os = "tvos")) | 10000
@@ -26,8 +24,10 @@ fn push_in_turn<'a>(
     count: usize,
     rows: &mut Vec<TargetInfo<'a>>,
 ) -> Result<(), AllocError> {
-    for row in all.iter().cycle().take(count) {
-        push(rows, row.try_clone(alloc))?;
+    for number in 0..count {
+        if let Some(row) = all.get(number % 5) {
+            push(rows, row.try_clone(alloc))?;
+        }
     }
     Ok(())
 }
@@ -60,30 +60,46 @@ fn are(verdicts: &[Verdict], digits: &[u8], count: usize) -> bool {
     verdicts.len() == count
 }
 
-fn is_audited(alloc: Global, text: &str, rows: &[TargetInfo<'_>], digits: &str) -> bool {
-    match table_of(alloc, &[text], rows) {
-        Ok(table) => match table.as_slice() {
-            [verdicts] => are(verdicts.as_slice(), digits.as_bytes(), rows.len()),
-            _ => false,
-        },
+fn is_audited(
+    alloc: Global,
+    condition: &Expression,
+    rows: &[TargetInfo<'_>],
+    digits: &[u8],
+) -> bool {
+    match audit(alloc, condition, rows) {
+        Ok(verdicts) => are(verdicts.as_slice(), digits, rows.len()),
         Err(_) => false,
     }
 }
 
-// Checks the verdicts of the texts on so many rows.
-fn check_audited(alloc: Global, count: usize) -> Result<(), Fail> {
-    let rows = rows_in_turn(alloc, count)?;
-    let rows = rows.as_slice();
-    check_pairs(alloc, AUDITED, 6, |text, digits| {
-        is_audited(alloc, text, rows, digits)
-    })?;
-    Ok(())
+// Whether the verdicts on some numbers of these rows are those of the digits.
+fn are_audited(
+    alloc: Global,
+    condition: &Expression,
+    rows: &[TargetInfo<'_>],
+    digits: &[u8],
+) -> bool {
+    for count in [0, 1, 64, 65, 130] {
+        match rows.get(..count) {
+            Some(front) if is_audited(alloc, condition, front, digits) => {}
+            _ => return false,
+        }
+    }
+    true
 }
 
-#[test]
-fn rows_are_audited_in_pieces(rt: HostRuntime) -> Result<(), Fail> {
-    for count in [0, 1, 64, 65, 130] {
-        check_audited(rt.alloc(), count)?;
+fn has_verdicts(alloc: Global, condition: &Expression, digits: &[u8]) -> Result<bool, AllocError> {
+    let rows = rows_in_turn(alloc, 130)?;
+    Ok(are_audited(alloc, condition, rows.as_slice(), digits))
+}
+
+/// Whether a text has the verdicts of a row.
+pub fn is_row(alloc: Global, row: &[String]) -> bool {
+    let [text, digits] = row else {
+        return false;
+    };
+    match Expression::parse(alloc, text.as_str()) {
+        Ok(condition) => holds(has_verdicts(alloc, &condition, digits.as_bytes())),
+        Err(_) => false,
     }
-    Ok(())
 }

@@ -21,27 +21,37 @@ pub mod refusals;
 pub mod resolver;
 pub mod rows;
 pub mod running;
-pub mod sections;
 pub mod streams;
 mod surface;
 pub mod tables;
 pub mod targets;
 pub mod unknown;
 
+use adapters::{asks_for_tests, first_flag};
 use boards::{BARE, LINUX, both_say, needs};
 use cfg_expr::error::Failure;
 use cfg_expr::targets::TargetTable;
 use cfg_expr::{Expression, Predicate};
-use cfgx_testing::rows::check_threes;
+use cfgx_testing::answers::{are_lanes, value_with};
+use cfgx_testing::holding::holds;
 use cfgx_testing::triples::{IOS, SIM};
 use closures::{count_asked, if_all_true, with_features};
 use compiled::{value_on_linux, value_on_windows};
+use fillings::decided_by;
+use literals::decided;
+use logic::Cost;
 use manifests::{PREDICATES, SECTIONS, VERDICTS};
 use names::is_linux;
+use resolver::value_for;
 use std::alloc::{AllocError, Global};
+use std::slice::from_ref;
+use tables::table_of;
+use targets::value_on;
+use unknown::outside_tests;
 
-// Examples, or targets for the example with targets; texts, and what the answers print.
-const ANSWERS: &str = r#"
+/// Examples, or targets for the example with targets; texts, and what the answers print, or the
+/// lanes of the example with rows.
+pub const ANSWERS: &str = r#"
 // An owned text equals a borrowed one.
 names | linux | true
 names | Linux | false
@@ -57,7 +67,7 @@ literals | all(unix, true) | None
 aarch64-apple-ios | all(unix, not(target_abi = "sim")) | Some(true)
 aarch64-apple-ios-sim | all(unix, not(target_abi = "sim")) | Some(false)
 nowhere | all(unix, not(target_abi = "sim")) | None
-rows | not(unix) | Some((0, 3))
+rows | not(unix) | 00?
 // An unknown answer is filled both ways. Over another number of answers nothing is decided.
 two answers | any(a, not(a)) | Some(Unknown { if_true: [false, true], if_false: [true, false] })
 two answers | any(a, true, not(a)) | Some(Known(true))
@@ -140,57 +150,87 @@ fn shows<T: std::fmt::Debug + Drop, E: Drop>(
     }
 }
 
-// What the condition costs if a test costs 7, and all else 3.
-fn cost_of(alloc: Global, expression: &Expression) -> Result<u64, AllocError> {
-    let mut cost = |predicate: &Predicate<'_>| match predicate {
-        Predicate::Test => logic::Cost(7),
-        _ => logic::Cost(3),
-    };
-    Ok(expression.eval(alloc, &mut cost)?.0)
+// The value that an example answers.
+fn value_of(alloc: Global, example: &str, condition: &Expression) -> Result<bool, AllocError> {
+    match example {
+        "asks_for_tests" => Ok(asks_for_tests(condition)),
+        "if_all_true" => if_all_true(alloc, condition),
+        "with_features" => with_features(alloc, condition, &["b", "a"]),
+        "matcher" => value_for(alloc, condition, &BARE, &[]),
+        "windows" => value_on_windows(alloc, condition),
+        "linux" => value_on_linux(alloc, condition),
+        _ => Err(AllocError),
+    }
 }
 
-// The value on a board of 16 bits without an operating system. Only the target answers.
-fn value_on_board(alloc: Global, expression: &Expression) -> Result<bool, AllocError> {
-    let mut answer = |predicate: &Predicate<'_>| match predicate {
-        Predicate::Target(target) => target.matches(&BARE),
-        _ => false,
-    };
-    expression.eval(alloc, &mut answer)
+// The value that may be unknown.
+fn known_of(
+    alloc: Global,
+    example: &str,
+    condition: &Expression,
+) -> Result<Option<bool>, AllocError> {
+    match example {
+        "unknown" => outside_tests(alloc, condition),
+        "literals" => decided(alloc, condition),
+        IOS | SIM | "nowhere" => value_on(alloc, condition, example),
+        _ => Err(AllocError),
+    }
 }
 
-// The masks of the lanes of two targets, the true ones and the false ones.
-fn masks_of(alloc: Global, text: &str) -> Result<Option<(u64, u64)>, Failure> {
-    let table = TargetTable::builtins(alloc)?;
-    let lanes = rows::on_rows(alloc, text, &table.rows()[..2])?;
-    Ok(lanes.map(|lanes| (lanes.is_true(), lanes.is_false())))
-}
-
-fn is_first_flag(expression: &Expression, name: &str) -> bool {
-    let found = adapters::first_flag(expression);
+fn is_first_flag(condition: &Expression, name: &str) -> bool {
+    let found = first_flag(condition);
     let is_found = matches!(&found, Some(Predicate::Flag(flag)) if *flag == name);
     drop(found);
     is_found
 }
 
-// Whether an example that takes an expression answers this.
-fn is_answer_of(alloc: Global, example: &str, expression: &Expression, told: &str) -> bool {
+// Whether the condition costs this if the first predicate costs 7, and the other one 3.
+fn has_cost(alloc: Global, condition: &Expression, told: &str) -> bool {
+    let count = condition.predicates().left();
+    match [Cost(7), Cost(3)].get(..count) {
+        Some(costs) => match value_with(alloc, condition, costs) {
+            Some(Cost(cost)) => told.parse() == Ok(cost),
+            None => false,
+        },
+        None => false,
+    }
+}
+
+// Whether the lanes of two targets are these.
+fn has_lanes(alloc: Global, condition: &Expression, told: &str) -> Result<bool, AllocError> {
+    let table = TargetTable::builtins(alloc)?;
+    match rows::on_rows(alloc, condition, &table.rows()[..2])? {
+        Some(lanes) => Ok(are_lanes(lanes, told.as_bytes())),
+        None => Ok(false),
+    }
+}
+
+// Whether an example that takes a condition answers this.
+fn is_answer_of(alloc: Global, example: &str, condition: &Expression, told: &str) -> bool {
     match example {
-        "asks_for_tests" => prints(alloc, &adapters::asks_for_tests(expression), told),
-        "first_flag" => is_first_flag(expression, told),
-        "if_all_true" => shows(alloc, if_all_true(alloc, expression), told),
-        "with_features" => shows(alloc, with_features(alloc, expression, &["b", "a"]), told),
-        "count_asked" => shows(alloc, count_asked(alloc, expression), told),
-        "logic" => shows(alloc, cost_of(alloc, expression), told),
-        "matcher" => shows(alloc, value_on_board(alloc, expression), told),
-        _ => false,
+        "first_flag" => is_first_flag(condition, told),
+        "count_asked" => shows(alloc, count_asked(alloc, condition), told),
+        "logic" => has_cost(alloc, condition, told),
+        "rows" => holds(has_lanes(alloc, condition, told)),
+        "tables" => shows(
+            alloc,
+            table_of(alloc, from_ref(condition), &[BARE, LINUX]),
+            told,
+        ),
+        "two answers" => shows(alloc, decided_by(alloc, condition, &[None; 2]), told),
+        "one answer" => shows(alloc, decided_by(alloc, condition, &[None]), told),
+        _ => {
+            shows(alloc, value_of(alloc, example, condition), told)
+                || shows(alloc, known_of(alloc, example, condition), told)
+        }
     }
 }
 
 fn is_answer_on(alloc: Global, example: &str, text: &str, told: &str) -> bool {
-    let Ok(expression) = Expression::parse(alloc, text) else {
-        return false;
-    };
-    is_answer_of(alloc, example, &expression, told)
+    match Expression::parse(alloc, text) {
+        Ok(condition) => is_answer_of(alloc, example, &condition, told),
+        Err(_) => false,
+    }
 }
 
 fn is_named(alloc: Global, text: &str) -> Result<bool, AllocError> {
@@ -199,44 +239,29 @@ fn is_named(alloc: Global, text: &str) -> Result<bool, AllocError> {
 
 // How many of the conditions a board decides, between which semicolons stand.
 fn count_decided(alloc: Global, conditions: &str) -> Result<usize, Failure> {
-    let mut texts = Vec::new(alloc);
-    for text in conditions.split(';') {
-        texts.push(text)?;
-    }
+    let texts: Vec<&str> = conditions.split(';').collect(alloc)?;
     many::count_decided(alloc, texts.as_slice(), &BARE)
 }
 
-// Whether an example answers this. Those that are not named take an expression.
+// Whether an example answers this. Those that are not named take a condition.
 fn is_answer(alloc: Global, example: &str, text: &str, told: &str) -> bool {
     match example {
         "names" => shows(alloc, is_named(alloc, text), told),
         "lexing" => shows(alloc, lexing::end_of_tokens(alloc, text), told),
         "features" => shows(alloc, features::features(alloc, text), told),
-        "unknown" => shows(alloc, unknown::outside_tests(alloc, text), told),
-        "literals" => shows(alloc, literals::decided(alloc, text), told),
-        "two answers" => shows(alloc, fillings::decided_by(alloc, text, &[None; 2]), told),
-        "one answer" => shows(alloc, fillings::decided_by(alloc, text, &[None]), told),
-        "rows" => shows(alloc, masks_of(alloc, text), told),
         "sections" => both_say(alloc, text, told),
-        "tables" => shows(
-            alloc,
-            tables::table_of(alloc, &[text], &[BARE, LINUX]),
-            told,
-        ),
         "many" => shows(alloc, count_decided(alloc, text), told),
         "manifests" => needs(alloc, text, told),
-        "windows" => shows(alloc, value_on_windows(alloc, text), told),
-        "linux" => shows(alloc, value_on_linux(alloc, text), told),
-        IOS | SIM | "nowhere" => shows(alloc, targets::value_on(alloc, text, example), told),
         _ => is_answer_on(alloc, example, text, told),
     }
 }
 
-#[test]
-fn examples_answer(rt: HostRuntime) -> Result<(), String> {
-    check_threes(rt.alloc(), ANSWERS, 63, |example, text, told| {
-        is_answer(rt.alloc(), example, text, told)
-    })
+/// Whether an example answers what a row tells.
+pub fn is_row(alloc: Global, row: &[String]) -> bool {
+    match row {
+        [example, text, told] => is_answer(alloc, example.as_str(), text.as_str(), told.as_str()),
+        _ => false,
+    }
 }
 
 #[test]

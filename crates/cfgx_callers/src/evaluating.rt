@@ -10,7 +10,6 @@ use cfg_expr::expr::Logic;
 use cfg_expr::{Expression, Predicate};
 use cfgx_testing::answers::value_with;
 use cfgx_testing::holding::holds;
-use cfgx_testing::rows::{Checked, check_tables};
 use std::alloc::{AllocError, Global};
 use terms::Terms;
 
@@ -109,8 +108,8 @@ impl Logic for Lawless {
     }
 }
 
-// Texts, flags that are set, and the values.
-const BY_FLAGS: &str = r#"
+/// Texts, flags that are set, and the values.
+pub const BY_FLAGS: &str = r#"
 all(a, not(test)) | a | true
 all(a, not(test)) | test | false
 any(a, b) | c b | true
@@ -124,9 +123,9 @@ fn value_by(alloc: Global, expression: &Expression, flags: &str) -> Option<bool>
     value_with_flags(alloc, expression, &[one, other]).ok()
 }
 
-// Texts, how many questions are asked, and the terms that join the predicates, by their names and
-// by the numbers of their calls. The last member that is asked is joined first.
-const TERMS: &str = r#"
+/// Texts, how many questions are asked, and the terms that join the predicates, by their names and
+/// by the numbers of their calls. The last member that is asked is joined first.
+pub const TERMS: &str = r#"
 all(a, any(b), c) | 3 | (((T&c)&a)&(F|b)) | (((T&3)&2)&(F|1))
 not(any(x)) | 1 | !(F|x) | !(F|1)
 any(a, all(b, not(c)), d) | 4 | (((F|d)|a)|((T&b)&!c)) | (((F|4)|3)|((T&2)&!1))
@@ -166,42 +165,29 @@ fn has_terms(
     Ok(questions.parse() == Ok(count) && is_named && is_numbered)
 }
 
-// Whether the expression has what the rest of its row in this table says.
-fn has(alloc: Global, table: &str, expression: &Expression, wanted: &[String]) -> bool {
+// Whether the expression has what the rest of its row says: flags and a value, or terms.
+fn has(alloc: Global, expression: &Expression, wanted: &[String]) -> bool {
     match wanted {
         [flags, value] => {
-            let found = value_by(alloc, expression, flags.as_str());
-            table == "values by a list of flags" && found == Some(value.as_str() == "true")
+            value_by(alloc, expression, flags.as_str()) == Some(value.as_str() == "true")
         }
         [questions, names, calls] => {
             let (questions, names, calls) = (questions.as_str(), names.as_str(), calls.as_str());
-            table == "terms are written and questions counted"
-                && holds(has_terms(alloc, expression, questions, names, calls))
+            holds(has_terms(alloc, expression, questions, names, calls))
         }
         _ => false,
     }
 }
 
-// Whether the text has what the row in this table says.
-fn is_row(alloc: Global, table: &str, row: &[String]) -> bool {
+/// Whether a text has what the row says.
+pub fn is_row(alloc: Global, row: &[String]) -> bool {
     let [text, wanted @ ..] = row else {
         return false;
     };
-    let Ok(expression) = Expression::parse(alloc, text.as_str()) else {
-        return false;
-    };
-    has(alloc, table, &expression, wanted)
-}
-
-const TABLES: &[Checked<'_>] = &[
-    ("values by a list of flags", BY_FLAGS, 5),
-    ("terms are written and questions counted", TERMS, 12),
-];
-
-#[test]
-fn callers_have_their_values(rt: HostRuntime) -> Result<(), String> {
-    let alloc = rt.alloc();
-    check_tables(alloc, TABLES, |table, row| is_row(alloc, table, row))
+    match Expression::parse(alloc, text.as_str()) {
+        Ok(expression) => has(alloc, &expression, wanted),
+        Err(_) => false,
+    }
 }
 
 // The value over these answers, one after another, and how many questions are asked.

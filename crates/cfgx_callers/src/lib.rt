@@ -6,6 +6,8 @@ pub mod auditing;
 #[cfg(test)]
 pub mod calling;
 #[cfg(test)]
+mod checks;
+#[cfg(test)]
 pub mod evaluating;
 #[cfg(test)]
 pub mod respelling;

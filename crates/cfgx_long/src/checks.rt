@@ -4,7 +4,7 @@
 use crate::alike::{ALIKE, have_values};
 use crate::asking::{ASKED, is_asked};
 use crate::deep::{ACCEPTED, FAR, FAULTS, READ, are_read, asks};
-use crate::many::LARGE;
+use crate::many::{LARGE, MEMBERS, is_first};
 use cfgx_testing::fillings::is_told;
 use cfgx_testing::holding::holds;
 use cfgx_testing::rows::{Checked, check_tables, has_fault};
@@ -20,6 +20,7 @@ const TABLES: &[Checked<'static>] = &[
     ("answers that are alike", ALIKE, 37),
     ("fillings", LARGE, 6),
     ("targets that are asked", ASKED, 12),
+    ("lanes of members", MEMBERS, 1),
 ];
 
 // Whether two fields pass the check.
@@ -41,11 +42,12 @@ fn three_pass(alloc: Global, check: &str, text: &str, one: &str, other: &str) ->
     }
 }
 
-// Whether more fields pass the check.
+// Whether fields of another number pass the check.
 fn more_pass(alloc: Global, check: &str, row: &[String]) -> bool {
     match check {
         "read" => are_read(alloc, row),
         "run" => is_run(alloc, row),
+        "lanes of members" => is_first(alloc, row),
         _ => false,
     }
 }

@@ -62,19 +62,28 @@ fn is_read(read: &Result<Condition<'_>, Failure>, text: &str, count: &str) -> bo
     }
 }
 
-/// Whether one reader reads all texts of the row.
-pub(crate) fn are_read(alloc: Global, row: &[String]) -> bool {
-    let mut reader = ConditionReader::new(alloc);
+// Whether the reader reads the text of a pair so.
+fn is_pair<'a>(reader: &mut ConditionReader<'a>, pair: &'a [String]) -> bool {
+    match pair {
+        [text, count] => is_read(&reader.read(text.as_str()), text.as_str(), count.as_str()),
+        _ => false,
+    }
+}
+
+// Whether the reader reads all texts of the row.
+fn are_pairs<'a>(reader: &mut ConditionReader<'a>, row: &'a [String]) -> bool {
     for pair in row.chunks(2) {
-        let is_right = match pair {
-            [text, count] => is_read(&reader.read(text.as_str()), text.as_str(), count.as_str()),
-            _ => false,
-        };
-        if !is_right {
+        if !is_pair(reader, pair) {
             return false;
         }
     }
     !row.is_empty()
+}
+
+/// Whether one reader does.
+pub(crate) fn are_read(alloc: Global, row: &[String]) -> bool {
+    let mut reader = ConditionReader::new(alloc);
+    are_pairs(&mut reader, row)
 }
 
 /// A fault far from the start, which prints as many spaces.

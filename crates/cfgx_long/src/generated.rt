@@ -41,28 +41,17 @@ fn spellings(alloc: Global, predicates: Predicates<'_>) -> Option<Vec<u8>> {
     Some(spellings)
 }
 
-fn is_same(one: Predicate<'_>, other: Option<Predicate<'_>>) -> bool {
-    let is_same = matches!(&other, Some(other) if one == *other);
-    drop(one);
-    drop(other);
-    is_same
+// Whether the text is parsed to the same predicates.
+fn are_asked(alloc: Global, expression: &Expression, spelled: &[u8]) -> Option<bool> {
+    let text = str::from_utf8(spelled).ok()?;
+    let spelled = Expression::parse(alloc, text).ok()?;
+    Some(expression.predicates().eq(spelled.predicates()))
 }
 
-fn are_same(predicates: Predicates<'_>, mut others: Predicates<'_>) -> bool {
-    for predicate in predicates {
-        if !is_same(predicate, others.next()) {
-            return false;
-        }
-    }
-    others.left() == 0
-}
-
-// Whether the spellings of the predicates are parsed to the same predicates.
+// Whether the spellings of the predicates are.
 fn are_spelled(alloc: Global, expression: &Expression) -> Option<bool> {
     let spellings = spellings(alloc, expression.predicates())?;
-    let text = str::from_utf8(spellings.as_slice()).ok()?;
-    let spelled = Expression::parse(alloc, text).ok()?;
-    Some(are_same(expression.predicates(), spelled.predicates()))
+    are_asked(alloc, expression, spellings.as_slice())
 }
 
 // Whether an accepted text is right in all that is said of it.
@@ -80,16 +69,26 @@ fn is_fault(alloc: Global, error: &ParseError, text: &str) -> Result<bool, Alloc
     Ok(is_inside && printed.as_str().starts_with(original))
 }
 
-// Whether the text is accepted, and whether it asks at least two predicates, as numbers to add up.
-// It is nothing if the text is not as it has to be.
-fn seen(alloc: Global, numbers: &mut Numbers, text: &str) -> Option<(usize, usize)> {
-    match Expression::parse(alloc, text) {
-        Ok(expression) if is_expression(alloc, numbers, &expression) => {
+// Whether the text was accepted, and whether it asks at least two predicates, as numbers to add up.
+// It is nothing if the answer is not as it has to be.
+fn counted(
+    alloc: Global,
+    numbers: &mut Numbers,
+    text: &str,
+    parsed: &Result<Expression, Failure>,
+) -> Option<(usize, usize)> {
+    match parsed {
+        Ok(expression) if is_expression(alloc, numbers, expression) => {
             Some((1, usize::from(expression.predicates().left() > 1)))
         }
-        Err(Failure::Parse(error)) if holds(is_fault(alloc, &error, text)) => Some((0, 0)),
+        Err(Failure::Parse(error)) if holds(is_fault(alloc, error, text)) => Some((0, 0)),
         _ => None,
     }
+}
+
+// What is to be counted of the text.
+fn seen(alloc: Global, numbers: &mut Numbers, text: &str) -> Option<(usize, usize)> {
+    counted(alloc, numbers, text, &Expression::parse(alloc, text))
 }
 
 // Texts of one seed.

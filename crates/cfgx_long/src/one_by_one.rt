@@ -15,9 +15,8 @@ fn push_grown(
     push(more, String::from_str(alloc, text))?;
     push(more, format!(in alloc; "not({text})"))?;
     for other in texts {
-        for name in ["all", "any"] {
-            push(more, format!(in alloc; "{name}({text},{other})"))?;
-        }
+        push(more, format!(in alloc; "all({text},{other})"))?;
+        push(more, format!(in alloc; "any({text},{other})"))?;
     }
     Ok(())
 }
@@ -31,11 +30,17 @@ fn grown(alloc: Global, texts: &[String]) -> Result<Vec<String>, AllocError> {
     Ok(more)
 }
 
-fn all_texts(alloc: Global) -> Result<Vec<String>, AllocError> {
+// The texts of which all others are made.
+fn first_texts(alloc: Global) -> Result<Vec<String>, AllocError> {
     let mut texts = Vec::new(alloc);
-    for text in ["x", "any()", "true", "false"] {
-        texts.push(String::from_str(alloc, text)?)?;
+    for text in &["x", "any()", "true", "false"] {
+        push(&mut texts, String::from_str(alloc, *text))?;
     }
+    Ok(texts)
+}
+
+fn all_texts(alloc: Global) -> Result<Vec<String>, AllocError> {
+    let texts = first_texts(alloc)?;
     let texts = grown(alloc, texts.as_slice())?;
     grown(alloc, texts.as_slice())
 }

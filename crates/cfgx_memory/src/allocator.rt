@@ -39,10 +39,10 @@ fn is_refused_the_second<A: Allocator>(
     let mut bytes = Vec::with_capacity(alloc, 1)?;
     bytes.push(7u8)?;
     let was_ahead = !heap.has_refused();
-    let is_refused = bytes.push(8).is_err() && heap.has_refused();
+    let is_refused = bytes.push(8).is_err() & heap.has_refused();
     let stays = bytes.as_slice() == [7].as_slice();
     bytes.push(8)?;
-    Ok(was_ahead && is_refused && stays && bytes.as_slice() == [7, 8].as_slice())
+    Ok(was_ahead & is_refused & stays & (bytes.as_slice() == [7, 8].as_slice()))
 }
 
 // Whether nothing is refused but the growth that is to be.

@@ -1,6 +1,6 @@
 //! Each growth of a call refused in turn, or all of them, and each block given back.
 use crate::holding::holds;
-use crate::refusing::{EVERY, Refusing};
+use crate::refusing::Refusing;
 use bumpalo::Bump;
 use std::alloc::{AllocError, Global};
 
@@ -43,33 +43,4 @@ where
         }
     }
     None
-}
-
-/// Whether the call takes memory and passes the test of `growths`.
-pub fn is_refused_in_turns<C>(alloc: Global, call: C) -> bool
-where
-    C: Fn(&Refusing<Bump>) -> Result<bool, AllocError>,
-    requires { C.IsAlwaysCallable call }
-{
-    growths(alloc, call).unwrap_or(0) > 0
-}
-
-/// Whether the check holds of a value that was made with memory, with every growth refused. After
-/// it the heap refuses nothing, so that the next value can be made.
-pub fn holds_without_memory<T: Drop, E: Drop, C>(
-    heap: Heap<'_>,
-    made: Result<T, E>,
-    check: C,
-) -> bool
-where
-    C: Fn(&T) -> bool,
-    requires { C.IsAlwaysCallable check }
-{
-    heap.refuse(EVERY);
-    let is_held = match &made {
-        Ok(value) => check(value),
-        Err(_) => false,
-    };
-    heap.refuse(0);
-    is_held
 }

@@ -24,10 +24,15 @@ fn passes(alloc: Global, heading: &str, row: &[String]) -> bool {
     }
 }
 
+// What is told of the file of this name.
+fn told_of(rt: &HostRuntime, name: &str) -> io::Result<String> {
+    let text = fs::read_to_string(rt, name)?;
+    Ok(tables::told(rt.alloc(), text.as_str())?)
+}
+
 fn main(rt: HostRuntime) -> io::Result<()> {
     for name in env::args(&rt)?.skip(1) {
-        let text = fs::read_to_string(&rt, name.as_str())?;
-        let told = tables::told(rt.alloc(), text.as_str())?;
+        let told = told_of(&rt, name.as_str())?;
         println!(rt; "{name}\n{told}")?;
     }
     Ok(())

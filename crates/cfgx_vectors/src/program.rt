@@ -8,7 +8,7 @@ mod target;
 
 use cfgx_testing::streams::{ALL, is_run_over};
 use cfgx_testing::triples::SIM;
-use cfgx_testing::words::is_run;
+use cfgx_testing::words::{is_run, words_of};
 use std::alloc::Global;
 
 // Whether `pick` runs as the row says.
@@ -28,19 +28,31 @@ fn is_row_picked(alloc: Global, each: usize, row: &[String]) -> bool {
 // Whether the row passes by sinks that take a few bytes a call, or all, and each call that fails is
 // the last one.
 fn has_streams(alloc: Global, row: &[String]) -> bool {
-    [1, 2, 3, 7]
-        .iter()
-        .all(|each| is_row_picked(alloc, *each, row))
-        && is_row_picked(alloc, ALL, row)
-        && failing::fail_in_turn(alloc, row)
+    for each in &[1, 2, 3, 7, ALL] {
+        if !is_row_picked(alloc, *each, row) {
+            return false;
+        }
+    }
+    failing::fail_in_turn(alloc, row)
 }
 
-// Whether a run with the words of the row reads nothing, ends and writes as the row says, and makes
-// no call after a failed one.
+// Whether a run with the words reads nothing, ends and writes as is said, and makes no call after a
+// failed one.
+fn is_unread_with(alloc: Global, words: &[&str], status: &str, written: &str) -> bool {
+    reading::reads_nothing(alloc, words, (status, written))
+        && failing::ends_at_each_write(alloc, words, "", written.as_bytes())
+}
+
+// Whether a run with the words of the row does.
 fn is_unread(alloc: Global, row: &[String]) -> bool {
-    is_run(alloc, row)
-        && reading::is_row_unread(alloc, row)
-        && failing::writes_fail_in_turn(alloc, row)
+    let [status, written, words @ ..] = row else {
+        return false;
+    };
+    let is_unread = match words_of(alloc, words) {
+        Ok(words) => is_unread_with(alloc, words.as_slice(), status.as_str(), written.as_str()),
+        Err(_) => false,
+    };
+    is_unread && is_run(alloc, row)
 }
 
 /// Whether the row passes the check of this name.

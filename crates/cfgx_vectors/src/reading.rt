@@ -4,6 +4,7 @@
 use cfg_expr::error::Failure;
 use cfg_expr::expr::{Condition, ConditionReader};
 use cfg_expr::{Expression, Predicate};
+use cfgx_testing::holding::push;
 use std::alloc::{AllocError, Global};
 
 /// Adds the texts of a row.
@@ -13,7 +14,7 @@ pub(crate) fn push_texts(
     row: &[String],
 ) -> Result<(), AllocError> {
     for text in row {
-        texts.push(text.replace(alloc, "^", "")?)?;
+        push(texts, text.replace(alloc, "^", ""))?;
     }
     Ok(())
 }
@@ -24,21 +25,23 @@ fn value_of(alloc: Global, condition: &Condition<'_>) -> Option<bool> {
     condition.eval(alloc, &mut yes).ok()
 }
 
-// Whether reading and parsing a text give the same predicates of the same stripped text, and the
-// same value, or the same fault.
+// Whether both are the same predicates of the same stripped text, with the same value.
+fn are_same(alloc: Global, condition: &Condition<'_>, expression: &Expression) -> bool {
+    let value = value_of(alloc, condition);
+    value.is_some()
+        && value == value_of(alloc, &expression.condition())
+        && condition.original() == expression.original()
+        && condition.predicates().eq(expression.predicates())
+}
+
+// Whether reading and parsing a text give the same, or the same fault.
 fn are_alike(
     alloc: Global,
     read: &Result<Condition<'_>, Failure>,
     parsed: &Result<Expression, Failure>,
 ) -> bool {
     match (read, parsed) {
-        (Ok(condition), Ok(expression)) => {
-            let value = value_of(alloc, condition);
-            value.is_some()
-                && value == value_of(alloc, &expression.condition())
-                && condition.original() == expression.original()
-                && condition.predicates().eq(expression.predicates())
-        }
+        (Ok(condition), Ok(expression)) => are_same(alloc, condition, expression),
         (Err(one), Err(other)) => one == other,
         _ => false,
     }
@@ -49,16 +52,21 @@ fn is_read_alike<'a>(alloc: Global, reader: &mut ConditionReader<'a>, text: &'a 
     are_alike(alloc, &reader.read(text), &Expression::parse(alloc, text))
 }
 
-/// How many of the texts one reader reads as parsing does: all of them, or those in front of the
-/// first that it reads otherwise.
-pub(crate) fn read_alike(alloc: Global, texts: &[String]) -> usize {
-    let mut reader = ConditionReader::new(alloc);
+// How many of the texts the reader reads as parsing does.
+fn count_alike<'a>(alloc: Global, reader: &mut ConditionReader<'a>, texts: &'a [String]) -> usize {
     let mut count = 0usize;
     for text in texts {
-        if !is_read_alike(alloc, &mut reader, text.as_str()) {
+        if !is_read_alike(alloc, reader, text.as_str()) {
             return count;
         }
         count = count.saturating_add(1);
     }
     count
+}
+
+/// How many of the texts one reader reads as parsing does: all of them, or those in front of the
+/// first that it reads otherwise.
+pub(crate) fn read_alike(alloc: Global, texts: &[String]) -> usize {
+    let mut reader = ConditionReader::new(alloc);
+    count_alike(alloc, &mut reader, texts)
 }

@@ -27,7 +27,7 @@ fn passes_alone(alloc: Global, name: &str) -> bool {
     match name {
         "equality of reasons" => printing::are_reasons_equal(),
         "equality of faults" => holds(printing::are_faults_equal(alloc)),
-        "failure" => holds(printing::is_failure(alloc)),
+        "failure" => printing::is_failure(alloc),
         "flag" => spelling::is_flag_spelled(alloc),
         "debug" => holds(stripping::is_debug(alloc)),
         _ => false,
@@ -65,9 +65,16 @@ fn passes_three(alloc: Global, check: &str, one: &str, other: &str, third: &str)
 
 /// Whether the row passes the check of this name.
 pub(crate) fn passes(alloc: Global, check: &str, row: &[String]) -> bool {
+    match check {
+        "items" => tokens::has_items(alloc, row),
+        _ => fields_pass(alloc, check, row),
+    }
+}
+
+// Whether one to three fields pass the check.
+fn fields_pass(alloc: Global, check: &str, row: &[String]) -> bool {
     match row {
-        [name] if check == "alone" => passes_alone(alloc, name.as_str()),
-        _ if check == "items" => tokens::has_items(alloc, row),
+        [name] => check == "alone" && passes_alone(alloc, name.as_str()),
         [one, other] => passes_two(alloc, check, one.as_str(), other.as_str()),
         [one, other, third] => {
             passes_three(alloc, check, one.as_str(), other.as_str(), third.as_str())

@@ -11,26 +11,38 @@
 use crate::rules::is_accepted;
 use cfgx_testing::streams::is_answer;
 use cfgx_testing::texts::repeated;
-use std::alloc::Global;
+use std::alloc::{AllocError, Global};
 
-// Whether the text without its marks asks what stands between them.
-fn asks_marked(alloc: Global, marked: &str) -> Option<bool> {
-    let text = marked.replace(alloc, "^", "").ok()?;
+// Whether `parse` of the text without its marks ends with this status and writes this.
+fn is_answered(alloc: Global, marked: &str, status: u8, written: &str) -> bool {
+    match marked.replace(alloc, "^", "") {
+        Ok(text) => is_answer(alloc, &["parse", text.as_str()], status, written),
+        Err(_) => false,
+    }
+}
+
+// Adds a line for each part of the text that is asked.
+fn push_asked(asked: &mut String, marked: &str) -> Result<(), AllocError> {
     let first = usize::from(marked.contains('^'));
-    let mut asked = String::new(alloc);
     for (place, part) in marked.split('^').enumerate() {
         if place % 2 == first && !part.is_empty() {
-            asked.push_str(part).ok()?;
-            asked.push_str("\n").ok()?;
+            asked.push_str(part)?;
+            asked.push_str("\n")?;
         }
     }
-    Some(is_answer(alloc, &["parse", text.as_str()], 0, asked.as_str()))
+    Ok(())
+}
+
+// Whether the text without its marks asks what stands between them.
+fn asks_marked(alloc: Global, marked: &str) -> bool {
+    let mut asked = String::new(alloc);
+    push_asked(&mut asked, marked).is_ok() & is_answered(alloc, marked, 0, asked.as_str())
 }
 
 /// Whether each text of the row asks what is marked in it.
 pub(crate) fn ask_marked(alloc: Global, row: &[String]) -> bool {
     for marked in row {
-        if asks_marked(alloc, marked.as_str()) != Some(true) {
+        if !asks_marked(alloc, marked.as_str()) {
             return false;
         }
     }
@@ -51,6 +63,12 @@ pub(crate) fn ask_told(alloc: Global, row: &[String]) -> bool {
     !row.is_empty()
 }
 
+// So many spaces, and the mark so many times.
+fn marks(alloc: Global, start: usize, mark: &str, length: usize) -> Result<String, AllocError> {
+    let spaces = repeated(alloc, "", " ", start, "")?;
+    repeated(alloc, spaces.as_str(), mark, length, "")
+}
+
 // What is printed for a stripped text. The message begins with its mark.
 fn printed(
     alloc: Global,
@@ -60,9 +78,8 @@ fn printed(
     message: &str,
 ) -> Option<String> {
     let (mark, reason) = message.split_once(' ')?;
-    let spaces = repeated(alloc, "\n", " ", start, "").ok()?;
-    let marks = repeated(alloc, "", mark, length, " ").ok()?;
-    format!(in alloc; "{text}{spaces}{marks}{reason}\n").ok()
+    let marks = marks(alloc, start, mark, length).ok()?;
+    format!(in alloc; "{text}\n{marks} {reason}\n").ok()
 }
 
 // The text in an outer `cfg( )`, if it stands in one, and how many bytes stand before it.
@@ -76,7 +93,7 @@ fn stripped(text: &str) -> (&str, usize) {
     }
 }
 
-// What is printed for the text without its marks, if it is refused where it is marked.
+// What is printed for the text, if it is refused where it is marked.
 fn refusal(alloc: Global, text: &str, marked: &str, message: &str) -> Option<String> {
     let (inner, taken) = stripped(text);
     let (front, rest) = marked.split_once('^')?;
@@ -84,27 +101,28 @@ fn refusal(alloc: Global, text: &str, marked: &str, message: &str) -> Option<Str
         Some((fault, _)) => fault.len(),
         None => 1,
     };
-    printed(
-        alloc,
-        inner,
-        front.len().saturating_sub(taken),
-        length,
-        message,
-    )
+    let start = front.len().saturating_sub(taken);
+    printed(alloc, inner, start, length, message)
+}
+
+// What is printed for the text without its marks.
+fn refusal_of(alloc: Global, marked: &str, message: &str) -> Option<String> {
+    let text = marked.replace(alloc, "^", "").ok()?;
+    refusal(alloc, text.as_str(), marked, message)
 }
 
 // Whether the text without its marks is refused there with this message.
-fn is_refused(alloc: Global, marked: &str, message: &str) -> Option<bool> {
-    let text = marked.replace(alloc, "^", "").ok()?;
-    let text = text.as_str();
-    let written = refusal(alloc, text, marked, message)?;
-    Some(is_answer(alloc, &["parse", text], 1, written.as_str()))
+fn is_refused(alloc: Global, marked: &str, message: &str) -> bool {
+    match refusal_of(alloc, marked, message) {
+        Some(written) => is_answered(alloc, marked, 1, written.as_str()),
+        None => false,
+    }
 }
 
 /// Whether each text of the row is refused with this message where it is marked.
 pub(crate) fn are_refused(alloc: Global, row: &[String], message: &str) -> bool {
     for marked in row {
-        if is_refused(alloc, marked.as_str(), message) != Some(true) {
+        if !is_refused(alloc, marked.as_str(), message) {
             return false;
         }
     }

@@ -28,15 +28,37 @@ pub(crate) fn told(alloc: Global, text: &str) -> Result<String, AllocError> {
         texts: Vec::new(alloc),
         told: String::new(alloc),
     };
-    for line in text.lines() {
-        tables.take_line(alloc, line)?;
-    }
-    tables.end_table(alloc)?;
-    tables.end_file(alloc)?;
+    tables.take_file(alloc, text)?;
     Ok(tables.told)
 }
 
+// Tells of a row what is wrong with it.
+fn push_row(told: &mut String, wrong: &str, row: &str) -> Result<(), AllocError> {
+    told.push_str(wrong)?;
+    told.push_str(row)?;
+    told.push_str("\n")
+}
+
+// Tells how many rows and fields a table has.
+fn push_counts(
+    alloc: Global,
+    told: &mut String,
+    heading: &str,
+    rows: usize,
+    fields: usize,
+) -> Result<(), AllocError> {
+    told.push_str(format!(in alloc; "{heading}: {rows} rows, {fields} fields\n")?.as_str())
+}
+
 impl Tables {
+    fn take_file(&mut self, alloc: Global, text: &str) -> Result<(), AllocError> {
+        for line in text.lines() {
+            self.take_line(alloc, line)?;
+        }
+        self.end_table(alloc)?;
+        self.end_file(alloc)
+    }
+
     fn take_line(&mut self, alloc: Global, line: &str) -> Result<(), AllocError> {
         if self.row.is_empty() && (line.is_empty() || line.starts_with("// ")) {
             return Ok(());
@@ -47,48 +69,51 @@ impl Tables {
             return Ok(());
         }
         let row = mem::replace(&mut self.row, String::new(alloc));
-        match row.as_str().strip_prefix("# ") {
+        self.take_row(alloc, row.as_str())
+    }
+
+    // Takes a heading or a row.
+    fn take_row(&mut self, alloc: Global, row: &str) -> Result<(), AllocError> {
+        match row.strip_prefix("# ") {
             Some(heading) => {
                 self.end_table(alloc)?;
                 self.heading.push_str(heading)
             }
-            None => self.check(alloc, row.as_str()),
+            None => self.check(alloc, row),
         }
     }
 
+    // Whether the fields pass the check of the table.
+    fn pass(&mut self, alloc: Global, fields: &[String]) -> Result<bool, AllocError> {
+        self.fields = self.fields.saturating_add(fields.len());
+        push_texts(alloc, &mut self.texts, fields)?;
+        Ok(passes(alloc, self.heading.as_str(), fields))
+    }
+
     fn check(&mut self, alloc: Global, row: &str) -> Result<(), AllocError> {
-        let (is_right, count) = match fields_of(alloc, row) {
-            Some(fields) => {
-                let fields = fields.as_slice();
-                push_texts(alloc, &mut self.texts, fields)?;
-                (passes(alloc, self.heading.as_str(), fields), fields.len())
-            }
-            None => (false, 0),
-        };
         self.rows = self.rows.saturating_add(1);
-        self.fields = self.fields.saturating_add(count);
-        if is_right {
-            return Ok(());
+        let is_right = match fields_of(alloc, row) {
+            Some(fields) => self.pass(alloc, fields.as_slice()),
+            None => Ok(false),
+        };
+        if is_right? {
+            Ok(())
+        } else {
+            push_row(&mut self.told, "wrong: ", row)
         }
-        self.told.push_str("wrong: ")?;
-        self.told.push_str(row)?;
-        self.told.push_str("\n")
     }
 
     // Tells how many rows the table has. A row without its end is a wrong one.
     fn end_table(&mut self, alloc: Global) -> Result<(), AllocError> {
         if !self.row.is_empty() {
-            self.told.push_str("unended: ")?;
-            self.told.push_str(self.row.as_str())?;
-            self.told.push_str("\n")?;
+            push_row(&mut self.told, "unended: ", self.row.as_str())?;
             self.row.clear();
         }
         if self.heading.is_empty() {
             return Ok(());
         }
-        let (heading, rows, fields) = (self.heading.as_str(), self.rows, self.fields);
-        let told = format!(in alloc; "{heading}: {rows} rows, {fields} fields\n")?;
-        self.told.push_str(told.as_str())?;
+        let heading = self.heading.as_str();
+        push_counts(alloc, &mut self.told, heading, self.rows, self.fields)?;
         self.heading.clear();
         self.rows = 0;
         self.fields = 0;

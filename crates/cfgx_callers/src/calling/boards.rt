@@ -1,9 +1,9 @@
 //! The sections that boards take, and the dependencies that they may need.
-use super::manifests::may_need;
+use super::manifests::{may_need, verdicts_on};
 use super::matcher::Board;
-use super::sections::verdicts_on;
 use super::shows;
 use cfg_expr::error::Failure;
+use cfg_expr::expr::TargetMatcher;
 use std::alloc::Global;
 
 /// A board of 16 bits without an operating system.
@@ -19,8 +19,13 @@ pub const LINUX: Board<'static> = Board {
 };
 
 // Whether the board says this of the sections of a manifest.
-fn says(alloc: Global, board: &Board<'_>, manifest: &[(&str, &str)], verdicts: &str) -> bool {
-    shows(alloc, verdicts_on(alloc, board, manifest), verdicts)
+fn says<M: TargetMatcher>(
+    alloc: Global,
+    board: &M,
+    manifest: &[(&str, &str)],
+    verdicts: &str,
+) -> bool {
+    shows(alloc, verdicts_on(alloc, manifest, board), verdicts)
 }
 
 /// Whether `BARE` and `LINUX` say this of a section with this condition.
@@ -44,13 +49,16 @@ const MANIFEST: &[(&str, &str)] = &[
     ),
 ];
 
+fn is_fault<T: Drop>(answer: Result<T, Failure>) -> bool {
+    matches!(&answer, Err(Failure::Parse(_)))
+}
+
 #[test]
 fn sections_are_picked_and_faults_refused(rt: HostRuntime) {
     let alloc = rt.alloc();
     assert!(rt; says(alloc, &BARE, MANIFEST, "[Yes, No, Unknown, No]"));
-    assert!(rt; verdicts_on(alloc, &BARE, &[("a", "b)")]).is_err());
-    let needed = may_need(alloc, &[("libc", "cfg(unix")], &BARE);
-    assert!(rt; matches!(needed, Err(Failure::Parse(_))));
+    assert!(rt; is_fault(verdicts_on(alloc, &[("a", "b)")], &BARE)));
+    assert!(rt; is_fault(may_need(alloc, &[("libc", "cfg(unix")], &BARE)));
 }
 
 const DEPENDENCIES: &[(&str, &str)] = &[

@@ -4,7 +4,8 @@ use super::lines::row_of;
 use super::manifests::{SECTIONS, VALUES};
 use super::others::{builtins_and, linux_row};
 use super::resolver::value_for;
-use cfg_expr::error::Failure;
+use cfg_expr::Expression;
+use cfg_expr::expr::TargetMatcher;
 use cfg_expr::targets::{TargetInfo, TargetTable, get_builtin_target_by_triple};
 use cfgx_testing::holding::holds;
 use cfgx_testing::triples::IOS;
@@ -30,24 +31,27 @@ const WINDOWS: &str = "debug_assertions\n\
 
 const TRIPLE: &str = "x86_64-pc-windows-msvc";
 
-// The value on the row, or false if there is none.
-fn value_on(alloc: Global, text: &str, row: Option<TargetInfo<'_>>) -> Result<bool, Failure> {
-    let value = match &row {
-        Some(row) => value_for(alloc, text, row, &["x"]),
-        None => Ok(false),
-    };
-    drop(row);
-    value
+// The value with the feature `x`. The type of the target is not known here, which makes its drop
+// short to prove.
+fn value_on<M: TargetMatcher + Drop>(
+    alloc: Global,
+    condition: &Expression,
+    target: Result<M, AllocError>,
+) -> Result<bool, AllocError> {
+    value_for(alloc, condition, &target?, &["x"])
 }
 
-/// The value on the row that the lines of a compiler make.
-pub fn value_on_windows(alloc: Global, text: &str) -> Result<bool, Failure> {
-    value_on(alloc, text, row_of(alloc, TRIPLE, WINDOWS)?)
+/// The value on the row that the lines of a compiler make, or false if there is none.
+pub fn value_on_windows(alloc: Global, condition: &Expression) -> Result<bool, AllocError> {
+    match row_of(alloc, TRIPLE, WINDOWS)? {
+        Some(row) => value_on(alloc, condition, Ok(row)),
+        None => Ok(false),
+    }
 }
 
 /// The value on the row that is written by hand.
-pub fn value_on_linux(alloc: Global, text: &str) -> Result<bool, Failure> {
-    value_on(alloc, text, Some(linux_row(alloc)?))
+pub fn value_on_linux(alloc: Global, condition: &Expression) -> Result<bool, AllocError> {
+    value_on(alloc, condition, linux_row(alloc))
 }
 
 // What stands after the first tab.
@@ -60,22 +64,22 @@ fn after_tab(line: &str) -> &str {
 
 // Whether `eval` with the lines of the compiler as FLAGs writes the value of this section.
 fn is_evaluated(alloc: Global, section: &str, told: &str) -> Result<bool, AllocError> {
-    let mut words = Vec::new(alloc);
-    words.push("eval")?;
-    words.push(after_tab(section))?;
-    for line in WINDOWS.lines() {
-        words.push(line)?;
-    }
-    words.push("?loom")?;
+    let condition = after_tab(section);
+    let words = format!(in alloc; "eval\n{condition}\n{WINDOWS}?loom")?;
+    let words: Vec<&str> = words.as_str().lines().collect(alloc)?;
     Ok(is_written(alloc, words.as_slice(), "", after_tab(told)))
 }
 
 #[test]
-fn sections_are_evaluated_with_the_lines_of_a_compiler(rt: HostRuntime) {
-    let alloc = rt.alloc();
+fn sections_are_evaluated_with_the_lines_of_a_compiler(
+    rt: HostRuntime,
+) -> Result<(), &'static str> {
     for (section, told) in SECTIONS.lines().zip(VALUES.split_inclusive('\n')) {
-        assert!(rt; holds(is_evaluated(alloc, section, told)));
+        if !holds(is_evaluated(rt.alloc(), section, told)) {
+            return Err(section);
+        }
     }
+    Ok(())
 }
 
 // Whether the built-in rows and this one make a table that has it, and one that is built in.

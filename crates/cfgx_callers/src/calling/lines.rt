@@ -18,18 +18,8 @@ pub fn row_of<'a>(
     let Some(endian) = read_endian(first(lines, "target_endian")) else {
         return Ok(None);
     };
-    let mut families = Vec::new(alloc);
-    let mut widths = Vec::new(alloc);
-    for line in lines.lines() {
-        if let Some(family) = value(line, "target_family") {
-            families.push(Family::new_const(family))?;
-        }
-        if let Some(width) = value(line, "target_has_atomic").and_then(read_has_atomic) {
-            widths.push(width)?;
-        }
-    }
-    let families = Families::new(alloc, families.into_iter())?;
-    let has_atomics = HasAtomics::new(alloc, widths.into_iter())?;
+    let families = families_of(alloc, lines)?;
+    let has_atomics = widths_of(alloc, lines)?;
     Ok(Some(TargetInfo {
         triple: Triple::new_const(triple),
         os: Some(Os::new_const(first(lines, "target_os"))),
@@ -43,6 +33,26 @@ pub fn row_of<'a>(
         has_atomics,
         panic: Panic::new_const(first(lines, "panic")),
     }))
+}
+
+fn families_of<'a>(alloc: Global, lines: &'a str) -> Result<Families<'a>, AllocError> {
+    let mut families = Vec::new(alloc);
+    for line in lines.lines() {
+        if let Some(family) = value(line, "target_family") {
+            families.push(Family::new_const(family))?;
+        }
+    }
+    Families::new(alloc, families.into_iter())
+}
+
+fn widths_of(alloc: Global, lines: &str) -> Result<HasAtomics, AllocError> {
+    let mut widths = Vec::new(alloc);
+    for line in lines.lines() {
+        if let Some(width) = value(line, "target_has_atomic").and_then(read_has_atomic) {
+            widths.push(width)?;
+        }
+    }
+    HasAtomics::new(alloc, widths.into_iter())
 }
 
 // The value that the line gives the key, without its quotes.

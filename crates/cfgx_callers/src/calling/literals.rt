@@ -1,10 +1,8 @@
 //! What literals decide.
-use cfg_expr::error::Failure;
 use cfg_expr::{Expression, Predicate};
-use std::alloc::Global;
+use std::alloc::{AllocError, Global};
 
 /// The value that literals and empty lists decide, whatever the predicates are.
-pub fn decided(alloc: Global, text: &str) -> Result<Option<bool>, Failure> {
-    let expression = Expression::parse(alloc, text)?;
-    Ok(expression.eval(alloc, &mut |_predicate: &Predicate<'_>| None)?)
+pub fn decided(alloc: Global, condition: &Expression) -> Result<Option<bool>, AllocError> {
+    condition.eval(alloc, &mut |_predicate: &Predicate<'_>| None)
 }

@@ -12,26 +12,33 @@ pub fn may_need<'a, M: TargetMatcher>(
     dependencies: &[(&'a str, &str)],
     target: &M,
 ) -> Result<Vec<&'a str>, Failure> {
-    let sections = sections_of(alloc, dependencies)?;
-    let verdicts = pick(alloc, sections.as_slice(), target)?;
+    let verdicts = verdicts_on(alloc, dependencies, target)?;
     let mut names = Vec::new(alloc);
-    for ((name, _), verdict) in dependencies.iter().zip(verdicts.as_slice()) {
+    for (dependency, verdict) in dependencies.iter().zip(verdicts.as_slice()) {
         if *verdict != Verdict::No {
-            names.push(*name)?;
+            names.push(dependency.0)?;
         }
     }
     Ok(names)
 }
 
-fn sections_of(alloc: Global, dependencies: &[(&str, &str)]) -> Result<Vec<Section>, Failure> {
+/// The verdict of the target on each dependency.
+pub fn verdicts_on<M: TargetMatcher>(
+    alloc: Global,
+    dependencies: &[(&str, &str)],
+    target: &M,
+) -> Result<Vec<Verdict>, Failure> {
     let mut sections = Vec::new(alloc);
     for (name, condition) in dependencies {
-        sections.push(Section {
-            name: String::from_str(alloc, name)?,
-            condition: Expression::parse(alloc, condition)?,
-        })?;
+        sections.push(section_of(alloc, name, condition)?)?;
     }
-    Ok(sections)
+    Ok(pick(alloc, sections.as_slice(), target)?)
+}
+
+fn section_of(alloc: Global, name: &str, condition: &str) -> Result<Section, Failure> {
+    let name = String::from_str(alloc, name)?;
+    let condition = Expression::parse(alloc, condition)?;
+    Ok(Section { name, condition })
 }
 
 /// The input that the page shows. `.ci/examples` compares its blocks of text with these texts.

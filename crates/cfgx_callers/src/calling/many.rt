@@ -5,12 +5,22 @@ use cfg_expr::{Decision, Predicate};
 use std::alloc::{AllocError, Global};
 
 /// How many of the conditions a target decides, if nothing else is known.
-pub fn count_decided<M: TargetMatcher>(
+pub fn count_decided<'a, M: TargetMatcher>(
     alloc: Global,
-    texts: &[&str],
+    texts: &[&'a str],
     target: &M,
 ) -> Result<usize, Failure> {
     let mut reader = ConditionReader::new(alloc);
+    count_read(alloc, &mut reader, texts, target)
+}
+
+/// How many of the conditions it decides, which this reader reads.
+fn count_read<'a, M: TargetMatcher>(
+    alloc: Global,
+    reader: &mut ConditionReader<'a>,
+    texts: &[&'a str],
+    target: &M,
+) -> Result<usize, Failure> {
     let mut answers = Vec::new(alloc);
     let mut decided = 0usize;
     for text in texts {

@@ -28,8 +28,7 @@ pub fn builtins_and(
     alloc: Global,
     row: TargetInfo<'static>,
 ) -> Result<Option<TargetTable<'static>>, AllocError> {
-    let mut rows = builtin_rows(alloc)?;
-    rows.push(row)?;
+    let rows = and_one(builtin_rows(alloc), row)?;
     Ok(TargetTable::from_rows(rows).ok())
 }
 
@@ -40,4 +39,11 @@ fn builtin_rows(alloc: Global) -> Result<Vec<TargetInfo<'static>>, AllocError> {
         rows.push(row.try_clone(alloc)?)?;
     }
     Ok(rows)
+}
+
+/// The list with one more item, if there is a list.
+fn and_one<T: Drop>(list: Result<Vec<T>, AllocError>, item: T) -> Result<Vec<T>, AllocError> {
+    let mut list = list?;
+    list.push(item)?;
+    Ok(list)
 }

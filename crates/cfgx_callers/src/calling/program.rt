@@ -1,7 +1,8 @@
 //! A whole program.
+use cfg_expr::Expression;
 use cfg_expr::error::Failure;
 use cfg_expr::expr::Predicates;
-use cfg_expr::{Expression, Predicate};
+use std::fmt::Debug;
 use std::io;
 
 /// Prints the predicates of a condition, or what is wrong with it.
@@ -20,8 +21,8 @@ fn print_each(rt: &HostRuntime, predicates: Predicates<'_>) -> io::Result<()> {
     Ok(())
 }
 
-fn print_line(rt: &HostRuntime, predicate: Predicate<'_>) -> io::Result<()> {
-    println!(rt; "{predicate:?}")
+fn print_line<T: Debug + Drop>(rt: &HostRuntime, value: T) -> io::Result<()> {
+    println!(rt; "{value:?}")
 }
 
 pub fn main(rt: HostRuntime) -> io::Result<()> {

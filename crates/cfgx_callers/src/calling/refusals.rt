@@ -6,11 +6,8 @@ use std::io;
 /// Prints what a text is: a fault with its reason and its bytes in the stripped text.
 pub fn report(rt: &HostRuntime, text: &str) -> io::Result<()> {
     match Expression::parse(rt.alloc(), text) {
-        Err(Failure::Parse(fault)) => {
-            let (start, end) = (fault.span.start, fault.span.end);
-            println!(rt; "{:?} at {start}..{end}", fault.reason)
-        }
+        Err(Failure::Parse(fault)) => println!(rt; "{:?} at {:?}", fault.reason, fault.span),
         Err(Failure::Memory(_)) => println!(rt; "out of memory"),
-        Ok(expression) => println!(rt; "{}", expression.original()),
+        Ok(expression) => println!(rt; "{expression}"),
     }
 }

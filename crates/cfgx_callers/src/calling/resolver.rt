@@ -1,43 +1,48 @@
 //! The value for one build: its target and its features are known.
 use super::others::linux_row;
 use cfg_expr::error::Failure;
-use cfg_expr::targets::TargetInfo;
+use cfg_expr::expr::TargetMatcher;
 use cfg_expr::{Expression, Predicate};
-use std::alloc::Global;
+use std::alloc::{AllocError, Global};
 use std::io;
 
 /// The value of a condition on a target with these features, if all else is false.
-pub fn value_for(
+pub fn value_for<M: TargetMatcher>(
     alloc: Global,
-    text: &str,
-    row: &TargetInfo<'_>,
+    condition: &Expression,
+    target: &M,
     features: &[&str],
-) -> Result<bool, Failure> {
-    let condition = Expression::parse(alloc, text)?;
-    let value = condition.eval(
+) -> Result<bool, AllocError> {
+    condition.eval(
         alloc,
-        &mut |asked: &Predicate<'_>| match asked {
-            Predicate::Target(target) => target.matches(row),
+        &mut |predicate: &Predicate<'_>| match predicate {
+            Predicate::Target(asked) => asked.matches(target),
             Predicate::Feature(name) => features.contains(name),
             _ => false,
         },
-    )?;
-    Ok(value)
+    )
 }
 
-fn print_value(rt: &HostRuntime, value: Result<bool, Failure>) -> io::Result<()> {
-    match value {
-        Ok(value) => println!(rt; "{value}"),
+/// Prints the value of a condition on a target with the feature `x`.
+fn print_value<M: TargetMatcher + Drop>(
+    rt: &HostRuntime,
+    condition: &Expression,
+    target: M,
+) -> io::Result<()> {
+    let value = value_for(rt.alloc(), condition, &target, &["x"])?;
+    println!(rt; "{value}")
+}
+
+fn print_on_linux(rt: &HostRuntime, condition: &Expression) -> io::Result<()> {
+    print_value(rt, condition, linux_row(rt.alloc())?)
+}
+
+pub fn main(rt: HostRuntime) -> io::Result<()> {
+    match Expression::parse(rt.alloc(), "all(unix, feature = \"x\")") {
+        Ok(condition) => print_on_linux(&rt, &condition),
         Err(Failure::Parse(fault)) => println!(rt; "{fault}"),
         Err(Failure::Memory(error)) => Err(error.into()),
     }
-}
-
-/// Prints the value of a condition on Linux with the feature `x`.
-pub fn main(rt: HostRuntime) -> io::Result<()> {
-    let row = linux_row(rt.alloc())?;
-    let value = value_for(rt.alloc(), "all(unix, feature = \"x\")", &row, &["x"]);
-    print_value(&rt, value)
 }
 
 #[test]

@@ -1,5 +1,5 @@
 //! A condition over many targets at once.
-use cfg_expr::error::Failure;
+use cfg_expr::expr::Predicates;
 use cfg_expr::expr::logic::Kleene64;
 use cfg_expr::targets::TargetInfo;
 use cfg_expr::{Expression, Predicate};
@@ -9,29 +9,26 @@ use std::alloc::{AllocError, Global};
 /// is `None` if there are more than 64 rows.
 pub fn on_rows(
     alloc: Global,
-    text: &str,
-    rows: &[TargetInfo],
-) -> Result<Option<Kleene64>, Failure> {
-    if rows.len() > 64 {
-        return Ok(None);
-    }
-    let expression = Expression::parse(alloc, text)?;
-    Ok(on_each(alloc, &expression, rows)?)
-}
-
-fn on_each(
-    alloc: Global,
-    expression: &Expression,
+    condition: &Expression,
     rows: &[TargetInfo],
 ) -> Result<Option<Kleene64>, AllocError> {
-    let mut answers = Vec::new(alloc);
-    for predicate in expression.predicates() {
-        answers.push(lanes(predicate, rows))?;
-    }
-    if expression.predicates().left() != answers.len() {
+    let answers = answers_of(alloc, condition.predicates(), rows)?;
+    if rows.len() > 64 || condition.predicates().left() != answers.len() {
         return Ok(None);
     }
-    Ok(Some(expression.eval_lanes(alloc, answers.as_slice())?))
+    Ok(Some(condition.eval_lanes(alloc, answers.as_slice())?))
+}
+
+fn answers_of(
+    alloc: Global,
+    predicates: Predicates<'_>,
+    rows: &[TargetInfo],
+) -> Result<Vec<Kleene64>, AllocError> {
+    let mut answers = Vec::new(alloc);
+    for predicate in predicates {
+        answers.push(lanes(predicate, rows))?;
+    }
+    Ok(answers)
 }
 
 // The predicate is dropped by name, since a drop at the end of the scope takes long to prove.

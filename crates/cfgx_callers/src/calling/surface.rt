@@ -12,7 +12,7 @@ use cfgx_engine::engine::laws::{has_an_output, has_one_output};
 use cfgx_engine::engine::streams::write_whole;
 use cfgx_syntax::stripping::strip;
 use cfgx_targets::reading::{read_endian, read_has_atomic, read_u8, read_u16};
-use cfgx_testing::holding::{all_hold, holds};
+use cfgx_testing::holding::{all_hold, gives, holds};
 use std::alloc::{AllocError, Global};
 use std::str::FromStr;
 
@@ -43,10 +43,15 @@ fn has_widths(alloc: Global) -> Result<bool, AllocError> {
     Ok(has_eight && !has_more)
 }
 
+// The type of the values is not known here, which makes their drops short to prove.
+fn are_equal<T: PartialEq + Drop>(one: T, other: T) -> bool {
+    one == other
+}
+
 // Whether a text is read alike twice, and another text is read otherwise.
 fn are_compared(alloc: Global) -> bool {
-    HasAtomic::read(alloc, "x") == HasAtomic::read(alloc, "x")
-        && HasAtomic::read(alloc, "x") != HasAtomic::read(alloc, "y")
+    are_equal(HasAtomic::read(alloc, "x"), HasAtomic::read(alloc, "x"))
+        && !are_equal(HasAtomic::read(alloc, "x"), HasAtomic::read(alloc, "y"))
 }
 
 fn are_widths_read(alloc: Global) -> bool {
@@ -62,8 +67,7 @@ fn is_made(alloc: Global) -> bool {
     }
 }
 
-// Whether the value is equal to one, and above the other. Their type is not known here, which makes
-// their drops short to prove.
+// Whether the value is equal to one, and above the other. Their type is not known here either.
 fn is_between<T: PartialOrd + Drop>(value: &T, same: T, below: T) -> bool {
     *value == same && *value > below
 }
@@ -79,7 +83,7 @@ fn is_stripped(alloc: Global) -> bool {
 
 fn is_copied(alloc: Global) -> Result<bool, AllocError> {
     let os = Os::new(String::from_str(alloc, "linux")?);
-    Ok(is_linux(&os) && os.try_clone(alloc)? == os)
+    Ok(is_linux(&os) && holds(gives(os.try_clone(alloc), &os)))
 }
 
 #[test]

@@ -1,22 +1,23 @@
 //! The value on a built-in target.
-use cfg_expr::error::Failure;
 use cfg_expr::targets::{TargetTable, get_builtin_target_by_triple};
 use cfg_expr::{Expression, Predicate};
-use std::alloc::Global;
+use std::alloc::{AllocError, Global};
 
 /// The value on a built-in target: `None` if it is unknown, and for any other triple.
-pub fn value_on(alloc: Global, text: &str, triple: &str) -> Result<Option<bool>, Failure> {
+pub fn value_on(
+    alloc: Global,
+    condition: &Expression,
+    triple: &str,
+) -> Result<Option<bool>, AllocError> {
     let table = TargetTable::builtins(alloc)?;
-    let condition = Expression::parse(alloc, text)?;
     let Some(row) = get_builtin_target_by_triple(&table, triple) else {
         return Ok(None);
     };
-    let value = condition.eval(
+    condition.eval(
         alloc,
         &mut |asked: &Predicate<'_>| match asked {
             Predicate::Target(target) => Some(target.matches(row)),
             _ => None,
         },
-    )?;
-    Ok(value)
+    )
 }

@@ -98,14 +98,16 @@ fn wrapped(alloc: Global, numbers: &mut Numbers) -> Result<String, AllocError> {
     format!(in alloc; "cfg({inner})")
 }
 
-// A condition in which one token stands in the place of some characters.
-fn damaged(alloc: Global, numbers: &mut Numbers) -> Result<String, AllocError> {
-    let whole = condition(alloc, numbers)?;
-    let start = numbers.below(whole.len());
-    let end = start.saturating_add(numbers.below(4));
-    let mut token = Some(numbers.one_of(TOKENS));
-    let mut text = String::new(alloc);
-    for (place, character) in whole.as_str().char_indices() {
+// Writes the text with the token in the place of the characters between these places.
+fn push_damaged(
+    text: &mut String,
+    whole: &str,
+    start: usize,
+    end: usize,
+    token: &str,
+) -> Result<(), AllocError> {
+    let mut token = Some(token);
+    for (place, character) in whole.char_indices() {
         if place >= start {
             text.push_str(token.take().unwrap_or(""))?;
         }
@@ -113,7 +115,18 @@ fn damaged(alloc: Global, numbers: &mut Numbers) -> Result<String, AllocError> {
             text.push(character)?;
         }
     }
-    Ok(text)
+    Ok(())
+}
+
+// A condition in which one token stands in the place of some characters.
+fn damaged(alloc: Global, numbers: &mut Numbers) -> Result<String, AllocError> {
+    let whole = condition(alloc, numbers)?;
+    let start = numbers.below(whole.len());
+    let end = start.saturating_add(numbers.below(4));
+    let mut text = String::new(alloc);
+    let token = numbers.one_of(TOKENS);
+    let pushed = push_damaged(&mut text, whole.as_str(), start, end, token);
+    pushed.and(Ok(text))
 }
 
 // A character of one to four bytes, most often of one byte. A surrogate is none.

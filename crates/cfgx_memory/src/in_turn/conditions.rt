@@ -1,17 +1,16 @@
 //! Conditions that are read, copied and evaluated.
 use super::decisions::{is_audited, is_decided, is_decided_on};
-use super::reading::is_read;
 use super::runs::is_run_in_turns;
-use super::{Finding, Made};
+use super::{Call, Finding, Made, all_are, growths_of, is_none};
 use cfg_expr::error::{Failure, ParseError};
-use cfg_expr::expr::lexer::{Lexer, Token};
+use cfg_expr::expr::lexer::{Lexer, LexerToken, Token};
 use cfg_expr::expr::logic::Kleene64;
 use cfg_expr::expr::{Predicates, TargetMatcher};
 use cfg_expr::memory::SmallAllocator;
 use cfg_expr::{Expression, Predicate, TargetPredicate};
 use cfgx_engine::resolve::{Section, Verdict, pick};
-use cfgx_testing::heap::{empty_heap, growths, has_every_block, is_refused_in_turns};
-use cfgx_testing::holding::holds;
+use cfgx_testing::heap::{empty_heap, has_every_block};
+use cfgx_testing::holding::{gives, holds};
 use cfgx_testing::rows::is_fault;
 use cfgx_testing::triples::IOS;
 use std::alloc::{AllocError, Global};
@@ -20,6 +19,7 @@ use std::alloc::{AllocError, Global};
 /// its predicates, the text, and what it is stripped to if that is not the text. What is evaluated
 /// is true if all its predicates are, false if all are false, and asks nothing of targets.
 pub(super) const TEXTS: &str = r#"
+lexed | U[`<key>` `all` `any` `not`] at 2..3 | a 8 b
 read | U[`<key>` `all` `any` `not`] at 2..3 | a 8 b
 read | UnopenedParens at 3..4 | key)
 read | UnclosedQuotes at 6..10 | key = "abc
@@ -90,25 +90,33 @@ fn are_alike<A: SmallAllocator, B: SmallAllocator>(
     one.original() == other.original() && ask_alike(one.predicates(), other.predicates())
 }
 
-// The first token of `a 8 b`, and the fault after it. Either this fault or a refused growth ends
-// the lexer.
-fn lexes<A: SmallAllocator>(alloc: A) -> Finding {
-    let mut lexer = Lexer::new(alloc, "a 8 b");
-    let is_first = matches!(lexer.next(), Some(Ok(item)) if item.token == Token::Key("a"));
-    let second = lexer.next();
-    if !is_first || lexer.next().is_some() || lexer.items_left_bound() > 0 {
-        return Ok(false);
+/// What a lexer gives.
+pub(crate) type Item<'t, A> = Option<Result<LexerToken<'t>, Failure<A>>>;
+
+// Whether it is the first token of `a 8 b`.
+fn is_first<A: SmallAllocator>(item: &Item<'_, A>) -> bool {
+    match item {
+        Some(Ok(item)) => item.token == Token::Key("a"),
+        _ => false,
     }
-    match second {
-        Some(Err(Failure::Memory(error))) => Err(error),
+}
+
+// Whether it is the fault after that token.
+fn is_second<A: SmallAllocator>(item: &Item<'_, A>) -> Finding {
+    match item {
         Some(Err(Failure::Parse(error))) => Ok(error.span.start == 2 && error.span.end == 3),
+        Some(Err(Failure::Memory(_))) => Err(AllocError),
         _ => Ok(false),
     }
 }
 
-#[test]
-fn a_refused_growth_ends_the_lexer(rt: HostRuntime) {
-    assert!(rt; is_refused_in_turns(rt.alloc(), |heap| lexes(heap)));
+/// Whether the lexer of the text gives both of them. Either this fault or a refused growth ends it.
+pub(super) fn lexes<A: SmallAllocator>(alloc: A, text: &str) -> Finding {
+    let mut lexer = Lexer::new(alloc, text);
+    let is_first = is_first(&lexer.next());
+    let is_second = is_second(&lexer.next());
+    let has_ended = is_none(lexer.next()) & (lexer.items_left_bound() == 0);
+    all_are(&[Ok(is_first), Ok(has_ended), is_second])
 }
 
 /// Whether the faults are equal.
@@ -146,10 +154,14 @@ fn answer_after<A: SmallAllocator>(alloc: A, call: &str, read: &Read<A>, plain: 
     }
 }
 
-// What the call answers for a text, of which this was read with memory.
-fn answer_to<A: SmallAllocator>(alloc: A, call: &str, text: &str, plain: &Read) -> Finding {
+/// What the call answers for a text, of which this was read with memory.
+pub(super) fn answer_to<A: SmallAllocator>(
+    alloc: A,
+    call: &str,
+    text: &str,
+    plain: &Read,
+) -> Finding {
     let read = match call {
-        "read" => return is_read(alloc, text, plain),
         "from_str" => Expression::from_str(alloc, text),
         _ => parsed(alloc, text),
     };
@@ -190,10 +202,12 @@ fn is_true<A: SmallAllocator>(alloc: A, expression: &Expression<A>) -> Finding {
             true
         },
     );
-    match value {
-        Err(_) if count > 0 => Ok(false),
-        value => Ok(value? && count == expression.predicates().left()),
-    }
+    let asked = if value.is_ok() {
+        expression.predicates().left()
+    } else {
+        0
+    };
+    if count == asked { value } else { Ok(false) }
 }
 
 // Whether the filling has this value, this many times.
@@ -206,17 +220,26 @@ pub(super) fn are_polar(if_true: &[bool], if_false: &[bool], count: usize) -> bo
     are(if_true, true, count) && are(if_false, false, count)
 }
 
-// Whether there are two fillings, if no answer is known: all true makes the text true, and all
-// false makes it false. No text that is evaluated has more than 100 predicates.
+/// Unknown answers. No text that is evaluated has more predicates.
+pub(super) const UNKNOWN: &[Option<bool>] = &[None; 100];
+
+/// Two fillings, if the value is unknown.
+type Fillings<A> = Option<(Vec<bool, A>, Vec<bool, A>)>;
+
+// Whether all true makes the text true, and all false makes it false.
+fn are_both<A: SmallAllocator>(fillings: &Made<Fillings<A>>, count: usize) -> Finding {
+    match fillings {
+        Ok(Some((one, other))) => Ok(are_polar(one.as_slice(), other.as_slice(), count)),
+        Ok(None) => Ok(false),
+        Err(_) => Err(AllocError),
+    }
+}
+
+// Whether these are the fillings if no answer is known.
 fn is_filled<A: SmallAllocator>(alloc: A, expression: &Expression<A>) -> Finding {
     let count = expression.predicates().left();
-    let Some(answers) = [None; 100].get(..count) else {
-        return Ok(false);
-    };
-    match expression.polar_fillings(alloc, answers)? {
-        Some((with_true, with_false)) => {
-            Ok(are_polar(with_true.as_slice(), with_false.as_slice(), count))
-        }
+    match UNKNOWN.get(..count) {
+        Some(answers) => are_both(&expression.polar_fillings(alloc, answers), count),
         None => Ok(false),
     }
 }
@@ -227,7 +250,7 @@ fn is_each<A: SmallAllocator>(alloc: A, expression: &Expression<A>) -> Finding {
     let each = Kleene64::new(0b001, 0b010);
     let count = expression.predicates().left();
     match [each; 100].get(..count) {
-        Some(answers) => Ok(expression.eval_lanes(alloc, answers)? == each),
+        Some(answers) => gives(expression.eval_lanes(alloc, answers), &each),
         None => Ok(false),
     }
 }
@@ -264,32 +287,39 @@ fn sections_of<A: SmallAllocator>(alloc: A, texts: &[&str]) -> Made<Vec<Section<
     Ok(sections)
 }
 
-// Whether this is the section of the text.
-fn is_of<A: SmallAllocator>(section: &Section<A>, text: &str) -> bool {
-    section.name.as_str() == text && section.condition.original() == text
+// Whether the section at this place is that of the text.
+fn is_at<A: SmallAllocator>(sections: &[Section<A>], place: usize, text: &str) -> bool {
+    match sections.get(place) {
+        Some(section) => section.name.as_str() == text && section.condition.original() == text,
+        None => false,
+    }
 }
 
 // Whether these are the sections of the texts.
 fn are_of<A: SmallAllocator>(sections: &[Section<A>], texts: &[&str; 3]) -> bool {
-    match sections {
-        [one, other, third] => {
-            is_of(one, texts[0]) && is_of(other, texts[1]) && is_of(third, texts[2])
-        }
-        _ => false,
+    sections.len() == 3
+        && is_at(sections, 0, texts[0])
+        && is_at(sections, 1, texts[1])
+        && is_at(sections, 2, texts[2])
+}
+
+/// Whether these are the items, if there is no error.
+pub(super) fn lists<T: PartialEq + Drop, A: SmallAllocator>(
+    made: &Made<Vec<T, A>>,
+    items: &[T],
+) -> Finding {
+    match made {
+        Ok(list) => Ok(list.as_slice() == items),
+        Err(_) => Err(AllocError),
     }
 }
 
-// Whether these are the verdicts on the three sections.
-fn are_wanted<A: SmallAllocator>(verdicts: Made<Vec<Verdict, A>>) -> Finding {
-    let wanted = [Verdict::Unknown, Verdict::No, Verdict::Yes];
-    Ok(verdicts?.as_slice() == wanted.as_slice())
-}
-
-// Whether they are. Out of memory too the sections stay as they were.
+// The verdicts on the three sections. Out of memory too the sections stay as they were.
 fn are_picked<A: SmallAllocator>(alloc: A, sections: &[Section<A>], texts: &[&str; 3]) -> Finding {
-    let are_wanted = are_wanted(pick(alloc, sections, &Nowhere));
+    let wanted = [Verdict::Unknown, Verdict::No, Verdict::Yes];
+    let are_picked = lists(&pick(alloc, sections, &Nowhere), wanted.as_slice());
     if are_of(sections, texts) {
-        are_wanted
+        are_picked
     } else {
         Ok(false)
     }
@@ -301,7 +331,8 @@ fn are_picked_twice<A: SmallAllocator>(
     sections: &[Section<A>],
     texts: &[&str; 3],
 ) -> Finding {
-    Ok(are_picked(alloc, sections, texts)? && are_picked(alloc, sections, texts)?)
+    let once = are_picked(alloc, sections, texts);
+    all_are(&[once, are_picked(alloc, sections, texts)])
 }
 
 fn is_picked<A: SmallAllocator>(alloc: A, text: &str) -> Finding {
@@ -322,15 +353,10 @@ fn is_plain(alloc: Global, plain: &Read, answer: &str, original: &str) -> bool {
     }
 }
 
-// How many growths the call takes.
-fn growths_of(alloc: Global, call: &str, text: &str, plain: &Read) -> Option<u64> {
-    growths(alloc, |heap| answer_to(heap, call, text, plain))
-}
-
 // Whether each growth of each of the calls is refused in turn.
 fn are_refused(alloc: Global, calls: &str, text: &str, plain: &Read) -> bool {
     for call in calls.split(' ') {
-        if growths_of(alloc, call, text, plain).unwrap_or(0) == 0 {
+        if growths_of(alloc, Call::Parsed(call, text, plain)).unwrap_or(0) == 0 {
             return false;
         }
     }
@@ -348,7 +374,7 @@ fn runs_are_refused(alloc: Global, text: &str, status: u8) -> bool {
 // Whether an expression of the text is equal to its copy.
 fn is_copied_once(alloc: Global, text: &str, plain: &Read) -> bool {
     let heap = empty_heap(alloc);
-    holds(answer_to(&heap, "try_clone", text, plain)) && has_every_block(heap)
+    holds(answer_to(&heap, "try_clone", text, plain)) & has_every_block(heap)
 }
 
 // Whether each growth of each of the calls, of a reader, and of runs over the text, is refused in
@@ -356,7 +382,7 @@ fn is_copied_once(alloc: Global, text: &str, plain: &Read) -> bool {
 fn is_run(alloc: Global, calls: &str, text: &str, plain: &Read) -> bool {
     let status = if plain.is_ok() { 0 } else { 1 };
     are_refused(alloc, calls, text, plain)
-        && growths_of(alloc, "read", text, plain).is_some()
+        && growths_of(alloc, Call::Read(text, plain)).is_some()
         && runs_are_refused(alloc, text, status)
 }
 
@@ -367,8 +393,9 @@ const CALLS: &str =
 // Whether each growth of each call with a text of this kind is refused in turn.
 fn is_kind(alloc: Global, kind: &str, text: &str, plain: &Read) -> bool {
     match kind {
-        "parsed in 1" => growths_of(alloc, "parse", text, plain) == Some(1),
-        "parsed in 2" => growths_of(alloc, "parse", text, plain) == Some(2),
+        "parsed in 1" => growths_of(alloc, Call::Parsed("parse", text, plain)) == Some(1),
+        "parsed in 2" => growths_of(alloc, Call::Parsed("parse", text, plain)) == Some(2),
+        "lexed" => growths_of(alloc, Call::Lexed(text)).unwrap_or(0) > 0,
         "large" => is_copied_once(alloc, text, plain),
         "scanned" => are_refused(alloc, "parse from_str", text, plain),
         "read" => is_run(alloc, "parse from_str", text, plain),
@@ -386,5 +413,5 @@ pub(super) fn is_row(alloc: Global, fields: &[String]) -> bool {
     };
     let plain = parsed(alloc, text.as_str());
     is_plain(alloc, &plain, answer.as_str(), original.as_str())
-        && is_kind(alloc, kind.as_str(), text.as_str(), &plain)
+        & is_kind(alloc, kind.as_str(), text.as_str(), &plain)
 }

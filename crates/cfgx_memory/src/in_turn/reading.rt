@@ -1,6 +1,7 @@
 //! Conditions that one reader reads one after another.
-use super::Finding;
 use super::conditions::{Read, are_same, ask_alike};
+use super::{Finding, all_are};
+use cfg_expr::Expression;
 use cfg_expr::error::Failure;
 use cfg_expr::expr::{Condition, ConditionReader};
 use cfg_expr::memory::SmallAllocator;
@@ -10,16 +11,16 @@ use std::alloc::AllocError;
 /// What reading answers.
 type Answer<'c, A> = Result<Condition<'c>, Failure<A>>;
 
+// Whether both have the same text and the same predicates.
+fn ask_the_same<A: SmallAllocator>(condition: &Condition<'_>, expression: &Expression<A>) -> bool {
+    condition.original() == expression.original()
+        && ask_alike(condition.predicates(), expression.predicates())
+}
+
 // Whether reading answers what parsing answered.
-fn is_alike<A: SmallAllocator, B: SmallAllocator>(
-    answer: &Answer<'_, A>,
-    parsed: &Read<B>,
-) -> Finding {
+fn is_alike<A: SmallAllocator>(answer: &Answer<'_, A>, parsed: &Read) -> Finding {
     match (answer, parsed) {
-        (Ok(condition), Ok(expression)) => Ok(
-            condition.original() == expression.original()
-                && ask_alike(condition.predicates(), expression.predicates()),
-        ),
+        (Ok(condition), Ok(expression)) => Ok(ask_the_same(condition, expression)),
         (Err(Failure::Parse(error)), Err(Failure::Parse(fault))) => Ok(are_same(error, fault)),
         (Err(Failure::Memory(_)), _) => Err(AllocError),
         _ => Ok(false),
@@ -28,10 +29,10 @@ fn is_alike<A: SmallAllocator, B: SmallAllocator>(
 
 /// Whether the reader answers what parsing answered. Out of memory, it has to answer so when it
 /// reads the text again.
-pub(crate) fn reads<'t, A: SmallAllocator, B: SmallAllocator>(
+pub(crate) fn reads<'t, A: SmallAllocator>(
     reader: &mut ConditionReader<'t, A>,
     text: &'t str,
-    parsed: &Read<B>,
+    parsed: &Read,
 ) -> Finding {
     let answer = is_alike(&reader.read(text), parsed);
     if answer.is_ok() || holds(is_alike(&reader.read(text), parsed)) {
@@ -51,20 +52,19 @@ fn refuses<A: SmallAllocator>(reader: &mut ConditionReader<'_, A>) -> Finding {
 }
 
 // Whether the reader answers what parsing answered, before it reads a faulty text and after it.
-fn reads_twice<'t, A: SmallAllocator, B: SmallAllocator>(
+fn reads_twice<'t, A: SmallAllocator>(
     reader: &mut ConditionReader<'t, A>,
     text: &'t str,
-    parsed: &Read<B>,
+    parsed: &Read,
 ) -> Finding {
-    Ok(reads(reader, text, parsed)? && refuses(reader)? && reads(reader, text, parsed)?)
+    let before = reads(reader, text, parsed);
+    let refuses = refuses(reader);
+    let after = reads(reader, text, parsed);
+    all_are(&[before, refuses, after])
 }
 
 /// Whether one reader does.
-pub(super) fn is_read<A: SmallAllocator, B: SmallAllocator>(
-    alloc: A,
-    text: &str,
-    parsed: &Read<B>,
-) -> Finding {
+pub(super) fn is_read<A: SmallAllocator>(alloc: A, text: &str, parsed: &Read) -> Finding {
     let mut reader = ConditionReader::new(alloc);
     reads_twice(&mut reader, text, parsed)
 }

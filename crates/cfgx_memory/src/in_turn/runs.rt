@@ -1,8 +1,8 @@
 //! Runs of the program, and wrong use, which takes no memory.
-use super::Finding;
+use super::{Call, Finding, growths_of};
 use cfg_expr::memory::SmallAllocator;
 use cfgx_engine::engine::run;
-use cfgx_testing::heap::{empty_heap, growths, has_every_block};
+use cfgx_testing::heap::{empty_heap, has_every_block};
 use cfgx_testing::refusing::EVERY;
 use cfgx_testing::streams::{ALL, Pieces, Recorder, USAGE, is_left_so, is_written};
 use cfgx_testing::triples::SIM;
@@ -10,7 +10,7 @@ use cfgx_testing::words::words_of;
 use std::alloc::{AllocError, Global};
 
 /// An input, the status of a run over it, and what it writes.
-type Wanted<'a> = (&'a str, u8, &'a [u8]);
+pub(super) type Wanted<'a> = (&'a str, u8, &'a [u8]);
 
 // How a run over the input ends: its status, what is left of the input, and what it wrote.
 fn ended<'i, A: SmallAllocator>(
@@ -25,35 +25,39 @@ fn ended<'i, A: SmallAllocator>(
     (status, source, sink)
 }
 
-// A run that ends as it has to with memory, all its input read, or out of memory: what it read then
-// stays read, and its sink was not called.
-fn is_run<A: SmallAllocator>(
+// Whether it ended as it has to with memory, all its input read, or out of memory: what it read
+// then stays read, and its sink was not called.
+fn is_end(end: &(u8, Pieces<'_>, Recorder), wanted: &Wanted<'_>) -> Finding {
+    let (status, source, sink) = end;
+    if source.failures != 0 || !wanted.0.as_bytes().ends_with(source.left) {
+        Ok(false)
+    } else if *status == 3 && is_left_so(sink, b"", (0, 0), 0) {
+        Err(AllocError)
+    } else {
+        Ok(is_written(sink, wanted.2) && *status == wanted.1 && source.left.is_empty())
+    }
+}
+
+/// Whether a run with these words ends so.
+pub(super) fn is_run<A: SmallAllocator>(
     out: Global,
     alloc: A,
     words: &[&str],
     wanted: &Wanted<'_>,
 ) -> Finding {
-    let (input, wanted_status, written) = *wanted;
-    let (status, source, sink) = ended(out, alloc, words, input);
-    if source.failures != 0 || !input.as_bytes().ends_with(source.left) {
-        Ok(false)
-    } else if status == 3 && is_left_so(&sink, b"", (0, 0), 0) {
-        Err(AllocError)
-    } else {
-        Ok(is_written(&sink, written) && status == wanted_status && source.left.is_empty())
-    }
+    is_end(&ended(out, alloc, words, wanted.0), wanted)
 }
 
 // How many growths a run takes that ends so, each of which is refused in turn.
-fn growths_of(alloc: Global, words: &[&str], wanted: &Wanted<'_>) -> u64 {
-    growths(alloc, |heap| is_run(alloc, heap, words, wanted)).unwrap_or(0)
+fn growths_of_run(alloc: Global, words: &[&str], wanted: &Wanted<'_>) -> u64 {
+    growths_of(alloc, Call::Run(words, wanted)).unwrap_or(0)
 }
 
 /// Whether each growth of a run that ends with this status is refused in turn. It writes what a run
 /// with memory does.
 pub(super) fn is_run_in_turns(alloc: Global, words: &[&str], status: u8) -> bool {
     let (ended, _source, sink) = ended(alloc, alloc, words, "");
-    ended == status && growths_of(alloc, words, &("", status, sink.bytes.as_slice())) > 0
+    ended == status && growths_of_run(alloc, words, &("", status, sink.bytes.as_slice())) > 0
 }
 
 /// How a run is made, its status, and its words. For `pick` on the simulator: the input of a run
@@ -115,22 +119,39 @@ fn is_without(alloc: Global, words: &[&str], status: u8) -> bool {
     is_ended && has_every_block(heap)
 }
 
+// How many growths a run with these words takes, in front of which stands what it writes.
+fn growths_after(alloc: Global, status: u8, words: &[&str]) -> u64 {
+    match words {
+        [written, words @ ..] => growths_of_run(alloc, words, &("", status, written.as_bytes())),
+        [] => 0,
+    }
+}
+
+// How many growths a run of `pick` takes, of an input and what it writes of it.
+fn growths_of_pick(alloc: Global, status: u8, run: &[&str]) -> u64 {
+    match run {
+        [input, written] => {
+            growths_of_run(alloc, &["pick", SIM], &(*input, status, written.as_bytes()))
+        }
+        _ => 0,
+    }
+}
+
+// Whether two runs of `pick` take as many growths.
+fn are_alike(alloc: Global, status: u8, runs: &[&str]) -> bool {
+    let (one, other) = runs.split_at(runs.len().min(2));
+    let growths = growths_of_pick(alloc, status, one);
+    growths > 0 && growths_of_pick(alloc, status, other) == growths
+}
+
 // Whether a run that is made so ends so.
 fn is_right(alloc: Global, made: &str, status: u8, words: &[&str]) -> bool {
-    match (made, words) {
-        ("in turns", _) => is_run_in_turns(alloc, words, status),
-        ("in 11 turns", [written, words @ ..]) => {
-            growths_of(alloc, words, &("", status, written.as_bytes())) == 11
-        }
-        ("pick", [input, written]) => {
-            growths_of(alloc, &["pick", SIM], &(*input, status, written.as_bytes())) > 0
-        }
-        ("pick alike", [input, written, longer, more]) => {
-            let growths = growths_of(alloc, &["pick", SIM], &(*input, status, written.as_bytes()));
-            let others = growths_of(alloc, &["pick", SIM], &(*longer, status, more.as_bytes()));
-            growths > 0 && growths == others
-        }
-        ("without", _) => is_without(alloc, words, status),
+    match made {
+        "in turns" => is_run_in_turns(alloc, words, status),
+        "in 11 turns" => growths_after(alloc, status, words) == 11,
+        "pick" => growths_of_pick(alloc, status, words) > 0,
+        "pick alike" => are_alike(alloc, status, words),
+        "without" => is_without(alloc, words, status),
         _ => false,
     }
 }

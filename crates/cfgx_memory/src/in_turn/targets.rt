@@ -6,12 +6,9 @@ use cfg_expr::targets::{
     Families, Family, HasAtomic, HasAtomicFailure, HasAtomics, TargetInfo, TargetTable,
 };
 use cfgx_fields::Field;
-use cfgx_testing::heap::{empty_heap, has_every_block, is_refused_in_turns};
-use cfgx_testing::holding::{gives, holds, prints, push};
-use cfgx_testing::texts::repeated;
+use cfgx_testing::holding::{gives, prints, push};
 use std::alloc::{AllocError, Global};
 use std::fmt::Display;
-use std::test::Fail;
 
 // Whether this is a copy of the value, and both print this.
 fn is_given<T: PartialEq + Display + Drop>(
@@ -80,6 +77,14 @@ fn copies_many_families<A: SmallAllocator>(alloc: A, names: &str) -> Finding {
     if is_long { is_copied } else { Ok(false) }
 }
 
+/// A list of 10,000 members, and its copy.
+pub(super) fn copies_many<A: SmallAllocator>(alloc: A, name: &str, text: &str) -> Finding {
+    match name {
+        "families" => copies_many_families(alloc, text),
+        _ => copies_many_widths(alloc),
+    }
+}
+
 /// The fault of a text that is no width.
 pub(crate) fn no_width<A: SmallAllocator>(alloc: A) -> Made<NoWidth<A>> {
     match HasAtomic::read(alloc, "PTR") {
@@ -88,7 +93,8 @@ pub(crate) fn no_width<A: SmallAllocator>(alloc: A) -> Made<NoWidth<A>> {
     }
 }
 
-fn copies_a_fault<A: SmallAllocator>(out: Global, alloc: A, text: &str) -> Finding {
+/// That fault, which prints this.
+pub(super) fn copies_a_fault<A: SmallAllocator>(out: Global, alloc: A, text: &str) -> Finding {
     let fault = no_width(alloc)?;
     is_given(out, fault.try_clone(alloc), fault, text)
 }
@@ -122,30 +128,24 @@ fn own_some<'a, K: Drop, A: SmallAllocator>(
     put(field, some_owned(alloc))
 }
 
-// A function that writes to many fields takes long to prove, so there are three.
-fn own_names<'a, A: SmallAllocator + 'a>(alloc: A, row: &mut TargetInfo<'a, A>) -> Made<()> {
-    own(alloc, &mut row.triple)?;
-    own(alloc, &mut row.arch)?;
-    own(alloc, &mut row.panic)
-}
-
-fn own_platform<'a, A: SmallAllocator + 'a>(alloc: A, row: &mut TargetInfo<'a, A>) -> Made<()> {
-    own_some(alloc, &mut row.os)?;
-    own_some(alloc, &mut row.abi)?;
-    own_some(alloc, &mut row.env)?;
-    own_some(alloc, &mut row.vendor)
-}
-
-fn own_lists<'a, A: SmallAllocator + 'a>(alloc: A, row: &mut TargetInfo<'a, A>) -> Made<()> {
-    put(&mut row.families, families(alloc, "wasm unix"))?;
-    put(&mut row.has_atomics, widths(alloc, 10))
-}
-
-// Makes the row own all its texts and lists.
+// Makes the row own all its texts and lists. Each part is tried, also after a refused one.
 fn own_all<'a, A: SmallAllocator + 'a>(alloc: A, row: &mut TargetInfo<'a, A>) -> Made<()> {
-    own_names(alloc, row)?;
-    own_platform(alloc, row)?;
-    own_lists(alloc, row)
+    let parts = [
+        own(alloc, &mut row.triple),
+        own(alloc, &mut row.arch),
+        own(alloc, &mut row.panic),
+        own_some(alloc, &mut row.os),
+        own_some(alloc, &mut row.abi),
+        own_some(alloc, &mut row.env),
+        own_some(alloc, &mut row.vendor),
+        put(&mut row.families, families(alloc, "wasm unix")),
+        put(&mut row.has_atomics, widths(alloc, 10)),
+    ];
+    if parts.contains(&Err(AllocError)) {
+        Err(AllocError)
+    } else {
+        Ok(())
+    }
 }
 
 // Whether the row, once it owns all, is equal to its copy.
@@ -175,87 +175,54 @@ fn copies_a_row<'a, A: SmallAllocator + 'a>(alloc: A, row: &TargetInfo<'a, A>) -
 
 // Whether the first of five rows is.
 fn copies_the_first<A: SmallAllocator>(alloc: A, rows: &[TargetInfo<'_, A>]) -> Finding {
-    match rows {
-        [row, _, _, _, _] => copies_a_row(alloc, row),
+    match rows.first() {
+        Some(row) if rows.len() == 5 => copies_a_row(alloc, row),
         _ => Ok(false),
     }
 }
 
-fn copies_from_the_table<A: SmallAllocator>(alloc: A) -> Finding {
+/// The rows that are built in.
+pub(super) fn copies_from_the_table<A: SmallAllocator>(alloc: A) -> Finding {
     let table = TargetTable::builtins(alloc)?;
     copies_the_first(alloc, table.rows())
 }
 
-/// What is made and copied, and what it prints, or nothing if that is not compared.
-pub(super) const CALLS: &str = r#"
-unix | {unix}
-unix and wasm | {unix, wasm}
-wasm | {wasm}
-windows | {windows}
-families | {, b, unix, wasm}
-up to 128 | {8, 16, 32, 64, 128, ptr}
-up to 64 | {8, 16, 32, 64, ptr}
-up to 32 | {8, 16, 32, ptr}
-widths | {8, ptr}
-many widths | \e
-a fault | expected integer or "ptr", found PTR
-a row | \e
-"#;
-
-fn copies_families<A: SmallAllocator>(out: Global, alloc: A, call: &str, text: &str) -> Finding {
-    let made = match call {
+// A list of this name.
+fn named<'a, A: SmallAllocator + 'a>(alloc: A, name: &str) -> Made<Families<'a, A>> {
+    match name {
         "unix" => Families::unix(alloc),
         "unix and wasm" => Families::unix_wasm(alloc),
         "wasm" => Families::wasm(alloc),
         "windows" => Families::windows(alloc),
         _ => families(alloc, "wasm unix b "),
-    };
-    let list = made?;
+    }
+}
+
+/// A list of this name, which prints this.
+pub(super) fn copies_families<A: SmallAllocator>(
+    out: Global,
+    alloc: A,
+    name: &str,
+    text: &str,
+) -> Finding {
+    let list = named(alloc, name)?;
     is_given(out, list.try_clone(alloc), list, text)
 }
 
-fn copies_widths<A: SmallAllocator>(out: Global, alloc: A, call: &str, text: &str) -> Finding {
-    let made = match call {
-        "up to 128" => HasAtomics::atomic_8_16_32_64_128_ptr(alloc),
-        "up to 64" => HasAtomics::atomic_8_16_32_64_ptr(alloc),
-        "up to 32" => HasAtomics::atomic_8_16_32_ptr(alloc),
+/// A list of widths of this name, which prints this.
+pub(super) fn copies_widths<A: SmallAllocator>(
+    out: Global,
+    alloc: A,
+    name: &str,
+    text: &str,
+) -> Finding {
+    let made = match name {
+        "128" => HasAtomics::atomic_8_16_32_64_128_ptr(alloc),
+        "64" => HasAtomics::atomic_8_16_32_64_ptr(alloc),
+        "32" => HasAtomics::atomic_8_16_32_ptr(alloc),
+        "borrowed" => Ok(HasAtomics::new_const(SORTED)),
         _ => list_of(alloc, UNSORTED),
     };
     let list = made?;
     is_given(out, list.try_clone(alloc), list, text)
-}
-
-// What the call answers. What it prints is printed to the other allocator.
-fn answer_to<A: SmallAllocator>(out: Global, alloc: A, call: &str, text: &str) -> Finding {
-    match call {
-        "up to 128" | "up to 64" | "up to 32" | "widths" => copies_widths(out, alloc, call, text),
-        "many widths" => copies_many_widths(alloc),
-        "a fault" => copies_a_fault(out, alloc, text),
-        "a row" => copies_from_the_table(alloc),
-        _ => copies_families(out, alloc, call, text),
-    }
-}
-
-/// Whether each growth of the call in the row is refused in turn.
-pub(super) fn is_row(alloc: Global, fields: &[String]) -> bool {
-    let [call, text] = fields else {
-        return false;
-    };
-    let (call, text) = (call.as_str(), text.as_str());
-    is_refused_in_turns(alloc, |heap| answer_to(alloc, heap, call, text))
-}
-
-// Whether they are copied, and every block is given back.
-fn are_copied(alloc: Global, names: &str) -> bool {
-    let heap = empty_heap(alloc);
-    holds(copies_many_families(&heap, names)) && has_every_block(heap)
-}
-
-#[test]
-fn many_families_are_copied(rt: HostRuntime) -> Result<(), Fail> {
-    let names = repeated(rt.alloc(), "unix", " unix", 9_999, "")?;
-    let are_copied = are_copied(rt.alloc(), names.as_str());
-    drop(names);
-    assert!(rt; are_copied);
-    Ok(())
 }

@@ -2,81 +2,94 @@
 //!
 //! A function takes the heap that it has refuse, and as any allocator what it calls with. Both are
 //! the same, but a function of any allocator is shorter to prove than one of this heap.
+use super::targets::builtins;
 use crate::in_turn::conditions::{Read, ask_alike, called, parsed};
 use crate::in_turn::reading::reads;
+use crate::in_turn::{Made, is_none};
 use cfg_expr::expr::logic::Kleene64;
 use cfg_expr::expr::{ConditionReader, Logic, Predicates, spell};
 use cfg_expr::memory::SmallAllocator;
 use cfg_expr::targets::{TargetInfo, TargetTable};
 use cfg_expr::{Expression, Predicate, TargetPredicate};
-use cfgx_testing::heap::{Heap, holds_without_memory};
+use cfgx_testing::heap::Heap;
 use cfgx_testing::holding::{holds, prints};
 use cfgx_testing::refusing::EVERY;
 use std::alloc::Global;
 
-// What parsing the text answers with memory. Every growth after it is refused.
-fn read<A: SmallAllocator>(heap: Heap<'_>, alloc: A, text: &str) -> Read<A> {
+/// What parsing the text answers with memory. Every growth after it is refused.
+pub(super) fn read<A: SmallAllocator>(heap: Heap<'_>, alloc: A, text: &str) -> Read<A> {
     heap.refuse(0);
     let read = parsed(alloc, text);
     heap.refuse(EVERY);
     read
 }
 
-// Whether the expressions are equal, and their predicates.
-fn are_equal<A: SmallAllocator>(one: &Read<A>, other: &Read<A>) -> Option<(bool, bool)> {
-    match (one, other) {
-        (Ok(one), Ok(other)) => Some((
-            one == other,
-            ask_alike(one.predicates(), other.predicates()),
-        )),
-        _ => None,
+// Whether the expression is equal to the other one, and its predicates, as is wanted.
+fn is_equal<A: SmallAllocator>(
+    asked: &Expression<A>,
+    other: &Read<A>,
+    wanted: (bool, bool),
+) -> bool {
+    match other {
+        Ok(other) => {
+            (asked == other) == wanted.0
+                && ask_alike(asked.predicates(), other.predicates()) == wanted.1
+        }
+        Err(_) => false,
     }
 }
 
-// Whether the expression of the text is equal to that of `TEXT`, and its predicates, as is wanted.
-fn compares<A: SmallAllocator>(heap: Heap<'_>, alloc: A, text: &str, wanted: (bool, bool)) -> bool {
-    let one = read(heap, alloc, TEXT);
-    let other = read(heap, alloc, text);
-    are_equal(&one, &other) == Some(wanted)
+// Whether it is so to that of `TEXT`.
+fn compares<A: SmallAllocator>(
+    heap: Heap<'_>,
+    alloc: A,
+    asked: &Expression<A>,
+    wanted: (bool, bool),
+) -> bool {
+    is_equal(asked, &read(heap, alloc, TEXT), wanted)
 }
 
 // A text with more nodes than a reader makes room for at first.
 const LONG: &str = "all(a, b, c, d, e, not(any(not(f))))";
 
+// Whether the reader answers what parsing answers, which takes memory elsewhere.
+fn is_read_by<'t, A: SmallAllocator>(
+    out: Global,
+    reader: &mut ConditionReader<'t, A>,
+    text: &'t str,
+) -> bool {
+    holds(reads(reader, text, &parsed(out, text)))
+}
+
 // Whether the reader, once it has read `LONG`, reads the text, and then `LONG` again, with every
 // growth refused.
 fn reads_again<'t, A: SmallAllocator>(
+    out: Global,
     heap: Heap<'_>,
     reader: &mut ConditionReader<'t, A>,
     text: &'t str,
-    short: &Read<A>,
-    long: &Read<A>,
 ) -> bool {
     heap.refuse(0);
-    let is_read = holds(reads(reader, LONG, long));
+    let is_read = is_read_by(out, reader, LONG);
     heap.refuse(EVERY);
-    is_read && holds(reads(reader, text, short)) && holds(reads(reader, LONG, long))
+    is_read && is_read_by(out, reader, text) && is_read_by(out, reader, LONG)
 }
 
 // Whether a reader does.
-fn is_read_again<A: SmallAllocator>(heap: Heap<'_>, alloc: A, text: &str) -> bool {
-    let long = read(heap, alloc, LONG);
-    let short = read(heap, alloc, text);
+fn is_read_again<A: SmallAllocator>(out: Global, heap: Heap<'_>, alloc: A, text: &str) -> bool {
     let mut reader = ConditionReader::new(alloc);
-    reads_again(heap, &mut reader, text, &short, &long)
+    reads_again(out, heap, &mut reader, text)
 }
 
 // Adds the spelling of the next predicate.
 fn is_spelled(predicates: &mut Predicates<'_>, bytes: &mut Vec<u8>) -> bool {
     let next = predicates.next();
-    let is_spelled = matches!(&next, Some(predicate) if spell(predicate, bytes).is_ok());
+    let is_spelled = match &next {
+        Some(predicate) => spell(predicate, bytes).is_ok(),
+        None => false,
+    };
     drop(next);
     is_spelled
-}
-
-// Whether there is nothing. The type is not known here, which makes its drop short to prove.
-fn is_none<T: Drop>(item: Option<T>) -> bool {
-    item.is_none()
 }
 
 // Adds the spellings of all predicates. Whether these numbers of them are left, one after another.
@@ -118,27 +131,17 @@ fn is_such<A: SmallAllocator>(asked: Option<Predicate<'_>>, rows: &[TargetInfo<'
     is_such
 }
 
-// Whether the first predicate of the text is true of the fourth of five rows alone.
-fn is_asked<A: SmallAllocator>(
-    heap: Heap<'_>,
-    alloc: A,
-    text: &str,
-    rows: &[TargetInfo<'_, A>],
-) -> bool {
-    match &read(heap, alloc, text) {
-        Ok(asked) => is_such(asked.predicates().next(), rows),
+// Whether the first predicate is such, of the rows of the table.
+fn is_asked<A: SmallAllocator>(asked: &Expression<A>, table: &Made<TargetTable<'_, A>>) -> bool {
+    match table {
+        Ok(table) => is_such(asked.predicates().next(), table.rows()),
         Err(_) => false,
     }
 }
 
-// Whether the first predicate of the text is true of the fourth of the rows that are built in, and
-// of no other, with every growth refused.
-fn is_asked_of<A: SmallAllocator>(heap: Heap<'_>, alloc: A, text: &str) -> bool {
-    heap.refuse(0);
-    let table = TargetTable::builtins(alloc);
-    holds_without_memory(heap, table, |table| {
-        is_asked(heap, alloc, text, table.rows())
-    })
+// Whether the first predicate is true of the fourth of the rows that are built in, and of no other.
+fn is_asked_of<A: SmallAllocator>(heap: Heap<'_>, alloc: A, asked: &Expression<A>) -> bool {
+    is_asked(asked, &builtins(heap, alloc))
 }
 
 const TEXT: &str = "all(a, any(b), feature = \"a feature with a long name\")";
@@ -166,40 +169,58 @@ eval_lanes | all(all(),all(),all(),all(),a,a)
 
 const SPELLINGS: &str = "bafeature = \"a feature with a long name\"";
 
+// Whether this is the expression of `TEXT`.
+fn is_text<A: SmallAllocator>(out: Global, asked: &Expression<A>) -> bool {
+    asked.original() == TEXT && asked.condition().original() == TEXT && prints(out, asked, TEXT)
+}
+
 // Whether the check holds of the expression.
-fn answers<A: SmallAllocator>(out: Global, alloc: A, check: &str, asked: &Expression<A>) -> bool {
-    match check {
-        "text" => {
-            asked.original() == TEXT
-                && asked.condition().original() == TEXT
-                && prints(out, asked, TEXT)
-        }
-        "predicates" => are_spelled(out, asked.predicates(), &[3, 2, 1], SPELLINGS),
-        "spelling" => are_spelled(out, asked.predicates(), &[1], "target_has_atomic = \"128\""),
-        call => holds(called(alloc, call, asked)),
-    }
-}
-
-fn is_right<A: SmallAllocator>(out: Global, alloc: A, check: &str, read: Read<A>) -> bool {
-    matches!(&read, Ok(expression) if answers(out, alloc, check, expression))
-}
-
-/// Whether the check holds of the text, with every growth refused.
-pub(super) fn is_row<A: SmallAllocator>(
+fn answers<A: SmallAllocator>(
     out: Global,
     heap: Heap<'_>,
     alloc: A,
     check: &str,
-    text: &str,
+    asked: &Expression<A>,
 ) -> bool {
     match check {
-        "equal" => compares(heap, alloc, text, (true, true)),
-        "one comma more" => compares(heap, alloc, text, (false, true)),
-        "other predicates" => compares(heap, alloc, text, (false, false)),
-        "of the fourth" => is_asked_of(heap, alloc, text),
-        "read again" => is_read_again(heap, alloc, text),
-        _ => is_right(out, alloc, check, read(heap, alloc, text)),
+        "text" => is_text(out, asked),
+        "predicates" => are_spelled(out, asked.predicates(), &[3, 2, 1], SPELLINGS),
+        "spelling" => are_spelled(out, asked.predicates(), &[1], "target_has_atomic = \"128\""),
+        "equal" => compares(heap, alloc, asked, (true, true)),
+        "one comma more" => compares(heap, alloc, asked, (false, true)),
+        "other predicates" => compares(heap, alloc, asked, (false, false)),
+        "of the fourth" => is_asked_of(heap, alloc, asked),
+        call => holds(called(alloc, call, asked)),
     }
+}
+
+// Whether the check holds of the text, of which this was read.
+fn is_right<A: SmallAllocator>(
+    out: Global,
+    heap: Heap<'_>,
+    alloc: A,
+    (check, text): (&str, &str),
+    read: &Read<A>,
+) -> bool {
+    match read {
+        Ok(_) if check == "read again" => is_read_again(out, heap, alloc, text),
+        Ok(asked) => answers(out, heap, alloc, check, asked),
+        Err(_) => false,
+    }
+}
+
+/// Whether the row is what it says, with every growth refused.
+pub(super) fn is_row<A: SmallAllocator>(
+    out: Global,
+    heap: Heap<'_>,
+    alloc: A,
+    row: &[String],
+) -> bool {
+    let [check, text] = row else {
+        return false;
+    };
+    let row = (check.as_str(), text.as_str());
+    is_right(out, heap, alloc, row, &read(heap, alloc, text.as_str()))
 }
 
 // Whether the operations of a logic are what they are in Rust.
@@ -216,9 +237,12 @@ fn has_unknown<T: Logic + Copy + PartialEq>(it: T) -> bool {
     is_logic::<T>() && found.as_slice() == [it, it, no, yes, it].as_slice()
 }
 
-#[test]
-fn logics(rt: HostRuntime) {
-    assert!(rt; is_logic::<bool>());
-    assert!(rt; has_unknown::<Option<bool>>(None));
-    assert!(rt; has_unknown(Kleene64::new(0, 0)));
+/// Whether the logic of this name is what it is in Rust.
+pub(super) fn is_named_logic(name: &str) -> bool {
+    match name {
+        "bool" => is_logic::<bool>(),
+        "option" => has_unknown::<Option<bool>>(None),
+        "lanes" => has_unknown(Kleene64::new(0, 0)),
+        _ => false,
+    }
 }

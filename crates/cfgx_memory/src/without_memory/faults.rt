@@ -1,21 +1,17 @@
 //! Tokens, faults, and what they print.
-use crate::in_turn::conditions::parsed;
+use super::conditions::read;
+use crate::in_turn::Made;
+use crate::in_turn::conditions::{Item, Read};
 use crate::in_turn::targets::{NO_WIDTH, no_width};
 use cfg_expr::error::{Failure, ParseError, Reason};
 use cfg_expr::expr::lexer::{Lexer, LexerToken, Token};
 use cfg_expr::memory::SmallAllocator;
-use cfgx_testing::heap::{Heap, empty_heap, holds_without_memory};
+use cfgx_testing::heap::Heap;
 use cfgx_testing::holding::prints;
 use cfgx_testing::refusing::EVERY;
-use std::alloc::{AllocError, Allocator, Global};
+use std::alloc::{Allocator, Global};
+use std::fmt::Display;
 use std::ops::Range;
-
-// The first items of `cfg(key = "v" 8)`: a token, where it stands, and how many bytes are left.
-const ITEMS: &[(Token<'static>, Range<usize>, usize)] = &[
-    (Token::Key("key"), 0..3, 8),
-    (Token::Equals, 4..5, 6),
-    (Token::Value("v"), 6..9, 2),
-];
 
 // Whether the item and its copy are this token at this place.
 fn are_items(item: &LexerToken<'_>, token: Token<'_>, span: &Range<usize>) -> bool {
@@ -23,18 +19,31 @@ fn are_items(item: &LexerToken<'_>, token: Token<'_>, span: &Range<usize>) -> bo
     is_item && matches!(item.clone(), Ok(copy) if copy.token == token && copy.span == *span)
 }
 
-// Whether the lexer strips the text, and gives its first items.
+// Whether this is such an item.
+fn is_item<A: Allocator>(item: &Item<'_, A>, token: Token<'_>, span: &Range<usize>) -> bool {
+    match item {
+        Some(Ok(item)) => are_items(item, token, span),
+        _ => false,
+    }
+}
+
+// Whether the lexer gives this token at this place, and has so many bytes left.
+fn gives<A: Allocator>(
+    lexer: &mut Lexer<'_, A>,
+    token: Token<'_>,
+    span: Range<usize>,
+    left: usize,
+) -> bool {
+    is_item(&lexer.next(), token, &span) & (lexer.items_left_bound() == left)
+}
+
+// Whether the lexer strips `cfg(key = "v" 8)`, and gives its first items.
 fn gives_items<A: Allocator>(lexer: &mut Lexer<'_, A>) -> bool {
-    if lexer.original() != "key = \"v\" 8" || lexer.items_left_bound() != 11 {
-        return false;
-    }
-    for (token, span, left) in ITEMS {
-        let is_given = matches!(lexer.next(), Some(Ok(item)) if are_items(&item, *token, span));
-        if !is_given || lexer.items_left_bound() != *left {
-            return false;
-        }
-    }
-    true
+    lexer.original() == "key = \"v\" 8"
+        && lexer.items_left_bound() == 11
+        && gives(lexer, Token::Key("key"), 0..3, 8)
+        && gives(lexer, Token::Equals, 4..5, 6)
+        && gives(lexer, Token::Value("v"), 6..9, 2)
 }
 
 fn is_lexed<A: Allocator>(alloc: A) -> bool {
@@ -42,11 +51,10 @@ fn is_lexed<A: Allocator>(alloc: A) -> bool {
     gives_items(&mut lexer)
 }
 
-#[test]
-fn tokens_take_no_memory(rt: HostRuntime) {
-    let heap = empty_heap(rt.alloc());
+/// Whether tokens are given, copied and compared as they have to be.
+pub(super) fn are_given<A: Allocator>(heap: Heap<'_>, alloc: A) -> bool {
     heap.refuse(EVERY);
-    assert!(rt; is_lexed(&heap) && Token::Key("a") == Token::Key("a") && Token::Any != Token::All);
+    is_lexed(alloc) && Token::Key("a") == Token::Key("a") && Token::Any != Token::All
 }
 
 /// A text, its fault's description, and what that prints.
@@ -57,55 +65,78 @@ foo ( | unexpected term | foo (\n    ^ expected one of `=`, `,`, `)` here
 key) | unopened parens | key)\n   ^ unopened parens
 "#;
 
-// The fault of the text.
-fn fault<A: SmallAllocator>(alloc: A, text: &str) -> Fault<A> {
-    match parsed(alloc, text) {
-        Err(Failure::Parse(error)) => Ok(error),
-        _ => Err(AllocError),
-    }
-}
-
 // Whether the fault has this description and prints this. No reason here is that of an empty text.
 fn is_shown<A: Allocator>(alloc: Global, error: &ParseError<A>, told: &str, printed: &str) -> bool {
     error.reason != Reason::Empty && error.description() == told && prints(alloc, error, printed)
 }
 
-/// A fault, or out of memory.
-type Fault<A> = Result<ParseError<A>, AllocError>;
-
-// Whether the first two are equal, and the third is not.
-fn are_equal<A: Allocator>(one: &Fault<A>, same: &Fault<A>, other: &Fault<A>) -> bool {
-    match (one, same, other) {
-        (Ok(one), Ok(same), Ok(other)) => one == same && one != other,
+// Whether the fault is equal to the other one, as is wanted.
+fn is_equal<A: SmallAllocator>(error: &ParseError<A>, other: &Read<A>, wanted: bool) -> bool {
+    match other {
+        Err(Failure::Parse(other)) => (error == other) == wanted,
         _ => false,
     }
 }
 
-/// A row.
-pub(super) type Row<'a> = (&'a str, &'a str, &'a str);
+// Whether it is so to that of the text.
+fn compares<A: SmallAllocator>(
+    heap: Heap<'_>,
+    alloc: A,
+    error: &ParseError<A>,
+    text: &str,
+    wanted: bool,
+) -> bool {
+    is_equal(error, &read(heap, alloc, text), wanted)
+}
 
-/// Whether the fault of the text is shown so, and equal to itself, and not to that of another text.
-pub(super) fn is_row<A: SmallAllocator>(
+/// A row.
+type Row<'a> = (&'a str, &'a str, &'a str);
+
+// Whether the fault of the row's text is shown so, and equal to itself, and not to that of another
+// text.
+fn is_right<A: SmallAllocator>(
     out: Global,
     heap: Heap<'_>,
     alloc: A,
     row: Row<'_>,
+    read: &Read<A>,
 ) -> bool {
-    let (text, told, printed) = row;
-    heap.refuse(0);
-    let one = fault(alloc, text);
-    let same = fault(alloc, text);
-    let other = fault(alloc, "kei)");
-    heap.refuse(EVERY);
-    let is_shown = match &one {
-        Ok(one) => is_shown(out, one, told, printed),
-        Err(_) => false,
+    match read {
+        Err(Failure::Parse(error)) => {
+            is_shown(out, error, row.1, row.2)
+                && compares(heap, alloc, error, row.0, true)
+                && compares(heap, alloc, error, "kei)", false)
+        }
+        _ => false,
+    }
+}
+
+/// Whether the row is what it says.
+pub(super) fn is_row<A: SmallAllocator>(
+    out: Global,
+    heap: Heap<'_>,
+    alloc: A,
+    row: &[String],
+) -> bool {
+    let [text, told, printed] = row else {
+        return false;
     };
-    is_shown && are_equal(&one, &same, &other)
+    let row = (text.as_str(), told.as_str(), printed.as_str());
+    is_right(out, heap, alloc, row, &read(heap, alloc, text.as_str()))
+}
+
+// Whether the value prints this, if it was made.
+fn is_printed<T: Display>(out: Global, made: &Made<T>, text: &str) -> bool {
+    match made {
+        Ok(value) => prints(out, value, text),
+        Err(_) => false,
+    }
 }
 
 /// Whether the fault of a text that is no width prints what it has to.
 pub(super) fn prints_no_width<A: SmallAllocator>(out: Global, heap: Heap<'_>, alloc: A) -> bool {
     heap.refuse(0);
-    holds_without_memory(heap, no_width(alloc), |error| prints(out, error, NO_WIDTH))
+    let error = no_width(alloc);
+    heap.refuse(EVERY);
+    is_printed(out, &error, NO_WIDTH)
 }

@@ -1,14 +1,16 @@
 //! Byte orders, widths, lists, rows and tables.
-use super::faults::prints_no_width;
-use super::{all, are_ordered};
+use super::conditions::is_named_logic;
+use super::faults::{are_given, prints_no_width};
+use super::{are_made, are_ordered};
+use crate::in_turn::Made;
 use crate::in_turn::targets::{SORTED, UNSORTED, list_of};
 use cfg_expr::memory::SmallAllocator;
 use cfg_expr::targets::{
     Endian, Families, Family, HasAtomic, HasAtomics, TargetInfo, TargetTable,
     get_builtin_target_by_triple,
 };
-use cfgx_testing::heap::{Heap, empty_heap, has_every_block, holds_without_memory};
-use cfgx_testing::holding::{all_hold, gives, holds, prints, push};
+use cfgx_testing::heap::Heap;
+use cfgx_testing::holding::{gives, holds, prints, push};
 use cfgx_testing::refusing::EVERY;
 use cfgx_testing::triples::{DARWIN, TVOS};
 use std::alloc::{AllocError, Global};
@@ -17,82 +19,120 @@ const EIGHT: HasAtomic = HasAtomic::IntegerSize(8);
 
 const POINTER: &[HasAtomic] = &[HasAtomic::Pointer];
 
-// Whether these are two lists of the same two widths, one of which was not in order, and one that
-// is above.
-fn are_two<A: SmallAllocator>(
-    out: Global,
-    list: &HasAtomics<A>,
-    same: &HasAtomics<A>,
-    above: &HasAtomics<A>,
-) -> bool {
-    are_ordered(list, same, above)
-        && list.as_slice() == SORTED
-        && HasAtomics::<A>::new_const(SORTED) == *list
-        && list.contains(EIGHT)
-        && !list.contains(HasAtomic::IntegerSize(16))
-        && prints(out, list, "{8, ptr}")
+// Whether this is a list of two widths.
+fn are_two<A: SmallAllocator>(out: Global, list: &Made<HasAtomics<A>>) -> bool {
+    match list {
+        Ok(list) => {
+            let is_equal = HasAtomics::<A>::new_const(SORTED) == *list;
+            is_equal
+                && list.as_slice() == SORTED
+                && list.contains(EIGHT)
+                && !list.contains(HasAtomic::IntegerSize(16))
+                && prints(out, list, "{8, ptr}")
+        }
+        Err(_) => false,
+    }
 }
 
-fn are_widths<A: SmallAllocator>(out: Global, heap: Heap<'_>, alloc: A) -> bool {
+fn is_list_of_widths<A: SmallAllocator>(out: Global, heap: Heap<'_>, alloc: A) -> bool {
+    heap.refuse(0);
+    let list = list_of(alloc, SORTED);
+    heap.refuse(EVERY);
+    are_two(out, &list)
+}
+
+// Whether lists of the same two widths are equal, one of which was not in order, and the other one
+// is above both.
+fn are_widths<A: SmallAllocator>(heap: Heap<'_>, alloc: A) -> bool {
     heap.refuse(0);
     let list = list_of(alloc, SORTED);
     let same = list_of(alloc, UNSORTED);
     let above = Ok(HasAtomics::new_const(POINTER));
     heap.refuse(EVERY);
-    match all(&list, &same, &above) {
-        Some((list, same, above)) => are_two(out, list, same, above),
-        None => false,
-    }
+    are_made(&list, &same, &above)
 }
 
 // Whether the text is read as this width.
 fn is_read<A: SmallAllocator>(heap: Heap<'_>, alloc: A, text: &str, width: HasAtomic) -> bool {
     heap.refuse(EVERY);
-    let is_read = holds(gives(HasAtomic::read(alloc, text), &width));
-    heap.refuse(0);
-    is_read
+    holds(gives(HasAtomic::read(alloc, text), &width))
 }
 
-// Whether the list has the family, which is dropped by name.
-fn has<A: SmallAllocator>(list: &Families<'_, A>, family: Family<'_>) -> bool {
+// Whether the list has the family of this name, which is dropped by name.
+fn has<A: SmallAllocator>(list: &Families<'_, A>, name: &str) -> bool {
+    let family: Family<'_> = match name {
+        "unix" => Family::unix(),
+        "wasm" => Family::wasm(),
+        _ => Family::windows(),
+    };
     let is_member = list.contains(&family);
     drop(family);
     is_member
 }
 
-// Whether these are lists of two families, of the same two, and of one that is above. A list of
-// none is empty.
-fn are_two_families<'f, A: SmallAllocator>(
-    alloc: Global,
-    list: &Families<'f, A>,
-    same: &Families<'f, A>,
-    above: &Families<'f, A>,
-) -> bool {
-    are_ordered(list, same, above)
-        && list.as_slice().len() == 2
-        && has(list, Family::unix())
-        && has(list, Family::wasm())
-        && !has(list, Family::windows())
-        && prints(alloc, list, "{unix, wasm}")
-        && Families::<'_, A>::new_const(&[]).as_slice().is_empty()
+// Whether a list that borrows the members of this one is copied.
+fn is_borrowed<A: SmallAllocator>(alloc: A, list: &Families<'_, A>) -> bool {
+    let borrowed = Families::new_const(list.as_slice());
+    holds(gives(borrowed.try_clone(alloc), &borrowed))
 }
 
-fn are_families<A: SmallAllocator>(out: Global, heap: Heap<'_>, alloc: A) -> bool {
+// Whether this is the list of two families.
+fn are_two_families<A: SmallAllocator>(
+    out: Global,
+    alloc: A,
+    list: &Made<Families<'_, A>>,
+) -> bool {
+    match list {
+        Ok(list) => {
+            list.as_slice().len() == 2
+                && is_borrowed(alloc, list)
+                && has(list, "unix")
+                && has(list, "wasm")
+                && !has(list, "windows")
+                && prints(out, list, "{unix, wasm}")
+        }
+        Err(_) => false,
+    }
+}
+
+fn is_list_of_families<A: SmallAllocator>(out: Global, heap: Heap<'_>, alloc: A) -> bool {
+    heap.refuse(0);
+    let list = Families::unix_wasm(alloc);
+    heap.refuse(EVERY);
+    are_two_families(out, alloc, &list)
+}
+
+// Whether lists of the same two families are equal, and the other one is above both.
+fn are_families<A: SmallAllocator>(heap: Heap<'_>, alloc: A) -> bool {
     heap.refuse(0);
     let list = Families::unix_wasm(alloc);
     let same = Families::unix_wasm(alloc);
     let above = Families::wasm(alloc);
     heap.refuse(EVERY);
-    match all(&list, &same, &above) {
-        Some((list, same, above)) => are_two_families(out, list, same, above),
-        None => false,
-    }
+    are_made(&list, &same, &above)
+}
+
+// Whether a list of no families is empty.
+fn is_empty() -> bool {
+    let list: Families<'_> = Families::new_const(&[]);
+    list.as_slice().is_empty()
 }
 
 fn are_sorted(families: [Family<'_>; 2]) -> bool {
     let are_sorted = Families::<Global>::is_sorted(&families);
     drop(families);
     are_sorted
+}
+
+/// Rows, or out of memory.
+type Rows<'a, A> = Made<Vec<TargetInfo<'a, A>, A>>;
+
+fn is_rising_sorted() -> bool {
+    are_sorted([Family::unix(), Family::wasm()])
+}
+
+fn is_falling_sorted() -> bool {
+    are_sorted([Family::wasm(), Family::unix()])
 }
 
 // Copies of the rows with these numbers.
@@ -109,9 +149,6 @@ fn copies_of<'a, A: SmallAllocator + 'a>(
     }
     Ok(rows)
 }
-
-/// Rows, or out of memory.
-type Rows<'a, A> = Result<Vec<TargetInfo<'a, A>, A>, AllocError>;
 
 // Copies of the rows that are built in and have these numbers.
 fn rows<'a, A: SmallAllocator + 'a>(alloc: A, numbers: &[usize]) -> Rows<'a, A> {
@@ -146,54 +183,110 @@ fn are_refused<A: SmallAllocator>(
     heap.refuse(EVERY);
     let are_three = matches!(&rows, Ok(rows) if are_three_rows(rows.as_slice()) == is_first);
     let found = place_of(rows);
-    heap.refuse(0);
     are_three && found == Ok((place, 3))
+}
+
+/// The table that is built in. Every growth after it is refused.
+pub(super) fn builtins<'a, A: SmallAllocator + 'a>(
+    heap: Heap<'_>,
+    alloc: A,
+) -> Made<TargetTable<'a, A>> {
+    heap.refuse(0);
+    let table = TargetTable::builtins(alloc);
+    heap.refuse(EVERY);
+    table
 }
 
 // Whether it is the table that is built in.
 fn is_builtin<A: SmallAllocator>(table: &TargetTable<'_, A>) -> bool {
-    matches!(table.rows(), [row, _, _, _, _] if row.triple.as_str() == DARWIN)
-        && get_builtin_target_by_triple(table, TVOS).is_some()
-        && get_builtin_target_by_triple(table, "aarch64-apple").is_none()
+    match table.rows().first() {
+        Some(row) => {
+            row.triple.as_str() == DARWIN
+                && table.rows().len() == 5
+                && get_builtin_target_by_triple(table, TVOS).is_some()
+                && get_builtin_target_by_triple(table, "aarch64-apple").is_none()
+        }
+        None => false,
+    }
+}
+
+// Whether that was made.
+fn is_made<A: SmallAllocator>(table: &Made<TargetTable<'_, A>>) -> bool {
+    match table {
+        Ok(table) => is_builtin(table),
+        Err(_) => false,
+    }
 }
 
 // Whether the table that is built in is.
 fn has_builtins<A: SmallAllocator>(heap: Heap<'_>, alloc: A) -> bool {
-    heap.refuse(0);
-    let table = TargetTable::builtins(alloc);
-    holds_without_memory(heap, table, |table| is_builtin(table))
+    is_made(&builtins(heap, alloc))
 }
 
-// Whether all checks hold, with every growth refused.
-fn are_right<A: SmallAllocator>(out: Global, heap: Heap<'_>, alloc: A) -> Result<(), &'static str> {
-    let (first, second) = (Endian::big, Endian::little);
-    all_hold(&[
-        ("widths", are_ordered(&EIGHT, &EIGHT, &HasAtomic::Pointer)),
-        ("orders", are_ordered(&first, &first, &second)),
-        ("sorted", are_sorted([Family::unix(), Family::wasm()])),
-        ("unsorted", !are_sorted([Family::wasm(), Family::unix()])),
-        ("lists of widths", are_widths(out, heap, alloc)),
-        ("a number", is_read(heap, alloc, "+08", EIGHT)),
-        ("ptr", is_read(heap, alloc, "ptr", HasAtomic::Pointer)),
-        ("lists of families", are_families(out, heap, alloc)),
-        ("a table", are_refused(heap, alloc, &[0, 2, 4], None, false)),
-        (
-            "no table",
-            are_refused(heap, alloc, &[0, 2, 2], Some(2), false),
-        ),
-        (
-            "equal rows",
-            are_refused(heap, alloc, &[1, 1, 2], Some(1), true),
-        ),
-        ("built in", has_builtins(heap, alloc)),
-        ("no width", prints_no_width(out, heap, alloc)),
-    ])
+/// What is checked.
+pub(super) const CHECKS: &str = r#"
+widths
+orders
+sorted
+unsorted
+list of widths
+lists of widths
+a number
+ptr
+list of families
+lists of families
+no families
+a table
+no table
+equal rows
+built in
+no width
+tokens
+bool
+option
+lanes
+"#;
+
+// Whether the check of rows of this name holds.
+fn is_named<A: SmallAllocator>(heap: Heap<'_>, alloc: A, name: &str) -> bool {
+    match name {
+        "a table" => are_refused(heap, alloc, &[0, 2, 4], None, false),
+        "no table" => are_refused(heap, alloc, &[0, 2, 2], Some(2), false),
+        "equal rows" => are_refused(heap, alloc, &[1, 1, 2], Some(1), true),
+        "built in" => has_builtins(heap, alloc),
+        "tokens" => are_given(heap, alloc),
+        name => is_named_logic(name),
+    }
 }
 
-#[test]
-fn lists_and_rows_take_no_memory(rt: HostRuntime) -> Result<(), &'static str> {
-    let heap = empty_heap(rt.alloc());
-    let answer = are_right(rt.alloc(), &heap, &heap);
-    assert!(rt; has_every_block(heap));
-    answer
+// Whether the check of this name holds, with every growth refused.
+fn is_right<A: SmallAllocator>(out: Global, heap: Heap<'_>, alloc: A, name: &str) -> bool {
+    match name {
+        "widths" => are_ordered(&EIGHT, &EIGHT, &HasAtomic::Pointer),
+        "orders" => are_ordered(&Endian::big, &Endian::big, &Endian::little),
+        "sorted" => is_rising_sorted(),
+        "unsorted" => !is_falling_sorted(),
+        "list of widths" => is_list_of_widths(out, heap, alloc),
+        "lists of widths" => are_widths(heap, alloc),
+        "a number" => is_read(heap, alloc, "+08", EIGHT),
+        "ptr" => is_read(heap, alloc, "ptr", HasAtomic::Pointer),
+        "list of families" => is_list_of_families(out, heap, alloc),
+        "lists of families" => are_families(heap, alloc),
+        "no families" => is_empty(),
+        "no width" => prints_no_width(out, heap, alloc),
+        name => is_named(heap, alloc, name),
+    }
+}
+
+/// Whether the check of the row holds.
+pub(super) fn is_row<A: SmallAllocator>(
+    out: Global,
+    heap: Heap<'_>,
+    alloc: A,
+    row: &[String],
+) -> bool {
+    match row {
+        [name] => is_right(out, heap, alloc, name.as_str()),
+        _ => false,
+    }
 }

@@ -1,7 +1,8 @@
 //! Logics of which no law holds, and the lanes of `Kleene64`.
+use cfg_expr::Expression;
 use cfg_expr::expr::Logic;
 use cfg_expr::expr::logic::Kleene64;
-use cfg_expr::{Expression, Predicate};
+use cfgx_testing::answers::value_with;
 use cfgx_testing::holding::all_hold;
 use std::alloc::Global;
 
@@ -45,31 +46,21 @@ impl Logic for Sided {
     }
 }
 
-// The value if `a` is 5, `b` is 7, and all else is 9, and how many questions it takes.
-fn value_of(alloc: Global, expression: &Expression) -> Option<(Sided, usize)> {
-    let mut count = 0usize;
-    let mut answer = |predicate: &Predicate<'_>| {
-        count = count.saturating_add(1);
-        match predicate {
-            Predicate::Flag("a") => Sided(5),
-            Predicate::Flag("b") => Sided(7),
-            _ => Sided(9),
-        }
-    };
-    let value: Sided = expression.eval(alloc, &mut answer).ok()?;
-    Some((value, count))
+// The value over these answers, if just so many questions are asked.
+fn value(alloc: Global, text: &str, answers: &[Sided]) -> Option<Sided> {
+    match Expression::parse(alloc, text) {
+        Ok(expression) => value_with(alloc, &expression, answers),
+        Err(_) => None,
+    }
 }
 
-fn value(alloc: Global, text: &str) -> Option<(Sided, usize)> {
-    let expression = Expression::parse(alloc, text).ok()?;
-    value_of(alloc, &expression)
-}
-
-// The answer to `a` is joined last. What `any` joins never counts, and is asked all the same.
+// The first answer is joined last. What `any` joins never counts, and is asked all the same.
 #[test]
 fn no_law_is_needed(rt: HostRuntime) {
-    assert!(rt; value(rt.alloc(), "all(a, b, c)") == Some((Sided(5), 3)));
-    assert!(rt; value(rt.alloc(), "any(a, b)") == Some((Sided(2), 2)));
+    let answers = [Sided(5), Sided(7), Sided(9)];
+    assert!(rt; value(rt.alloc(), "all(a, b, c)", &answers) == Some(Sided(5)));
+    let answers = [Sided(5), Sided(7)];
+    assert!(rt; value(rt.alloc(), "any(a, b)", &answers) == Some(Sided(2)));
 }
 
 #[test]

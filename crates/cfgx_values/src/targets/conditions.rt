@@ -1,12 +1,12 @@
 //! Conditions on targets, by `eval` on each and in lanes.
-use super::rows::{bare, darwin, ios, windows};
+use super::rows::push_rows;
 use cfg_expr::error::Failure;
 use cfg_expr::expr::logic::Kleene64;
 use cfg_expr::expr::{Predicates, TargetMatcher};
-use cfg_expr::targets::{TargetInfo, TargetTable, Vendor};
+use cfg_expr::targets::{TargetInfo, TargetTable};
 use cfg_expr::{Expression, Predicate};
 use cfgx_testing::answers::{Answer, answer_of, are_lanes, in_each, value_in_lanes};
-use cfgx_testing::holding::{holds, push};
+use cfgx_testing::holding::holds;
 use std::alloc::{AllocError, Global};
 
 /// A condition, and its values on the five rows that are built in and in the lanes past them, if
@@ -27,8 +27,7 @@ any() | 000000
 target_abi = "sim" | 00010?"#;
 
 /// A condition, and its values on five rows that are made by hand and in the lanes past them, if
-/// what is not asked of targets is true. The rows are a bare one, iOS, Windows of two vendors, and
-/// macOS.
+/// what is not asked of targets is true.
 pub(crate) const BY_HAND: &str = r#"target_os = "none" | 10000?
 target_os = "" | 00000?
 target_os = "ios" | 01000?
@@ -62,6 +61,14 @@ all(target_os = "windows", target_arch = "x86", windows, target_env = "msvc", \
 target_feature = "fxsr", target_feature = "sse", target_feature = "sse2", \
 target_pointer_width = "32", target_endian = "little", not(target_vendor = "uwp"), \
 feature = "cool_thing",) | 00100?"#;
+
+/// The rows that are made by hand: a bare one, iOS, Windows of two vendors, and macOS.
+const ROWS: &str = "bare
+aarch64-apple-ios os=ios vendor=apple unix atomics
+by-hand os=windows arch=x86 env=msvc vendor=pc windows bits=32
+by-hand os=windows arch=x86 env=msvc vendor=uwp windows bits=32
+aarch64-apple-darwin os=macos vendor=apple unix atomics
+";
 
 /// Rows, and what is answered if no target is asked.
 type Asked<'a> = (&'a [TargetInfo<'a>], Answer);
@@ -145,19 +152,11 @@ pub(crate) fn is_on_built_in(alloc: Global, text: &str, digits: &str) -> Result<
     Ok(is_right)
 }
 
-// Adds the rows that are made by hand. They are owned by the caller, since a proof goes over all
-// that is owned at each `?`.
-fn push_rows(alloc: Global, rows: &mut Vec<TargetInfo<'static>>) -> Result<(), AllocError> {
-    push(rows, Ok(bare("bare")))?;
-    push(rows, ios(alloc))?;
-    push(rows, windows(alloc, Vendor::pc()))?;
-    push(rows, windows(alloc, Vendor::uwp()))?;
-    push(rows, darwin(alloc))
-}
-
+// The rows are owned by the caller of `push_rows`, since a proof goes over all that is owned at
+// each `?`.
 fn rows_by_hand(alloc: Global) -> Result<Vec<TargetInfo<'static>>, AllocError> {
     let mut rows: Vec<TargetInfo<'static>> = Vec::new(alloc);
-    let pushed = push_rows(alloc, &mut rows);
+    let pushed = push_rows(alloc, &mut rows, ROWS);
     pushed.and(Ok(rows))
 }
 

@@ -5,6 +5,7 @@ use cfg_expr::targets::{
 };
 use cfgx_testing::holding::{all_hold, holds, prints};
 use std::alloc::{AllocError, Global};
+use std::fmt::Display;
 
 /// Names of families, and what their list prints.
 pub(crate) const FAMILIES: &str = r#"
@@ -66,35 +67,50 @@ ptr\u{20} | no
 more bytes than any width is written with, and more than a short text has | no
 "#;
 
-/// Whether the text is read as the width that prints this, or refused by a fault that prints it.
-pub(crate) fn reads(alloc: Global, text: &str, printed: &str) -> Result<bool, AllocError> {
-    match HasAtomic::read(alloc, text) {
-        Ok(width) => Ok(prints(alloc, &width, printed)),
-        Err(HasAtomicFailure::Parse(error)) if printed == "no" => {
-            let fault = format!(in alloc; "expected integer or \"ptr\", found {text}")?;
-            Ok(prints(alloc, &error, fault.as_str()))
-        }
-        Err(_) => Ok(false),
+// What was read.
+type Read = Result<HasAtomic, HasAtomicFailure>;
+
+// Whether this is the width that prints so, or, if that is `no`, the fault that prints this.
+fn is_read(alloc: Global, read: &Read, printed: &str, fault: &str) -> bool {
+    match read {
+        Ok(width) => prints(alloc, width, printed),
+        Err(HasAtomicFailure::Parse(error)) => printed == "no" && prints(alloc, error, fault),
+        Err(HasAtomicFailure::Memory(_)) => false,
     }
 }
 
+/// Whether the text is read as the width that prints this, or refused by a fault that prints it.
+pub(crate) fn reads(alloc: Global, text: &str, printed: &str) -> Result<bool, AllocError> {
+    let fault = format!(in alloc; "expected integer or \"ptr\", found {text}")?;
+    let read = HasAtomic::read(alloc, text);
+    Ok(is_read(alloc, &read, printed, fault.as_str()))
+}
+
+// As `prints`, of a value of a type that is not known here, which makes its drop short to prove.
+fn is_printed<T: Display + Drop>(alloc: Global, value: T, text: &str) -> bool {
+    prints(alloc, &value, text)
+}
+
 #[test]
-fn widths_are_sorted_and_byte_orders_read(rt: HostRuntime) -> Result<(), &'static str> {
+fn widths_are_sorted_and_names_known(rt: HostRuntime) -> Result<(), &'static str> {
+    let alloc = rt.alloc();
     let both = Reason::Unexpected(&["big", "little"]);
     all_hold(&[
-        ("printed", holds(lists_widths(rt.alloc()))),
+        ("printed", holds(lists_widths(alloc))),
         ("falling", !HasAtomics::is_sorted(&[POINTER, EIGHT])),
         ("level", HasAtomics::is_sorted(&[EIGHT, EIGHT])),
         ("nothing", HasAtomics::is_sorted(&[])),
         ("big", "big".parse::<Endian>() == Ok(Endian::big)),
         ("little", "little".parse::<Endian>() == Ok(Endian::little)),
         ("Big", "Big".parse::<Endian>() == Err(both)),
+        (
+            "vec-extabi",
+            is_printed(alloc, Abi::<Global>::vec_extabi(), "vec-extabi"),
+        ),
+        (
+            "solid_asp3",
+            is_printed(alloc, Os::<Global>::solid_asp3(), "solid_asp3"),
+        ),
+        ("version", rustc_version() == "1.99.0"),
     ])
-}
-
-#[test]
-fn what_rust_knows_of_targets(rt: HostRuntime) {
-    assert!(rt; prints(rt.alloc(), &Abi::<Global>::vec_extabi(), "vec-extabi"));
-    assert!(rt; prints(rt.alloc(), &Os::<Global>::solid_asp3(), "solid_asp3"));
-    assert!(rt; rustc_version() == "1.99.0");
 }

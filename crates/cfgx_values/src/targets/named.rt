@@ -1,10 +1,6 @@
 //! The named values of the field types have their texts: all but one are spelled as their function.
 use cfgx_fields::{Abi, Arch, Env, Family, Field, Os, Panic, Vendor};
-use cfgx_testing::refusing::Refusing;
 use std::alloc::{Allocator, Global};
-
-/// An allocator that may refuse a growth. No value here asks for one.
-type Heap = Refusing<Global>;
 
 // Checks that the fields are so many, and are these texts, which spaces divide. The error is the
 // first text that one of them is not. A list of fields is proved in a third of the time of a list
@@ -31,7 +27,7 @@ fn check<K: Drop, A: Allocator>(
 macro_rules! named {
     ($wanted:literal $type:ident $($value:ident)* $(, $other:ident $text:literal)?) => {
         check(
-            &[$($type::<Heap>::$value(),)* $($type::<Heap>::$other())?],
+            &[$($type::<Global>::$value(),)* $($type::<Global>::$other())?],
             concat!(stringify!($($value)*) $(, " ", $text)?),
             $wanted,
         )

@@ -1,7 +1,9 @@
 //! Rows that are made by hand.
 use cfg_expr::targets::{
-    Arch, Endian, Env, Families, HasAtomics, Os, Panic, TargetInfo, Triple, Vendor,
+    Abi, Arch, Endian, Env, Families, HasAtomics, Os, Panic, TargetInfo, Triple, Vendor,
 };
+use cfgx_targets::reading::{read_endian, read_u8};
+use cfgx_testing::holding::push;
 use std::alloc::{AllocError, Global};
 
 /// A row that lacks all that a row may lack.
@@ -21,66 +23,85 @@ pub(super) fn bare(triple: &str) -> TargetInfo<'_> {
     }
 }
 
-/// Sets a field to what was made, if there is no error.
-///
-/// The proof of a drop takes long if the type of the value is known. Here it is not.
-pub(super) fn set<T: Drop>(field: &mut T, made: Result<T, AllocError>) -> Result<(), AllocError> {
+// Sets a field to what was made, if there is no error.
+//
+// The proof of a drop takes long if the type of the value is known. Here it is not.
+fn set<T: Drop>(field: &mut T, made: Result<T, AllocError>) -> Result<(), AllocError> {
     *field = made?;
     Ok(())
 }
 
-// A row of Apple, with this triple and system.
-fn apple(
+// Sets the field of this name to a text.
+fn set_text(
+    row: &mut TargetInfo<'static>,
+    name: &str,
+    text: &'static str,
+) -> Result<(), AllocError> {
+    match name {
+        "triple" => set(&mut row.triple, Ok(Triple::new_const(text))),
+        "os" => set(&mut row.os, Ok(Some(Os::new_const(text)))),
+        "abi" => set(&mut row.abi, Ok(Some(Abi::new_const(text)))),
+        "arch" => set(&mut row.arch, Ok(Arch::new_const(text))),
+        "env" => set(&mut row.env, Ok(Some(Env::new_const(text)))),
+        "vendor" => set(&mut row.vendor, Ok(Some(Vendor::new_const(text)))),
+        "panic" => set(&mut row.panic, Ok(Panic::new_const(text))),
+        _ => Err(AllocError),
+    }
+}
+
+// Sets the field of this name. The name of a list stands for the list too.
+fn set_field(
+    alloc: Global,
+    row: &mut TargetInfo<'static>,
+    name: &str,
+    value: &'static str,
+) -> Result<(), AllocError> {
+    match name {
+        "unix" => set(&mut row.families, Families::unix(alloc)),
+        "windows" => set(&mut row.families, Families::windows(alloc)),
+        "bits" => set(&mut row.pointer_width, read_u8(value).ok_or(AllocError)),
+        "endian" => set(&mut row.endian, read_endian(value).ok_or(AllocError)),
+        "atomics" => set(
+            &mut row.has_atomics,
+            HasAtomics::atomic_8_16_32_64_128_ptr(alloc),
+        ),
+        _ => set_text(row, name, value),
+    }
+}
+
+fn set_fields(
+    alloc: Global,
+    row: &mut TargetInfo<'static>,
+    fields: &'static str,
+) -> Result<(), AllocError> {
+    for field in fields.split_whitespace() {
+        let (name, value) = field.split_once('=').unwrap_or((field, ""));
+        set_field(alloc, row, name, value)?;
+    }
+    Ok(())
+}
+
+/// A row with this triple and these fields, which lacks all else that a row may lack. Spaces stand
+/// between the fields: `os=ios` and so on, or `unix`, `windows` or `atomics` for a list.
+pub(super) fn row_of(
     alloc: Global,
     triple: &'static str,
-    os: Os<'static>,
+    fields: &'static str,
 ) -> Result<TargetInfo<'static>, AllocError> {
-    let mut row = TargetInfo {
-        triple: Triple::new_const(triple),
-        os: Some(os),
-        abi: None,
-        arch: Arch::aarch64(),
-        env: None,
-        vendor: Some(Vendor::apple()),
-        families: Families::new_const(&[]),
-        pointer_width: 64,
-        endian: Endian::little,
-        has_atomics: HasAtomics::new_const(&[]),
-        panic: Panic::unwind(),
-    };
-    let families = set(&mut row.families, Families::unix(alloc));
-    let widths = HasAtomics::atomic_8_16_32_64_128_ptr(alloc);
-    families.and(set(&mut row.has_atomics, widths)).and(Ok(row))
+    let mut row: TargetInfo<'static> = bare(triple);
+    let is_set = set_fields(alloc, &mut row, fields);
+    is_set.and(Ok(row))
 }
 
-/// The row of iOS.
-pub(super) fn ios(alloc: Global) -> Result<TargetInfo<'static>, AllocError> {
-    apple(alloc, "aarch64-apple-ios", Os::ios())
-}
-
-/// A row of macOS.
-pub(super) fn darwin(alloc: Global) -> Result<TargetInfo<'static>, AllocError> {
-    apple(alloc, "aarch64-apple-darwin", Os::macos())
-}
-
-/// A row of Windows for 32 bits, of this vendor.
-pub(super) fn windows(
+/// Adds a row for each line, which is a triple with fields after it.
+pub(super) fn push_rows(
     alloc: Global,
-    vendor: Vendor<'static>,
-) -> Result<TargetInfo<'static>, AllocError> {
-    let mut row = TargetInfo {
-        triple: Triple::new_const("by-hand"),
-        os: Some(Os::windows()),
-        abi: None,
-        arch: Arch::x86(),
-        env: Some(Env::msvc()),
-        vendor: Some(vendor),
-        families: Families::new_const(&[]),
-        pointer_width: 32,
-        endian: Endian::little,
-        has_atomics: HasAtomics::new_const(&[]),
-        panic: Panic::unwind(),
-    };
-    let families = set(&mut row.families, Families::windows(alloc));
-    families.and(Ok(row))
+    rows: &mut Vec<TargetInfo<'static>>,
+    lines: &'static str,
+) -> Result<(), AllocError> {
+    for line in lines.lines() {
+        let (triple, fields) = line.split_once(' ').unwrap_or((line, ""));
+        push(rows, row_of(alloc, triple, fields))?;
+    }
+    Ok(())
 }

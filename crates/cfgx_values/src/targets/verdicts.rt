@@ -53,19 +53,23 @@ fn verdict_of(digit: Option<&u8>) -> Option<Verdict> {
     })
 }
 
+// Whether the section is that of the row, with the verdict of the target.
+fn is_row(section: &Section, verdict: Verdict, row: &str, told: Told<'_>) -> bool {
+    let (name, condition, values) = taken_apart(row, told.2);
+    section.name.as_str() == name
+        && section.condition.original() == condition
+        && verdict_of(values.as_bytes().get(told.1)) == Some(verdict)
+}
+
 // Whether the sections are those of the rows, with the verdicts of the target.
 fn are_rows(sections: &[Section], verdicts: &[Verdict], told: Told<'_>) -> bool {
-    let (table, place, is_named) = told;
-    for ((section, verdict), row) in sections.iter().zip(verdicts).zip(table.lines()) {
-        let (name, condition, values) = taken_apart(row, is_named);
-        if section.name.as_str() != name
-            || section.condition.original() != condition
-            || verdict_of(values.as_bytes().get(place)) != Some(*verdict)
-        {
+    let mut rows = told.0.lines();
+    for (section, verdict) in sections.iter().zip(verdicts) {
+        if !is_row(section, *verdict, rows.next().unwrap_or(""), told) {
             return false;
         }
     }
-    sections.len() == verdicts.len() && verdicts.len() == table.lines().count()
+    sections.len() == verdicts.len() && rows.next().is_none()
 }
 
 // Whether the target says of the sections what the rows do, twice, and leaves them as they were.

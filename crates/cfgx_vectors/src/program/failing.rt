@@ -70,14 +70,20 @@ pub(super) fn ends_so(alloc: Global, row: &[String]) -> bool {
     let [_, _, _, _, _, words @ ..] = row else {
         return false;
     };
-    words_of(alloc, words).is_ok_and(|words| {
-        leaves_as_told(alloc, words.as_slice(), row) == Some(true)
-    })
+    match words_of(alloc, words) {
+        Ok(words) => leaves_as_told(alloc, words.as_slice(), row) == Some(true),
+        Err(_) => false,
+    }
 }
 
-// Whether each write of this output that fails ends the run with status 3: what went out, a byte a
-// call, is to be the bytes before it, and nothing is to be written after them, nor flushed.
-fn ends_at_each_write(alloc: Global, words: &[&str], input: &str, output: &[u8]) -> bool {
+/// Whether each write of this output that fails ends the run with status 3: what went out, a byte a
+/// call, is to be the bytes before it, and nothing is to be written after them, nor flushed.
+pub(super) fn ends_at_each_write(
+    alloc: Global,
+    words: &[&str],
+    input: &str,
+    output: &[u8],
+) -> bool {
     for written in 0..output.len() {
         let mut sink = Recorder::new(alloc);
         sink.each = 1;
@@ -88,19 +94,6 @@ fn ends_at_each_write(alloc: Global, words: &[&str], input: &str, output: &[u8])
         }
     }
     true
-}
-
-/// Whether each write of a run with the words of the row that fails is its last call.
-pub(super) fn writes_fail_in_turn(alloc: Global, row: &[String]) -> bool {
-    let [_, written, words @ ..] = row else {
-        return false;
-    };
-    words_of(alloc, words).is_ok_and(|words| ends_at_each_write(
-        alloc,
-        words.as_slice(),
-        "",
-        written.as_bytes(),
-    ))
 }
 
 // Whether a run over the input whose read of this number fails ends with status 3, reads no more,

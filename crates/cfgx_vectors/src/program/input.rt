@@ -35,23 +35,34 @@ fn has_length(alloc: Global, count: usize, each: usize) -> bool {
     }
 }
 
-/// Whether an input is read as a row says.
-pub(super) fn passes(alloc: Global, row: &[String]) -> bool {
-    match row {
-        [kind, read, left] if kind.as_str() == "failed" => {
-            read.parse()
-                .is_ok_and(|read| is_device(alloc, read, left.as_str()))
-        }
-        [kind, input, each, reads] if kind.as_str() == "whole" => {
-            match (each.parse(), reads.parse()) {
-                (Ok(each), Ok(reads)) => is_read_whole(alloc, input.as_bytes(), each, reads),
-                _ => false,
-            }
-        }
-        [kind, count, each] if kind.as_str() == "length" => match (count.parse(), each.parse()) {
+// Whether an input is read as a row of three fields says.
+fn three_pass(alloc: Global, kind: &str, one: &str, other: &str) -> bool {
+    match kind {
+        "failed" => is_device(alloc, one.parse().unwrap_or(0), other),
+        "length" => match (one.parse(), other.parse()) {
             (Ok(count), Ok(each)) => has_length(alloc, count, each),
             _ => false,
         },
+        _ => false,
+    }
+}
+
+// Whether an input is read as a row of four fields says.
+fn four_pass(alloc: Global, input: &str, each: &str, reads: &str) -> bool {
+    match (each.parse(), reads.parse()) {
+        (Ok(each), Ok(reads)) => is_read_whole(alloc, input.as_bytes(), each, reads),
+        _ => false,
+    }
+}
+
+/// Whether an input is read as a row says.
+pub(super) fn passes(alloc: Global, row: &[String]) -> bool {
+    match row {
+        [kind, one, other] => three_pass(alloc, kind.as_str(), one.as_str(), other.as_str()),
+        [kind, input, each, reads] => {
+            kind.as_str() == "whole"
+                && four_pass(alloc, input.as_str(), each.as_str(), reads.as_str())
+        }
         _ => false,
     }
 }

@@ -2,7 +2,6 @@
 use cfgx_engine::engine::run;
 use cfgx_testing::streams::{ALL, Pieces, Recorder, SECTIONS, is_written};
 use cfgx_testing::triples::SIM;
-use cfgx_testing::words::words_of;
 use std::alloc::Global;
 
 // Whether the run reads nothing of an input, whose first read would fail, and writes one byte a
@@ -18,20 +17,13 @@ fn is_unread(alloc: Global, words: &[&str], input: &[u8], ended: (&str, &str)) -
     is_ended && calls == (0, written.len() as u64)
 }
 
-// Whether the run reads nothing of an input of any kind.
-fn reads_nothing(alloc: Global, words: &[&str], ended: (&str, &str)) -> bool {
-    [SECTIONS.as_bytes(), b"", b"\xff", b"x"]
-        .iter()
-        .all(|input| is_unread(alloc, words, input, ended))
-}
-
-/// Whether a run with the words of the row reads nothing, and ends and writes as the row says.
-pub(super) fn is_row_unread(alloc: Global, row: &[String]) -> bool {
-    let [status, written, words @ ..] = row else {
-        return false;
-    };
-    let ended = (status.as_str(), written.as_str());
-    words_of(alloc, words).is_ok_and(|words| reads_nothing(alloc, words.as_slice(), ended))
+/// Whether the run reads nothing of an input of any kind, and ends with this status and writes
+/// this.
+pub(super) fn reads_nothing(alloc: Global, words: &[&str], ended: (&str, &str)) -> bool {
+    is_unread(alloc, words, SECTIONS.as_bytes(), ended)
+        && is_unread(alloc, words, b"", ended)
+        && is_unread(alloc, words, b"\xff", ended)
+        && is_unread(alloc, words, b"x", ended)
 }
 
 /// Whether a run of `pick` over the input makes so many reads, none of them after the end.

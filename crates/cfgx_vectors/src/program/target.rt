@@ -8,11 +8,11 @@ pub(super) fn is_everywhere(alloc: Global, row: &[String]) -> bool {
     let [value, text] = row else {
         return false;
     };
-    let (value, text) = (value.as_str(), text.as_str());
-    [DARWIN, IOS, MACABI, SIM, TVOS].iter().all(|triple| is_answer(
-        alloc,
-        &["target", *triple, text],
-        0,
-        value,
-    ))
+    for triple in &[DARWIN, IOS, MACABI, SIM, TVOS] {
+        let words = ["target", *triple, text.as_str()];
+        if !is_answer(alloc, words.as_slice(), 0, value.as_str()) {
+            return false;
+        }
+    }
+    true
 }

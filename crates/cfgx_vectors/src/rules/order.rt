@@ -59,25 +59,27 @@ fn push(alloc: Global, text: &mut String, number: usize) -> Result<(), AllocErro
     text.push_str(format!(in alloc; " {number}")?.as_str())
 }
 
-// The lengths and the places, with a semicolon between them.
-fn shown(alloc: Global, nodes: &[ExprNode], places: &[usize]) -> Result<String, AllocError> {
-    let mut text = String::new(alloc);
+// Writes the lengths and the places, with a semicolon between them.
+fn push_all(
+    alloc: Global,
+    text: &mut String,
+    nodes: &[ExprNode],
+    places: &[usize],
+) -> Result<(), AllocError> {
     for node in nodes {
-        push(alloc, &mut text, length_of(node))?;
+        push(alloc, text, length_of(node))?;
     }
     text.push_str(";")?;
     for place in places {
-        push(alloc, &mut text, *place)?;
+        push(alloc, text, *place)?;
     }
-    Ok(text)
+    Ok(())
 }
 
 // Whether these are shown so.
 fn are_shown(alloc: Global, nodes: &[ExprNode], places: &[usize], wanted: &str) -> bool {
-    match shown(alloc, nodes, places) {
-        Ok(shown) => shown.as_str().trim_start() == wanted,
-        Err(_) => false,
-    }
+    let mut text = String::new(alloc);
+    push_all(alloc, &mut text, nodes, places).is_ok() & (text.as_str().trim_start() == wanted)
 }
 
 /// Whether the parser leaves these for the text.

@@ -49,8 +49,8 @@ fn is_picked(alloc: Global, input: &[u8], printed: &str) -> bool {
 fn is_picked_with_ff(alloc: Global, input: &str, printed: &str) -> bool {
     let mut bytes = Vec::new(alloc);
     bytes.extend_from_slice(input.as_bytes()).is_ok()
-        && bytes.push(0xff).is_ok()
-        && is_picked(alloc, bytes.as_slice(), printed)
+        & bytes.push(0xff).is_ok()
+        & is_picked(alloc, bytes.as_slice(), printed)
 }
 
 /// Whether `pick` prints what a row says.

@@ -1,32 +1,14 @@
 //! Predicates and literals: what a key means alone and with a value.
 use cfg_expr::error::Failure;
 use cfg_expr::expr::Predicates;
-use cfg_expr::{Expression, Predicate, TargetPredicate};
+use cfg_expr::{Expression, Predicate};
 use std::alloc::{AllocError, Global};
-
-// A predicate on the target as pages write it.
-fn target_as_told(alloc: Global, target: &TargetPredicate<'_>) -> Result<String, AllocError> {
-    let (name, text) = match target {
-        TargetPredicate::Abi(text) => ("Abi", text.as_str()),
-        TargetPredicate::Arch(text) => ("Arch", text.as_str()),
-        TargetPredicate::Env(text) => ("Env", text.as_str()),
-        TargetPredicate::Family(text) => ("Family", text.as_str()),
-        TargetPredicate::Os(text) => ("Os", text.as_str()),
-        TargetPredicate::Panic(text) => ("Panic", text.as_str()),
-        TargetPredicate::Vendor(text) => ("Vendor", text.as_str()),
-        number => return format!(in alloc; "Target({number:?})"),
-    };
-    format!(in alloc; "Target({name}({text}))")
-}
 
 // A predicate as pages write it: as `Debug` prints it, without quotes.
 fn as_told(alloc: Global, predicate: &Predicate<'_>) -> Result<String, AllocError> {
-    match predicate {
-        Predicate::Target(target) => target_as_told(alloc, target),
-        other => format!(in alloc; "{other:?}")?
-            .as_str()
-            .replace(alloc, "\"", ""),
-    }
+    format!(in alloc; "{predicate:?}")?
+        .as_str()
+        .replace(alloc, "\"", "")
 }
 
 // Whether pages write the predicate so, which is dropped by name.

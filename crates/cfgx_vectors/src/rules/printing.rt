@@ -5,31 +5,58 @@ use cfgx_testing::rows::is_fault;
 use std::alloc::{AllocError, Global};
 use std::ops::Range;
 
-// The reason of a name, with its number or its terms.
-fn reason_of(name: &str) -> Option<Reason> {
-    let reason = match name {
-        "InvalidNot(0)" => Reason::InvalidNot(0),
-        "InvalidNot(2)" => Reason::InvalidNot(2),
-        "InvalidNot(257)" => Reason::InvalidNot(257),
-        "InvalidCharacters" => Reason::InvalidCharacters,
-        "UnclosedParens" => Reason::UnclosedParens,
-        "UnopenedParens" => Reason::UnopenedParens,
-        "UnclosedQuotes" => Reason::UnclosedQuotes,
-        "UnopenedQuotes" => Reason::UnopenedQuotes,
-        "Empty" => Reason::Empty,
-        "U[]" => Reason::Unexpected(&[]),
-        "U[`(`]" => Reason::Unexpected(&["("]),
-        "U[`<key>` `all` `any` `not`]" => Reason::Unexpected(&["<key>", "all", "any", "not"]),
-        "U[`=` `,` `)`]" => Reason::Unexpected(&["=", ",", ")"]),
-        "U[`\"<value>\"`]" => Reason::Unexpected(&["\"<value>\""]),
-        "U[`= \"<target_cfg_value>\"`]" => Reason::Unexpected(&["= \"<target_cfg_value>\""]),
-        "InvalidInteger" => Reason::InvalidInteger,
-        "MultipleRootPredicates" => Reason::MultipleRootPredicates,
-        "InvalidHasAtomic" => Reason::InvalidHasAtomic,
-        "UnknownBuiltin" => Reason::UnknownBuiltin,
-        _ => return None,
-    };
-    Some(reason)
+// The reasons, with their numbers or terms.
+const REASONS: &[Reason] = &[
+    Reason::InvalidNot(0),
+    Reason::InvalidNot(2),
+    Reason::InvalidNot(257),
+    Reason::InvalidCharacters,
+    Reason::UnclosedParens,
+    Reason::UnopenedParens,
+    Reason::UnclosedQuotes,
+    Reason::UnopenedQuotes,
+    Reason::Empty,
+    Reason::Unexpected(&[]),
+    Reason::Unexpected(&["("]),
+    Reason::Unexpected(&["<key>", "all", "any", "not"]),
+    Reason::Unexpected(&["=", ",", ")"]),
+    Reason::Unexpected(&["\"<value>\""]),
+    Reason::Unexpected(&["= \"<target_cfg_value>\""]),
+    Reason::InvalidInteger,
+    Reason::MultipleRootPredicates,
+    Reason::InvalidHasAtomic,
+    Reason::UnknownBuiltin,
+];
+
+// How rows tell each of them, a line for each.
+const NAMES: &str = r#"InvalidNot(0)
+InvalidNot(2)
+InvalidNot(257)
+InvalidCharacters
+UnclosedParens
+UnopenedParens
+UnclosedQuotes
+UnopenedQuotes
+Empty
+U[]
+U[`(`]
+U[`<key>` `all` `any` `not`]
+U[`=` `,` `)`]
+U[`"<value>"`]
+U[`= "<target_cfg_value>"`]
+InvalidInteger
+MultipleRootPredicates
+InvalidHasAtomic
+UnknownBuiltin"#;
+
+// The reason that rows tell so.
+fn reason_of(told: &str) -> Option<Reason> {
+    for (reason, name) in REASONS.iter().zip(NAMES.lines()) {
+        if name == told {
+            return Some(*reason);
+        }
+    }
+    None
 }
 
 // The fault in this text with the reason of this name.
@@ -46,7 +73,7 @@ fn error_of(alloc: Global, text: &str, span: Range<usize>, name: &str) -> Option
 /// Whether the reason of this name has these texts.
 pub(super) fn has_texts(alloc: Global, name: &str, text: &str, description: &str) -> bool {
     match error_of(alloc, "", 0..0, name) {
-        Some(error) => { prints(alloc, &error.reason, text) && error.description() == description }
+        Some(error) => prints(alloc, &error.reason, text) & (error.description() == description),
         None => false,
     }
 }
@@ -66,7 +93,7 @@ fn error_as_told(alloc: Global, text: &str, fault: &str) -> Option<ParseError> {
 /// Whether the fault that rows tell so prints this.
 pub(super) fn is_printed(alloc: Global, text: &str, fault: &str, printed: &str) -> bool {
     match error_as_told(alloc, text, fault) {
-        Some(error) => is_fault(alloc, &error, text, fault) && prints(alloc, &error, printed),
+        Some(error) => is_fault(alloc, &error, text, fault) & prints(alloc, &error, printed),
         None => false,
     }
 }
@@ -102,11 +129,16 @@ fn parse_failure(alloc: Global) -> Result<(), Failure> {
     Ok(())
 }
 
+// Whether the failure is that fault.
+fn is_unopened(alloc: Global, failure: &Result<(), Failure>) -> bool {
+    match failure {
+        Err(Failure::Parse(error)) => is_fault(alloc, error, ")", "UnopenedParens at 0..1"),
+        _ => false,
+    }
+}
+
 /// Whether a failure is a fault or out of memory.
-pub(super) fn is_failure(alloc: Global) -> Result<bool, AllocError> {
-    let wanted = unopened(alloc, ")", 0..1)?;
-    Ok(
-        parse_failure(alloc) == Err(Failure::Parse(wanted))
-            && Failure::<Global>::from(AllocError) == Failure::Memory(AllocError),
-    )
+pub(super) fn is_failure(alloc: Global) -> bool {
+    let failure: Failure = Failure::from(AllocError);
+    failure == Failure::Memory(AllocError) && is_unopened(alloc, &parse_failure(alloc))
 }

@@ -42,19 +42,25 @@ impl Write for Slow {
     }
 }
 
-// Spells the predicates of the text, and answers the kind of the error that ended this, if any.
-fn spell_each(alloc: Global, text: &str, writer: &mut Slow) -> Result<Option<ErrorKind>, Failure> {
-    let expression = Expression::parse(alloc, text)?;
-    Ok(spell_all(expression.predicates(), writer))
+// Spells the predicates that were read. The error is the kind of the one that ended this.
+fn spell_read(read: &Result<Expression, Failure>, writer: &mut Slow) -> Result<(), ErrorKind> {
+    match read {
+        Ok(expression) => spell_all(expression.predicates(), writer),
+        Err(_) => Err(ErrorKind::InvalidInput),
+    }
 }
 
-fn spell_all(predicates: Predicates<'_>, writer: &mut Slow) -> Option<ErrorKind> {
+fn spell_each(alloc: Global, text: &str, writer: &mut Slow) -> Result<(), ErrorKind> {
+    spell_read(&Expression::parse(alloc, text), writer)
+}
+
+fn spell_all(predicates: Predicates<'_>, writer: &mut Slow) -> Result<(), ErrorKind> {
     for predicate in predicates {
         if let Err(error) = spell_one(predicate, writer) {
-            return Some(error.kind());
+            return Err(error.kind());
         }
     }
-    None
+    Ok(())
 }
 
 // Spells a predicate, and drops it by name, since a drop at the end of the scope takes long to
@@ -65,24 +71,25 @@ fn spell_one(predicate: Predicate<'_>, writer: &mut Slow) -> io::Result<()> {
     spelled
 }
 
-// Whether the text is spelled so by calls that take at most `each` bytes, none of an empty slice.
-fn is_spelled(alloc: Global, text: &str, spelled: &str, each: usize) -> Result<bool, Failure> {
+// Whether the writer has the spelling, no call was of an empty slice, and each took what it could.
+fn has_spelling(writer: &Slow, spelled: &str) -> bool {
+    let sink = &writer.sink;
+    !sink.is_misused
+        && sink.bytes.as_slice() == spelled.as_bytes()
+        && (sink.each > 1 || sink.writes == spelled.len() as u64)
+}
+
+// Whether the text is spelled so by calls that take at most `each` bytes.
+fn is_spelled(alloc: Global, text: &str, spelled: &str, each: usize) -> bool {
     let mut writer = slow_writer(alloc, each);
-    let error = spell_each(alloc, text, &mut writer)?;
-    let are_all_used = each > 1 || writer.sink.writes == spelled.len() as u64;
-    Ok(
-        error.is_none()
-            && are_all_used
-            && !writer.sink.is_misused
-            && writer.sink.bytes.as_slice() == spelled.as_bytes(),
-    )
+    spell_each(alloc, text, &mut writer).is_ok() & has_spelling(&writer, spelled)
 }
 
 // Whether the text is spelled so if the writer takes all, or a few bytes, or one a call.
 fn is_spelled_by_any(alloc: Global, text: &str, spelled: &str) -> bool {
-    [1, 3, ALL]
-        .iter()
-        .all(|each| holds(is_spelled(alloc, text, spelled, *each)))
+    is_spelled(alloc, text, spelled, 1)
+        && is_spelled(alloc, text, spelled, 3)
+        && is_spelled(alloc, text, spelled, ALL)
 }
 
 /// Whether the predicate is spelled as its text, in which 5,000 bytes stand between these two.
@@ -97,8 +104,7 @@ pub(super) fn is_long(alloc: Global, front: &str, back: &str) -> bool {
 /// asks it.
 pub(super) fn is_flag_spelled(alloc: Global) -> bool {
     let mut writer = slow_writer(alloc, 1);
-    spell_one(Predicate::Flag("true"), &mut writer).is_ok()
-        && writer.sink.bytes.as_slice() == b"true".as_slice()
+    spell_one(Predicate::Flag("true"), &mut writer).is_ok() & has_spelling(&writer, "true")
 }
 
 // Whether the writer has this beginning of the spelling, and no call came after a failed one.
@@ -109,16 +115,21 @@ fn has_front(writer: &Slow, spelled: &str, length: usize) -> bool {
 }
 
 // Whether a beginning of the spelling was written, this many bytes, if no more have room.
-fn stops_after(alloc: Global, text: &str, spelled: &str, room: usize) -> Result<bool, Failure> {
+fn stops_after(alloc: Global, text: &str, spelled: &str, room: usize) -> bool {
     let mut writer = slow_writer(alloc, 4);
     writer.sink.room = room;
-    let error = spell_each(alloc, text, &mut writer)?;
-    Ok(error == Some(ErrorKind::WriteZero) && has_front(&writer, spelled, room))
+    let ended = spell_each(alloc, text, &mut writer);
+    (ended == Err(ErrorKind::WriteZero)) & has_front(&writer, spelled, room)
 }
 
 // Whether it stops so at each place.
 fn stops_at_each(alloc: Global, text: &str, spelled: &str) -> bool {
-    (0..spelled.len()).all(|room| holds(stops_after(alloc, text, spelled, room)))
+    for room in 0..spelled.len() {
+        if !stops_after(alloc, text, spelled, room) {
+            return false;
+        }
+    }
+    true
 }
 
 const KINDS: [ErrorKind; 3] = [
@@ -129,25 +140,21 @@ const KINDS: [ErrorKind; 3] = [
 
 // Whether a spelling whose call of this number fails, of calls that take one byte, ends with the
 // writer's own error at that call, after the bytes of the calls before it.
-fn fails_at(
-    alloc: Global,
-    (text, spelled): (&str, &str),
-    failing: usize,
-    kind: ErrorKind,
-) -> Result<bool, Failure> {
+fn fails_at(alloc: Global, (text, spelled): (&str, &str), failing: usize, kind: ErrorKind) -> bool {
     let mut writer = slow_writer(alloc, 1);
     writer.sink.failing_write = failing as u64;
     writer.kind = kind;
-    let error = spell_each(alloc, text, &mut writer)?;
-    let is_last = error == Some(kind) && writer.sink.writes == failing as u64;
-    Ok(is_last && has_front(&writer, spelled, failing.saturating_sub(1)))
+    let is_last = spell_each(alloc, text, &mut writer) == Err(kind);
+    is_last
+        & (writer.sink.writes == failing as u64)
+        & has_front(&writer, spelled, failing.saturating_sub(1))
 }
 
 // Whether each call that fails, with each of the kinds, ends the spelling so.
 fn fails_at_each(alloc: Global, text: &str, spelled: &str) -> bool {
     for failing in 1..=spelled.len() {
         for kind in KINDS {
-            if !holds(fails_at(alloc, (text, spelled), failing, kind)) {
+            if !fails_at(alloc, (text, spelled), failing, kind) {
                 return false;
             }
         }

@@ -74,6 +74,6 @@ pub(super) fn has_items(alloc: Global, row: &[String]) -> bool {
     };
     let mut lexer = Lexer::new(alloc, text.as_str());
     is_told(alloc, "", &lexer, before.as_str())
-        && gives_all(alloc, &mut lexer, items)
-        && has_ended(&mut lexer)
+        & gives_all(alloc, &mut lexer, items)
+        & has_ended(&mut lexer)
 }
