@@ -98,7 +98,7 @@ fn wrapped(alloc: Global, numbers: &mut Numbers) -> Result<String, AllocError> {
     format!(in alloc; "cfg({inner})")
 }
 
-// Writes the text with the token in the place of the characters between these places.
+// Writes the text, with the token instead of the characters between the two places.
 fn push_damaged(
     text: &mut String,
     whole: &str,
@@ -118,7 +118,7 @@ fn push_damaged(
     Ok(())
 }
 
-// A condition in which one token stands in the place of some characters.
+// A condition with one token instead of some of its characters.
 fn damaged(alloc: Global, numbers: &mut Numbers) -> Result<String, AllocError> {
     let whole = condition(alloc, numbers)?;
     let start = numbers.below(whole.len());
