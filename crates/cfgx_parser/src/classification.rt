@@ -27,8 +27,8 @@ pub(crate) struct Pending<'a> {
 pub(crate) type Refused = (Reason, Span);
 
 /// The leaf of a key that takes no value, or the fault if one stands there.
-fn bare(leaf: ExprNode, value: &Option<Word<'_>>) -> Result<ExprNode, Refused>
-    ensures { class_result result ≡ bare_answer leaf (option_map word_of value.now) }
+fn bare(leaf: ExprNode, value: Option<Word<'_>>) -> Result<ExprNode, Refused>
+    ensures { class_result result ≡ bare_answer leaf (option_map word_of value.entry) }
 {
     match value {
         None => Ok(leaf),
@@ -37,8 +37,8 @@ fn bare(leaf: ExprNode, value: &Option<Word<'_>>) -> Result<ExprNode, Refused>
 }
 
 /// The predicate of a key that begins with `target_`, by what follows and by its value.
-fn target(which: &str, key: &Word<'_>, value: Word<'_>) -> Result<ExprNode, Refused>
-    ensures { class_result result ≡ target_answer which.now (word_of key.now)
+fn target(which: &str, key: Word<'_>, value: Word<'_>) -> Result<ExprNode, Refused>
+    ensures { class_result result ≡ target_answer which.now (word_of key.entry)
         (word_of value.entry) }
 {
     use ExprNode::Predicate;
@@ -71,9 +71,9 @@ fn target(which: &str, key: &Word<'_>, value: Word<'_>) -> Result<ExprNode, Refu
 }
 
 /// The predicate of a key that is in none of the tables, or that begins with `target_`.
-fn other(key: &Word<'_>, value: &Option<Word<'_>>) -> Result<ExprNode, Refused>
-    ensures { class_result result ≡ other_answer (word_of key.now)
-        (option_map word_of value.now) }
+fn other(key: Word<'_>, value: Option<Word<'_>>) -> Result<ExprNode, Refused>
+    ensures { class_result result ≡ other_answer (word_of key.entry)
+        (option_map word_of value.entry) }
 {
     let Some(which) = key.text.strip_prefix("target_") else {
         return Ok(ExprNode::Predicate(InnerPredicate::Other {
@@ -82,10 +82,7 @@ fn other(key: &Word<'_>, value: &Option<Word<'_>>) -> Result<ExprNode, Refused>
         }));
     };
     match value {
-        Some(value) => {
-            let (text, span) = (value.text, value.span);
-            target(which, key, Word { text, span })
-        }
+        Some(value) => target(which, key, value),
         None => Err((Reason::Unexpected(&["= \"<target_cfg_value>\""]), key.span)),
     }
 }
@@ -97,7 +94,7 @@ pub(crate) fn classify(pending: &Pending<'_>) -> Result<ExprNode, Refused>
 {
     use ExprNode::{Literal, Predicate};
     use InnerPredicate::*;
-    let (key, value) = (&pending.key, &pending.value);
+    let Pending { key, value } = *pending;
     match key.text {
         "true" => bare(Literal(true), value),
         "false" => bare(Literal(false), value),

@@ -1,5 +1,5 @@
-//! What the comparisons and the order of questions mean: each function's clause is the law, and its
-//! body is only there to be proved.
+//! What the comparisons and the order of questions mean: each function's clause is the law. Only
+//! `are_same_predicates` is called; the other bodies are there to be proved.
 ghost use Rattle.std.specs.Prelude.{◌≡◌, ◌↔◌, IsTrue};
 ghost use Rattle.cfgx_parser.specs.Predicate.{question_of, target_of};
 ghost use Rattle.cfgx_parser.specs.Order.{func_cmp};
