@@ -6,7 +6,7 @@ use crate::atomics::HasAtomics;
 use crate::endian::Endian;
 use crate::families::Families;
 use crate::list::SortedList;
-use crate::made::{after, put};
+use crate::made::put;
 use cfgx_fields::{Abi, Arch, Env, Field, Os, Panic, Triple, Vendor};
 use std::alloc::{AllocError, Allocator, Global};
 
@@ -66,7 +66,7 @@ impl<'a, A: Allocator + Copy> TargetInfo<'a, A> {
     {
         let mut copy = Self::blank(self.pointer_width, self.endian);
         let copied = copy.copy_parts(self, alloc);
-        after(copied, copy)
+        copied.and(Ok(copy))
     }
 
     // A target whose texts and lists are still to be put in.

@@ -35,11 +35,3 @@ pub(crate) fn put<T: Drop>(place: &mut T, next: Result<T, AllocError>) -> Result
     *place = next?;
     Ok(())
 }
-
-/// What was made, if the last step of making it was done.
-pub(crate) fn after<T: Drop>(done: Result<(), AllocError>, made: T) -> Result<T, AllocError>
-    ensures { IfOk result (λ it. it ≡ made) × IfOk result (λ it. done ≡ Ok tt) }
-{
-    done?;
-    Ok(made)
-}
