@@ -27,6 +27,12 @@ pub fn push<T: Drop, A: Allocator>(
     Ok(())
 }
 
+/// Puts what was made in the place of a value, if there is no error. The type is not known either.
+pub fn put<T: Drop>(place: &mut T, made: Result<T, AllocError>) -> Result<(), AllocError> {
+    *place = made?;
+    Ok(())
+}
+
 /// Whether all checks hold. The error is the name of the first one that does not.
 pub fn all_hold<'a>(checks: &[(&'a str, bool)]) -> Result<(), &'a str> {
     for (name, is_held) in checks {

@@ -6,7 +6,7 @@ use cfg_expr::targets::{
     Families, Family, HasAtomic, HasAtomicFailure, HasAtomics, TargetInfo, TargetTable,
 };
 use cfgx_fields::Field;
-use cfgx_testing::holding::{gives, prints, push};
+use cfgx_testing::holding::{gives, prints, push, put};
 use std::alloc::{AllocError, Global};
 use std::fmt::Display;
 
@@ -106,13 +106,6 @@ const TEXT: &str = "a text of seventeen";
 
 fn some_owned<'a, K, A: SmallAllocator>(alloc: A) -> Made<Option<Field<'a, K, A>>> {
     Ok(Some(owned(alloc, TEXT)?))
-}
-
-// Replaces the value by what was made. The type is not known here, which makes its drop short to
-// prove.
-fn put<T: Drop>(place: &mut T, made: Made<T>) -> Made<()> {
-    *place = made?;
-    Ok(())
 }
 
 // Makes the field own its text.

@@ -3,7 +3,7 @@ use cfg_expr::targets::{
     Abi, Arch, Endian, Env, Families, HasAtomics, Os, Panic, TargetInfo, Triple, Vendor,
 };
 use cfgx_targets::reading::{read_endian, read_u8};
-use cfgx_testing::holding::push;
+use cfgx_testing::holding::{push, put};
 use std::alloc::{AllocError, Global};
 
 /// A row that lacks all that a row may lack.
@@ -23,14 +23,6 @@ pub(super) fn bare(triple: &str) -> TargetInfo<'_> {
     }
 }
 
-// Sets a field to what was made, if there is no error.
-//
-// The proof of a drop takes long if the type of the value is known. Here it is not.
-fn set<T: Drop>(field: &mut T, made: Result<T, AllocError>) -> Result<(), AllocError> {
-    *field = made?;
-    Ok(())
-}
-
 // Sets the field of this name to a text.
 fn set_text(
     row: &mut TargetInfo<'static>,
@@ -38,13 +30,13 @@ fn set_text(
     text: &'static str,
 ) -> Result<(), AllocError> {
     match name {
-        "triple" => set(&mut row.triple, Ok(Triple::new_const(text))),
-        "os" => set(&mut row.os, Ok(Some(Os::new_const(text)))),
-        "abi" => set(&mut row.abi, Ok(Some(Abi::new_const(text)))),
-        "arch" => set(&mut row.arch, Ok(Arch::new_const(text))),
-        "env" => set(&mut row.env, Ok(Some(Env::new_const(text)))),
-        "vendor" => set(&mut row.vendor, Ok(Some(Vendor::new_const(text)))),
-        "panic" => set(&mut row.panic, Ok(Panic::new_const(text))),
+        "triple" => put(&mut row.triple, Ok(Triple::new_const(text))),
+        "os" => put(&mut row.os, Ok(Some(Os::new_const(text)))),
+        "abi" => put(&mut row.abi, Ok(Some(Abi::new_const(text)))),
+        "arch" => put(&mut row.arch, Ok(Arch::new_const(text))),
+        "env" => put(&mut row.env, Ok(Some(Env::new_const(text)))),
+        "vendor" => put(&mut row.vendor, Ok(Some(Vendor::new_const(text)))),
+        "panic" => put(&mut row.panic, Ok(Panic::new_const(text))),
         _ => Err(AllocError),
     }
 }
@@ -57,11 +49,11 @@ fn set_field(
     value: &'static str,
 ) -> Result<(), AllocError> {
     match name {
-        "unix" => set(&mut row.families, Families::unix(alloc)),
-        "windows" => set(&mut row.families, Families::windows(alloc)),
-        "bits" => set(&mut row.pointer_width, read_u8(value).ok_or(AllocError)),
-        "endian" => set(&mut row.endian, read_endian(value).ok_or(AllocError)),
-        "atomics" => set(
+        "unix" => put(&mut row.families, Families::unix(alloc)),
+        "windows" => put(&mut row.families, Families::windows(alloc)),
+        "bits" => put(&mut row.pointer_width, read_u8(value).ok_or(AllocError)),
+        "endian" => put(&mut row.endian, read_endian(value).ok_or(AllocError)),
+        "atomics" => put(
             &mut row.has_atomics,
             HasAtomics::atomic_8_16_32_64_128_ptr(alloc),
         ),
