@@ -2,15 +2,13 @@
 use Rattle.std.proofs.Common.{rules, ◌≡◌, ℕ, suc, ◌+◌, ◌-◌, ◌<◌, ◌≤◌, ◌≢◌, false, List, [], ◌∷◌}
 use Rattle.std.proofs.Common.{Some, ◌++◌, length, take, drop, get_or, sym, refl, ap, ◌∙◌, arith}
 use Rattle.std.proofs.Common.{length-append, append_assoc, length-take, length-drop}
-use Rattle.std.specs.{Prelude.codes, Prelude.slice_range, Str.IsUtf8}
+use Rattle.std.specs.{Prelude.codes, Prelude.slice_range, Str.IsUtf8, List.prefix_len}
 use Rattle.std.{proofs.Math.Seq.split_at, proofs.lemmas.Str.IsCharBoundary-after_ascii}
-use Rattle.std.specs.List.{prefix_len}
 use Rattle.std.proofs.lemmas.List.{get_or-take, take_at, get_or_at, take-take, drop-take, drop-drop}
 use Rattle.cfgx_syntax.specs.Token.{Token, is_quote, HasNoQuote, in_quotes}
-use Rattle.cfgx_syntax.specs.Lexer.{BeginsWith, FindsQuote, in_run}
+use Rattle.cfgx_syntax.{specs.Lexer.{BeginsWith, FindsQuote, in_run}, proofs.WordLemmas.IsCut-front}
 use Rattle.cfgx_syntax.specs.declared.lexer.bytes.Run.TheVariants as run
 use Rattle.std.proofs.lemmas.List.Sums.{prefix_len_passes, prefix_len_stops}
-use Rattle.cfgx_syntax.proofs.WordLemmas.{IsCut-front}
 
 -- a byte that is no quote fails the test
 is_quote-other : (byte : ℕ) → byte ≢ 34 → is_quote byte ≡ false

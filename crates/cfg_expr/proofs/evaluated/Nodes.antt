@@ -1,10 +1,8 @@
 -- The nodes of a text's one tree, and what is read of them.
 use Rattle.std.proofs.Common.{◌≡◌, ◌∙◌, ℕ, List, [], ◌∷◌, ap, get_or, map, refl}
-use Rattle.std.proofs.lemmas.List.{get_or-map}
-use Rattle.std.proofs.lemmas.Option.{get_or_from_slice_get, slice_get_within}
+use Rattle.std.proofs.lemmas.{List.get_or-map, Option.{get_or_from_slice_get, slice_get_within}}
 use Rattle.cfgx_grammar.specs.{Answer.HasOneTree, Tree.Tree, Tree.asked}
-use Rattle.cfgx_parser.specs.nodes.Prefix.{Node, node_at, places, prefix}
-use Rattle.cfgx_parser.specs.nodes.Shape.{shape, shape_of}
+use Rattle.cfgx_parser.specs.nodes.{Prefix.{Node, node_at, places, prefix}, Shape.{shape, shape_of}}
 use Rattle.cfgx_parser.{specs.declared.nodes.ExprNode.ExprNode, proofs.Places.read-places}
 use Rattle.cfgx_parser.specs.declared.nodes.ExprNode.TheVariants as node
 use Rattle.cfgx_grammar.proofs.Answering.{only_tree}

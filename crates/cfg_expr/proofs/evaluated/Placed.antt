@@ -12,14 +12,11 @@ use Rattle.cfgx_grammar.specs.Fold.{Operations, answered}
 use Rattle.cfgx_grammar.proofs.{Alike.answered-shape, Dealing.asked-answered}
 use Rattle.cfgx_grammar.proofs.alone.{all_of_first, all_of_second}
 use Rattle.cfgx_parser.specs.nodes.Prefix.{Node, prefix, prefix_each, places, places_by}
-use Rattle.cfgx_parser.specs.nodes.Shape.{shape, shape_of}
-use Rattle.cfgx_parser.specs.declared.nodes.ExprNode.{ExprNode}
+use Rattle.cfgx_parser.specs.{nodes.Shape.{shape, shape_of}, declared.nodes.ExprNode.ExprNode}
 use Rattle.cfgx_parser.proofs.Shapes.{length-shape, places-shape, shapes-shape}
-use Rattle.cfg_expr.specs.nodes.AnswerSlots.{no_answers, with_answers}
-use Rattle.cfg_expr.specs.nodes.Reading.{Member, read}
+use Rattle.cfg_expr.specs.nodes.{AnswerSlots.{no_answers, with_answers}, Reading.{Member, read}}
 use Rattle.cfg_expr.specs.declared.expr.evaluating.Member.TheVariants as member
-use Rattle.cfg_expr.proofs.evaluated.Nodes.{read-mapped}
-use Rattle.cfg_expr.proofs.evaluated.Read.{slot_of, entry, read-tree}
+use Rattle.cfg_expr.proofs.evaluated.{Nodes.read-mapped, Read.{slot_of, entry, read-tree}}
 
 -- the place is none of these
 abbrev Misses : ℕ → List ℕ → Type 0

@@ -1,8 +1,7 @@
 -- The nodes of a tree are written for its items: the laws of the builder of nodes.
 use Rattle.std.proofs.Common.{◌≡◌, ℕ, ◌+◌, true, false, List, [], ◌++◌, length, Option}
 use Rattle.std.proofs.Common.{option_map, rules, arith, Some, None, refl, ap, subst}
-use Rattle.std.specs.Prelude.{if◌then◌else◌}
-use Rattle.std.proofs.lemmas.List.{append-nil, length_push}
+use Rattle.std.{specs.Prelude.if◌then◌else◌, proofs.lemmas.List.{append-nil, length_push}}
 use Rattle.cfgx_syntax.specs.Items.{Item}
 use Rattle.cfgx_grammar.{specs.Question.Leaf, specs.Question.Question, specs.Classification.Class}
 use Rattle.cfgx_grammar.{specs.Classification.class, proofs.alone.all_of_first}
@@ -10,13 +9,12 @@ use Rattle.cfgx_grammar.{proofs.alone.all_of_second, proofs.spelled.Calls, proof
 use Rattle.cfgx_grammar.specs.Tree.{Tree, Trees, is_function, is_leaf, count}
 use Rattle.cfgx_grammar.{specs.parsing.State.Function, proofs.accepted.leaf_tree}
 use Rattle.cfgx_parser.specs.nodes.Located.{located, at, IsSpan, ValueHasCut}
-use Rattle.cfgx_parser.specs.nodes.Node.{Written, with_leaf}
+use Rattle.cfgx_parser.specs.{nodes.Node.{Written, with_leaf}, declared.nodes.Span.Span}
 use Rattle.cfgx_parser.specs.nodes.Prefix.{Node, headed, prefix, prefix_each, places, places_by}
 use Rattle.cfgx_parser.{specs.nodes.Prefix.with_places, proofs.spelled.WritingLemmas.length-nodes}
 use Rattle.cfgx_parser.specs.nodes.WritesNodes.{IsPlaced, ArePlaced, WritesNodes}
 use Rattle.cfgx_parser.specs.parsing.NodeState.{counted, node_builder}
 use Rattle.cfgx_parser.specs.declared.nodes.ExprNode.TheVariants as node
-use Rattle.cfgx_parser.specs.declared.nodes.Span.{Span}
 use Rattle.cfgx_parser.proofs.spelled.LocatedClasses.{NamesClass, NamesClass-class}
 use Rattle.cfgx_parser.proofs.spelled.WritingLemmas.{WritesNodes-none, WritesNodes-then}
 use Rattle.cfgx_parser.proofs.spelled.WritingLemmas.{WritesNodes-leaf, WritesNodes-function}

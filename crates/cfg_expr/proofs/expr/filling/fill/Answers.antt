@@ -10,3 +10,6 @@ returns-clause-with_true g c = grind (arith, common_steps)
 
 pub returns-clause-with_false : goal.returns-clause-with_false
 returns-clause-with_false g c = grind (arith, common_steps)
+
+pub loop-place-init : goal.loop-place-init
+loop-place-init g c = grind (arith, common_steps)

@@ -1,10 +1,8 @@
 -- The parser begins anew, and what it reads is what the grammar answers.
-use Rattle.std.proofs.Common.{rules, ap, ◌∙◌}
-use Rattle.std.proofs.lemmas.Result.{err_from_is_err_and}
+use Rattle.std.proofs.{Common.{rules, ap, ◌∙◌}, lemmas.Result.err_from_is_err_and}
 use Rattle.cfgx_syntax.specs.Stripping.{strip}
 use Rattle.cfgx_parser.proofs.Whole.{Begins, Answers-fails, Answers-memory, Accepted}
-use Rattle.cfgx_parser.proofs.parsed.TextReader.read.Given.{Over}
-use Rattle.cfgx_parser.proofs.parsed.TextReader.read.Goals.{After-read_all}
+use Rattle.cfgx_parser.proofs.parsed.TextReader.read.{Given.Over, Goals.After-read_all}
 use Rattle.cfgx_parser.proofs.parsed.TextReader.read.Goals as goal
 
 -- the parser starts at the text's start
