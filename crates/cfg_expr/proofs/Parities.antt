@@ -2,8 +2,7 @@
 use Rattle.std.proofs.Common.{◌≡◌, ℕ, Bool, true, false, not, List, [], ◌∷◌, ◌++◌, map}
 use Rattle.std.proofs.Common.{replicate, Option, sym, refl, ap, ◌∙◌, append_assoc, map-id}
 use Rattle.std.proofs.{lemmas.Slice.Zip.AllZip-map, lemmas.List.append-nil, lemmas.List.map-append}
-use Rattle.cfgx_grammar.specs.{Question.Question}
-use Rattle.cfgx_grammar.specs.Tree.{ListFunction, Tree, Trees, asked, count}
+use Rattle.cfgx_grammar.specs.{Question.Question, Tree.{ListFunction, Tree, Trees, asked, count}}
 use Rattle.cfgx_grammar.specs.Filling.{filled_by, polar, polarities, polarities_each}
 use Rattle.cfgx_grammar.proofs.Alike.{Alike, AlikeEach, asked-alike, polarities-shape}
 use Rattle.cfgx_parser.specs.nodes.Prefix.{Node, list_func, prefix, prefix_each, places}

@@ -1,13 +1,11 @@
 -- Sixty-four targets at once get the verdicts that each of them gets alone.
 use Rattle.std.proofs.Common.{◌≡◌, ◌∙◌, ◌≤◌, ℕ, zero, suc, Bool, List, [], ◌∷◌, Some, ap, arith}
-use Rattle.std.proofs.Common.{length, map, refl, take, ⊎_elim}
+use Rattle.std.{proofs.Common.{length, map, refl, take, ⊎_elim}, specs.List.{AllZip, slice_get}}
 use Rattle.std.proofs.{Math.Seq.take-suc, lemmas.List.take_all, lemmas.Slice.Zip.all_zipped_more}
 use Rattle.std.proofs.lemmas.Option.{slice_get_cases, slice_get_within}
-use Rattle.std.specs.List.{AllZip, slice_get}
 use Rattle.cfgx_syntax.specs.Kleene.{EachLane, Planes, lane}
 use Rattle.cfgx_grammar.specs.{Answer.HasOneTree, Tree.asked, Filling.three_valued, Fold.tree_fold}
-use Rattle.cfgx_grammar.specs.Question.{Question, TargetQuestion}
-use Rattle.cfgx_grammar.proofs.Answering.{only_tree}
+use Rattle.cfgx_grammar.{specs.Question.{Question, TargetQuestion}, proofs.Answering.only_tree}
 use Rattle.cfgx_engine.specs.Auditing.{InLanes, lane_verdicts}
 use Rattle.cfgx_engine.specs.Verdicts.{IsVerdict, answer_by, verdict_of}
 use Rattle.cfgx_engine.{specs.declared.resolve.Verdict.Verdict, proofs.VerdictLemmas.IsVerdict-by}

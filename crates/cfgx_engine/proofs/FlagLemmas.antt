@@ -9,8 +9,7 @@ use Rattle.cfgx_syntax.specs.Stripping.{strip}
 use Rattle.cfgx_syntax.specs.{Error.Fault, Error.failure_of, declared.error.Failure.Failure}
 use Rattle.cfgx_grammar.specs.{Question.Question, Tree.Tree, Answer.HasOneTree}
 use Rattle.cfgx_engine.specs.EngineAnswer.{AddsFlag, AreFlags, Fails}
-use Rattle.cfgx_engine.specs.Flags.{flag_text, unknown_text}
-use Rattle.cfgx_engine.specs.Readings.{GivesAll, ParsesAs}
+use Rattle.cfgx_engine.specs.{Flags.{flag_text, unknown_text}, Readings.{GivesAll, ParsesAs}}
 use Rattle.cfgx_engine.specs.{Request.texts, declared.engine.flags.Flags.Flags}
 
 -- a word that begins with no `?` names true predicates

@@ -21,10 +21,9 @@ use Rattle.cfgx_engine.specs.Flags.{IsAnswer, Names, flag_text, known_texts, unk
 use Rattle.cfgx_engine.specs.{Input.input_limit, Request.Request, Request.request_of}
 use Rattle.cfgx_engine.specs.Output.{HasValue, Output, ValueBy, answer_on, result_output}
 use Rattle.cfgx_engine.specs.Output.{tree_output, unknown_triple, usage, value_by}
-use Rattle.cfgx_engine.specs.Prints.{Picks, Prints, not_utf8, too_long}
+use Rattle.cfgx_engine.specs.{Prints.{Picks, Prints, not_utf8, too_long}, Sections.section_text}
 use Rattle.cfgx_engine.specs.Readings.{GivesAll, ParsesAs, value_then}
 use Rattle.cfgx_engine.specs.Sections.{Line, PrintsLine, line_of, lines_of, lines_output, no_tab}
-use Rattle.cfgx_engine.specs.Sections.{section_text}
 
 -- at most one thing fits
 abbrev IsSingle : {X : Type 0} → (X → Type 0) → Type 0

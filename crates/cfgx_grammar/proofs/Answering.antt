@@ -5,12 +5,11 @@ use Rattle.cfgx_syntax.specs.Items.{Item, Ending, AreItems, HasOneTokenList}
 use Rattle.cfgx_syntax.{specs.Error.Refusal, proofs.TokenList.ItemsFrom-same}
 use Rattle.cfgx_grammar.specs.{Question.Question, Tree.Tree, Grammar.HasTree}
 use Rattle.cfgx_grammar.specs.Answer.{HasOneTree, HasReading, Reading, ReadsAs}
-use Rattle.cfgx_grammar.specs.parsing.State.{Builder, State, initial}
+use Rattle.cfgx_grammar.{specs.parsing.State.{Builder, State, initial}, proofs.spelled.Finds-tree}
 use Rattle.cfgx_grammar.specs.parsing.Step.{step_each, conclude, answer_from}
 use Rattle.cfgx_grammar.proofs.accepted.{ran, IsTree-accepted}
 use Rattle.cfgx_grammar.proofs.faults.Steps.{EndAgrees, whole_agrees}
 use Rattle.cfgx_grammar.proofs.spelled.{Laws, tree_builder, tree_laws, tree_built, Finds}
-use Rattle.cfgx_grammar.proofs.spelled.{Finds-tree}
 
 module _ {W M L : Type 0} {builder : Builder W M L} (text : List ℕ)
     (one : HasOneTokenList text) where

@@ -1,6 +1,5 @@
 -- Answers that are dealt out to a tree are what the answered tree asks.
-use Rattle.std.proofs.{Common.take_all}
-use Rattle.std.proofs.Common.{◌≡◌, ◌≤◌, List, [], ◌∷◌, ◌++◌, length, take}
+use Rattle.std.proofs.Common.{◌≡◌, ◌≤◌, List, [], ◌∷◌, ◌++◌, length, take, take_all}
 use Rattle.std.proofs.Common.{refl, arith, length-append, length-drop, take-add}
 use Rattle.cfgx_grammar.specs.Tree.{Tree, Trees, is_function, is_leaf, asked, asked_by}
 use Rattle.cfgx_grammar.specs.Fold.{left_after, answered, answered_each}

@@ -1,11 +1,9 @@
 -- What a map between two logics makes of a value is the value of what it makes of the answers.
 use Rattle.std.proofs.Common.{arith, ◌≡◌, ℕ, ◌<◌, List, [], ◌∷◌, map, refl, bit_and}
-use Rattle.std.specs.List.{AllByRecursion, AllZip}
-use Rattle.std.proofs.lemmas.Bool.Decides.{Decides-eqb}
-use Rattle.cfgx_syntax.specs.Kleene.{Planes, IsDisjoint, lane}
+use Rattle.std.{specs.List.{AllByRecursion, AllZip}, proofs.lemmas.Bool.Decides.Decides-eqb}
+use Rattle.cfgx_syntax.{specs.Kleene.{Planes, IsDisjoint, lane}, proofs.LaneLemmas.EachLane-bottom}
 use Rattle.cfgx_syntax.proofs.LaneLemmas.{AreDisjoint-and, AreDisjoint-or, AreDisjoint-not}
 use Rattle.cfgx_syntax.proofs.LaneLemmas.{EachLane-and, EachLane-or, EachLane-not, EachLane-top}
-use Rattle.cfgx_syntax.proofs.LaneLemmas.{EachLane-bottom}
 use Rattle.cfgx_grammar.specs.{Tree.Tree, Fold.Operations, Fold.tree_fold, Filling.three_valued}
 use Rattle.cfgx_grammar.specs.Homomorphism.{IsHomomorphism, IsByLane, Passes, is_disjoint}
 use Rattle.cfgx_grammar.{specs.Homomorphism.lane_valued, proofs.Exactness.fold_kept}

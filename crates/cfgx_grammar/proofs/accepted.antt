@@ -5,7 +5,7 @@ use Rattle.std.proofs.Common.{option_map, Result, Ok, sym, false, Bool, map, Err
 use Rattle.std.proofs.Common.{if◌then◌else◌}
 use Rattle.std.proofs.{lemmas.Bool.Decides.Decides-eqb, lemmas.Bool.false≢true}
 use Rattle.cfgx_syntax.specs.{Token.Token, Items.Item, Error.Refusal}
-use Rattle.cfgx_grammar.specs.Question.{Question, Leaf}
+use Rattle.cfgx_grammar.specs.{Question.{Question, Leaf}, FollowSet.{Kind, takes, kind_of, next}}
 use Rattle.cfgx_grammar.specs.{Tree.ListFunction, Tree.Tree, Tree.Trees, Tree.count, Grammar.IsLeaf}
 use Rattle.cfgx_grammar.specs.Grammar.{commas, Separates, IsMember, IsList, IsTree, leaf_tokens}
 use Rattle.cfgx_grammar.specs.parsing.State.{Function, Open, name_of, Word, Pending, Builder, State}
@@ -15,7 +15,6 @@ use Rattle.cfgx_grammar.specs.parsing.Step.{predicate_ended, new_open, and_then,
 use Rattle.cfgx_grammar.specs.parsing.Step.{member_count, function_ended, closed_by}
 use Rattle.cfgx_grammar.specs.parsing.Step.{apply, step, step_each, one_root, conclude}
 use Rattle.cfgx_grammar.specs.{Classification.Class, Classification.class, FirstFault.lacks_value}
-use Rattle.cfgx_grammar.specs.FollowSet.{Kind, takes, kind_of, next}
 
 -- The tree of a leaf: a predicate or a literal that stands alone.
 abbrev pub leaf_tree : Leaf → Tree Question

@@ -1,8 +1,7 @@
 -- The predicates at a tree's places are what the tree asks, in this order.
-use Rattle.std.proofs.Common.{◌≡◌, ℕ, zero, suc, List, [], ◌∷◌}
+use Rattle.std.proofs.{Common.{◌≡◌, ℕ, zero, suc, List, [], ◌∷◌}, lemmas.Option.slice_get-map}
 use Rattle.std.proofs.Common.{length, map, Option, Some, option_map, refl, ap, arith, rules}
 use Rattle.std.specs.List.{AllByRecursion, slice_get, filter_map}
-use Rattle.std.proofs.lemmas.Option.{slice_get-map}
 use Rattle.cfgx_grammar.{specs.Question.Question, specs.Tree.Tree, specs.Tree.asked}
 use Rattle.cfgx_parser.{specs.nodes.Located.question_at, specs.nodes.WritesNodes.NodeHasCut}
 use Rattle.cfgx_parser.{specs.declared.nodes.ExprNode.ExprNode, proofs.Places.read-places}

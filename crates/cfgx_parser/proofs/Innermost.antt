@@ -1,10 +1,8 @@
 -- The innermost list, of the function on top of the stack or of the root, as it is changed.
 use Rattle.std.proofs.Common.{◌≡◌, ◌+◌, List, [], ◌∷◌, refl, ap}
 use Rattle.cfgx_grammar.specs.parsing.Step.{over_top, root_more}
-use Rattle.cfgx_parser.specs.parsing.Fields.{open_of, opens_in, roots_in}
-use Rattle.cfgx_parser.specs.parsing.NodeState.{OpenFunction}
-use Rattle.cfgx_parser.specs.declared.parser.FuncAndSpan.{FuncAndSpan}
-use Rattle.cfgx_parser.specs.declared.parser.OpenList.{OpenList}
+use Rattle.cfgx_parser.specs.parsing.{Fields.{open_of, opens_in, roots_in}, NodeState.OpenFunction}
+use Rattle.cfgx_parser.specs.declared.parser.{FuncAndSpan.FuncAndSpan, OpenList.OpenList}
 
 module _ (list changed : OpenList) where
   pub opens-changed : (f : OpenFunction → OpenFunction)

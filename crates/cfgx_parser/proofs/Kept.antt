@@ -2,15 +2,13 @@
 use Rattle.std.proofs.Common.{◌≡◌, ℕ, List, [], ◌∷◌, ◌++◌, length, Ok, sym, ◌∙◌, arith}
 use Rattle.std.{proofs.lemmas.List.length-map, proofs.lemmas.List.append-nil}
 use Rattle.std.{specs.Prelude.slice_range, specs.Prelude.◌≤◌, specs.List.AllByRecursion}
-use Rattle.cfgx_syntax.{specs.Cut.CanBeCut, proofs.Values.value_inside}
+use Rattle.cfgx_syntax.{specs.Cut.CanBeCut, proofs.Values.value_inside, specs.Token.{Token, Spells}}
 use Rattle.cfgx_syntax.specs.Items.{Item, ItemsFrom, HasOneTokenList}
-use Rattle.cfgx_syntax.specs.Token.{Token, Spells}
 use Rattle.cfgx_grammar.{specs.Question.Question, specs.Tree.Tree, proofs.Answering.only_tree}
 use Rattle.cfgx_grammar.proofs.alone.{all_of_first}
 use Rattle.cfgx_grammar.proofs.Answering.{answer, tree_of, Finds-one, HasOneTree-tree}
-use Rattle.cfgx_parser.specs.nodes.KeepsTree.{KeepsTree, KeepsOneTree}
+use Rattle.cfgx_parser.specs.nodes.{KeepsTree.{KeepsTree, KeepsOneTree}, Prefix.{prefix, places}}
 use Rattle.cfgx_parser.specs.nodes.Node.{Written, nothing, with_list_ended}
-use Rattle.cfgx_parser.specs.nodes.Prefix.{prefix, places}
 use Rattle.cfgx_parser.specs.nodes.WritesNodes.{IsPlaced, ArePlaced, WritesNodes}
 use Rattle.cfgx_parser.{specs.parsing.NodeState.ParserState, specs.declared.nodes.ExprNode.ExprNode}
 use Rattle.cfgx_parser.proofs.NodeSizes.{nodes-bytes}

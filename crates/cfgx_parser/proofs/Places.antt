@@ -1,7 +1,6 @@
 -- What stands at the places of a tree's predicates.
 use Rattle.std.proofs.Common.{◌≡◌, ℕ, zero, suc, ◌+◌, List, [], ◌∷◌, ◌++◌, length, map, Some, sym}
-use Rattle.std.proofs.Common.{refl, ap, arith}
-use Rattle.std.specs.List.{AllZip, slice_get}
+use Rattle.std.{proofs.Common.{refl, ap, arith}, specs.List.{AllZip, slice_get}}
 use Rattle.cfgx_grammar.specs.Tree.{Tree, Trees, asked}
 use Rattle.cfgx_grammar.proofs.Alike.{Alike, AlikeEach, asked-alike, length-asked}
 use Rattle.cfgx_parser.specs.nodes.Prefix.{Node, prefix, prefix_each, with_places}

@@ -2,11 +2,9 @@
 -- same places.
 use Rattle.std.proofs.Common.{◌≡◌, ℕ, suc, ◌+◌, List, length, map, refl, ap}
 use Rattle.std.proofs.lemmas.List.{map-append, length-map}
-use Rattle.cfgx_grammar.specs.Tree.{Tree, Trees, asked, count}
-use Rattle.cfgx_grammar.proofs.Alike.{Alike, AlikeEach}
-use Rattle.cfgx_parser.specs.nodes.Prefix.{Node, prefix, prefix_each, places}
+use Rattle.cfgx_grammar.{specs.Tree.{Tree, Trees, asked, count}, proofs.Alike.{Alike, AlikeEach}}
+use Rattle.cfgx_parser.specs.nodes.{Prefix.{Node, prefix, prefix_each, places}, Shape.shape_of}
 use Rattle.cfgx_parser.specs.nodes.Prefix.{with_places, with_places_each}
-use Rattle.cfgx_parser.specs.nodes.Shape.{shape_of}
 
 length-same : {X Y : Type 0} (xs : List (Node X)) (ys : List (Node Y))
     → map shape_of xs ≡ map shape_of ys → length xs ≡ length ys

@@ -2,8 +2,7 @@
 use Rattle.std.proofs.Common.{◌≡◌, ℕ, List, Result, Ok, Err}
 use Rattle.std.{specs.Prelude.IsErrAnd, proofs.lemmas.Result.err_from_is_err_and}
 use Rattle.cfgx_syntax.{specs.Items.HasOneTokenList, specs.Stripping.strip}
-use Rattle.cfgx_syntax.specs.declared.error.Failure.{Failure}
-use Rattle.cfgx_syntax.specs.LexerState.{LexerState, starting}
+use Rattle.cfgx_syntax.specs.{declared.error.Failure.Failure, LexerState.{LexerState, starting}}
 use Rattle.cfgx_syntax.specs.declared.error.Failure.TheVariants as failure
 use Rattle.cfgx_grammar.{specs.Answer.Answers, specs.Answer.HasOneTree, proofs.Stripped.strip-tree}
 use Rattle.cfgx_parser.{specs.nodes.KeepsTree.KeepsOneTree, specs.declared.parser.Parser.Parser}

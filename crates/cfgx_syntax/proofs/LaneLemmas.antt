@@ -4,9 +4,8 @@ use Rattle.std.proofs.{Common.arith, lemmas.Nat.and_comm, lemmas.Nat.Bits.same_f
 use Rattle.std.proofs.lemmas.Nat.Bits.{bit_at_and, bit_at_or, bit_at-zero, bit_at-lt, bit_at_ones}
 use Rattle.std.specs.{Prelude.bit_and, Prelude.bit_or, Int.bit_at}
 use Rattle.cfgx_syntax.specs.Kleene.{Planes, AreDisjoint, IsDisjoint, EachLane, lane}
-use Rattle.cfgx_syntax.specs.Kleene.{answer_of_bits}
+use Rattle.cfgx_syntax.specs.{Kleene.answer_of_bits, Logic.{kleene_and, kleene_or, kleene_not}}
 use Rattle.cfgx_syntax.specs.Kleene.{planes_and, planes_or, planes_not, planes_top, planes_bottom}
-use Rattle.cfgx_syntax.specs.Logic.{kleene_and, kleene_or, kleene_not}
 
 -- planes that are disjoint are so in each lane, and the other way round
 disjoint_at : (t f i : ℕ) → AreDisjoint t f → bit_at t i + bit_at f i ≤ 1

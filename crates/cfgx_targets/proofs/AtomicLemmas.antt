@@ -1,6 +1,5 @@
 -- That what a width of atomics and a byte order print is read again.
-use Rattle.std.proofs.Common.{◌≡◌, refl, ℕ, List, arith}
-use Rattle.std.specs.Prelude.{Some, Result, Ok}
+use Rattle.std.{proofs.Common.{◌≡◌, refl, ℕ, List, arith}, specs.Prelude.{Some, Result, Ok}}
 use Rattle.cfgx_targets.specs.Endian.{endian_named, endian_text}
 use Rattle.cfgx_targets.specs.HasAtomic.{IsWidth, ReadsAtomic, atomic_named, atomic_text}
 use Rattle.cfgx_targets.specs.{declared.atomic.HasAtomic.HasAtomic, declared.endian.Endian.Endian}

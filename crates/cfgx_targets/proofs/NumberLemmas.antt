@@ -1,6 +1,5 @@
 -- That the numbers which Rust's `parse` reads are those of `read_below`.
-use Rattle.std.proofs.lemmas.Bool.{lt-ltb}
-use Rattle.std.proofs.Common.{◌≡◌, ℕ, ◌^◌, ◌<◌, Bool, true, List, arith}
+use Rattle.std.proofs.{lemmas.Bool.lt-ltb, Common.{◌≡◌, ℕ, ◌^◌, ◌<◌, Bool, true, List, arith}}
 use Rattle.std.proofs.lemmas.Str.Parse.{IsNumeralModel, numerals_by_value, tells_all_ascii_digits}
 use Rattle.std.proofs.lemmas.Str.Parse.{not_in_digits, without_leading_plus_none}
 use Rattle.std.proofs.lemmas.Fmt.{decimal_is_IsNumeral, decimal_nonempty, digits_decimal}

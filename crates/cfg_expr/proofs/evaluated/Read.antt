@@ -9,8 +9,7 @@ use Rattle.cfgx_parser.specs.nodes.Prefix.{Node, list_func, prefix, prefix_each}
 use Rattle.cfgx_parser.specs.nodes.Shape.{Shape, shape_of}
 use Rattle.cfg_expr.specs.nodes.Reading.{Member, begin_of, join_of, values_in, top_value}
 use Rattle.cfg_expr.specs.nodes.Reading.{joined_list, put, read, slots_of, stack_of}
-use Rattle.cfg_expr.specs.declared.expr.evaluating.Connective.{Connective}
-use Rattle.cfg_expr.specs.declared.expr.evaluating.Connective.TheVariants.{And, Or}
+use Rattle.cfg_expr.specs.declared.expr.evaluating.Connective.{Connective, TheVariants.{And, Or}}
 use Rattle.cfg_expr.specs.declared.expr.evaluating.Stack.{Stack}
 use Rattle.cfg_expr.specs.declared.expr.evaluating.Member.TheVariants as member
 

@@ -4,7 +4,7 @@ use Rattle.std.proofs.Common.{take, ◌≡◌, ◌⊎◌, inl, ℕ, ◌+◌, Boo
 use Rattle.std.proofs.Common.{◌++◌, length, reverse, cond, Option, Some, None, Result, Ok, Err, sym}
 use Rattle.std.proofs.Common.{refl, ap, ◌∙◌, arith, suc, ◌-◌, ◌<◌, option_map, take_all}
 use Rattle.std.proofs.Common.{append_assoc, count_by, option_and_then, if◌then◌else◌, lt-ltb}
-use Rattle.std.proofs.Common.{le-ltb, eq-eqb, ne_eqb, append-nil, not}
+use Rattle.std.{proofs.Common.{le-ltb, eq-eqb, ne_eqb, append-nil, not}, specs.Option.option_or}
 use Rattle.std.proofs.lemmas.Option.{slice_get_within, slice_get_past}
 use Rattle.cfgx_syntax.specs.{Token.Token, Items.Item, Items.Ending, Items.lexical}
 use Rattle.cfgx_syntax.specs.Error.{Refusal, invalid_not}
@@ -27,7 +27,6 @@ use Rattle.cfgx_grammar.proofs.faults.Levels.{Levels, IsLevel, start_of, Levels-
 use Rattle.cfgx_grammar.proofs.faults.Levels.{Levels-open, slice_get_next, members_at_other}
 use Rattle.cfgx_grammar.proofs.faults.Levels.{length_more, last_below-found, members_at_end}
 use Rattle.cfgx_grammar.proofs.faults.Levels.{innermost-none, depth_at_end}
-use Rattle.std.specs.Option.{option_or}
 
 -- What the parser keeps between two tokens, by the tokens in front of it.
 

@@ -1,15 +1,13 @@
 -- A predicate that is read from its key and value is the one that its node names in the text.
 use Rattle.std.proofs.Common.{◌≡◌, ℕ, List, [], ◌∷◌, Option, Some, None, option_map}
-use Rattle.std.proofs.Common.{arith, rules, refl}
-use Rattle.std.specs.List.{AllByRecursion}
-use Rattle.cfgx_parser.specs.declared.nodes.Span.{Span}
+use Rattle.std.{proofs.Common.{arith, rules, refl}, specs.List.AllByRecursion}
+use Rattle.cfgx_parser.specs.{declared.nodes.Span.Span, nodes.Located.ValueHasCut}
 use Rattle.std.proofs.lemmas.Slice.Eq.{bytes_eq-Decides}
 use Rattle.cfgx_syntax.specs.Error.{Cause}
 use Rattle.cfgx_grammar.specs.Question.{Leaf, Question, TargetQuestion}
 use Rattle.cfgx_grammar.specs.Classification.{Class, Rule, class, by_name, target_rules, key_rules}
 use Rattle.cfgx_grammar.specs.Classification.{if_read, target_feature, target_class, other_class}
 use Rattle.cfgx_parser.specs.nodes.Located.{predicate_located, question_at, at, IsSpan, HasCut}
-use Rattle.cfgx_parser.specs.nodes.Located.{ValueHasCut}
 
 module _ (text : List ℕ) (key_span : Span) where
   -- the predicate of these places is the question, and can be cut out of the text

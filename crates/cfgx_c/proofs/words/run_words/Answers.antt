@@ -1,6 +1,5 @@
 -- The output is that of the words, or that of wrong use if they are not UTF-8.
-use Rattle.std.proofs.Common.{◌≡◌, ◌∙◌, ℕ, List, [], Some, sym}
-use Rattle.std.proofs.lemmas.Bool.{false_from_ne_true}
+use Rattle.std.proofs.{Common.{◌≡◌, ◌∙◌, ℕ, List, [], Some, sym}, lemmas.Bool.false_from_ne_true}
 use Rattle.std.proofs.lemmas.Str.{IsUtf8-from_is_utf8, is_utf8-from_IsUtf8}
 use Rattle.cfgx_engine.specs.{Output.Output, Prints.Prints, Prints.WritesWhole}
 use Rattle.cfgx_engine.specs.Request.{Request, request_of, texts}

@@ -1,7 +1,6 @@
 -- What was pushed are the words that the text is split into.
-use Rattle.std.proofs.Common.{◌∙◌, ap, arith}
+use Rattle.std.proofs.{Common.{◌∙◌, ap, arith}, lemmas.Iterator.Splits.YieldsList-from_str_split}
 use Rattle.std.proofs.lemmas.Iterator.Consumers.{YieldsList-at, YieldsList-end}
-use Rattle.std.proofs.lemmas.Iterator.Splits.{YieldsList-from_str_split}
 use Rattle.cfgx_engine.specs.Request.{texts}
 use Rattle.cfgx_c.proofs.words.words_of.Goals as goal
 

@@ -1,6 +1,5 @@
 -- One verdict for each target that was passed.
-use Rattle.std.proofs.Common.{◌≡◌, ◌++◌, List, length}
-use Rattle.std.specs.List.{AllZip}
+use Rattle.std.{proofs.Common.{◌≡◌, ◌++◌, List, length}, specs.List.AllZip}
 use Rattle.cfgx_engine.specs.Verdicts.{IsVerdict}
 use Rattle.cfgx_engine.proofs.resolve.audit.Given as goal
 

@@ -1,5 +1,4 @@
-use Rattle.std.proofs.lemmas.List.{take_all, take_more}
-use Rattle.std.proofs.lemmas.Slice.Zip.{all_zipped_more}
+use Rattle.std.proofs.lemmas.{List.{take_all, take_more}, Slice.Zip.all_zipped_more}
 use Rattle.cfgx_engine.proofs.resolve.pick.Goals as goal
 
 -- one more of each

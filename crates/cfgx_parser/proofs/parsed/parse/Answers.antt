@@ -1,6 +1,5 @@
 -- The text is read from its start, and what is read is what the grammar answers.
-use Rattle.std.proofs.Common.{rules, ap, ◌∙◌}
-use Rattle.std.proofs.lemmas.Result.{err_from_is_err_and}
+use Rattle.std.proofs.{Common.{rules, ap, ◌∙◌}, lemmas.Result.err_from_is_err_and}
 use Rattle.cfgx_syntax.specs.Stripping.{strip}
 use Rattle.cfgx_parser.proofs.Whole.{Begins, Answers-fails, Answers-memory, Accepted}
 use Rattle.cfgx_parser.{proofs.parsed.parse.Given.Over, proofs.parsed.parse.Goals.After-read_all}

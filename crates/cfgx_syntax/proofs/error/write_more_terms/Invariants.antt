@@ -1,5 +1,4 @@
-use Rattle.std.proofs.Common.{map, take}
-use Rattle.std.specs.Fmt.{HasWritten, IsPlainFormatter}
+use Rattle.std.{proofs.Common.{map, take}, specs.Fmt.{HasWritten, IsPlainFormatter}}
 use Rattle.cfgx_syntax.specs.Error.{more_terms_text}
 use Rattle.cfgx_syntax.proofs.error.write_more_terms.Given as goal
 

@@ -1,5 +1,4 @@
-use Rattle.std.proofs.Common.{map, take}
-use Rattle.std.specs.Fmt.{HasWritten, IsPlainFormatter}
+use Rattle.std.{proofs.Common.{map, take}, specs.Fmt.{HasWritten, IsPlainFormatter}}
 use Rattle.cfgx_targets.specs.SortedList.{others_text}
 use Rattle.cfgx_targets.proofs.list.write_others.Given as goal
 

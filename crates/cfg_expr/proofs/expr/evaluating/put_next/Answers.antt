@@ -1,6 +1,5 @@
 -- No place is left.
-use Rattle.std.proofs.Common.{◌≡◌, ◌∷◌, List, [], ap, refl}
-use Rattle.std.proofs.lemmas.List.{nil_from_length}
+use Rattle.std.proofs.{Common.{◌≡◌, ◌∷◌, List, [], ap, refl}, lemmas.List.nil_from_length}
 use Rattle.cfg_expr.specs.{nodes.AnswerSlots.with_answers, declared.expr.evaluating.Member.Member}
 use Rattle.cfg_expr.proofs.expr.evaluating.put_next.Goals as goal
 

@@ -1,8 +1,7 @@
 -- The members are in front of what is left of the slots.
 use Rattle.std.proofs.Common.{◌≡◌, ◌+◌, ◌-◌, ◌++◌, ◌∷◌, ℕ, List, append_assoc, ap, arith}
-use Rattle.std.proofs.lemmas.Grind.{common_steps}
+use Rattle.std.proofs.lemmas.{Grind.common_steps, List.{length-drop, length-take}}
 use Rattle.std.proofs.Common.{drop, take, drop_at, length, length-append, min, sym}
-use Rattle.std.proofs.lemmas.List.{length-drop, length-take}
 use Rattle.cfg_expr.specs.nodes.Reading.{stack_of}
 use Rattle.cfg_expr.specs.declared.expr.evaluating.Member.TheVariants as member
 use Rattle.cfg_expr.proofs.expr.evaluating.read_list.Goals as goal
@@ -36,6 +35,5 @@ returns-clause-stack g c =
 
 pub offset_bounds-slots-first : goal.offset_bounds-slots-first
 offset_bounds-slots-first g c = grind (arith, common_steps)
-
 pub returns-clause-front : goal.returns-clause-front
 returns-clause-front g c = grind (arith, common_steps)

@@ -1,6 +1,6 @@
 -- There is room for one more place, while fewer than all are held.
-use Rattle.std.proofs.Common.{◌∙◌, ap, arith, length}
-use Rattle.std.proofs.lemmas.List.{length-replicate}
+use Rattle.std.proofs.{Common.{◌∙◌, ap, arith, length}, lemmas.List.length-replicate}
+use Rattle.std.proofs.lemmas.Grind.{common_steps}
 use Rattle.cfg_expr.proofs.Rooms.{room}
 use Rattle.cfg_expr.proofs.expr.evaluating.slots_of.Goals as goal
 
@@ -13,3 +13,6 @@ push_reserved-requires g c =
 
 pub with_capacity-requires : goal.with_capacity-requires
 with_capacity-requires g c = room _ _ g.met.T.Logic.small
+
+pub loop-place-preserved : goal.loop-place-preserved
+loop-place-preserved g c = grind (arith, common_steps)

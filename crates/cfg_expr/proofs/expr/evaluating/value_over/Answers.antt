@@ -1,5 +1,5 @@
 -- The answers that are given stand at the places of the text's one tree.
-use Rattle.std.proofs.Common.{◌∙◌, ap, length}
+use Rattle.std.proofs.{Common.{◌∙◌, ap, arith, length}, lemmas.Grind.common_steps}
 use Rattle.cfgx_grammar.{specs.Tree.asked, proofs.Answering.only_tree}
 use Rattle.cfg_expr.{proofs.evaluated.Nodes.shapes-kept, proofs.Rooms.room}
 use Rattle.cfg_expr.proofs.expr.evaluating.value_over.Goals as goal
@@ -24,3 +24,6 @@ add_slots-requires g c = (room _ _ g.met.T.Logic.small, c.new-answers.ensures.it
 
 pub as_mut_slice-slots-requires : goal.as_mut_slice-slots-requires
 as_mut_slice-slots-requires g c = room _ _ g.met.T.Logic.small
+
+pub read_value-requires : goal.read_value-requires
+read_value-requires g c = grind (arith, common_steps)

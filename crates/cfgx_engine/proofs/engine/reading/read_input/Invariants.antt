@@ -1,7 +1,6 @@
 -- No call has failed, and the bytes in front of `filled` were read; there is room for one byte more
 -- than the limit at most.
-use Rattle.std.proofs.Common.{◌+◌, ◌-◌, ◌≡◌, ◌≤◌, length, take}
-use Rattle.std.specs.Io.KnownBytes.{Consumes}
+use Rattle.std.{proofs.Common.{◌+◌, ◌-◌, ◌≡◌, ◌≤◌, length, take}, specs.Io.KnownBytes.Consumes}
 use Rattle.cfgx_engine.specs.Input.{input_limit}
 use Rattle.cfgx_engine.proofs.engine.reading.read_input.Given as goal
 

@@ -1,6 +1,5 @@
 -- No tab stands before the place.
-use Rattle.std.proofs.Common.{◌≡◌, ◌+◌, ◌-◌, ◌≤◌, drop, length}
-use Rattle.std.specs.List.{position_or_len}
+use Rattle.std.{proofs.Common.{◌≡◌, ◌+◌, ◌-◌, ◌≤◌, drop, length}, specs.List.position_or_len}
 use Rattle.cfgx_engine.specs.Sections.{is_tab}
 use Rattle.cfgx_engine.proofs.engine.sections.name_len.Given as goal
 

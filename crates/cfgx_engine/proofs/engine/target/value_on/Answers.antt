@@ -1,7 +1,6 @@
 use Rattle.std.proofs.Common.{ap, refl, Ok, Err}
 use Rattle.std.proofs.{lemmas.Option.IfSome_then, lemmas.Result.err_from_is_err_and}
-use Rattle.cfgx_engine.specs.Output.{answer_on, HasValueBy}
-use Rattle.cfgx_engine.proofs.OutputLemmas.{Fails-parse}
+use Rattle.cfgx_engine.{specs.Output.{answer_on, HasValueBy}, proofs.OutputLemmas.Fails-parse}
 use Rattle.cfgx_engine.proofs.engine.target.value_on.Goals as goal
 
 pub returns-in_err-condition : goal.returns-in_err-condition

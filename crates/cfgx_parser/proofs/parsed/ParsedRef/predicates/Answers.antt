@@ -1,6 +1,5 @@
 -- The nodes are those of the text's one tree, and the predicates among them ask what it asks.
-use Rattle.std.proofs.Common.{◌∙◌, subst, sym}
-use Rattle.std.specs.List.{AllByRecursion}
+use Rattle.std.{proofs.Common.{◌∙◌, subst, sym}, specs.List.AllByRecursion}
 use Rattle.cfgx_grammar.{specs.WellFormed.IsWellFormed, proofs.alone.well_formed_tree}
 use Rattle.cfgx_parser.proofs.AskedPredicates.{NamePredicates-kept, questions_at-kept}
 use Rattle.cfgx_parser.proofs.parsed.ParsedRef.predicates.Goals as goal

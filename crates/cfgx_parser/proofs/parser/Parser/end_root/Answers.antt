@@ -1,6 +1,6 @@
 -- No function is open, so the innermost list is the root.
 use Rattle.std.proofs.Common.{◌≡◌, false, List, [], ◌∷◌, length, sym, refl, ap, ◌∙◌, arith}
-use Rattle.std.{proofs.Math.Dec.ltb, proofs.lemmas.Bool.ltb-false}
+use Rattle.std.proofs.{Math.Dec.ltb, lemmas.Bool.ltb-false, lemmas.Grind.common_steps}
 use Rattle.cfgx_parser.specs.declared.parser.FuncAndSpan.{FuncAndSpan}
 use Rattle.cfgx_parser.proofs.parser.Parser.end_root.Goals as goal
 
@@ -19,3 +19,8 @@ returns g c =
     let closed = none c.args.self.now.func_stack.items _ c.deref.ensures c.in_default.ensures.item.0
     in
     rw (closed, c.in_ok-end_predicate.ensures.answer) c.one_root.ensures
+
+pub returns-in-Some : goal.returns-in-Some
+returns-in-Some g c = grind (arith, common_steps)
+pub returns-in_err-end_predicate : goal.returns-in_err-end_predicate
+returns-in_err-end_predicate g c = grind (arith, common_steps)

@@ -1,3 +1,4 @@
+use Rattle.std.proofs.lemmas.Grind.{common_steps}
 use Rattle.cfgx_parser.proofs.Rooms.{arith, room, rules}
 use Rattle.cfgx_parser.proofs.parser.Parser.open.Goals as goal
 
@@ -12,3 +13,8 @@ reserve-requires g c = room _ _ _ g.met.A.SmallAllocator.small (omega arith)
 
 pub push_reserved-requires : goal.push_reserved-requires
 push_reserved-requires g c = (room _ _ _ g.met.A.SmallAllocator.small (omega arith), search rules)
+
+pub invariant_of-self-2 : goal.invariant_of-self-2
+invariant_of-self-2 g c = grind (arith, common_steps)
+pub returns : goal.returns
+returns g c = grind (arith, common_steps)

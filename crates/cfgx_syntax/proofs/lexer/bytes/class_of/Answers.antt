@@ -1,6 +1,5 @@
 -- The table holds a class of each byte.
-use Rattle.std.proofs.{Common.map, Common.refl, Common.arith}
-use Rattle.std.specs.List.{range_with_len}
+use Rattle.std.{proofs.Common.{map, refl, arith}, specs.List.range_with_len}
 use Rattle.cfgx_syntax.specs.declared.lexer.bytes.Class.TheVariants.{Letter}
 use Rattle.cfgx_syntax.proofs.Classes.{class_of, each, each-at}
 use Rattle.cfgx_syntax.proofs.lexer.bytes.class_of.Goals as goal

@@ -1,6 +1,5 @@
 -- The quote is among the bytes that are looked at, or is searched for.
-use Rattle.std.proofs.Common.{ap, arith, length, length-take}
-use Rattle.std.proofs.lemmas.Str.Pattern.{find_char}
+use Rattle.std.proofs.{Common.{ap, arith, length, length-take}, lemmas.Str.Pattern.find_char}
 use Rattle.cfgx_syntax.proofs.Values.{FindsQuote-front}
 use Rattle.cfgx_syntax.proofs.lexer.bytes.quote_in.Goals as goal
 

@@ -30,10 +30,9 @@ use denote.Signature.{Slot, plain, types_at}
 use denote.Steps.{heard, nothing, only}
 use denote.Triple.Call.{calls_at}
 use denote.Triple.Walked.{Stays, stay_dropped, Goes-dropped, walk_of}
-use Rattle.std.specs.Allocator.{HasLayout, block_if_ok}
+use Rattle.std.{specs.Allocator.{HasLayout, block_if_ok}, proofs.raw_atomic.Walks.{leaves, proved}}
 use Rattle.std.proofs.alloc.Calls.{Al, α, seen, token, Answer, answer_val, Answer-typed, Answer-Ok}
 use Rattle.std.proofs.alloc.Calls.{Answer-err, Answered, answers, Takes, at_takes, Takes-goes}
-use Rattle.std.proofs.raw_atomic.Walks.{leaves, proved}
 use Rattle.cfgx_testing.specs.contracts.refusing.Refusing as refusing
 use Rattle.cfgx_testing.specs.contracts.refusing.ends_countdown as ending
 use Rattle.cfgx_testing.proofs.refusing.ends_countdown.Met as ending_met

@@ -23,9 +23,8 @@ use denote.Ref.{shr_vals}
 use denote.Signature.{Slot, plain, types_at}
 use denote.Steps.{heard, nothing}
 use denote.Triple.Walked.{Stays, stay_dropped, Goes-dropped, walk_of}
-use Rattle.std.specs.Allocator.{HasLayout, owned_block}
+use Rattle.std.{specs.Allocator.{HasLayout, owned_block}, proofs.raw_atomic.Walks.{leaves, proved}}
 use Rattle.std.proofs.alloc.Calls.{Al, α, seen, token, Gives, at_gives, Gives-goes, Gives-Gives}
-use Rattle.std.proofs.raw_atomic.Walks.{leaves, proved}
 use Rattle.cfgx_testing.specs.contracts.refusing.Refusing as refusing
 use Rattle.cfgx_testing.specs.contracts.refusing.RefusingAllocator.deallocate as f
 use Rattle.cfgx_testing.proofs.refusing.RefusingAllocator.deallocate.Statement.{statement}

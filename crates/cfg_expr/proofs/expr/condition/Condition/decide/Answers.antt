@@ -1,7 +1,6 @@
 -- The text has one tree, whose three values are exact.
 use Rattle.std.proofs.{Common.◌∙◌, Common.ap, Common.length, lemmas.Result.IfOk-weaker}
-use Rattle.cfgx_grammar.specs.Tree.{asked}
-use Rattle.cfgx_grammar.proofs.{Answering.only_tree, Exactness.IsExact-fold}
+use Rattle.cfgx_grammar.{specs.Tree.asked, proofs.{Answering.only_tree, Exactness.IsExact-fold}}
 use Rattle.cfg_expr.proofs.expr.condition.Condition.decide.Goals as goal
 
 pub returns-clause-exact : goal.returns-clause-exact

@@ -1,5 +1,5 @@
 -- Each member is one step of the pass.
-use Rattle.std.proofs.Common.{◌≡◌, ◌+◌, ◌-◌, ap, sym, arith}
+use Rattle.std.proofs.{Common.{◌≡◌, ◌+◌, ◌-◌, ap, sym, arith}, lemmas.Grind.common_steps}
 use Rattle.cfg_expr.{specs.nodes.Reading.is_held, proofs.evaluated.Joined.Joins-next}
 use Rattle.cfg_expr.proofs.expr.evaluating.Connective.join_kind.Goals as goal
 
@@ -13,3 +13,8 @@ loop-place-preserved g c =
     (omega (arith, c.loop-place.auto.members, c.loop-place.auto.place, more))
     (rw next_is at c.loop-place.invariant) step.value step.member
     (ap is_held (sym step.member)))
+
+pub loop-place-init : goal.loop-place-init
+loop-place-init g c = grind (arith, common_steps)
+pub offset_bounds-members-place : goal.offset_bounds-members-place
+offset_bounds-members-place g c = grind (arith, common_steps)

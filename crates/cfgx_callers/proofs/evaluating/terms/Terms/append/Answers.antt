@@ -1,5 +1,4 @@
-use Rattle.std.proofs.Common.{◌≡◌, ◌++◌, ◌∙◌, ap, sym, subst}
-use Rattle.std.proofs.lemmas.List.{append-nil, take_more}
+use Rattle.std.proofs.{Common.{◌≡◌, ◌++◌, ◌∙◌, ap, sym, subst}, lemmas.List.{append-nil, take_more}}
 use Rattle.cfgx_callers.{specs.Terms.cut, proofs.Written.cut-short, proofs.Written.cut-next}
 use Rattle.cfgx_callers.proofs.evaluating.terms.Terms.append.Goals as goal
 
