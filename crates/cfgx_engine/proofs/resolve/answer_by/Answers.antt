@@ -1,4 +1,3 @@
--- Nothing is known of what is not on the target.
 use Rattle.std.proofs.Common.{rules}
 use Rattle.cfgx_engine.proofs.resolve.answer_by.Goals as goal
 

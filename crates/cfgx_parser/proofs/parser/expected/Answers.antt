@@ -1,4 +1,3 @@
--- The terms are those of the kind.
 use Rattle.std.proofs.Common.{rules}
 use Rattle.cfgx_parser.proofs.parser.expected.Goals as goal
 

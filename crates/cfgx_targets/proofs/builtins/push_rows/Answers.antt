@@ -1,4 +1,3 @@
--- The rows are pushed in their order.
 use Rattle.std.proofs.Common.{rules}
 use Rattle.cfgx_targets.proofs.builtins.push_rows.Goals as goal
 

@@ -1,4 +1,3 @@
--- The text is a constant.
 use Rattle.std.proofs.Common.{rules}
 use Rattle.cfgx_targets.proofs.builtins.rustc_version.Goals as goal
 

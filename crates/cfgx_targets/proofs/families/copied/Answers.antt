@@ -1,4 +1,3 @@
--- In the end all families have been copied.
 use Rattle.std.{proofs.Common.arith, proofs.lemmas.Grind.common_steps}
 use Rattle.cfgx_targets.proofs.families.copied.Goals as goal
 

@@ -1,4 +1,3 @@
--- The text is the one that was parsed.
 use Rattle.std.proofs.Common.{rules}
 use Rattle.cfg_expr.proofs.expr.Expression.original.Goals as goal
 

@@ -1,4 +1,3 @@
--- What is parsed is what the grammar answers.
 use Rattle.std.proofs.Common.{rules}
 use Rattle.cfg_expr.proofs.expr.Expression.parse.Goals as goal
 

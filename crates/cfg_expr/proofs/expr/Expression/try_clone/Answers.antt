@@ -1,4 +1,3 @@
--- The copy is of the same text.
 use Rattle.std.proofs.Common.{rules}
 use Rattle.cfg_expr.proofs.expr.Expression.try_clone.Goals as goal
 

@@ -1,4 +1,3 @@
--- The text alone is written.
 use Rattle.std.proofs.Common.{rules}
 use Rattle.cfg_expr.proofs.expr.ExpressionDisplay.fmt.Goals as goal
 

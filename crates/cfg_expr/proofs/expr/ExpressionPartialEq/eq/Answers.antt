@@ -1,4 +1,3 @@
--- Expressions are compared by their texts.
 use Rattle.std.proofs.Common.{rules}
 use Rattle.cfg_expr.proofs.expr.ExpressionPartialEq.eq.Goals as goal
 

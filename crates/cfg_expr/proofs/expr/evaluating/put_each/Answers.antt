@@ -1,4 +1,3 @@
--- The rest of the answers stand at the rest of the places.
 use Rattle.std.proofs.{Common.arith, lemmas.Grind.common_steps}
 use Rattle.cfg_expr.proofs.expr.evaluating.put_each.Goals as goal
 

@@ -1,4 +1,3 @@
--- The place is that of the predicate.
 use Rattle.std.proofs.{Common.arith, lemmas.Grind.common_steps}
 use Rattle.cfg_expr.proofs.expr.evaluating.read_predicate.Goals as goal
 

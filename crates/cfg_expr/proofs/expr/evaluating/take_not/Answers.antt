@@ -1,4 +1,3 @@
--- The top of the stack has changed alone.
 use Rattle.std.proofs.{Common.arith, lemmas.Grind.common_steps}
 use Rattle.cfg_expr.proofs.expr.evaluating.take_not.Goals as goal
 

@@ -1,4 +1,3 @@
--- Below the top is what is left of the slots.
 use Rattle.std.proofs.{Common.arith, lemmas.Grind.common_steps}
 use Rattle.cfg_expr.proofs.expr.evaluating.top_value.Goals as goal
 

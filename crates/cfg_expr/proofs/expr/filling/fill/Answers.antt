@@ -1,4 +1,3 @@
--- In the end each predicate has its answer in both fillings.
 use Rattle.std.proofs.{Common.arith, lemmas.Grind.common_steps}
 use Rattle.cfg_expr.proofs.expr.filling.fill.Goals as goal
 

@@ -1,4 +1,3 @@
--- A node takes one from the stack, and adds one to what is found.
 use Rattle.std.proofs.{Common.arith, lemmas.Grind.common_steps}
 use Rattle.cfg_expr.proofs.expr.filling.go_over.Goals as goal
 

@@ -1,4 +1,3 @@
--- A pass over all nodes has found all parities.
 use Rattle.std.proofs.{Common.arith, lemmas.Grind.common_steps}
 use Rattle.cfg_expr.proofs.expr.filling.parities.Goals as goal
 

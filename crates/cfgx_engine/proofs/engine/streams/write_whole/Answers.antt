@@ -1,4 +1,3 @@
--- A flush that fails is counted.
 use Rattle.std.proofs.Common.{rules}
 use Rattle.cfgx_engine.proofs.engine.streams.write_whole.Goals as goal
 

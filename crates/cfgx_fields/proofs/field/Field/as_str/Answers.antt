@@ -1,4 +1,3 @@
--- It is the text of the field.
 use Rattle.std.proofs.Common.{rules}
 use Rattle.cfgx_fields.proofs.field.Field.as_str.Goals as goal
 

@@ -1,4 +1,3 @@
--- The text is kept.
 use Rattle.std.proofs.Common.{rules}
 use Rattle.cfgx_fields.proofs.field.Field.new_const.Goals as goal
 

@@ -1,4 +1,3 @@
--- The bytes alone are fed.
 use Rattle.std.proofs.Common.{rules}
 use Rattle.cfgx_fields.proofs.field.FieldHash.hash.Goals as goal
 

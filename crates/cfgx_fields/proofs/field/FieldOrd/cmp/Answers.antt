@@ -1,4 +1,3 @@
--- Texts are ordered by their bytes.
 use Rattle.std.proofs.Common.{rules}
 use Rattle.cfgx_fields.proofs.field.FieldOrd.cmp.Goals as goal
 

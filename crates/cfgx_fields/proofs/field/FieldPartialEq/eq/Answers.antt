@@ -1,4 +1,3 @@
--- Texts are compared by their bytes.
 use Rattle.std.proofs.Common.{rules}
 use Rattle.cfgx_fields.proofs.field.FieldPartialEq.eq.Goals as goal
 

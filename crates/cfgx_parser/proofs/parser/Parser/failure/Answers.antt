@@ -1,4 +1,3 @@
--- A fault says what was noted.
 use Rattle.std.proofs.Common.{rules}
 use Rattle.cfgx_parser.proofs.parser.Parser.failure.Goals as goal
 

@@ -1,4 +1,3 @@
--- The view asks the same.
 use Rattle.std.proofs.Common.{rules}
 use Rattle.cfgx_parser.proofs.predicates.TargetPredicate.matches.Goals as goal
 

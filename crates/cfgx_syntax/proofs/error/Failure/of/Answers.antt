@@ -1,4 +1,3 @@
--- The fault has what it was made of.
 use Rattle.std.proofs.Common.{rules}
 use Rattle.cfgx_syntax.proofs.error.Failure.of.Goals as goal
 

@@ -1,4 +1,3 @@
--- The bound is the number of bytes that are left.
 use Rattle.std.proofs.Common.{rules}
 use Rattle.cfgx_syntax.proofs.lexer.Lexer.items_left_bound.Goals as goal
 

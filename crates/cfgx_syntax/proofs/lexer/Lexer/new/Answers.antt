@@ -1,4 +1,3 @@
--- Nothing of the stripped text was read.
 use Rattle.std.proofs.Common.{rules}
 use Rattle.cfgx_syntax.proofs.lexer.Lexer.new.Goals as goal
 

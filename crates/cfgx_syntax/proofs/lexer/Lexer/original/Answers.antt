@@ -1,4 +1,3 @@
--- It is the text that the lexer keeps.
 use Rattle.std.proofs.Common.{rules}
 use Rattle.cfgx_syntax.proofs.lexer.Lexer.original.Goals as goal
 

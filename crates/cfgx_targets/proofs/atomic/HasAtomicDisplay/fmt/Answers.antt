@@ -1,4 +1,3 @@
--- Bits are written as their number, and the pointer's width as `ptr`.
 use Rattle.std.proofs.Common.{rules}
 use Rattle.cfgx_targets.proofs.atomic.HasAtomicDisplay.fmt.Goals as goal
 

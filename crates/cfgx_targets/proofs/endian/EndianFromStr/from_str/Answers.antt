@@ -1,4 +1,3 @@
--- The text is read, or both names are expected.
 use Rattle.std.proofs.Common.{rules}
 use Rattle.cfgx_targets.proofs.endian.EndianFromStr.from_str.Goals as goal
 

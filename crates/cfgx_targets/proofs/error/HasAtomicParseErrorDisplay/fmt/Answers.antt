@@ -1,4 +1,3 @@
--- The text comes last.
 use Rattle.std.{proofs.Common.arith, proofs.lemmas.Grind.common_steps}
 use Rattle.cfgx_targets.proofs.error.HasAtomicParseErrorDisplay.fmt.Goals as goal
 

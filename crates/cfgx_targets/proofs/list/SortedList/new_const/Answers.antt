@@ -1,4 +1,3 @@
--- The slice is kept.
 use Rattle.std.proofs.Common.{rules}
 use Rattle.cfgx_targets.proofs.list.SortedList.new_const.Goals as goal
 

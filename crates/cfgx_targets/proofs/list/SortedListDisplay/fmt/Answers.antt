@@ -1,4 +1,3 @@
--- The members stand between the braces.
 use Rattle.std.{proofs.Common.arith, proofs.lemmas.Grind.common_steps}
 use Rattle.cfgx_targets.proofs.list.SortedListDisplay.fmt.Goals as goal
 

@@ -1,4 +1,3 @@
--- The members are fed.
 use Rattle.std.proofs.Common.{rules}
 use Rattle.cfgx_targets.proofs.list.SortedListHash.hash.Goals as goal
 

@@ -1,4 +1,3 @@
--- Lists are ordered by their members.
 use Rattle.std.proofs.Common.{rules}
 use Rattle.cfgx_targets.proofs.list.SortedListOrd.cmp.Goals as goal
 

@@ -1,4 +1,3 @@
--- Lists are compared by their members.
 use Rattle.std.proofs.Common.{rules}
 use Rattle.cfgx_targets.proofs.list.SortedListPartialEq.eq.Goals as goal
 

@@ -1,4 +1,3 @@
--- What is read is what the grammar answers.
 use Rattle.std.proofs.Common.{rules}
 use Rattle.cfg_expr.proofs.expr.condition.ConditionReader.read.Goals as goal
 

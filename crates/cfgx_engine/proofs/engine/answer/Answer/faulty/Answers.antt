@@ -1,4 +1,3 @@
--- The text is what is written, with status 1.
 use Rattle.std.proofs.Common.{rules}
 use Rattle.cfgx_engine.proofs.engine.answer.Answer.faulty.Goals as goal
 

@@ -1,4 +1,3 @@
--- Nothing has failed yet.
 use Rattle.std.proofs.Common.{rules}
 use Rattle.cfgx_engine.proofs.engine.streams.Counted.new.Goals as goal
 

@@ -1,4 +1,3 @@
--- A write that did not fail is not counted.
 use Rattle.std.proofs.Common.{rules}
 use Rattle.cfgx_engine.proofs.engine.streams.CountedSink.write.Goals as goal
 

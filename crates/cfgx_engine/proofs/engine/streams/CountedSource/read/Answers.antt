@@ -1,4 +1,3 @@
--- A failed read is counted.
 use Rattle.std.proofs.Common.{rules}
 use Rattle.cfgx_engine.proofs.engine.streams.CountedSource.read.Goals as goal
 

@@ -1,4 +1,3 @@
--- It is the plane that is kept.
 use Rattle.std.proofs.Common.{rules}
 use Rattle.cfgx_syntax.proofs.logic.kleene.Kleene64.is_true.Goals as goal
 
