@@ -27,5 +27,6 @@ range-requires-clause-end_boundary c =
 
 pub word_token-requires : goal.word_token-requires
 word_token-requires c = grind (arith, common_steps, sub-zero, word_front)
+
 pub returns-in-Letter : goal.returns-in-Letter
 returns-in-Letter c = grind (arith, common_steps, BeginsWith-word, sub-zero)

@@ -35,5 +35,6 @@ returns-clause-stack g c =
 
 pub offset_bounds-slots-first : goal.offset_bounds-slots-first
 offset_bounds-slots-first g c = grind (arith, common_steps)
+
 pub returns-clause-front : goal.returns-clause-front
 returns-clause-front g c = grind (arith, common_steps)

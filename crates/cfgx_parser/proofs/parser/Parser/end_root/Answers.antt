@@ -22,5 +22,6 @@ returns g c =
 
 pub returns-in-Some : goal.returns-in-Some
 returns-in-Some g c = grind (arith, common_steps)
+
 pub returns-in_err-end_predicate : goal.returns-in_err-end_predicate
 returns-in_err-end_predicate g c = grind (arith, common_steps)

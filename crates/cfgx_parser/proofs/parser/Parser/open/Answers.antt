@@ -16,5 +16,6 @@ push_reserved-requires g c = (room _ _ _ g.met.A.SmallAllocator.small (omega ari
 
 pub invariant_of-self-2 : goal.invariant_of-self-2
 invariant_of-self-2 g c = grind (arith, common_steps)
+
 pub returns : goal.returns
 returns g c = grind (arith, common_steps)

@@ -16,5 +16,6 @@ loop-place-preserved g c =
 
 pub loop-place-init : goal.loop-place-init
 loop-place-init g c = grind (arith, common_steps)
+
 pub offset_bounds-members-place : goal.offset_bounds-members-place
 offset_bounds-members-place g c = grind (arith, common_steps)
