@@ -27,7 +27,7 @@ pub fn push<T: Drop, A: Allocator>(
     Ok(())
 }
 
-/// Puts what was made in the place of a value, if there is no error. The type is not known either.
+/// Replaces a value by what was made, if there is no error. Its type is not known here either.
 pub fn put<T: Drop>(place: &mut T, made: Result<T, AllocError>) -> Result<(), AllocError> {
     *place = made?;
     Ok(())
