@@ -481,11 +481,7 @@ impl<'a, A: SmallAllocator> Parser<'a, A> {
         ensures { Gives result self.new (conclude (token_like last) len (state_of self.old)) }
     {
         if lacks_value(last) {
-            let end = Span {
-                start: len,
-                end: len,
-            };
-            return Err(self.halt(Reason::Unexpected(&["\"<value>\""]), end));
+            return Err(self.halt(Reason::Unexpected(&["\"<value>\""]), Span::from(len..len)));
         }
         self.end_root(len)
     }
