@@ -1,12 +1,10 @@
--- The first two are where a failed read that is taken for the end is refused.
+-- A failed read that is taken for the end is refused at the count, and at what came. `search` does
+-- not close the last two.
 use Rattle.std.proofs.{Common.{arith, rules}, lemmas.Grind.common_steps}
 use Rattle.cfgx_engine.proofs.engine.reading.read_once.Goals as goal
 
 pub returns-clause-count : goal.returns-clause-count
 returns-clause-count g c = search rules
-
-pub returns-clause-none : goal.returns-clause-none
-returns-clause-none g c = search rules
 
 pub returns-clause-came : goal.returns-clause-came
 returns-clause-came g c = grind (arith, common_steps)
