@@ -1,5 +1,5 @@
 -- There is room for one more place, while fewer than all are held.
-use Rattle.std.proofs.Common.{◌∙◌, ap, arith, length}
+use Rattle.std.proofs.Common.{◌∙◌, ap, arith, length, rules}
 use Rattle.std.{proofs.lemmas.Grind.common_steps, proofs.lemmas.List.length-replicate}
 use Rattle.cfg_expr.proofs.Rooms.{room}
 use Rattle.cfg_expr.proofs.expr.evaluating.add_slots.Goals as goal
@@ -16,3 +16,7 @@ loop-place-preserved g c = grind (arith, common_steps)
 
 pub reserve_exact-requires : goal.reserve_exact-requires
 reserve_exact-requires g c = room _ _ g.met.T.Logic.small
+
+pub returns-in_err-reserve_exact-clause-succeeds
+    : goal.returns-in_err-reserve_exact-clause-succeeds
+returns-in_err-reserve_exact-clause-succeeds g c = search rules

@@ -1,5 +1,5 @@
 -- There is room for one more place, while fewer than all are held.
-use Rattle.std.proofs.{Common.{◌∙◌, ap, arith, length}, lemmas.List.length-replicate}
+use Rattle.std.proofs.{Common.{◌∙◌, ap, arith, length, rules}, lemmas.List.length-replicate}
 use Rattle.std.proofs.lemmas.Grind.{common_steps}
 use Rattle.cfg_expr.proofs.Rooms.{room}
 use Rattle.cfg_expr.proofs.expr.evaluating.slots_of.Goals as goal
@@ -16,3 +16,6 @@ with_capacity-requires g c = room _ _ g.met.T.Logic.small
 
 pub loop-place-preserved : goal.loop-place-preserved
 loop-place-preserved g c = grind (arith, common_steps)
+
+pub returns-in_err-slots-clause-succeeds : goal.returns-in_err-slots-clause-succeeds
+returns-in_err-slots-clause-succeeds g c = search rules

@@ -1,3 +1,4 @@
+use Rattle.std.proofs.Common.{rules}
 use Rattle.cfgx_engine.specs.{Output.HasValue, Request.texts}
 use Rattle.cfgx_engine.proofs.{OutputLemmas.result_output-shown, PickLemmas.PrintsInput-any}
 use Rattle.cfgx_engine.proofs.engine.answer.answer_to.Goals as goal
@@ -6,6 +7,9 @@ pub returns-in_ok-parse_answer-in-Parse-clause-right
     : goal.returns-in_ok-parse_answer-in-Parse-clause-right
 returns-in_ok-parse_answer-in-Parse-clause-right g c =
     PrintsInput-any _ _ _ c.in-Parse.ensures (λ input. c.in_ok-parse_answer-in-Parse.ensures)
+
+pub returns-in-WrongUse-clause-wrong_use : goal.returns-in-WrongUse-clause-wrong_use
+returns-in-WrongUse-clause-wrong_use g c = search rules
 
 pub returns-in-WrongUse-clause-right : goal.returns-in-WrongUse-clause-right
 returns-in-WrongUse-clause-right g c =

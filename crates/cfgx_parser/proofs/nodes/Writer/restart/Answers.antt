@@ -1,4 +1,5 @@
--- The vectors of a writer fit in memory.
+-- The vectors of a writer fit in memory, and are empty.
+use Rattle.std.proofs.Common.{sym, ap, length}
 use Rattle.cfgx_parser.proofs.Rooms.{arith, room}
 use Rattle.cfgx_parser.proofs.nodes.Writer.restart.Goals as goal
 
@@ -10,3 +11,10 @@ clear-requires-2 g c = room _ _ _ g.met.A.SmallAllocator.small (omega arith)
 
 pub clear-requires-3 : goal.clear-requires-3
 clear-requires-3 g c = room _ _ _ g.met.A.SmallAllocator.small (omega arith)
+
+pub invariant_of-self : goal.invariant_of-self
+invariant_of-self g c =
+    record {
+      counted =
+          (sym (ap length c.clear.ensures.items), sym (ap length c.clear-2.ensures.items));
+    }

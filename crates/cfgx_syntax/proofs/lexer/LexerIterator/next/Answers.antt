@@ -1,5 +1,5 @@
 -- What follows the white space stands in the whole text.
-use Rattle.std.{proofs.Common.arith, proofs.Common.rules, proofs.lemmas.Grind.common_steps}
+use Rattle.std.proofs.{Common.{arith, rules}, Math.Nat.sub-zero, lemmas.Grind.common_steps}
 use Rattle.cfgx_syntax.{specs.Error.cause_of, specs.Lexer.token_of, proofs.Scanning.state_at}
 use Rattle.cfgx_syntax.proofs.Scanning.{IsAfter-trimmed, Stands-found, CanBeCut-found, Ending-found}
 use Rattle.cfgx_syntax.proofs.lexer.LexerIterator.next.Goals as goal
@@ -28,7 +28,7 @@ returns-in-Some-clause-steps g c =
       refusal = _;
       refused = found.2;
       fails = c.of.ensures;
-      is_over = state_at _ _ _ (omega arith);
+      is_over = state_at _ _ _ (sub-zero _);
     })
 
 pub invariant_of-self : goal.invariant_of-self
