@@ -3,7 +3,7 @@ use Rattle.std.proofs.Common.{◌≡◌, ℕ, zero, suc, ◌+◌, ◌<◌, ◌�
 use Rattle.std.proofs.Common.{refl, ap, sym, ◌∙◌, arith, append_assoc, length-append}
 use Rattle.std.specs.Prelude.{codes, set}
 use Rattle.std.proofs.lemmas.List.{take_all, take_more_set, take-append-le, length-take-le}
-use Rattle.cfgx_callers.specs.Terms.{cut, in_parens}
+use Rattle.cfgx_examples.specs.Terms.{cut, in_parens}
 
 take-front : (n : ℕ) (front rest : List ℕ) → take n (take n front ++ rest) ≡ take n (front ++ rest)
 take-front zero front rest = refl

@@ -7,7 +7,7 @@ use Rattle.cfgx_syntax.specs.declared.error.Failure.{Failure}
 use Rattle.cfgx_syntax.specs.declared.error.Failure.TheVariants as failure
 use Rattle.cfgx_grammar.specs.Question.{Question}
 use Rattle.cfgx_grammar.specs.WellFormed.{IsAlone}
-use Rattle.cfgx_callers.specs.Terms.{cut}
+use Rattle.cfgx_examples.specs.Terms.{cut}
 
 -- whether a predicate is a bare key of no other meaning, and one of these
 abbrev pub is_among : List (Bor (List ℕ)) → Question → Bool

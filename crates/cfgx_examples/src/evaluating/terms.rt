@@ -1,6 +1,6 @@
 //! A logic that writes its terms down.
 ghost use Rattle.std.specs.Prelude.{◌≡◌, ◌≤◌, ◌++◌, ◌∷◌, [], codes, length, take};
-ghost use Rattle.cfgx_callers.specs.Terms.{cut, in_parens};
+ghost use Rattle.cfgx_examples.specs.Terms.{cut, in_parens};
 
 use cfg_expr::expr::Logic;
 use std::marker::Model;

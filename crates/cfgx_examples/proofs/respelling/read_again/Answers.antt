@@ -2,7 +2,7 @@
 use Rattle.std.proofs.Common.{◌++◌, ◌∙◌, ap, subst, sym}
 use Rattle.cfgx_grammar.specs.{WellFormed.IsAlone, Spelling.spelling}
 use Rattle.cfgx_parser.specs.Predicate.{question_of}
-use Rattle.cfgx_callers.proofs.respelling.read_again.Goals as goal
+use Rattle.cfgx_examples.proofs.respelling.read_again.Goals as goal
 
 pub read_alone-requires : goal.read_alone-requires
 read_alone-requires c =

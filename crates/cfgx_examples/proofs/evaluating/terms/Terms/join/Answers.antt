@@ -1,6 +1,6 @@
 use Rattle.std.proofs.Common.{◌∙◌, ap, ◌++◌}
-use Rattle.cfgx_callers.{specs.Terms.cut, proofs.Written.cut-in_parens}
-use Rattle.cfgx_callers.proofs.evaluating.terms.Terms.join.Goals as goal
+use Rattle.cfgx_examples.{specs.Terms.cut, proofs.Written.cut-in_parens}
+use Rattle.cfgx_examples.proofs.evaluating.terms.Terms.join.Goals as goal
 
 -- the parts are written one after another
 pub returns : goal.returns

@@ -1,7 +1,7 @@
 -- The text has one tree, and so no fault.
 use Rattle.cfgx_parser.specs.Predicate.{question_of}
-use Rattle.cfgx_callers.proofs.Respelt.{read-alone}
-use Rattle.cfgx_callers.proofs.respelling.read_alone.Goals as goal
+use Rattle.cfgx_examples.proofs.Respelt.{read-alone}
+use Rattle.cfgx_examples.proofs.respelling.read_alone.Goals as goal
 
 pub returns : goal.returns
 returns c =

@@ -2,7 +2,7 @@
 ghost use Rattle.std.specs.Prelude.{◌≡◌, ◌+◌, ◌^◌, ◌*◌, ◌%◌, ◌-◌, length, min, IfOk};
 ghost use Rattle.cfg_expr.specs.Evaluation.{IsValueBy};
 ghost use Rattle.cfg_expr.specs.Words.{HasOneTree, asked, question_of};
-ghost use Rattle.cfgx_callers.specs.Callers.{is_among, term_of};
+ghost use Rattle.cfgx_examples.specs.Callers.{is_among, term_of};
 
 pub mod terms;
 

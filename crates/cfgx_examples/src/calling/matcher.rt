@@ -12,7 +12,7 @@ pub struct Board<'a> {
 }
 
 impl TargetMatcher for Board<'_> {
-    ghost use Rattle.cfgx_callers.specs.Board.{board_meets};
+    ghost use Rattle.cfgx_examples.specs.Board.{board_meets};
 
     ghost answer = { λ board. board_meets board.os.now board.pointer_width };
 
