@@ -18,7 +18,7 @@ IsDecision tree answers (decision.Unknown if_true if_false) =
 
 -- So it is decided: the value is known exactly if every filling of the answers leads to it, and
 -- unknown exactly if the tree is true with the one polar filling and false with the other.
-pub record Decides {X A : Type 0} (tree : Tree X) (answers : List (Option Bool))
+pub record DecidesExactly {X A : Type 0} (tree : Tree X) (answers : List (Option Bool))
     (given : Decision A) : Type 0 where
   pub is : IsDecision tree answers given
   pub exact : IsExact tree answers

@@ -13,17 +13,17 @@ answer_of byte =
     if byte == 0 then Some false else (if byte == 1 then Some true else None)
 
 -- the byte that stands for a value
-abbrev pub byte_of : Option Bool → ℕ
-byte_of (Some false) = 0
-byte_of (Some true) = 1
-byte_of None = 2
+abbrev pub byte_of_value : Option Bool → ℕ
+byte_of_value (Some false) = 0
+byte_of_value (Some true) = 1
+byte_of_value None = 2
 
 -- the value of the text's one tree over these answers, one for each predicate in the order in which
 -- it asks them
-pub record HasValue (text answers : List ℕ) (value : ℕ) : Type 0 where
+pub record HasValueOver (text answers : List ℕ) (value : ℕ) : Type 0 where
   pub one : HasOneTree text
   pub count : length answers ≡ length (asked one.tree)
-  pub value_is : value ≡ byte_of (tree_fold three_valued one.tree (map answer_of answers))
+  pub value_is : value ≡ byte_of_value (tree_fold three_valued one.tree (map answer_of answers))
 
 -- the first of these answers, and unknown if there is none
 abbrev pub first_answer : List ℕ → Option Bool

@@ -6,14 +6,14 @@ ghost use Rattle.cfgx_grammar.specs.Filling.{three_valued};
 ghost use Rattle.cfgx_grammar.specs.Fold.{tree_fold};
 ghost use Rattle.cfgx_grammar.specs.Given.{AreAnswersTo};
 ghost use Rattle.cfgx_grammar.specs.Tree.{asked};
-ghost use Rattle.cfgx_c.specs.Value.{answer_of, byte_of, first_answer};
+ghost use Rattle.cfgx_c.specs.Value.{answer_of, byte_of_value, first_answer};
 
 use cfg_expr::{Expression, Predicate};
 use std::alloc::{AllocError, Global};
 
 /// The byte that stands for a value.
-pub(crate) fn byte_of(value: Option<bool>) -> u8
-    ensures { result ≡ byte_of value }
+pub(crate) fn byte_of_value(value: Option<bool>) -> u8
+    ensures { result ≡ byte_of_value value }
 {
     match value {
         Some(false) => 0,

@@ -2,7 +2,7 @@
 
 ghost use Rattle.std.specs.Prelude.{◌≡◌};
 ghost use Rattle.cfgx_syntax.specs.Error.{cause_of};
-ghost use Rattle.cfgx_c.specs.Check.{offset_of, members_of, number_of, told_of};
+ghost use Rattle.cfgx_c.specs.Check.{offset_of, member_count_of, number_of, told_of};
 
 use cfg_expr::error::{ParseError, Reason};
 use cfgx_syntax::stripping::strip;
@@ -10,7 +10,7 @@ use cfgx_syntax::stripping::strip;
 /// What is wrong with a text, and where. Places and lengths are in bytes.
 #[repr(C)]
 #[derive(Clone, Copy)]
-pub struct Fault {
+pub struct CfgxFault {
     /// Where in the text the stripped text begins: 4 if an outer `cfg( )` is taken off, and else 0
     pub offset: usize,
     /// Where in the stripped text the span at fault begins
@@ -44,8 +44,8 @@ fn number_of(reason: Reason) -> u32
 }
 
 /// How many members `not` has if that is the reason.
-fn members_of(reason: Reason) -> usize
-    ensures { result ≡ members_of (cause_of reason) }
+fn member_count_of(reason: Reason) -> usize
+    ensures { result ≡ member_count_of (cause_of reason) }
 {
     match reason {
         Reason::InvalidNot(members) => members,
@@ -65,18 +65,18 @@ fn offset_of(text: &str) -> usize
 }
 
 /// What is told of the fault of a text.
-pub(crate) fn told_of(text: &str, error: &ParseError) -> Fault
+pub(crate) fn told_of(text: &str, error: &ParseError) -> CfgxFault
     ensures { result ≡ told_of text.now (record {
       cause = cause_of error.now.reason;
       start = error.now.span.start;
       end = error.now.span.end;
     }) }
 {
-    Fault {
+    CfgxFault {
         offset: offset_of(text),
         start: error.span.start,
         end: error.span.end,
-        members: members_of(error.reason),
+        members: member_count_of(error.reason),
         reason: number_of(error.reason),
     }
 }

@@ -4,23 +4,23 @@
 
 ghost use Rattle.std.specs.Prelude.{◌≡◌, ◌≢◌, ◌≤◌, Err, length};
 ghost use Rattle.std.specs.Str.{IsUtf8};
-ghost use Rattle.cfgx_syntax.specs.Error.{Refusal};
+ghost use Rattle.cfgx_syntax.specs.Error.{Fault};
 ghost use Rattle.cfgx_syntax.specs.Stripping.{strip};
 ghost use Rattle.cfgx_grammar.specs.Answer.{HasOneTree, ReadsAs};
 ghost use Rattle.cfgx_grammar.specs.Tree.{asked};
 ghost use Rattle.cfgx_c.specs.Check.{told_of};
 ghost use Rattle.cfgx_c.specs.Run.{Runs};
-ghost use Rattle.cfgx_c.specs.Value.{HasValue};
+ghost use Rattle.cfgx_c.specs.Value.{HasValueOver};
 
 mod answers;
 mod fault;
 mod streams;
 mod words;
 
-use answers::{byte_of, value_over};
+use answers::{byte_of_value, value_over};
 use cfg_expr::Expression;
 use cfg_expr::error::Failure;
-pub use fault::Fault;
+pub use fault::CfgxFault;
 use std::alloc::Global;
 use streams::Kept;
 use words::run_words;
@@ -73,10 +73,10 @@ pub extern "C" fn cfgx_run(
 /// It is 2 if the text is not UTF-8, and 3 if the call is out of memory; the text may then be good
 /// or faulty. With any status but 1 `fault` stays as it was.
 #[unsafe(no_mangle)]
-pub extern "C" fn cfgx_check(alloc: Global, text: &[u8], fault: &mut Fault) -> u32
+pub extern "C" fn cfgx_check(alloc: Global, text: &[u8], fault: &mut CfgxFault) -> u32
     ensures done { result ≡ 0 → HasOneTree (strip text.now) }
-    ensures faulty { result ≡ 1 → (refusal : Refusal) × ReadsAs (strip text.now) (Err refusal)
-        × (fault.new ≡ told_of text.now refusal) }
+    ensures faulty { result ≡ 1 → (found : Fault) × ReadsAs (strip text.now) (Err found)
+        × (fault.new ≡ told_of text.now found) }
     ensures not_utf8 { result ≡ 2 → ¬ IsUtf8 text.now }
     ensures utf8 { result ≢ 2 → IsUtf8 text.now }
     ensures kept { result ≢ 1 → fault.new ≡ fault.old }
@@ -103,9 +103,9 @@ pub extern "C" fn cfgx_check(alloc: Global, text: &[u8], fault: &mut Fault) -> u
 /// predicates. With any status but 0 `value` stays as it was.
 #[unsafe(no_mangle)]
 pub extern "C" fn cfgx_value(alloc: Global, text: &[u8], answers: &[u8], value: &mut u8) -> u32
-    ensures done { result ≡ 0 → HasValue (strip text.now) answers.now value.new }
+    ensures done { result ≡ 0 → HasValueOver (strip text.now) answers.now value.new }
     ensures faulty { result ≡ 1
-        → (refusal : Refusal) × ReadsAs (strip text.now) (Err refusal) }
+        → (found : Fault) × ReadsAs (strip text.now) (Err found) }
     ensures not_utf8 { result ≡ 2 → ¬ IsUtf8 text.now }
     ensures utf8 { result ≢ 2 → IsUtf8 text.now }
     ensures miscounted { result ≡ 4 → (one : HasOneTree (strip text.now))
@@ -127,6 +127,6 @@ pub extern "C" fn cfgx_value(alloc: Global, text: &[u8], answers: &[u8], value: 
     let Ok(found) = value_over(alloc, &condition, answers) else {
         return REFUSED;
     };
-    *value = byte_of(found);
+    *value = byte_of_value(found);
     DONE
 }

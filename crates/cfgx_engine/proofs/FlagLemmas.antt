@@ -6,7 +6,7 @@ use Rattle.std.proofs.{lemmas.List.map-append, lemmas.List.take_more, lemmas.Opt
 use Rattle.std.proofs.lemmas.List.Elements.{All-from_recursion, All-push, filter_map-append}
 use Rattle.std.proofs.{lemmas.List.Elements.recursion_from_All, lemmas.Slice.Eq.bytes_eq-Decides}
 use Rattle.cfgx_syntax.specs.Stripping.{strip}
-use Rattle.cfgx_syntax.specs.{Error.Fault, Error.failure_of, declared.error.Failure.Failure}
+use Rattle.cfgx_syntax.specs.{Error.TextFault, Error.failure_of, declared.error.Failure.Failure}
 use Rattle.cfgx_grammar.specs.{Question.Question, Tree.Tree, Answer.HasOneTree}
 use Rattle.cfgx_engine.specs.EngineAnswer.{AddsFlag, AreFlags, Fails}
 use Rattle.cfgx_engine.specs.{Flags.{flag_text, unknown_text}, Readings.{GivesAll, ParsesAs}}
@@ -30,7 +30,7 @@ trees_of (flag ∷ flags) each =
     (each.0.tree ∷ others.0, (Ok each.0.tree, each.0.reads, (Ok others.0, others.1, refl)))
 
 -- the fault of a word is the first, if the words in front of it have a tree each
-GivesAll-later : (words : List (Bor (List ℕ))) (i : ℕ) (d : Bor (List ℕ)) (fault : Fault)
+GivesAll-later : (words : List (Bor (List ℕ))) (i : ℕ) (d : Bor (List ℕ)) (fault : TextFault)
     → i < length words
     → AllByRecursion (λ flag. HasOneTree (strip (flag_text flag))) (texts (take i words))
     → ParsesAs (flag_text (get_or words i d).now) (Err fault)

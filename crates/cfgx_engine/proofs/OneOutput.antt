@@ -10,7 +10,7 @@ use Rattle.std.specs.declared.alloc.Global.{Global}
 use Rattle.std.proofs.lemmas.{Bool.cases_Bool, Bool.Decides.Decides-eqb, Grind.common_steps}
 use Rattle.std.proofs.lemmas.{Slice.Eq.bytes_eq-Decides, Slice.Eq.ends_is, Slice.Eq.starts_is}
 use Rattle.std.proofs.lemmas.List.{Sums.passes_at_first, Splits.join_with_byte-slice_split}
-use Rattle.cfgx_syntax.specs.{Stripping.strip, Error.Fault, Error.fault_in}
+use Rattle.cfgx_syntax.specs.{Stripping.strip, Error.TextFault, Error.fault_in}
 use Rattle.cfgx_targets.specs.{Builtins.builtin_rows, Table.row_with}
 use Rattle.cfgx_targets.specs.declared.info.TargetInfo.{TargetInfo}
 use Rattle.cfgx_grammar.specs.{Question.Question, Spelling.spelling, Tree.Tree}
@@ -91,7 +91,7 @@ IsAnswer-single : (known unknown : List (List ℕ)) (question : Question)
     → IsSingle (IsAnswer known unknown question)
 IsAnswer-single known unknown question one other this that = grind arith
 
-ValueBy-single : (flags : List (List ℕ)) (read : Result (List (Tree Question)) Fault)
+ValueBy-single : (flags : List (List ℕ)) (read : Result (List (Tree Question)) TextFault)
     → IsSingle (ValueBy flags read)
 ValueBy-single flags read one other this that = grind (arith, AllZip-single, IsAnswer-single)
 
@@ -181,7 +181,7 @@ module _ (Q : List ℕ → Type 0) (tested : (text : List ℕ) → is_utf8 text 
     where
       parsed : HasSome (ReadsAs (strip text)) → HasSome (ParsesAs text)
       parsed (Ok tree, has) = (Ok tree, has)
-      parsed (Err refusal, has) = (Err (fault_in (strip text) refusal), (refusal, has, refl))
+      parsed (Err fault, has) = (Err (fault_in (strip text) fault), (fault, has, refl))
 
   -- a text names a predicate if its tree asks it
   Names-known : (question : Question) → IsWellFormed question → (text : List ℕ) → Q text
@@ -189,7 +189,7 @@ module _ (Q : List ℕ → Type 0) (tested : (text : List ℕ) → is_utf8 text 
   Names-known question well_formed text is = named (reads text is)
     where
       named : HasSome (ReadsAs text) → Names text question ⊎ ¬ Names text question
-      named (Err refusal, read) = inr (λ names. absurd (cc (read.only (Ok names.0) names.1)))
+      named (Err fault, read) = inr (λ names. absurd (cc (read.only (Ok names.0) names.1)))
       named (Ok tree, read) = ⊎_elim
           (λ any. inl (tree, read.has, (any.0, any.2, rw any.4 at any.3)))
           (λ none. inr (λ names.

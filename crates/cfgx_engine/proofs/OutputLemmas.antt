@@ -2,7 +2,7 @@
 use Rattle.std.proofs.Common.{◌≡◌, ℕ, Bool, List, Option, Some, None, IfSome, Result, Ok, Err}
 use Rattle.std.specs.Prelude.{IsSomeAnd}
 use Rattle.cfgx_syntax.specs.Stripping.{strip}
-use Rattle.cfgx_syntax.specs.{Error.Fault, Error.failure_of, declared.error.Failure.Failure}
+use Rattle.cfgx_syntax.specs.{Error.TextFault, Error.failure_of, declared.error.Failure.Failure}
 use Rattle.cfgx_syntax.specs.declared.error.Failure.TheVariants as failure
 use Rattle.cfgx_grammar.specs.Answer.{Answers}
 use Rattle.cfgx_engine.specs.EngineAnswer.{Fails, FitsResult, ShowsResult}
@@ -12,20 +12,20 @@ use Rattle.cfgx_engine.specs.{Output.Output, Output.result_output, Readings.Pars
 pub Fails-parse : {A : Type 0} (text : List ℕ) (failed : Failure A)
     → Answers {A = A} (strip text) (Err failed)
     → Fails {A = A} (λ fault. ParsesAs text (Err fault)) failed
-Fails-parse text (failure.Parse error) (refusal, shown, reads) = (refusal, reads, shown)
+Fails-parse text (failure.Parse error) (fault, shown, reads) = (fault, reads, shown)
 Fails-parse text (failure.Memory error) parsed = tt
 
 -- a fault that fits is shown
-pub shown_fault : {P Q : Fault → Type 0} (found : Option Fault) → IfSome found P
-    → IsSomeAnd found Q → (fault : Fault) × P fault × Q fault
+pub shown_fault : {P Q : TextFault → Type 0} (found : Option TextFault) → IfSome found P
+    → IsSomeAnd found Q → (fault : TextFault) × P fault × Q fault
 shown_fault None fits shows = absurd shows
 shown_fault (Some fault) fits shows = (fault, fits, shows)
 
 -- an answer shows the value that is given, or the fault in its place
-pub result_output-shown : {A : Type 0} (Holds : Result (Option Bool) Fault → Type 0)
+pub result_output-shown : {A : Type 0} (Holds : Result (Option Bool) TextFault → Type 0)
     (result : Result (Option Bool) (Failure A)) (shown : Output) → FitsResult {A = A} Holds result
     → ShowsResult {A = A} result shown
-    → (value : Result (Option Bool) Fault) × Holds value × (shown ≡ result_output value)
+    → (value : Result (Option Bool) TextFault) × Holds value × (shown ≡ result_output value)
 result_output-shown Holds (Ok value) shown gives shows = (Ok value, gives, shows)
 result_output-shown Holds (Err failed) shown fails shows =
     let one = shown_fault (failure_of failed) fails shows in (Err one.0, one.1, one.2)

@@ -6,7 +6,7 @@ use Rattle.std.specs.Str.{is_utf8}
 use Rattle.std.specs.Cow.{cow_slice_items}
 use Rattle.std.specs.List.{AllByRecursion}
 use Rattle.cfgx_syntax.specs.Stripping.{strip}
-use Rattle.cfgx_syntax.specs.Error.{Fault, failure_of}
+use Rattle.cfgx_syntax.specs.Error.{TextFault, failure_of}
 use Rattle.cfgx_syntax.specs.declared.error.Failure.{Failure}
 use Rattle.cfgx_grammar.specs.Answer.{HasOneTree}
 use Rattle.cfgx_grammar.specs.Question.{Question}
@@ -54,11 +54,12 @@ ShowsResult (Ok value) output = output ≡ value_output value
 ShowsResult (Err failed) output = ShowsFailure failed output
 
 -- this holds of the fault; out of memory nothing is said
-abbrev pub Fails : {A : Type 0} → (Fault → Type 0) → Failure A → Type 0
+abbrev pub Fails : {A : Type 0} → (TextFault → Type 0) → Failure A → Type 0
 Fails Holds failed = IfSome (failure_of failed) Holds
 
 -- this holds of the value, or of the fault in its place; out of memory nothing is said
-abbrev pub FitsResult : {T A : Type 0} → (Result T Fault → Type 0) → Result T (Failure A) → Type 0
+abbrev pub FitsResult : {T A : Type 0} → (Result T TextFault → Type 0) → Result T (Failure A)
+    → Type 0
 FitsResult Holds (Ok value) = Holds (Ok value)
 FitsResult Holds (Err failed) = Fails (λ fault. Holds (Err fault)) failed
 

@@ -4,7 +4,7 @@
 use Rattle.std.specs.Prelude.{◌≡◌, ℕ, Bool, true, false, List, [], ◌∷◌, ◌++◌, codes, map}
 use Rattle.std.specs.Prelude.{Option, Some, None, Result, Ok, Err}
 use Rattle.std.specs.List.{AllZip, flat_map}
-use Rattle.cfgx_syntax.specs.Error.{Fault, error_text}
+use Rattle.cfgx_syntax.specs.Error.{TextFault, error_text}
 use Rattle.cfgx_targets.specs.declared.info.TargetInfo.{TargetInfo}
 use Rattle.cfgx_grammar.specs.Question.{Question}
 use Rattle.cfgx_grammar.specs.Tree.{Tree, asked}
@@ -51,23 +51,23 @@ value_output value = record { bytes = text_line (value_text value); status = 0 }
 abbrev pub faulty_output : List ℕ → Output
 faulty_output text = record { bytes = text; status = 1 }
 
-abbrev pub fault_output : Fault → Output
+abbrev pub fault_output : TextFault → Output
 fault_output fault = faulty_output (text_line (error_text fault))
 
 -- for a tree a line for each predicate that it asks; for a fault what it prints
-abbrev pub tree_output : Result (Tree Question) Fault → Output
+abbrev pub tree_output : Result (Tree Question) TextFault → Output
 tree_output (Ok tree) = record { bytes = lines (asked tree); status = 0 }
 tree_output (Err fault) = fault_output fault
 
 -- the output of a value, or of the fault in its place
-abbrev pub result_output : Result (Option Bool) Fault → Output
+abbrev pub result_output : Result (Option Bool) TextFault → Output
 result_output (Ok value) = value_output value
 result_output (Err fault) = fault_output fault
 
 -- What was read holds the text's tree and then those of the flags. The value is that of the text's
 -- tree, whose predicates the flags answer; or it is the fault.
-abbrev pub ValueBy : List (List ℕ) → Result (List (Tree Question)) Fault
-    → Result (Option Bool) Fault → Type 0
+abbrev pub ValueBy : List (List ℕ) → Result (List (Tree Question)) TextFault
+    → Result (Option Bool) TextFault → Type 0
 ValueBy flags (Ok []) value = ⊥
 ValueBy flags (Ok (tree ∷ _)) value = (answers : List (Option Bool))
     × AllZip (IsAnswer (known_texts flags) (unknown_texts flags)) (asked tree) answers
@@ -76,8 +76,8 @@ ValueBy flags (Err fault) value = value ≡ Err fault
 
 -- the value of the text, whose predicates the flags answer; or the first fault, if the text is read
 -- first and then each flag
-abbrev pub HasValue : List ℕ → List (List ℕ) → Result (Option Bool) Fault → Type 0
-HasValue text flags value = (reading : Result (List (Tree Question)) Fault)
+abbrev pub HasValue : List ℕ → List (List ℕ) → Result (Option Bool) TextFault → Type 0
+HasValue text flags value = (reading : Result (List (Tree Question)) TextFault)
     × GivesAll ParsesAs (text ∷ map flag_text flags) reading × ValueBy flags reading value
 
 -- what a target answers to a question: whether it meets it, if it is on the target; every other
@@ -86,12 +86,12 @@ abbrev pub answer_on : {A : Type 0} → TargetInfo A → Question → Option Boo
 answer_on row = answer_by (meets row)
 
 -- the value of a tree with these answers, or the fault in its place
-abbrev pub value_by : (Question → Option Bool) → Result (Tree Question) Fault
-    → Result (Option Bool) Fault
+abbrev pub value_by : (Question → Option Bool) → Result (Tree Question) TextFault
+    → Result (Option Bool) TextFault
 value_by answer (Ok tree) = Ok (tree_fold three_valued tree (map answer (asked tree)))
 value_by answer (Err fault) = Err fault
 
 -- the value of the text with these answers, or its fault
-abbrev pub HasValueBy : (Question → Option Bool) → List ℕ → Result (Option Bool) Fault → Type 0
-HasValueBy answer text value = (reading : Result (Tree Question) Fault) × ParsesAs text reading
+abbrev pub HasValueBy : (Question → Option Bool) → List ℕ → Result (Option Bool) TextFault → Type 0
+HasValueBy answer text value = (reading : Result (Tree Question) TextFault) × ParsesAs text reading
     × (value ≡ value_by answer reading)

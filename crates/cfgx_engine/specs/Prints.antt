@@ -9,7 +9,7 @@ use Rattle.std.specs.Io.KnownBytes.{Appends, Keeps}
 use Rattle.std.specs.declared.alloc.Global.{Global}
 use Rattle.cfgx_targets.specs.Builtins.{builtin_rows}
 use Rattle.cfgx_targets.specs.Table.{row_with}
-use Rattle.cfgx_syntax.specs.Error.{Fault}
+use Rattle.cfgx_syntax.specs.Error.{TextFault}
 use Rattle.cfgx_grammar.specs.Question.{Question}
 use Rattle.cfgx_grammar.specs.Tree.{Tree}
 use Rattle.cfgx_engine.specs.Input.{input_limit}
@@ -43,13 +43,13 @@ PicksInput answer held output =
 -- this is the output of the request on the input
 abbrev pub Prints : Request → List ℕ → Output → Type 0
 Prints (Request.parse text) input output =
-    (reading : Result (Tree Question) Fault) × ParsesAs text reading
+    (reading : Result (Tree Question) TextFault) × ParsesAs text reading
     × (output ≡ tree_output reading)
-Prints (Request.eval text flags) input output = (value : Result (Option Bool) Fault)
+Prints (Request.eval text flags) input output = (value : Result (Option Bool) TextFault)
     × HasValue text flags value × (output ≡ result_output value)
 Prints (Request.target triple text) input output =
     MatchOption (row_with {A = Global} triple builtin_rows) (output ≡ unknown_triple)
-    (λ row. (value : Result (Option Bool) Fault) × HasValueBy (answer_on row) text value
+    (λ row. (value : Result (Option Bool) TextFault) × HasValueBy (answer_on row) text value
     × (output ≡ result_output value))
 Prints (Request.pick triple) input output =
     MatchOption (row_with {A = Global} triple builtin_rows) (output ≡ unknown_triple)

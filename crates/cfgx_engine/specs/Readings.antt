@@ -2,16 +2,16 @@
 -- Source of the rules: docs/RULES.md.
 use Rattle.std.specs.Prelude.{◌≡◌, ℕ, List, [], ◌∷◌, Result, Ok, Err, MatchResult}
 use Rattle.cfgx_syntax.specs.Stripping.{strip}
-use Rattle.cfgx_syntax.specs.Error.{Fault, Refusal, fault_in}
+use Rattle.cfgx_syntax.specs.Error.{TextFault, Fault, fault_in}
 use Rattle.cfgx_grammar.specs.Question.{Question}
 use Rattle.cfgx_grammar.specs.Tree.{Tree}
 use Rattle.cfgx_grammar.specs.Answer.{ReadsAs}
 
 -- the text, once stripped, reads as this tree, or as this fault, which holds the stripped text
-abbrev pub ParsesAs : List ℕ → Result (Tree Question) Fault → Type 0
+abbrev pub ParsesAs : List ℕ → Result (Tree Question) TextFault → Type 0
 ParsesAs text (Ok tree) = ReadsAs (strip text) (Ok tree)
-ParsesAs text (Err fault) = (refusal : Refusal) × ReadsAs (strip text) (Err refusal)
-    × (fault ≡ fault_in (strip text) refusal)
+ParsesAs text (Err fault) = (found : Fault) × ReadsAs (strip text) (Err found)
+    × (fault ≡ fault_in (strip text) found)
 
 -- a value in front of others, or the error in their place
 abbrev pub value_then : {T E : Type 0} → T → Result (List T) E → Result (List T) E

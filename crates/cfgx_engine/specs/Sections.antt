@@ -7,7 +7,7 @@ use Rattle.std.specs.Fmt.{decimal}
 use Rattle.std.specs.List.{after_first, before_first, concat, enumerate_from, flat_map}
 use Rattle.std.specs.List.{position_or_len, slice_split}
 use Rattle.std.specs.Str.Lines.{strip_carriage_return}
-use Rattle.cfgx_syntax.specs.Error.{Fault, error_text}
+use Rattle.cfgx_syntax.specs.Error.{TextFault, error_text}
 use Rattle.cfgx_grammar.specs.Question.{Question}
 use Rattle.cfgx_grammar.specs.Tree.{Tree, asked}
 use Rattle.cfgx_grammar.specs.Filling.{polar, three_valued}
@@ -64,13 +64,13 @@ abbrev pub no_tab : ℕ → List ℕ
 no_tab number = codes "line " ++ decimal number ++ codes ": no tab\n"
 
 -- the message for the line with this number, whose condition has this fault
-abbrev pub line_fault : ℕ → Fault → List ℕ
+abbrev pub line_fault : ℕ → TextFault → List ℕ
 line_fault number fault =
     codes "line " ++ decimal number ++ codes ":\n" ++ error_text fault ++ codes "\n"
 
 -- what the section on the line with this number prints, by what its condition reads as and by the
 -- answers; the error is the message of its fault
-abbrev pub section_text : (Question → Option Bool) → ℕ → List ℕ → Result (Tree Question) Fault
+abbrev pub section_text : (Question → Option Bool) → ℕ → List ℕ → Result (Tree Question) TextFault
     → Result (List ℕ) (List ℕ)
 section_text answer number name (Ok tree) =
     Ok (name ++ verdict_lines tree (map answer (asked tree)))
@@ -81,7 +81,7 @@ abbrev pub PrintsLine : (Question → Option Bool) → ℕ × Line → Result (L
 PrintsLine answer (number, Line.empty) printed = printed ≡ Ok []
 PrintsLine answer (number, Line.undivided) printed = printed ≡ Err (no_tab number)
 PrintsLine answer (number, Line.section name condition) printed =
-    (reading : Result (Tree Question) Fault) × ParsesAs condition reading
+    (reading : Result (Tree Question) TextFault) × ParsesAs condition reading
     × (printed ≡ section_text answer number name reading)
 
 -- what the lines print, one after another, or the message of the first faulty one

@@ -1,7 +1,7 @@
 //! Sections of a manifest, each with a condition, and what a target says of them.
 ghost use Rattle.std.specs.Prelude.{◌≡◌, IfOk, OnOk, map};
 ghost use Rattle.std.specs.List.{AllZip};
-ghost use Rattle.cfg_expr.specs.Deciding.{Decides};
+ghost use Rattle.cfg_expr.specs.Deciding.{DecidesExactly};
 ghost use Rattle.cfg_expr.specs.Evaluation.{IsValueBy};
 ghost use Rattle.cfgx_grammar.specs.Answer.{HasOneTree};
 ghost use Rattle.cfgx_grammar.specs.Filling.{three_valued};
@@ -94,7 +94,8 @@ pub(crate) fn decide_borrowed<A: SmallAllocator, M: TargetMatcher>(
     earlier: Decision<A>,
 ) -> Result<Decision<A>, AllocError>
     ensures decision { IfOk result (λ decision. (one : HasOneTree condition.now)
-        × Decides one.tree (map (answer_by (M.answer matcher.now)) (asked one.tree)) decision) }
+        × DecidesExactly one.tree
+        (map (answer_by (M.answer matcher.now)) (asked one.tree)) decision) }
     ensures answers { OnOk result ((one : HasOneTree condition.now)
         × (answers.new.items ≡ map (answer_by (M.answer matcher.now)) (asked one.tree))) }
 {
@@ -118,7 +119,8 @@ pub fn decide_on<A: SmallAllocator, M: TargetMatcher>(
     answers: &mut Vec<Option<bool>, A>,
 ) -> Result<Decision<A>, AllocError>
     ensures decision { IfOk result (λ decision. (one : HasOneTree condition.now)
-        × Decides one.tree (map (answer_by (M.answer matcher.now)) (asked one.tree)) decision) }
+        × DecidesExactly one.tree
+        (map (answer_by (M.answer matcher.now)) (asked one.tree)) decision) }
     ensures answers { OnOk result ((one : HasOneTree condition.now)
         × (answers.new.items ≡ map (answer_by (M.answer matcher.now)) (asked one.tree))) }
 {

@@ -2,7 +2,7 @@
 use Rattle.std.proofs.Common.{arith, ◌≡◌, ℕ, List, [], ◌∷◌, length, Some, None, Result, Ok, Err}
 use Rattle.std.proofs.Common.{refl}
 use Rattle.cfgx_syntax.specs.Items.{Item, Ending, AreItems, HasOneTokenList}
-use Rattle.cfgx_syntax.{specs.Error.Refusal, proofs.TokenList.ItemsFrom-same}
+use Rattle.cfgx_syntax.{specs.Error.Fault, proofs.TokenList.ItemsFrom-same}
 use Rattle.cfgx_grammar.specs.{Question.Question, Tree.Tree, Grammar.HasTree}
 use Rattle.cfgx_grammar.specs.Answer.{HasOneTree, HasReading, Reading, ReadsAs}
 use Rattle.cfgx_grammar.{specs.parsing.State.{Builder, State, initial}, proofs.spelled.Finds-tree}
@@ -13,7 +13,7 @@ use Rattle.cfgx_grammar.proofs.spelled.{Laws, tree_builder, tree_laws, tree_buil
 
 module _ {W M L : Type 0} {builder : Builder W M L} (text : List ℕ)
     (one : HasOneTokenList text) where
-  abbrev pub answer : Result (State builder) Refusal
+  abbrev pub answer : Result (State builder) Fault
   answer = answer_from None initial text one.items one.ending
 
   -- a tree is spelled by the one token list
@@ -30,7 +30,7 @@ module _ {W M L : Type 0} {builder : Builder W M L} (text : List ℕ)
       grind (arith, ended, IsTree-accepted)
 
 -- What the parser that builds the tree answers for a text that reads so.
-abbrev Shows : Reading → Result (State tree_builder) Refusal → Type 0
+abbrev Shows : Reading → Result (State tree_builder) Fault → Type 0
 Shows (Ok tree) answer = (s : State tree_builder) × (answer ≡ Ok s) × (s.written ≡ tree ∷ [])
 Shows (Err fault) answer = answer ≡ Err fault
 
@@ -53,7 +53,7 @@ shown text (Err fault) has =
       shows = refused _ fault (rw has.shown at agrees);
     }
   where
-    refused : (r : Result (State tree_builder) Refusal) (fault : Refusal)
+    refused : (r : Result (State tree_builder) Fault) (fault : Fault)
         → EndAgrees r (Some fault) → r ≡ Err fault
     refused r fault agrees = grind arith
 
@@ -71,21 +71,21 @@ pub only_tree : {text : List ℕ} (one : HasOneTree text) (tree : Tree Question)
 only_tree one tree has = let same = one.reads.only (Ok tree) has in cc
 
 -- a text reads as one fault, and not as a tree too
-pub same_fault : {text : List ℕ} {one other : Refusal} → ReadsAs text (Err one)
+pub same_fault : {text : List ℕ} {one other : Fault} → ReadsAs text (Err one)
     → ReadsAs text (Err other) → one ≡ other
 same_fault this that = let same = that.only (Err _) this.has in cc
 
-pub not_both : {text : List ℕ} {fault : Refusal} → ReadsAs text (Err fault) → HasOneTree text → ⊥
+pub not_both : {text : List ℕ} {fault : Fault} → ReadsAs text (Err fault) → HasOneTree text → ⊥
 not_both refused one = let same = refused.only (Ok one.tree) one.reads.has in cc
 
 module _ {W M L : Type 0} {builder : Builder W M L} (text : List ℕ)
     (one : HasOneTokenList text) where
   -- what the parser refuses has a fault
-  pub ReadsAs-refused : (refusal : Refusal) → answer {builder = builder} text one ≡ Err refusal
-      → ReadsAs text (Err refusal)
-  ReadsAs-refused refusal e =
+  pub ReadsAs-refused : (fault : Fault) → answer {builder = builder} text one ≡ Err fault
+      → ReadsAs text (Err fault)
+  ReadsAs-refused fault e =
       let shown = rw e at (whole_agrees builder text one.items one.ending) in
-      ReadsAs-has (Err refusal) (record {
+      ReadsAs-has (Err fault) (record {
         items = one.items;
         ending = one.ending;
         are_items = one.are;
@@ -97,8 +97,8 @@ pub reads_one_way : (text : List ℕ) → HasOneTokenList text
     → (reading : Reading) × ReadsAs text reading
 reads_one_way text one = decided (answer text one) refl
   where
-    decided : (r : Result (State tree_builder) Refusal) → answer text one ≡ r
+    decided : (r : Result (State tree_builder) Fault) → answer text one ≡ r
         → (reading : Reading) × ReadsAs text reading
     decided (Ok u) e =
         let (tree, has) = tree_of text one u e in (Ok tree, ReadsAs-has (Ok tree) has)
-    decided (Err refusal) e = (Err refusal, ReadsAs-refused text one refusal e)
+    decided (Err fault) e = (Err fault, ReadsAs-refused text one fault e)

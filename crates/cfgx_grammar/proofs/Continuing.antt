@@ -1,6 +1,6 @@
 -- What the rest of a text answers, the whole answers: one token after another.
 use Rattle.std.proofs.Common.{arith, ◌≡◌, ℕ, List, Option, Some, None, Result}
-use Rattle.cfgx_syntax.specs.{Error.Refusal, Token.Token}
+use Rattle.cfgx_syntax.specs.{Error.Fault, Token.Token}
 use Rattle.cfgx_syntax.specs.Items.{Item, Ending, Stands, EndsAs, ItemsFrom, lexical}
 use Rattle.cfgx_syntax.proofs.TokenList.{Follows-stands, no_more_items}
 use Rattle.cfgx_grammar.specs.parsing.State.{Builder, State}
@@ -17,7 +17,7 @@ pub record Continues {W M L : Type 0} {builder : Builder W M L} (text : List ℕ
 module _ {W M L : Type 0} {builder : Builder W M L} {text : List ℕ} {from place : ℕ}
     {s t : State builder} {last : Option Token} (c : Continues text from s place last t) where
   -- at the token that comes next, the answer is what its step leads to
-  pub Continues-token : (item : Item) (r : Result (State builder) Refusal)
+  pub Continues-token : (item : Item) (r : Result (State builder) Fault)
       → Stands text place item → step last t item ≡ r
       → (items : List Item) (ending : Ending) → ItemsFrom text from items ending
       → (rest : List Item) × ItemsFrom text item.end rest ending

@@ -4,7 +4,7 @@ use Rattle.std.proofs.Common.{subst, add-zero, append_assoc, ◌⊎◌, inl, inr
 use Rattle.std.proofs.Common.{option_map, Result, Ok, sym, false, Bool, map, Err, append-nil}
 use Rattle.std.proofs.Common.{if◌then◌else◌}
 use Rattle.std.proofs.{lemmas.Bool.Decides.Decides-eqb, lemmas.Bool.false≢true}
-use Rattle.cfgx_syntax.specs.{Token.Token, Items.Item, Error.Refusal}
+use Rattle.cfgx_syntax.specs.{Token.Token, Items.Item, Error.Fault}
 use Rattle.cfgx_grammar.specs.{Question.{Question, Leaf}, FollowSet.{Kind, takes, kind_of, next}}
 use Rattle.cfgx_grammar.specs.{Tree.ListFunction, Tree.Tree, Tree.Trees, Tree.count, Grammar.IsLeaf}
 use Rattle.cfgx_grammar.specs.Grammar.{commas, Separates, IsMember, IsList, IsTree, leaf_tokens}
@@ -237,7 +237,7 @@ module _ {W M L : Type 0} {builder : Builder W M L} where
 
   -- a function's name in front of its members
   Rest-name : (function : Function) (s u : State builder) (item : Item) (tokens : List Token)
-      → ◌≡◌ {A = Result (State builder) Refusal} (Ok (opened s function item)) (Ok u)
+      → ◌≡◌ {A = Result (State builder) Fault} (Ok (opened s function item)) (Ok u)
       → Completes (Some Token.all) u tokens → s.pending ≡ None
       → RestOf NoComma s 0 (name_of function ∷ tokens)
   Rest-name function s u item tokens does completes none =

@@ -2,13 +2,13 @@
 -- the first fault alone.
 use Rattle.std.specs.Prelude.{◌≡◌, ℕ, List, Result, Ok, Err}
 use Rattle.cfgx_syntax.specs.{Stripping.strip, declared.error.Failure.Failure}
-use Rattle.cfgx_syntax.specs.Error.{Refusal, fault_in, fault_of}
+use Rattle.cfgx_syntax.specs.Error.{Fault, fault_in, fault_of}
 use Rattle.cfgx_syntax.specs.declared.error.Failure.TheVariants as failure
 use Rattle.cfgx_grammar.specs.{Question.Question, Tree.Tree, Grammar.HasTree, FirstFault.HasFault}
 
 -- a tree, or a fault
 abbrev pub Reading : Type 0
-Reading = Result (Tree Question) Refusal
+Reading = Result (Tree Question) Fault
 
 -- the text has this tree, or this first fault
 abbrev pub HasReading : List ℕ → Reading → Type 0
@@ -30,6 +30,6 @@ pub record HasOneTree (text : List ℕ) : Type 0 where
 -- as the text; a fault holds the text. If the call is out of memory, the text still reads one way.
 abbrev pub Answers : {A : Type 0} → List ℕ → Result (List ℕ) (Failure A) → Type 0
 Answers text (Ok expression) = (expression ≡ text) × (strip text ≡ text) × HasOneTree text
-Answers text (Err (failure.Parse error)) = (fault : Refusal)
+Answers text (Err (failure.Parse error)) = (fault : Fault)
     × (fault_of error ≡ fault_in text fault) × ReadsAs text (Err fault)
 Answers text (Err (failure.Memory error)) = (reading : Reading) × ReadsAs text reading

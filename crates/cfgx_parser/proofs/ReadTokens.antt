@@ -56,9 +56,9 @@ module _ {A : Type 0} {lexer now : LexerState} {old before : Parser A} {last : L
   pub ReadsAll-read : (next : LexerState) (item : Item) (failure : Failure A)
       → GivesItem now item next → FailsAs lexer.text failure (step (token_like last) from item)
       → ReadsAll {A = A} lexer old after (Err failure)
-  ReadsAll-read next item (failure.Parse error) gives (refusal, is, same) items ending come =
+  ReadsAll-read next item (failure.Parse error) gives (fault, is, same) items ending come =
       let stands = rw l.text at gives.stands in
-      (refusal, (Continues-token l.continues item _ stands is items ending come).2, same)
+      (fault, (Continues-token l.continues item _ stands is items ending come).2, same)
   ReadsAll-read next item (failure.Memory error) gives fails items ending come = tt
 
   -- the lexical fault

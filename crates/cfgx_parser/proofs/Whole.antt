@@ -36,8 +36,8 @@ module _ {A : Type 0} {text : List ℕ} {lexer : LexerState} {old : Parser A} (n
   pub Answers-fails : (f : Failure A) → Begins {A = A} text lexer old
       → ReadsAll {A = A} lexer old new (Err f) → Answers text (Err f)
   Answers-fails (failure.Parse error) b reads =
-      let (refusal, refused, same) = given (Err (failure.Parse error)) b reads in
-      (refusal, same, ReadsAs-refused text b.one refusal refused)
+      let (fault, refused, same) = given (Err (failure.Parse error)) b reads in
+      (fault, same, ReadsAs-refused text b.one fault refused)
   Answers-fails (failure.Memory error) b reads = reads_one_way text b.one
 
   -- what is accepted

@@ -6,7 +6,7 @@ ghost use Rattle.cfgx_syntax.specs.Error.{cause_of, unexpected};
 ghost use Rattle.cfgx_syntax.specs.Lexer.{token_of, item_of};
 ghost use Rattle.cfgx_grammar.specs.FollowSet.{next, expected};
 ghost use Rattle.cfgx_parser.specs.parsing.NodeState.{counted};
-ghost use Rattle.cfgx_grammar.specs.FirstFault.{refusal, lacks_value};
+ghost use Rattle.cfgx_grammar.specs.FirstFault.{fault_between, lacks_value};
 ghost use Rattle.cfgx_grammar.specs.parsing.Step.{with_member, predicate_ended, has_room};
 ghost use Rattle.cfgx_grammar.specs.parsing.Step.{apply, step, unclosed, one_root, conclude};
 ghost use Rattle.cfgx_parser.specs.parsing.Fields.{function_of, open_of, empty_list};
@@ -280,7 +280,7 @@ impl<'a, A: SmallAllocator> Parser<'a, A> {
     /// Notes a fault.
     fn halt(&mut self, reason: Reason, span: Span) -> Halt
         ensures { HaltsAs result self.new
-            (Err (refusal (cause_of reason) span.start span.end)) }
+            (Err (fault_between (cause_of reason) span.start span.end)) }
     {
         self.fault = Some(Fault { reason, span });
         Halt::Fault

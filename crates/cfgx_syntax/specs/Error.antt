@@ -80,31 +80,31 @@ description_of (invalid_not _) = codes "not() takes 1 predicate"
 description_of (unexpected _) = codes "unexpected term"
 description_of cause = reason_text cause
 
--- why a text is refused, and where: the bytes from `start` up to `end` are at fault
-pub record Refusal : Type 0 where
+-- a fault: why a text is refused, and where: the bytes from `start` up to `end` are at fault
+pub record Fault : Type 0 where
   pub cause : Cause
   pub start : ℕ
   pub end : ℕ
 
--- a refusal with the text that is refused
-pub record Fault : Type 0 where
+-- a fault with the text that it is in
+pub record TextFault : Type 0 where
   pub original : List ℕ
   pub start : ℕ
   pub end : ℕ
   pub cause : Cause
 
--- the fault of a text that is refused so
-abbrev pub fault_in : List ℕ → Refusal → Fault
-fault_in text refusal = record {
+-- the fault with the text that it is in
+abbrev pub fault_in : List ℕ → Fault → TextFault
+fault_in text fault = record {
   original = text;
-  start = refusal.start;
-  end = refusal.end;
-  cause = refusal.cause;
+  start = fault.start;
+  end = fault.end;
+  cause = fault.cause;
 }
 
 -- the byte of a text that has one
-abbrev pub byte_of : List ℕ → ℕ
-byte_of text = slice_index text 0
+abbrev pub only_byte : List ℕ → ℕ
+only_byte text = slice_index text 0
 
 -- the marks below the text, after the spaces: what was never closed is named from its start, what
 -- was never opened is one place, and every other fault is marked byte for byte
@@ -113,16 +113,16 @@ marks width unclosed_parens = codes "-"
 marks width unclosed_quotes = codes "-"
 marks width unopened_parens = codes "^"
 marks width unopened_quotes = codes "^"
-marks width cause = replicate width (byte_of (codes "^"))
+marks width cause = replicate width (only_byte (codes "^"))
 
 -- what a fault prints: the text, a line feed, a space for each byte before the span, the marks, a
 -- space and the reason
-abbrev pub error_text : Fault → List ℕ
-error_text fault = fault.original ++ codes "\n" ++ replicate fault.start (byte_of (codes " "))
+abbrev pub error_text : TextFault → List ℕ
+error_text fault = fault.original ++ codes "\n" ++ replicate fault.start (only_byte (codes " "))
     ++ marks (fault.end - fault.start) fault.cause ++ codes " " ++ reason_text fault.cause
 
 -- the fault that a `ParseError` of the program stands for
-abbrev pub fault_of : {A : Type 0} → ParseError A → Fault
+abbrev pub fault_of : {A : Type 0} → ParseError A → TextFault
 fault_of e = record {
   original = string_bytes e.original;
   start = e.span.start;
@@ -131,11 +131,11 @@ fault_of e = record {
 }
 
 -- the fault of a failure, or none if the call was out of memory
-abbrev pub failure_of : {A : Type 0} → Failure A → Option Fault
+abbrev pub failure_of : {A : Type 0} → Failure A → Option TextFault
 failure_of (failure.Parse error) = Some (fault_of error)
 failure_of (failure.Memory _) = None
 
 -- the failure is this fault, or the call was out of memory for its copy of the text
-abbrev pub FailsWith : {A : Type 0} → Fault → Failure A → Type 0
+abbrev pub FailsWith : {A : Type 0} → TextFault → Failure A → Type 0
 FailsWith fault (failure.Parse error) = fault_of error ≡ fault
 FailsWith fault (failure.Memory error) = Unit {0}

@@ -6,7 +6,7 @@ use Rattle.std.specs.Prelude.{Option, Some, None, codes, drop, encode_utf8, leng
 use Rattle.std.specs.Char.{IsScalar, is_not_whitespace, char_set_contains}
 use Rattle.std.specs.{Str.NoCharPasses, List.AllByRecursion}
 use Rattle.cfgx_syntax.specs.Cut.{CanBeCut}
-use Rattle.cfgx_syntax.specs.Error.{Cause, Refusal, unexpected}
+use Rattle.cfgx_syntax.specs.Error.{Cause, Fault, unexpected}
 use Rattle.cfgx_syntax.specs.Token.{Token, starts_word, Spells, IsWhole, HasNoQuote}
 
 -- a token, and the bytes `start..end` of the text that spell it
@@ -88,9 +88,9 @@ pub record HasOneTokenList (text : List ℕ) : Type 0 where
 abbrev pub expects_token : Cause
 expects_token = unexpected (codes "<key>" ∷ codes "all" ∷ codes "any" ∷ codes "not" ∷ [])
 
--- the refusal for an ending: none for white space, the one byte where no token can start, or all
+-- the fault for an ending: none for white space, the one byte where no token can start, or all
 -- from a quote that is never closed to the end of the text
-abbrev pub lexical : List ℕ → Ending → Option Refusal
+abbrev pub lexical : List ℕ → Ending → Option Fault
 lexical text Ending.blank = None
 lexical text (Ending.no_token place) =
     Some (record { cause = expects_token; start = place; end = place + 1 })

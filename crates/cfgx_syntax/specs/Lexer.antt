@@ -15,7 +15,7 @@ use Rattle.cfgx_syntax.specs.Token as spelled
 use Rattle.cfgx_syntax.specs.Items.{Item, Ending, IsBlank, Stands, EndsAs, OpensNoValue, lexical}
 use Rattle.cfgx_syntax.specs.Items.{starts_token, expects_token}
 use Rattle.cfgx_syntax.specs.LexerState.{LexerState, at_end}
-use Rattle.cfgx_syntax.specs.Error.{Cause, Refusal, FailsWith, fault_in, cause_of}
+use Rattle.cfgx_syntax.specs.Error.{Cause, Fault, FailsWith, fault_in, cause_of}
 use Rattle.cfgx_syntax.specs.declared.lexer.Token.TheVariants as given
 
 -- a token without where its text lies in memory
@@ -44,13 +44,13 @@ pub record GivesFault {A : Type 0} (old : LexerState) (failure : Failure A) (new
     Type 0 where
   pub ending : Ending
   pub ends : EndsAs old.text old.place ending
-  pub refusal : Refusal
-  pub refused : lexical old.text ending ≡ Some refusal
-  pub fails : FailsWith (fault_in old.text refusal) failure
+  pub fault : Fault
+  pub refused : lexical old.text ending ≡ Some fault
+  pub fails : FailsWith (fault_in old.text fault) failure
   pub is_over : new ≡ at_end old
 
 -- One call of `next`: the first of the items to come, and then the others are to come; `None` if
--- white space alone is left; else a refusal.
+-- white space alone is left; else a failure.
 abbrev pub GivesNext : {A : Type 0} → LexerState → Option (Result LexerToken (Failure A))
     → LexerState → Type 0
 GivesNext old None new = IsBlank (drop old.place old.text) × (new ≡ at_end old)

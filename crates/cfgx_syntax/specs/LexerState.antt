@@ -1,7 +1,7 @@
 -- How far a `Lexer` has come.
 use Rattle.std.specs.Prelude.{ℕ, List, length}
 
--- the stripped text, and the place after the last token that was given: at the end after a refusal
+-- the stripped text, and the place after the last token that was given: at the end after a failure
 -- or after `None`
 pub record LexerState : Type 0 where
   pub text : List ℕ

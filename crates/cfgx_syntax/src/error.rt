@@ -4,7 +4,7 @@ ghost use Rattle.std.specs.Prelude.{◌≡◌, ◌-◌, ◌<◌, ◌∷◌, ◌+
 ghost use Rattle.std.specs.List.{repeat};
 ghost use Rattle.std.specs.Fmt.{DisplaysOnOk};
 ghost use Rattle.cfgx_syntax.specs.Error.{cause_of, marks, more_terms_text, quoted, terms_front};
-ghost use Rattle.cfgx_syntax.specs.Error.{unexpected_text, FailsWith, fault_in, byte_of};
+ghost use Rattle.cfgx_syntax.specs.Error.{unexpected_text, FailsWith, fault_in, only_byte};
 
 use std::alloc::{AllocError, AllocFailed, Allocator, Global};
 use std::fmt;
@@ -275,7 +275,7 @@ fn write_times<W: fmt::Write>(
 #[tactic(auto, using(crate::proofs::Repeated::repeat_one))]
 fn write_spaces<W: fmt::Write>(f: &mut fmt::Formatter<W>, times: usize) -> fmt::Result
     ensures { DisplaysOnOk W.write_str_gives f.old result
-        (Some (replicate times (byte_of (codes " ")))) f.new }
+        (Some (replicate times (only_byte (codes " ")))) f.new }
 {
     write_times(f, " ", SPACES, times)
 }
@@ -284,7 +284,7 @@ fn write_spaces<W: fmt::Write>(f: &mut fmt::Formatter<W>, times: usize) -> fmt::
 #[tactic(auto, using(crate::proofs::Repeated::repeat_one))]
 fn write_carets<W: fmt::Write>(f: &mut fmt::Formatter<W>, times: usize) -> fmt::Result
     ensures { DisplaysOnOk W.write_str_gives f.old result
-        (Some (replicate times (byte_of (codes "^")))) f.new }
+        (Some (replicate times (only_byte (codes "^")))) f.new }
 {
     write_times(f, "^", CARETS, times)
 }

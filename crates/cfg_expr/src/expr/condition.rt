@@ -5,7 +5,7 @@ ghost use Rattle.std.specs.List.{AllByRecursion};
 ghost use Rattle.cfgx_grammar.specs.Given.{AreAnswersTo};
 ghost use Rattle.cfgx_grammar.specs.Answer.{Answers, HasOneTree};
 ghost use Rattle.cfg_expr.specs.Asking.{AnswersBy};
-ghost use Rattle.cfg_expr.specs.Deciding.{Decides};
+ghost use Rattle.cfg_expr.specs.Deciding.{DecidesExactly};
 ghost use Rattle.cfg_expr.specs.Evaluation.{Evaluates, IsValueBy, MayEvaluate};
 ghost use Rattle.cfgx_grammar.specs.Filling.{IsExact};
 ghost use Rattle.cfgx_grammar.specs.Question.{Question};
@@ -100,7 +100,7 @@ impl<'a> Condition<'a> {
         ensures exact { (one : HasOneTree self.now) × ((given : List (Option Bool))
             → length given ≡ length (asked one.tree) → IsExact one.tree given) }
         ensures decision { IfOk result (λ decision. (one : HasOneTree self.now)
-            × Decides one.tree answers.now decision) }
+            × DecidesExactly one.tree answers.now decision) }
     {
         filling::decide(alloc, &self.parsed, answers, earlier)
     }

@@ -1,7 +1,7 @@
 -- The text that is read is the one that was passed, and its predicates are those of its one tree.
 use Rattle.std.proofs.Common.{◌∙◌, ap, arith, length}
 use Rattle.cfgx_grammar.proofs.Answering.{only_tree}
-use Rattle.cfgx_c.specs.Value.{byte_of}
+use Rattle.cfgx_c.specs.Value.{byte_of_value}
 use Rattle.cfgx_c.proofs.cfgx_value.Goals as goal
 
 pub returns-then-left-answers-clause-miscounted : goal.returns-then-left-answers-clause-miscounted
@@ -21,5 +21,5 @@ returns-clause-done c is =
       one = value.0;
       count = rw (only_tree asks.0 value.0.tree value.0.reads.has)
           (omega (arith, c.if-left-answers.false, c.left.ensures, ap length asks.1));
-      value_is = c.byte_of.ensures ∙ ap byte_of value.1;
+      value_is = c.byte_of_value.ensures ∙ ap byte_of_value value.1;
     }

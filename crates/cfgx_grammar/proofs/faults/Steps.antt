@@ -7,7 +7,7 @@ use Rattle.std.proofs.Common.{append_assoc, count_by, option_and_then, if◌then
 use Rattle.std.{proofs.Common.{le-ltb, eq-eqb, ne_eqb, append-nil, not}, specs.Option.option_or}
 use Rattle.std.proofs.lemmas.Option.{slice_get_within, slice_get_past}
 use Rattle.cfgx_syntax.specs.{Token.Token, Items.Item, Items.Ending, Items.lexical}
-use Rattle.cfgx_syntax.specs.Error.{Refusal, invalid_not}
+use Rattle.cfgx_syntax.specs.Error.{Fault, invalid_not}
 use Rattle.cfgx_grammar.specs.{Tree.ListFunction, Depth.members, Depth.first_below}
 use Rattle.cfgx_grammar.specs.FollowSet.{Kind, takes, kind_of, is_kind, next}
 use Rattle.cfgx_grammar.specs.Depth.{names_function, is_closing, depth, depth_at, innermost}
@@ -15,7 +15,7 @@ use Rattle.cfgx_grammar.specs.LastPredicate.{predicate_last, word_of, with_value
 use Rattle.cfgx_grammar.specs.FirstFault.{predicate_fault, head_token, last_token, lacks_value}
 use Rattle.cfgx_grammar.specs.FirstFault.{not_fault, unopened_fault, closed_fault, ended_fault}
 use Rattle.cfgx_grammar.specs.FirstFault.{first_of, when, fault_after, open_fault, empty_fault}
-use Rattle.cfgx_grammar.specs.FirstFault.{roots_fault, unclosed_innermost, end_fault, refusal}
+use Rattle.cfgx_grammar.specs.FirstFault.{roots_fault, unclosed_innermost, end_fault, fault_between}
 use Rattle.cfgx_grammar.specs.{FirstFault.fault_at, FirstFault.first_fault, parsing.State.name_of}
 use Rattle.cfgx_grammar.specs.parsing.State.{Pending, Builder, Open, State, initial, Function}
 use Rattle.cfgx_grammar.specs.parsing.Step.{result_map, predicate_ended, over_top, one_more}
@@ -82,43 +82,43 @@ value_says text start end back may = grind arith
 
 -- What comes of the tokens and what is shown of them: no fault, and something that this holds of,
 -- or a fault on both sides.
-abbrev pub Meets : {A : Type 0} → (A → Type 0) → Result A Refusal → Option Refusal → Type 0
+abbrev pub Meets : {A : Type 0} → (A → Type 0) → Result A Fault → Option Fault → Type 0
 Meets P (Ok t) fault = (fault ≡ None) × P t
-Meets P (Err refusal) fault = fault ≡ Some refusal
+Meets P (Err found) fault = fault ≡ Some found
 
 module _ {A B : Type 0} (P : A → Type 0) (Q : B → Type 0) where
-  meets_map : (f : A → B) (r : Result A Refusal) (fault : Option Refusal) → Meets P r fault
+  meets_map : (f : A → B) (r : Result A Fault) (fault : Option Fault) → Meets P r fault
       → ((t : A) → P t → Q (f t)) → Meets Q (result_map f r) fault
   meets_map f r fault meets each = grind arith
 
-  meets_then : (f : A → Result B Refusal) (r : Result A Refusal) (fault next : Option Refusal)
+  meets_then : (f : A → Result B Fault) (r : Result A Fault) (fault next : Option Fault)
       → Meets P r fault → ((t : A) → P t → Meets Q (f t) next)
       → Meets Q (and_then f r) (option_or fault next)
   meets_then f r fault next meets each = grind arith
 
-abbrev pub EndAgrees : {A : Type 0} → Result A Refusal → Option Refusal → Type 0
+abbrev pub EndAgrees : {A : Type 0} → Result A Fault → Option Fault → Type 0
 EndAgrees r fault = Meets (λ _. Unit {0}) r fault
 
 -- a test on both sides
-meets_if : {A : Type 0} (P : A → Type 0) (b : Bool) (r other : Result A Refusal)
-    (fault shown : Option Refusal) → (b ≡ true → Meets P r fault)
+meets_if : {A : Type 0} (P : A → Type 0) (b : Bool) (r other : Result A Fault)
+    (fault shown : Option Fault) → (b ≡ true → Meets P r fault)
     → (b ≡ false → Meets P other shown) → Meets P (if b then r else other)
     (if b then fault else shown)
 meets_if P b r other fault shown pass fail = grind arith
 
 -- a test whose failure is the first fault
-meets_when : {A : Type 0} (P : A → Type 0) (b : Bool) (r : Result A Refusal) (refused : Refusal)
-    (fault : Option Refusal) → (b ≡ true → Meets P r fault)
+meets_when : {A : Type 0} (P : A → Type 0) (b : Bool) (r : Result A Fault) (refused : Fault)
+    (fault : Option Fault) → (b ≡ true → Meets P r fault)
     → Meets P (if b then r else Err refused) (option_or (when (not b) refused) fault)
 meets_when P b r refused fault pass = grind arith
 
 -- the questions on a token that may follow the last one
-abbrev pub fault_by : List Item → Item → Option Refusal
+abbrev pub fault_by : List Item → Item → Option Fault
 fault_by front item =
     first_of (unopened_fault front item ∷ closed_fault front item ∷ ended_fault front item ∷ [])
 
 -- those on the end of a text whose functions are all closed
-abbrev pub closed_end : ℕ → List Item → Option Refusal
+abbrev pub closed_end : ℕ → List Item → Option Fault
 closed_end len items =
     first_of (predicate_fault items ∷ empty_fault len items ∷ roots_fault len items ∷ [])
 
@@ -170,10 +170,10 @@ module _ {W M L : Type 0} {builder : Builder W M L} (front : List Item) (s : Sta
     members_are = grind arith
 
     -- it is closed
-    close_fault_is : (close : Item) (other : Option Refusal)
+    close_fault_is : (close : Item) (other : Option Fault)
         → option_or (option_and_then (not_fault front close) (innermost front)) other
         ≡ (if has_room top.function (member_count top s.pending) then other
-        else Some (refusal (invalid_not (member_count top s.pending)) top.start close.end))
+        else Some (fault_between (invalid_not (member_count top s.pending)) top.start close.end))
     close_fault_is close other = grind (arith, innermost_is, members_are)
 
     -- it stays open
@@ -334,7 +334,7 @@ module _ {W M L : Type 0} {builder : Builder W M L} (front : List Item) (s : Sta
 -- What the steps answer for all tokens of a text is its first fault, or none.
 
 -- the first fault of some tokens after others
-abbrev first_after : List Item → List Item → Option Refusal
+abbrev first_after : List Item → List Item → Option Fault
 first_after front [] = None
 first_after front (item ∷ items) =
     option_or (fault_after front item) (first_after (front ++ item ∷ []) items)
@@ -366,7 +366,7 @@ scan (item ∷ items) front s m = meets_then _ _ _ _ _ _
 
 module _ {W M L : Type 0} (builder : Builder W M L) (text : List ℕ) (items : List Item)
     (ending : Ending) where
-  at_end : (o : Option Refusal) (read : Option Token × State builder) → Read items read
+  at_end : (o : Option Fault) (read : Option Token × State builder) → Read items read
       → EndAgrees (ended_as text o read) (option_or o (end_fault (length text) items))
   at_end o (last, t) (is, m) = grind (arith, end_agrees)
 

@@ -4,9 +4,10 @@ use Rattle.std.specs.Prelude.{ℕ, ◌+◌, ◌-◌, ◌==◌, Bool, true, List,
 use Rattle.std.specs.Prelude.{Some, None, option_map, Result, Ok, Err, if◌then◌else◌}
 use Rattle.cfgx_syntax.specs.Token.{Token}
 use Rattle.cfgx_syntax.specs.Items.{Item, Ending, lexical}
-use Rattle.cfgx_syntax.specs.Error.{Refusal, unexpected, unopened_parens, unclosed_parens}
+use Rattle.cfgx_syntax.specs.Error.{Fault, unexpected, unopened_parens, unclosed_parens}
 use Rattle.cfgx_syntax.specs.Error.{invalid_not, empty, multiple_root_predicates}
-use Rattle.cfgx_grammar.specs.{Classification.Class, FirstFault.refusal, FirstFault.lacks_value}
+use Rattle.cfgx_grammar.specs.Classification.{Class}
+use Rattle.cfgx_grammar.specs.FirstFault.{fault_between, lacks_value}
 use Rattle.cfgx_grammar.specs.{FollowSet.next, FollowSet.expected, Tree.ListFunction}
 use Rattle.cfgx_grammar.specs.LastPredicate.{word_of, with_value, part_of, class_of}
 use Rattle.cfgx_grammar.specs.parsing.State.{Function, Pending, Builder, Open, State}
@@ -50,16 +51,16 @@ module _ {M : Type 0} where
   member_count f (Some p) = f.members + 1
 
   -- the fault of an open function, at the end of the text
-  abbrev pub unclosed : ℕ → Open M → Option ℕ → Refusal
-  unclosed len f (Some place) = refusal unclosed_parens place len
-  unclosed len f None = refusal (unexpected (codes "(" ∷ [])) f.start f.end
+  abbrev pub unclosed : ℕ → Open M → Option ℕ → Fault
+  unclosed len f (Some place) = fault_between unclosed_parens place len
+  unclosed len f None = fault_between (unexpected (codes "(" ∷ [])) f.start f.end
 
 -- Predicates.
 
 -- a predicate or a literal by its places, or its fault
-abbrev pub located_class : {W M L : Type 0} → Builder W M L → Pending → Class → Result L Refusal
+abbrev pub located_class : {W M L : Type 0} → Builder W M L → Pending → Class → Result L Fault
 located_class builder p (Class.is leaf) = Ok (builder.located p leaf)
-located_class builder p (Class.refused cause part) = Err (refusal cause (part_of p part).start
+located_class builder p (Class.refused cause part) = Err (fault_between cause (part_of p part).start
     (part_of p part).end)
 
 module _ {W M L : Type 0} {builder : Builder W M L} where
@@ -72,12 +73,12 @@ module _ {W M L : Type 0} {builder : Builder W M L} where
   leaf_ended s leaf =
       with_member (record s { pending = None; written = builder.leaf leaf s.written })
 
-  abbrev pub ended_by : State builder → Option Pending → Result (State builder) Refusal
+  abbrev pub ended_by : State builder → Option Pending → Result (State builder) Fault
   ended_by s None = Ok s
   ended_by s (Some p) = result_map (leaf_ended s) (located_class builder p (class_of p))
 
   -- the predicate has ended, if one has begun
-  abbrev pub predicate_ended : State builder → Result (State builder) Refusal
+  abbrev pub predicate_ended : State builder → Result (State builder) Fault
   predicate_ended s = ended_by s s.pending
 
   -- Tokens.
@@ -107,15 +108,15 @@ module _ {W M L : Type 0} {builder : Builder W M L} where
     written = builder.function_ended top.mark top.function top.members s.written;
   })
 
-  abbrev pub closed_by : State builder → Item → List (Open M) → Result (State builder) Refusal
-  closed_by s item [] = Err (refusal unopened_parens item.start item.end)
+  abbrev pub closed_by : State builder → Item → List (Open M) → Result (State builder) Fault
+  closed_by s item [] = Err (fault_between unopened_parens item.start item.end)
   closed_by s item (top ∷ rest) =
       if has_room top.function (member_count top s.pending) then result_map
       (λ t. function_ended t.stack t) (predicate_ended s)
-      else Err (refusal (invalid_not (member_count top s.pending)) top.start item.end)
+      else Err (fault_between (invalid_not (member_count top s.pending)) top.start item.end)
 
   -- what a token does if it may stand there
-  abbrev pub apply : State builder → Item → Token → Result (State builder) Refusal
+  abbrev pub apply : State builder → Item → Token → Result (State builder) Fault
   apply s item (Token.key text) = Ok (record s {
     pending = Some (record { key = word_of text item.start item.end; value = None });
   })
@@ -132,13 +133,13 @@ module _ {W M L : Type 0} {builder : Builder W M L} where
   apply s item Token.comma = predicate_ended s
 
   -- one token after the last one, or at the start
-  abbrev pub step : Option Token → State builder → Item → Result (State builder) Refusal
+  abbrev pub step : Option Token → State builder → Item → Result (State builder) Fault
   step last s item = if next last item.token then apply s item item.token
-      else Err (refusal (unexpected (expected last)) item.start item.end)
+      else Err (fault_between (unexpected (expected last)) item.start item.end)
 
   -- one token after another: what the last one is then, and the state
   abbrev pub step_each : Option Token → State builder → List Item
-      → Result (Option Token × State builder) Refusal
+      → Result (Option Token × State builder) Fault
   step_each last s [] = Ok (last, s)
   step_each last s (item ∷ items) =
       and_then (λ t. step_each (Some item.token) t items) (step last s item)
@@ -146,30 +147,30 @@ module _ {W M L : Type 0} {builder : Builder W M L} where
   -- The end.
 
   -- one member stands at the root
-  abbrev pub one_root : ℕ → State builder → Result (State builder) Refusal
+  abbrev pub one_root : ℕ → State builder → Result (State builder) Fault
   one_root len s =
-      if s.roots == 0 then Err (refusal empty 0 len)
+      if s.roots == 0 then Err (fault_between empty 0 len)
       else if s.roots == 1 then Ok (record s { written = builder.root_ended s.written })
-      else Err (refusal multiple_root_predicates 0 len)
+      else Err (fault_between multiple_root_predicates 0 len)
 
-  abbrev pub concluded_by : ℕ → State builder → List (Open M) → Result (State builder) Refusal
+  abbrev pub concluded_by : ℕ → State builder → List (Open M) → Result (State builder) Fault
   concluded_by len s (top ∷ rest) = Err (unclosed len top top.parens)
   concluded_by len s [] = and_then (one_root len) (predicate_ended s)
 
   -- the end of a text of so many bytes after its last token
-  abbrev pub conclude : Option Token → ℕ → State builder → Result (State builder) Refusal
+  abbrev pub conclude : Option Token → ℕ → State builder → Result (State builder) Fault
   conclude last len s = if lacks_value last
-      then Err (refusal (unexpected (codes "\"<value>\"" ∷ [])) len len)
+      then Err (fault_between (unexpected (codes "\"<value>\"" ∷ [])) len len)
       else concluded_by len s s.stack
 
   -- the end of the tokens, by what stands there
-  abbrev pub ended_as : List ℕ → Option Refusal → Option Token × State builder
-      → Result (State builder) Refusal
+  abbrev pub ended_as : List ℕ → Option Fault → Option Token × State builder
+      → Result (State builder) Fault
   ended_as text None (last, s) = conclude last (length text) s
-  ended_as text (Some refusal) _ = Err refusal
+  ended_as text (Some fault) _ = Err fault
 
   -- what the rest of a text's tokens answers, from the last token and a state on
   abbrev pub answer_from : Option Token → State builder → List ℕ → List Item → Ending
-      → Result (State builder) Refusal
+      → Result (State builder) Fault
   answer_from last s text items ending =
       and_then (ended_as text (lexical text ending)) (step_each last s items)

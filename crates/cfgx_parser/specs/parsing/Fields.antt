@@ -2,19 +2,19 @@
 use Rattle.std.specs.Prelude.{ℕ, ◌+◌, List, [], ◌∷◌, Option, Some, None}
 use Rattle.std.specs.Prelude.{option_map, Result, Ok, Err}
 use Rattle.cfgx_parser.specs.declared.nodes.Span.{Span}
-use Rattle.cfgx_syntax.specs.Error.{Refusal, unexpected, cause_of}
+use Rattle.cfgx_syntax.specs.Error.{Fault, unexpected, cause_of}
 use Rattle.cfgx_syntax.specs.declared.error.Reason.{Reason}
 use Rattle.cfgx_grammar.specs.Classification.{target_class, other_class}
 use Rattle.cfgx_grammar.specs.Tree.{ListFunction}
 use Rattle.cfgx_grammar.specs.parsing.State.{Function, Word, Pending}
 use Rattle.cfgx_parser.specs.parsing.NodeState.{OpenFunction, located_class}
-use Rattle.cfgx_grammar.specs.FirstFault.{refusal}
+use Rattle.cfgx_grammar.specs.FirstFault.{fault_between}
 use Rattle.cfgx_parser.specs.declared.function.FuncKind.{FuncKind}
 use Rattle.cfgx_parser.specs.declared.function.FuncKind.TheVariants as kind
 use Rattle.cfgx_parser.specs.declared.classification.Word as code_word
 use Rattle.cfgx_parser.specs.declared.classification.Pending as code_pending
 use Rattle.cfgx_parser.specs.declared.nodes.ExprNode.{ExprNode}
-use Rattle.cfgx_parser.specs.declared.parser.Fault.{Fault}
+use Rattle.cfgx_parser.specs.declared.parser.Fault.{Fault as ParserFault}
 use Rattle.cfgx_parser.specs.declared.parser.FuncAndSpan.{FuncAndSpan}
 use Rattle.cfgx_parser.specs.declared.parser.OpenList.{OpenList}
 use Rattle.cfgx_parser.specs.declared.parser.LastToken.{LastToken}
@@ -28,25 +28,25 @@ abbrev pub pending_of : code_pending.Pending → Pending
 pending_of p = record { key = word_of p.key; value = option_map word_of p.value }
 
 -- what is wrong, and where
-abbrev pub refused : Reason × Span → Refusal
-refused r = refusal (cause_of r.0) r.1.start r.1.end
+abbrev pub refused : Reason × Span → Fault
+refused r = fault_between (cause_of r.0) r.1.start r.1.end
 
-abbrev pub class_result : Result ExprNode (Reason × Span) → Result ExprNode Refusal
+abbrev pub class_result : Result ExprNode (Reason × Span) → Result ExprNode Fault
 class_result (Ok leaf) = Ok leaf
 class_result (Err r) = Err (refused r)
 
 -- of a key that stands without a value
-abbrev pub bare_answer : ExprNode → Option Word → Result ExprNode Refusal
+abbrev pub bare_answer : ExprNode → Option Word → Result ExprNode Fault
 bare_answer leaf None = Ok leaf
-bare_answer leaf (Some value) = Err (refusal (unexpected []) value.start value.end)
+bare_answer leaf (Some value) = Err (fault_between (unexpected []) value.start value.end)
 
 -- of a key that begins with `target_`, by what follows, and the value
-abbrev pub target_answer : List ℕ → Word → Word → Result ExprNode Refusal
+abbrev pub target_answer : List ℕ → Word → Word → Result ExprNode Fault
 target_answer name key value =
     located_class (record { key = key; value = Some value }) (target_class name value.text)
 
 -- of a key that has no rule of its own
-abbrev pub other_answer : Word → Option Word → Result ExprNode Refusal
+abbrev pub other_answer : Word → Option Word → Result ExprNode Fault
 other_answer key value =
     located_class (record { key = key; value = value })
     (other_class key.text (option_map (λ v. v.text) value))
@@ -86,8 +86,8 @@ counted_around [] = 0
 counted_around (top ∷ rest) = top.around.members + 1 + counted_around rest
 
 -- a fault that was noted, as the steps show it
-abbrev pub shown : Fault → Refusal
-shown fault = refusal (cause_of fault.reason) fault.span.start fault.span.end
+abbrev pub shown : ParserFault → Fault
+shown fault = fault_between (cause_of fault.reason) fault.span.start fault.span.end
 
 -- what the parser keeps of the last token
 abbrev pub last_of : Option spelled.Token → LastToken

@@ -1,7 +1,7 @@
 -- The state of the parser that builds nodes.
 use Rattle.std.specs.Prelude.{ℕ, option_map, Result}
 use Rattle.cfgx_parser.specs.declared.nodes.Span.{Span}
-use Rattle.cfgx_syntax.specs.Error.{Refusal}
+use Rattle.cfgx_syntax.specs.Error.{Fault}
 use Rattle.cfgx_grammar.specs.Classification.{Class}
 use Rattle.cfgx_grammar.specs.LastPredicate.{class_of}
 use Rattle.cfgx_grammar.specs.parsing.State as parser
@@ -42,8 +42,8 @@ abbrev pub ParserState : Type 0
 ParserState = parser.State node_builder
 
 -- a predicate or a literal by its places, or its fault
-abbrev pub located_class : Pending → Class → Result ExprNode Refusal
+abbrev pub located_class : Pending → Class → Result ExprNode Fault
 located_class = steps.located_class node_builder
 
-abbrev pub classified : Pending → Result ExprNode Refusal
+abbrev pub classified : Pending → Result ExprNode Fault
 classified p = located_class p (class_of p)

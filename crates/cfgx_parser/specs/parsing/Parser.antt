@@ -6,8 +6,8 @@ use Rattle.cfgx_parser.specs.declared.nodes.Span.{Span}
 use Rattle.cfgx_syntax.specs.Token as spelled
 use Rattle.cfgx_syntax.specs.Items.{Item, Ending, ItemsFrom}
 use Rattle.cfgx_syntax.specs.LexerState.{LexerState}
-use Rattle.cfgx_syntax.specs.Error.{Refusal, fault_in, fault_of}
-use Rattle.cfgx_parser.specs.declared.parser.Fault.{Fault}
+use Rattle.cfgx_syntax.specs.Error.{Fault, fault_in, fault_of}
+use Rattle.cfgx_parser.specs.declared.parser.Fault.{Fault as ParserFault}
 use Rattle.cfgx_parser.specs.declared.parser.Halt.{Halt}
 use Rattle.cfgx_parser.specs.declared.parser.Halt.TheVariants as halt
 use Rattle.cfgx_syntax.specs.declared.error.Failure.{Failure}
@@ -35,24 +35,24 @@ state_of p = record {
 }
 
 -- a parser that halts at a fault has noted the one that the steps show
-abbrev pub HaltsAs : {A : Type 0} → Halt → Parser A → Result ParserState Refusal → Type 0
-HaltsAs halt.Fault parser answer = (fault : Fault) × (parser.fault ≡ Some fault)
+abbrev pub HaltsAs : {A : Type 0} → Halt → Parser A → Result ParserState Fault → Type 0
+HaltsAs halt.Fault parser answer = (fault : ParserFault) × (parser.fault ≡ Some fault)
     × (answer ≡ Err (shown fault))
 HaltsAs halt.Memory parser answer = Unit {0}
 
 -- a fault of the text is the one that the steps show
-abbrev pub FailsAs : {A : Type 0} → List ℕ → Failure A → Result ParserState Refusal → Type 0
-FailsAs text (failure.Parse error) answer = (refusal : Refusal) × (answer ≡ Err refusal)
-    × (fault_of error ≡ fault_in text refusal)
+abbrev pub FailsAs : {A : Type 0} → List ℕ → Failure A → Result ParserState Fault → Type 0
+FailsAs text (failure.Parse error) answer = (fault : Fault) × (answer ≡ Err fault)
+    × (fault_of error ≡ fault_in text fault)
 FailsAs text (failure.Memory error) answer = Unit {0}
 
 -- what a failure says of a halt
 abbrev pub Says : {A : Type 0} → List ℕ → Halt → Parser A → Failure A → Type 0
-Says {A} text h parser failure = (answer : Result ParserState Refusal)
+Says {A} text h parser failure = (answer : Result ParserState Fault)
     → HaltsAs {A = A} h parser answer → FailsAs text failure answer
 
 -- the answer of a function that goes one step
-abbrev pub Gives : {A : Type 0} → Result (Unit {0}) Halt → Parser A → Result ParserState Refusal
+abbrev pub Gives : {A : Type 0} → Result (Unit {0}) Halt → Parser A → Result ParserState Fault
     → Type 0
 Gives {A} (Ok done) new answer = answer ≡ Ok (state_of {A = A} new)
 Gives {A} (Err halt) new answer = HaltsAs {A = A} halt new answer
@@ -69,7 +69,7 @@ abbrev pub settled : ParserState → Written → ParserState
 settled s written = record s { pending = None; written = written }
 
 -- the predicate that has begun, if one has, is written, but not counted
-abbrev pub pending_written : Option Pending → ParserState → Result ParserState Refusal
+abbrev pub pending_written : Option Pending → ParserState → Result ParserState Fault
 pending_written None s = Ok (settled s s.written)
 pending_written (Some p) s = result_map (λ leaf. settled s (with_leaf leaf s.written))
     (classified p)
@@ -97,11 +97,11 @@ WritesPending {A} old new (Err halt) = HaltsAs {A = A} halt new
 abbrev pub parens_opened : ParserState → ℕ → ParserState
 parens_opened s place = record s { stack = over_top (with_parens place) s.stack }
 
-abbrev pub closed_at : ParserState → Span → Result ParserState Refusal
+abbrev pub closed_at : ParserState → Span → Result ParserState Fault
 closed_at s span = closed_by s (item_at span) s.stack
 
 -- the end of a text of so many bytes in which no value is missing
-abbrev pub concluded : ParserState → ℕ → Result ParserState Refusal
+abbrev pub concluded : ParserState → ℕ → Result ParserState Fault
 concluded s len = concluded_by len s s.stack
 
 abbrev pub value_added : ParserState → List ℕ → Span → ParserState
@@ -120,7 +120,7 @@ IsQuoted lexed = IsQuotedAt lexed.token lexed.span
 
 -- the answer of a parser that reads a text to its end
 abbrev pub Ends : {A : Type 0} → Result (Unit {0}) (Failure A) → List ℕ → Parser A
-    → Result ParserState Refusal → Type 0
+    → Result ParserState Fault → Type 0
 Ends {A} (Ok done) text new answer = answer ≡ Ok (state_of {A = A} new)
 Ends (Err failure) text new answer = FailsAs text failure answer
 

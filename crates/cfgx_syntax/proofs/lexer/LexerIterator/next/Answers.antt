@@ -25,7 +25,7 @@ returns-in-Some-clause-steps g c =
     rw (← c.self.view_is) (record {
       ending = found.0;
       ends = found.1;
-      refusal = _;
+      fault = _;
       refused = found.2;
       fails = c.of.ensures;
       is_over = state_at _ _ _ (sub-zero _);
