@@ -59,6 +59,9 @@ pub const VERDICTS: &str = "objc2\tunknown\n\
     libc\tyes\n\
     signal-hook\tyes\n";
 
+/// The predicates of the condition that README parses.
+pub const ORDER: &str = "b\na\nc\n";
+
 /// The predicates of one of its conditions.
 pub const PREDICATES: &str = "loom\ntarget_vendor = \"apple\"\n";
 
