@@ -3,7 +3,7 @@
 use Rattle.std.proofs.Common.{◌≡◌, ℕ, ◌<◌, ◌+◌, ◌-◌, Bool, true, false, List, [], ◌∷◌, ◌++◌}
 use Rattle.std.proofs.Common.{Option, Some, None, Result, Ok, Err, MatchOption, ◌⊎◌, inl}
 use Rattle.std.proofs.Common.{◌≤◌, inr, ⊎_elim, refl, ap, sym, ◌∙◌, subst, arith, rules, map, take}
-use Rattle.std.proofs.Common.{length, drop, get_or, zero, suc, take_at, codes, nat_lt, bytes_eq}
+use Rattle.std.proofs.Common.{length, drop, get_or, zero, suc, take_at, codes, bytes_eq}
 use Rattle.std.specs.{List.AllByRecursion, List.AllZip, List.Any, List.enumerate_from, Str.is_utf8}
 use Rattle.std.specs.{List.join_with_byte, Str.Lines.strip_carriage_return}
 use Rattle.std.specs.declared.alloc.Global.{Global}
