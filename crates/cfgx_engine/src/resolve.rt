@@ -10,7 +10,6 @@ ghost use Rattle.cfgx_parser.specs.Predicate.{question_of};
 ghost use Rattle.cfgx_engine.specs.Verdicts.{answer_by, IsVerdict, verdict_of};
 
 mod auditing;
-mod laws;
 
 use cfg_expr::expr::{Condition, Predicates, TargetMatcher};
 use cfg_expr::memory::SmallAllocator;
