@@ -4,7 +4,7 @@ use std::env::args;
 /// `struct cfgx_fault` of `cfgx.h`.
 #[repr(C)]
 #[derive(Default)]
-struct Fault {
+struct CfgxFault {
     offset: usize,
     start: usize,
     end: usize,
@@ -13,12 +13,12 @@ struct Fault {
 }
 
 extern "C" {
-    fn cfgx_check(text: *const u8, text_length: usize, fault: *mut Fault) -> u32;
+    fn cfgx_check(text: *const u8, text_length: usize, fault: *mut CfgxFault) -> u32;
 }
 
 /// What is said of a text.
 fn told(text: &str) -> String {
-    let mut fault = Fault::default();
+    let mut fault = CfgxFault::default();
     // The pointer and the length are those of a text, and no other pointer leads to the fault.
     match unsafe { cfgx_check(text.as_ptr(), text.len(), &mut fault) } {
         0 => "a condition".to_string(),

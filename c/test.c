@@ -9,12 +9,15 @@
 
 static int failures = 0;
 
+/* How many rows were tested. */
+static size_t rows = 0;
+
 /* Says what does not hold. */
 static void check(int holds, const char *call, const char *text, const char *what)
 {
     if (!holds) {
         failures++;
-        printf("%s `%s`: %s\n", call, text, what);
+        printf("%s `%.80s`: %s\n", call, text, what);
     }
 }
 
@@ -100,7 +103,7 @@ static const struct run runs[] = {
     RUN("parse\0key = \"\xc3\"", "", 2, USAGE),
 };
 
-static uint8_t output[1 << 12];
+static uint8_t output[1 << 18];
 
 /* Calls `cfgx_run` with this much room, and checks the status and what is told as needed. */
 static void run_over(const struct run *run, size_t room, size_t number, uint32_t status,
@@ -126,8 +129,11 @@ static int is_output(const char *wanted, size_t length)
     return same == sizeof output;
 }
 
-static void test_run(const struct run *run)
+/* Runs with exact room, with much, with a byte too little and with none, and returns how many
+ * growths a run has. */
+static size_t test_rooms(const struct run *run)
 {
+    rows++;
     size_t length = strlen(run->output);
     run_over(run, length, NONE, run->status, length);
     check(is_output(run->output, length), "cfgx_run", run->words, "another output, exact room");
@@ -140,6 +146,12 @@ static void test_run(const struct run *run)
         run_over(run, 0, NONE, run->status, length);
         check(is_output("", 0), "cfgx_run", run->words, "written without room");
     }
+    return count;
+}
+
+static void test_run(const struct run *run)
+{
+    size_t count = test_rooms(run);
     for (size_t number = 0; number < count; number++) {
         run_over(run, sizeof output, number, CFGX_OUT_OF_MEMORY, 0);
         check(is_output("", 0), "cfgx_run", run->words, "written out of memory");
@@ -191,7 +203,11 @@ static void check_text(const char *text, size_t number, uint32_t status,
 
 static void test_check(const char *text, uint32_t status, const struct cfgx_fault *wanted)
 {
+    rows++;
     check_text(text, NONE, status, wanted);
+    if (status == CFGX_NOT_UTF8) {
+        check(growths == 0, "cfgx_check", text, "memory is asked for");
+    }
     size_t count = growths;
     for (size_t number = 0; number < count; number++) {
         check_text(text, number, CFGX_OUT_OF_MEMORY, NULL);
@@ -231,7 +247,8 @@ static const struct value values[] = {
 /* Calls `cfgx_value`, and checks the status and the value. */
 static void value_over(const struct value *row, size_t number, uint32_t status)
 {
-    uint8_t answers[8], value = 77;
+    static uint8_t answers[1 << 16];
+    uint8_t value = 77;
     size_t count = strlen(row->answers);
     for (size_t i = 0; i < count; i++) {
         answers[i] = (uint8_t)(row->answers[i] - '0');
@@ -246,11 +263,100 @@ static void value_over(const struct value *row, size_t number, uint32_t status)
 
 static void test_value(const struct value *row)
 {
+    rows++;
     value_over(row, NONE, row->status);
+    if (row->status == CFGX_NOT_UTF8) {
+        check(growths == 0, "cfgx_value", row->text, "memory is asked for");
+    }
     size_t count = growths;
     for (size_t number = 0; number < count; number++) {
         value_over(row, number, CFGX_OUT_OF_MEMORY);
     }
+}
+
+/* Long texts, long words and many answers: memory is there, so no call gives up. */
+#define MEMBERS 50000
+
+static char long_text[1 << 18], long_output[1 << 18], long_answers[MEMBERS + 2];
+
+/* Writes MEMBERS times `a`, with `between` between each two, and returns where they end. */
+static char *write_members(char *at, char between)
+{
+    for (size_t i = 0; i < MEMBERS; i++) {
+        at[2 * i] = 'a';
+        at[2 * i + 1] = between;
+    }
+    return at + 2 * MEMBERS - 1;
+}
+
+/* Writes a function of MEMBERS flags, and returns the text's length. */
+static size_t write_call(const char *open, const char *close)
+{
+    strcpy(long_text, open);
+    strcpy(write_members(long_text + strlen(open), ','), close);
+    return strlen(long_text);
+}
+
+static void test_long_checks(void)
+{
+    write_call("all(", ")");
+    test_check(long_text, CFGX_DONE, NULL);
+    struct cfgx_fault unclosed = {0, 3, write_call("all(", ""), 0, CFGX_UNCLOSED_PARENS};
+    test_check(long_text, CFGX_FAULTY, &unclosed);
+    struct cfgx_fault not = {4, 0, write_call("cfg(not(", "))") - 5, MEMBERS, CFGX_INVALID_NOT};
+    test_check(long_text, CFGX_FAULTY, &not);
+}
+
+/* The value of `all` over MEMBERS flags, if the answer at this place is another one. */
+static void test_long_value(size_t place, char answer, uint8_t value)
+{
+    struct value row = {long_text, long_answers, CFGX_DONE, value};
+    write_call("all(", ")");
+    memset(long_answers, '1', MEMBERS);
+    long_answers[place] = answer;
+    long_answers[MEMBERS] = '\0';
+    test_value(&row);
+}
+
+static void test_long_values(void)
+{
+    test_long_value(0, '1', CFGX_TRUE);
+    test_long_value(0, '0', CFGX_FALSE);
+    test_long_value(MEMBERS - 1, '0', CFGX_FALSE);
+    test_long_value(MEMBERS - 1, '2', CFGX_UNKNOWN);
+    struct value one_less = {long_text, long_answers + 1, CFGX_MISCOUNTED, 0};
+    test_value(&one_less);
+    memset(long_answers, '1', MEMBERS + 1);
+    struct value one_more = {long_text, long_answers, CFGX_MISCOUNTED, 0};
+    test_value(&one_more);
+}
+
+static void test_long_runs(void)
+{
+    /* one long word: a line for each predicate */
+    memcpy(long_text, "parse\0all(", 10);
+    char *end = write_members(long_text + 10, ',');
+    *end++ = ')';
+    strcpy(write_members(long_output, '\n'), "\n");
+    struct run lines = {long_text, (size_t)(end - long_text), "", 0, long_output};
+    test_rooms(&lines);
+    /* many words: no flag names the predicate, and then the last one does */
+    memcpy(long_text, "eval\0b\0", 7);
+    end = write_members(long_text + 7, '\0');
+    struct run without = {long_text, (size_t)(end - long_text), "", 0, "false\n"};
+    test_rooms(&without);
+    end[-1] = 'b';
+    struct run with = {long_text, (size_t)(end - long_text), "", 0, "true\n"};
+    test_rooms(&with);
+}
+
+/* Wrong use asks for memory only to keep the usage line, if its words are not UTF-8. */
+static void test_wrong_use(void)
+{
+    rows++;
+    static const struct run wrong = RUN("\xff", "", 2, USAGE);
+    run_over(&wrong, sizeof output, NONE, 2, strlen(USAGE));
+    check(growths == 1, "cfgx_run", wrong.words, "memory is asked for");
 }
 
 /* Sections that fill an input of 16 MiB, and one byte more. Each has a name of 2^20 - 6 bytes. */
@@ -260,6 +366,7 @@ static uint8_t big_input[MOST + 1], big_output[MOST];
 
 static void test_big(size_t length, uint32_t status, const char *last, size_t wanted)
 {
+    rows++;
     size_t needed = 0;
     begin(NONE);
     uint32_t found = cfgx_run(bytes_of("pick\0" SIM), sizeof "pick\0" SIM - 1, big_input, length,
@@ -297,7 +404,7 @@ static void tell_time(void)
     printf("cfgx_value `%s`: %.0f ns a call\n", text, seconds * 1e9 / (double)calls);
 }
 
-#define COUNT(rows) (sizeof rows / sizeof rows[0])
+#define COUNT(table) (sizeof table / sizeof table[0])
 
 int main(int count, char **words)
 {
@@ -312,10 +419,14 @@ int main(int count, char **words)
     for (size_t i = 0; i < COUNT(values); i++) {
         test_value(&values[i]);
     }
+    test_long_checks();
+    test_long_values();
+    test_long_runs();
+    test_wrong_use();
     test_limits();
     if (count > 1 && strcmp(words[1], "time") == 0) {
         tell_time();
     }
-    printf("%zu rows, %d failures\n", COUNT(runs) + COUNT(faults) + COUNT(values) + 4, failures);
+    printf("%zu rows, %d failures\n", rows, failures);
     return failures == 0 ? 0 : 1;
 }

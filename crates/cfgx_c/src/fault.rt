@@ -9,7 +9,7 @@ use cfgx_syntax::stripping::strip;
 
 /// What is wrong with a text, and where. Places and lengths are in bytes.
 #[repr(C)]
-#[derive(Clone, Copy)]
+#[derive(Clone, Copy, Debug)]
 pub struct CfgxFault {
     /// Where in the text the stripped text begins: 4 if an outer `cfg( )` is taken off, and else 0
     pub offset: usize,

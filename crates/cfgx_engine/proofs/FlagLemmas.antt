@@ -8,8 +8,10 @@ use Rattle.std.proofs.{lemmas.List.Elements.recursion_from_All, lemmas.Slice.Eq.
 use Rattle.cfgx_syntax.specs.Stripping.{strip}
 use Rattle.cfgx_syntax.specs.{Error.TextFault, Error.failure_of, declared.error.Failure.Failure}
 use Rattle.cfgx_grammar.specs.{Question.Question, Tree.Tree, Answer.HasOneTree}
-use Rattle.cfgx_engine.specs.EngineAnswer.{AddsFlag, AreFlags, Fails}
+use Rattle.cfgx_engine.specs.answering.ReadsFlags.{AddsFlag, AreFlags}
+use Rattle.cfgx_engine.specs.answering.Shows.{Fails}
 use Rattle.cfgx_engine.specs.{Flags.{flag_text, unknown_text}, Readings.{GivesAll, ParsesAs}}
+use Rattle.cfgx_engine.proofs.ReadingLemmas.{first_fails, later_fails}
 use Rattle.cfgx_engine.specs.{Request.texts, declared.engine.flags.Flags.Flags}
 
 -- a word that begins with no `?` names true predicates
@@ -24,10 +26,10 @@ unknown_text-unmarked (byte ∷ rest) lacks =
 pub trees_of : (flags : List (List ℕ))
     → AllByRecursion (λ flag. HasOneTree (strip (flag_text flag))) flags
     → (trees : List (Tree Question)) × GivesAll ParsesAs (map flag_text flags) (Ok trees)
-trees_of [] each = ([], refl)
+trees_of [] each = ([], tt)
 trees_of (flag ∷ flags) each =
     let others = trees_of flags each.1 in
-    (each.0.tree ∷ others.0, (Ok each.0.tree, each.0.reads, (Ok others.0, others.1, refl)))
+    (each.0.tree ∷ others.0, (each.0.reads, others.1))
 
 -- the fault of a word is the first, if the words in front of it have a tree each
 GivesAll-later : (words : List (Bor (List ℕ))) (i : ℕ) (d : Bor (List ℕ)) (fault : TextFault)
@@ -36,10 +38,10 @@ GivesAll-later : (words : List (Bor (List ℕ))) (i : ℕ) (d : Bor (List ℕ)) 
     → ParsesAs (flag_text (get_or words i d).now) (Err fault)
     → GivesAll ParsesAs (map flag_text (texts words)) (Err fault)
 GivesAll-later [] i d fault below each reads = absurd (omega arith)
-GivesAll-later (word ∷ words) zero d fault below each reads = (Err fault, reads, refl)
+GivesAll-later (word ∷ words) zero d fault below each reads = first_fails ParsesAs _ _ fault reads
 GivesAll-later (word ∷ words) (suc i) d fault below each reads =
     let rest = GivesAll-later words i d fault (omega arith) each.1 reads in
-    (Ok each.0.tree, each.0.reads, (Err fault, rest, refl))
+    later_fails ParsesAs _ each.0.tree _ fault each.0.reads rest
 
 module _ {A : Type 0} where
   -- one word more

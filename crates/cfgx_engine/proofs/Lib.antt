@@ -3,6 +3,7 @@ pub mod FlagLemmas
 pub mod OneOutput
 pub mod OutputLemmas
 pub mod PickLemmas
+pub mod ReadingLemmas
 pub mod RowLemmas
 pub mod SectionLemmas
 pub mod VerdictLemmas

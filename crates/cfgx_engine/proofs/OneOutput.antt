@@ -1,13 +1,13 @@
 -- That a request has one output at most, whose status is not that of a refused run, and that it has
 -- one if its words are UTF-8.
 use Rattle.std.proofs.Common.{◌≡◌, ℕ, ◌<◌, ◌+◌, ◌-◌, Bool, true, false, List, [], ◌∷◌, ◌++◌}
-use Rattle.std.proofs.Common.{Option, Some, None, Result, Ok, Err, MatchBool, MatchOption, ◌⊎◌, inl}
-use Rattle.std.proofs.Common.{inr, ⊎_elim, refl, ap, sym, ◌∙◌, subst, arith, rules, map, take}
-use Rattle.std.proofs.Common.{length, drop, get_or, zero, suc, take_at, codes, nat_lt, bytes_eq}
+use Rattle.std.proofs.Common.{Option, Some, None, Result, Ok, Err, MatchOption, ◌⊎◌, inl}
+use Rattle.std.proofs.Common.{◌≤◌, inr, ⊎_elim, refl, ap, sym, ◌∙◌, subst, arith, rules, map, take}
+use Rattle.std.proofs.Common.{length, drop, get_or, zero, suc, take_at, codes, bytes_eq}
 use Rattle.std.specs.{List.AllByRecursion, List.AllZip, List.Any, List.enumerate_from, Str.is_utf8}
 use Rattle.std.specs.{List.join_with_byte, Str.Lines.strip_carriage_return}
 use Rattle.std.specs.declared.alloc.Global.{Global}
-use Rattle.std.proofs.lemmas.{Bool.cases_Bool, Bool.Decides.Decides-eqb, Grind.common_steps}
+use Rattle.std.proofs.lemmas.{Bool.cases_lt, Bool.cases_Bool, Bool.Decides.Decides-eqb, Grind.common_steps}
 use Rattle.std.proofs.lemmas.{Slice.Eq.bytes_eq-Decides, Slice.Eq.ends_is, Slice.Eq.starts_is}
 use Rattle.std.proofs.lemmas.List.{Sums.passes_at_first, Splits.join_with_byte-slice_split}
 use Rattle.cfgx_syntax.specs.{Stripping.strip, Error.TextFault, Error.fault_in}
@@ -22,7 +22,10 @@ use Rattle.cfgx_engine.specs.{Input.input_limit, Request.Request, Request.reques
 use Rattle.cfgx_engine.specs.Output.{HasValue, Output, ValueBy, answer_on, result_output}
 use Rattle.cfgx_engine.specs.Output.{tree_output, unknown_triple, usage, value_by}
 use Rattle.cfgx_engine.specs.{Prints.{Picks, Prints, not_utf8, too_long}, Sections.section_text}
-use Rattle.cfgx_engine.specs.Readings.{GivesAll, ParsesAs, value_then}
+use Rattle.cfgx_engine.specs.Readings.{GivesAll, ParsesAs}
+use Rattle.cfgx_engine.proofs.ReadingLemmas.{GivesEach, GivesEach-all, first_fails, later_fails}
+use Rattle.std.specs.Str.{IsUtf8}
+use Rattle.std.proofs.lemmas.Str.{IsUtf8-from_is_utf8, is_utf8-from_IsUtf8}
 use Rattle.cfgx_engine.specs.Sections.{Line, PrintsLine, line_of, lines_of, lines_output, no_tab}
 
 -- at most one thing fits
@@ -49,12 +52,7 @@ decided-made : {X : Type 0} {Holds : X → Type 0} (make : X → Output) → IsS
     → ((x : X) → (make x).status < 3) → IsDecided (λ output. (x : X) × Holds x × (output ≡ make x))
 decided-made make single low one other this that = grind (arith, single-made)
 
--- what is said of both outputs is said of the one that is chosen by a test, or by a target's row
-by_test : {On Off : Output → Type 0} (Says : (Output → Type 0) → Type 0) (test : Bool)
-    → (test ≡ true → Says On) → Says Off → Says (λ output. MatchBool test (On output) (Off output))
-by_test Says true on off = on refl
-by_test Says false on off = off
-
+-- what is said of both outputs is said of the one that is chosen by a target's row
 by_row : {On : TargetInfo Global → Output → Type 0} (Says : (Output → Type 0) → Type 0)
     (triple : List ℕ) → Says (λ output. output ≡ unknown_triple)
     → ((row : TargetInfo Global) → Says (On row))
@@ -73,10 +71,15 @@ AllZip-single each (x ∷ xs) (y ∷ ys) (z ∷ zs) this that =
 AllZip-single each _ _ _ this that = absurd (search rules)
 
 -- and values of which one is given for each item, or the first error
+GivesEach-single : {X T E : Type 0} {Gives : X → Result T E → Type 0}
+    → ((x : X) → IsSingle (Gives x)) → (xs : List X) → IsSingle (GivesEach Gives xs)
+GivesEach-single each [] one other this that = this ∙ sym that
+GivesEach-single each (x ∷ xs) one other this that = grind (arith, GivesEach-single each xs)
+
 GivesAll-single : {X T E : Type 0} {Gives : X → Result T E → Type 0}
     → ((x : X) → IsSingle (Gives x)) → (xs : List X) → IsSingle (GivesAll Gives xs)
-GivesAll-single each [] one other this that = this ∙ sym that
-GivesAll-single each (x ∷ xs) one other this that = grind (arith, GivesAll-single each xs)
+GivesAll-single {Gives = Gives} each xs one other this that = GivesEach-single each xs one other
+    (GivesEach-all Gives xs one this) (GivesEach-all Gives xs other that)
 
 -- a text is read one way
 ParsesAs-single : (text : List ℕ) → IsSingle (ParsesAs text)
@@ -104,9 +107,24 @@ PrintsLine-single : (answer : Question → Option Bool) (numbered : ℕ × Line)
     → IsSingle (PrintsLine answer numbered)
 PrintsLine-single answer numbered one other this that = grind (arith, single-made, ParsesAs-single)
 
+-- an input is too long or not, and UTF-8 or not
+is_long : (input : List ℕ) → (input_limit < length input) ⊎ (length input ≤ input_limit)
+is_long input = cases_lt input_limit (length input)
+
+is_text : (input : List ℕ) → IsUtf8 input ⊎ ¬ IsUtf8 input
+is_text input = ⊎_elim (λ is. inl (IsUtf8-from_is_utf8 input is))
+    (λ not. inr (λ utf8. absurd (cc (not, is_utf8-from_IsUtf8 input utf8))))
+    (cases_Bool (is_utf8 input))
+
 Picks-decided : (answer : Question → Option Bool) (input : List ℕ) → IsDecided (Picks answer input)
-Picks-decided answer input =
-    grind (arith, GivesAll-single, PrintsLine-single, by_test, decided, decided-made)
+Picks-decided answer input one other this that =
+    let lines = decided-made lines_output (GivesAll-single (PrintsLine-single answer)
+    (enumerate_from 1 (map line_of (lines_of input)))) (λ printed. grind arith) in
+    ⊎_elim (λ long. decided too_long (omega arith) one other (this.of_long long) (that.of_long long))
+    (λ short. ⊎_elim
+    (λ utf8. lines one other (this.of_text short utf8) (that.of_text short utf8))
+    (λ not. decided not_utf8 (omega arith) one other (this.of_other_bytes short not)
+    (that.of_other_bytes short not)) (is_text input)) (is_long input)
 
 -- a request has one output at most on an input
 pub Prints-decided : (request : Request) (input : List ℕ) → IsDecided (Prints request input)
@@ -156,11 +174,15 @@ same-known question well_formed other too =
 -- values of which one is given for each item, or the first error
 GivesAll-some : {X T E : Type 0} (Gives : X → Result T E → Type 0) (xs : List X)
     → AllByRecursion (λ x. HasSome (Gives x)) xs → HasSome (GivesAll Gives xs)
-GivesAll-some Gives [] all = (Ok [], refl)
-GivesAll-some Gives (x ∷ xs) ((Err error, gives), all) = (Err error, (Err error, gives, refl))
-GivesAll-some Gives (x ∷ xs) ((Ok value, gives), all) =
-    let rest = GivesAll-some Gives xs all in
-    (value_then value rest.0, (Ok value, gives, (rest.0, rest.1, refl)))
+GivesAll-some Gives [] all = (Ok [], tt)
+GivesAll-some Gives (x ∷ xs) ((Err error, fails), all) =
+    (Err error, first_fails Gives x xs error fails)
+GivesAll-some {X} {T} {E} Gives (x ∷ xs) ((Ok value, gives), all) =
+    more (GivesAll-some Gives xs all)
+  where
+    more : HasSome (GivesAll Gives xs) → HasSome (GivesAll Gives (x ∷ xs))
+    more (Ok values, others) = (Ok (value ∷ values), (gives, others))
+    more (Err error, found) = (Err error, later_fails Gives x value xs error gives found)
 
 -- What is known of UTF-8 texts: a test tells them, what stands before an ASCII byte of one is one,
 -- and so is what stands after it, and each reads as something.
@@ -267,6 +289,37 @@ module _ (Q : List ℕ → Type 0) (tested : (text : List ℕ) → is_utf8 text 
     request-is (name ∷ first ∷ second ∷ third ∷ more) all = grind arith
     request-is _ all = grind arith
 
+  Picks-some : (answer : Question → Option Bool) (input : List ℕ) → HasSome (Picks answer input)
+  Picks-some answer input =
+      ⊎_elim (λ long. (
+        too_long,
+        record {
+          of_long = λ _. refl;
+          of_other_bytes = λ short. absurd (omega (arith, long, short));
+          of_text = λ short. absurd (omega (arith, long, short));
+        },
+      )) (λ short. ⊎_elim (λ utf8.
+      let printed = some_made lines_output (GivesAll-some (PrintsLine answer)
+      (enumerate_from 1 (map line_of (lines_of input)))
+      (lines-are (λ line. HasSome (PrintsLine answer line)) (λ number. (Ok [], refl))
+      (λ number. (Err (no_tab number), refl)) (λ number name condition can.
+      some_made (section_text answer number name) (ParsesAs-some condition can)) 1 _
+      (rw join_with_byte-slice_split (tested input (is_utf8-from_IsUtf8 input utf8))))) in (
+        printed.0,
+        record {
+          of_long = λ long. absurd (omega (arith, long, short));
+          of_other_bytes = λ _ not. absurd (not utf8);
+          of_text = λ _ _. printed.1;
+        },
+      )) (λ not. (
+        not_utf8,
+        record {
+          of_long = λ long. absurd (omega (arith, long, short));
+          of_other_bytes = λ _ _. refl;
+          of_text = λ _ utf8. absurd (not utf8);
+        },
+      )) (is_text input)) (is_long input)
+
   -- a request of such words has an output
   pub Prints-some : (words : List (List ℕ)) (input : List ℕ) → AllByRecursion Q words
       → HasSome (Prints (request_of words) input)
@@ -275,11 +328,5 @@ module _ (Q : List ℕ → Type 0) (tested : (text : List ℕ) → is_utf8 text 
       (λ text flags is all. some_made result_output (HasValue-some text flags is all))
       (λ triple text is. by_row HasSome triple (unknown_triple, refl) (λ row. some_made
       result_output (some_made (value_by (answer_on row)) (ParsesAs-some text is))))
-      (λ triple. by_row HasSome triple (unknown_triple, refl) (λ row. by_test HasSome
-      (nat_lt input_limit (length input)) (λ _. (too_long, refl)) (by_test HasSome (is_utf8 input)
-      (λ is. some_made lines_output (GivesAll-some (PrintsLine (answer_on row))
-      (enumerate_from 1 (map line_of (lines_of input)))
-      (lines-are (λ line. HasSome (PrintsLine (answer_on row) line)) (λ number. (Ok [], refl))
-      (λ number. (Err (no_tab number), refl)) (λ number name condition can.
-      some_made (section_text (answer_on row) number name) (ParsesAs-some condition can)) 1 _
-      (rw join_with_byte-slice_split (tested input is))))) (not_utf8, refl)))) (usage, refl) words
+      (λ triple. by_row HasSome triple (unknown_triple, refl)
+      (λ row. Picks-some (answer_on row) input)) (usage, refl) words

@@ -1,10 +1,12 @@
 -- What `pick` writes, by what was read.
 use Rattle.std.proofs.Common.{sym, ◌≡◌, ◌++◌, ℕ, Bool, List, [], refl, Option, Some}
-use Rattle.std.proofs.Common.{None, Ok, arith, length-append, append-nil, le-ltb, lt-ltb}
+use Rattle.std.proofs.Common.{None, Ok, arith, length, length-append, append-nil, ◌<◌}
 use Rattle.std.specs.Io.KnownBytes.{Consumes, IsAtEnd, Keeps}
 use Rattle.cfgx_grammar.specs.Question.{Question}
-use Rattle.cfgx_engine.specs.{EngineAnswer.PicksFrom, Output.Output}
-use Rattle.cfgx_engine.{specs.declared.engine.reading.Input.Input, specs.Input.ReadsInput}
+use Rattle.cfgx_engine.specs.{answering.ReadsMore.PicksFrom, Output.Output}
+use Rattle.cfgx_engine.specs.declared.engine.reading.Input.{Input}
+use Rattle.cfgx_engine.specs.declared.engine.reading.Input.TheVariants as input
+use Rattle.cfgx_engine.specs.Input.{ReadsInput, input_limit}
 use Rattle.cfgx_engine.specs.{Prints.PicksInput, Prints.Prints, Prints.PrintsInput, Request.Request}
 
 -- what was read is a front of what a source holds, if it tells its bytes, and all of it at the end
@@ -18,8 +20,27 @@ source_held (Some all) (Some left) front consumed = (left, sym consumed, λ ende
 pub PicksInput-read : {A : Type 0} (answer : Question → Option Bool) (old new : Option (List ℕ))
     (shown : Output) (given : Input A) → ReadsInput {A = A} old new (Ok given)
     → PicksFrom {A = A} answer given shown → PicksInput answer old shown
-PicksInput-read answer old new shown given reads picks =
-    grind (arith, append-nil, length-append, le-ltb, lt-ltb, source_held)
+PicksInput-read answer old new shown (input.Bytes bytes) reads picks =
+    let held = source_held old new bytes.items reads.1 in (
+      bytes.items ++ held.0,
+      held.1,
+      rw (held.2 reads.2, append-nil) (record {
+        of_long = λ long. absurd (omega (arith, long, reads.0));
+        of_other_bytes = λ _ other. picks.0 other;
+        of_text = λ _ utf8. picks.1 utf8;
+      }),
+    )
+PicksInput-read answer old new shown input.TooLong reads picks =
+    let held = source_held old new reads.0 reads.2 in
+    let long : input_limit < length (reads.0 ++ held.0) = omega (arith, length-append {A = ℕ}, reads.1) in (
+      reads.0 ++ held.0,
+      held.1,
+      record {
+        of_long = λ _. picks;
+        of_other_bytes = λ short _. absurd (omega (arith, long, short));
+        of_text = λ short _. absurd (omega (arith, long, short));
+      },
+    )
 
 -- a request that prints the same on every input prints it on what is source_held
 pub PrintsInput-any : (given : Request) (source_held : Option (List ℕ)) (shown : Output)

@@ -7,9 +7,10 @@ use Rattle.std.specs.{Prelude.string_bytes, Str.Iter.split_steps, Str.Lines.stri
 use Rattle.cfgx_grammar.specs.{Question.Question, Tree.Tree}
 use Rattle.cfg_expr.specs.{Deciding.IsDecision, declared.expr.Decision.Decision}
 use Rattle.cfg_expr.specs.declared.expr.Decision.TheVariants as decision
-use Rattle.cfgx_engine.specs.EngineAnswer.{Tells, decision_text}
+use Rattle.cfgx_engine.specs.answering.AddsLine.{Tells, decision_text}
 use Rattle.cfgx_engine.specs.{declared.engine.sections.LineError.LineError, Input.input_limit}
 use Rattle.cfgx_engine.specs.{Output.Output, Output.faulty_output, Readings.GivesAll}
+use Rattle.cfgx_engine.proofs.ReadingLemmas.{first_fails, later_fails}
 use Rattle.cfgx_engine.specs.Sections.{Line, PrintsLine, PrintsLines, line_of, verdict_lines}
 use Rattle.cfgx_engine.specs.declared.engine.sections.LineError.TheVariants as line_error
 
@@ -37,15 +38,18 @@ module _ (answer : Question → Option Bool) (number : ℕ) (line : Line) {piece
       → PrintsRest answer number (map line_of (map strip_carriage_return pieces)) front shown
   PrintsRest-more shown prints (Ok printed, rest, is) =
       let one = rw is_line at prints in
-      rw are (Ok (text ∷ printed), (Ok text, one, (Ok printed, rest, refl)), rw append_assoc at is)
-  PrintsRest-more shown prints (Err telling, rest, is) =
-      rw are (Err telling, (Ok text, rw is_line at prints, (Err telling, rest, refl)), is)
+      rw are (Ok (text ∷ printed), (one, rest), rw append_assoc at is)
+  PrintsRest-more shown prints (Err told, rest, is) =
+      let one = rw is_line at prints in
+      rw are (Err told, later_fails (PrintsLine answer) _ text _ told one rest, is)
 
   -- the line is faulty
   pub PrintsRest-told : (shown : Output) → PrintsLine answer (number, line) (Err text)
       → shown ≡ faulty_output text
       → PrintsRest answer number (map line_of (map strip_carriage_return pieces)) front shown
-  PrintsRest-told shown prints is = rw are (Err text, (Err text, rw is_line at prints, refl), is)
+  PrintsRest-told shown prints is =
+      let one = rw is_line at prints in
+      rw are (Err text, first_fails (PrintsLine answer) _ _ text one, is)
 
 -- all lines print what is left after nothing
 pub PrintsLines-rest : (answer : Question → Option Bool) (lines : List Line) (shown : Output)

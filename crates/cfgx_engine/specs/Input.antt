@@ -1,7 +1,7 @@
 -- What reading an input whole answers.
 -- Source of the rules for one call: the documentation of `std::io::Read::read`. Source of the
 -- limit: docs/RULES.md.
-use Rattle.std.specs.Prelude.{◌≡◌, ◌≤◌, ℕ, ◌+◌, ◌^◌, List, length, take, drop}
+use Rattle.std.specs.Prelude.{◌≡◌, ◌≤◌, ℕ, ◌+◌, ◌^◌, List, length}
 use Rattle.std.specs.Prelude.{Option, Result, Ok, Err}
 use Rattle.std.specs.Io.KnownBytes.{Consumes, IsAtEnd}
 use Rattle.cfgx_engine.specs.declared.engine.reading.Input.{Input}
@@ -34,17 +34,3 @@ ReadsInput old new (Err stopped) = (front : List ℕ) × (length front ≤ input
 abbrev pub ReadsFront : Option (List ℕ) → Option (List ℕ) → Type 0
 ReadsFront old new =
     (front : List ℕ) × (length front ≤ input_limit + 1) × Consumes old new front
-
--- How far the reading has come.
-
--- so many of the bytes were read, at most the limit, and there is room for at most one byte more
-abbrev pub IsRoom : List ℕ → ℕ → Type 0
-IsRoom bytes filled = (filled ≤ length bytes) × (length bytes ≤ input_limit + 1)
-    × (filled ≤ input_limit)
-
--- one call gave so many bytes more, which stand after those that were read; it gave none only at
--- the end
-pub record ReadsMore (old new : Option (List ℕ)) (bytes : List ℕ) (filled count : ℕ) : Type 0 where
-  pub within : filled + count ≤ length bytes
-  pub consumes : Consumes old new (take count (drop filled bytes))
-  pub at_end : count ≡ 0 → IsAtEnd new

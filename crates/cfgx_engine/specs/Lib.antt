@@ -1,5 +1,3 @@
-pub mod Auditing
-pub mod EngineAnswer
 pub mod Flags
 pub mod Input
 pub mod Output
@@ -9,3 +7,4 @@ pub mod Request
 pub mod Sections
 pub mod Streams
 pub mod Verdicts
+pub mod answering

@@ -1,10 +1,9 @@
 -- What a run writes, by what the words ask for and what the input holds.
 -- Source of the rules: docs/RULES.md; of what a predicate, a value and a fault are, the crate
 -- cfg-expr.
-use Rattle.std.specs.Prelude.{◌≡◌, ℕ, Bool, List, codes, length, map, nat_lt}
+use Rattle.std.specs.Prelude.{◌≡◌, ◌<◌, ◌≤◌, ℕ, Bool, List, codes, length, map}
 use Rattle.std.specs.Prelude.{Option, Some, IsSome, MatchOption, Result}
-use Rattle.std.specs.Bool.{MatchBool}
-use Rattle.std.specs.Str.{is_utf8}
+use Rattle.std.specs.Str.{IsUtf8}
 use Rattle.std.specs.Io.KnownBytes.{Appends, Keeps}
 use Rattle.std.specs.declared.alloc.Global.{Global}
 use Rattle.cfgx_targets.specs.Builtins.{builtin_rows}
@@ -26,13 +25,12 @@ too_long = faulty_output (text_line (codes "input too long"))
 abbrev pub not_utf8 : Output
 not_utf8 = faulty_output (text_line (codes "input is not UTF-8"))
 
--- This is what `pick` writes of the input, with these answers. That it is too long counts first,
--- then that it is not UTF-8, and then its lines.
-abbrev pub Picks : (Question → Option Bool) → List ℕ → Output → Type 0
-Picks answer input output =
-    MatchBool (nat_lt input_limit (length input)) (output ≡ too_long)
-    (MatchBool (is_utf8 input) (PrintsLines answer (map line_of (lines_of input)) output)
-    (output ≡ not_utf8))
+-- this is what `pick` writes of the input, with these answers
+pub record Picks (answer : Question → Option Bool) (input : List ℕ) (output : Output) : Type 0 where
+  pub of_long : input_limit < length input → output ≡ too_long
+  pub of_other_bytes : length input ≤ input_limit → ¬ IsUtf8 input → output ≡ not_utf8
+  pub of_text : length input ≤ input_limit → IsUtf8 input
+      → PrintsLines answer (map line_of (lines_of input)) output
 
 -- this is what `pick` writes of the input that a source holds, or of some input if the source does
 -- not tell its bytes

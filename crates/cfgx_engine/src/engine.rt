@@ -53,10 +53,11 @@ pub fn run<A: SmallAllocator, R: Source, W: Sink>(
     ensures done_count { result ≢ 3 → (W.failures writer.new ≡ W.failures writer.old)
         × (R.failures reader.new ≡ R.failures reader.old) }
 
-    // Status 3: either nothing was written, or one call of the writer failed and a beginning of the
-    // output was.
+    // Status 3: either nothing was written, and at most one call of the reader failed; or one call
+    // of the writer failed, none of the reader did, and a beginning of the output was written.
     ensures refused { result ≡ 3 → ((writer.new ≡ writer.old)
-        × (R.failures reader.new ≤ R.failures reader.old + 1))
+        × ((R.failures reader.new ≡ R.failures reader.old)
+        ⊎ (R.failures reader.new ≡ R.failures reader.old + 1)))
         ⊎ ((W.failures writer.new ≡ W.failures writer.old + 1)
         × (R.failures reader.new ≡ R.failures reader.old)
         × WritesFront (request_of (texts words.now)) (R.unread reader.old)

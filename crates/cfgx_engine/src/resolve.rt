@@ -1,5 +1,5 @@
 //! Sections of a manifest, each with a condition, and what a target says of them.
-ghost use Rattle.std.specs.Prelude.{◌≡◌, IfOk, OnOk, map};
+ghost use Rattle.std.specs.Prelude.{◌≡◌, [], IfOk, OnErr, OnOk, map};
 ghost use Rattle.std.specs.List.{AllZip};
 ghost use Rattle.cfg_expr.specs.Deciding.{DecidesExactly};
 ghost use Rattle.cfg_expr.specs.Evaluation.{IsValueBy};
@@ -10,7 +10,6 @@ ghost use Rattle.cfgx_parser.specs.Predicate.{question_of};
 ghost use Rattle.cfgx_engine.specs.Verdicts.{answer_by, IsVerdict, verdict_of};
 
 mod auditing;
-mod laws;
 
 use cfg_expr::expr::{Condition, Predicates, TargetMatcher};
 use cfg_expr::memory::SmallAllocator;
@@ -111,7 +110,7 @@ pub(crate) fn decide_borrowed<A: SmallAllocator, M: TargetMatcher>(
 ///
 /// # Errors
 ///
-/// `AllocError`: `alloc` refused memory. What `answers` holds then is not promised.
+/// `AllocError`: `alloc` refused memory. `answers` is then empty.
 pub fn decide_on<A: SmallAllocator, M: TargetMatcher>(
     alloc: A,
     condition: &Expression<A>,
@@ -123,9 +122,14 @@ pub fn decide_on<A: SmallAllocator, M: TargetMatcher>(
         (map (answer_by (M.answer matcher.now)) (asked one.tree)) decision) }
     ensures answers { OnOk result ((one : HasOneTree condition.now)
         × (answers.new.items ≡ map (answer_by (M.answer matcher.now)) (asked one.tree))) }
+    ensures failed { OnErr result (answers.new.items ≡ []) }
 {
     let none = Decision::Known(false);
-    decide_borrowed(alloc, &condition.condition(), matcher, answers, none)
+    let decision = decide_borrowed(alloc, &condition.condition(), matcher, answers, none);
+    if decision.is_err() {
+        answers.clear();
+    }
+    decision
 }
 
 /// The verdict of a value.

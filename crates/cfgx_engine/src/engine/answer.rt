@@ -1,8 +1,9 @@
 // The output of a run, which is built in memory.
 
 ghost use Rattle.std.specs.Prelude.{◌≡◌, ◌+◌, ◌<◌, [], IfOk, IsOk, string_bytes};
-ghost use Rattle.cfgx_engine.specs.EngineAnswer.{output_of, IsShort, PicksFrom, ShowsFailure};
-ghost use Rattle.cfgx_engine.specs.EngineAnswer.{ShowsResult};
+ghost use Rattle.cfgx_engine.specs.answering.Shows.{output_of, ShowsFailure};
+ghost use Rattle.cfgx_engine.specs.answering.ReadsMore.{IsShort, PicksFrom};
+ghost use Rattle.cfgx_engine.specs.answering.Shows.{ShowsResult};
 ghost use Rattle.cfgx_engine.specs.Input.{stop_failures, ReadsFront};
 ghost use Rattle.cfgx_engine.specs.Output.{answer_on, text_line, value_text};
 ghost use Rattle.cfgx_engine.specs.Prints.{PicksInput, Prints, PrintsInput, TakesInput};

@@ -1,7 +1,7 @@
 // What the words after the program's name ask for.
 
 ghost use Rattle.std.specs.Prelude.{◌≡◌};
-ghost use Rattle.cfgx_engine.specs.EngineAnswer.{command_request};
+ghost use Rattle.cfgx_engine.specs.answering.Shows.{command_request};
 ghost use Rattle.cfgx_engine.specs.Request.{eval_request, parse_request, pick_request};
 ghost use Rattle.cfgx_engine.specs.Request.{request_of, target_request, texts};
 

@@ -4,7 +4,8 @@ ghost use Rattle.std.specs.Prelude.{◌≡◌, ◌↔◌, Err, IfErr, IsTrue, On
 ghost use Rattle.cfgx_grammar.specs.Answer.{Answers};
 ghost use Rattle.cfgx_parser.specs.Predicate.{question_of};
 ghost use Rattle.cfgx_syntax.specs.Stripping.{strip};
-ghost use Rattle.cfgx_engine.specs.EngineAnswer.{AddsFlag, Fails, FitsResult, ReadsFlags};
+ghost use Rattle.cfgx_engine.specs.answering.ReadsFlags.{AddsFlag, ReadsFlags};
+ghost use Rattle.cfgx_engine.specs.answering.Shows.{Fails, FitsResult};
 ghost use Rattle.cfgx_engine.specs.Flags.{flag_text, IsAnswer, IsNamed, Names};
 ghost use Rattle.cfgx_engine.specs.Request.{texts};
 ghost use Rattle.cfgx_engine.specs.Output.{HasValue};

@@ -2,7 +2,8 @@
 ghost use Rattle.std.specs.Prelude.{◌≡◌, ◌+◌, ◌<◌, ◌≤◌, length, take, is_some};
 ghost use Rattle.std.specs.Prelude.{IfSome, IfNone, IsTrue, if◌then◌else◌};
 ghost use Rattle.std.specs.Io.KnownBytes.{Keeps};
-ghost use Rattle.cfgx_engine.specs.Input.{IsRoom, ReadsInput, ReadsMore};
+ghost use Rattle.cfgx_engine.specs.Input.{ReadsInput};
+ghost use Rattle.cfgx_engine.specs.answering.ReadsMore.{IsRoom, ReadsMore};
 ghost use Rattle.cfgx_engine.specs.Input.{input_limit, stop_failures};
 
 use super::streams::Source;

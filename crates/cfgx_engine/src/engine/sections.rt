@@ -4,8 +4,9 @@ ghost use Rattle.std.specs.Prelude.{◌≡◌, ◌≤◌, ◌++◌, Err, IfErr, 
 ghost use Rattle.std.specs.Prelude.{IsSomeAnd, string_bytes};
 ghost use Rattle.std.specs.Str.Lines.{strip_carriage_return};
 ghost use Rattle.cfgx_syntax.specs.Error.{failure_of};
-ghost use Rattle.cfgx_engine.specs.EngineAnswer.{AddsLine, AddsVerdict, Tells, decision_text};
-ghost use Rattle.cfgx_engine.specs.EngineAnswer.{line_view, output_of};
+ghost use Rattle.cfgx_engine.specs.answering.AddsLine.{AddsLine, AddsVerdict, Tells, decision_text};
+ghost use Rattle.cfgx_engine.specs.answering.AddsLine.{line_view};
+ghost use Rattle.cfgx_engine.specs.answering.Shows.{output_of};
 ghost use Rattle.cfgx_engine.specs.Input.{input_limit};
 ghost use Rattle.cfgx_engine.specs.Output.{answer_on, faulty_output};
 ghost use Rattle.cfgx_engine.specs.Sections.{PrintsLine, PrintsLines, digits, filling_line};

@@ -1,6 +1,6 @@
 // The value of a text on a target.
 
-ghost use Rattle.cfgx_engine.specs.EngineAnswer.{FitsResult};
+ghost use Rattle.cfgx_engine.specs.answering.Shows.{FitsResult};
 ghost use Rattle.cfgx_engine.specs.Output.{answer_on, HasValueBy};
 
 use crate::resolve::value_by;

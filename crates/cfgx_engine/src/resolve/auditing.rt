@@ -4,7 +4,7 @@ ghost use Rattle.std.specs.List.{AllZip};
 ghost use Rattle.cfgx_grammar.specs.Answer.{HasOneTree};
 ghost use Rattle.cfgx_grammar.specs.Tree.{asked};
 ghost use Rattle.cfgx_parser.specs.Predicate.{question_of};
-ghost use Rattle.cfgx_engine.specs.Auditing.{InLanes, lane_verdicts};
+ghost use Rattle.cfgx_engine.specs.answering.InLanes.{InLanes, lane_verdicts};
 ghost use Rattle.cfgx_engine.specs.Verdicts.{IsVerdict};
 
 use super::{Verdict, verdict_of};

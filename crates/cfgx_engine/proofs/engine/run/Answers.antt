@@ -1,5 +1,5 @@
 use Rattle.std.proofs.Common.{rules}
-use Rattle.cfgx_engine.specs.{EngineAnswer.output_of, Request.request_of, Request.texts}
+use Rattle.cfgx_engine.specs.{answering.Shows.output_of, Request.request_of, Request.texts}
 use Rattle.cfgx_engine.proofs.OneOutput.{Prints-decided}
 use Rattle.cfgx_engine.proofs.engine.run.Goals as goal
 

@@ -1,4 +1,4 @@
-use Rattle.cfgx_engine.specs.{EngineAnswer.output_of, Output.answer_on}
+use Rattle.cfgx_engine.specs.{answering.Shows.output_of, Output.answer_on}
 use Rattle.cfgx_engine.proofs.PickLemmas.{PicksInput-read}
 use Rattle.cfgx_engine.proofs.engine.answer.read_answer.Goals as goal
 

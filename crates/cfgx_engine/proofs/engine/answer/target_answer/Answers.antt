@@ -1,5 +1,5 @@
 use Rattle.std.proofs.lemmas.Result.{MatchResult-weaker}
-use Rattle.cfgx_engine.specs.{EngineAnswer.output_of, Output.answer_on, Output.HasValueBy}
+use Rattle.cfgx_engine.specs.{answering.Shows.output_of, Output.answer_on, Output.HasValueBy}
 use Rattle.cfgx_engine.proofs.OutputLemmas.{result_output-shown}
 use Rattle.cfgx_engine.proofs.RowLemmas.{answer_on-same, builtin-same}
 use Rattle.cfgx_engine.proofs.engine.answer.target_answer.Goals as goal

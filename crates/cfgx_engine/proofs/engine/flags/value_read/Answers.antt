@@ -4,7 +4,8 @@ use Rattle.std.proofs.{lemmas.Option.IfSome_then, lemmas.Result.err_from_is_err_
 use Rattle.cfg_expr.proofs.Chains.{Calls-AllZip}
 use Rattle.cfgx_parser.specs.Predicate.{question_of}
 use Rattle.cfgx_engine.specs.Flags.{IsAnswer, known_texts, unknown_texts}
-use Rattle.cfgx_engine.specs.{Output.HasValue, Request.texts}
+use Rattle.cfgx_engine.specs.{Output.HasValue, Readings.ParsesAs, Request.texts}
+use Rattle.cfgx_engine.proofs.ReadingLemmas.{first_fails, later_fails}
 use Rattle.cfgx_engine.proofs.{FlagLemmas.trees_of, OutputLemmas.Fails-parse}
 use Rattle.cfgx_engine.proofs.engine.flags.value_read.Goals as goal
 
@@ -14,7 +15,7 @@ returns-in_err-condition g c =
     let Valued = HasValue c.args.text.now (texts c.args.words.now) in
     rw (p.1, p.2) (IfSome_then _ {Q = λ fault. Valued (Err fault)}
     (Fails-parse {A = g.row.A.Denot} c.args.text.now _ c.in_err-condition.ensures)
-    (λ fault reads. (Err fault, (Err fault, reads, refl), refl)))
+    (λ fault reads. (Err fault, first_fails ParsesAs _ _ fault reads, refl)))
 
 pub returns-in_err-flags : goal.returns-in_err-flags
 returns-in_err-flags g c =
@@ -23,7 +24,7 @@ returns-in_err-flags g c =
     let one = c.in_ok-condition.ensures.2 in
     let Valued = HasValue c.args.text.now (texts c.args.words.now) in
     rw (p.1, p.2) (IfSome_then _ {Q = λ fault. Valued (Err fault)} c.in_err-flags.ensures
-    (λ fault gives. (Err fault, (Ok one.tree, one.reads, (Err fault, gives, refl)), refl)))
+    (λ fault gives. (Err fault, later_fails ParsesAs _ one.tree _ fault one.reads gives, refl)))
 
 pub returns : goal.returns
 returns g c =
@@ -40,6 +41,6 @@ returns g c =
     (rw (← are.known_are, ← are.unknown_are, ← holds, ← asks.shows) answers, search rules))
     _ _ _ _ (refl {a = c.in_ok-flags.flags}) evaluates.calls in (
       Ok (evaluates.one.tree ∷ trees.0),
-      (Ok evaluates.one.tree, evaluates.one.reads, (Ok trees.0, trees.1, refl)),
+      (evaluates.one.reads, trees.1),
       (evaluates.answers, answered, ap Ok evaluates.value_is),
     )

@@ -53,4 +53,4 @@ pub returns-clause-ok : goal.returns-clause-ok
 returns-clause-ok g c =
     let left = c.loop-text.invariant in
     let none = yields-none left.pieces left.yields c.next.new.self c.in-None.ensures.steps in
-    left.prints _ (rw none (Ok [], refl, rw append-nil refl))
+    left.prints _ (rw none (Ok [], tt, rw append-nil refl))

@@ -1,7 +1,7 @@
 -- Each question so far has its answer.
 use Rattle.std.{proofs.Common.◌≡◌, proofs.Common.◌++◌, proofs.Common.List, specs.List.AllZip}
 use Rattle.cfgx_grammar.specs.Question.{Question}
-use Rattle.cfgx_engine.specs.Auditing.{InLanes}
+use Rattle.cfgx_engine.specs.answering.InLanes.{InLanes}
 use Rattle.cfgx_engine.proofs.resolve.auditing.answers_of.Given as goal
 
 abbrev pub invariant-loop-predicate : goal.invariant-loop-predicate

@@ -1,7 +1,7 @@
 -- One lane more.
 use Rattle.std.proofs.Common.{◌≡◌, ◌∙◌, ◌+◌, ◌++◌, ◌∷◌, [], ap, append_assoc, arith, rules, suc}
 use Rattle.cfgx_syntax.specs.Kleene.{lane}
-use Rattle.cfgx_engine.specs.{Auditing.lane_verdicts, Verdicts.verdict_of}
+use Rattle.cfgx_engine.specs.{answering.InLanes.lane_verdicts, Verdicts.verdict_of}
 use Rattle.cfgx_engine.proofs.resolve.auditing.push_lanes.Goals as goal
 
 pub loop-i-preserved : goal.loop-i-preserved

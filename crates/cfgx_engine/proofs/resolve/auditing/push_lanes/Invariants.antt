@@ -1,6 +1,6 @@
 -- The verdicts in the lanes so far were added.
 use Rattle.std.proofs.Common.{◌≡◌, ◌++◌}
-use Rattle.cfgx_engine.specs.Auditing.{lane_verdicts}
+use Rattle.cfgx_engine.specs.answering.InLanes.{lane_verdicts}
 use Rattle.cfgx_engine.proofs.resolve.auditing.push_lanes.Given as goal
 
 abbrev pub invariant-loop-i : goal.invariant-loop-i

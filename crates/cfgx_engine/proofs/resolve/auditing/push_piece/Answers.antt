@@ -2,7 +2,7 @@
 use Rattle.std.proofs.Common.{◌∙◌, ap, length}
 use Rattle.std.proofs.{lemmas.Result.on_ok_weaker, lemmas.Slice.Zip.AllZip-long}
 use Rattle.cfgx_grammar.{specs.Tree.asked, proofs.Alike.AllZip-append}
-use Rattle.cfgx_engine.{specs.Auditing.InLanes, proofs.AuditLemmas.lane_verdicts-zipped}
+use Rattle.cfgx_engine.{specs.answering.InLanes.InLanes, proofs.AuditLemmas.lane_verdicts-zipped}
 use Rattle.cfgx_engine.proofs.resolve.auditing.push_piece.Goals as goal
 
 pub eval_lanes-requires : goal.eval_lanes-requires

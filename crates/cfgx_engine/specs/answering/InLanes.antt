@@ -1,4 +1,4 @@
--- The verdicts on a condition for at most sixty-four targets at once. Internal.
+-- The verdicts on a condition for at most sixty-four targets at once.
 use Rattle.std.specs.Prelude.{◌≡◌, ℕ, zero, suc, Bool, List, [], ◌∷◌, ◌++◌, Some}
 use Rattle.std.specs.List.{slice_get}
 use Rattle.cfgx_syntax.specs.Kleene.{Planes, lane}
@@ -12,7 +12,7 @@ abbrev pub InLanes : {M : Type 0} → (M → TargetQuestion → Bool) → List M
 InLanes {M = M} answer targets question planes = (i : ℕ) (target : M)
     → slice_get targets i ≡ Some target → lane i planes ≡ answer_by (answer target) question
 
--- the verdicts in so many lanes
+-- the verdicts in the first lanes, as many as the number says
 abbrev pub lane_verdicts : ℕ → Planes → List Verdict
 lane_verdicts zero planes = []
 lane_verdicts (suc n) planes = lane_verdicts n planes ++ verdict_of (lane n planes) ∷ []
