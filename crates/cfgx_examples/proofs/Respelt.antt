@@ -3,7 +3,7 @@ use Rattle.std.{proofs.Common.{◌∙◌, List, ℕ, Ok, Err, sym, subst}, specs
 use Rattle.cfgx_syntax.specs.{Stripping.strip, declared.error.Failure.Failure}
 use Rattle.cfgx_syntax.specs.declared.error.Failure.TheVariants as failure
 use Rattle.cfgx_grammar.specs.{Answer.Answers, Question.Question, WellFormed.IsAlone}
-use Rattle.cfgx_examples.specs.Callers.{IsReadAlone}
+use Rattle.cfgx_examples.specs.Examples.{IsReadAlone}
 use Rattle.cfgx_grammar.proofs.Answering.{HasOneTree-tree, not_both}
 
 pub read-alone : {A : Type 0} (text : List ℕ) (question : Question)

@@ -1,3 +1,3 @@
 pub mod Board
-pub mod Callers
+pub mod Examples
 pub mod Terms

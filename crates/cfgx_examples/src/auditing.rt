@@ -1,9 +1,12 @@
-//! Conditions on many targets, which are audited sixty-four at a time.
-use cfg_expr::Expression;
-use cfg_expr::targets::{TargetInfo, TargetTable};
+//! Conditions on many targets, in lanes and by an audit: each target gets the value that it has by
+//! itself.
+use crate::calling::rows::on_rows;
+use cfg_expr::expr::logic::Kleene64;
+use cfg_expr::targets::{TargetInfo, TargetTable, Triple};
+use cfg_expr::{Expression, Predicate};
 use cfgx_engine::resolve::{Verdict, audit};
-use cfgx_testing::answers::answer_of;
-use cfgx_testing::holding::{holds, push};
+use cfgx_testing::answers::{Answer, answer_of};
+use cfgx_testing::holding::{holds, push, put};
 use std::alloc::{AllocError, Global};
 
 /// Texts, and whether they are true of the five targets that are built in, `?` for unknown: those
@@ -17,49 +20,176 @@ any(target_env = "macabi", all(unix, not(test))) | ??1??
 all() | 11111
 "#;
 
-// Adds so many rows: all of these in turn.
-fn push_in_turn<'a>(
+// How many rows there are.
+const MOST_ROWS: usize = 600;
+
+// The triple with this number.
+fn numbered<'a>(alloc: Global, number: usize) -> Result<Triple<'a>, AllocError> {
+    let text = format!(in alloc; "row-{number}")?;
+    Ok(Triple::new(text))
+}
+
+// Gives the last row the triple with this number.
+fn number_last(
+    alloc: Global,
+    rows: &mut [TargetInfo<'_>],
+    number: usize,
+) -> Result<(), AllocError> {
+    match rows.last_mut() {
+        Some(row) => put(&mut row.triple, numbered(alloc, number)),
+        None => Ok(()),
+    }
+}
+
+// Adds a row for each number, with the triple of that number and the other fields of one of these
+// rows: of all in turn.
+fn push_numbered<'a>(
     alloc: Global,
     all: &[TargetInfo<'a>],
-    count: usize,
     rows: &mut Vec<TargetInfo<'a>>,
 ) -> Result<(), AllocError> {
-    for number in 0..count {
+    for number in 0..MOST_ROWS {
         if let Some(row) = all.get(number % 5) {
             push(rows, row.try_clone(alloc))?;
+            number_last(alloc, rows.as_mut_slice(), number)?;
         }
     }
     Ok(())
 }
 
-// So many rows: those of the five targets in turn.
-fn rows_in_turn(alloc: Global, count: usize) -> Result<Vec<TargetInfo<'static>>, AllocError> {
+// Rows `row-0`, `row-1` and so on, with the other fields of the five targets in turn.
+fn numbered_rows(alloc: Global) -> Result<Vec<TargetInfo<'static>>, AllocError> {
     let table = TargetTable::builtins(alloc)?;
     let mut rows = Vec::new(alloc);
-    push_in_turn(alloc, table.rows(), count, &mut rows)?;
+    push_numbered(alloc, table.rows(), &mut rows)?;
     Ok(rows)
 }
 
-// The verdict of a digit.
-fn verdict_of(digit: u8) -> Verdict {
-    match answer_of(digit) {
+// Whether the rows have their triples.
+fn have_numbers(rows: &[TargetInfo<'_>]) -> bool {
+    let triple_at = |place: usize| rows.get(place).map(|row| row.triple.as_str());
+    triple_at(0) == Some("row-0")
+        && triple_at(129) == Some("row-129")
+        && triple_at(599) == Some("row-599")
+        && rows.len() == MOST_ROWS
+}
+
+// What a row answers to a predicate.
+fn answer_on(predicate: &Predicate<'_>, row: &TargetInfo<'_>) -> Answer {
+    match predicate {
+        Predicate::Target(target) => Some(target.matches(row)),
+        _ => None,
+    }
+}
+
+// The value on one row by itself.
+fn value_on(
+    alloc: Global,
+    condition: &Expression,
+    row: &TargetInfo<'_>,
+) -> Result<Answer, AllocError> {
+    condition.eval(
+        alloc,
+        &mut |predicate: &Predicate<'_>| answer_on(predicate, row),
+    )
+}
+
+// Whether this is the value on the row, if there is one.
+fn is_value_on(
+    alloc: Global,
+    condition: &Expression,
+    row: Option<&TargetInfo<'_>>,
+    value: Answer,
+) -> bool {
+    match row {
+        Some(row) => value_on(alloc, condition, row) == Ok(value),
+        None => true,
+    }
+}
+
+// Whether each lane is the value on its row.
+fn are_values_on(
+    alloc: Global,
+    condition: &Expression,
+    rows: &[TargetInfo<'_>],
+    lanes: Kleene64,
+) -> bool {
+    for i in 0..64 {
+        if !is_value_on(alloc, condition, rows.get(i), lanes.lane(i)) {
+            return false;
+        }
+    }
+    true
+}
+
+// Whether each lane on the rows, of which there are so many, is the value on its row.
+fn agrees_in_lanes(
+    alloc: Global,
+    condition: &Expression,
+    rows: &[TargetInfo<'_>],
+    count: usize,
+) -> bool {
+    match on_rows(alloc, condition, rows) {
+        Ok(Some(lanes)) => are_values_on(alloc, condition, rows, lanes) && rows.len() == count,
+        _ => false,
+    }
+}
+
+// Whether the lanes agree on the first 130 rows, in pieces of 64, 64 and 2.
+fn agrees_in_pieces(alloc: Global, condition: &Expression, rows: &[TargetInfo<'_>]) -> bool {
+    let mut left = rows;
+    for count in [64, 64, 2] {
+        let (piece, others) = left.split_at(left.len().min(count));
+        if !agrees_in_lanes(alloc, condition, piece, count) {
+            return false;
+        }
+        left = others;
+    }
+    true
+}
+
+// The verdict of a value.
+fn verdict_of(value: Answer) -> Verdict {
+    match value {
         Some(true) => Verdict::Yes,
         Some(false) => Verdict::No,
         None => Verdict::Unknown,
     }
 }
 
-// Whether there is one verdict for each of so many targets, which is that of its digit.
-fn are(verdicts: &[Verdict], digits: &[u8], count: usize) -> bool {
-    for (number, verdict) in verdicts.iter().enumerate() {
+// Whether the verdict on the row with this number is that of its digit, and that of its value.
+fn is_verdict_on(
+    alloc: Global,
+    condition: &Expression,
+    row: &TargetInfo<'_>,
+    verdict: Verdict,
+    digit: Option<u8>,
+) -> bool {
+    digit.map(|digit| verdict_of(answer_of(digit))) == Some(verdict)
+        && value_on(alloc, condition, row).map(verdict_of) == Ok(verdict)
+}
+
+// Whether there is one verdict for each row, which is that of its digit and that of its value.
+fn are_verdicts_on(
+    alloc: Global,
+    condition: &Expression,
+    rows: &[TargetInfo<'_>],
+    verdicts: &[Verdict],
+    digits: &[u8],
+) -> bool {
+    for (number, row) in rows.iter().enumerate() {
         let digit = digits.get(number % 5).copied();
-        if digit.map(verdict_of) != Some(*verdict) {
+        let Some(verdict) = verdicts.get(number) else {
+            return false;
+        };
+        if !is_verdict_on(alloc, condition, row, *verdict, digit) {
             return false;
         }
     }
-    verdicts.len() == count
+    verdicts.len() == rows.len()
 }
 
+// Whether the audit of the rows gives these verdicts.
 fn is_audited(
     alloc: Global,
     condition: &Expression,
@@ -67,30 +197,36 @@ fn is_audited(
     digits: &[u8],
 ) -> bool {
     match audit(alloc, condition, rows) {
-        Ok(verdicts) => are(verdicts.as_slice(), digits, rows.len()),
+        Ok(verdicts) => are_verdicts_on(alloc, condition, rows, verdicts.as_slice(), digits),
         Err(_) => false,
     }
 }
 
-// Whether the verdicts on some numbers of these rows are those of the digits.
-fn are_audited(
+// Whether the audits of some numbers of rows give these verdicts.
+fn is_audited_in_parts(
     alloc: Global,
     condition: &Expression,
     rows: &[TargetInfo<'_>],
     digits: &[u8],
 ) -> bool {
-    for count in [0, 1, 64, 65, 130] {
+    for count in [0, 1, 64, 65, 130, MOST_ROWS] {
         match rows.get(..count) {
-            Some(front) if is_audited(alloc, condition, front, digits) => {}
+            Some(first) if is_audited(alloc, condition, first, digits) => {}
             _ => return false,
         }
     }
     true
 }
 
-fn has_verdicts(alloc: Global, condition: &Expression, digits: &[u8]) -> Result<bool, AllocError> {
-    let rows = rows_in_turn(alloc, 130)?;
-    Ok(are_audited(alloc, condition, rows.as_slice(), digits))
+// Whether the condition has these values on the rows, in lanes and by audits.
+fn agrees(alloc: Global, condition: &Expression, digits: &[u8]) -> Result<bool, AllocError> {
+    let rows = numbered_rows(alloc)?;
+    let rows = rows.as_slice();
+    Ok(
+        have_numbers(rows)
+            && agrees_in_pieces(alloc, condition, rows)
+            && is_audited_in_parts(alloc, condition, rows, digits),
+    )
 }
 
 /// Whether a text has the verdicts of a row.
@@ -99,7 +235,7 @@ pub fn is_row(alloc: Global, row: &[String]) -> bool {
         return false;
     };
     match Expression::parse(alloc, text.as_str()) {
-        Ok(condition) => holds(has_verdicts(alloc, &condition, digits.as_bytes())),
+        Ok(condition) => holds(agrees(alloc, &condition, digits.as_bytes())),
         Err(_) => false,
     }
 }

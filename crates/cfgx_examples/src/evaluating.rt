@@ -2,7 +2,7 @@
 ghost use Rattle.std.specs.Prelude.{◌≡◌, ◌+◌, ◌^◌, ◌*◌, ◌%◌, ◌-◌, length, min, IfOk};
 ghost use Rattle.cfg_expr.specs.Evaluation.{IsValueBy};
 ghost use Rattle.cfg_expr.specs.Words.{HasOneTree, asked, question_of};
-ghost use Rattle.cfgx_examples.specs.Callers.{is_among, term_of};
+ghost use Rattle.cfgx_examples.specs.Examples.{is_among, term_of};
 
 pub mod terms;
 
@@ -123,69 +123,74 @@ fn value_by(alloc: Global, expression: &Expression, flags: &str) -> Option<bool>
     value_with_flags(alloc, expression, &[one, other]).ok()
 }
 
-/// Texts, how many questions are asked, and the terms that join the predicates, by their names and
-/// by the numbers of their calls. The last member that is asked is joined first.
+/// Texts, how many questions are asked, and the terms that join the predicates, by their names, and
+/// by their names with the numbers of their calls. The last member that is asked is joined first.
 pub const TERMS: &str = r#"
-all(a, any(b), c) | 3 | (((T&c)&a)&(F|b)) | (((T&3)&2)&(F|1))
-not(any(x)) | 1 | !(F|x) | !(F|1)
-any(a, all(b, not(c)), d) | 4 | (((F|d)|a)|((T&b)&!c)) | (((F|4)|3)|((T&2)&!1))
-all(test) | 1 | (T&?) | (T&1)
+all(a, any(b), c) | 3 | (((T&c)&a)&(F|b)) | (((T&c3)&a2)&(F|b1))
+not(any(x)) | 1 | !(F|x) | !(F|x1)
+any(a, all(b, not(c)), d) | 4 | (((F|d)|a)|((T&b)&!c)) | (((F|d4)|a3)|((T&b2)&!c1))
+all(test) | 1 | (T&?) | (T&?1)
 true | 0 | T | T
 not(false) | 0 | !F | !F
-all(a, true, any(b), false) | 2 | ((((T&F)&T)&a)&(F|b)) | ((((T&F)&T)&2)&(F|1))
-any(true, not(a), false) | 1 | (((F|F)|T)|!a) | (((F|F)|T)|!1)
-a | 1 | a | 1
-any(a, a, a) | 3 | (((F|a)|a)|a) | (((F|3)|2)|1)
+all(a, true, any(b), false) | 2 | ((((T&F)&T)&a)&(F|b)) | ((((T&F)&T)&a2)&(F|b1))
+any(true, not(a), false) | 1 | (((F|F)|T)|!a) | (((F|F)|T)|!a1)
+a | 1 | a | a1
+any(a, a, a) | 3 | (((F|a)|a)|a) | (((F|a3)|a2)|a1)
 all() | 0 | T | T
 // What follows 64 bytes is cut off.
 ~not(~100~a~)~100~ | 1 | ~!~64~ | ~!~64~
 "#;
 
-// The terms of the calls' numbers.
-fn numbers_of(alloc: Global, expression: &Expression) -> Result<Terms, AllocError> {
-    let mut call = b'0';
-    let mut answer = |_predicate: &Predicate<'_>| {
-        call = call.saturating_add(1);
-        Terms::new(&[call])
+// The terms of the predicates' names with the numbers of their calls, and how many calls there
+// were. No text here has more than nine.
+fn numbered_terms(alloc: Global, expression: &Expression) -> Result<(Terms, usize), AllocError> {
+    let mut count = 0u8;
+    let mut answer = |predicate: &Predicate<'_>| {
+        count = count.saturating_add(1);
+        let mut term = term_of(predicate);
+        term.push(b'0'.saturating_add(count));
+        term
     };
-    expression.eval(alloc, &mut answer)
+    let terms = expression.eval(alloc, &mut answer)?;
+    Ok((terms, usize::from(count)))
 }
 
-// Whether the expression has as many questions, and these terms by names and by calls.
-fn has_terms(
+// Whether as many questions are asked of the expression, and these are its terms, by names alone
+// and with the numbers of the calls.
+fn is_written(
     alloc: Global,
     expression: &Expression,
     questions: &str,
     names: &str,
-    calls: &str,
+    numbered: &str,
 ) -> Result<bool, AllocError> {
-    let count = questions_of(alloc, expression)?;
+    let (terms, count) = numbered_terms(alloc, expression)?;
+    let is_counted = questions_of(alloc, expression)? == count && questions.parse() == Ok(count);
     let is_named = terms_of(alloc, expression)?.as_bytes() == names.as_bytes();
-    let is_numbered = numbers_of(alloc, expression)?.as_bytes() == calls.as_bytes();
-    Ok(questions.parse() == Ok(count) && is_named && is_numbered)
+    Ok(is_counted && is_named && terms.as_bytes() == numbered.as_bytes())
 }
 
-// Whether the expression has what the rest of its row says: flags and a value, or terms.
-fn has(alloc: Global, expression: &Expression, wanted: &[String]) -> bool {
-    match wanted {
-        [flags, value] => {
-            value_by(alloc, expression, flags.as_str()) == Some(value.as_str() == "true")
-        }
-        [questions, names, calls] => {
-            let (questions, names, calls) = (questions.as_str(), names.as_str(), calls.as_str());
-            holds(has_terms(alloc, expression, questions, names, calls))
-        }
-        _ => false,
-    }
-}
-
-/// Whether a text has what the row says.
-pub fn is_row(alloc: Global, row: &[String]) -> bool {
-    let [text, wanted @ ..] = row else {
+/// Whether a text has the value of the row with the row's flags.
+pub fn has_value(alloc: Global, row: &[String]) -> bool {
+    let [text, flags, value] = row else {
         return false;
     };
     match Expression::parse(alloc, text.as_str()) {
-        Ok(expression) => has(alloc, &expression, wanted),
+        Ok(expression) => {
+            value_by(alloc, &expression, flags.as_str()) == Some(value.as_str() == "true")
+        }
+        Err(_) => false,
+    }
+}
+
+/// Whether a text has the questions and the terms of the row.
+pub fn has_terms(alloc: Global, row: &[String]) -> bool {
+    let [text, questions, names, numbered] = row else {
+        return false;
+    };
+    let told = (questions.as_str(), names.as_str(), numbered.as_str());
+    match Expression::parse(alloc, text.as_str()) {
+        Ok(expression) => holds(is_written(alloc, &expression, told.0, told.1, told.2)),
         Err(_) => false,
     }
 }

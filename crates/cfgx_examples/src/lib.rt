@@ -11,3 +11,5 @@ mod checks;
 pub mod evaluating;
 #[cfg(test)]
 pub mod respelling;
+#[cfg(test)]
+mod windows;

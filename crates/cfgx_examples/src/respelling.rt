@@ -2,7 +2,7 @@
 ghost use Rattle.std.specs.Prelude.{IfSome};
 ghost use Rattle.cfgx_grammar.specs.WellFormed.{IsAlone, IsWellFormed};
 ghost use Rattle.cfgx_parser.specs.Predicate.{question_of};
-ghost use Rattle.cfgx_examples.specs.Callers.{IsReadAlone};
+ghost use Rattle.cfgx_examples.specs.Examples.{IsReadAlone};
 
 use cfg_expr::error::Failure;
 use cfg_expr::expr::spell;

@@ -14,7 +14,7 @@ pub(crate) mod targets;
 
 use cfg_expr::memory::SmallAllocator;
 use cfgx_testing::heap::growths;
-use cfgx_testing::holding::gives;
+use cfgx_testing::holding::{gives, holds};
 use cfgx_testing::rows::{Checked, check_tables};
 use conditions::Read;
 use runs::Wanted;
@@ -57,10 +57,21 @@ fn growths_of(alloc: Global, call: Call<'_>) -> Option<u64> {
     growths(alloc, |heap| answer_to(alloc, heap, &call))
 }
 
-// Whether this is a copy of the value. Their type is not known here, which makes their drops short
-// to prove.
-fn is_copied<T: PartialEq + Drop>(copy: Made<T>, value: T) -> Finding {
-    gives(copy, &value)
+/// A value that gives copies of itself.
+trait TryClone<A>: PartialEq + Drop {
+    /// The copy, in memory of `alloc`.
+    fn copy(&self, alloc: A) -> Made<Self>;
+}
+
+// Whether the value gives a copy that is equal to it. Out of memory, it has to give that copy when
+// it is asked again. Its type is not known here, which makes drops short to prove.
+fn gives_copy<T: TryClone<A>, A: SmallAllocator>(alloc: A, value: &T) -> Finding {
+    let answer = gives(value.copy(alloc), value);
+    if answer.is_ok() || holds(gives(value.copy(alloc), value)) {
+        answer
+    } else {
+        Ok(false)
+    }
 }
 
 /// Whether there is nothing. The type is not known here, which makes its drop short to prove.
@@ -81,9 +92,11 @@ fn all_are(findings: &[Finding]) -> Finding {
 }
 
 const TABLES: &[Checked<'_>] = &[
-    ("each growth of a call on a text", conditions::TEXTS, 45),
-    ("each growth of each run", runs::RUNS, 30),
+    ("each growth of a call on a text", conditions::TEXTS, 47),
+    ("each growth of each run", runs::RUNS, 31),
     ("each growth of each other call", calls::CALLS, 36),
+    ("growths of decisions", decisions::DECIDED, 8),
+    ("growths of a reader", reading::READ, 8),
 ];
 
 // Whether the row of this table is what it says.
@@ -91,7 +104,10 @@ fn is_row(alloc: Global, table: &str, row: &[String]) -> bool {
     match table {
         "each growth of a call on a text" => conditions::is_row(alloc, row),
         "each growth of each run" => runs::is_row(alloc, row),
-        _ => calls::is_row(alloc, row),
+        "each growth of each other call" => calls::is_row(alloc, row),
+        "growths of decisions" => decisions::is_row(alloc, row),
+        "growths of a reader" => reading::is_row(alloc, row),
+        _ => false,
     }
 }
 

@@ -1,9 +1,12 @@
-//! Calls that take no memory, with every growth refused: each gives its plain answer.
+//! Calls that take no memory, with every growth refused: each gives its plain answer, and asks for
+//! no growth.
 //!
 //! What such a call is given is made with memory first.
 mod conditions;
 mod faults;
+mod named;
 mod targets;
+mod values;
 
 use crate::in_turn::Made;
 use cfgx_testing::heap::{Heap, empty_heap, has_every_block};
@@ -21,8 +24,8 @@ fn are_ordered<T: Ord + Hash>(one: &T, same: &T, above: &T) -> bool {
         && hash_of(one) == hash_of(same)
 }
 
-// Whether all three were made, and are so.
-fn are_made<T: Ord + Hash>(one: &Made<T>, same: &Made<T>, above: &Made<T>) -> bool {
+// Whether all three were made, and are ordered so.
+fn are_made_in_order<T: Ord + Hash>(one: &Made<T>, same: &Made<T>, above: &Made<T>) -> bool {
     match (one, same, above) {
         (Ok(one), Ok(same), Ok(above)) => are_ordered(one, same, above),
         _ => false,
@@ -30,9 +33,10 @@ fn are_made<T: Ord + Hash>(one: &Made<T>, same: &Made<T>, above: &Made<T>) -> bo
 }
 
 const TABLES: &[Checked<'_>] = &[
-    ("conditions take no memory", conditions::ASKED, 16),
+    ("conditions take no memory", conditions::ASKED, 17),
     ("faults take no memory", faults::ROWS, 3),
-    ("values take no memory", targets::CHECKS, 20),
+    ("targets take no memory", targets::CHECKS, 14),
+    ("other values take no memory", values::CHECKS, 26),
 ];
 
 // Whether the row of this table is what it says.
@@ -40,15 +44,27 @@ fn is_row(alloc: Global, heap: Heap<'_>, table: &str, row: &[String]) -> bool {
     match table {
         "conditions take no memory" => conditions::is_row(alloc, heap, heap, row),
         "faults take no memory" => faults::is_row(alloc, heap, heap, row),
-        _ => targets::is_row(alloc, heap, heap, row),
+        "targets take no memory" => targets::is_row(alloc, heap, heap, row),
+        "other values take no memory" => values::is_row(alloc, heap, heap, row),
+        _ => false,
     }
+}
+
+// Whether the row is what it says, with no growth refused.
+fn asks_for_no_memory(alloc: Global, heap: Heap<'_>, table: &str, row: &[String]) -> bool {
+    let refused = heap.refused_growths();
+    is_row(alloc, heap, table, row) && heap.refused_growths() == refused
 }
 
 #[test]
 fn calls_take_no_memory(rt: HostRuntime) -> Result<(), String> {
     let alloc = rt.alloc();
     let heap = empty_heap(alloc);
-    check_tables(alloc, TABLES, |table, row| is_row(alloc, &heap, table, row))?;
+    check_tables(
+        alloc,
+        TABLES,
+        |table, row| asks_for_no_memory(alloc, &heap, table, row),
+    )?;
     assert!(rt; has_every_block(heap));
     Ok(())
 }

@@ -4,7 +4,7 @@ use crate::holding::holds;
 use cfg_expr::error::Failure;
 use cfg_expr::expr::{Condition, ConditionReader};
 use cfg_expr::{Decision, Expression};
-use std::alloc::{AllocError, Global};
+use std::alloc::{AllocError, Allocator, Global};
 
 /// A text, the answers in the order of the questions, and the value if it is known, or else the
 /// two fillings with which it is true and false.
@@ -78,8 +78,8 @@ pub fn are_told(with_true: &[bool], with_false: &[bool], told: &str) -> bool {
     }
 }
 
-// Whether a row tells this decision.
-fn is_decided(decision: &Decision, told: &str) -> bool {
+/// Whether a row tells this decision: its value if it is known, or else the two fillings.
+pub fn is_decided<A: Allocator>(decision: &Decision<A>, told: &str) -> bool {
     match decision {
         Decision::Known(value) => told == if *value { "true" } else { "false" },
         Decision::Unknown { if_true, if_false } => {

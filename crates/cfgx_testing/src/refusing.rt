@@ -7,13 +7,23 @@ use std::cell::Cell;
 /// Refuses every growth, as an argument of `Refusing::refuse`.
 pub const EVERY: u64 = u64::MAX;
 
+/// Which growth is refused next, and how many growths there were so far.
+#[derive(Clone, Copy)]
+struct Countdown {
+    // How many growths from here the refused one is, and 0 if none is ahead.
+    ahead: u64,
+    // How many growths were asked for.
+    asked: u64,
+    // How many of them were refused.
+    refused: u64,
+}
+
 /// Asks `inner` for each growth but one, or but all, and frees by it. A growth is any block that is
 /// wanted, a first one or one to move to, by whoever holds a `&`.
 #[derive(Drop)]
 pub struct Refusing<B: Allocator> {
     inner: B,
-    // How many growths from here the refused one is, and 0 if none is ahead.
-    countdown: Cell<u64>,
+    countdown: Cell<Countdown>,
 }
 
 impl<B: Allocator> Refusing<B> {
@@ -21,14 +31,20 @@ impl<B: Allocator> Refusing<B> {
     pub fn new(inner: B) -> Refusing<B> {
         Refusing {
             inner,
-            countdown: Cell::new(0),
+            countdown: Cell::new(Countdown {
+                ahead: 0,
+                asked: 0,
+                refused: 0,
+            }),
         }
     }
 
     /// Sets the countdown: the `n`-th growth from now on is refused, 1 being the next one, and
     /// those before and after it are let through. With 0 all are, and with `EVERY` none is.
     pub fn refuse(&self, n: u64) {
-        self.countdown.set(n);
+        let mut countdown = self.countdown.get();
+        countdown.ahead = n;
+        self.countdown.set(countdown);
     }
 
     /// The inner allocator.
@@ -40,21 +56,39 @@ impl<B: Allocator> Refusing<B> {
 
     /// Whether no refusal lies ahead.
     pub fn has_refused(&self) -> bool {
-        self.countdown.get() == 0
+        self.countdown.get().ahead == 0
+    }
+
+    /// How many growths were asked for since it was made, refused ones among them.
+    pub fn asked_growths(&self) -> u64 {
+        self.countdown.get().asked
+    }
+
+    /// How many growths were refused since it was made.
+    pub fn refused_growths(&self) -> u64 {
+        self.countdown.get().refused
     }
 }
 
 // Takes one growth off the countdown. True if that ends it, or if every growth is refused, which no
 // clause can say: a cell's number is no part of its value.
-fn ends_countdown(countdown: &Cell<u64>) -> bool {
-    let ahead = countdown.get();
-    if ahead == EVERY {
-        return true;
-    }
-    if ahead > 0 {
-        countdown.set(ahead - 1);
-    }
-    ahead == 1
+fn ends_countdown(countdown: &Cell<Countdown>) -> bool {
+    let Countdown {
+        ahead,
+        asked,
+        refused,
+    } = countdown.get();
+    let is_refused = ahead == 1 || ahead == EVERY;
+    countdown.set(Countdown {
+        ahead: if ahead == EVERY {
+            EVERY
+        } else {
+            ahead.saturating_sub(1)
+        },
+        asked: asked.saturating_add(1),
+        refused: refused.saturating_add(u64::from(is_refused)),
+    });
+    is_refused
 }
 
 unsafe impl<B: Allocator> Allocator for Refusing<B> {

@@ -46,7 +46,7 @@ impl Terms {
     }
 
     /// Writes one byte after the others.
-    fn push(&mut self, byte: u8)
+    pub fn push(&mut self, byte: u8)
         ensures { self.new ≡ cut (self.old ++ byte ∷ []) }
     {
         if self.length < ROOM {

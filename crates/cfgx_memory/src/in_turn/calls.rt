@@ -72,7 +72,8 @@ pub(super) fn answer_to<A: SmallAllocator>(
         "fault" => copies_a_fault(out, alloc, text),
         "row" => copies_from_the_table(alloc),
         "input" => reads(out, alloc, text.as_bytes()),
-        _ => Ok(is_stopped(alloc, text)),
+        "failed" => Ok(is_stopped(alloc, text)),
+        _ => Ok(false),
     }
 }
 

@@ -61,12 +61,15 @@ large | 1 | ~k~5000~
 large | 1 | ~k~100000~
 large | 50000 | any(~a,~50000~)
 large | 1 | ~not(~50000~a~)~50000~
-// To parse a text, its copy takes one growth, and the nodes take another from the second one on.
+// To parse a text, its copy takes one growth, and the nodes take another from the second one on,
+// also in a long text. Only room for more than 2560 nodes is not made at once.
 parsed in 1 | 1 | ~k~1~
 parsed in 1 | 1 | ~k~48~
 parsed in 2 | 1 | not(a)
 parsed in 2 | 3 | all(a, b, c)
 parsed in 2 | 3 | any(~target_os = "a",~3~)
+parsed in 2 | 0 | any(~any(),    ~60~)
+parsed in 3 | 0 | any(~any(),    ~3000~)
 "#;
 
 /// What parsing answers.
@@ -183,7 +186,8 @@ pub(crate) fn called<A: SmallAllocator>(
         "decide_on" => is_decided_on(alloc, condition),
         "audit" => is_audited(alloc, condition),
         "pick" => is_picked(alloc, condition.original()),
-        _ => Ok(true),
+        "parse" | "from_str" => Ok(true),
+        _ => Ok(false),
     }
 }
 
@@ -210,14 +214,14 @@ fn is_true<A: SmallAllocator>(alloc: A, expression: &Expression<A>) -> Finding {
     if count == asked { value } else { Ok(false) }
 }
 
-// Whether the filling has this value, this many times.
-fn are(filling: &[bool], value: bool, count: usize) -> bool {
+// Whether the filling has this value alone, this many times.
+fn repeats(filling: &[bool], value: bool, count: usize) -> bool {
     filling.len() == count && !filling.contains(&!value)
 }
 
 /// Whether the one filling is all true, and the other one all false.
 pub(super) fn are_polar(if_true: &[bool], if_false: &[bool], count: usize) -> bool {
-    are(if_true, true, count) && are(if_false, false, count)
+    repeats(if_true, true, count) && repeats(if_false, false, count)
 }
 
 /// Unknown answers. No text that is evaluated has more predicates.
@@ -257,7 +261,7 @@ fn is_each<A: SmallAllocator>(alloc: A, expression: &Expression<A>) -> Finding {
 
 /// A target that meets no predicate.
 #[derive(Clone, Copy)]
-pub(super) struct Nowhere;
+pub(crate) struct Nowhere;
 
 impl TargetMatcher for Nowhere {
     ghost use Rattle.std.specs.Prelude.{false};
@@ -395,12 +399,14 @@ fn is_kind(alloc: Global, kind: &str, text: &str, plain: &Read) -> bool {
     match kind {
         "parsed in 1" => growths_of(alloc, Call::Parsed("parse", text, plain)) == Some(1),
         "parsed in 2" => growths_of(alloc, Call::Parsed("parse", text, plain)) == Some(2),
+        "parsed in 3" => growths_of(alloc, Call::Parsed("parse", text, plain)) == Some(3),
         "lexed" => growths_of(alloc, Call::Lexed(text)).unwrap_or(0) > 0,
         "large" => is_copied_once(alloc, text, plain),
         "scanned" => are_refused(alloc, "parse from_str", text, plain),
         "read" => is_run(alloc, "parse from_str", text, plain),
         "copied" => is_run(alloc, "parse from_str try_clone", text, plain),
-        _ => is_run(alloc, CALLS, text, plain),
+        "evaluated" => is_run(alloc, CALLS, text, plain),
+        _ => false,
     }
 }
 

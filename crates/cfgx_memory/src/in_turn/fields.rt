@@ -1,5 +1,5 @@
 //! Copies of fields and predicates: only an owned text takes memory, and one growth.
-use super::{Finding, Made, is_copied};
+use super::{Finding, Made, TryClone, gives_copy};
 use cfg_expr::TargetPredicate;
 use cfg_expr::memory::SmallAllocator;
 use cfg_expr::targets::{Abi, Arch, Endian, Env, Family, HasAtomic, Os, Panic, Vendor};
@@ -34,26 +34,27 @@ fn copies_kind<K: Drop, A: SmallAllocator>(alloc: A, text: &str) -> Finding {
     )
 }
 
-// A predicate of this kind, whose field is made so of the text.
+// A predicate of this kind, whose field is made so of the text, or nothing if there is no such kind.
 macro_rules! predicate {
     ($kind:ident $made:ident $text:ident) => {
         match $kind {
-            "abi" => TargetPredicate::Abi(Abi::$made($text)),
-            "arch" => TargetPredicate::Arch(Arch::$made($text)),
-            "vendor" => TargetPredicate::Vendor(Vendor::$made($text)),
-            "os" => TargetPredicate::Os(Os::$made($text)),
-            "family" => TargetPredicate::Family(Family::$made($text)),
-            "env" => TargetPredicate::Env(Env::$made($text)),
-            _ => TargetPredicate::Panic(Panic::$made($text)),
+            "abi" => Some(TargetPredicate::Abi(Abi::$made($text))),
+            "arch" => Some(TargetPredicate::Arch(Arch::$made($text))),
+            "vendor" => Some(TargetPredicate::Vendor(Vendor::$made($text))),
+            "os" => Some(TargetPredicate::Os(Os::$made($text))),
+            "family" => Some(TargetPredicate::Family(Family::$made($text))),
+            "env" => Some(TargetPredicate::Env(Env::$made($text))),
+            "panic" => Some(TargetPredicate::Panic(Panic::$made($text))),
+            _ => None,
         }
     };
 }
 
-fn owned<'a, A: SmallAllocator>(kind: &str, text: String<A>) -> TargetPredicate<'a, A> {
+fn owned<'a, A: SmallAllocator>(kind: &str, text: String<A>) -> Option<TargetPredicate<'a, A>> {
     predicate!(kind new text)
 }
 
-fn borrowed<'a, A: SmallAllocator>(kind: &str, text: &'a str) -> TargetPredicate<'a, A> {
+fn borrowed<'a, A: SmallAllocator>(kind: &str, text: &'a str) -> Option<TargetPredicate<'a, A>> {
     predicate!(kind new_const text)
 }
 
@@ -74,23 +75,35 @@ fn copies_both<'a, A: SmallAllocator>(
 /// Predicates of this kind.
 pub(super) fn copies_predicate<A: SmallAllocator>(alloc: A, kind: &str, text: &str) -> Finding {
     let owned_text = String::from_str(alloc, text)?;
-    copies_both(alloc, borrowed(kind, text), owned(kind, owned_text))
+    match (borrowed(kind, text), owned(kind, owned_text)) {
+        (Some(borrowed), Some(owned)) => copies_both(alloc, borrowed, owned),
+        _ => Ok(false),
+    }
 }
 
-// The predicate of this text.
-fn plain<'a, A: SmallAllocator>(kind: &str) -> TargetPredicate<'a, A> {
-    match kind {
-        "big" => TargetPredicate::Endian(Endian::big),
-        "ptr" => TargetPredicate::HasAtomic(HasAtomic::Pointer),
-        "8" => TargetPredicate::HasAtomic(HasAtomic::IntegerSize(8)),
-        _ => TargetPredicate::PointerWidth(64),
+impl<'a, A: SmallAllocator> TryClone<A> for TargetPredicate<'a, A> {
+    fn copy(&self, alloc: A) -> Made<Self> {
+        self.try_clone(alloc)
+    }
+}
+
+// The predicate of this name.
+fn plain<'a, A: SmallAllocator>(name: &str) -> Option<TargetPredicate<'a, A>> {
+    match name {
+        "big" => Some(TargetPredicate::Endian(Endian::big)),
+        "ptr" => Some(TargetPredicate::HasAtomic(HasAtomic::Pointer)),
+        "8" => Some(TargetPredicate::HasAtomic(HasAtomic::IntegerSize(8))),
+        "64" => Some(TargetPredicate::PointerWidth(64)),
+        _ => None,
     }
 }
 
 /// A predicate without a text.
-pub(super) fn copies_plain<A: SmallAllocator>(alloc: A, kind: &str) -> Finding {
-    let predicate = plain(kind);
-    is_copied(predicate.try_clone(alloc), predicate)
+pub(super) fn copies_plain<A: SmallAllocator>(alloc: A, name: &str) -> Finding {
+    match plain(name) {
+        Some(predicate) => gives_copy(alloc, &predicate),
+        None => Ok(false),
+    }
 }
 
 /// Fields of the kind of this name.
@@ -103,6 +116,7 @@ pub(super) fn copies_field<A: SmallAllocator>(alloc: A, kind: &str, text: &str) 
         "os" => copies_kind::<OsKind, A>(alloc, text),
         "family" => copies_kind::<FamilyKind, A>(alloc, text),
         "env" => copies_kind::<EnvKind, A>(alloc, text),
-        _ => copies_kind::<PanicKind, A>(alloc, text),
+        "panic" => copies_kind::<PanicKind, A>(alloc, text),
+        _ => Ok(false),
     }
 }

@@ -1,12 +1,13 @@
 //! Conditions that one reader reads one after another.
-use super::conditions::{Read, are_same, ask_alike};
+use super::conditions::{Read, are_same, ask_alike, parsed};
 use super::{Finding, all_are};
 use cfg_expr::Expression;
 use cfg_expr::error::Failure;
 use cfg_expr::expr::{Condition, ConditionReader};
 use cfg_expr::memory::SmallAllocator;
+use cfgx_testing::heap::{Heap, empty_heap, has_every_block};
 use cfgx_testing::holding::holds;
-use std::alloc::AllocError;
+use std::alloc::{AllocError, Global};
 
 /// What reading answers.
 type Answer<'c, A> = Result<Condition<'c>, Failure<A>>;
@@ -67,4 +68,68 @@ fn reads_twice<'t, A: SmallAllocator>(
 pub(super) fn is_read<A: SmallAllocator>(alloc: A, text: &str, parsed: &Read) -> Finding {
     let mut reader = ConditionReader::new(alloc);
     reads_twice(&mut reader, text, parsed)
+}
+
+/// Texts that one reader reads one after another, and how many growths each takes. Each `any` of
+/// the long ones has ten bytes.
+pub(super) const READ: &str = r#"
+// The first text makes room for eight nodes, eight predicates of open lists, eight that are asked,
+// and eight open functions. A text that needs more of one grows its room.
+a | 4 | ~not(~7~a~)~7~ | 0 | any(a,b,c,d,e,f,g) | 0 | any(a,b,c,d,e,f,g,h) | 1
+a | 4 | any(~a,~9~) | 3 | any(~a,~9~) | 0
+a | 4 | ~not(~9~a~)~9~ | 2 | ~not(~9~a~)~9~ | 0
+// The nodes of a long text get their room at once, also after a short text or a long one.
+any(~any(),    ~60~) | 5 | a | 0 | any(~any(),    ~60~) | 0
+a | 4 | any(~any(),    ~60~) | 1
+any(~any(),    ~60~) | 5 | any(~any(),    ~600~) | 1
+// A short text after a long one that has one node gets no more room than it needs.
+~k~1000~ | 4 | any(~any(),    ~11~) | 1 | any(~any(),    ~60~) | 1
+// A fault takes a copy of its text.
+a | 4 | key) | 1 | a | 0
+"#;
+
+// Whether the reader answers what parsing the text elsewhere answers, with this many growths.
+fn reads_in<'t, A: SmallAllocator>(
+    out: Global,
+    heap: Heap<'_>,
+    reader: &mut ConditionReader<'t, A>,
+    text: &'t str,
+    growths: u64,
+) -> bool {
+    let wanted = heap.asked_growths().saturating_add(growths);
+    holds(reads(reader, text, &parsed(out, text))) && heap.asked_growths() == wanted
+}
+
+// Whether the reader reads the text of a pair with the growths that the pair tells.
+fn reads_pair<'t, A: SmallAllocator>(
+    out: Global,
+    heap: Heap<'_>,
+    reader: &mut ConditionReader<'t, A>,
+    pair: &'t [String],
+) -> bool {
+    let [text, growths] = pair else {
+        return false;
+    };
+    match growths.parse() {
+        Ok(growths) => reads_in(out, heap, reader, text.as_str(), growths),
+        Err(_) => false,
+    }
+}
+
+// Whether a reader reads each pair of the row so.
+fn reads_pairs<A: SmallAllocator>(out: Global, heap: Heap<'_>, alloc: A, row: &[String]) -> bool {
+    let mut reader = ConditionReader::new(alloc);
+    for pair in row.chunks(2) {
+        if !reads_pair(out, heap, &mut reader, pair) {
+            return false;
+        }
+    }
+    !row.is_empty()
+}
+
+/// Whether the row is what it says, and every block is given back.
+pub(super) fn is_row(alloc: Global, row: &[String]) -> bool {
+    let heap = empty_heap(alloc);
+    let is_read = reads_pairs(alloc, &heap, &heap, row);
+    is_read && has_every_block(heap)
 }

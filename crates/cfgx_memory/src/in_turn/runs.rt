@@ -95,7 +95,15 @@ pick alike | 0 | ~n~20~\tall(a, b, c, d, e, not(any(not(f))), windows)\n\
  | ~n~20~\tall(a, b, c, d, e, not(any(not(f))), windows)\n\
 b\tall(a, b, c, d, e, not(any(not(f))), windows)\nc\twindows\n\
  | ~n~20~\tno\nb\tno\nc\tno\n
-// With no memory at all, the status of wrong use is the same.
+// Unknown sections one behind the other are decided in the memory of the first. Its name has 400
+// bytes, so the block of the output has 400 and then 800, and all lines write fewer.
+pick alike | 0 | ~n~400~\tany(a, not(a))\n\
+ | ~n~400~\tunknown\n\ttrue with 01\n\tfalse with 10\n\
+ | ~n~400~\tany(a, not(a))\nb\tall(c, d)\nc\tnot(test)\nd\tall(unix, e)\nf\tany(g, windows)\n\
+ | ~n~400~\tunknown\n\ttrue with 01\n\tfalse with 10\n\
+b\tunknown\n\ttrue with 11\n\tfalse with 00\nc\tunknown\n\ttrue with 0\n\tfalse with 1\n\
+d\tunknown\n\ttrue with 11\n\tfalse with 10\nf\tunknown\n\ttrue with 10\n\tfalse with 00\n
+// Wrong use takes no memory. With none at all, its status is the same.
 without | 2
 without | 2 | parse
 without | 2 | eval
@@ -107,14 +115,16 @@ without | 3 | eval | a
 without | 3 | target | nowhere | )
 "#;
 
-// Whether a run with no memory at all ends with this status: that of wrong use, which writes the
-// usage, or that of want of memory.
+// Whether a run with no memory at all ends with this status: that of wrong use, which asks for no
+// growth and writes the usage, or that of want of memory.
 fn is_without(alloc: Global, words: &[&str], status: u8) -> bool {
     let heap = empty_heap(alloc);
     heap.refuse(EVERY);
-    let is_ended = match is_run(alloc, &heap, words, &("", 2, USAGE.as_bytes())) {
-        Ok(is_misused) => is_misused && status == 2,
-        Err(AllocError) => status == 3,
+    let ended = is_run(alloc, &heap, words, &("", 2, USAGE.as_bytes()));
+    let has_asked = heap.asked_growths() > 0;
+    let is_ended = match ended {
+        Ok(is_misused) => is_misused && status == 2 && !has_asked,
+        Err(AllocError) => status == 3 && has_asked,
     };
     is_ended && has_every_block(heap)
 }

@@ -1,24 +1,48 @@
 //! Lists, faults and rows, which are made and copied.
-use super::{Finding, Made, is_copied};
+use super::{Finding, Made, TryClone, all_are, gives_copy};
 use cfg_expr::error::HasAtomicParseError as NoWidth;
 use cfg_expr::memory::SmallAllocator;
 use cfg_expr::targets::{
     Families, Family, HasAtomic, HasAtomicFailure, HasAtomics, TargetInfo, TargetTable,
 };
 use cfgx_fields::Field;
-use cfgx_testing::holding::{gives, prints, push, put};
+use cfgx_testing::holding::{prints, push, put};
 use std::alloc::{AllocError, Global};
 use std::fmt::Display;
 
-// Whether this is a copy of the value, and both print this.
-fn is_given<T: PartialEq + Display + Drop>(
+impl<'a, A: SmallAllocator> TryClone<A> for Families<'a, A> {
+    fn copy(&self, alloc: A) -> Made<Self> {
+        self.try_clone(alloc)
+    }
+}
+
+impl<A: SmallAllocator> TryClone<A> for HasAtomics<A> {
+    fn copy(&self, alloc: A) -> Made<Self> {
+        self.try_clone(alloc)
+    }
+}
+
+impl<A: SmallAllocator> TryClone<A> for NoWidth<A> {
+    fn copy(&self, alloc: A) -> Made<Self> {
+        self.try_clone(alloc)
+    }
+}
+
+impl<'a, A: SmallAllocator> TryClone<A> for TargetInfo<'a, A> {
+    fn copy(&self, alloc: A) -> Made<Self> {
+        self.try_clone(alloc)
+    }
+}
+
+// Whether the value gives its copy, and prints this afterwards, also out of memory.
+fn gives_printed_copy<T: TryClone<A> + Display, A: SmallAllocator>(
     out: Global,
-    copy: Made<T>,
-    value: T,
+    alloc: A,
+    value: &T,
     text: &str,
 ) -> Finding {
-    let copy = copy?;
-    Ok(copy == value && prints(out, &copy, text) && prints(out, &value, text))
+    let is_copied = gives_copy(alloc, value);
+    all_are(&[Ok(prints(out, value, text)), is_copied])
 }
 
 /// Two widths in their order.
@@ -41,8 +65,7 @@ fn widths<A: SmallAllocator>(alloc: A, end: u16) -> Made<HasAtomics<A>> {
 fn copies_many_widths<A: SmallAllocator>(alloc: A) -> Finding {
     let list = widths(alloc, 10_000)?;
     let is_long = list.as_slice().len() == 10_000;
-    let is_copied = is_copied(list.try_clone(alloc), list);
-    if is_long { is_copied } else { Ok(false) }
+    all_are(&[Ok(is_long), gives_copy(alloc, &list)])
 }
 
 // A field that owns this text.
@@ -73,30 +96,33 @@ fn families<'a, A: SmallAllocator + 'a>(alloc: A, names: &str) -> Made<Families<
 fn copies_many_families<A: SmallAllocator>(alloc: A, names: &str) -> Finding {
     let list = families(alloc, names)?;
     let is_long = list.as_slice().len() == 10_000;
-    let is_copied = is_copied(list.try_clone(alloc), list);
-    if is_long { is_copied } else { Ok(false) }
+    all_are(&[Ok(is_long), gives_copy(alloc, &list)])
 }
 
 /// A list of 10,000 members, and its copy.
 pub(super) fn copies_many<A: SmallAllocator>(alloc: A, name: &str, text: &str) -> Finding {
     match name {
         "families" => copies_many_families(alloc, text),
-        _ => copies_many_widths(alloc),
+        "widths" => copies_many_widths(alloc),
+        _ => Ok(false),
     }
 }
 
-/// The fault of a text that is no width.
-pub(crate) fn no_width<A: SmallAllocator>(alloc: A) -> Made<NoWidth<A>> {
-    match HasAtomic::read(alloc, "PTR") {
-        Err(HasAtomicFailure::Parse(error)) => Ok(error),
-        _ => Err(AllocError),
+/// The fault of a text that names no width, or nothing if it is read as one.
+pub(crate) fn no_width<A: SmallAllocator>(alloc: A, text: &str) -> Made<Option<NoWidth<A>>> {
+    match HasAtomic::read(alloc, text) {
+        Err(HasAtomicFailure::Parse(fault)) => Ok(Some(fault)),
+        Err(HasAtomicFailure::Memory(error)) => Err(error),
+        Ok(_width) => Ok(None),
     }
 }
 
-/// That fault, which prints this.
+/// The fault of `PTR`, which prints this.
 pub(super) fn copies_a_fault<A: SmallAllocator>(out: Global, alloc: A, text: &str) -> Finding {
-    let fault = no_width(alloc)?;
-    is_given(out, fault.try_clone(alloc), fault, text)
+    match no_width(alloc, "PTR")? {
+        Some(fault) => gives_printed_copy(out, alloc, &fault, text),
+        None => Ok(false),
+    }
 }
 
 /// What that fault prints.
@@ -144,7 +170,7 @@ fn own_all<'a, A: SmallAllocator + 'a>(alloc: A, row: &mut TargetInfo<'a, A>) ->
 // Whether the row, once it owns all, is equal to its copy.
 fn copies_owned<'a, A: SmallAllocator + 'a>(alloc: A, row: &mut TargetInfo<'a, A>) -> Finding {
     own_all(alloc, row)?;
-    gives(row.try_clone(alloc), row)
+    gives_copy(alloc, row)
 }
 
 // Whether the copy is equal to the value, and then passes the check. The type is not known here,
@@ -161,9 +187,11 @@ where
     if is_equal { is_right } else { Ok(false) }
 }
 
-// Whether the row is equal to its copy, and the copy, once it owns all, to its own.
+// Whether the row gives its copy, and the copy, once it owns all, its own.
 fn copies_a_row<'a, A: SmallAllocator + 'a>(alloc: A, row: &TargetInfo<'a, A>) -> Finding {
-    is_checked(row, row.try_clone(alloc), |copy| copies_owned(alloc, copy))
+    let is_copied = gives_copy(alloc, row);
+    let is_owned = is_checked(row, row.try_clone(alloc), |copy| copies_owned(alloc, copy));
+    all_are(&[is_copied, is_owned])
 }
 
 // Whether the first of five rows is.
@@ -180,14 +208,30 @@ pub(super) fn copies_from_the_table<A: SmallAllocator>(alloc: A) -> Finding {
     copies_the_first(alloc, table.rows())
 }
 
-// A list of this name.
-fn named<'a, A: SmallAllocator + 'a>(alloc: A, name: &str) -> Made<Families<'a, A>> {
+// A list of this name, or nothing if there is no such list.
+fn named<'a, A: SmallAllocator + 'a>(alloc: A, name: &str) -> Option<Made<Families<'a, A>>> {
     match name {
-        "unix" => Families::unix(alloc),
-        "unix and wasm" => Families::unix_wasm(alloc),
-        "wasm" => Families::wasm(alloc),
-        "windows" => Families::windows(alloc),
-        _ => families(alloc, "wasm unix b "),
+        "unix" => Some(Families::unix(alloc)),
+        "unix and wasm" => Some(Families::unix_wasm(alloc)),
+        "wasm" => Some(Families::wasm(alloc)),
+        "windows" => Some(Families::windows(alloc)),
+        "four" => Some(families(alloc, "wasm unix b ")),
+        _ => None,
+    }
+}
+
+// Whether the value, if it was made, gives its copy and prints this. Its type is not known here,
+// which makes its drop short to prove.
+fn copies_printed<T: TryClone<A> + Display, A: SmallAllocator>(
+    out: Global,
+    alloc: A,
+    made: Option<Made<T>>,
+    text: &str,
+) -> Finding {
+    match made {
+        Some(Ok(value)) => gives_printed_copy(out, alloc, &value, text),
+        Some(Err(error)) => Err(error),
+        None => Ok(false),
     }
 }
 
@@ -198,8 +242,19 @@ pub(super) fn copies_families<A: SmallAllocator>(
     name: &str,
     text: &str,
 ) -> Finding {
-    let list = named(alloc, name)?;
-    is_given(out, list.try_clone(alloc), list, text)
+    copies_printed(out, alloc, named(alloc, name), text)
+}
+
+// A list of widths of this name, or nothing if there is no such list.
+fn named_widths<A: SmallAllocator>(alloc: A, name: &str) -> Option<Made<HasAtomics<A>>> {
+    match name {
+        "128" => Some(HasAtomics::atomic_8_16_32_64_128_ptr(alloc)),
+        "64" => Some(HasAtomics::atomic_8_16_32_64_ptr(alloc)),
+        "32" => Some(HasAtomics::atomic_8_16_32_ptr(alloc)),
+        "borrowed" => Some(Ok(HasAtomics::new_const(SORTED))),
+        "two" => Some(list_of(alloc, UNSORTED)),
+        _ => None,
+    }
 }
 
 /// A list of widths of this name, which prints this.
@@ -209,13 +264,5 @@ pub(super) fn copies_widths<A: SmallAllocator>(
     name: &str,
     text: &str,
 ) -> Finding {
-    let made = match name {
-        "128" => HasAtomics::atomic_8_16_32_64_128_ptr(alloc),
-        "64" => HasAtomics::atomic_8_16_32_64_ptr(alloc),
-        "32" => HasAtomics::atomic_8_16_32_ptr(alloc),
-        "borrowed" => Ok(HasAtomics::new_const(SORTED)),
-        _ => list_of(alloc, UNSORTED),
-    };
-    let list = made?;
-    is_given(out, list.try_clone(alloc), list, text)
+    copies_printed(out, alloc, named_widths(alloc, name), text)
 }

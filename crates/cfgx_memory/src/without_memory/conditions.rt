@@ -3,7 +3,7 @@
 //! A function takes the heap that it has refuse, and as any allocator what it calls with. Both are
 //! the same, but a function of any allocator is shorter to prove than one of this heap.
 use super::targets::builtins;
-use crate::in_turn::conditions::{Read, ask_alike, called, parsed};
+use crate::in_turn::conditions::{Nowhere, Read, ask_alike, called, parsed};
 use crate::in_turn::reading::reads;
 use crate::in_turn::{Made, is_none};
 use cfg_expr::expr::logic::Kleene64;
@@ -11,9 +11,11 @@ use cfg_expr::expr::{ConditionReader, Logic, Predicates, spell};
 use cfg_expr::memory::SmallAllocator;
 use cfg_expr::targets::{TargetInfo, TargetTable};
 use cfg_expr::{Expression, Predicate, TargetPredicate};
+use cfgx_engine::resolve::audit;
 use cfgx_testing::heap::Heap;
 use cfgx_testing::holding::{holds, prints};
 use cfgx_testing::refusing::EVERY;
+use cfgx_testing::triples::SIM;
 use std::alloc::Global;
 
 /// What parsing the text answers with memory. Every growth after it is refused.
@@ -39,7 +41,7 @@ fn is_equal<A: SmallAllocator>(
     }
 }
 
-// Whether it is so to that of `TEXT`.
+// Whether the expression is equal to that of `TEXT`, and its predicates, as is wanted.
 fn compares<A: SmallAllocator>(
     heap: Heap<'_>,
     alloc: A,
@@ -75,7 +77,7 @@ fn reads_again<'t, A: SmallAllocator>(
     is_read && is_read_by(out, reader, text) && is_read_by(out, reader, LONG)
 }
 
-// Whether a reader does.
+// Whether a reader does so.
 fn is_read_again<A: SmallAllocator>(out: Global, heap: Heap<'_>, alloc: A, text: &str) -> bool {
     let mut reader = ConditionReader::new(alloc);
     reads_again(out, heap, &mut reader, text)
@@ -108,40 +110,54 @@ fn are_spelled(out: Global, mut asked: Predicates<'_>, left: &[usize], told: &st
     spells(&mut asked, left, &mut bytes) && bytes.as_slice() == told.as_bytes()
 }
 
-// Whether the predicate is true of the fourth of five rows alone, one by one and in lanes.
-fn is_of_the_fourth<A: SmallAllocator>(
+// The answer in a lane, if there is that lane.
+fn lane_of(lanes: Kleene64, place: usize) -> Option<bool> {
+    if place < 64 { lanes.lane(place) } else { None }
+}
+
+// Whether the predicate is true of the simulator's row alone, one by one and in lanes.
+fn is_of_simulator<A: SmallAllocator>(
     target: &TargetPredicate<'_>,
     rows: &[TargetInfo<'_, A>],
 ) -> bool {
+    let lanes = target.lanes(rows);
     for (place, row) in rows.iter().enumerate() {
-        if target.matches(row) != (place == 3) {
+        let is_simulator = row.triple.as_str() == SIM;
+        if target.matches(row) != is_simulator || lane_of(lanes, place) != Some(is_simulator) {
             return false;
         }
     }
-    rows.len() == 5 && target.lanes(rows) == Kleene64::new(0b01000, 0b10111)
+    rows.len() == 5 && (lanes.is_true() | lanes.is_false()) == 0b11111
 }
 
-// Whether this is such a predicate.
-fn is_such<A: SmallAllocator>(asked: Option<Predicate<'_>>, rows: &[TargetInfo<'_, A>]) -> bool {
-    let is_such = match &asked {
-        Some(Predicate::Target(target)) => is_of_the_fourth(target, rows),
+// Whether this is a predicate that is true of the simulator's row alone.
+fn asks_for_simulator<A: SmallAllocator>(
+    asked: Option<Predicate<'_>>,
+    rows: &[TargetInfo<'_, A>],
+) -> bool {
+    let is_of_simulator = match &asked {
+        Some(Predicate::Target(target)) => is_of_simulator(target, rows),
         _ => false,
     };
     drop(asked);
-    is_such
+    is_of_simulator
 }
 
-// Whether the first predicate is such, of the rows of the table.
-fn is_asked<A: SmallAllocator>(asked: &Expression<A>, table: &Made<TargetTable<'_, A>>) -> bool {
+// Whether the first predicate is true of the simulator's row of the table alone.
+fn asks_first_for_simulator<A: SmallAllocator>(
+    asked: &Expression<A>,
+    table: &Made<TargetTable<'_, A>>,
+) -> bool {
     match table {
-        Ok(table) => is_such(asked.predicates().next(), table.rows()),
+        Ok(table) => asks_for_simulator(asked.predicates().next(), table.rows()),
         Err(_) => false,
     }
 }
 
-// Whether the first predicate is true of the fourth of the rows that are built in, and of no other.
-fn is_asked_of<A: SmallAllocator>(heap: Heap<'_>, alloc: A, asked: &Expression<A>) -> bool {
-    is_asked(asked, &builtins(heap, alloc))
+// Whether `audit` on no target gives no verdict.
+fn audits_no_target<A: SmallAllocator>(alloc: A, condition: &Expression<A>) -> bool {
+    let targets: &[Nowhere] = &[];
+    matches!(audit(alloc, condition, targets), Ok(verdicts) if verdicts.is_empty())
 }
 
 const TEXT: &str = "all(a, any(b), feature = \"a feature with a long name\")";
@@ -157,7 +173,8 @@ other predicates | all(a, any(b), c)
 read again | a
 read again | cfg(all(any(a, b), not(key = "v")))
 read again | any()
-of the fourth | target_abi = "sim"
+simulator alone | target_abi = "sim"
+no target | all(unix, a)
 spelling | target_has_atomic = "+00128"
 eval | any(a,a,a,a,a,a,a,a,a,a,a,a,a,a)
 eval | not(not(not(not(not(not(a))))))
@@ -189,8 +206,10 @@ fn answers<A: SmallAllocator>(
         "equal" => compares(heap, alloc, asked, (true, true)),
         "one comma more" => compares(heap, alloc, asked, (false, true)),
         "other predicates" => compares(heap, alloc, asked, (false, false)),
-        "of the fourth" => is_asked_of(heap, alloc, asked),
-        call => holds(called(alloc, call, asked)),
+        "simulator alone" => asks_first_for_simulator(asked, &builtins(heap, alloc)),
+        "no target" => audits_no_target(alloc, asked),
+        "eval" | "eval_lanes" => holds(called(alloc, check, asked)),
+        _ => false,
     }
 }
 

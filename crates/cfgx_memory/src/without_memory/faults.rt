@@ -3,18 +3,17 @@ use super::conditions::read;
 use crate::in_turn::Made;
 use crate::in_turn::conditions::{Item, Read};
 use crate::in_turn::targets::{NO_WIDTH, no_width};
-use cfg_expr::error::{Failure, ParseError, Reason};
+use cfg_expr::error::{Failure, HasAtomicParseError as NoWidth, ParseError, Reason};
 use cfg_expr::expr::lexer::{Lexer, LexerToken, Token};
 use cfg_expr::memory::SmallAllocator;
 use cfgx_testing::heap::Heap;
 use cfgx_testing::holding::prints;
 use cfgx_testing::refusing::EVERY;
 use std::alloc::{Allocator, Global};
-use std::fmt::Display;
 use std::ops::Range;
 
 // Whether the item and its copy are this token at this place.
-fn are_items(item: &LexerToken<'_>, token: Token<'_>, span: &Range<usize>) -> bool {
+fn is_token_at(item: &LexerToken<'_>, token: Token<'_>, span: &Range<usize>) -> bool {
     let is_item = item.token == token && item.span == *span;
     is_item && matches!(item.clone(), Ok(copy) if copy.token == token && copy.span == *span)
 }
@@ -22,7 +21,7 @@ fn are_items(item: &LexerToken<'_>, token: Token<'_>, span: &Range<usize>) -> bo
 // Whether this is such an item.
 fn is_item<A: Allocator>(item: &Item<'_, A>, token: Token<'_>, span: &Range<usize>) -> bool {
     match item {
-        Some(Ok(item)) => are_items(item, token, span),
+        Some(Ok(item)) => is_token_at(item, token, span),
         _ => false,
     }
 }
@@ -46,15 +45,10 @@ fn gives_items<A: Allocator>(lexer: &mut Lexer<'_, A>) -> bool {
         && gives(lexer, Token::Value("v"), 6..9, 2)
 }
 
-fn is_lexed<A: Allocator>(alloc: A) -> bool {
+/// Whether a lexer gives the tokens of its text, and these are copied as they are.
+pub(super) fn gives_tokens<A: Allocator>(alloc: A) -> bool {
     let mut lexer = Lexer::new(alloc, "cfg(key = \"v\" 8)");
     gives_items(&mut lexer)
-}
-
-/// Whether tokens are given, copied and compared as they have to be.
-pub(super) fn are_given<A: Allocator>(heap: Heap<'_>, alloc: A) -> bool {
-    heap.refuse(EVERY);
-    is_lexed(alloc) && Token::Key("a") == Token::Key("a") && Token::Any != Token::All
 }
 
 /// A text, its fault's description, and what that prints.
@@ -125,18 +119,39 @@ pub(super) fn is_row<A: SmallAllocator>(
     is_right(out, heap, alloc, row, &read(heap, alloc, text.as_str()))
 }
 
-// Whether the value prints this, if it was made.
-fn is_printed<T: Display>(out: Global, made: &Made<T>, text: &str) -> bool {
-    match made {
-        Ok(value) => prints(out, value, text),
-        Err(_) => false,
-    }
+/// The fault of a text that names no width, or nothing if it was read.
+type Fault<A> = Made<Option<NoWidth<A>>>;
+
+// The fault of this text, which is made with memory. Every growth after it is refused.
+fn fault_of<A: SmallAllocator>(heap: Heap<'_>, alloc: A, text: &str) -> Fault<A> {
+    heap.refuse(0);
+    let fault = no_width(alloc, text);
+    heap.refuse(EVERY);
+    fault
 }
 
 /// Whether the fault of a text that is no width prints what it has to.
 pub(super) fn prints_no_width<A: SmallAllocator>(out: Global, heap: Heap<'_>, alloc: A) -> bool {
-    heap.refuse(0);
-    let error = no_width(alloc);
-    heap.refuse(EVERY);
-    is_printed(out, &error, NO_WIDTH)
+    match &fault_of(heap, alloc, "PTR") {
+        Ok(Some(fault)) => prints(out, fault, NO_WIDTH),
+        _ => false,
+    }
+}
+
+// Whether both texts are faulty, and their faults equal.
+fn are_equal_faults<A: SmallAllocator>(one: &Fault<A>, other: &Fault<A>) -> bool {
+    match (one, other) {
+        (Ok(Some(one)), Ok(Some(other))) => one == other,
+        _ => false,
+    }
+}
+
+/// Whether faults of texts that are no width are equal if the texts are.
+pub(super) fn compares_no_widths<A: SmallAllocator>(heap: Heap<'_>, alloc: A) -> bool {
+    let one = fault_of(heap, alloc, "PTR");
+    let same = fault_of(heap, alloc, "PTR");
+    let other = fault_of(heap, alloc, "65536");
+    are_equal_faults(&one, &same)
+        & matches!(&other, Ok(Some(_fault)))
+        & !are_equal_faults(&one, &other)
 }

@@ -1,21 +1,20 @@
-//! Byte orders, widths, lists, rows and tables.
-use super::conditions::is_named_logic;
-use super::faults::{are_given, prints_no_width};
-use super::{are_made, are_ordered};
+//! Lists, rows and tables.
+use super::values::EIGHT;
+use super::{are_made_in_order, are_ordered};
 use crate::in_turn::Made;
+use crate::in_turn::conditions::Nowhere;
 use crate::in_turn::targets::{SORTED, UNSORTED, list_of};
 use cfg_expr::memory::SmallAllocator;
 use cfg_expr::targets::{
-    Endian, Families, Family, HasAtomic, HasAtomics, TargetInfo, TargetTable,
-    get_builtin_target_by_triple,
+    Families, Family, HasAtomic, HasAtomics, TargetInfo, TargetTable, get_builtin_target_by_triple,
 };
+use cfgx_engine::resolve::{Section, pick};
+use cfgx_targets::list::{Member, SortedList};
 use cfgx_testing::heap::Heap;
 use cfgx_testing::holding::{gives, holds, prints, push};
 use cfgx_testing::refusing::EVERY;
 use cfgx_testing::triples::{DARWIN, TVOS};
 use std::alloc::{AllocError, Global};
-
-const EIGHT: HasAtomic = HasAtomic::IntegerSize(8);
 
 const POINTER: &[HasAtomic] = &[HasAtomic::Pointer];
 
@@ -49,17 +48,11 @@ fn are_widths<A: SmallAllocator>(heap: Heap<'_>, alloc: A) -> bool {
     let same = list_of(alloc, UNSORTED);
     let above = Ok(HasAtomics::new_const(POINTER));
     heap.refuse(EVERY);
-    are_made(&list, &same, &above)
-}
-
-// Whether the text is read as this width.
-fn is_read<A: SmallAllocator>(heap: Heap<'_>, alloc: A, text: &str, width: HasAtomic) -> bool {
-    heap.refuse(EVERY);
-    holds(gives(HasAtomic::read(alloc, text), &width))
+    are_made_in_order(&list, &same, &above)
 }
 
 // Whether the list has the family of this name, which is dropped by name.
-fn has<A: SmallAllocator>(list: &Families<'_, A>, name: &str) -> bool {
+fn contains_named<A: SmallAllocator>(list: &Families<'_, A>, name: &str) -> bool {
     let family: Family<'_> = match name {
         "unix" => Family::unix(),
         "wasm" => Family::wasm(),
@@ -86,9 +79,9 @@ fn are_two_families<A: SmallAllocator>(
         Ok(list) => {
             list.as_slice().len() == 2
                 && is_borrowed(alloc, list)
-                && has(list, "unix")
-                && has(list, "wasm")
-                && !has(list, "windows")
+                && contains_named(list, "unix")
+                && contains_named(list, "wasm")
+                && !contains_named(list, "windows")
                 && prints(out, list, "{unix, wasm}")
         }
         Err(_) => false,
@@ -109,13 +102,30 @@ fn are_families<A: SmallAllocator>(heap: Heap<'_>, alloc: A) -> bool {
     let same = Families::unix_wasm(alloc);
     let above = Families::wasm(alloc);
     heap.refuse(EVERY);
-    are_made(&list, &same, &above)
+    are_made_in_order(&list, &same, &above)
 }
 
-// Whether a list of no families is empty.
-fn is_empty() -> bool {
+// Whether a list that borrows no families has none.
+fn borrows_no_families() -> bool {
     let list: Families<'_> = Families::new_const(&[]);
     list.as_slice().is_empty()
+}
+
+// Whether the list has no members, if it was made.
+fn is_empty<T: Member, A: SmallAllocator>(list: &Made<SortedList<'_, T, A>>) -> bool {
+    matches!(list, Ok(list) if list.as_slice().is_empty())
+}
+
+// Whether a list of no families takes no memory.
+fn makes_no_families<A: SmallAllocator>(alloc: A) -> bool {
+    let none: Vec<Family<'_, A>, A> = Vec::new(alloc);
+    is_empty(&Families::new(alloc, none.into_iter()))
+}
+
+// Whether `pick` of no sections gives no verdict.
+fn picks_of_no_sections<A: SmallAllocator>(alloc: A) -> bool {
+    let sections: Vec<Section<A>, A> = Vec::new(alloc);
+    matches!(pick(alloc, sections.as_slice(), &Nowhere), Ok(verdicts) if verdicts.is_empty())
 }
 
 fn are_sorted(families: [Family<'_>; 2]) -> bool {
@@ -225,56 +235,47 @@ fn has_builtins<A: SmallAllocator>(heap: Heap<'_>, alloc: A) -> bool {
 
 /// What is checked.
 pub(super) const CHECKS: &str = r#"
-widths
-orders
-sorted
-unsorted
+rising families
+falling families
 list of widths
 lists of widths
-a number
-ptr
+list of no widths
 list of families
 lists of families
-no families
+list of no families
+borrowed list of no families
 a table
 no table
 equal rows
 built in
-no width
-tokens
-bool
-option
-lanes
+no sections
 "#;
 
 // Whether the check of rows of this name holds.
-fn is_named<A: SmallAllocator>(heap: Heap<'_>, alloc: A, name: &str) -> bool {
+fn is_right_of_rows<A: SmallAllocator>(heap: Heap<'_>, alloc: A, name: &str) -> bool {
     match name {
         "a table" => are_refused(heap, alloc, &[0, 2, 4], None, false),
         "no table" => are_refused(heap, alloc, &[0, 2, 2], Some(2), false),
         "equal rows" => are_refused(heap, alloc, &[1, 1, 2], Some(1), true),
         "built in" => has_builtins(heap, alloc),
-        "tokens" => are_given(heap, alloc),
-        name => is_named_logic(name),
+        "no sections" => picks_of_no_sections(alloc),
+        _ => false,
     }
 }
 
 // Whether the check of this name holds, with every growth refused.
 fn is_right<A: SmallAllocator>(out: Global, heap: Heap<'_>, alloc: A, name: &str) -> bool {
     match name {
-        "widths" => are_ordered(&EIGHT, &EIGHT, &HasAtomic::Pointer),
-        "orders" => are_ordered(&Endian::big, &Endian::big, &Endian::little),
-        "sorted" => is_rising_sorted(),
-        "unsorted" => !is_falling_sorted(),
+        "rising families" => is_rising_sorted(),
+        "falling families" => !is_falling_sorted(),
         "list of widths" => is_list_of_widths(out, heap, alloc),
         "lists of widths" => are_widths(heap, alloc),
-        "a number" => is_read(heap, alloc, "+08", EIGHT),
-        "ptr" => is_read(heap, alloc, "ptr", HasAtomic::Pointer),
+        "list of no widths" => is_empty(&list_of(alloc, &[])),
         "list of families" => is_list_of_families(out, heap, alloc),
         "lists of families" => are_families(heap, alloc),
-        "no families" => is_empty(),
-        "no width" => prints_no_width(out, heap, alloc),
-        name => is_named(heap, alloc, name),
+        "list of no families" => makes_no_families(alloc),
+        "borrowed list of no families" => borrows_no_families(),
+        name => is_right_of_rows(heap, alloc, name),
     }
 }
 
@@ -285,8 +286,9 @@ pub(super) fn is_row<A: SmallAllocator>(
     alloc: A,
     row: &[String],
 ) -> bool {
-    match row {
-        [name] => is_right(out, heap, alloc, name.as_str()),
-        _ => false,
-    }
+    let [name] = row else {
+        return false;
+    };
+    heap.refuse(EVERY);
+    is_right(out, heap, alloc, name.as_str())
 }

@@ -1,0 +1,96 @@
+//! The example of the README of `cfg-expr`, on three rows that are written by hand: what is not
+//! asked of the target is true.
+use cfg_expr::targets::{
+    Abi, Arch, Endian, Env, Families, HasAtomic, HasAtomics, Os, Panic, TargetInfo, Triple, Vendor,
+};
+use cfg_expr::{Expression, Predicate};
+use cfgx_testing::triples::DARWIN;
+use std::alloc::{AllocError, Global};
+
+/// The condition.
+const CONDITION: &str = "all(target_os = \"windows\", target_arch = \"x86\", windows, \
+    target_env = \"msvc\", target_feature = \"fxsr\", target_feature = \"sse\", \
+    target_feature = \"sse2\", target_pointer_width = \"32\", target_endian = \"little\", \
+    not(target_vendor = \"uwp\"), feature = \"cool_thing\",)";
+
+const WIDTHS: &[HasAtomic] = &[
+    HasAtomic::IntegerSize(8),
+    HasAtomic::IntegerSize(16),
+    HasAtomic::IntegerSize(32),
+    HasAtomic::IntegerSize(64),
+    HasAtomic::Pointer,
+];
+
+// Windows of this vendor, for x86.
+fn windows(
+    alloc: Global,
+    triple: &'static str,
+    vendor: &'static str,
+) -> Result<TargetInfo<'static>, AllocError> {
+    let families = Families::windows(alloc)?;
+    Ok(TargetInfo {
+        triple: Triple::new_const(triple),
+        os: Some(Os::new_const("windows")),
+        abi: Some(Abi::new_const("")),
+        arch: Arch::new_const("x86"),
+        env: Some(Env::new_const("msvc")),
+        vendor: Some(Vendor::new_const(vendor)),
+        families,
+        pointer_width: 32,
+        endian: Endian::little,
+        has_atomics: HasAtomics::new_const(WIDTHS),
+        panic: Panic::new_const("unwind"),
+    })
+}
+
+// The row of macOS.
+fn darwin(alloc: Global) -> Result<TargetInfo<'static>, AllocError> {
+    let families = Families::unix(alloc)?;
+    let has_atomics = HasAtomics::atomic_8_16_32_64_128_ptr(alloc)?;
+    Ok(TargetInfo {
+        triple: Triple::new_const(DARWIN),
+        os: Some(Os::new_const("macos")),
+        abi: None,
+        arch: Arch::new_const("aarch64"),
+        env: None,
+        vendor: Some(Vendor::new_const("apple")),
+        families,
+        pointer_width: 64,
+        endian: Endian::little,
+        has_atomics,
+        panic: Panic::new_const("unwind"),
+    })
+}
+
+// The value of the condition on the row, if what is not asked of it is true.
+fn value_on(
+    alloc: Global,
+    condition: &Expression,
+    row: &TargetInfo<'_>,
+) -> Result<bool, AllocError> {
+    condition.eval(
+        alloc,
+        &mut |predicate: &Predicate<'_>| match predicate {
+            Predicate::Target(target) => target.matches(row),
+            _ => true,
+        },
+    )
+}
+
+// The value of the text on the row. An expression is owned where its type is named.
+fn value_of_text(alloc: Global, row: Result<TargetInfo<'_>, AllocError>) -> Option<bool> {
+    match (Expression::parse(alloc, CONDITION), &row) {
+        (Ok(condition), Ok(row)) => value_on(alloc, &condition, row).ok(),
+        _ => None,
+    }
+}
+
+#[test]
+fn a_condition_on_windows_has_its_value(rt: HostRuntime) {
+    let alloc = rt.alloc();
+    let pc = windows(alloc, "i686-pc-windows-msvc", "pc");
+    assert!(rt; value_of_text(alloc, pc) == Some(true));
+    let uwp = windows(alloc, "i686-uwp-windows-msvc", "uwp");
+    assert!(rt; value_of_text(alloc, uwp) == Some(false));
+    assert!(rt; value_of_text(alloc, darwin(alloc)) == Some(false));
+}
