@@ -12,4 +12,6 @@ pub mod evaluating;
 #[cfg(test)]
 pub mod respelling;
 #[cfg(test)]
+mod values;
+#[cfg(test)]
 mod windows;

@@ -5,9 +5,10 @@ use crate::alike::{ALIKE, have_values};
 use crate::asking::{self, ASKED};
 use crate::deep::{ACCEPTED, FAR, FAULTS, READ, are_read, asks};
 use crate::many::{LARGE, MEMBERS, is_first};
+use cfgx_testing::faults::has_fault;
 use cfgx_testing::fillings::is_told;
 use cfgx_testing::holding::holds;
-use cfgx_testing::rows::{Checked, check_tables, has_fault};
+use cfgx_testing::rows::{Checked, check_tables};
 use cfgx_testing::words::is_run;
 use std::alloc::Global;
 

@@ -4,7 +4,8 @@ use cfg_expr::expr::logic::Kleene64;
 use cfgx_testing::answers::value_in_lanes;
 use std::alloc::Global;
 
-/// Rows as those of `FILLINGS`.
+/// A text, the answers in the order of the questions, and the value if it is known, or else the two
+/// fillings with which it is true and false.
 pub(crate) const LARGE: &str = r#"
 any(~a,~100000~) | ~?~100000~ | ~1~100000~ ~0~100000~
 any(~a,~100000~true) | ~?~100000~ | true

@@ -1,55 +1,10 @@
-//! Values and fillings worked out by hand, as rows.
+//! Values and fillings, as rows write them.
 use crate::answers::{Answer, agree, answer_of};
 use crate::holding::holds;
 use cfg_expr::error::Failure;
 use cfg_expr::expr::{Condition, ConditionReader};
 use cfg_expr::{Decision, Expression};
 use std::alloc::{AllocError, Allocator, Global};
-
-/// A text, the answers in the order of the questions, and the value if it is known, or else the
-/// two fillings with which it is true and false.
-///
-/// Functions are asked first: `all(a, any(b, not(c)))` asks c, b, a, and `any(a, not(a))` asks the
-/// `a` inside `not` first.
-pub const FILLINGS: &str = r#"
-a | ? | 1 0
-a | 1 | true
-a | 0 | false
-all() | \e | true
-true | \e | true
-not(a) | ? | 0 1
-not(not(a)) | ? | 1 0
-any(all(), a) | ? | true
-any(any(), a) | ? | 1 0
-any(true, a) | ? | true
-any(false, a) | ? | 1 0
-all(true, a, not(b), not(false)) | ?? | 01 10
-all(false, a, not(b)) | ?? | false
-any(not(a), false, b) | ?? | 01 10
-any(a, not(a)) | ?? | 01 10
-any(a, not(a)) | 11 | true
-any(a, not(a)) | 0? | true
-any(a, not(a)) | 1? | 11 10
-not(all(a, not(b))) | ?? | 10 01
-all(not(a), any(b)) | ?? | 01 10
-all(not(a), b) | ?? | 01 10
-all(a, b) | 1? | 11 10
-all(a, b) | 0? | false
-any(not(not(a)), not(b), c) | ??? | 101 010
-all(a, any(b, not(c))) | ??? | 011 100
-all(a, any(b, not(c))) | 1?1 | 111 101
-all(a, any(b, not(c))) | 0?? | 011 000
-all(a, any(b, not(c))) | ??0 | false
-all(a, any(b, not(c))) | 0?1 | true
-all(a, any(b), c) | 011 | false
-any(a, all(b, not(c)), d) | 0100 | true
-all(feature = "make_fast", target_feature = "sse4.2") | 0? | false
-all(feature = "make_fast", target_feature = "sse4.2") | 1? | 11 10
-all(a, not(test)) | 01 | true
-all(a, not(test)) | 10 | false
-any(a, b) | 01 | true
-all(a, true, any(b), false) | ?1 | false
-"#;
 
 /// The answers that the digits stand for.
 pub fn answers_of(alloc: Global, digits: &str) -> Result<Vec<Answer>, AllocError> {
@@ -70,8 +25,8 @@ fn has_digits(filling: &[bool], digits: &str) -> bool {
     filling.len() == digits.len()
 }
 
-/// Whether a row tells these two fillings so.
-pub fn are_told(with_true: &[bool], with_false: &[bool], told: &str) -> bool {
+// Whether a row tells these two fillings so.
+fn are_told(with_true: &[bool], with_false: &[bool], told: &str) -> bool {
     match told.split_once(' ') {
         Some((one, other)) => has_digits(with_true, one) && has_digits(with_false, other),
         None => false,

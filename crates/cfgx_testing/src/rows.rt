@@ -1,18 +1,19 @@
-//! Tables of rows as text, one row a line.
+//! Tables of rows as text, one row a line, and what their checks find.
 //!
-//! A line that is empty or begins with `// ` is no row. A backslash at the end of a line says that
-//! the row goes on in the next one. The fields of a row are divided by ` | `. In a field `\n`,
-//! `\t`, `\r`, `\0` and `\\` stand for what they are in Rust, `\u{a0}` for the character of that
-//! number, and `\e` for nothing, so that a field can be empty. `~piece~times~` stands for the piece
-//! so many times, and a field that is `USAGE`, `SECTIONS` or `VERDICTS` for the text of that name.
+//! A line that is empty or begins with `// ` or `# ` is no row. A backslash at the end of a line of
+//! code says that the row goes on in the next one. The fields of a row are divided by ` | `. In a
+//! field `\n`, `\t`, `\r`, `\0` and `\\` stand for what they are in Rust, `\u{a0}` for the character
+//! of that number, and `\e` for nothing, so that a field can be empty. `~piece~times~` stands for
+//! the piece that many times, and a field that is `USAGE`, `SECTIONS` or `VERDICTS` for the text of
+//! that name.
 use crate::streams::{SECTIONS, USAGE, VERDICTS};
-use cfg_expr::Expression;
-use cfg_expr::error::{Failure, ParseError, Reason};
 use std::alloc::{AllocError, Global};
+use std::fmt::Debug;
+use std::mem;
 use std::str::Split;
 
-// Adds what a piece after a backslash stands for, unless it is no escape.
-fn push_meant(text: &mut String, piece: &str) -> Option<()> {
+// Adds the text of a piece after a backslash, unless it begins with no escape.
+fn push_unescaped(text: &mut String, piece: &str) -> Option<()> {
     if let Some(rest) = piece.strip_prefix("u{") {
         let (number, rest) = rest.split_once('}')?;
         let number = u32::from_str_radix(number, 16).ok()?;
@@ -20,7 +21,7 @@ fn push_meant(text: &mut String, piece: &str) -> Option<()> {
         return text.push_str(rest).ok();
     }
     let mut letters = piece.chars();
-    let meant = match letters.next()? {
+    let character = match letters.next()? {
         'n' => "\n",
         't' => "\t",
         'r' => "\r",
@@ -28,12 +29,12 @@ fn push_meant(text: &mut String, piece: &str) -> Option<()> {
         'e' => "",
         _ => return None,
     };
-    text.push_str(meant).ok()?;
+    text.push_str(character).ok()?;
     text.push_str(letters.as_str()).ok()
 }
 
-// The text without escapes, or nothing if one has no meaning.
-fn unescaped(alloc: Global, field: &str) -> Option<String> {
+/// The text without its escapes, or `None` if one has no meaning.
+pub fn unescaped(alloc: Global, field: &str) -> Option<String> {
     let mut pieces = field.split('\\');
     let mut text = String::from_str(alloc, pieces.next()?).ok()?;
     while let Some(piece) = pieces.next() {
@@ -41,13 +42,29 @@ fn unescaped(alloc: Global, field: &str) -> Option<String> {
             text.push('\\').ok()?;
             text.push_str(pieces.next()?).ok()?;
         } else {
-            push_meant(&mut text, piece)?;
+            push_unescaped(&mut text, piece)?;
         }
     }
     Some(text)
 }
 
-// Adds the piece so many times.
+/// The text with escapes for what a line cannot show.
+pub fn escaped(alloc: Global, text: &str) -> Result<String, AllocError> {
+    let mut field = String::new(alloc);
+    for letter in text.chars() {
+        match letter {
+            '\\' => field.push_str("\\\\")?,
+            '\n' => field.push_str("\\n")?,
+            '\t' => field.push_str("\\t")?,
+            '\r' => field.push_str("\\r")?,
+            '\0' => field.push_str("\\0")?,
+            _ => field.push(letter)?,
+        }
+    }
+    Ok(field)
+}
+
+// Adds the piece that many times.
 fn push_times(text: &mut String, piece: &str, times: &str) -> Option<()> {
     for _time in 0..times.parse::<usize>().ok()? {
         text.push_str(piece).ok()?;
@@ -64,7 +81,7 @@ fn push_parts(text: &mut String, mut parts: Split<'_, char>) -> Option<()> {
     Some(())
 }
 
-// The text with its pieces repeated, or nothing if one has no number.
+// The text with its pieces repeated, or `None` if one has no number.
 fn expanded(alloc: Global, field: &str) -> Option<String> {
     let mut parts = field.split('~');
     let mut text = String::from_str(alloc, parts.next()?).ok()?;
@@ -72,7 +89,7 @@ fn expanded(alloc: Global, field: &str) -> Option<String> {
     Some(text)
 }
 
-// The text that a field stands for, or nothing if it has no meaning.
+// The text that a field stands for, or `None` if it has no meaning.
 fn text_of(alloc: Global, field: &str) -> Option<String> {
     let field = match field {
         "USAGE" => USAGE,
@@ -83,7 +100,7 @@ fn text_of(alloc: Global, field: &str) -> Option<String> {
     String::from_str(alloc, field).ok()
 }
 
-/// The texts that the fields of a row stand for, or nothing if one has no meaning.
+/// The texts that the fields of a row stand for, or `None` if one has no meaning.
 pub fn fields_of(alloc: Global, row: &str) -> Option<Vec<String>> {
     let mut fields = Vec::new(alloc);
     for field in row.split(" | ") {
@@ -92,57 +109,144 @@ pub fn fields_of(alloc: Global, row: &str) -> Option<Vec<String>> {
     Some(fields)
 }
 
-// Whether the row can be taken apart, and its fields pass the check.
-fn passes<F>(alloc: Global, row: &str, check: &F) -> bool
+// Adds a line to the row, and the row to the rows if it does not go on in the next line.
+fn push_line(
+    alloc: Global,
+    rows: &mut Vec<String>,
+    row: &mut String,
+    line: &str,
+) -> Result<(), AllocError> {
+    let front = line.strip_suffix('\\');
+    row.push_str(front.unwrap_or(line))?;
+    if front.is_none() {
+        rows.push(mem::replace(row, String::new(alloc)))?;
+    }
+    Ok(())
+}
+
+/// The rows of a table.
+pub fn rows_of(alloc: Global, table: &str) -> Result<Vec<String>, AllocError> {
+    let mut rows = Vec::new(alloc);
+    let mut row = String::new(alloc);
+    for line in table.lines() {
+        let is_remark = line.is_empty() || line.starts_with("// ") || line.starts_with("# ");
+        if !is_remark || !row.is_empty() {
+            push_line(alloc, &mut rows, &mut row, line)?;
+        }
+    }
+    if !row.is_empty() {
+        rows.push(row)?;
+    }
+    Ok(rows)
+}
+
+/// What a check finds: nothing if the row is right, and otherwise what is so in place of what the
+/// row says.
+pub type Finding = Result<(), String>;
+
+/// Finds this text.
+pub fn found(alloc: Global, text: &str) -> Finding {
+    Err(String::from_str(alloc, text).unwrap_or(String::new(alloc)))
+}
+
+/// Compares what is so with what a row says.
+pub fn compare<E: Debug + Drop>(alloc: Global, told: Result<String, E>, wanted: &str) -> Finding {
+    match told {
+        Ok(told) => {
+            if told.as_str() == wanted {
+                return Ok(());
+            }
+            Err(told)
+        }
+        Err(error) => {
+            let told = format!(in alloc; "{error:?}");
+            Err(told.unwrap_or(String::new(alloc)))
+        }
+    }
+}
+
+/// Compares what is so with what two fields of a row say, between which ` | ` stands.
+pub fn compare_pair<E: Debug + Drop>(
+    alloc: Global,
+    told: Result<String, E>,
+    (one, other): (&str, &str),
+) -> Finding {
+    match format!(in alloc; "{one} | {other}") {
+        Ok(wanted) => compare(alloc, told, wanted.as_str()),
+        Err(_) => found(alloc, "out of memory"),
+    }
+}
+
+/// Finds what is wrong unless it is right.
+pub fn require(alloc: Global, is_right: bool, wrong: &str) -> Finding {
+    if is_right {
+        Ok(())
+    } else {
+        found(alloc, wrong)
+    }
+}
+
+// Adds a wrong row as it is written, and what was found.
+fn push_wrong(alloc: Global, wrong: &mut String, row: &str, found: &str) -> Result<(), AllocError> {
+    let found = escaped(alloc, found)?;
+    wrong.push_str(format!(in alloc; "wrong: {row}\nfound: {found}\n")?.as_str())
+}
+
+/// The rows in which the check finds something, each as it is written and with what was found.
+pub fn wrong_rows<F>(alloc: Global, rows: &[String], check: F) -> Result<String, AllocError>
+where
+    F: Fn(&str) -> Finding,
+    requires { F.IsAlwaysCallable check }
+{
+    let mut wrong = String::new(alloc);
+    for row in rows {
+        if let Err(found) = check(row.as_str()) {
+            push_wrong(alloc, &mut wrong, row.as_str(), found.as_str())?;
+        }
+    }
+    Ok(wrong)
+}
+
+// What is found in the row if its fields do not pass the check.
+fn finding_of<F>(alloc: Global, row: &str, check: &F) -> Finding
 where
     F: Fn(&[String]) -> bool,
     requires { F.IsAlwaysCallable check.now }
 {
     match fields_of(alloc, row) {
-        Some(fields) => check(fields.as_slice()),
-        None => false,
+        Some(fields) => require(alloc, check(fields.as_slice()), "something else"),
+        None => found(alloc, "a field without a meaning"),
     }
 }
 
-// Adds a line of a table to the row. The answer is whether the row has ended, or nothing if it
-// cannot be taken apart or its fields do not pass the check.
-fn take_line<F>(alloc: Global, row: &mut String, line: &str, check: &F) -> Option<bool>
+// The number of rows, and those that are wrong.
+fn judged<F>(alloc: Global, table: &str, check: &F) -> Result<(usize, String), AllocError>
 where
     F: Fn(&[String]) -> bool,
     requires { F.IsAlwaysCallable check.now }
 {
-    if row.is_empty() && (line.is_empty() || line.starts_with("// ")) {
-        return Some(false);
-    }
-    let front = line.strip_suffix('\\');
-    row.push_str(front.unwrap_or(line)).ok()?;
-    if front.is_some() {
-        return Some(false);
-    }
-    if !passes(alloc, row.as_str(), check) {
-        return None;
-    }
-    row.clear();
-    Some(true)
+    let rows = rows_of(alloc, table)?;
+    let wrong = wrong_rows(alloc, rows.as_slice(), |row| finding_of(alloc, row, check))?;
+    Ok((rows.len(), wrong))
 }
 
-/// How many rows the table has, if each can be taken apart and its fields pass the check.
+/// Returns how many rows the table has, if each can be taken apart and its fields pass the check.
 ///
-/// The error is the first row of which that is not so.
+/// The error tells the rows of which that is not so.
 pub fn passing<F>(alloc: Global, table: &str, check: &F) -> Result<usize, String>
 where
     F: Fn(&[String]) -> bool,
     requires { F.IsAlwaysCallable check.now }
 {
-    let mut rows = 0usize;
-    let mut row = String::new(alloc);
-    for line in table.lines() {
-        match take_line(alloc, &mut row, line, check) {
-            Some(has_ended) => rows = rows.saturating_add(usize::from(has_ended)),
-            None => return Err(row),
+    match judged(alloc, table, check) {
+        Ok((rows, wrong)) => {
+            if wrong.is_empty() {
+                return Ok(rows);
+            }
+            Err(wrong)
         }
+        Err(_) => Err(String::new(alloc)),
     }
-    if row.is_empty() { Ok(rows) } else { Err(row) }
 }
 
 /// Checks a number. The error tells it if it is not the wanted one.
@@ -150,13 +254,13 @@ pub fn check_count(alloc: Global, found: usize, wanted: usize) -> Result<(), Str
     if found == wanted {
         return Ok(());
     }
-    let told = format!(in alloc; "{found} in place of {wanted}");
+    let told = format!(in alloc; "{found} rows in place of {wanted}");
     Err(told.unwrap_or(String::new(alloc)))
 }
 
-/// Checks a table of so many rows.
+/// Checks a table that has to have `rows` rows.
 ///
-/// The error is the first row that cannot be taken apart or whose fields do not pass the check, or
+/// The error tells the rows that cannot be taken apart or whose fields do not pass the check, or
 /// how many rows the table has.
 pub fn check_rows<F>(alloc: Global, table: &str, rows: usize, check: F) -> Result<(), String>
 where
@@ -201,57 +305,4 @@ where
         [one, other] => check(one.as_str(), other.as_str()),
         _ => false,
     })
-}
-
-/// As [`check_rows`], of rows of three fields.
-pub fn check_threes<F>(alloc: Global, table: &str, rows: usize, check: F) -> Result<(), String>
-where
-    F: Fn(&str, &str, &str) -> bool,
-    requires { F.IsAlwaysCallable check }
-{
-    check_rows(alloc, table, rows, |row| match row {
-        [one, other, third] => check(one.as_str(), other.as_str(), third.as_str()),
-        _ => false,
-    })
-}
-
-// The terms between back quotes and brackets.
-fn terms_of(alloc: Global, terms: &[&str]) -> Result<String, AllocError> {
-    let mut text = String::from_str(alloc, "[")?;
-    for (place, term) in terms.iter().enumerate() {
-        text.push_str(if place == 0 { "`" } else { " `" })?;
-        text.push_str(term)?;
-        text.push_str("`")?;
-    }
-    text.push_str("]")?;
-    Ok(text)
-}
-
-/// A fault as rows and pages write it: `UnopenedParens at 3..4`, `InvalidNot(2) at 0..9`, and for
-/// `Unexpected` its terms, as in ``U[`=` `,` `)`] at 2..3``.
-pub fn told(alloc: Global, error: &ParseError) -> Result<String, AllocError> {
-    let (start, end) = (error.span.start, error.span.end);
-    match error.reason {
-        Reason::Unexpected(terms) => {
-            let terms = terms_of(alloc, terms)?;
-            format!(in alloc; "U{terms} at {start}..{end}")
-        }
-        reason => format!(in alloc; "{reason:?} at {start}..{end}"),
-    }
-}
-
-/// Whether rows tell the fault so, and this is its stripped text.
-pub fn is_fault(alloc: Global, error: &ParseError, original: &str, wanted: &str) -> bool {
-    match told(alloc, error) {
-        Ok(told) => told.as_str() == wanted && error.original.as_str() == original,
-        Err(_) => false,
-    }
-}
-
-/// Whether the text is faulty, rows tell its fault so, and it is stripped to `original`.
-pub fn has_fault(alloc: Global, text: &str, original: &str, wanted: &str) -> bool {
-    match Expression::parse(alloc, text) {
-        Err(Failure::Parse(error)) => is_fault(alloc, &error, original, wanted),
-        _ => false,
-    }
 }

@@ -5,9 +5,9 @@ ghost use Rattle.std.specs.Io.{ReadsAtMost};
 ghost use Rattle.std.specs.Io.KnownBytes.{ReadConsumes};
 
 use cfgx_engine::engine::{Sink, Source, run};
-use std::alloc::Global;
-use std::io;
+use std::alloc::{AllocError, Global};
 use std::io::ErrorKind;
+use std::{io, str};
 
 /// What a run with words of no use writes.
 pub const USAGE: &str =
@@ -254,6 +254,37 @@ pub fn is_run_over(
 /// flush and no failed call.
 pub fn is_answer(alloc: Global, words: &[&str], status: u8, written: &str) -> bool {
     is_run_over(alloc, words, ALL, &[], (written, status))
+}
+
+// The status and what was written, as rows write them. It says so if the streams were not used as
+// they have to be.
+fn ended_text(
+    alloc: Global,
+    status: u8,
+    sink: &Recorder,
+    is_read_whole: bool,
+) -> Result<String, AllocError> {
+    let written = sink.bytes.as_slice();
+    let text = str::from_utf8(written).unwrap_or("bytes that are not UTF-8");
+    if is_read_whole && is_written(sink, written) {
+        return format!(in alloc; "{status} | {text}");
+    }
+    format!(in alloc; "{status} | {text} | with a wrong call of a stream")
+}
+
+/// How a run with these words over the input ends and what it writes, as rows write them: `0 | yes`.
+/// A read gives and a write takes at most `each` bytes.
+pub fn run_text(
+    alloc: Global,
+    words: &[&str],
+    each: usize,
+    input: &[u8],
+) -> Result<String, AllocError> {
+    let mut source = Pieces::new(input, each, 0);
+    let mut sink = Recorder::new(alloc);
+    sink.each = each;
+    let status = run(alloc, words, &mut source, &mut sink);
+    ended_text(alloc, status, &sink, source.is_read_whole())
 }
 
 /// Whether the sink had these calls, of which so many failed, and got these bytes: no call was of

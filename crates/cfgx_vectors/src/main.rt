@@ -1,7 +1,6 @@
-//! Checks the rows of the files that its arguments name: of the rules of texts, of the answers of
-//! the Rust crate, and of the program `cfgx`. It prints each wrong row, how many rows and fields
-//! each table has, and how many fields of each file one reader reads as `parse` does, which has to
-//! be all of them.
+//! Checks the files of its folder `data` that its arguments name: the answers of the Rust crate, and
+//! tables of the rules of texts, of the program `cfgx`, and of values and targets. It prints each
+//! wrong row with what was found, and how many rows each file has.
 #![tactic(auto)]
 
 mod program;
@@ -9,31 +8,44 @@ mod reading;
 mod rules;
 mod rust_crate;
 mod tables;
+mod values;
 
-use std::alloc::Global;
+use cfgx_testing::rows::{Finding, found};
+use std::alloc::{AllocError, Global};
 use std::{env, fs, io};
 
-// Whether the fields of a row pass the check of the heading, which may have more behind a colon.
-fn passes(alloc: Global, heading: &str, row: &[String]) -> bool {
-    let (check, message) = heading.split_once(": ").unwrap_or((heading, ""));
-    match check {
-        "refused" => rust_crate::are_refused(alloc, row, message),
-        "accepted" => rust_crate::ask_marked(alloc, row),
-        "asked" => rust_crate::ask_told(alloc, row),
-        _ => rules::passes(alloc, check, row) || program::passes(alloc, check, row),
+// What the check of this name finds in a row.
+fn finding(alloc: Global, check: &str, row: &[String]) -> Finding {
+    if let Some(finding) = rules::finding(alloc, check, row) {
+        return finding;
+    }
+    if let Some(finding) = program::finding(alloc, check, row) {
+        return finding;
+    }
+    match values::finding(alloc, check, row) {
+        Some(finding) => finding,
+        None => found(alloc, "no check of this name and this number of fields"),
     }
 }
 
-// What is told of the file of this name.
-fn told_of(rt: &HostRuntime, name: &str) -> io::Result<String> {
+// What is wrong in the file, and how many rows it has.
+fn report(alloc: Global, name: &str, text: &str) -> Result<String, AllocError> {
+    if name.ends_with(".tsv") {
+        rust_crate::report(alloc, name, text)
+    } else {
+        tables::report(alloc, name, text)
+    }
+}
+
+fn report_of_file(rt: &HostRuntime, name: &str) -> io::Result<String> {
     let text = fs::read_to_string(rt, name)?;
-    Ok(tables::told(rt.alloc(), text.as_str())?)
+    Ok(report(rt.alloc(), name, text.as_str())?)
 }
 
 fn main(rt: HostRuntime) -> io::Result<()> {
     for name in env::args(&rt)?.skip(1) {
-        let told = told_of(&rt, name.as_str())?;
-        println!(rt; "{name}\n{told}")?;
+        let report = report_of_file(&rt, name.as_str())?;
+        println!(rt; "{report}")?;
     }
     Ok(())
 }

@@ -8,77 +8,94 @@ mod spelling;
 mod stripping;
 mod tokens;
 
-use cfgx_testing::holding::holds;
-use cfgx_testing::rows::has_fault;
-use cfgx_testing::streams::is_answer;
+use cfgx_testing::faults::fault_of;
+use cfgx_testing::rows::{Finding, compare, compare_pair, found, require};
+use cfgx_testing::streams::{ALL, run_text};
 use std::alloc::Global;
 
-/// Whether `parse` prints these predicates, which a line feed divides.
-pub(crate) fn is_accepted(alloc: Global, text: &str, predicates: &str) -> bool {
+/// Compares the predicates that `parse` prints with these, which a line feed divides.
+pub(crate) fn compare_predicates(alloc: Global, text: &str, predicates: &str) -> Finding {
     let end = if predicates.is_empty() { "" } else { "\n" };
     match format!(in alloc; "{predicates}{end}") {
-        Ok(written) => is_answer(alloc, &["parse", text], 0, written.as_str()),
-        Err(_) => false,
-    }
-}
-
-// Whether what has no row is as it has to be.
-fn passes_alone(alloc: Global, name: &str) -> bool {
-    match name {
-        "equality of reasons" => printing::are_reasons_equal(),
-        "equality of faults" => holds(printing::are_faults_equal(alloc)),
-        "failure" => printing::is_failure(alloc),
-        "flag" => spelling::is_flag_spelled(alloc),
-        "debug" => holds(stripping::is_debug(alloc)),
-        _ => false,
-    }
-}
-
-// Whether a row of two fields passes the check of this name.
-fn passes_two(alloc: Global, check: &str, one: &str, other: &str) -> bool {
-    match check {
-        "fault" => has_fault(alloc, one, one, other),
-        "predicates" => is_accepted(alloc, one, other),
-        "stripped text" => holds(stripping::is_stripped_to(alloc, one, other)),
-        "type" => holds(predicates::asks(alloc, one, other)),
-        "calls" => holds(order::come(alloc, one, other)),
-        "nodes" => holds(order::leaves(alloc, one, other)),
-        "spelling" => spelling::is_right(alloc, one, other),
-        "long spelling" => spelling::is_long(alloc, one, other),
-        "spelling of the page" => pages::is_spelling(alloc, one, other),
-        "pick of the page" => pages::is_printed(alloc, one, other),
-        _ => false,
-    }
-}
-
-// Whether a row of three fields does. The third one of a fault is what its text is stripped to.
-fn passes_three(alloc: Global, check: &str, one: &str, other: &str, third: &str) -> bool {
-    match check {
-        "fault" => has_fault(alloc, one, third, other),
-        "equality" => holds(stripping::are_as_said(alloc, one, other, third)),
-        "reason" => printing::has_texts(alloc, one, other, third),
-        "what a fault prints" => printing::is_printed(alloc, one, other, third),
-        "fault of the page" => pages::is_faulty(alloc, one, other),
-        _ => false,
-    }
-}
-
-/// Whether the row passes the check of this name.
-pub(crate) fn passes(alloc: Global, check: &str, row: &[String]) -> bool {
-    match check {
-        "items" => tokens::has_items(alloc, row),
-        _ => fields_pass(alloc, check, row),
-    }
-}
-
-// Whether one to three fields pass the check.
-fn fields_pass(alloc: Global, check: &str, row: &[String]) -> bool {
-    match row {
-        [name] => check == "alone" && passes_alone(alloc, name.as_str()),
-        [one, other] => passes_two(alloc, check, one.as_str(), other.as_str()),
-        [one, other, third] => {
-            passes_three(alloc, check, one.as_str(), other.as_str(), third.as_str())
+        Ok(written) => {
+            let told = run_text(alloc, &["parse", text], ALL, &[]);
+            compare_pair(alloc, told, ("0", written.as_str()))
         }
-        _ => false,
+        Err(_) => found(alloc, "out of memory"),
+    }
+}
+
+/// Compares the fault of the text and what it is stripped to with these.
+fn compare_fault(alloc: Global, text: &str, fault: &str, stripped: &str) -> Finding {
+    compare_pair(alloc, fault_of(alloc, text), (fault, stripped))
+}
+
+// Whether what the name says holds, if it has a check.
+fn property(alloc: Global, name: &str) -> Option<bool> {
+    Some(match name {
+        "equal reasons have equal parts" => printing::compares_reasons(),
+        "equal faults have equal parts" => printing::compares_faults(alloc),
+        "a failure is a fault or out of memory" => printing::makes_failures(alloc),
+        "a flag that is spelled as a literal is written as it is" => spelling::spells_true(alloc),
+        "`Debug` of an expression shows its stripped text" => stripping::shows_stripped(alloc),
+        _ => return None,
+    })
+}
+
+// What the check of a row of one field finds.
+fn finding_of_one(alloc: Global, check: &str, name: &str) -> Option<Finding> {
+    if check != "property" {
+        return None;
+    }
+    Some(require(alloc, property(alloc, name)?, "it does not hold"))
+}
+
+// What the check of a row of two fields finds.
+fn finding_of_two(alloc: Global, check: &str, one: &str, other: &str) -> Option<Finding> {
+    Some(match check {
+        "fault" => compare_fault(alloc, one, other, one),
+        "predicates" => compare_predicates(alloc, one, other),
+        "stripped text" => compare_pair(alloc, stripping::stripped(alloc, one), (other, other)),
+        "type" => compare(alloc, predicates::predicate_text(alloc, one), other),
+        "calls for the next predicate" => compare(alloc, order::calls_text(alloc, one), other),
+        "nodes" => compare(alloc, order::nodes_text(alloc, one), other),
+        "spelling" => spelling::finding(alloc, one, other),
+        "long spelling" => spelling::finding_of_long(alloc, one, other),
+        "spelling of the page" => pages::finding_of_spelling(alloc, one, other),
+        "pick of the page" => pages::finding_of_pick(alloc, one, other),
+        _ => return None,
+    })
+}
+
+// What the check of a row of three fields finds.
+fn finding_of_three(
+    alloc: Global,
+    check: &str,
+    one: &str,
+    other: &str,
+    third: &str,
+) -> Option<Finding> {
+    Some(match check {
+        "fault in the stripped text" => compare_fault(alloc, one, other, third),
+        "equality" => compare(alloc, stripping::equality(alloc, one, other), third),
+        "reason" => compare_pair(alloc, printing::reason_texts(alloc, one), (other, third)),
+        "printed fault" => printing::finding(alloc, one, other, third),
+        "fault of the page" => pages::finding_of_fault(alloc, one, other),
+        _ => return None,
+    })
+}
+
+/// What the check of this name finds in the row, if there is one for so many fields.
+pub(crate) fn finding(alloc: Global, check: &str, row: &[String]) -> Option<Finding> {
+    if check == "items" {
+        return Some(tokens::finding(alloc, row));
+    }
+    match row {
+        [name] => finding_of_one(alloc, check, name.as_str()),
+        [one, other] => finding_of_two(alloc, check, one.as_str(), other.as_str()),
+        [one, other, third] => {
+            finding_of_three(alloc, check, one.as_str(), other.as_str(), third.as_str())
+        }
+        _ => None,
     }
 }

@@ -1,129 +1,148 @@
-//! Files of tables. A table is a heading, `# ` and what its rows are checked for, and its rows.
-use crate::passes;
-use crate::reading::{push_texts, read_alike};
-use cfgx_testing::rows::fields_of;
+//! Files of tables. A table begins with a line `[check: 12 rows]` and a line with the names of its
+//! columns. The last column may be `word ..`: any number of fields.
+use crate::finding;
+use crate::reading::read_otherwise;
+use cfgx_testing::rows::{Finding, fields_of, found, rows_of, wrong_rows};
 use std::alloc::{AllocError, Global};
-use std::mem;
 
-// What is known of a file so far: the heading of its last table, how many rows and fields this has,
-// the row of which more lines are to come, the texts of all rows, and what is told of the tables.
+// The parts of a table.
+#[derive(Clone, Copy)]
+struct Table<'a> {
+    check: &'a str,
+    count: &'a str,
+    columns: &'a str,
+    rows: &'a str,
+}
+
+// Takes a table apart, without the bracket in front.
+fn table_of(text: &str) -> Option<Table<'_>> {
+    let (head, text) = text.split_once("]\n")?;
+    let (check, count) = head.split_once(": ")?;
+    let (count, _) = count.split_once(" row")?;
+    let (columns, rows) = text.split_once('\n')?;
+    Some(Table {
+        check,
+        count,
+        columns,
+        rows,
+    })
+}
+
+// Whether a row of so many fields has a field for each column.
+fn has_columns(fields: usize, columns: &str) -> bool {
+    let names = columns.split(" | ").count();
+    fields == names || (columns.ends_with(" ..") && fields.saturating_add(1) >= names)
+}
+
+// What the check finds in the fields of a row.
+fn finding_of_fields(alloc: Global, table: &Table<'_>, fields: &[String]) -> Finding {
+    if has_columns(fields.len(), table.columns) {
+        finding(alloc, table.check, fields)
+    } else {
+        found(alloc, "another number of fields than columns")
+    }
+}
+
+// What the check finds in a row.
+fn finding_of_row(alloc: Global, table: &Table<'_>, row: &str) -> Finding {
+    match fields_of(alloc, row) {
+        Some(fields) => finding_of_fields(alloc, table, fields.as_slice()),
+        None => found(alloc, "a field without a meaning"),
+    }
+}
+
+// Adds the fields of a row.
+fn push_fields(texts: &mut Vec<String>, fields: Vec<String>) -> Result<(), AllocError> {
+    for field in fields {
+        texts.push(field)?;
+    }
+    Ok(())
+}
+
+// Adds the fields of each row that has a meaning.
+fn push_texts(alloc: Global, texts: &mut Vec<String>, rows: &[String]) -> Result<(), AllocError> {
+    for row in rows {
+        if let Some(fields) = fields_of(alloc, row.as_str()) {
+            push_fields(texts, fields)?;
+        }
+    }
+    Ok(())
+}
+
+// What is known of a file so far: what is wrong in it, how many rows it has, and their fields.
 #[derive(Drop)]
-struct Tables {
-    heading: String,
+struct File {
+    wrong: String,
     rows: usize,
-    fields: usize,
-    row: String,
     texts: Vec<String>,
-    told: String,
 }
 
-/// What is told of the tables of a file: a line for each wrong row and one for each table, and how
-/// many texts are read alike.
-pub(crate) fn told(alloc: Global, text: &str) -> Result<String, AllocError> {
-    let mut tables = Tables {
-        heading: String::new(alloc),
-        rows: 0,
-        fields: 0,
-        row: String::new(alloc),
-        texts: Vec::new(alloc),
-        told: String::new(alloc),
-    };
-    tables.take_file(alloc, text)?;
-    Ok(tables.told)
-}
-
-// Tells of a row what is wrong with it.
-fn push_row(told: &mut String, wrong: &str, row: &str) -> Result<(), AllocError> {
-    told.push_str(wrong)?;
-    told.push_str(row)?;
-    told.push_str("\n")
-}
-
-// Tells how many rows and fields a table has.
-fn push_counts(
-    alloc: Global,
-    told: &mut String,
-    heading: &str,
-    rows: usize,
-    fields: usize,
-) -> Result<(), AllocError> {
-    told.push_str(format!(in alloc; "{heading}: {rows} rows, {fields} fields\n")?.as_str())
-}
-
-impl Tables {
-    fn take_file(&mut self, alloc: Global, text: &str) -> Result<(), AllocError> {
-        for line in text.lines() {
-            self.take_line(alloc, line)?;
-        }
-        self.end_table(alloc)?;
-        self.end_file(alloc)
-    }
-
-    fn take_line(&mut self, alloc: Global, line: &str) -> Result<(), AllocError> {
-        if self.row.is_empty() && (line.is_empty() || line.starts_with("// ")) {
+impl File {
+    fn take_count(
+        &mut self,
+        alloc: Global,
+        table: &Table<'_>,
+        rows: usize,
+    ) -> Result<(), AllocError> {
+        self.rows = self.rows.saturating_add(rows);
+        if table.count.parse() == Ok(rows) {
             return Ok(());
         }
-        let front = line.strip_suffix('\\');
-        self.row.push_str(front.unwrap_or(line))?;
-        if front.is_some() {
+        let check = table.check;
+        let told = format!(in alloc; "wrong: a table of {check} has {rows} rows\n")?;
+        self.wrong.push_str(told.as_str())
+    }
+
+    fn take_rows(
+        &mut self,
+        alloc: Global,
+        table: &Table<'_>,
+        rows: &[String],
+    ) -> Result<(), AllocError> {
+        let wrong = wrong_rows(alloc, rows, |row| finding_of_row(alloc, table, row))?;
+        self.wrong.push_str(wrong.as_str())?;
+        push_texts(alloc, &mut self.texts, rows)?;
+        self.take_count(alloc, table, rows.len())
+    }
+
+    // Takes a table, without the bracket in front.
+    fn take_table(&mut self, alloc: Global, text: &str) -> Result<(), AllocError> {
+        match table_of(text) {
+            Some(table) => self.take_rows(alloc, &table, rows_of(alloc, table.rows)?.as_slice()),
+            None => self
+                .wrong
+                .push_str("wrong: a table without a head and columns\n"),
+        }
+    }
+
+    // Takes what stands in front of the first table, which may have no row.
+    fn take_head(&mut self, alloc: Global, head: &str) -> Result<(), AllocError> {
+        if rows_of(alloc, head)?.is_empty() {
             return Ok(());
         }
-        let row = mem::replace(&mut self.row, String::new(alloc));
-        self.take_row(alloc, row.as_str())
+        self.wrong
+            .push_str("wrong: a row in front of the first table\n")
     }
 
-    // Takes a heading or a row.
-    fn take_row(&mut self, alloc: Global, row: &str) -> Result<(), AllocError> {
-        match row.strip_prefix("# ") {
-            Some(heading) => {
-                self.end_table(alloc)?;
-                self.heading.push_str(heading)
-            }
-            None => self.check(alloc, row),
+    fn take(&mut self, alloc: Global, text: &str) -> Result<(), AllocError> {
+        let mut tables = text.split("\n[");
+        self.take_head(alloc, tables.next().unwrap_or(""))?;
+        for table in tables {
+            self.take_table(alloc, table)?;
         }
-    }
-
-    // Whether the fields pass the check of the table.
-    fn pass(&mut self, alloc: Global, fields: &[String]) -> Result<bool, AllocError> {
-        self.fields = self.fields.saturating_add(fields.len());
-        push_texts(alloc, &mut self.texts, fields)?;
-        Ok(passes(alloc, self.heading.as_str(), fields))
-    }
-
-    fn check(&mut self, alloc: Global, row: &str) -> Result<(), AllocError> {
-        self.rows = self.rows.saturating_add(1);
-        let is_right = match fields_of(alloc, row) {
-            Some(fields) => self.pass(alloc, fields.as_slice()),
-            None => Ok(false),
-        };
-        if is_right? {
-            Ok(())
-        } else {
-            push_row(&mut self.told, "wrong: ", row)
-        }
-    }
-
-    // Tells how many rows the table has. A row without its end is a wrong one.
-    fn end_table(&mut self, alloc: Global) -> Result<(), AllocError> {
-        if !self.row.is_empty() {
-            push_row(&mut self.told, "unended: ", self.row.as_str())?;
-            self.row.clear();
-        }
-        if self.heading.is_empty() {
-            return Ok(());
-        }
-        let heading = self.heading.as_str();
-        push_counts(alloc, &mut self.told, heading, self.rows, self.fields)?;
-        self.heading.clear();
-        self.rows = 0;
-        self.fields = 0;
         Ok(())
     }
+}
 
-    // Tells how many texts are read alike.
-    fn end_file(&mut self, alloc: Global) -> Result<(), AllocError> {
-        let count = read_alike(alloc, self.texts.as_slice());
-        let told = format!(in alloc; "read alike: {count} fields\n")?;
-        self.told.push_str(told.as_str())
-    }
+/// The wrong rows of the file, and how many rows it has.
+pub(crate) fn report(alloc: Global, name: &str, text: &str) -> Result<String, AllocError> {
+    let mut file = File {
+        wrong: String::new(alloc),
+        rows: 0,
+        texts: Vec::new(alloc),
+    };
+    file.take(alloc, text)?;
+    let otherwise = read_otherwise(alloc, file.texts.as_slice())?;
+    let (wrong, rows) = (file.wrong.as_str(), file.rows);
+    format!(in alloc; "{wrong}{otherwise}{name}: {rows} rows")
 }

@@ -11,7 +11,7 @@ use cfg_expr::{Expression, Predicate, TargetPredicate};
 use cfgx_engine::resolve::{Section, Verdict, pick};
 use cfgx_testing::heap::{empty_heap, has_every_block};
 use cfgx_testing::holding::{gives, holds};
-use cfgx_testing::rows::is_fault;
+use cfgx_testing::faults::is_fault;
 use cfgx_testing::triples::IOS;
 use std::alloc::{AllocError, Global};
 

@@ -32,7 +32,7 @@ fn first_wrong_read<S: io::Read>(source: &mut Counted<S>) -> Option<usize> {
     None
 }
 
-fn are_reads_counted() -> bool {
+fn counts_reads() -> bool {
     let mut source = Counted::new(Pieces::new(b"abcdefg", 3, 2));
     first_wrong_read(&mut source).is_none()
 }
@@ -64,8 +64,8 @@ fn first_wrong<S: io::Write>(sink: &mut Counted<S>, steps: &[Step]) -> Option<us
     None
 }
 
-// A writer in memory of so many bytes takes none once it is full: a failed write.
-fn are_writes_counted() -> bool {
+// A writer in memory takes no byte once it is full: a failed write.
+fn counts_writes() -> bool {
     let mut room = [0u8; 4];
     let mut sink = Counted::new(&mut room[..]);
     let steps: &[Step] = &[
@@ -79,7 +79,7 @@ fn are_writes_counted() -> bool {
 }
 
 // A counted writer in memory gets the whole output.
-fn is_whole_taken() -> bool {
+fn writes_whole() -> bool {
     let mut room = [0u8; 6];
     let mut sink = Counted::new(&mut room[..]);
     let steps: &[Step] = &[
@@ -89,8 +89,8 @@ fn is_whole_taken() -> bool {
     first_wrong(&mut sink, steps).is_none() && room == *b"hello\n"
 }
 
-// A stream whose first calls of each kind, so many of them, fail and whose later ones do not. It
-// counts its calls. A write fails by an error, or by taking no byte.
+// A stream whose first `failing` calls of each kind fail and whose later ones do not. It counts its
+// calls. A write fails by an error, or by taking no byte.
 #[derive(Drop)]
 struct FirstFail {
     failing: u64,
@@ -147,7 +147,7 @@ impl io::Write for FirstFail {
     }
 }
 
-fn are_errors_counted() -> bool {
+fn counts_errors() -> bool {
     let mut sink = first_fail(u64::MAX, false);
     let steps: &[Step] = &[
         ("write", b"a", None, 1),
@@ -158,7 +158,7 @@ fn are_errors_counted() -> bool {
     first_wrong(&mut sink, steps).is_none()
 }
 
-fn is_no_call_tried_again() -> bool {
+fn makes_failed_call_once() -> bool {
     let mut stream = first_fail(1, false);
     let mut bytes = [0u8; 4];
     let failing: &[Step] = &[("write", b"ab", None, 2), ("flush", b"", None, 3)];
@@ -171,7 +171,7 @@ fn is_no_call_tried_again() -> bool {
         && calls(&stream) == (2, 2, 2)
 }
 
-fn is_no_empty_write_tried_again() -> bool {
+fn makes_empty_write_once() -> bool {
     let mut sink = first_fail(1, true);
     let (failing, going): (&[Step], &[Step]) = (
         &[("write", b"ab", Some(0), 1)],
@@ -183,18 +183,15 @@ fn is_no_empty_write_tried_again() -> bool {
         && calls(&sink) == (0, 2, 0)
 }
 
-/// Whether a counted stream is as the row says.
-pub(super) fn passes(row: &[String]) -> bool {
-    let [name] = row else {
-        return false;
-    };
-    match name.as_str() {
-        "reads" => are_reads_counted(),
-        "writes" => are_writes_counted(),
-        "whole" => is_whole_taken(),
-        "errors" => are_errors_counted(),
-        "no call again" => is_no_call_tried_again(),
-        "no empty write again" => is_no_empty_write_tried_again(),
-        _ => false,
-    }
+/// Whether what the name says of a counted stream holds, if it has a check.
+pub(super) fn property(name: &str) -> Option<bool> {
+    Some(match name {
+        "each read is counted if it fails" => counts_reads(),
+        "each write is counted if it fails" => counts_writes(),
+        "a whole output is written" => writes_whole(),
+        "each error is counted" => counts_errors(),
+        "a failed call is not made again" => makes_failed_call_once(),
+        "a write that took nothing is not made again" => makes_empty_write_once(),
+        _ => return None,
+    })
 }

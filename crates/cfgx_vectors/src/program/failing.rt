@@ -1,9 +1,11 @@
 //! The first failed call of a stream is the last call of both streams.
 use cfgx_engine::engine::run;
+use cfgx_testing::rows::{Finding, compare_pair, found};
 use cfgx_testing::streams::{ALL, Pieces, Recorder, is_left_so};
 use cfgx_testing::triples::SIM;
 use cfgx_testing::words::words_of;
-use std::alloc::Global;
+use std::alloc::{AllocError, Global};
+use std::str;
 
 // Sets the sink, as by `each=7`, if it is to take at most seven bytes a call.
 fn set(sink: &mut Recorder, setting: &str) -> Option<()> {
@@ -30,54 +32,81 @@ fn is_set(sink: &mut Recorder, settings: &str) -> bool {
     true
 }
 
-// Whether a run over the input ends with this status, and leaves the sink with these bytes and
-// these calls. Only the sink fails.
-fn leaves_so(
+// What a run over the input left: its status, what was written, and the numbers of writes and
+// flushes. Only the sink fails.
+fn left_text(
     alloc: Global,
     words: &[&str],
     input: &str,
     mut sink: Recorder,
-    (status, written, calls): (u8, &[u8], (u64, u64)),
-) -> bool {
+) -> Result<String, AllocError> {
     if sink.failures > 0 {
-        return false;
+        return String::from_str(alloc, "a sink that failed before");
     }
     let mut source = Pieces::new(input.as_bytes(), ALL, 0);
-    let found = run(alloc, words, &mut source, &mut sink);
-    is_left_so(&sink, written, calls, u64::from(found == 3))
-        && found == status
-        && source.is_read_whole()
+    let status = run(alloc, words, &mut source, &mut sink);
+    let written = str::from_utf8(sink.bytes.as_slice()).unwrap_or("bytes that are not UTF-8");
+    let (writes, flushes) = (sink.writes, sink.flushes);
+    let is_right = sink.failures == u64::from(status == 3) && source.is_read_whole();
+    if is_right && !sink.is_misused {
+        return format!(in alloc; "{status} | {written} | {writes} {flushes}");
+    }
+    format!(in alloc; "{status} | {written} | {writes} {flushes} | with a wrong call of a stream")
 }
 
-// Whether a run with these words leaves the sink as the row says.
-fn leaves_as_told(alloc: Global, words: &[&str], row: &[String]) -> Option<bool> {
-    let [settings, status, written, calls, input, ..] = row else {
+// Compares what a run with these words leaves with the row.
+fn compare_left(
+    alloc: Global,
+    settings: &str,
+    ended: (&str, &str, &str),
+    input: &str,
+    words: &[&str],
+) -> Finding {
+    let mut sink = Recorder::new(alloc);
+    if !is_set(&mut sink, settings) {
+        return found(alloc, "no such sink");
+    }
+    let (status, written, calls) = ended;
+    let told = left_text(alloc, words, input, sink);
+    match format!(in alloc; "{written} | {calls}") {
+        Ok(wanted) => compare_pair(alloc, told, (status, wanted.as_str())),
+        Err(_) => found(alloc, "out of memory"),
+    }
+}
+
+/// Compares what a run with the words of the row leaves in the sink with the row.
+pub(super) fn finding(alloc: Global, row: &[String]) -> Option<Finding> {
+    let [settings, status, written, calls, input, words @ ..] = row else {
         return None;
     };
-    let (writes, flushes) = calls.split_once(' ')?;
-    let calls = (writes.parse().ok()?, flushes.parse().ok()?);
-    let left = (status.parse().ok()?, written.as_bytes(), calls);
-    let mut sink = Recorder::new(alloc);
-    if is_set(&mut sink, settings.as_str()) {
-        Some(leaves_so(alloc, words, input.as_str(), sink, left))
-    } else {
-        None
-    }
+    let ended = (status.as_str(), written.as_str(), calls.as_str());
+    Some(match words_of(alloc, words) {
+        Ok(words) => {
+            compare_left(
+                alloc,
+                settings.as_str(),
+                ended,
+                input.as_str(),
+                words.as_slice(),
+            )
+        }
+        Err(_) => found(alloc, "out of memory"),
+    })
 }
 
-/// Whether a run with the words of the row leaves the sink as the row says.
-pub(super) fn ends_so(alloc: Global, row: &[String]) -> bool {
-    let [_, _, _, _, _, words @ ..] = row else {
-        return false;
-    };
-    match words_of(alloc, words) {
-        Ok(words) => leaves_as_told(alloc, words.as_slice(), row) == Some(true),
-        Err(_) => false,
-    }
+// Whether a run over the input whose write of this number fails, with writes of one byte each, ends
+// with status 3, writes the bytes before that one, and makes no call after it.
+fn ends_at_write(alloc: Global, words: &[&str], input: &str, output: &[u8], failing: u64) -> bool {
+    let mut source = Pieces::new(input.as_bytes(), ALL, 0);
+    let mut sink = Recorder::new(alloc);
+    sink.each = 1;
+    sink.failing_write = failing;
+    let status = run(alloc, words, &mut source, &mut sink);
+    is_left_so(&sink, output, (failing, 0), 1) && status == 3 && source.is_read_whole()
 }
 
 /// Whether each write of this output that fails ends the run with status 3: what went out, a byte a
-/// call, is to be the bytes before it, and nothing is to be written after them, nor flushed.
+/// call, has to be the bytes before it, and nothing may be written after them, nor flushed.
 pub(super) fn ends_at_each_write(
     alloc: Global,
     words: &[&str],
@@ -85,11 +114,8 @@ pub(super) fn ends_at_each_write(
     output: &[u8],
 ) -> bool {
     for written in 0..output.len() {
-        let mut sink = Recorder::new(alloc);
-        sink.each = 1;
-        sink.failing_write = (written as u64).saturating_add(1);
-        let left = (3, &output[..written], (sink.failing_write, 0));
-        if !leaves_so(alloc, words, input, sink, left) {
+        let failing = (written as u64).saturating_add(1);
+        if !ends_at_write(alloc, words, input, &output[..written], failing) {
             return false;
         }
     }
@@ -125,10 +151,7 @@ fn ends_at_each_read(alloc: Global, input: &[u8]) -> bool {
 }
 
 /// Whether each write and each read of a run of `pick` that fails is its last call.
-pub(super) fn fail_in_turn(alloc: Global, row: &[String]) -> bool {
-    let [_, input, written] = row else {
-        return false;
-    };
-    ends_at_each_write(alloc, &["pick", SIM], input.as_str(), written.as_bytes())
+pub(super) fn ends_at_each_call(alloc: Global, input: &str, written: &str) -> bool {
+    ends_at_each_write(alloc, &["pick", SIM], input, written.as_bytes())
         && ends_at_each_read(alloc, input.as_bytes())
 }

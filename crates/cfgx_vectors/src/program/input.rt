@@ -1,68 +1,90 @@
 //! An input is read whole, up to its limit.
 use cfgx_engine::engine::{Input, Stop, read_input};
+use cfgx_testing::rows::{Finding, compare, found};
 use cfgx_testing::streams::{Counting, Pieces};
-use std::alloc::Global;
+use std::alloc::{AllocError, Global};
+use std::str;
 
 const TEN: &[u8] = b"0123456789";
 
-// Whether the failed read is answered, and is the last one.
-fn is_device(alloc: Global, failing_read: u64, left: &str) -> bool {
-    let mut source = Pieces::new(TEN, 3, failing_read);
-    let is_stopped = match read_input(alloc, &mut source) {
-        Ok(_) => false,
-        Err(found) => found == Stop::Device,
-    };
-    let calls = (source.reads, source.failures);
-    is_stopped && calls == (failing_read, 1) && source.left == left.as_bytes()
+// Why the input was not read, if it was not.
+fn stop_of(read: Result<Input, Stop>) -> Option<Stop> {
+    match read {
+        Ok(_) => None,
+        Err(stop) => Some(stop),
+    }
 }
 
-// Whether all these bytes are read, to the end, in so many calls.
-fn is_read_whole(alloc: Global, bytes: &[u8], each: usize, reads: u64) -> bool {
-    let mut source = Pieces::new(bytes, each, 0);
-    let is_read = match read_input(alloc, &mut source) {
+// The bytes that are still to come after the failed read, if that was the last one.
+fn left_text(alloc: Global, failing_read: u64) -> Result<String, AllocError> {
+    let mut source = Pieces::new(TEN, 3, failing_read);
+    let stop = stop_of(read_input(alloc, &mut source));
+    let left = str::from_utf8(source.left).unwrap_or("not UTF-8");
+    let (reads, failures) = (source.reads, source.failures);
+    if stop == Some(Stop::Device) && (reads, failures) == (failing_read, 1) {
+        return String::from_str(alloc, left);
+    }
+    format!(in alloc; "{left}, {stop:?}, {reads} reads, {failures} of them failed")
+}
+
+/// Compares the bytes that are still to come after a failed read with those of a row.
+pub(super) fn finding_of_failed_read(alloc: Global, failing_read: &str, left: &str) -> Finding {
+    match failing_read.parse() {
+        Ok(failing_read) => compare(alloc, left_text(alloc, failing_read), left),
+        Err(_) => found(alloc, "no number of a read"),
+    }
+}
+
+// Whether these bytes were read.
+fn is_read(read: &Result<Input, Stop>, bytes: &[u8]) -> bool {
+    match read {
         Ok(Input::Bytes(read)) => read.as_slice() == bytes,
         _ => false,
-    };
-    is_read && source.is_read_whole() && source.reads == reads
+    }
 }
 
-// Whether as many bytes are read as there are.
-fn has_length(alloc: Global, count: usize, each: usize) -> bool {
+// The number of reads after which the bytes were read to their end.
+fn reads_text(alloc: Global, bytes: &[u8], each: usize) -> Result<String, AllocError> {
+    let mut source = Pieces::new(bytes, each, 0);
+    let is_read = is_read(&read_input(alloc, &mut source), bytes);
+    let reads = source.reads;
+    if is_read && source.is_read_whole() {
+        return format!(in alloc; "{reads}");
+    }
+    format!(in alloc; "{reads}, and other bytes or a wrong call")
+}
+
+/// Compares the number of reads of an input with that of a row.
+pub(super) fn finding_of_whole(alloc: Global, input: &str, each: &str, reads: &str) -> Finding {
+    match each.parse() {
+        Ok(each) => compare(alloc, reads_text(alloc, input.as_bytes(), each), reads),
+        Err(_) => found(alloc, "no number of bytes"),
+    }
+}
+
+// How many bytes were read, if they were not too many.
+fn length_of(read: &Result<Input, Stop>) -> Option<usize> {
+    match read {
+        Ok(Input::Bytes(bytes)) => Some(bytes.len()),
+        _ => None,
+    }
+}
+
+// How many bytes are read of a source with this number of them, and how many are left.
+fn length_text(alloc: Global, count: usize, each: usize) -> Result<String, AllocError> {
     let mut source = Counting { left: count, each };
-    match read_input(alloc, &mut source) {
-        Ok(Input::Bytes(bytes)) => bytes.len() == count && source.left == 0,
-        _ => false,
+    let length = length_of(&read_input(alloc, &mut source));
+    let left = source.left;
+    if length == Some(count) && left == 0 {
+        return format!(in alloc; "{count}");
     }
+    format!(in alloc; "{length:?}, with {left} left")
 }
 
-// Whether an input is read as a row of three fields says.
-fn three_pass(alloc: Global, kind: &str, one: &str, other: &str) -> bool {
-    match kind {
-        "failed" => is_device(alloc, one.parse().unwrap_or(0), other),
-        "length" => match (one.parse(), other.parse()) {
-            (Ok(count), Ok(each)) => has_length(alloc, count, each),
-            _ => false,
-        },
-        _ => false,
-    }
-}
-
-// Whether an input is read as a row of four fields says.
-fn four_pass(alloc: Global, input: &str, each: &str, reads: &str) -> bool {
-    match (each.parse(), reads.parse()) {
-        (Ok(each), Ok(reads)) => is_read_whole(alloc, input.as_bytes(), each, reads),
-        _ => false,
-    }
-}
-
-/// Whether an input is read as a row says.
-pub(super) fn passes(alloc: Global, row: &[String]) -> bool {
-    match row {
-        [kind, one, other] => three_pass(alloc, kind.as_str(), one.as_str(), other.as_str()),
-        [kind, input, each, reads] => {
-            kind.as_str() == "whole"
-                && four_pass(alloc, input.as_str(), each.as_str(), reads.as_str())
-        }
-        _ => false,
+/// Compares the number of bytes that are read of a source with that of a row.
+pub(super) fn finding_of_length(alloc: Global, count: &str, each: &str) -> Finding {
+    match (count.parse(), each.parse()) {
+        (Ok(length), Ok(each)) => compare(alloc, length_text(alloc, length, each), count),
+        _ => found(alloc, "no number of bytes"),
     }
 }

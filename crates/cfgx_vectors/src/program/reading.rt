@@ -1,8 +1,9 @@
 //! Only `pick` reads, to the end of its input and no further. No write is of an empty slice.
 use cfgx_engine::engine::run;
+use cfgx_testing::rows::{Finding, compare, found};
 use cfgx_testing::streams::{ALL, Pieces, Recorder, SECTIONS, is_written};
 use cfgx_testing::triples::SIM;
-use std::alloc::Global;
+use std::alloc::{AllocError, Global};
 
 // Whether the run reads nothing of an input, whose first read would fail, and writes one byte a
 // call.
@@ -26,14 +27,23 @@ pub(super) fn reads_nothing(alloc: Global, words: &[&str], ended: (&str, &str)) 
         && is_unread(alloc, words, b"x", ended)
 }
 
-/// Whether a run of `pick` over the input makes so many reads, none of them after the end.
-pub(super) fn has_reads(alloc: Global, row: &[String]) -> bool {
-    let [each, input, reads] = row else {
-        return false;
-    };
-    let each = each.parse().unwrap_or(0);
+// The number of reads of a run of `pick` over the input, or how it ended.
+fn reads_text(alloc: Global, each: usize, input: &str) -> Result<String, AllocError> {
     let mut source = Pieces::new(input.as_bytes(), each, 0);
     let mut sink = Recorder::new(alloc);
     let status = run(alloc, &["pick", SIM], &mut source, &mut sink);
-    status < 2 && source.is_read_whole() && reads.parse() == Ok(source.reads)
+    let reads = source.reads;
+    if status < 2 && source.is_read_whole() {
+        return format!(in alloc; "{reads}");
+    }
+    format!(in alloc; "{reads} and status {status}, or a wrong call of the source")
+}
+
+/// Compares the number of reads of a run of `pick` over the input, none of them after the end, with
+/// that of a row.
+pub(super) fn finding_of_reads(alloc: Global, each: &str, input: &str, reads: &str) -> Finding {
+    match each.parse() {
+        Ok(each) => compare(alloc, reads_text(alloc, each, input), reads),
+        Err(_) => found(alloc, "no number of bytes"),
+    }
 }

@@ -14,36 +14,29 @@ fn name_of<'a>(predicate: &Option<Predicate<'a>>) -> &'a str {
     }
 }
 
-// What the next call gives.
+// How many are to come before the next call, and what it gives.
 fn call(alloc: Global, predicates: &mut Predicates<'_>) -> Result<String, AllocError> {
     let left = predicates.left();
     let next = predicates.next();
     let name = name_of(&next);
     drop(next);
-    format!(in alloc; "{left}{name} ")
+    format!(in alloc; "{left}{name}")
 }
 
-// What the calls give.
+// What the calls give, with a space between them, until the end came twice.
 fn calls(alloc: Global, mut predicates: Predicates<'_>) -> Result<String, AllocError> {
     let mut text = String::new(alloc);
-    for _call in 0..predicates.left().saturating_add(2) {
+    for place in 0..predicates.left().saturating_add(2) {
+        text.push_str(if place == 0 { "" } else { " " })?;
         text.push_str(call(alloc, &mut predicates)?.as_str())?;
     }
     Ok(text)
 }
 
-// Whether the calls give these.
-fn are_calls(alloc: Global, predicates: Predicates<'_>, wanted: &str) -> bool {
-    match calls(alloc, predicates) {
-        Ok(found) => found.as_str().trim_end() == wanted,
-        Err(_) => false,
-    }
-}
-
-/// Whether the calls for the predicates of the text give these.
-pub(super) fn come(alloc: Global, text: &str, wanted: &str) -> Result<bool, Failure> {
+/// What each call for the next predicate of the text gives.
+pub(super) fn calls_text(alloc: Global, text: &str) -> Result<String, Failure> {
     let expression = Expression::parse(alloc, text)?;
-    Ok(are_calls(alloc, expression.predicates(), wanted))
+    Ok(calls(alloc, expression.predicates())?)
 }
 
 // The number of nodes of the tree whose first node it is.
@@ -54,9 +47,12 @@ fn length_of(node: &ExprNode) -> usize {
     }
 }
 
-// Writes a space and a number.
+// Writes a number, and a space before it unless it is the first.
 fn push(alloc: Global, text: &mut String, number: usize) -> Result<(), AllocError> {
-    text.push_str(format!(in alloc; " {number}")?.as_str())
+    if !text.is_empty() {
+        text.push_str(" ")?;
+    }
+    text.push_str(format!(in alloc; "{number}")?.as_str())
 }
 
 // Writes the lengths and the places, with a semicolon between them.
@@ -76,15 +72,20 @@ fn push_all(
     Ok(())
 }
 
-// Whether these are shown so.
-fn are_shown(alloc: Global, nodes: &[ExprNode], places: &[usize], wanted: &str) -> bool {
+// The lengths and the places.
+fn lengths_and_places(
+    alloc: Global,
+    nodes: &[ExprNode],
+    places: &[usize],
+) -> Result<String, AllocError> {
     let mut text = String::new(alloc);
-    push_all(alloc, &mut text, nodes, places).is_ok() & (text.as_str().trim_start() == wanted)
+    push_all(alloc, &mut text, nodes, places)?;
+    Ok(text)
 }
 
-/// Whether the parser leaves these for the text.
-pub(super) fn leaves(alloc: Global, text: &str, wanted: &str) -> Result<bool, Failure> {
+/// What the parser leaves for the text.
+pub(super) fn nodes_text(alloc: Global, text: &str) -> Result<String, Failure> {
     let parsed = parse(alloc, text)?;
     let borrowed = parsed.as_ref();
-    Ok(are_shown(alloc, borrowed.nodes(), borrowed.places(), wanted))
+    Ok(lengths_and_places(alloc, borrowed.nodes(), borrowed.places())?)
 }

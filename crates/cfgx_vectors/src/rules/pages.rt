@@ -1,9 +1,8 @@
 //! Tables of `docs/RULES.md`, word for word, which `.ci/examples` compares with the page.
-use super::is_accepted;
-use super::predicates::asks;
-use cfgx_testing::holding::holds;
-use cfgx_testing::rows::has_fault;
-use cfgx_testing::streams::{ALL, is_run_over};
+use super::predicates::predicate_text;
+use super::{compare_fault, compare_predicates};
+use cfgx_testing::rows::{Finding, compare, compare_pair, found};
+use cfgx_testing::streams::{ALL, run_text};
 use cfgx_testing::triples::SIM;
 use std::alloc::{AllocError, Global};
 
@@ -12,53 +11,62 @@ fn quoted(cell: &str) -> &str {
     cell.split('`').nth(1).unwrap_or("")
 }
 
-// The fault of a cell as rows tell it, with no back quotes around its name and no comment.
-fn fault_of(alloc: Global, cell: &str) -> Result<String, AllocError> {
+// The fault of a cell as rows write it, with no back quotes around its name and no comment.
+fn fault_in_cell(alloc: Global, cell: &str) -> Result<String, AllocError> {
     let fault = cell.split(';').next().unwrap_or(cell);
     fault.trim_start_matches('`').replace(alloc, "` at", " at")
 }
 
-/// Whether the text of a row has its fault.
-pub(super) fn is_faulty(alloc: Global, text: &str, fault: &str) -> bool {
+/// Compares the fault of the text of a row with that of the row.
+pub(super) fn finding_of_fault(alloc: Global, text: &str, fault: &str) -> Finding {
     let text = quoted(text);
-    match fault_of(alloc, fault) {
-        Ok(fault) => has_fault(alloc, text, text, fault.as_str()),
-        Err(_) => false,
+    match fault_in_cell(alloc, fault) {
+        Ok(fault) => compare_fault(alloc, text, fault.as_str(), text),
+        Err(_) => found(alloc, "out of memory"),
     }
 }
 
-/// Whether the spelling of a row is that of its predicate alone.
-pub(super) fn is_spelling(alloc: Global, predicate: &str, spelling: &str) -> bool {
+/// Compares the predicate of the spelling of a row, and its spelling, with those of the row.
+pub(super) fn finding_of_spelling(alloc: Global, predicate: &str, spelling: &str) -> Finding {
     let text = quoted(spelling);
-    is_accepted(alloc, text, text) && holds(asks(alloc, text, quoted(predicate)))
+    compare_predicates(alloc, text, text)?;
+    compare(alloc, predicate_text(alloc, text), quoted(predicate))
 }
 
-// Whether `pick` prints this for the input, and ends with its status.
-fn is_picked(alloc: Global, input: &[u8], printed: &str) -> bool {
+// Compares what `pick` prints for the input, and its status, with this output and its status.
+fn compare_picked(alloc: Global, input: &[u8], printed: &str) -> Finding {
     let is_faulty = printed.starts_with("line ") || printed.starts_with("input ");
-    is_run_over(
-        alloc,
-        &["pick", SIM],
-        ALL,
-        input,
-        (printed, u8::from(is_faulty)),
-    )
+    let status = if is_faulty { "1" } else { "0" };
+    let told = run_text(alloc, &["pick", SIM], ALL, input);
+    compare_pair(alloc, told, (status, printed))
 }
 
-// Whether the same holds with the byte ff after the input.
-fn is_picked_with_ff(alloc: Global, input: &str, printed: &str) -> bool {
+// The input with the byte ff after it.
+fn with_ff(alloc: Global, input: &str) -> Result<Vec<u8>, AllocError> {
     let mut bytes = Vec::new(alloc);
-    bytes.extend_from_slice(input.as_bytes()).is_ok()
-        & bytes.push(0xff).is_ok()
-        & is_picked(alloc, bytes.as_slice(), printed)
+    bytes.extend_from_slice(input.as_bytes())?;
+    bytes.push(0xff)?;
+    Ok(bytes)
 }
 
-/// Whether `pick` prints what a row says.
-pub(super) fn is_printed(alloc: Global, cell: &str, printed: &str) -> bool {
+// The same of an input with the byte ff after it.
+fn compare_picked_with_ff(alloc: Global, input: &str, printed: &str) -> Finding {
+    match with_ff(alloc, input) {
+        Ok(bytes) => compare_picked(alloc, bytes.as_slice(), printed),
+        Err(_) => found(alloc, "out of memory"),
+    }
+}
+
+/// Compares what `pick` prints for the input of a row with the row. A row without an input speaks of
+/// none and of line feeds alone.
+pub(super) fn finding_of_pick(alloc: Global, cell: &str, printed: &str) -> Finding {
     let (input, printed) = (quoted(cell), quoted(printed));
     if cell.ends_with(" and the one byte ff") {
-        return is_picked_with_ff(alloc, input, printed);
+        return compare_picked_with_ff(alloc, input, printed);
     }
-    is_picked(alloc, input.as_bytes(), printed)
-        && (!input.is_empty() || is_picked(alloc, b"\n\n\n".as_slice(), printed))
+    compare_picked(alloc, input.as_bytes(), printed)?;
+    if input.is_empty() {
+        return compare_picked(alloc, b"\n\n\n".as_slice(), printed);
+    }
+    Ok(())
 }

@@ -5,32 +5,30 @@ use cfg_expr::{Expression, Predicate};
 use std::alloc::{AllocError, Global};
 
 // A predicate as pages write it: as `Debug` prints it, without quotes.
-fn as_told(alloc: Global, predicate: &Predicate<'_>) -> Result<String, AllocError> {
+fn page_text(alloc: Global, predicate: &Predicate<'_>) -> Result<String, AllocError> {
     format!(in alloc; "{predicate:?}")?
         .as_str()
         .replace(alloc, "\"", "")
 }
 
-// Whether pages write the predicate so, which is dropped by name.
-fn is_told(alloc: Global, predicate: Predicate<'_>, wanted: &str) -> bool {
-    let told = as_told(alloc, &predicate);
+// The predicate as pages write it, which is dropped by name.
+fn text_of_taken(alloc: Global, predicate: Predicate<'_>) -> Result<String, AllocError> {
+    let text = page_text(alloc, &predicate);
     drop(predicate);
-    match told {
-        Ok(told) => told.as_str() == wanted,
-        Err(_) => false,
-    }
+    text
 }
 
-// Whether one predicate is to come, and is written so.
-fn are_one(alloc: Global, mut predicates: Predicates<'_>, wanted: &str) -> bool {
+// The one predicate as pages write it, or how many there are.
+fn only_text(alloc: Global, mut predicates: Predicates<'_>) -> Result<String, AllocError> {
+    let count = predicates.left();
     match predicates.next() {
-        Some(predicate) => is_told(alloc, predicate, wanted) && predicates.left() == 0,
-        None => false,
+        Some(predicate) if count == 1 => text_of_taken(alloc, predicate),
+        _ => format!(in alloc; "{count} predicates"),
     }
 }
 
-/// Whether the text asks one predicate, which pages write so.
-pub(super) fn asks(alloc: Global, text: &str, wanted: &str) -> Result<bool, Failure> {
+/// The one predicate that the text asks, as pages write it.
+pub(super) fn predicate_text(alloc: Global, text: &str) -> Result<String, Failure> {
     let expression = Expression::parse(alloc, text)?;
-    Ok(are_one(alloc, expression.predicates(), wanted))
+    Ok(only_text(alloc, expression.predicates())?)
 }

@@ -1,62 +1,51 @@
 //! What a fault prints, written out by hand from the rules of the format.
 use cfg_expr::error::{Failure, ParseError, Reason};
-use cfgx_testing::holding::{gives, prints};
-use cfgx_testing::rows::is_fault;
+use cfgx_testing::faults::{fault_text, is_fault};
+use cfgx_testing::holding::gives;
+use cfgx_testing::rows::{Finding, compare, found};
 use std::alloc::{AllocError, Global};
 use std::ops::Range;
 
-// The reasons, with their numbers or terms.
-const REASONS: &[Reason] = &[
-    Reason::InvalidNot(0),
-    Reason::InvalidNot(2),
-    Reason::InvalidNot(257),
-    Reason::InvalidCharacters,
-    Reason::UnclosedParens,
-    Reason::UnopenedParens,
-    Reason::UnclosedQuotes,
-    Reason::UnopenedQuotes,
-    Reason::Empty,
-    Reason::Unexpected(&[]),
-    Reason::Unexpected(&["("]),
-    Reason::Unexpected(&["<key>", "all", "any", "not"]),
-    Reason::Unexpected(&["=", ",", ")"]),
-    Reason::Unexpected(&["\"<value>\""]),
-    Reason::Unexpected(&["= \"<target_cfg_value>\""]),
-    Reason::InvalidInteger,
-    Reason::MultipleRootPredicates,
-    Reason::InvalidHasAtomic,
-    Reason::UnknownBuiltin,
+// The reasons without a number, and how rows write them.
+const REASONS: &[(&str, Reason)] = &[
+    ("InvalidCharacters", Reason::InvalidCharacters),
+    ("UnclosedParens", Reason::UnclosedParens),
+    ("UnopenedParens", Reason::UnopenedParens),
+    ("UnclosedQuotes", Reason::UnclosedQuotes),
+    ("UnopenedQuotes", Reason::UnopenedQuotes),
+    ("Empty", Reason::Empty),
+    ("U[]", Reason::Unexpected(&[])),
+    ("U[`(`]", Reason::Unexpected(&["("])),
+    (
+        "U[`<key>` `all` `any` `not`]",
+        Reason::Unexpected(&["<key>", "all", "any", "not"]),
+    ),
+    ("U[`=` `,` `)`]", Reason::Unexpected(&["=", ",", ")"])),
+    ("U[`\"<value>\"`]", Reason::Unexpected(&["\"<value>\""])),
+    (
+        "U[`= \"<target_cfg_value>\"`]",
+        Reason::Unexpected(&["= \"<target_cfg_value>\""]),
+    ),
+    ("InvalidInteger", Reason::InvalidInteger),
+    ("MultipleRootPredicates", Reason::MultipleRootPredicates),
+    ("InvalidHasAtomic", Reason::InvalidHasAtomic),
+    ("UnknownBuiltin", Reason::UnknownBuiltin),
 ];
 
-// How rows tell each of them, a line for each.
-const NAMES: &str = r#"InvalidNot(0)
-InvalidNot(2)
-InvalidNot(257)
-InvalidCharacters
-UnclosedParens
-UnopenedParens
-UnclosedQuotes
-UnopenedQuotes
-Empty
-U[]
-U[`(`]
-U[`<key>` `all` `any` `not`]
-U[`=` `,` `)`]
-U[`"<value>"`]
-U[`= "<target_cfg_value>"`]
-InvalidInteger
-MultipleRootPredicates
-InvalidHasAtomic
-UnknownBuiltin"#;
+// The reason with a number that rows write so.
+fn invalid_not(told: &str) -> Option<Reason> {
+    let number = told.strip_prefix("InvalidNot(")?.strip_suffix(')')?;
+    Some(Reason::InvalidNot(number.parse().ok()?))
+}
 
-// The reason that rows tell so.
+// The reason that rows write so.
 fn reason_of(told: &str) -> Option<Reason> {
-    for (reason, name) in REASONS.iter().zip(NAMES.lines()) {
-        if name == told {
+    for (name, reason) in REASONS {
+        if *name == told {
             return Some(*reason);
         }
     }
-    None
+    invalid_not(told)
 }
 
 // The fault in this text with the reason of this name.
@@ -70,36 +59,48 @@ fn error_of(alloc: Global, text: &str, span: Range<usize>, name: &str) -> Option
     })
 }
 
-/// Whether the reason of this name has these texts.
-pub(super) fn has_texts(alloc: Global, name: &str, text: &str, description: &str) -> bool {
+// What the reason of the fault prints, and what the fault says of itself.
+fn texts_of(alloc: Global, error: &ParseError) -> Result<String, AllocError> {
+    let (reason, description) = (error.reason, error.description());
+    format!(in alloc; "{reason} | {description}")
+}
+
+/// What the reason that rows write so prints, and what a fault with it says of itself.
+pub(super) fn reason_texts(alloc: Global, name: &str) -> Result<String, AllocError> {
     match error_of(alloc, "", 0..0, name) {
-        Some(error) => prints(alloc, &error.reason, text) & (error.description() == description),
-        None => false,
+        Some(error) => texts_of(alloc, &error),
+        None => String::from_str(alloc, "no such reason"),
     }
 }
 
-// The span that rows tell so.
+// The span that rows write so.
 fn span_as_told(span: &str) -> Option<Range<usize>> {
     let (start, end) = span.split_once("..")?;
     Some(start.parse().ok()?..end.parse().ok()?)
 }
 
-// The fault that rows tell so, in this text.
+// The fault that rows write so, in this text.
 fn error_as_told(alloc: Global, text: &str, fault: &str) -> Option<ParseError> {
     let (name, span) = fault.split_once(" at ")?;
     error_of(alloc, text, span_as_told(span)?, name)
 }
 
-/// Whether the fault that rows tell so prints this.
-pub(super) fn is_printed(alloc: Global, text: &str, fault: &str, printed: &str) -> bool {
+// Compares what the fault prints with this, and what rows write of it with what this one writes.
+fn compare_printed(alloc: Global, error: &ParseError, fault: &str, printed: &str) -> Finding {
+    compare(alloc, fault_text(alloc, error), fault)?;
+    compare(alloc, format!(in alloc; "{error}"), printed)
+}
+
+/// Compares what the fault that rows write so prints with this.
+pub(super) fn finding(alloc: Global, text: &str, fault: &str, printed: &str) -> Finding {
     match error_as_told(alloc, text, fault) {
-        Some(error) => is_fault(alloc, &error, text, fault) & prints(alloc, &error, printed),
-        None => false,
+        Some(error) => compare_printed(alloc, &error, fault, printed),
+        None => found(alloc, "no such fault"),
     }
 }
 
 /// Whether equality of reasons is that of their parts.
-pub(super) fn are_reasons_equal() -> bool {
+pub(super) fn compares_reasons() -> bool {
     let terms = Reason::Unexpected(&["big", "little"]);
     terms == Reason::Unexpected(&["big", "little"])
         && terms != Reason::Unexpected(&["big"])
@@ -119,11 +120,11 @@ fn are_equal(alloc: Global, one: Range<usize>, other: Range<usize>) -> Result<bo
 }
 
 /// Whether equality of faults is that of their parts.
-pub(super) fn are_faults_equal(alloc: Global) -> Result<bool, AllocError> {
-    Ok(are_equal(alloc, 1..2, 1..2)? && !are_equal(alloc, 1..2, 1..3)?)
+pub(super) fn compares_faults(alloc: Global) -> bool {
+    are_equal(alloc, 1..2, 1..2) == Ok(true) && are_equal(alloc, 1..2, 1..3) == Ok(false)
 }
 
-// `?` makes a failure of either of its causes.
+// Returns a failure of a fault, which `?` makes.
 fn parse_failure(alloc: Global) -> Result<(), Failure> {
     Err(unopened(alloc, ")", 0..1)?)?;
     Ok(())
@@ -137,8 +138,8 @@ fn is_unopened(alloc: Global, failure: &Result<(), Failure>) -> bool {
     }
 }
 
-/// Whether a failure is a fault or out of memory.
-pub(super) fn is_failure(alloc: Global) -> bool {
+/// Whether `?` makes a failure of a fault and of out of memory.
+pub(super) fn makes_failures(alloc: Global) -> bool {
     let failure: Failure = Failure::from(AllocError);
     failure == Failure::Memory(AllocError) && is_unopened(alloc, &parse_failure(alloc))
 }

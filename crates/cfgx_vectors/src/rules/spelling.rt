@@ -4,10 +4,12 @@ use cfg_expr::expr::{Predicates, spell};
 use cfg_expr::{Expression, Predicate};
 use cfgx_engine::engine::Sink;
 use cfgx_testing::holding::holds;
+use cfgx_testing::rows::{Finding, compare, found, require};
 use cfgx_testing::streams::{ALL, Recorder};
 use cfgx_testing::texts::repeated;
-use std::alloc::Global;
+use std::alloc::{AllocError, Global};
 use std::io::{self, ErrorKind, Write};
+use std::str;
 
 // A writer in memory, whose failed calls have an error of this kind.
 #[derive(Drop)]
@@ -63,8 +65,7 @@ fn spell_all(predicates: Predicates<'_>, writer: &mut Slow) -> Result<(), ErrorK
     Ok(())
 }
 
-// Spells a predicate, and drops it by name, since a drop at the end of the scope takes long to
-// prove.
+// Spells a predicate.
 fn spell_one(predicate: Predicate<'_>, writer: &mut Slow) -> io::Result<()> {
     let spelled = spell(&predicate, writer);
     drop(predicate);
@@ -79,30 +80,36 @@ fn has_spelling(writer: &Slow, spelled: &str) -> bool {
         && (sink.each > 1 || sink.writes == spelled.len() as u64)
 }
 
-// Whether the text is spelled so by calls that take at most `each` bytes.
-fn is_spelled(alloc: Global, text: &str, spelled: &str, each: usize) -> bool {
+// What is written, or how it failed, by calls that take at most `each` bytes.
+fn spelled_text(alloc: Global, text: &str, each: usize) -> Result<String, AllocError> {
     let mut writer = slow_writer(alloc, each);
-    spell_each(alloc, text, &mut writer).is_ok() & has_spelling(&writer, spelled)
+    let ended = spell_each(alloc, text, &mut writer);
+    let written = str::from_utf8(writer.sink.bytes.as_slice()).unwrap_or("not UTF-8");
+    if ended.is_ok() && has_spelling(&writer, written) {
+        return String::from_str(alloc, written);
+    }
+    format!(in alloc; "{written} and an error or a wrong call at {each} bytes a call")
 }
 
-// Whether the text is spelled so if the writer takes all, or a few bytes, or one a call.
-fn is_spelled_by_any(alloc: Global, text: &str, spelled: &str) -> bool {
-    is_spelled(alloc, text, spelled, 1)
-        && is_spelled(alloc, text, spelled, 3)
-        && is_spelled(alloc, text, spelled, ALL)
+// Compares the spelling with this one if the writer takes all, or a few bytes, or one a call.
+fn compare_spelling(alloc: Global, text: &str, spelled: &str) -> Finding {
+    compare(alloc, spelled_text(alloc, text, ALL), spelled)?;
+    compare(alloc, spelled_text(alloc, text, 3), spelled)?;
+    compare(alloc, spelled_text(alloc, text, 1), spelled)
 }
 
-/// Whether the predicate is spelled as its text, in which 5,000 bytes stand between these two.
-pub(super) fn is_long(alloc: Global, front: &str, back: &str) -> bool {
+/// Compares the spelling of the predicate with its text, in which 5,000 bytes stand between these
+/// two.
+pub(super) fn finding_of_long(alloc: Global, front: &str, back: &str) -> Finding {
     match repeated(alloc, front, "x", 5_000, back) {
-        Ok(text) => is_spelled_by_any(alloc, text.as_str(), text.as_str()),
-        Err(_) => false,
+        Ok(text) => compare_spelling(alloc, text.as_str(), text.as_str()),
+        Err(_) => found(alloc, "out of memory"),
     }
 }
 
 /// Whether a flag that is read as a literal is spelled. Only a caller can make it, since no text
 /// asks it.
-pub(super) fn is_flag_spelled(alloc: Global) -> bool {
+pub(super) fn spells_true(alloc: Global) -> bool {
     let mut writer = slow_writer(alloc, 1);
     spell_one(Predicate::Flag("true"), &mut writer).is_ok() & has_spelling(&writer, "true")
 }
@@ -114,7 +121,7 @@ fn has_front(writer: &Slow, spelled: &str, length: usize) -> bool {
         && !writer.sink.is_misused
 }
 
-// Whether a beginning of the spelling was written, this many bytes, if no more have room.
+// Whether a beginning of the spelling of `room` bytes was written if no more have room.
 fn stops_after(alloc: Global, text: &str, spelled: &str, room: usize) -> bool {
     let mut writer = slow_writer(alloc, 4);
     writer.sink.room = room;
@@ -180,11 +187,23 @@ fn is_read_again(alloc: Global, text: &str, spelled: &str) -> bool {
     has_several || holds(ask_the_same(alloc, text, spelled))
 }
 
-/// Whether the text is spelled so by any writer, stops where one takes nothing or fails, and is
-/// read again as its predicate.
-pub(super) fn is_right(alloc: Global, text: &str, spelled: &str) -> bool {
-    is_spelled_by_any(alloc, text, spelled)
-        && stops_at_each(alloc, text, spelled)
-        && fails_at_each(alloc, text, spelled)
-        && is_read_again(alloc, text, spelled)
+/// Compares the spelling of the text with this one. It also has to stop where a writer takes nothing
+/// or fails, and to be read again as its predicate.
+pub(super) fn finding(alloc: Global, text: &str, spelled: &str) -> Finding {
+    compare_spelling(alloc, text, spelled)?;
+    require(
+        alloc,
+        stops_at_each(alloc, text, spelled),
+        "it goes on past a full writer",
+    )?;
+    require(
+        alloc,
+        fails_at_each(alloc, text, spelled),
+        "it goes on past a failed call",
+    )?;
+    require(
+        alloc,
+        is_read_again(alloc, text, spelled),
+        "it is read as something else",
+    )
 }

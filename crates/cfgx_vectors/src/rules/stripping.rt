@@ -1,41 +1,39 @@
 //! Stripping: the outer `cfg( )` is taken off once, and spans count the bytes of what is left.
 use cfg_expr::Expression;
 use cfg_expr::error::Failure;
-use cfgx_testing::holding::prints;
-use std::alloc::Global;
+use cfgx_testing::holding::holds;
+use std::alloc::{AllocError, Global};
 use std::fmt::Debug;
 
-// Whether the expression prints this text, which is its stripped one.
-fn is_printed(alloc: Global, expression: &Expression, original: &str) -> bool {
-    prints(alloc, expression, original) && expression.original() == original
+// What the expression prints, and the text that it keeps.
+fn printed_and_kept(alloc: Global, expression: &Expression) -> Result<String, AllocError> {
+    let original = expression.original();
+    format!(in alloc; "{expression} | {original}")
 }
 
-/// Whether the text is stripped to this one, which its expression prints.
-pub(super) fn is_stripped_to(alloc: Global, text: &str, original: &str) -> Result<bool, Failure> {
+/// What the expression of the text prints, and the text that it keeps.
+pub(super) fn stripped(alloc: Global, text: &str) -> Result<String, Failure> {
     let expression = Expression::parse(alloc, text)?;
-    Ok(is_printed(alloc, &expression, original))
+    Ok(printed_and_kept(alloc, &expression)?)
 }
 
-// Whether the text has an expression, and that is equal to this one or is not, as is wanted.
-fn is_equal(
-    alloc: Global,
-    expression: &Expression,
-    text: &str,
-    wanted: bool,
-) -> Result<bool, Failure> {
+// Whether the text has an expression that is equal to this one.
+fn is_equal(alloc: Global, expression: &Expression, text: &str) -> Result<bool, Failure> {
     let other = Expression::parse(alloc, text)?;
-    Ok((*expression == other) == wanted)
+    Ok(*expression == other)
 }
 
-/// Whether the expressions of two texts are as a row says.
-pub(super) fn are_as_said(
-    alloc: Global,
-    one: &str,
-    other: &str,
-    wanted: &str,
-) -> Result<bool, Failure> {
+// Whether both texts have expressions that are equal.
+fn are_equal(alloc: Global, one: &str, other: &str) -> Result<bool, Failure> {
     let expression = Expression::parse(alloc, one)?;
-    is_equal(alloc, &expression, other, wanted == "equal")
+    is_equal(alloc, &expression, other)
+}
+
+/// Whether the expressions of both texts are equal, as rows say it.
+pub(super) fn equality(alloc: Global, one: &str, other: &str) -> Result<String, Failure> {
+    let is_equal = are_equal(alloc, one, other)?;
+    let told = if is_equal { "equal" } else { "different" };
+    Ok(String::from_str(alloc, told)?)
 }
 
 // Whether `Debug` shows the value so.
@@ -46,8 +44,13 @@ fn shows<T: Debug>(alloc: Global, value: &T, wanted: &str) -> bool {
     }
 }
 
+// Whether `Debug` shows the expression of a text so.
+fn is_shown(alloc: Global, text: &str, wanted: &str) -> Result<bool, Failure> {
+    let expression = Expression::parse(alloc, text)?;
+    Ok(shows(alloc, &expression, wanted))
+}
+
 /// Whether `Debug` shows the stripped text.
-pub(super) fn is_debug(alloc: Global) -> Result<bool, Failure> {
-    let expression = Expression::parse(alloc, "cfg(all(a))")?;
-    Ok(shows(alloc, &expression, "Expression(\"all(a)\")"))
+pub(super) fn shows_stripped(alloc: Global) -> bool {
+    holds(is_shown(alloc, "cfg(all(a))", "Expression(\"all(a)\")"))
 }

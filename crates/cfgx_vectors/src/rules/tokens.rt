@@ -1,11 +1,12 @@
 //! Tokens: the items of a text, the white space between them, and lexical faults.
 use cfg_expr::error::{Failure, ParseError};
 use cfg_expr::expr::lexer::{Lexer, LexerToken};
-use cfgx_testing::rows::told;
+use cfgx_testing::faults::fault_text;
+use cfgx_testing::rows::{Finding, compare, found};
 use std::alloc::{AllocError, Global};
 
 // The item, if it is equal to its copy.
-fn item_as_told(alloc: Global, item: &LexerToken<'_>) -> Result<String, AllocError> {
+fn item_text(alloc: Global, item: &LexerToken<'_>) -> Result<String, AllocError> {
     let copy = item.clone()?;
     if copy.token != item.token || copy.span != item.span {
         return String::from_str(alloc, "another copy");
@@ -15,49 +16,43 @@ fn item_as_told(alloc: Global, item: &LexerToken<'_>) -> Result<String, AllocErr
 }
 
 // The fault, and the text in which it is.
-fn fault_as_told(alloc: Global, error: &ParseError) -> Result<String, AllocError> {
-    let fault = told(alloc, error)?;
+fn fault_item_text(alloc: Global, error: &ParseError) -> Result<String, AllocError> {
+    let fault = fault_text(alloc, error)?;
     let original = error.original.as_str();
     format!(in alloc; "{fault} in {original}, ")
 }
 
-// What the next call gives.
-fn next_as_told(alloc: Global, lexer: &mut Lexer<'_>) -> Result<String, AllocError> {
+// What the next call gives, or nothing at the end.
+fn next_text(alloc: Global, lexer: &mut Lexer<'_>) -> Result<String, AllocError> {
     match lexer.next() {
-        Some(Ok(item)) => item_as_told(alloc, &item),
-        Some(Err(Failure::Parse(error))) => fault_as_told(alloc, &error),
-        _ => Err(AllocError),
+        Some(Ok(item)) => item_text(alloc, &item),
+        Some(Err(Failure::Parse(error))) => fault_item_text(alloc, &error),
+        Some(Err(Failure::Memory(error))) => Err(error),
+        None => Ok(String::new(alloc)),
     }
 }
 
-// Whether a field tells this item and how many bytes are left after it.
-fn is_told(alloc: Global, item: &str, lexer: &Lexer<'_>, wanted: &str) -> bool {
-    let left = lexer.items_left_bound();
-    match format!(in alloc; "{item}{left} left") {
-        Ok(found) => found.as_str() == wanted,
-        Err(_) => false,
-    }
+// The item, and how many bytes are left after it.
+fn with_left(
+    alloc: Global,
+    item: Result<String, AllocError>,
+    left: usize,
+) -> Result<String, AllocError> {
+    let item = item?;
+    format!(in alloc; "{item}{left} left")
 }
 
-// Whether the next call gives this.
-fn gives(alloc: Global, lexer: &mut Lexer<'_>, wanted: &str) -> bool {
-    match next_as_told(alloc, lexer) {
-        Ok(next) => is_told(alloc, next.as_str(), lexer, wanted),
-        Err(_) => false,
+// Compares the next items with these.
+fn compare_items(alloc: Global, lexer: &mut Lexer<'_>, items: &[String]) -> Finding {
+    for wanted in items {
+        let item = next_text(alloc, lexer);
+        let told = with_left(alloc, item, lexer.items_left_bound());
+        compare(alloc, told, wanted.as_str())?;
     }
+    Ok(())
 }
 
-// Whether the next calls give these.
-fn gives_all(alloc: Global, lexer: &mut Lexer<'_>, items: &[String]) -> bool {
-    for item in items {
-        if !gives(alloc, lexer, item.as_str()) {
-            return false;
-        }
-    }
-    true
-}
-
-// Whether nothing is to come, however often it is asked.
+// Whether no item is to come, however often it is asked.
 fn has_ended(lexer: &mut Lexer<'_>) -> bool {
     for _call in 0..3 {
         if lexer.next().is_some() || lexer.items_left_bound() != 0 {
@@ -67,13 +62,23 @@ fn has_ended(lexer: &mut Lexer<'_>) -> bool {
     true
 }
 
-/// Whether the text of a row has its items, and nothing comes after them.
-pub(super) fn has_items(alloc: Global, row: &[String]) -> bool {
+// Compares the items of the lexer with all of these.
+fn compare_all(alloc: Global, lexer: &mut Lexer<'_>, before: &str, items: &[String]) -> Finding {
+    let told = with_left(alloc, Ok(String::new(alloc)), lexer.items_left_bound());
+    compare(alloc, told, before)?;
+    compare_items(alloc, lexer, items)?;
+    if has_ended(lexer) {
+        Ok(())
+    } else {
+        found(alloc, "one more item")
+    }
+}
+
+/// Compares the items of the text of a row with those of the row.
+pub(super) fn finding(alloc: Global, row: &[String]) -> Finding {
     let [text, before, items @ ..] = row else {
-        return false;
+        return found(alloc, "no text and no number");
     };
     let mut lexer = Lexer::new(alloc, text.as_str());
-    is_told(alloc, "", &lexer, before.as_str())
-        & gives_all(alloc, &mut lexer, items)
-        & has_ended(&mut lexer)
+    compare_all(alloc, &mut lexer, before.as_str(), items)
 }

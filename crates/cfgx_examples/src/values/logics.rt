@@ -46,8 +46,8 @@ impl Logic for Sided {
     }
 }
 
-// The value over these answers, if just so many questions are asked.
-fn value(alloc: Global, text: &str, answers: &[Sided]) -> Option<Sided> {
+// The value over these answers, if there are as many questions as answers.
+fn value_over(alloc: Global, text: &str, answers: &[Sided]) -> Option<Sided> {
     match Expression::parse(alloc, text) {
         Ok(expression) => value_with(alloc, &expression, answers),
         Err(_) => None,
@@ -58,9 +58,9 @@ fn value(alloc: Global, text: &str, answers: &[Sided]) -> Option<Sided> {
 #[test]
 fn no_law_is_needed(rt: HostRuntime) {
     let answers = [Sided(5), Sided(7), Sided(9)];
-    assert!(rt; value(rt.alloc(), "all(a, b, c)", &answers) == Some(Sided(5)));
+    assert!(rt; value_over(rt.alloc(), "all(a, b, c)", &answers) == Some(Sided(5)));
     let answers = [Sided(5), Sided(7)];
-    assert!(rt; value(rt.alloc(), "any(a, b)", &answers) == Some(Sided(2)));
+    assert!(rt; value_over(rt.alloc(), "any(a, b)", &answers) == Some(Sided(2)));
 }
 
 #[test]

@@ -2,10 +2,9 @@
 use cfgx_fields::{Abi, Arch, Env, Family, Field, Os, Panic, Vendor};
 use std::alloc::{Allocator, Global};
 
-// Checks that the fields are so many, and are these texts, which spaces divide. The error is the
-// first text that one of them is not. A list of fields is proved in a third of the time of a list
-// of texts with what is said of each.
-fn check<K: Drop, A: Allocator>(
+// Checks that there are `count` fields, which are these texts, between which spaces stand. The error
+// is the first text that one of them is not.
+fn check_texts<K: Drop, A: Allocator>(
     fields: &[Field<'_, K, A>],
     texts: &'static str,
     count: usize,
@@ -26,7 +25,7 @@ fn check<K: Drop, A: Allocator>(
 
 macro_rules! named {
     ($wanted:literal $type:ident $($value:ident)* $(, $other:ident $text:literal)?) => {
-        check(
+        check_texts(
             &[$($type::<Global>::$value(),)* $($type::<Global>::$other())?],
             concat!(stringify!($($value)*) $(, " ", $text)?),
             $wanted,

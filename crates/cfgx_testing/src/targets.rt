@@ -1,13 +1,13 @@
-//! Rows that are made by hand.
+//! Rows of targets that are made by hand.
+use crate::holding::{push, put};
 use cfg_expr::targets::{
     Abi, Arch, Endian, Env, Families, HasAtomics, Os, Panic, TargetInfo, Triple, Vendor,
 };
 use cfgx_targets::reading::{read_endian, read_u8};
-use cfgx_testing::holding::{push, put};
 use std::alloc::{AllocError, Global};
 
 /// A row that lacks all that a row may lack.
-pub(super) fn bare(triple: &str) -> TargetInfo<'_> {
+pub fn bare(triple: &str) -> TargetInfo<'_> {
     TargetInfo {
         triple: Triple::new_const(triple),
         os: None,
@@ -75,7 +75,7 @@ fn set_fields(
 
 /// A row with this triple and these fields, which lacks all else that a row may lack. Spaces stand
 /// between the fields: `os=ios` and so on, or `unix`, `windows` or `atomics` for a list.
-pub(super) fn row_of(
+pub fn row_of(
     alloc: Global,
     triple: &'static str,
     fields: &'static str,
@@ -86,7 +86,7 @@ pub(super) fn row_of(
 }
 
 /// Adds a row for each line, which is a triple with fields after it.
-pub(super) fn push_rows(
+pub fn push_rows(
     alloc: Global,
     rows: &mut Vec<TargetInfo<'static>>,
     lines: &'static str,

@@ -1,7 +1,7 @@
 //! Values that are not equal hash apart, on examples, and equal ones alike.
-use super::rows::row_of;
 use cfg_expr::targets::{Endian, HasAtomic, TargetInfo};
 use cfgx_testing::holding::{hash_of, holds};
+use cfgx_testing::targets::row_of;
 use std::alloc::{AllocError, Global};
 use std::hash::Hash;
 
@@ -37,8 +37,7 @@ fn ios(alloc: Global, fields: &'static str) -> Result<TargetInfo<'static>, Alloc
     row_of(alloc, "aarch64-apple-ios", fields)
 }
 
-// A copy of it. The row is dropped by name, since a drop at the end of the scope takes long to
-// prove.
+// A copy of it.
 fn copied(alloc: Global, fields: &'static str) -> Result<TargetInfo<'static>, AllocError> {
     let row = ios(alloc, fields)?;
     let copy = row.try_clone(alloc);

@@ -24,7 +24,11 @@ fn prints_as<T: Display>(alloc: Global, field: &T, text: &str) -> Result<bool, A
 type Two<'a> = ((usize, &'a str), (usize, &'a str));
 
 // Whether these fields of the texts compare, hash and print as the texts do.
-fn stand_for<T: Ord + Hash + Display>(alloc: Global, fields: (&T, &T), texts: Two<'_>) -> bool {
+fn compares_as_texts<T: Ord + Hash + Display>(
+    alloc: Global,
+    fields: (&T, &T),
+    texts: Two<'_>,
+) -> bool {
     let ((one, other), ((i, text), (j, other_text))) = (fields, texts);
     (one == other) == (i == j)
         && one.cmp(other) == i.cmp(&j)
@@ -45,45 +49,50 @@ fn owned<'h>(heap: Heap<'h>, text: &str) -> Result<String<Heap<'h>>, AllocError>
 type Fields<'f, 'a, K, A> = (&'f Field<'a, K, A>, &'f Field<'a, K, A>);
 
 // Whether the fields are these texts, compare as they do, and print them.
-fn are_texts<K, A: Allocator>(alloc: Global, fields: Fields<'_, '_, K, A>, texts: Two<'_>) -> bool {
+fn are_these_texts<K, A: Allocator>(
+    alloc: Global,
+    fields: Fields<'_, '_, K, A>,
+    texts: Two<'_>,
+) -> bool {
     let (one, other) = fields;
-    let are_texts = one.as_str() == texts.0.1 && other.as_str() == texts.1.1;
-    are_texts && stand_for(alloc, fields, texts)
+    let have_texts = one.as_str() == texts.0.1 && other.as_str() == texts.1.1;
+    have_texts && compares_as_texts(alloc, fields, texts)
 }
 
 // Whether a borrowed field of the first text and an owned one of the second, of one kind, are these
 // texts, with every growth refused.
-fn are_made<K: Drop, A: Allocator>(
+fn are_borrowed_and_owned<K: Drop, A: Allocator>(
     alloc: Global,
     owned: Result<String<A>, AllocError>,
     texts: Two<'_>,
 ) -> Result<bool, AllocError> {
     let owned = Field::<'_, K, A>::new(owned?);
     let borrowed = Field::new_const(texts.0.1);
-    Ok(are_texts(alloc, (&borrowed, &owned), texts))
+    Ok(are_these_texts(alloc, (&borrowed, &owned), texts))
 }
 
-fn are_in<K: Drop>(alloc: Global, heap: Heap<'_>, texts: Two<'_>) -> bool {
-    holds(are_made::<K, _>(alloc, owned(heap, texts.1.1), texts))
+// The same, of an owned field in the heap.
+fn are_fields_of<K: Drop>(alloc: Global, heap: Heap<'_>, texts: Two<'_>) -> bool {
+    holds(are_borrowed_and_owned::<K, _>(alloc, owned(heap, texts.1.1), texts))
 }
 
 // Whether a borrowed and an owned field of each type are these texts.
-fn are_all_texts(alloc: Global, heap: Heap<'_>, texts: Two<'_>) -> bool {
-    are_in::<TripleKind>(alloc, heap, texts)
-        && are_in::<AbiKind>(alloc, heap, texts)
-        && are_in::<ArchKind>(alloc, heap, texts)
-        && are_in::<VendorKind>(alloc, heap, texts)
-        && are_in::<OsKind>(alloc, heap, texts)
-        && are_in::<FamilyKind>(alloc, heap, texts)
-        && are_in::<EnvKind>(alloc, heap, texts)
-        && are_in::<PanicKind>(alloc, heap, texts)
+fn are_fields_of_each_kind(alloc: Global, heap: Heap<'_>, texts: Two<'_>) -> bool {
+    are_fields_of::<TripleKind>(alloc, heap, texts)
+        && are_fields_of::<AbiKind>(alloc, heap, texts)
+        && are_fields_of::<ArchKind>(alloc, heap, texts)
+        && are_fields_of::<VendorKind>(alloc, heap, texts)
+        && are_fields_of::<OsKind>(alloc, heap, texts)
+        && are_fields_of::<FamilyKind>(alloc, heap, texts)
+        && are_fields_of::<EnvKind>(alloc, heap, texts)
+        && are_fields_of::<PanicKind>(alloc, heap, texts)
 }
 
 // Checks the fields of all texts with each other. The error is the first two that fail.
-fn check_all(alloc: Global, heap: Heap<'_>) -> Result<(), Two<'static>> {
+fn check_pairs_of_texts(alloc: Global, heap: Heap<'_>) -> Result<(), Two<'static>> {
     for one in RISING.split('|').enumerate() {
         for other in RISING.split('|').enumerate() {
-            if !are_all_texts(alloc, heap, (one, other)) {
+            if !are_fields_of_each_kind(alloc, heap, (one, other)) {
                 return Err((one, other));
             }
         }
@@ -94,7 +103,7 @@ fn check_all(alloc: Global, heap: Heap<'_>) -> Result<(), Two<'static>> {
 #[test]
 fn each_field_is_a_text(rt: HostRuntime) -> Result<(), Two<'static>> {
     let heap = empty_heap(rt.alloc());
-    let checked = check_all(rt.alloc(), &heap);
+    let checked = check_pairs_of_texts(rt.alloc(), &heap);
     assert!(rt; has_every_block(heap) && RISING.split('|').count() == 9);
     checked
 }

@@ -1,5 +1,5 @@
-//! The verdicts of `pick` on sections, by rows that are built in.
-use super::conditions::BUILT_IN;
+//! The verdicts of `pick` on any number of sections, with and without a name, on each target that is
+//! built in.
 use cfg_expr::Expression;
 use cfg_expr::error::Failure;
 use cfg_expr::expr::TargetMatcher;
@@ -9,7 +9,14 @@ use cfgx_testing::answers::answer_of;
 use cfgx_testing::holding::holds;
 use cfgx_testing::texts::repeated;
 use std::alloc::Global;
-use std::test::Fail;
+
+// Conditions, and a digit for the value on each target that is built in.
+const CONDITIONS: &str = r#"target_os = "macos" | 10000
+feature = "x" | ?????
+not(target_os = "macos") | 01111
+all(target_abi = "sim", feature = "x") | 000?0
+any(target_os = "tvos", target_env = "macabi") | 00101
+"#;
 
 // Adds a section with this name and condition.
 fn push_section(
@@ -24,12 +31,12 @@ fn push_section(
     Ok(())
 }
 
-/// Rows, the place of a target's values in them, and whether the name of a section is its
-/// condition, or nothing.
+// Rows, the place of a target's values in them, and whether the name of a section is its condition,
+// or nothing.
 type Told<'a> = (&'a str, usize, bool);
 
 // The name, the condition and the values of a row.
-fn taken_apart(row: &str, is_named: bool) -> (&str, &str, &str) {
+fn fields_of(row: &str, is_named: bool) -> (&str, &str, &str) {
     let (condition, values) = row.split_once(" | ").unwrap_or((row, ""));
     (if is_named { condition } else { "" }, condition, values)
 }
@@ -38,7 +45,7 @@ fn taken_apart(row: &str, is_named: bool) -> (&str, &str, &str) {
 fn sections_of(alloc: Global, told: Told<'_>) -> Result<Vec<Section>, Failure> {
     let mut sections = Vec::new(alloc);
     for row in told.0.lines() {
-        let (name, condition, _values) = taken_apart(row, told.2);
+        let (name, condition, _values) = fields_of(row, told.2);
         push_section(alloc, &mut sections, name, condition)?;
     }
     Ok(sections)
@@ -54,62 +61,53 @@ fn verdict_of(digit: Option<&u8>) -> Option<Verdict> {
 }
 
 // Whether the section is that of the row, with the verdict of the target.
-fn is_row(section: &Section, verdict: Verdict, row: &str, told: Told<'_>) -> bool {
-    let (name, condition, values) = taken_apart(row, told.2);
+fn is_section_of_row(section: &Section, verdict: Verdict, row: &str, told: Told<'_>) -> bool {
+    let (name, condition, values) = fields_of(row, told.2);
     section.name.as_str() == name
         && section.condition.original() == condition
         && verdict_of(values.as_bytes().get(told.1)) == Some(verdict)
 }
 
 // Whether the sections are those of the rows, with the verdicts of the target.
-fn are_rows(sections: &[Section], verdicts: &[Verdict], told: Told<'_>) -> bool {
+fn match_rows(sections: &[Section], verdicts: &[Verdict], told: Told<'_>) -> bool {
     let mut rows = told.0.lines();
     for (section, verdict) in sections.iter().zip(verdicts) {
-        if !is_row(section, *verdict, rows.next().unwrap_or(""), told) {
+        if !is_section_of_row(section, *verdict, rows.next().unwrap_or(""), told) {
             return false;
         }
     }
     sections.len() == verdicts.len() && rows.next().is_none()
 }
 
-// Whether the target says of the sections what the rows do, twice, and leaves them as they were.
+// Whether the target says of the sections what the rows say, twice, and leaves them as they were.
 fn is_picked<M: TargetMatcher>(alloc: Global, asked: &M, told: Told<'_>) -> Result<bool, Failure> {
     let sections = sections_of(alloc, told)?;
     let verdicts = pick(alloc, sections.as_slice(), asked)?;
     let again = pick(alloc, sections.as_slice(), asked)?;
-    Ok(verdicts == again && are_rows(sections.as_slice(), verdicts.as_slice(), told))
+    Ok(verdicts == again && match_rows(sections.as_slice(), verdicts.as_slice(), told))
 }
 
-#[test]
-fn verdicts_by_rows_that_are_built_in(rt: HostRuntime) -> Result<(), Fail> {
-    let table = TargetTable::builtins(rt.alloc())?;
+// Whether each target that is built in says of the sections what the rows say.
+fn is_picked_on_each(alloc: Global, table: &TargetTable<'_>, rows: &str, is_named: bool) -> bool {
     for (place, row) in table.rows().iter().enumerate() {
-        let is_right = holds(is_picked(rt.alloc(), row, (BUILT_IN, place, true)));
-        assert!(rt; is_right, "{place}");
+        if !holds(is_picked(alloc, row, (rows, place, is_named))) {
+            return false;
+        }
     }
-    Ok(())
+    table.rows().len() == 5
 }
 
-// Three conditions, and their values on macOS.
-const THREE: &str = r#"target_os = "macos" | 1
-feature = "x" | ?
-not(target_os = "macos") | 0
-"#;
-
-// Whether the sections of three conditions, so many times, have their verdicts on macOS.
-fn are_on_macos(alloc: Global, times: usize, is_named: bool) -> Result<bool, Failure> {
+// The same of the sections of all conditions, which come `times` times.
+fn is_picked_times(alloc: Global, times: usize, is_named: bool) -> Result<bool, Failure> {
     let table = TargetTable::builtins(alloc)?;
-    let text = repeated(alloc, "", THREE, times, "")?;
-    match table.rows().first() {
-        Some(row) => is_picked(alloc, row, (text.as_str(), 0, is_named)),
-        None => Ok(false),
-    }
+    let rows = repeated(alloc, "", CONDITIONS, times, "")?;
+    Ok(is_picked_on_each(alloc, &table, rows.as_str(), is_named))
 }
 
 #[test]
 fn verdicts_on_any_number_of_sections_with_and_without_a_name(rt: HostRuntime) {
-    for (times, is_named) in [(0, true), (1, true), (6_667, true), (1, false)] {
-        let is_right = holds(are_on_macos(rt.alloc(), times, is_named));
+    for (times, is_named) in [(0, true), (1, true), (4_000, true), (1, false)] {
+        let is_right = holds(is_picked_times(rt.alloc(), times, is_named));
         assert!(rt; is_right, "{times} {is_named}");
     }
 }

@@ -1,2 +1,0 @@
-//! Values of conditions in other logics.
-mod logics;

@@ -1,0 +1,63 @@
+//! The value of a condition over answers, or the two fillings that show that it is unknown.
+use cfg_expr::error::Failure;
+use cfg_expr::{Decision, Expression};
+use cfgx_testing::answers::Answer;
+use cfgx_testing::fillings::{answers_of, is_told};
+use cfgx_testing::rows::{Finding, compare, require};
+use std::alloc::{AllocError, Global};
+
+// A digit for each value.
+fn digits_of(alloc: Global, filling: &[bool]) -> Result<String, AllocError> {
+    let mut digits = String::new(alloc);
+    for value in filling {
+        digits.push(if *value { '1' } else { '0' })?;
+    }
+    Ok(digits)
+}
+
+// Both fillings, with a space between them.
+fn fillings_text(alloc: Global, one: &[bool], other: &[bool]) -> Result<String, AllocError> {
+    let one = digits_of(alloc, one)?;
+    let other = digits_of(alloc, other)?;
+    format!(in alloc; "{one} {other}")
+}
+
+// The decision as rows write it.
+fn decision_text(alloc: Global, decision: &Decision) -> Result<String, AllocError> {
+    match decision {
+        Decision::Known(value) => format!(in alloc; "{value}"),
+        Decision::Unknown { if_true, if_false } => {
+            fillings_text(alloc, if_true.as_slice(), if_false.as_slice())
+        }
+    }
+}
+
+// What `decide` answers over these answers, of which there has to be one for each predicate.
+fn decided_text(
+    alloc: Global,
+    expression: &Expression,
+    answers: &[Answer],
+) -> Result<String, AllocError> {
+    if expression.predicates().left() != answers.len() {
+        return String::from_str(alloc, "another number of predicates than answers");
+    }
+    decision_text(alloc, &expression.decide(alloc, answers)?)
+}
+
+// What `decide` of the text answers over the answers of these digits.
+fn decided_of(alloc: Global, text: &str, digits: &str) -> Result<String, Failure> {
+    let answers = answers_of(alloc, digits)?;
+    let expression = Expression::parse(alloc, text)?;
+    Ok(decided_text(alloc, &expression, answers.as_slice())?)
+}
+
+/// Compares what `decide` answers with what a row says, and requires the same of each other call.
+pub(super) fn finding(alloc: Global, text: &str, digits: &str, told: &str) -> Finding {
+    compare(alloc, decided_of(alloc, text, digits), told)?;
+    let agrees = is_told(alloc, text, digits, told) == Some(true);
+    require(
+        alloc,
+        agrees,
+        "another call than `decide` answers otherwise",
+    )
+}
