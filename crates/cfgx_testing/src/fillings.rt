@@ -26,7 +26,7 @@ fn has_digits(filling: &[bool], digits: &str) -> bool {
 }
 
 // Whether a row tells these two fillings so.
-fn are_told(with_true: &[bool], with_false: &[bool], told: &str) -> bool {
+fn are_fillings_of_row(with_true: &[bool], with_false: &[bool], told: &str) -> bool {
     match told.split_once(' ') {
         Some((one, other)) => has_digits(with_true, one) && has_digits(with_false, other),
         None => false,
@@ -38,21 +38,21 @@ pub fn is_decided<A: Allocator>(decision: &Decision<A>, told: &str) -> bool {
     match decision {
         Decision::Known(value) => told == if *value { "true" } else { "false" },
         Decision::Unknown { if_true, if_false } => {
-            are_told(if_true.as_slice(), if_false.as_slice(), told)
+            are_fillings_of_row(if_true.as_slice(), if_false.as_slice(), told)
         }
     }
 }
 
 // Whether a row tells these fillings, or a value if there are none.
-fn has_fillings(found: &Option<(Vec<bool>, Vec<bool>)>, told: &str) -> bool {
+fn has_fillings_of_row(found: &Option<(Vec<bool>, Vec<bool>)>, told: &str) -> bool {
     match found {
-        Some((one, other)) => are_told(one.as_slice(), other.as_slice(), told),
+        Some((one, other)) => are_fillings_of_row(one.as_slice(), other.as_slice(), told),
         None => !told.contains(' '),
     }
 }
 
 // Whether `polar_fillings` and `decide` answer what a row tells.
-fn are_shown(
+fn answers_as_row(
     alloc: Global,
     expression: &Expression,
     answers: &[Answer],
@@ -62,7 +62,7 @@ fn are_shown(
         return Ok(false);
     }
     Ok(
-        has_fillings(&expression.polar_fillings(alloc, answers)?, told)
+        has_fillings_of_row(&expression.polar_fillings(alloc, answers)?, told)
             && is_decided(&expression.decide(alloc, answers)?, told),
     )
 }
@@ -85,7 +85,7 @@ fn decides(
 }
 
 // Whether it does for the condition that the reader reads.
-fn is_read_by<'a>(
+fn reads_and_decides<'a>(
     alloc: Global,
     reader: &mut ConditionReader<'a>,
     text: &'a str,
@@ -97,9 +97,9 @@ fn is_read_by<'a>(
 }
 
 // Whether it does for the condition that a new reader reads.
-fn is_read(alloc: Global, text: &str, answers: &[Answer], told: &str) -> bool {
+fn is_decided_by_reader(alloc: Global, text: &str, answers: &[Answer], told: &str) -> bool {
     let mut reader = ConditionReader::new(alloc);
-    holds(is_read_by(alloc, &mut reader, text, answers, told))
+    holds(reads_and_decides(alloc, &mut reader, text, answers, told))
 }
 
 /// Whether a row tells what the text is over these answers, of which there are as many as
@@ -110,7 +110,7 @@ pub fn is_told(alloc: Global, text: &str, digits: &str, told: &str) -> Option<bo
     let answers = answers.as_slice();
     Some(
         agree(alloc, &expression, answers, told.parse().ok())
-            && holds(are_shown(alloc, &expression, answers, told))
-            && is_read(alloc, text, answers, told),
+            && holds(answers_as_row(alloc, &expression, answers, told))
+            && is_decided_by_reader(alloc, text, answers, told),
     )
 }

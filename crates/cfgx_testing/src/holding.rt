@@ -12,13 +12,11 @@ pub fn holds<E: Drop>(answer: Result<bool, E>) -> bool {
 }
 
 /// Whether this is the value, if there is no error.
-///
-/// The proof of a drop takes long if the type of the value is known. Here it is not.
 pub fn gives<T: PartialEq + Drop, E: Drop>(answer: Result<T, E>, wanted: &T) -> Result<bool, E> {
     Ok(answer? == *wanted)
 }
 
-/// Adds what was made, if there is no error. The type is not known here either.
+/// Adds what was made, if there is no error.
 pub fn push<T: Drop, A: Allocator>(
     list: &mut Vec<T, A>,
     made: Result<T, AllocError>,
@@ -27,7 +25,7 @@ pub fn push<T: Drop, A: Allocator>(
     Ok(())
 }
 
-/// Replaces a value by what was made, if there is no error. Its type is not known here either.
+/// Replaces a value by what was made, if there is no error.
 pub fn put<T: Drop>(place: &mut T, made: Result<T, AllocError>) -> Result<(), AllocError> {
     *place = made?;
     Ok(())

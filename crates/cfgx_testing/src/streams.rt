@@ -120,7 +120,7 @@ impl Source for Pieces<'_> {
     }
 }
 
-/// A source of so many bytes, which are what the buffer holds, at most `each` of them a call.
+/// A source of `left` bytes, which are what the buffer holds, at most `each` of them a call.
 #[derive(Drop)]
 pub struct Counting {
     /// How many bytes are still to come
@@ -287,7 +287,7 @@ pub fn run_text(
     ended_text(alloc, status, &sink, source.is_read_whole())
 }
 
-/// Whether the sink had these calls, of which so many failed, and got these bytes: no call was of
+/// Whether the sink had these calls, `failures` of which failed, and got these bytes: no call was of
 /// an empty slice, and none came after a failed one.
 pub fn is_left_so(sink: &Recorder, written: &[u8], calls: (u64, u64), failures: u64) -> bool {
     sink.bytes.as_slice() == written

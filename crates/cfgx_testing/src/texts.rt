@@ -1,7 +1,7 @@
 //! Long texts.
 use std::alloc::{AllocError, Global};
 
-/// The front, the piece so many times, and the back.
+/// The front, the piece `times` times, and the back.
 pub fn repeated(
     alloc: Global,
     front: &str,

@@ -118,7 +118,7 @@ fn finding_of_three(
     })
 }
 
-// What the check of a row of so many fields finds.
+// What the check of this name finds in the row, by the number of its fields.
 fn finding_by_number(alloc: Global, check: &str, row: &[String]) -> Option<Finding> {
     match row {
         [one] => finding_of_one(alloc, check, one.as_str()),
@@ -134,7 +134,8 @@ fn finding_by_number(alloc: Global, check: &str, row: &[String]) -> Option<Findi
     }
 }
 
-/// What the check of this name finds in the row, if there is one for so many fields.
+/// What the check of this name finds in the row, or `None` if no check of it takes that number of
+/// fields.
 pub(crate) fn finding(alloc: Global, check: &str, row: &[String]) -> Option<Finding> {
     match check {
         "run" => finding_of_run(alloc, row),

@@ -1,5 +1,5 @@
 //! The texts of a file, which one reader reads one after another as parsing reads each of them.
-//! Each field of each row is such a text. A reader borrows its texts, so they are kept to the end of
+//! Each field of each row is one of them. A reader borrows its texts, so they are kept to the end of
 //! the file.
 use cfg_expr::error::Failure;
 use cfg_expr::expr::{Condition, ConditionReader};

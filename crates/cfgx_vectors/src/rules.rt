@@ -1,4 +1,4 @@
-//! The rules of texts: what their rows are checked for.
+//! The rules of texts, and the checks of their rows.
 mod definitions;
 mod order;
 mod pages;
@@ -85,7 +85,8 @@ fn finding_of_three(
     })
 }
 
-/// What the check of this name finds in the row, if there is one for so many fields.
+/// What the check of this name finds in the row, or `None` if no check of it takes that number of
+/// fields.
 pub(crate) fn finding(alloc: Global, check: &str, row: &[String]) -> Option<Finding> {
     if check == "items" {
         return Some(tokens::finding(alloc, row));

@@ -28,7 +28,7 @@ fn table_of(text: &str) -> Option<Table<'_>> {
     })
 }
 
-// Whether a row of so many fields has a field for each column.
+// Whether there is a field for each column.
 fn has_columns(fields: usize, columns: &str) -> bool {
     let names = columns.split(" | ").count();
     fields == names || (columns.ends_with(" ..") && fields.saturating_add(1) >= names)

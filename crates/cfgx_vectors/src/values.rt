@@ -22,7 +22,8 @@ fn finding_of_two(alloc: Global, check: &str, one: &str, other: &str) -> Option<
     })
 }
 
-/// What the check of this name finds in the row, if there is one for so many fields.
+/// What the check of this name finds in the row, or `None` if no check of it takes that number of
+/// fields.
 pub(crate) fn finding(alloc: Global, check: &str, row: &[String]) -> Option<Finding> {
     match row {
         [text] if check == "field" => Some(lists::finding_of_field(alloc, text.as_str())),

@@ -14,7 +14,7 @@ fn name_of<'a>(predicate: &Option<Predicate<'a>>) -> &'a str {
     }
 }
 
-// How many are to come before the next call, and what it gives.
+// How many predicates are left before the next call, and what it gives.
 fn call(alloc: Global, predicates: &mut Predicates<'_>) -> Result<String, AllocError> {
     let left = predicates.left();
     let next = predicates.next();
