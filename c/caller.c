@@ -12,7 +12,7 @@ struct bytes {
     size_t room;
 };
 
-/* Makes room for this many bytes in all. There is always a byte, so that `at` is not null. */
+/* Makes `room` bytes of room in all. There is always a byte, so that `at` is not null. */
 static void make_room(struct bytes *bytes, size_t room)
 {
     uint8_t *at = realloc(bytes->at, room + 1);

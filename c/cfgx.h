@@ -3,7 +3,7 @@
  * has to take care of.
  *
  * Each call stands by itself and keeps nothing. Lengths count bytes. A pointer that a length
- * follows names so many bytes, and no pointer is null, even if the length is 0. What a call writes
+ * follows names that many bytes, and no pointer is null, even if the length is 0. What a call writes
  * overlaps nothing else that it is passed.
  */
 #ifndef CFGX_H

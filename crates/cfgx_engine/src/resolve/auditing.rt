@@ -46,7 +46,7 @@ fn answers_of<A: SmallAllocator, M: TargetMatcher>(
     Ok(answers)
 }
 
-/// Adds the verdicts in the first lanes, of which there are this many.
+/// Adds the verdicts in the first `count` lanes.
 fn push_lanes<A: Allocator>(
     value: Kleene64,
     count: usize,
