@@ -266,7 +266,8 @@ fn ended_text(
 ) -> Result<String, AllocError> {
     let written = sink.bytes.as_slice();
     let text = str::from_utf8(written).unwrap_or("bytes that are not UTF-8");
-    if is_read_whole && is_written(sink, written) {
+    let is_stopped = status == 3 && !sink.is_misused;
+    if is_stopped || (is_read_whole && is_written(sink, written)) {
         return format!(in alloc; "{status} | {text}");
     }
     format!(in alloc; "{status} | {text} | with a wrong call of a stream")
