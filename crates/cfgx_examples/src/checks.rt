@@ -16,7 +16,7 @@ const TABLES: &[Checked<'static>] = &[
     ("terms are written and questions counted", TERMS, 12),
 ];
 
-fn passes(alloc: Global, check: &str, row: &[String]) -> bool {
+fn is_row(alloc: Global, check: &str, row: &[String]) -> bool {
     match check {
         "answers of examples" => calling::is_row(alloc, row),
         "verdicts on many targets" => auditing::is_row(alloc, row),
@@ -29,5 +29,5 @@ fn passes(alloc: Global, check: &str, row: &[String]) -> bool {
 #[test]
 fn examples_answer_what_the_tables_say(rt: HostRuntime) -> Result<(), String> {
     let alloc = rt.alloc();
-    check_tables(alloc, TABLES, |check, row| passes(alloc, check, row))
+    check_tables(alloc, TABLES, |check, row| is_row(alloc, check, row))
 }

@@ -49,7 +49,7 @@ all(a,~true,~100000~) | 1 | 10?
 "#;
 
 // Whether this is the value over `bool` if each of so many answers is the one.
-fn is_plain(
+fn is_bool_value(
     alloc: Global,
     expression: &Expression,
     answer: bool,
@@ -72,7 +72,7 @@ fn is_value(
     let answers = vec![in alloc; answer; count]?;
     let is_agreed = agree(alloc, expression, answers.as_slice(), answer_of(digit));
     match answer {
-        Some(answer) if is_agreed => is_plain(alloc, expression, answer, digit, count),
+        Some(answer) if is_agreed => is_bool_value(alloc, expression, answer, digit, count),
         _ => Ok(is_agreed),
     }
 }

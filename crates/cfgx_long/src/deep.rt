@@ -36,7 +36,7 @@ any(~abcdefg,~1100000~) | 1100000
 "#;
 
 // Whether so many predicates are left, and so many come.
-fn come_to(predicates: Predicates<'_>, count: Option<usize>) -> bool {
+fn have_count(predicates: Predicates<'_>, count: Option<usize>) -> bool {
     Some(predicates.left()) == count && Some(predicates.count()) == count
 }
 
@@ -44,7 +44,7 @@ fn come_to(predicates: Predicates<'_>, count: Option<usize>) -> bool {
 pub(crate) fn asks(alloc: Global, text: &str, count: &str) -> Result<bool, Failure> {
     let expression = Expression::parse(alloc, text)?;
     let is_kept = expression.original() == text && prints(alloc, &expression, text);
-    Ok(is_kept && come_to(expression.predicates(), count.parse().ok()))
+    Ok(is_kept && have_count(expression.predicates(), count.parse().ok()))
 }
 
 /// Texts that one reader reads one after another, and how many predicates each asks.
@@ -56,7 +56,7 @@ any(~a,~100000~) | 100000 | ~not(~100000~a~)~100000~ | 1 | a | 1
 fn is_read(read: &Result<Condition<'_>, Failure>, text: &str, count: &str) -> bool {
     match read {
         Ok(condition) => {
-            condition.original() == text && come_to(condition.predicates(), count.parse().ok())
+            condition.original() == text && have_count(condition.predicates(), count.parse().ok())
         }
         Err(_) => false,
     }

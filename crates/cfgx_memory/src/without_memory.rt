@@ -35,7 +35,7 @@ fn are_made_in_order<T: Ord + Hash>(one: &Made<T>, same: &Made<T>, above: &Made<
 const TABLES: &[Checked<'_>] = &[
     ("conditions take no memory", conditions::ASKED, 17),
     ("faults take no memory", faults::ROWS, 3),
-    ("targets take no memory", targets::CHECKS, 14),
+    ("targets take no memory", targets::CHECKS, 15),
     ("other values take no memory", values::CHECKS, 26),
 ];
 

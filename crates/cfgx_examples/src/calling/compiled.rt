@@ -87,10 +87,10 @@ fn makes_a_table(alloc: Global, row: TargetInfo<'static>) -> Result<bool, AllocE
     let Some(table) = builtins_and(alloc, row)? else {
         return Ok(false);
     };
-    Ok(has(&table, TRIPLE) && has(&table, IOS))
+    Ok(has_triple(&table, TRIPLE) && has_triple(&table, IOS))
 }
 
-fn has(table: &TargetTable<'_>, triple: &str) -> bool {
+fn has_triple(table: &TargetTable<'_>, triple: &str) -> bool {
     get_builtin_target_by_triple(table, triple).is_some()
 }
 

@@ -16,7 +16,7 @@ use cfgx_testing::holding::{all_hold, gives, holds};
 use std::alloc::{AllocError, Global};
 use std::str::FromStr;
 
-fn has(families: &Families<'_>, family: Family<'_>) -> bool {
+fn has_family(families: &Families<'_>, family: Family<'_>) -> bool {
     let is_member = families.contains(&family);
     drop(family);
     is_member
@@ -25,8 +25,8 @@ fn has(families: &Families<'_>, family: Family<'_>) -> bool {
 fn has_families(alloc: Global) -> Result<bool, AllocError> {
     let families = Families::unix_wasm(alloc)?;
     Ok(
-        has(&families, Family::unix())
-            && !has(&families, Family::new_const("windows"))
+        has_family(&families, Family::unix())
+            && !has_family(&families, Family::new_const("windows"))
             && Families::is_sorted(families.as_slice()),
     )
 }

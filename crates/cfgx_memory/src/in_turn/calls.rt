@@ -84,7 +84,7 @@ fn is_done_once(alloc: Global, call: &str, text: &str) -> bool {
 }
 
 // Whether the call takes as many growths as is said, each of which is refused in turn.
-fn takes(alloc: Global, call: &str, said: &str, text: &str) -> bool {
+fn takes_growths(alloc: Global, call: &str, said: &str, text: &str) -> bool {
     if said == "once" {
         return is_done_once(alloc, call, text);
     }
@@ -101,7 +101,7 @@ pub(super) fn is_row(alloc: Global, fields: &[String]) -> bool {
         return false;
     };
     for text in texts {
-        if !takes(alloc, call.as_str(), said.as_str(), text.as_str()) {
+        if !takes_growths(alloc, call.as_str(), said.as_str(), text.as_str()) {
             return false;
         }
     }

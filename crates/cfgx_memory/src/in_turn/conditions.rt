@@ -346,7 +346,7 @@ fn is_picked<A: SmallAllocator>(alloc: A, text: &str) -> Finding {
 }
 
 // Whether parsing the text answered this.
-fn is_plain(alloc: Global, plain: &Read, answer: &str, original: &str) -> bool {
+fn is_parsed_as(alloc: Global, plain: &Read, answer: &str, original: &str) -> bool {
     match plain {
         Ok(expression) => {
             expression.original() == original
@@ -383,7 +383,7 @@ fn is_copied_once(alloc: Global, text: &str, plain: &Read) -> bool {
 
 // Whether each growth of each of the calls, of a reader, and of runs over the text, is refused in
 // turn.
-fn is_run(alloc: Global, calls: &str, text: &str, plain: &Read) -> bool {
+fn are_refused_by_all(alloc: Global, calls: &str, text: &str, plain: &Read) -> bool {
     let status = if plain.is_ok() { 0 } else { 1 };
     are_refused(alloc, calls, text, plain)
         && growths_of(alloc, Call::Read(text, plain)).is_some()
@@ -395,7 +395,7 @@ const CALLS: &str =
     "parse from_str try_clone eval decide polar_fillings eval_lanes decide_on audit pick";
 
 // Whether each growth of each call with a text of this kind is refused in turn.
-fn is_kind(alloc: Global, kind: &str, text: &str, plain: &Read) -> bool {
+fn is_refused_in_turns(alloc: Global, kind: &str, text: &str, plain: &Read) -> bool {
     match kind {
         "parsed in 1" => growths_of(alloc, Call::Parsed("parse", text, plain)) == Some(1),
         "parsed in 2" => growths_of(alloc, Call::Parsed("parse", text, plain)) == Some(2),
@@ -403,9 +403,9 @@ fn is_kind(alloc: Global, kind: &str, text: &str, plain: &Read) -> bool {
         "lexed" => growths_of(alloc, Call::Lexed(text)).unwrap_or(0) > 0,
         "large" => is_copied_once(alloc, text, plain),
         "scanned" => are_refused(alloc, "parse from_str", text, plain),
-        "read" => is_run(alloc, "parse from_str", text, plain),
-        "copied" => is_run(alloc, "parse from_str try_clone", text, plain),
-        "evaluated" => is_run(alloc, CALLS, text, plain),
+        "read" => are_refused_by_all(alloc, "parse from_str", text, plain),
+        "copied" => are_refused_by_all(alloc, "parse from_str try_clone", text, plain),
+        "evaluated" => are_refused_by_all(alloc, CALLS, text, plain),
         _ => false,
     }
 }
@@ -418,6 +418,6 @@ pub(super) fn is_row(alloc: Global, fields: &[String]) -> bool {
         _ => return false,
     };
     let plain = parsed(alloc, text.as_str());
-    is_plain(alloc, &plain, answer.as_str(), original.as_str())
-        & is_kind(alloc, kind.as_str(), text.as_str(), &plain)
+    is_parsed_as(alloc, &plain, answer.as_str(), original.as_str())
+        & is_refused_in_turns(alloc, kind.as_str(), text.as_str(), &plain)
 }

@@ -155,7 +155,7 @@ fn are_alike(alloc: Global, status: u8, runs: &[&str]) -> bool {
 }
 
 // Whether a run that is made so ends so.
-fn is_right(alloc: Global, made: &str, status: u8, words: &[&str]) -> bool {
+fn ends_as_told(alloc: Global, made: &str, status: u8, words: &[&str]) -> bool {
     match made {
         "in turns" => is_run_in_turns(alloc, words, status),
         "in 11 turns" => growths_after(alloc, status, words) == 11,
@@ -172,7 +172,7 @@ pub(super) fn is_row(alloc: Global, fields: &[String]) -> bool {
         return false;
     };
     match (status.parse::<u8>(), words_of(alloc, words)) {
-        (Ok(status), Ok(words)) => is_right(alloc, made.as_str(), status, words.as_slice()),
+        (Ok(status), Ok(words)) => ends_as_told(alloc, made.as_str(), status, words.as_slice()),
         _ => false,
     }
 }

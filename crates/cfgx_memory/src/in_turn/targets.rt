@@ -209,7 +209,10 @@ pub(super) fn copies_from_the_table<A: SmallAllocator>(alloc: A) -> Finding {
 }
 
 // A list of this name, or nothing if there is no such list.
-fn named<'a, A: SmallAllocator + 'a>(alloc: A, name: &str) -> Option<Made<Families<'a, A>>> {
+fn families_named<'a, A: SmallAllocator + 'a>(
+    alloc: A,
+    name: &str,
+) -> Option<Made<Families<'a, A>>> {
     match name {
         "unix" => Some(Families::unix(alloc)),
         "unix and wasm" => Some(Families::unix_wasm(alloc)),
@@ -242,11 +245,11 @@ pub(super) fn copies_families<A: SmallAllocator>(
     name: &str,
     text: &str,
 ) -> Finding {
-    copies_printed(out, alloc, named(alloc, name), text)
+    copies_printed(out, alloc, families_named(alloc, name), text)
 }
 
 // A list of widths of this name, or nothing if there is no such list.
-fn named_widths<A: SmallAllocator>(alloc: A, name: &str) -> Option<Made<HasAtomics<A>>> {
+fn widths_named<A: SmallAllocator>(alloc: A, name: &str) -> Option<Made<HasAtomics<A>>> {
     match name {
         "128" => Some(HasAtomics::atomic_8_16_32_64_128_ptr(alloc)),
         "64" => Some(HasAtomics::atomic_8_16_32_64_ptr(alloc)),
@@ -264,5 +267,5 @@ pub(super) fn copies_widths<A: SmallAllocator>(
     name: &str,
     text: &str,
 ) -> Finding {
-    copies_printed(out, alloc, named_widths(alloc, name), text)
+    copies_printed(out, alloc, widths_named(alloc, name), text)
 }

@@ -120,6 +120,9 @@ fn is_of_simulator<A: SmallAllocator>(
     target: &TargetPredicate<'_>,
     rows: &[TargetInfo<'_, A>],
 ) -> bool {
+    if rows.len() != 5 {
+        return false;
+    }
     let lanes = target.lanes(rows);
     for (place, row) in rows.iter().enumerate() {
         let is_simulator = row.triple.as_str() == SIM;
@@ -127,7 +130,7 @@ fn is_of_simulator<A: SmallAllocator>(
             return false;
         }
     }
-    rows.len() == 5 && (lanes.is_true() | lanes.is_false()) == 0b11111
+    (lanes.is_true() | lanes.is_false()) == 0b11111
 }
 
 // Whether this is a predicate that is true of the simulator's row alone.
@@ -214,7 +217,7 @@ fn answers<A: SmallAllocator>(
 }
 
 // Whether the check holds of the text, of which this was read.
-fn is_right<A: SmallAllocator>(
+fn check_holds<A: SmallAllocator>(
     out: Global,
     heap: Heap<'_>,
     alloc: A,
@@ -239,7 +242,7 @@ pub(super) fn is_row<A: SmallAllocator>(
         return false;
     };
     let row = (check.as_str(), text.as_str());
-    is_right(out, heap, alloc, row, &read(heap, alloc, text.as_str()))
+    check_holds(out, heap, alloc, row, &read(heap, alloc, text.as_str()))
 }
 
 // Whether the operations of a logic are what they are in Rust.

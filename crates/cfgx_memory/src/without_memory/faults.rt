@@ -6,6 +6,7 @@ use crate::in_turn::targets::{NO_WIDTH, no_width};
 use cfg_expr::error::{Failure, HasAtomicParseError as NoWidth, ParseError, Reason};
 use cfg_expr::expr::lexer::{Lexer, LexerToken, Token};
 use cfg_expr::memory::SmallAllocator;
+use cfg_expr::targets::{HasAtomic, HasAtomicFailure};
 use cfgx_testing::heap::Heap;
 use cfgx_testing::holding::prints;
 use cfgx_testing::refusing::EVERY;
@@ -18,8 +19,8 @@ fn is_token_at(item: &LexerToken<'_>, token: Token<'_>, span: &Range<usize>) -> 
     is_item && matches!(item.clone(), Ok(copy) if copy.token == token && copy.span == *span)
 }
 
-// Whether this is such an item.
-fn is_item<A: Allocator>(item: &Item<'_, A>, token: Token<'_>, span: &Range<usize>) -> bool {
+// Whether the lexer gave this token at this place.
+fn is_item_at<A: Allocator>(item: &Item<'_, A>, token: Token<'_>, span: &Range<usize>) -> bool {
     match item {
         Some(Ok(item)) => is_token_at(item, token, span),
         _ => false,
@@ -33,7 +34,7 @@ fn gives<A: Allocator>(
     span: Range<usize>,
     left: usize,
 ) -> bool {
-    is_item(&lexer.next(), token, &span) & (lexer.items_left_bound() == left)
+    is_item_at(&lexer.next(), token, &span) & (lexer.items_left_bound() == left)
 }
 
 // Whether the lexer strips `cfg(key = "v" 8)`, and gives its first items.
@@ -64,45 +65,50 @@ fn is_shown<A: Allocator>(alloc: Global, error: &ParseError<A>, told: &str, prin
     error.reason != Reason::Empty && error.description() == told && prints(alloc, error, printed)
 }
 
-// Whether the fault is equal to the other one, as is wanted.
-fn is_equal<A: SmallAllocator>(error: &ParseError<A>, other: &Read<A>, wanted: bool) -> bool {
-    match other {
-        Err(Failure::Parse(other)) => (error == other) == wanted,
+// Whether both are faults of texts, and equal.
+fn are_equal_faults<A: Allocator>(one: &Failure<A>, other: &Failure<A>) -> bool {
+    match (one, other) {
+        (Failure::Parse(fault), Failure::Parse(other_fault)) => {
+            fault == other_fault && one == other
+        }
         _ => false,
     }
 }
 
-// Whether it is so to that of the text.
-fn compares<A: SmallAllocator>(
+// Whether the failure is equal to that of the text.
+fn is_failure_of<A: SmallAllocator>(
     heap: Heap<'_>,
     alloc: A,
-    error: &ParseError<A>,
+    failure: &Failure<A>,
     text: &str,
-    wanted: bool,
 ) -> bool {
-    is_equal(error, &read(heap, alloc, text), wanted)
+    match &read(heap, alloc, text) {
+        Err(other) => are_equal_faults(failure, other),
+        Ok(_) => false,
+    }
 }
 
 /// A row.
 type Row<'a> = (&'a str, &'a str, &'a str);
 
-// Whether the fault of the row's text is shown so, and equal to itself, and not to that of another
-// text.
-fn is_right<A: SmallAllocator>(
+// Whether the failure of the row's text is shown so, and equal to itself, and not to that of
+// another text.
+fn is_shown_and_compared<A: SmallAllocator>(
     out: Global,
     heap: Heap<'_>,
     alloc: A,
     row: Row<'_>,
     read: &Read<A>,
 ) -> bool {
-    match read {
-        Err(Failure::Parse(error)) => {
-            is_shown(out, error, row.1, row.2)
-                && compares(heap, alloc, error, row.0, true)
-                && compares(heap, alloc, error, "kei)", false)
-        }
-        _ => false,
-    }
+    let Err(failure) = read else {
+        return false;
+    };
+    let Failure::Parse(error) = failure else {
+        return false;
+    };
+    is_shown(out, error, row.1, row.2)
+        && is_failure_of(heap, alloc, failure, row.0)
+        && !is_failure_of(heap, alloc, failure, "kei)")
 }
 
 /// Whether the row is what it says.
@@ -116,42 +122,42 @@ pub(super) fn is_row<A: SmallAllocator>(
         return false;
     };
     let row = (text.as_str(), told.as_str(), printed.as_str());
-    is_right(out, heap, alloc, row, &read(heap, alloc, text.as_str()))
+    is_shown_and_compared(out, heap, alloc, row, &read(heap, alloc, text.as_str()))
 }
 
-/// The fault of a text that names no width, or nothing if it was read.
-type Fault<A> = Made<Option<NoWidth<A>>>;
+/// What reading a width answers.
+type Width<A> = Result<HasAtomic, HasAtomicFailure<A>>;
 
-// The fault of this text, which is made with memory. Every growth after it is refused.
-fn fault_of<A: SmallAllocator>(heap: Heap<'_>, alloc: A, text: &str) -> Fault<A> {
+// What reading this text answers with memory. Every growth after it is refused.
+fn width_of<A: SmallAllocator>(heap: Heap<'_>, alloc: A, text: &str) -> Width<A> {
     heap.refuse(0);
-    let fault = no_width(alloc, text);
+    let width = HasAtomic::read(alloc, text);
     heap.refuse(EVERY);
-    fault
+    width
 }
 
 /// Whether the fault of a text that is no width prints what it has to.
 pub(super) fn prints_no_width<A: SmallAllocator>(out: Global, heap: Heap<'_>, alloc: A) -> bool {
-    match &fault_of(heap, alloc, "PTR") {
-        Ok(Some(fault)) => prints(out, fault, NO_WIDTH),
+    match &width_of(heap, alloc, "PTR") {
+        Err(HasAtomicFailure::Parse(fault)) => prints(out, fault, NO_WIDTH),
         _ => false,
     }
 }
 
-// Whether both texts are faulty, and their faults equal.
-fn are_equal_faults<A: SmallAllocator>(one: &Fault<A>, other: &Fault<A>) -> bool {
+// Whether neither text is a width, and their faults are equal.
+fn are_equal_widths<A: SmallAllocator>(one: &Width<A>, other: &Width<A>) -> bool {
     match (one, other) {
-        (Ok(Some(one)), Ok(Some(other))) => one == other,
+        (Err(HasAtomicFailure::Parse(fault)), Err(HasAtomicFailure::Parse(other_fault))) => {
+            fault == other_fault && one == other
+        }
         _ => false,
     }
 }
 
 /// Whether faults of texts that are no width are equal if the texts are.
 pub(super) fn compares_no_widths<A: SmallAllocator>(heap: Heap<'_>, alloc: A) -> bool {
-    let one = fault_of(heap, alloc, "PTR");
-    let same = fault_of(heap, alloc, "PTR");
-    let other = fault_of(heap, alloc, "65536");
-    are_equal_faults(&one, &same)
-        & matches!(&other, Ok(Some(_fault)))
-        & !are_equal_faults(&one, &other)
+    let one = width_of(heap, alloc, "PTR");
+    let same = width_of(heap, alloc, "PTR");
+    let other = width_of(heap, alloc, "65536");
+    are_equal_widths(&one, &same) & other.is_err() & !are_equal_widths(&one, &other)
 }

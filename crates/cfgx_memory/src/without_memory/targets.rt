@@ -145,6 +145,10 @@ fn is_falling_sorted() -> bool {
     are_sorted([Family::wasm(), Family::unix()])
 }
 
+fn are_widths_judged() -> bool {
+    HasAtomics::<Global>::is_sorted(SORTED) && !HasAtomics::<Global>::is_sorted(UNSORTED)
+}
+
 // Copies of the rows with these numbers.
 fn copies_of<'a, A: SmallAllocator + 'a>(
     alloc: A,
@@ -237,6 +241,7 @@ fn has_builtins<A: SmallAllocator>(heap: Heap<'_>, alloc: A) -> bool {
 pub(super) const CHECKS: &str = r#"
 rising families
 falling families
+order of a slice of widths
 list of widths
 lists of widths
 list of no widths
@@ -252,7 +257,7 @@ no sections
 "#;
 
 // Whether the check of rows of this name holds.
-fn is_right_of_rows<A: SmallAllocator>(heap: Heap<'_>, alloc: A, name: &str) -> bool {
+fn check_of_rows_holds<A: SmallAllocator>(heap: Heap<'_>, alloc: A, name: &str) -> bool {
     match name {
         "a table" => are_refused(heap, alloc, &[0, 2, 4], None, false),
         "no table" => are_refused(heap, alloc, &[0, 2, 2], Some(2), false),
@@ -264,10 +269,11 @@ fn is_right_of_rows<A: SmallAllocator>(heap: Heap<'_>, alloc: A, name: &str) -> 
 }
 
 // Whether the check of this name holds, with every growth refused.
-fn is_right<A: SmallAllocator>(out: Global, heap: Heap<'_>, alloc: A, name: &str) -> bool {
+fn check_holds<A: SmallAllocator>(out: Global, heap: Heap<'_>, alloc: A, name: &str) -> bool {
     match name {
         "rising families" => is_rising_sorted(),
         "falling families" => !is_falling_sorted(),
+        "order of a slice of widths" => are_widths_judged(),
         "list of widths" => is_list_of_widths(out, heap, alloc),
         "lists of widths" => are_widths(heap, alloc),
         "list of no widths" => is_empty(&list_of(alloc, &[])),
@@ -275,7 +281,7 @@ fn is_right<A: SmallAllocator>(out: Global, heap: Heap<'_>, alloc: A, name: &str
         "lists of families" => are_families(heap, alloc),
         "list of no families" => makes_no_families(alloc),
         "borrowed list of no families" => borrows_no_families(),
-        name => is_right_of_rows(heap, alloc, name),
+        name => check_of_rows_holds(heap, alloc, name),
     }
 }
 
@@ -290,5 +296,5 @@ pub(super) fn is_row<A: SmallAllocator>(
         return false;
     };
     heap.refuse(EVERY);
-    is_right(out, heap, alloc, name.as_str())
+    check_holds(out, heap, alloc, name.as_str())
 }

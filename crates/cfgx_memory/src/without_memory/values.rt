@@ -142,7 +142,7 @@ logic lanes
 "#;
 
 // Whether the check of the value of this name holds.
-fn is_right<A: SmallAllocator>(out: Global, alloc: A, name: &str) -> bool {
+fn check_holds<A: SmallAllocator>(out: Global, alloc: A, name: &str) -> bool {
     match name {
         "order of functions" => are_rising(&FUNCTIONS),
         "order of byte orders" => are_ordered(&Endian::big, &Endian::big, &Endian::little),
@@ -163,7 +163,7 @@ fn is_right<A: SmallAllocator>(out: Global, alloc: A, name: &str) -> bool {
 }
 
 // Whether the check of this name holds, in which faults are made with memory first.
-fn is_right_of_faults<A: SmallAllocator>(
+fn check_of_faults_holds<A: SmallAllocator>(
     out: Global,
     heap: Heap<'_>,
     alloc: A,
@@ -172,7 +172,7 @@ fn is_right_of_faults<A: SmallAllocator>(
     match name {
         "fault of a width" => prints_no_width(out, heap, alloc),
         "faults of widths" => compares_no_widths(heap, alloc),
-        name => is_right(out, alloc, name),
+        name => check_holds(out, alloc, name),
     }
 }
 
@@ -190,6 +190,6 @@ pub(super) fn is_row<A: SmallAllocator>(
     match name.split_once(' ') {
         Some(("named", values)) => are_named_values::<A>(values),
         Some(("logic", logic)) => is_named_logic(logic),
-        _ => is_right_of_faults(out, heap, alloc, name.as_str()),
+        _ => check_of_faults_holds(out, heap, alloc, name.as_str()),
     }
 }
