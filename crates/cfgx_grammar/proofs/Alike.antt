@@ -2,7 +2,8 @@
 use Rattle.std.proofs.Common.{arith, ◌≡◌, Bool, List, [], ◌∷◌, ◌++◌, length}
 use Rattle.std.{proofs.lemmas.Slice.Zip.AllZip-long, specs.List.AllZip}
 use Rattle.cfgx_grammar.specs.Tree.{ListFunction, Tree, Trees, is_function, is_leaf, asked}
-use Rattle.cfgx_grammar.specs.{Tree.asked_by, Fold.answered, Fold.answered_each}
+use Rattle.cfgx_grammar.specs.{Tree.asked_by, Fold.Left, Fold.left_for, Fold.answered}
+use Rattle.cfgx_grammar.specs.Fold.{answered_each}
 use Rattle.cfgx_grammar.specs.Filling.{polarities, polarities_each}
 
 -- Lists whose items stand in a relation.
@@ -76,16 +77,14 @@ module _ {X T : Type 0} (otherwise : T) where
     answered-shape (Tree.leaf x) answers = Alike.leaf _ _ tt
     answered-shape (Tree.literal truth) answers = Alike.literal truth
     answered-shape (Tree.list function trees) answers =
-        Alike.list function _ _ (answered_each-shape trees _ _)
+        Alike.list function _ _ (answered_each-shape trees _)
     answered-shape (Tree.not tree) answers = Alike.not _ _ (answered-shape tree answers)
 
-    answered_each-shape : (trees : Trees X) (inner own : List T)
-        → SameShapes trees (answered_each otherwise trees inner own)
-    answered_each-shape Trees.none inner own = AlikeEach.none
-    answered_each-shape (Trees.more (Tree.leaf x) trees) inner own = AlikeEach.more _ _ _ _
-        (answered-shape (Tree.leaf x) own) (answered_each-shape trees _ _)
-    answered_each-shape (Trees.more tree trees) inner own =
-        AlikeEach.more _ _ _ _ (answered-shape tree inner) (answered_each-shape trees _ _)
+    answered_each-shape : (trees : Trees X) (left : Left T)
+        → SameShapes trees (answered_each otherwise trees left)
+    answered_each-shape Trees.none left = AlikeEach.none
+    answered_each-shape (Trees.more tree trees) left = AlikeEach.more _ _ _ _
+        (answered-shape tree (left_for tree left)) (answered_each-shape trees _)
 
 -- and when its predicates become their polarities
 module _ {X : Type 0} where

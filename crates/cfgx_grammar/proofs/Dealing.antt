@@ -2,7 +2,7 @@
 use Rattle.std.proofs.Common.{◌≡◌, ◌≤◌, List, [], ◌∷◌, ◌++◌, length, take, take_all}
 use Rattle.std.proofs.Common.{refl, arith, length-append, length-drop, take-add}
 use Rattle.cfgx_grammar.specs.Tree.{Tree, Trees, is_function, is_leaf, asked, asked_by}
-use Rattle.cfgx_grammar.specs.Fold.{left_after, answered, answered_each}
+use Rattle.cfgx_grammar.specs.Fold.{left_after, left_to, answered, answered_each}
 
 -- two parts of what is asked, one after another
 taken_both : {X T : Type 0} (first second : List X) (answers these those : List T)
@@ -14,7 +14,8 @@ taken_both first second answers these those these_are those_are =
 module _ {X T : Type 0} (otherwise : T) where
   -- what the members of a list ask that are functions, and those that are leaves
   abbrev Takes : Trees X → List T → List T → Type 0
-  Takes trees inner own = let answers = answered_each otherwise trees inner own in
+  Takes trees inner own =
+      let answers = answered_each otherwise trees (record { functions = inner; leaves = own }) in
       (asked_by is_function answers ≡ take (length (asked_by is_function trees)) inner)
       × (asked_by is_leaf answers ≡ take (length (asked_by is_leaf trees)) own)
 
@@ -24,7 +25,7 @@ module _ {X T : Type 0} (otherwise : T) where
 
   list_taken : (trees : Trees X) (answers : List T) → TakesAll trees
       → let inner = asked_by is_function trees in let own = asked_by is_leaf trees in
-      let made = answered_each otherwise trees answers (left_after inner answers) in
+      let made = answered_each otherwise trees (left_to trees answers) in
       length (inner ++ own) ≤ length answers
       → asked_by is_function made ++ asked_by is_leaf made ≡ take (length (inner ++ own)) answers
   list_taken trees answers takes enough = grind (arith, length-append, length-drop, taken_both)

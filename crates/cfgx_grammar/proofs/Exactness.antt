@@ -82,7 +82,8 @@ module _ {T U : Type 0} (one : Operations T) (other : Operations U) (R : Bool �
         (own : List T) (others : List U)
         → Along one other R (asked_by is_function (polarities_each p trees)) xs ys
         → Along one other R (asked_by is_leaf (polarities_each p trees)) own others
-        → Kept p (answered_each one.top trees xs own) (answered_each other.top trees ys others)
+        → Kept p (answered_each one.top trees (record { functions = xs; leaves = own }))
+        (answered_each other.top trees (record { functions = ys; leaves = others }))
     values_kept Trees.none p xs ys own others inner outer = (tt, tt)
     values_kept (Trees.more (Tree.leaf x) trees) p xs ys own others inner outer =
         let rest = values_kept trees p xs ys _ _ inner outer.1 in (rest.0, (outer.0, rest.1))

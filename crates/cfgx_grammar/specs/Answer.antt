@@ -15,8 +15,8 @@ abbrev pub HasReading : List ℕ → Reading → Type 0
 HasReading text (Ok tree) = HasTree text tree
 HasReading text (Err fault) = HasFault text fault
 
--- The text reads as this, and as nothing else. The lemma `reads_one_way` says that each text reads
--- as something so.
+-- The text reads as this, and as nothing else. A text in UTF-8 has one token list, and then reads
+-- as something so, by the lemma `reads_one_way`.
 pub record ReadsAs (text : List ℕ) (reading : Reading) : Type 0 where
   pub has : HasReading text reading
   pub only : (other : Reading) → HasReading text other → other ≡ reading

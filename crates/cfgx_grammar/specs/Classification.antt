@@ -106,11 +106,14 @@ abbrev pub plain : List ℕ → Option (List ℕ) → Class
 plain key None = predicate (Question.flag key)
 plain key (Some value) = predicate (Question.key_value key value)
 
--- a key that has no rule: it may begin with `target_`
+-- a key that begins with `target_`: it needs a value
+abbrev pub target_key : List ℕ → Option (List ℕ) → Class
+target_key key value = valued (target_class (drop 7 key)) (codes "= \"<target_cfg_value>\"") value
+
+-- a key that has no rule
 abbrev pub other_class : List ℕ → Option (List ℕ) → Class
-other_class key value = if starts_with nat_eq key (codes "target_")
-    then valued (target_class (drop 7 key)) (codes "= \"<target_cfg_value>\"") value else plain key
-    value
+other_class key value =
+    if starts_with nat_eq key (codes "target_") then target_key key value else plain key value
 
 unfoldable pub class : List ℕ → Option (List ℕ) → Class
 class key value = by_name key_rules key value (other_class key value)

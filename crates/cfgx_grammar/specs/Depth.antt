@@ -60,10 +60,14 @@ abbrev pub begins_member : Option Item → Bool
 begins_member None = false
 begins_member (Some item) = is_kind Kind.name (kind_of item.token)
 
+-- a member begins at the place, with as many functions open before it as the depth says
+abbrev pub begins_at : List Item → ℕ → ℕ → Bool
+begins_at front level place = depth_at front place == level && begins_member (slice_get front place)
+
 -- how many members begin at the depth, from the place on
 abbrev pub members_at : List Item → ℕ → ℕ → ℕ
-members_at front level from = count_below (λ place. nat_le from place
-    && (depth_at front place == level && begins_member (slice_get front place))) (length front)
+members_at front level from =
+    count_below (λ place. nat_le from place && begins_at front level place) (length front)
 
 -- how many members the innermost open function has so far; its name stands at the place
 abbrev pub members : List Item → ℕ → ℕ

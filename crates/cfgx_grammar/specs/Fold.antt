@@ -51,25 +51,44 @@ first_or otherwise (answer ∷ answers) = answer
 abbrev pub left_after : {X T : Type 0} → List X → List T → List T
 left_after questions answers = drop (length questions) answers
 
+-- the answers that are left to deal to the members of a list: to its functions, and to its leaves
+pub record Left (T : Type 0) : Type 0 where
+  pub functions : List T
+  pub leaves : List T
+
+-- those from which a member takes its own
+abbrev pub left_for : {X T : Type 0} → Tree X → Left T → List T
+left_for tree left = if is_function tree then left.functions else left.leaves
+
+-- what is left once it has taken them
+abbrev pub left_by : {X T : Type 0} → Tree X → Left T → Left T
+left_by tree left = if is_function tree
+    then record left { functions = left_after (asked tree) left.functions }
+    else record left { leaves = left_after (asked tree) left.leaves }
+
+-- those of a list that may take all of these: its functions ask first
+abbrev pub left_to : {X T : Type 0} → Trees X → List T → Left T
+left_to trees answers = record {
+  functions = answers;
+  leaves = left_after (asked_by is_function trees) answers;
+}
+
 -- the tree with answers in the place of its predicates, which are dealt out in the order in which
 -- it asks; a literal takes none
 abbrev mutual
   pub answered : {X T : Type 0} → T → Tree X → List T → Tree T
   answered otherwise (Tree.leaf x) answers = Tree.leaf (first_or otherwise answers)
   answered otherwise (Tree.literal truth) answers = Tree.literal truth
-  answered otherwise (Tree.list function trees) answers = Tree.list function
-      (answered_each otherwise trees answers (left_after (asked_by is_function trees) answers))
+  answered otherwise (Tree.list function trees) answers =
+      Tree.list function (answered_each otherwise trees (left_to trees answers))
   answered otherwise (Tree.not tree) answers = Tree.not (answered otherwise tree answers)
 
-  -- the same for the members of a list: `inner` has the answers to deal to its functions, and `own`
-  -- those to deal to its leaves
-  pub answered_each : {X T : Type 0} → T → Trees X → List T → List T → Trees T
-  answered_each otherwise Trees.none inner own = Trees.none
-  answered_each otherwise (Trees.more tree trees) inner own = if is_function tree
-      then Trees.more (answered otherwise tree inner)
-      (answered_each otherwise trees (left_after (asked tree) inner) own)
-      else Trees.more (answered otherwise tree own)
-      (answered_each otherwise trees inner (left_after (asked tree) own))
+  -- the same for the members of a list, one after another
+  pub answered_each : {X T : Type 0} → T → Trees X → Left T → Trees T
+  answered_each otherwise Trees.none left = Trees.none
+  answered_each otherwise (Trees.more tree trees) left = Trees.more
+      (answered otherwise tree (left_for tree left))
+      (answered_each otherwise trees (left_by tree left))
 
 -- the value of a tree over as many answers as it asks
 abbrev pub tree_fold : {X T : Type 0} → Operations T → Tree X → List T → T
