@@ -1,7 +1,7 @@
 pub mod Asking
 pub mod Deciding
 pub mod Evaluation
-pub mod ValueBytes
 pub mod Words
 pub mod Writing
 pub mod nodes
+pub mod spelling

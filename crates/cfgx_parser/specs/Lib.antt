@@ -1,3 +1,4 @@
+pub mod Equality
 pub mod Order
 pub mod Predicate
 pub mod nodes

@@ -11,7 +11,7 @@ use std::mem;
 use std::ops::Range;
 
 /// Bytes of a text, as a `Range`, but `Copy`.
-#[derive(Clone, Copy)]
+#[derive(Clone, Copy, Debug)]
 pub struct Span {
     /// The first one
     pub start: usize,
@@ -29,7 +29,7 @@ impl From<Range<usize>> for Span {
 }
 
 /// A predicate on the target, by where its text stands.
-#[derive(Clone, Copy)]
+#[derive(Clone, Copy, Debug)]
 pub enum InnerTarget {
     /// `target_abi`, by its value
     Abi(Span),
@@ -54,7 +54,7 @@ pub enum InnerTarget {
 }
 
 /// A predicate, by where its parts stand in the text.
-#[derive(Clone, Copy)]
+#[derive(Clone, Copy, Debug)]
 pub enum InnerPredicate {
     /// A predicate on the target
     Target(InnerTarget),
@@ -78,7 +78,7 @@ pub enum InnerPredicate {
 }
 
 /// A node of a condition. A function stands in front of its members, in source order.
-#[derive(Clone, Copy)]
+#[derive(Clone, Copy, Debug)]
 pub enum ExprNode {
     /// A function
     Fn {

@@ -15,6 +15,7 @@ use cfgx_syntax::lexer::Lexer;
 use cfgx_syntax::memory::SmallAllocator;
 use smallvec::SmallVec;
 use std::alloc::{AllocError, Allocator, Global};
+use std::fmt;
 use std::marker::Model;
 
 /// A text that is a condition, with the nodes of its one tree. It is seen as its stripped text.
@@ -44,6 +45,13 @@ impl<A: Allocator> Parsed<A> {
         ensures { result.now ≡ self.now }
     {
         self.original.as_str()
+    }
+}
+
+/// Prints the stripped text as `Debug` prints a text, in parentheses.
+impl<A: Allocator> fmt::Debug for Parsed<A> {
+    fn fmt<W: fmt::Write>(&self, f: &mut fmt::Formatter<W>) -> fmt::Result {
+        write!(f, "Parsed({:?})", self.original())
     }
 }
 
@@ -128,6 +136,13 @@ impl<'a> ParsedRef<'a> {
     }
 }
 
+/// Prints the stripped text as `Debug` prints a text, in parentheses.
+impl fmt::Debug for ParsedRef<'_> {
+    fn fmt<W: fmt::Write>(&self, f: &mut fmt::Formatter<W>) -> fmt::Result {
+        write!(f, "ParsedRef({:?})", self.original())
+    }
+}
+
 /// Reads a text, which may stand in `cfg( )`.
 ///
 /// The error is the first fault of the text, or that `alloc` refused memory.
@@ -182,5 +197,12 @@ impl<'a, A: SmallAllocator> TextReader<'a, A> {
             nodes: parser.nodes(),
             index: parser.index(),
         })
+    }
+}
+
+/// Prints the name alone.
+impl<A: SmallAllocator> fmt::Debug for TextReader<'_, A> {
+    fn fmt<W: fmt::Write>(&self, f: &mut fmt::Formatter<W>) -> fmt::Result {
+        f.debug_struct("TextReader").finish_non_exhaustive()
     }
 }

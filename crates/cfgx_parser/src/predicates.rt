@@ -1,5 +1,10 @@
 //! Predicates as they are asked, and the iterator over those of an expression.
-ghost use Rattle.std.specs.Prelude.{◌≡◌, length};
+ghost use Rattle.std.specs.Prelude.{◌≡◌, ◌↔◌, IsTrue, length};
+ghost use Rattle.std.specs.Cmp.{partial_equiv_from_equiv};
+ghost use Rattle.std.specs.Cmp.Lexicographic.{lists_equiv, nat_list_eq_equiv};
+ghost use Rattle.std.specs.Cmp.{on_equiv};
+ghost use Rattle.std.specs.Ordering.{on};
+ghost use Rattle.cfgx_parser.specs.Equality.{question_code, question_eq, target_code, target_eq};
 ghost use Rattle.cfgx_parser.specs.Predicate.{question_of, target_of};
 ghost use Rattle.cfgx_parser.specs.nodes.Located.{HasCut, TargetHasCut, question_at};
 ghost use Rattle.cfgx_parser.specs.nodes.Located.{target_question_at};
@@ -13,7 +18,7 @@ use std::marker::Model;
 
 /// A predicate on the target that is compiled for.
 #[derive(Drop)]
-#[derive_where(Debug, PartialEq, Eq)]
+#[derive_where(Debug)]
 pub enum TargetPredicate<'a, A: Allocator = Global> {
     /// `target_abi`
     Abi(Abi<'a, A>),
@@ -39,7 +44,7 @@ pub enum TargetPredicate<'a, A: Allocator = Global> {
 
 /// A predicate of a condition. Its texts are those of the expression.
 #[derive(Drop)]
-#[derive_where(Debug, PartialEq, Eq)]
+#[derive_where(Debug)]
 pub enum Predicate<'a, A: Allocator = Global> {
     /// A predicate on the target
     Target(TargetPredicate<'a, A>),
@@ -62,6 +67,76 @@ pub enum Predicate<'a, A: Allocator = Global> {
         /// The value, without its quotes; it may be empty
         val: &'a str,
     },
+}
+
+/// Two predicates on targets are equal if they are of one kind and have equal texts, borrowed or
+/// owned.
+impl<A: Allocator> PartialEq for TargetPredicate<'_, A> {
+    ghost eq = { on target_of target_eq };
+
+    ghost laws = { partial_equiv_from_equiv
+        (on_equiv target_of (on_equiv target_code nat_list_eq_equiv)) };
+
+    fn eq(&self, other: &Self) -> bool
+        ensures value { result ≡ target_eq (target_of self.now) (target_of other.now) }
+        ensures same { IsTrue result ↔ (target_of self.now ≡ target_of other.now) }
+    {
+        use TargetPredicate::*;
+        match (self, other) {
+            (Abi(one), Abi(other)) => one == other,
+            (Arch(one), Arch(other)) => one == other,
+            (Endian(one), Endian(other)) => one == other,
+            (Env(one), Env(other)) => one == other,
+            (Family(one), Family(other)) => one == other,
+            (HasAtomic(one), HasAtomic(other)) => one == other,
+            (Os(one), Os(other)) => one == other,
+            (Panic(one), Panic(other)) => one == other,
+            (PointerWidth(one), PointerWidth(other)) => one == other,
+            (Vendor(one), Vendor(other)) => one == other,
+            _ => false,
+        }
+    }
+}
+
+impl<A: Allocator> Eq for TargetPredicate<'_, A> {
+    ghost laws = { on_equiv target_of (on_equiv target_code nat_list_eq_equiv) };
+}
+
+/// Two predicates are equal if they are of one kind and have equal texts, wherever these lie.
+impl<A: Allocator> PartialEq for Predicate<'_, A> {
+    ghost eq = { on question_of question_eq };
+
+    ghost laws = { partial_equiv_from_equiv
+        (on_equiv question_of (on_equiv question_code (lists_equiv nat_list_eq_equiv))) };
+
+    fn eq(&self, other: &Self) -> bool
+        ensures value { result ≡ question_eq (question_of self.now) (question_of other.now) }
+        ensures same { IsTrue result ↔ (question_of self.now ≡ question_of other.now) }
+    {
+        use Predicate::*;
+        match (self, other) {
+            (Target(one), Target(other)) => one == other,
+            (Test, Test) => true,
+            (DebugAssertions, DebugAssertions) => true,
+            (ProcMacro, ProcMacro) => true,
+            (Feature(one), Feature(other)) => one == other,
+            (TargetFeature(one), TargetFeature(other)) => one == other,
+            (Flag(one), Flag(other)) => one == other,
+            (
+                KeyValue { key, val },
+                KeyValue {
+                    key: other_key,
+                    val: other_val,
+                },
+            ) => { key == other_key && val == other_val }
+            _ => false,
+        }
+    }
+}
+
+impl<A: Allocator> Eq for Predicate<'_, A> {
+    ghost laws = { on_equiv question_of
+        (on_equiv question_code (lists_equiv nat_list_eq_equiv)) };
 }
 
 impl InnerTarget {

@@ -18,6 +18,7 @@ use crate::memory::SmallAllocator;
 use cfgx_parser::parsed::{ParsedRef, TextReader};
 use cfgx_parser::predicates::Predicates;
 use std::alloc::{AllocError, Global};
+use std::fmt;
 use std::marker::Model;
 
 /// A condition whose text and nodes are borrowed, from an `Expression` or a `ConditionReader`.
@@ -106,6 +107,13 @@ impl<'a> Condition<'a> {
     }
 }
 
+/// Prints the stripped text as `Debug` prints a text, in parentheses.
+impl fmt::Debug for Condition<'_> {
+    fn fmt<W: fmt::Write>(&self, f: &mut fmt::Formatter<W>) -> fmt::Result {
+        write!(f, "Condition({:?})", self.original())
+    }
+}
+
 /// Reads one condition after another and reuses its memory. Only the first text, one that needs
 /// more room than each before it, and a faulty one take memory.
 #[derive(Drop)]
@@ -131,5 +139,12 @@ impl<'a, A: SmallAllocator> ConditionReader<'a, A> {
         ensures { Answers (strip original.now) result }
     {
         Ok(Condition::new(self.texts.read(original)?))
+    }
+}
+
+/// Prints the name alone.
+impl<A: SmallAllocator> fmt::Debug for ConditionReader<'_, A> {
+    fn fmt<W: fmt::Write>(&self, f: &mut fmt::Formatter<W>) -> fmt::Result {
+        f.debug_struct("ConditionReader").finish_non_exhaustive()
     }
 }

@@ -8,7 +8,7 @@ ghost use Rattle.cfgx_parser.specs.Predicate.{question_of, target_of};
 ghost use Rattle.cfgx_grammar.specs.WellFormed.{IsAlone, IsWellFormed};
 ghost use Rattle.cfgx_grammar.specs.Spelling.{spelling, target_spelling, key_and_value};
 ghost use Rattle.cfg_expr.specs.Writing.{Takes, Writes};
-ghost use Rattle.cfg_expr.specs.ValueBytes.{value_bytes};
+ghost use Rattle.cfg_expr.specs.spelling.ValueBytes.{value_bytes};
 
 use cfgx_parser::predicates::{Predicate, TargetPredicate};
 use cfgx_targets::atomic::HasAtomic;

@@ -15,7 +15,6 @@ use cfg_expr::error::Failure;
 use cfg_expr::expr::ConditionReader;
 use cfg_expr::memory::SmallAllocator;
 use cfg_expr::{Expression, Predicate};
-use cfgx_parser::laws::are_same_predicates;
 use std::marker::Model;
 
 /// A text that names the predicates that its tree asks. Contracts see the text.
@@ -69,7 +68,7 @@ impl<A: SmallAllocator> Flag<A> {
 fn is_asked(named: Predicate<'_>, asked: &Predicate<'_>) -> bool
     ensures { IsTrue result ↔ (question_of named.entry ≡ question_of asked.now) }
 {
-    let is_asked = are_same_predicates(&named, asked);
+    let is_asked = named == *asked;
     drop(named);
     is_asked
 }
