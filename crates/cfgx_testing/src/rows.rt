@@ -2,10 +2,10 @@
 //!
 //! A line that is empty or begins with `// ` or `# ` is no row. A backslash at the end of a line of
 //! code says that the row goes on in the next one. The fields of a row are divided by ` | `. In a
-//! field `\n`, `\t`, `\r`, `\0` and `\\` stand for what they are in Rust, `\u{a0}` for the character
-//! of that number, and `\e` for nothing, so that a field can be empty. `~piece~times~` stands for
-//! the piece that many times, and a field that is `USAGE`, `SECTIONS` or `VERDICTS` for the text of
-//! that name.
+//! field `\n`, `\t`, `\r`, `\0` and `\\` stand for what they are in Rust, `\u{a0}` for the
+//! character of that number, and `\e` for nothing, so that a field can be empty. `~piece~times~`
+//! stands for the piece that many times, and a field that is `USAGE`, `SECTIONS` or `VERDICTS` for
+//! the text of that name.
 use crate::streams::{SECTIONS, USAGE, VERDICTS};
 use std::alloc::{AllocError, Global};
 use std::fmt::Debug;

@@ -273,8 +273,8 @@ fn ended_text(
     format!(in alloc; "{status} | {text} | with a wrong call of a stream")
 }
 
-/// How a run with these words over the input ends and what it writes, as rows write them: `0 | yes`.
-/// A read gives and a write takes at most `each` bytes.
+/// How a run with these words over the input ends and what it writes, as rows write them, for
+/// example `0 | yes`. A read gives and a write takes at most `each` bytes.
 pub fn run_text(
     alloc: Global,
     words: &[&str],
@@ -288,8 +288,8 @@ pub fn run_text(
     ended_text(alloc, status, &sink, source.is_read_whole())
 }
 
-/// Whether the sink had these calls, `failures` of which failed, and got these bytes: no call was of
-/// an empty slice, and none came after a failed one.
+/// Whether the sink had these calls, `failures` of which failed, and got these bytes. No call may be
+/// of an empty slice, and none may come after a failed one.
 pub fn is_left_so(sink: &Recorder, written: &[u8], calls: (u64, u64), failures: u64) -> bool {
     sink.bytes.as_slice() == written
         && (sink.writes, sink.flushes) == calls

@@ -1,6 +1,6 @@
-//! Checks the files of its folder `data` that its arguments name: the answers of the Rust crate, and
-//! tables of the rules of texts, of the program `cfgx`, and of values and targets. It prints each
-//! wrong row with what was found, and how many rows each file has.
+//! Checks the files of its folder `data` that its arguments name: the answers of the Rust crate,
+//! and tables of the rules of texts, of the program `cfgx`, and of values and targets. It prints
+//! each wrong row with what was found, and how many rows each file has.
 #![tactic(auto)]
 
 mod program;

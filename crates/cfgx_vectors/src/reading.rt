@@ -1,6 +1,6 @@
 //! The texts of a file, which one reader reads one after another as parsing reads each of them.
-//! Each field of each row is one of them. A reader borrows its texts, so they are kept to the end of
-//! the file.
+//! Each field of each row is one of them. A reader borrows its texts, so they are kept to the end
+//! of the file.
 use cfg_expr::error::Failure;
 use cfg_expr::expr::{Condition, ConditionReader};
 use cfg_expr::{Expression, Predicate};
@@ -55,7 +55,7 @@ fn first_otherwise<'a>(
 }
 
 // A line that tells the text.
-fn told(alloc: Global, text: &str) -> Result<String, AllocError> {
+fn line_telling(alloc: Global, text: &str) -> Result<String, AllocError> {
     let text = escaped(alloc, text)?;
     format!(in alloc; "wrong: one reader reads this otherwise than parsing does: {text}\n")
 }
@@ -64,7 +64,7 @@ fn told(alloc: Global, text: &str) -> Result<String, AllocError> {
 pub(crate) fn read_otherwise(alloc: Global, texts: &[String]) -> Result<String, AllocError> {
     let mut reader = ConditionReader::new(alloc);
     match first_otherwise(alloc, &mut reader, texts) {
-        Some(text) => told(alloc, text),
+        Some(text) => line_telling(alloc, text),
         None => Ok(String::new(alloc)),
     }
 }

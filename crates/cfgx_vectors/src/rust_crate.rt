@@ -1,4 +1,4 @@
-//! The answers of the Rust crate cfg-expr 0.20.10. The head of their file says which texts it leaves
+//! The answers of the Rust crate cfg-expr 0.20.10. The head of their file says which texts are left
 //! out.
 use crate::reading::read_otherwise;
 use cfgx_testing::rows::{Finding, compare_pair, found, rows_of, unescaped, wrong_rows};
@@ -13,14 +13,14 @@ fn fields_of(row: &str) -> Option<(&str, &str, &str)> {
 }
 
 // The text and the output without escapes, and the status.
-fn meant(alloc: Global, row: &str) -> Option<(String, String, &str)> {
+fn unescaped_fields(alloc: Global, row: &str) -> Option<(String, String, &str)> {
     let (text, status, output) = fields_of(row)?;
     Some((unescaped(alloc, text)?, unescaped(alloc, output)?, status))
 }
 
 // Whether `parse` answers as the row says.
 fn finding(alloc: Global, row: &str) -> Finding {
-    match meant(alloc, row) {
+    match unescaped_fields(alloc, row) {
         Some((text, output, status)) => {
             let told = run_text(alloc, &["parse", text.as_str()], ALL, &[]);
             compare_pair(alloc, told, (status, output.as_str()))
@@ -31,7 +31,7 @@ fn finding(alloc: Global, row: &str) -> Finding {
 
 // Adds the text and the output of a row, if it has both.
 fn push_texts(alloc: Global, texts: &mut Vec<String>, row: &str) -> Result<(), AllocError> {
-    if let Some((text, output, _)) = meant(alloc, row) {
+    if let Some((text, output, _)) = unescaped_fields(alloc, row) {
         texts.push(text)?;
         texts.push(output)?;
     }

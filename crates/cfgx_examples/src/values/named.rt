@@ -2,8 +2,8 @@
 use cfgx_fields::{Abi, Arch, Env, Family, Field, Os, Panic, Vendor};
 use std::alloc::{Allocator, Global};
 
-// Checks that there are `count` fields, which are these texts, between which spaces stand. The error
-// is the first text that one of them is not.
+// Checks that there are `count` fields, which are these texts, between which spaces stand. The
+// error is the first text that one of them is not.
 fn check_texts<K: Drop, A: Allocator>(
     fields: &[Field<'_, K, A>],
     texts: &'static str,

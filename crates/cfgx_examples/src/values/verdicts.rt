@@ -1,5 +1,5 @@
-//! The verdicts of `pick` on any number of sections, with and without a name, on each target that is
-//! built in.
+//! The verdicts of `pick` on any number of sections, with and without a name, on each target that
+//! is built in.
 use cfg_expr::Expression;
 use cfg_expr::error::Failure;
 use cfg_expr::expr::TargetMatcher;

@@ -57,8 +57,8 @@ fn compare_picked_with_ff(alloc: Global, input: &str, printed: &str) -> Finding 
     }
 }
 
-/// Compares what `pick` prints for the input of a row with the row. A row without an input speaks of
-/// none and of line feeds alone.
+/// Compares what `pick` prints for the input of a row with the row. A row without an input is about
+/// the empty input and about line feeds alone.
 pub(super) fn finding_of_pick(alloc: Global, cell: &str, printed: &str) -> Finding {
     let (input, printed) = (quoted(cell), quoted(printed));
     if cell.ends_with(" and the one byte ff") {

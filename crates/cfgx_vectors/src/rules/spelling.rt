@@ -187,8 +187,8 @@ fn is_read_again(alloc: Global, text: &str, spelled: &str) -> bool {
     has_several || holds(ask_the_same(alloc, text, spelled))
 }
 
-/// Compares the spelling of the text with this one. It also has to stop where a writer takes nothing
-/// or fails, and to be read again as its predicate.
+/// Compares the spelling of the text with this one. It also has to stop where a writer takes
+/// nothing or fails, and to be read again as its predicate.
 pub(super) fn finding(alloc: Global, text: &str, spelled: &str) -> Finding {
     compare_spelling(alloc, text, spelled)?;
     require(
