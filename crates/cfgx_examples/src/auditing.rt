@@ -122,7 +122,7 @@ fn are_values_on(
     true
 }
 
-// Whether each lane on the rows, of which there are so many, is the value on its row.
+// Whether there are `count` rows, and each lane is the value on its row.
 fn agrees_in_lanes(
     alloc: Global,
     condition: &Expression,

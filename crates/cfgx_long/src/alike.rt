@@ -48,7 +48,7 @@ all(a,~true,~100000~) | 1 | 10?
 ~not(~100001~true~)~100001~ | 0 | 000
 "#;
 
-// Whether this is the value over `bool` if each of so many answers is the one.
+// Whether the digit is the value over `bool` if each of `count` answers is `answer`.
 fn is_bool_value(
     alloc: Global,
     expression: &Expression,
@@ -60,8 +60,8 @@ fn is_bool_value(
     Ok(value_with(alloc, expression, answers.as_slice()) == Some(digit == b'1'))
 }
 
-// Whether this is the value by each of three calls, and over `bool` if the answer is known, if each
-// of so many answers is the one.
+// Whether the digit is the value by each of three calls, and over `bool` if the answer is known, if
+// each of `count` answers is `answer`.
 fn is_value(
     alloc: Global,
     expression: &Expression,
@@ -88,8 +88,8 @@ fn have_lanes(alloc: Global, expression: &Expression, digits: &[u8], answers: &[
     }
 }
 
-// Whether these are the values in lanes of which the first is true, the second false, and all
-// others are unknown, in so many answers.
+// Whether the digits are the values in lanes if in each of `count` answers the first lane is true,
+// the second one false, and all others are unknown.
 fn agree_in_lanes(
     alloc: Global,
     expression: &Expression,
@@ -110,7 +110,7 @@ fn have_all_values(alloc: Global, expression: &Expression, digits: &[u8], count:
     digits.len() == 3 && holds(agree_in_lanes(alloc, expression, digits, count))
 }
 
-/// Whether the text asks so many predicates and has these values.
+/// Whether the text asks `count` predicates and has the values of the digits.
 pub(crate) fn have_values(alloc: Global, text: &str, count: &str, digits: &str) -> Option<bool> {
     let count = count.parse::<usize>().ok()?;
     let expression = Expression::parse(alloc, text).ok()?;

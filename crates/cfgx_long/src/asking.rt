@@ -112,7 +112,7 @@ here | any(~unix, target_os = "here",~1000~test) | Yes | 2000
 here | any(~unix, not(target_os = "here"),~1000~test) | Unknown | 2000
 "#;
 
-// Whether each of the targets was asked so often, and says this.
+// Whether each of the targets was asked `count` times, and its verdict is the wanted one.
 fn are_audited<M: TargetMatcher>(
     targets: &[Counting<'_, M>],
     verdicts: &[Verdict],
@@ -127,7 +127,7 @@ fn are_audited<M: TargetMatcher>(
     targets.len() == verdicts.len()
 }
 
-// Whether an audit of three such targets says so.
+// Whether an audit of three counting targets gives the wanted verdict and asks each `count` times.
 fn is_audited<M: TargetMatcher>(
     alloc: Global,
     condition: &Expression,
@@ -190,7 +190,7 @@ fn told_verdict(told: &str) -> Option<Verdict> {
     }
 }
 
-// Whether the target says this of the condition by each call, and is asked so often.
+// Whether each call gives the wanted verdict on the target, and asks it `count` times.
 fn is_asked<M: TargetMatcher>(
     alloc: Global,
     text: &str,
@@ -205,7 +205,7 @@ fn is_asked<M: TargetMatcher>(
     Ok(is_audited && is_decided && is_picked)
 }
 
-// Whether the target of this name does.
+// Whether each call does so on the target of this name.
 fn is_named_asked(alloc: Global, name: &str, text: &str, wanted: Verdict, count: usize) -> bool {
     match name {
         "everything" => holds(is_asked(alloc, text, &Everything, wanted, count)),

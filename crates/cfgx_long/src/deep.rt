@@ -35,12 +35,12 @@ any(~a,~2000000~) | 2000000
 any(~abcdefg,~1100000~) | 1100000
 "#;
 
-// Whether so many predicates are left, and so many come.
+// Whether `count` predicates are left, and `count` are given.
 fn have_count(predicates: Predicates<'_>, count: Option<usize>) -> bool {
     Some(predicates.left()) == count && Some(predicates.count()) == count
 }
 
-/// Whether the text asks so many predicates, and its expression keeps and prints it.
+/// Whether the text asks `count` predicates, and its expression keeps and prints it.
 pub(crate) fn asks(alloc: Global, text: &str, count: &str) -> Result<bool, Failure> {
     let expression = Expression::parse(alloc, text)?;
     let is_kept = expression.original() == text && prints(alloc, &expression, text);
@@ -52,7 +52,7 @@ pub(crate) const READ: &str = r#"
 any(~a,~100000~) | 100000 | ~not(~100000~a~)~100000~ | 1 | a | 1
 "#;
 
-// Whether reading gave this text and so many predicates.
+// Whether reading gave this text and `count` predicates.
 fn is_read(read: &Result<Condition<'_>, Failure>, text: &str, count: &str) -> bool {
     match read {
         Ok(condition) => {

@@ -14,7 +14,7 @@ const LENGTHS: &[(usize, usize, Option<usize>, usize)] = &[
     (16_777_221, 65_536, None, 4),
 ];
 
-// Whether reading answers so many bytes, or that they are too many.
+// Whether reading answers `wanted` bytes, or that they are too many.
 fn has_length(alloc: Heap<'_>, source: &mut Counting, wanted: Option<usize>) -> bool {
     match read_input(alloc, source) {
         Ok(Input::Bytes(bytes)) => wanted == Some(bytes.len()),

@@ -85,7 +85,7 @@ fn agree_at(alloc: Global, expression: &Expression, number: usize) -> Option<boo
     Some(agree(alloc, expression, answers.as_slice(), value))
 }
 
-// Whether they agree over each of so many lists of answers.
+// Whether they agree over the answers of each number below `cases`.
 fn agree_over(alloc: Global, expression: &Expression, cases: usize) -> bool {
     for number in 0..cases {
         if agree_at(alloc, expression, number) != Some(true) {

@@ -17,7 +17,7 @@ pub fn has_every_block(heap: Refusing<Bump>) -> bool {
     heap.into_inner().reset().is_ok()
 }
 
-// No call here needs so many growths.
+// More growths than any call here needs.
 const MOST_GROWTHS: u64 = 1000;
 
 /// How many growths the call takes.

@@ -104,6 +104,7 @@ fn check_pairs_of_texts(alloc: Global, heap: Heap<'_>) -> Result<(), Two<'static
 fn each_field_is_a_text(rt: HostRuntime) -> Result<(), Two<'static>> {
     let heap = empty_heap(rt.alloc());
     let checked = check_pairs_of_texts(rt.alloc(), &heap);
-    assert!(rt; has_every_block(heap) && RISING.split('|').count() == 9);
+    assert!(rt; heap.refused_growths() == 0 && RISING.split('|').count() == 9);
+    assert!(rt; has_every_block(heap));
     checked
 }

@@ -9,9 +9,9 @@ use cfg_expr::expr::{Predicates, TargetMatcher};
 use cfg_expr::memory::SmallAllocator;
 use cfg_expr::{Expression, Predicate, TargetPredicate};
 use cfgx_engine::resolve::{Section, Verdict, pick};
+use cfgx_testing::faults::is_fault;
 use cfgx_testing::heap::{empty_heap, has_every_block};
 use cfgx_testing::holding::{gives, holds};
-use cfgx_testing::faults::is_fault;
 use cfgx_testing::triples::IOS;
 use std::alloc::{AllocError, Global};
 
@@ -214,7 +214,7 @@ fn is_true<A: SmallAllocator>(alloc: A, expression: &Expression<A>) -> Finding {
     if count == asked { value } else { Ok(false) }
 }
 
-// Whether the filling has this value alone, this many times.
+// Whether the filling is `value` `count` times.
 fn repeats(filling: &[bool], value: bool, count: usize) -> bool {
     filling.len() == count && !filling.contains(&!value)
 }

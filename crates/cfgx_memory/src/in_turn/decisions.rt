@@ -61,8 +61,8 @@ any(a, not(a)) | ?? | 01 10 | 2
 /// What a row of `DECIDED` says of a decision, and of its growths.
 type Told<'a> = (&'a str, u64);
 
-// Whether the condition is decided so with this many growths, and again in the memory of that
-// decision with no more.
+// Whether the condition is decided as told in `growths` growths, and again, in the memory of that
+// decision, in no more.
 fn decides_in<A: SmallAllocator>(
     heap: Heap<'_>,
     alloc: A,
@@ -80,7 +80,7 @@ fn decides_in<A: SmallAllocator>(
     Ok(is_first && is_told(&again, told) && heap.asked_growths() == wanted)
 }
 
-// Whether the condition of the text that was read is.
+// Whether the condition of the text, of which this was read, is decided as told.
 fn is_decided_in<A: SmallAllocator>(
     heap: Heap<'_>,
     alloc: A,
@@ -94,7 +94,7 @@ fn is_decided_in<A: SmallAllocator>(
     }
 }
 
-// Whether the text is decided so, and every block is given back.
+// Whether the condition of the text is decided as told, and every block is given back.
 fn decides_text(alloc: Global, text: &str, answers: &[Answer], told: Told<'_>) -> bool {
     let heap = empty_heap(alloc);
     let is_decided = is_decided_in(&heap, &heap, &parsed(&heap, text), answers, told);

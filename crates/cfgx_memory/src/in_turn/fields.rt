@@ -34,7 +34,7 @@ fn copies_kind<K: Drop, A: SmallAllocator>(alloc: A, text: &str) -> Finding {
     )
 }
 
-// A predicate of this kind, whose field is made so of the text, or nothing if there is no such kind.
+// A predicate of this kind, whose field `made` makes of the text. There is none of other kinds.
 macro_rules! predicate {
     ($kind:ident $made:ident $text:ident) => {
         match $kind {

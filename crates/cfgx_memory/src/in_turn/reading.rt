@@ -88,7 +88,8 @@ any(~any(),    ~60~) | 5 | any(~any(),    ~600~) | 1
 a | 4 | key) | 1 | a | 0
 "#;
 
-// Whether the reader answers what parsing the text elsewhere answers, with this many growths.
+// Whether the reader answers what parsing the text elsewhere answers, and asks for `growths`
+// growths.
 fn reads_in<'t, A: SmallAllocator>(
     out: Global,
     heap: Heap<'_>,

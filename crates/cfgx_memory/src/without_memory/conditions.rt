@@ -26,7 +26,8 @@ pub(super) fn read<A: SmallAllocator>(heap: Heap<'_>, alloc: A, text: &str) -> R
     read
 }
 
-// Whether the expression is equal to the other one, and its predicates, as is wanted.
+// Whether the comparisons of the expression with the other one, and of their predicates, answer
+// `wanted`.
 fn is_equal<A: SmallAllocator>(
     asked: &Expression<A>,
     other: &Read<A>,
@@ -41,7 +42,7 @@ fn is_equal<A: SmallAllocator>(
     }
 }
 
-// Whether the expression is equal to that of `TEXT`, and its predicates, as is wanted.
+// Whether the comparisons of the expression with that of `TEXT` answer `wanted`.
 fn compares<A: SmallAllocator>(
     heap: Heap<'_>,
     alloc: A,
@@ -77,7 +78,7 @@ fn reads_again<'t, A: SmallAllocator>(
     is_read && is_read_by(out, reader, text) && is_read_by(out, reader, LONG)
 }
 
-// Whether a reader does so.
+// Whether a new reader reads the text after `LONG`, and `LONG` again.
 fn is_read_again<A: SmallAllocator>(out: Global, heap: Heap<'_>, alloc: A, text: &str) -> bool {
     let mut reader = ConditionReader::new(alloc);
     reads_again(out, heap, &mut reader, text)

@@ -27,7 +27,7 @@ fn is_item_at<A: Allocator>(item: &Item<'_, A>, token: Token<'_>, span: &Range<u
     }
 }
 
-// Whether the lexer gives this token at this place, and has so many bytes left.
+// Whether the lexer gives this token at this place, and then has at most `left` items left.
 fn gives<A: Allocator>(
     lexer: &mut Lexer<'_, A>,
     token: Token<'_>,

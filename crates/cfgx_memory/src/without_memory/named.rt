@@ -3,7 +3,7 @@ use cfg_expr::memory::SmallAllocator;
 use cfgx_fields::{Abi, Arch, Env, Family, Field, Os, Panic, Vendor};
 use std::alloc::Allocator;
 
-// Whether the fields are so many, and are these texts, which spaces divide.
+// Whether the fields are the `count` texts, which spaces divide.
 fn are_texts<K: Drop, A: Allocator>(
     fields: &[Field<'_, K, A>],
     texts: &'static str,
