@@ -13,35 +13,35 @@ mod field;
 pub use field::Field;
 
 /// Marks a field as a triple.
-#[derive(Drop)]
+#[derive(Debug, Drop)]
 pub struct TripleKind;
 
 /// Marks a field as an ABI.
-#[derive(Drop)]
+#[derive(Debug, Drop)]
 pub struct AbiKind;
 
 /// Marks a field as an architecture.
-#[derive(Drop)]
+#[derive(Debug, Drop)]
 pub struct ArchKind;
 
 /// Marks a field as a vendor.
-#[derive(Drop)]
+#[derive(Debug, Drop)]
 pub struct VendorKind;
 
 /// Marks a field as an operating system.
-#[derive(Drop)]
+#[derive(Debug, Drop)]
 pub struct OsKind;
 
 /// Marks a field as a family.
-#[derive(Drop)]
+#[derive(Debug, Drop)]
 pub struct FamilyKind;
 
 /// Marks a field as an environment.
-#[derive(Drop)]
+#[derive(Debug, Drop)]
 pub struct EnvKind;
 
 /// Marks a field as a panic strategy.
-#[derive(Drop)]
+#[derive(Debug, Drop)]
 pub struct PanicKind;
 
 /// The name of a whole target, such as `x86_64-unknown-linux-gnu`.

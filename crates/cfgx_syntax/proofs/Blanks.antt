@@ -8,7 +8,7 @@ use Rattle.std.proofs.lemmas.Str.{NoCharPasses-nil, NoCharPasses-append, encode_
 use Rattle.std.proofs.lemmas.List.Sums.{prefix_len_stops}
 use Rattle.std.specs.{Char.IsScalar, Char.is_not_whitespace, List.prefix_len}
 use Rattle.std.specs.Str.{IsTrimStart, NoCharPasses, EmptyOrStartsWithPassing}
-use Rattle.cfgx_syntax.specs.Lexer.{BeginsWithClass, is_blank, is_of, may_be_white}
+use Rattle.cfgx_syntax.specs.lexing.ByteClasses.{BeginsWithClass, is_blank, is_of, may_be_white}
 use Rattle.cfgx_syntax.specs.declared.lexer.bytes.Class.{Class}
 use Rattle.cfgx_syntax.specs.declared.lexer.bytes.Class.TheVariants as class
 

@@ -3,7 +3,7 @@ use Rattle.std.proofs.Common.{◌≡◌, ℕ, zero, suc, ◌+◌, ◌<◌, Bool,
 use Rattle.std.proofs.Common.{get_or, if◌then◌else◌, subst, arith}
 use Rattle.std.proofs.lemmas.List.Sums.{prefix_len-drop_yes, prefix_len-drop_no}
 use Rattle.std.{proofs.lemmas.List.Sums.prefix_len-le-length, specs.Cmp.{first_so, second_so}}
-use Rattle.cfgx_syntax.specs.{Lexer.is_of, declared.lexer.bytes.Class.Class}
+use Rattle.cfgx_syntax.specs.{lexing.ByteClasses.is_of, declared.lexer.bytes.Class.Class}
 use Rattle.cfgx_syntax.specs.declared.lexer.bytes.Class.TheVariants as class
 
 -- the first of the classes that the byte is of

@@ -11,7 +11,7 @@ use Rattle.std.specs.List.{AllByRecursion, position_or_len, before_first, after_
 use Rattle.std.specs.Str.{IsUtf8, IsTrimStart, encode_utf8_all, all_scalars}
 use Rattle.cfgx_syntax.specs.Items.{Item, Ending, ItemsFrom, IsBlank, HasOneTokenList, starts_token}
 use Rattle.cfgx_syntax.specs.{Items.expects_token, Error.Cause, Cut.IsValueCut, Cut.CanBeCut}
-use Rattle.cfgx_syntax.specs.Lexer.{BeginsWith, BeginsNone, BeginsUnclosed}
+use Rattle.cfgx_syntax.specs.lexing.Beginnings.{BeginsWith, BeginsNone, BeginsUnclosed}
 use Rattle.cfgx_syntax.specs.Token.{Token, starts_word, continues_word, is_quote, IsWord, Spells}
 use Rattle.cfgx_syntax.specs.Token.{HasNoQuote, IsWhole}
 use Rattle.cfgx_syntax.proofs.Blanks.{IsTrimStart-here, IsTrimStart-past}

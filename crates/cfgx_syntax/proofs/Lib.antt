@@ -1,7 +1,7 @@
 pub mod Blanks
 pub mod Classes
 pub mod Cutting
-pub mod ErrorLemmas
+pub mod Equalities
 pub mod Finding
 pub mod FirstChar
 pub mod Fronts

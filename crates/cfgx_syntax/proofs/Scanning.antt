@@ -7,7 +7,7 @@ use Rattle.std.specs.{Prelude.slice_range, Str.IsTrimStart}
 use Rattle.cfgx_syntax.specs.{Cut.CanBeCut, Error.Cause, Token.Token, LexerState.LexerState}
 use Rattle.cfgx_syntax.specs.Items.{EndsAs, lexical, IsBlank, Stands, IsStuck, IsUnclosed}
 use Rattle.cfgx_syntax.specs.Items.{OpensNoValue, starts_token, Ending}
-use Rattle.cfgx_syntax.specs.Lexer.{BeginsWith, BeginsNone, BeginsUnclosed}
+use Rattle.cfgx_syntax.specs.lexing.Beginnings.{BeginsWith, BeginsNone, BeginsUnclosed}
 use Rattle.cfgx_syntax.proofs.Cutting.{CanBeCut-from_rest}
 
 -- what begins a token is ASCII

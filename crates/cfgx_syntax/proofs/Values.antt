@@ -6,7 +6,8 @@ use Rattle.std.specs.{Prelude.codes, Prelude.slice_range, Str.IsUtf8, List.prefi
 use Rattle.std.{proofs.Math.Seq.split_at, proofs.lemmas.Str.IsCharBoundary-after_ascii}
 use Rattle.std.proofs.lemmas.List.{get_or-take, take_at, get_or_at, take-take, drop-take, drop-drop}
 use Rattle.cfgx_syntax.specs.Token.{Token, is_quote, HasNoQuote, in_quotes}
-use Rattle.cfgx_syntax.{specs.Lexer.{BeginsWith, FindsQuote, in_run}, proofs.WordLemmas.IsCut-front}
+use Rattle.cfgx_syntax.{specs.lexing.Beginnings.BeginsWith, proofs.WordLemmas.IsCut-front}
+use Rattle.cfgx_syntax.specs.lexing.ByteClasses.{FindsQuote, in_run}
 use Rattle.cfgx_syntax.specs.declared.lexer.bytes.Run.TheVariants as run
 use Rattle.std.proofs.lemmas.List.Sums.{prefix_len_passes, prefix_len_stops}
 

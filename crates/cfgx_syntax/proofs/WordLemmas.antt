@@ -6,8 +6,9 @@ use Rattle.std.proofs.{lemmas.List.take_rest, lemmas.Bool.cond_both, lemmas.Bool
 use Rattle.std.proofs.lemmas.List.Sums.{prefix_len-le-length, prefix_len_passes}
 use Rattle.std.proofs.lemmas.Str.{IsCharBoundary-after_ascii, IsCharBoundary-start}
 use Rattle.std.specs.{List.list_all, List.prefix_len, Str.IsUtf8, Str.IsCharBoundary}
-use Rattle.cfgx_syntax.specs.{Cut.IsCut, Cut.IsValueCut, Lexer.BeginsWith, Token.IsWhole}
+use Rattle.cfgx_syntax.specs.{Cut.IsCut, Cut.IsValueCut, lexing.Beginnings.BeginsWith}
 use Rattle.cfgx_syntax.specs.Token.{Token, starts_word, continues_word, IsWord, EndsWord, Spells}
+use Rattle.cfgx_syntax.specs.Token.{IsWhole}
 
 -- what stands in a word is ASCII
 pub continues_word-ascii : (byte : ℕ) → continues_word byte ≡ true → byte < 128

@@ -2,8 +2,9 @@
 -- Source of the texts: `cfg-expr` 0.20.10, `impl Display for Reason`, `impl Display for ParseError`
 -- and `ParseError::description`.
 use Rattle.std.specs.Prelude.{◌≡◌, ℕ, ◌-◌, List, [], ◌∷◌, ◌++◌, codes, map, replicate, Option, Some}
-use Rattle.std.specs.Prelude.{None, slice_index}
-use Rattle.std.specs.{List.flat_map, Fmt.decimal, String.string_bytes}
+use Rattle.std.specs.Prelude.{None, slice_index, Bool, nat_eq}
+use Rattle.std.specs.{List.flat_map, Fmt.decimal, String.string_bytes, Str.bytes_eq}
+use Rattle.std.specs.{Cmp.Lexicographic.pointwise, Ordering.on, Ordering.eq_of_both}
 use Rattle.cfgx_syntax.specs.{declared.error.Reason.Reason, declared.error.Failure.Failure}
 use Rattle.cfgx_syntax.specs.declared.error.Reason.TheVariants as reason
 use Rattle.cfgx_syntax.specs.declared.error.ParseError.{ParseError}
@@ -39,6 +40,40 @@ cause_of reason.InvalidInteger = invalid_integer
 cause_of reason.MultipleRootPredicates = multiple_root_predicates
 cause_of reason.InvalidHasAtomic = invalid_has_atomic
 cause_of reason.UnknownBuiltin = unknown_builtin
+
+-- the place of a cause among the cases
+abbrev pub cause_place : Cause → ℕ
+cause_place (invalid_not _) = 0
+cause_place invalid_characters = 1
+cause_place unclosed_parens = 2
+cause_place unopened_parens = 3
+cause_place unclosed_quotes = 4
+cause_place unopened_quotes = 5
+cause_place empty = 6
+cause_place (unexpected _) = 7
+cause_place invalid_integer = 8
+cause_place multiple_root_predicates = 9
+cause_place invalid_has_atomic = 10
+cause_place unknown_builtin = 11
+
+-- the number of a cause, or 0 if it has none
+abbrev pub cause_number : Cause → ℕ
+cause_number (invalid_not found) = found
+cause_number _ = 0
+
+-- the terms of a cause, if it has any
+abbrev pub cause_terms : Cause → List (List ℕ)
+cause_terms (unexpected terms) = terms
+cause_terms _ = []
+
+-- whether the texts are the same, one after another
+abbrev pub texts_eq : List (List ℕ) → List (List ℕ) → Bool
+texts_eq = pointwise bytes_eq
+
+-- whether two causes are the same: one case, one number and the same terms
+abbrev pub cause_eq : Cause → Cause → Bool
+cause_eq = eq_of_both (on cause_place nat_eq)
+    (eq_of_both (on cause_number nat_eq) (on cause_terms texts_eq))
 
 -- a term between back quotes
 abbrev pub quoted : List ℕ → List ℕ
@@ -92,6 +127,12 @@ pub record TextFault : Type 0 where
   pub start : ℕ
   pub end : ℕ
   pub cause : Cause
+
+-- whether two faults have the same text, span and cause
+abbrev pub fault_eq : TextFault → TextFault → Bool
+fault_eq = eq_of_both (on (λ f. f.original) bytes_eq)
+    (eq_of_both (eq_of_both (on (λ f. f.start) nat_eq) (on (λ f. f.end) nat_eq))
+    (on (λ f. f.cause) cause_eq))
 
 -- the fault with the text that it is in
 abbrev pub fault_in : List ℕ → Fault → TextFault

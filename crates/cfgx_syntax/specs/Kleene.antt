@@ -1,13 +1,17 @@
 -- Sixty-four answers that may be unknown, side by side in two planes of 64 bits.
 -- Source: Kleene's strong logic (see Logic.antt), lane by lane. Bit 0 is the lowest.
-use Rattle.std.specs.Prelude.{◌≡◌, ℕ, ◌-◌, ◌<◌, ◌^◌, ◌==◌, Bool, true, false, Option, Some, None}
+use Rattle.std.specs.Prelude.{◌≡◌, ℕ, ◌-◌, ◌<◌, ◌^◌, ◌==◌, nat_eq, Bool, true, false, Option, Some, None}
 use Rattle.std.specs.Prelude.{bit_and, bit_or, if◌then◌else◌}
-use Rattle.std.specs.Int.{bit_at}
+use Rattle.std.specs.{Int.bit_at, Ordering.on, Ordering.eq_of_both}
 
 -- the lanes that are true, and the lanes that are false, as bits
 pub record Planes : Type 0 where
   pub is_true : ℕ
   pub is_false : ℕ
+
+-- whether both planes are the same
+abbrev pub planes_eq : Planes → Planes → Bool
+planes_eq = eq_of_both (on (λ p. p.is_true) nat_eq) (on (λ p. p.is_false) nat_eq)
 
 -- no lane is both
 abbrev pub AreDisjoint : ℕ → ℕ → Type 0

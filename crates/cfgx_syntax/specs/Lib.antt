@@ -8,3 +8,5 @@ pub mod Logic
 pub mod Size
 pub mod Stripping
 pub mod Token
+pub mod laws
+pub mod lexing

@@ -1,24 +1,23 @@
 //! What is wrong with a cfg text, where, and how it prints.
 
-ghost use Rattle.std.specs.Prelude.{◌≡◌, ◌-◌, ◌<◌, ◌∷◌, ◌++◌, [], Some, codes, map, replicate};
+ghost use Rattle.std.specs.Prelude.{◌≡◌, ◌↔◌, ◌-◌, ◌<◌, ◌∷◌, ◌++◌, [], IsTrue, Some, codes, map};
+ghost use Rattle.std.specs.Prelude.{replicate};
 ghost use Rattle.std.specs.List.{repeat};
 ghost use Rattle.std.specs.Fmt.{DisplaysOnOk};
 ghost use Rattle.cfgx_syntax.specs.Error.{cause_of, marks, more_terms_text, quoted, terms_front};
-ghost use Rattle.cfgx_syntax.specs.Error.{unexpected_text, FailsWith, fault_in, only_byte};
+ghost use Rattle.cfgx_syntax.specs.Error.{texts_eq, unexpected_text, FailsWith, fault_in, only_byte};
 
 use std::alloc::{AllocError, AllocFailed, Allocator, Global};
 use std::fmt;
 use std::ops::Range;
-
-mod laws;
 
 // 64 of each mark.
 const SPACES: &str = "                                                                ";
 
 const CARETS: &str = "^^^^^^^^^^^^^^^^^^^^^^^^^^^^^^^^^^^^^^^^^^^^^^^^^^^^^^^^^^^^^^^^";
 
-/// Why a text is refused.
-#[derive(Clone, Copy, Debug, PartialEq, Eq)]
+/// Why a text is refused. Equal reasons have the same variant, number and texts.
+#[derive(Clone, Copy, Debug)]
 pub enum Reason {
     /// `not` has this many members, which is not one.
     InvalidNot(usize),
@@ -46,9 +45,9 @@ pub enum Reason {
     UnknownBuiltin,
 }
 
-/// Why a text was refused, and where in it.
+/// Why a text was refused, and where in it. Equal faults have the same text, span and reason.
 #[derive(Drop)]
-#[derive_where(Debug, PartialEq, Eq)]
+#[derive_where(Debug)]
 pub struct ParseError<A: Allocator = Global> {
     /// The text, without an outer `cfg( )`.
     pub original: String<A>,
@@ -60,12 +59,122 @@ pub struct ParseError<A: Allocator = Global> {
 
 /// The two ways in which a text may be refused.
 #[derive(Drop)]
-#[derive_where(Debug, PartialEq, Eq)]
+#[derive_where(Debug)]
 pub enum Failure<A: Allocator = Global> {
     /// The text is faulty.
     Parse(ParseError<A>),
     /// The call is out of memory. Nothing is said of the text.
     Memory(AllocError),
+}
+
+impl PartialEq for Reason {
+    ghost use Rattle.std.specs.{Cmp.on_per, Cmp.partial_equiv_from_equiv, Ordering.on};
+    ghost use Rattle.cfgx_syntax.specs.Error.{cause_eq, cause_of};
+    ghost use Rattle.cfgx_syntax.specs.laws.Equality.{cause_eq-equiv};
+
+    ghost eq = { on cause_of cause_eq };
+
+    ghost laws = { on_per cause_of (partial_equiv_from_equiv cause_eq-equiv) };
+
+    #[tactic(auto, using(crate::proofs::Equalities::equalities))]
+    fn eq(&self, other: &Self) -> bool
+        ensures value { result ≡ cause_eq (cause_of self.now) (cause_of other.now) }
+        ensures same { IsTrue result ↔ (cause_of self.now ≡ cause_of other.now) }
+    {
+        match self {
+            Reason::InvalidNot(found) => {
+                matches!(other, Reason::InvalidNot(others) if found == others)
+            }
+            Reason::InvalidCharacters => matches!(other, Reason::InvalidCharacters),
+            Reason::UnclosedParens => matches!(other, Reason::UnclosedParens),
+            Reason::UnopenedParens => matches!(other, Reason::UnopenedParens),
+            Reason::UnclosedQuotes => matches!(other, Reason::UnclosedQuotes),
+            Reason::UnopenedQuotes => matches!(other, Reason::UnopenedQuotes),
+            Reason::Empty => matches!(other, Reason::Empty),
+            Reason::Unexpected(terms) => match other {
+                Reason::Unexpected(others) => are_same_texts(terms, others),
+                _ => false,
+            },
+            Reason::InvalidInteger => matches!(other, Reason::InvalidInteger),
+            Reason::MultipleRootPredicates => matches!(other, Reason::MultipleRootPredicates),
+            Reason::InvalidHasAtomic => matches!(other, Reason::InvalidHasAtomic),
+            Reason::UnknownBuiltin => matches!(other, Reason::UnknownBuiltin),
+        }
+    }
+}
+
+// Whether the texts are the same, one after another.
+#[tactic(auto, using(crate::proofs::Equalities::texts))]
+fn are_same_texts(texts: &[&str], others: &[&str]) -> bool
+    ensures value { result ≡ texts_eq (map (λ t. t.now) texts.now) (map (λ t. t.now) others.now) }
+    ensures same { IsTrue result ↔ (map (λ t. t.now) texts.now ≡ map (λ t. t.now) others.now) }
+{
+    texts == others
+}
+
+impl Eq for Reason {
+    ghost use Rattle.std.specs.Cmp.{on_equiv};
+    ghost use Rattle.cfgx_syntax.specs.Error.{cause_of};
+    ghost use Rattle.cfgx_syntax.specs.laws.Equality.{cause_eq-equiv};
+
+    ghost laws = { on_equiv cause_of cause_eq-equiv };
+}
+
+impl<A: Allocator> PartialEq for ParseError<A> {
+    ghost use Rattle.std.specs.{Cmp.on_per, Cmp.partial_equiv_from_equiv, Ordering.on};
+    ghost use Rattle.cfgx_syntax.specs.Error.{fault_eq, fault_of};
+    ghost use Rattle.cfgx_syntax.specs.laws.Equality.{fault_eq-equiv};
+
+    ghost eq = { on fault_of fault_eq };
+
+    ghost laws = { on_per fault_of (partial_equiv_from_equiv fault_eq-equiv) };
+
+    #[tactic(auto, using(crate::proofs::Equalities::equalities))]
+    fn eq(&self, other: &Self) -> bool
+        ensures value { result ≡ fault_eq (fault_of self.now) (fault_of other.now) }
+        ensures same { IsTrue result ↔ (fault_of self.now ≡ fault_of other.now) }
+    {
+        self.original == other.original && self.span == other.span && self.reason == other.reason
+    }
+}
+
+impl<A: Allocator> Eq for ParseError<A> {
+    ghost use Rattle.std.specs.Cmp.{on_equiv};
+    ghost use Rattle.cfgx_syntax.specs.Error.{fault_of};
+    ghost use Rattle.cfgx_syntax.specs.laws.Equality.{fault_eq-equiv};
+
+    ghost laws = { on_equiv fault_of fault_eq-equiv };
+}
+
+impl<A: Allocator> PartialEq for Failure<A> {
+    ghost use Rattle.std.specs.{Cmp.on_per, Cmp.partial_equiv_from_equiv, Ordering.on};
+    ghost use Rattle.std.specs.{Cmp.Lexicographic.options_equiv, Option.option_eq};
+    ghost use Rattle.cfgx_syntax.specs.Error.{failure_of, fault_eq};
+    ghost use Rattle.cfgx_syntax.specs.laws.Equality.{fault_eq-equiv};
+
+    ghost eq = { on failure_of (option_eq fault_eq) };
+
+    ghost laws = { on_per failure_of (partial_equiv_from_equiv (options_equiv fault_eq-equiv)) };
+
+    #[tactic(auto, using(crate::proofs::Equalities::equalities))]
+    fn eq(&self, other: &Self) -> bool
+        ensures value { result ≡ option_eq fault_eq (failure_of self.now) (failure_of other.now) }
+        ensures same { IsTrue result ↔ (failure_of self.now ≡ failure_of other.now) }
+    {
+        match (self, other) {
+            (Failure::Parse(one), Failure::Parse(other)) => *one == *other,
+            (Failure::Memory(_), Failure::Memory(_)) => true,
+            _ => false,
+        }
+    }
+}
+
+impl<A: Allocator> Eq for Failure<A> {
+    ghost use Rattle.std.specs.{Cmp.on_equiv, Cmp.Lexicographic.options_equiv};
+    ghost use Rattle.cfgx_syntax.specs.Error.{failure_of};
+    ghost use Rattle.cfgx_syntax.specs.laws.Equality.{fault_eq-equiv};
+
+    ghost laws = { on_equiv failure_of (options_equiv fault_eq-equiv) };
 }
 
 impl<A: Allocator> Failure<A> {

@@ -4,13 +4,14 @@ ghost use Rattle.std.specs.Prelude.{true, Some};
 ghost use Rattle.std.specs.List.{prefix_len};
 ghost use Rattle.std.specs.Str.{IsTrimStart};
 ghost use Rattle.cfgx_syntax.specs.Items.{HasOneTokenList};
-ghost use Rattle.cfgx_syntax.specs.Lexer.{token_of, BeginsAs, BeginsWithClass};
+ghost use Rattle.cfgx_syntax.specs.Lexer.{token_of};
 ghost use Rattle.cfgx_syntax.specs.LexerState.{starting};
+ghost use Rattle.cfgx_syntax.specs.lexing.Beginnings.{BeginsAs};
+ghost use Rattle.cfgx_syntax.specs.lexing.ByteClasses.{BeginsWithClass};
 ghost use Rattle.cfgx_syntax.specs.Stripping.{strip};
 ghost use Rattle.cfgx_syntax.specs.Token.{continues_word, starts_word, IsWord, Spells};
 
 mod bytes;
-mod laws;
 
 use crate::error::{Failure, Reason};
 use crate::stripping::strip;
@@ -20,7 +21,8 @@ use std::fmt;
 use std::marker::Model;
 use std::ops::Range;
 
-/// One lexical unit of a condition.
+/// One lexical unit of a condition. Tokens of one kind with equal texts are equal, wherever the
+/// texts lie.
 #[derive(Clone, Copy, Debug, PartialEq, Eq)]
 pub enum Token<'a> {
     /// A word that names no function

@@ -1,7 +1,8 @@
 //! Classes of bytes, and runs of them.
 ghost use Rattle.std.specs.Prelude.{◌≡◌, ◌≤◌, length, true};
 ghost use Rattle.std.specs.List.{prefix_len};
-ghost use Rattle.cfgx_syntax.specs.Lexer.{in_run, is_of, may_be_white, BeginsWithClass, FindsQuote};
+ghost use Rattle.cfgx_syntax.specs.lexing.ByteClasses.{in_run, is_of, may_be_white};
+ghost use Rattle.cfgx_syntax.specs.lexing.ByteClasses.{BeginsWithClass, FindsQuote};
 
 use Class::*;
 

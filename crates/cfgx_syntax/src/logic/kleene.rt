@@ -11,8 +11,8 @@ use super::Logic;
 use std::marker::Model;
 
 /// Sixty-four answers, each true, false or unknown: lane `i` is bit `i` of two planes, where bit 0
-/// is the lowest. No lane is both true and false.
-#[derive(Clone, Copy, Debug, PartialEq, Eq)]
+/// is the lowest. No lane is both true and false. Equal answers are equal in each lane.
+#[derive(Clone, Copy, Debug)]
 pub struct Kleene64 {
     is_true: u64,
     is_false: u64,
@@ -28,6 +28,31 @@ impl Model for Kleene64 {
     ghost invariant = { λ k. AreDisjoint k.is_true k.is_false };
 
     ghost inverse = { λ p. record { is_true = p.is_true; is_false = p.is_false } };
+}
+
+impl PartialEq for Kleene64 {
+    ghost use Rattle.std.specs.Prelude.{◌↔◌, IsTrue};
+    ghost use Rattle.std.proofs.Common.{rules};
+    ghost use Rattle.std.specs.Cmp.Rules.{comparing};
+    ghost use Rattle.cfgx_syntax.specs.Kleene.{planes_eq};
+
+    ghost eq = { planes_eq };
+
+    ghost laws = { Prim.search (comparing, rules) };
+
+    fn eq(&self, other: &Self) -> bool
+        ensures value { result ≡ planes_eq self.now other.now }
+        ensures same { IsTrue result ↔ (self.now ≡ other.now) }
+    {
+        (self.is_true, self.is_false) == (other.is_true, other.is_false)
+    }
+}
+
+impl Eq for Kleene64 {
+    ghost use Rattle.std.proofs.Common.{rules};
+    ghost use Rattle.std.specs.Cmp.Rules.{comparing};
+
+    ghost laws = { Prim.search (comparing, rules) };
 }
 
 impl Kleene64 {

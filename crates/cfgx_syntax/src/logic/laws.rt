@@ -1,17 +1,9 @@
-//! What holds of answers in 64 lanes: each function's clause is the law, and a caller that calls it
+//! What holds of answers in 64 lanes: the function's clause is the law, and a caller that calls it
 //! knows the law.
-ghost use Rattle.std.specs.Prelude.{◌≡◌, ◌↔◌, IsTrue};
 ghost use Rattle.std.specs.List.{AllByRecursion};
 ghost use Rattle.cfgx_syntax.specs.Kleene.{IsDisjoint};
 
 use super::Kleene64;
-
-/// Answers are equal if both planes are.
-pub fn are_same_lanes(one: Kleene64, other: Kleene64) -> bool
-    ensures { IsTrue result ↔ (one ≡ other) }
-{
-    one == other
-}
 
 /// No lane of any of the answers is both true and false.
 pub fn are_disjoint(answers: &[Kleene64])

@@ -1,6 +1,6 @@
 -- The bytes that were passed are all of the run.
 use Rattle.std.{proofs.Common.{◌≡◌, ◌+◌, ◌-◌, ◌≤◌, length, drop}, specs.List.prefix_len}
-use Rattle.cfgx_syntax.specs.Lexer.{in_run}
+use Rattle.cfgx_syntax.specs.lexing.ByteClasses.{in_run}
 use Rattle.cfgx_syntax.proofs.lexer.bytes.Run.len.Given as goal
 
 abbrev pub invariant-loop-len : goal.invariant-loop-len
