@@ -3,8 +3,8 @@
  * has to take care of.
  *
  * Each call stands by itself and keeps nothing. Lengths count bytes. A pointer that a length
- * follows names that many bytes, and no pointer is null, even if the length is 0. What a call writes
- * overlaps nothing else that it is passed.
+ * follows names that many bytes, and no pointer is null, even if the length is 0. What a call
+ * writes overlaps nothing else that it is passed.
  */
 #ifndef CFGX_H
 #define CFGX_H

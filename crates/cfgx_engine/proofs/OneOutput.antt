@@ -7,7 +7,8 @@ use Rattle.std.proofs.Common.{length, drop, get_or, zero, suc, take_at, codes, b
 use Rattle.std.specs.{List.AllByRecursion, List.AllZip, List.Any, List.enumerate_from, Str.is_utf8}
 use Rattle.std.specs.{List.join_with_byte, Str.Lines.strip_carriage_return}
 use Rattle.std.specs.declared.alloc.Global.{Global}
-use Rattle.std.proofs.lemmas.{Bool.cases_lt, Bool.cases_Bool, Bool.Decides.Decides-eqb, Grind.common_steps}
+use Rattle.std.proofs.lemmas.{Bool.cases_lt, Bool.cases_Bool, Bool.Decides.Decides-eqb}
+use Rattle.std.proofs.lemmas.{Grind.common_steps}
 use Rattle.std.proofs.lemmas.{Slice.Eq.bytes_eq-Decides, Slice.Eq.ends_is, Slice.Eq.starts_is}
 use Rattle.std.proofs.lemmas.List.{Sums.passes_at_first, Splits.join_with_byte-slice_split}
 use Rattle.cfgx_syntax.specs.{Stripping.strip, Error.TextFault, Error.fault_in}
@@ -120,7 +121,8 @@ Picks-decided : (answer : Question → Option Bool) (input : List ℕ) → IsDec
 Picks-decided answer input one other this that =
     let lines = decided-made lines_output (GivesAll-single (PrintsLine-single answer)
     (enumerate_from 1 (map line_of (lines_of input)))) (λ printed. grind arith) in
-    ⊎_elim (λ long. decided too_long (omega arith) one other (this.of_long long) (that.of_long long))
+    ⊎_elim
+    (λ long. decided too_long (omega arith) one other (this.of_long long) (that.of_long long))
     (λ short. ⊎_elim
     (λ utf8. lines one other (this.of_text short utf8) (that.of_text short utf8))
     (λ not. decided not_utf8 (omega arith) one other (this.of_other_bytes short not)

@@ -32,7 +32,8 @@ PicksInput-read answer old new shown (input.Bytes bytes) reads picks =
     )
 PicksInput-read answer old new shown input.TooLong reads picks =
     let held = source_held old new reads.0 reads.2 in
-    let long : input_limit < length (reads.0 ++ held.0) = omega (arith, length-append {A = ℕ}, reads.1) in (
+    let long : input_limit < length (reads.0 ++ held.0) =
+    omega (arith, length-append {A = ℕ}, reads.1) in (
       reads.0 ++ held.0,
       held.1,
       record {

@@ -288,8 +288,8 @@ pub fn run_text(
     ended_text(alloc, status, &sink, source.is_read_whole())
 }
 
-/// Whether the sink had these calls, `failures` of which failed, and got these bytes. No call may be
-/// of an empty slice, and none may come after a failed one.
+/// Whether the sink had these calls, `failures` of which failed, and got these bytes. No call may
+/// be of an empty slice, and none may come after a failed one.
 pub fn is_left_so(sink: &Recorder, written: &[u8], calls: (u64, u64), failures: u64) -> bool {
     sink.bytes.as_slice() == written
         && (sink.writes, sink.flushes) == calls
