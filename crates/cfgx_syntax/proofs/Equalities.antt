@@ -1,6 +1,6 @@
 -- That the tests of causes, faults and failures tell whether two of them are the same.
 use Rattle.std.proofs.Common.{arith, ◌≡◌, ℕ, Bool, ◌&&◌, List, [], ◌∷◌, Bor, map, nat_eq, refl, ap}
-use Rattle.std.specs.{Bool.Decides, Cmp.unsigned_Decides, Str.bytes_eq}
+use Rattle.std.specs.{Bool.Decides, Cmp.unsigned_Decides}
 use Rattle.std.specs.{Prelude.Option, Option.option_eq}
 use Rattle.std.specs.Cmp.Lexicographic.{pointwise, pointwise_decides, bytes_decides}
 use Rattle.std.specs.Prelude.{◌↔◌, IsTrue, Some}

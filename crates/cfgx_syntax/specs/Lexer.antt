@@ -1,5 +1,5 @@
 -- What a `Lexer` gives: the items of a text one after another, and its fault where they end.
-use Rattle.std.specs.Prelude.{◌≡◌, List, drop, Option, Some, None, Result, Ok, Err}
+use Rattle.std.specs.Prelude.{◌≡◌, drop, Option, Some, None, Result, Ok, Err}
 use Rattle.cfgx_syntax.specs.{Cut.CanBeCut, declared.error.Failure.Failure}
 use Rattle.cfgx_syntax.specs.{declared.lexer.Token.Token, declared.lexer.LexerToken.LexerToken}
 use Rattle.cfgx_syntax.specs.declared.lexer.Token.TheVariants as given

@@ -1,4 +1,5 @@
 pub mod AtomicLemmas
+pub mod NumberExamples
 pub mod NumberLemmas
 pub mod OrderLemmas
 pub mod TableLemmas

@@ -11,11 +11,16 @@ use Rattle.std.specs.Prelude.{Option, Result, Ok, Err, IsTrue, IsPermutation, Is
 use Rattle.std.specs.{Prelude.cond, Prelude.is_ok, Prelude.⊤, declared.cmp.Ordering.Ordering}
 use Rattle.std.specs.{Bool.Decides, Cmp.IsTotalOrder, Cmp.Agrees, Fn.Called, Fn.ComputesKey, Fn.Mut}
 use Rattle.std.specs.declared.cmp.Ordering.TheVariants.{Less, Equal, Greater}
-use Rattle.std.specs.Cmp.Lexicographic.{pointwise, pointwise_decides}
+use Rattle.std.specs.Cmp.Lexicographic.{bytes_decides, pointwise, pointwise_decides, slice_cmp}
+use Rattle.std.specs.{Cmp.Lexicographic.texts_ties, Ordering.nat_cmp}
 use Rattle.std.specs.{List.IsAllAdjacentAnswer, List.count_by, Ordering.eq_by_cmp}
 use Rattle.std.specs.List.Sorted.{IsBinarySearchResult, IsSearchInRange}
 use Rattle.std.specs.Ordering.{is_lt, is_le, is_eq, is_some_and, partial_le, ordering_reverse}
 use Rattle.cfgx_targets.specs.SortedList.{IsSortedFrom}
+
+-- texts which compare as equal are the same
+pub equal_texts : (one other : List ℕ) → slice_cmp nat_cmp one other ≡ Equal → one ≡ other
+equal_texts one other equal = (bytes_decides one other).0 (texts_ties one other ∙ ap is_eq equal)
 
 module _ {X : Type 0} {R : X → X → Ordering} (o : IsTotalOrder R) where
   -- not above is the same as: the other one is not below

@@ -1,5 +1,6 @@
 -- Rows in the order of their triples: the first that is not, and what a search by halves finds.
 use Rattle.std.proofs.{lemmas.Grind.common_steps, lemmas.Bool.cases_lt, lemmas.Cmp.alike_right}
+use Rattle.std.proofs.lemmas.Option.{slice_get_read}
 use Rattle.std.proofs.Common.{◌≡◌, refl, sym, ap, subst, ◌∙◌, inl, inr, ℕ, zero, suc, ◌+◌, ◌-◌, ◌<◌}
 use Rattle.std.proofs.Common.{Bool, true, false, List, [], ◌∷◌, length, get_or, arith, add-one}
 use Rattle.std.proofs.{Common.nat_cmp, lemmas.List.Sorted.searchable_from_sorted}
@@ -41,7 +42,15 @@ module _ {A : Type 0} (rows : List (TargetInfo A)) where
     where
       -- that is not above it
       pub first-not_above : is_ge (order before row) ≡ true → IsFirstNotAbove rows place
-      first-not_above ge = grind (arith, common_steps)
+      first-not_above ge = record {
+        rising = rising;
+        not_first = beyond;
+        before = before;
+        row = row;
+        is_before = slice_get_read rows _ (place - 1) before refl (omega arith) is_before;
+        is_row = slice_get_read rows _ place row refl inside is_row;
+        not_above = λ below. absurd (let less : is_ge (order before row) ≡ false = ap is_ge below in cc);
+      }
 
       -- that is
       pub below-more : is_ge (order before row) ≡ false → AllAdjacentBelow IsBelow rows (place + 1)

@@ -1,24 +1,24 @@
--- That targets are the same exactly if their fields are.
-use Rattle.std.proofs.Common.{arith, ◌≡◌, Bool, ◌&&◌}
-use Rattle.std.specs.{Prelude.Option, Bool.Decides, Option.option_eq}
-use Rattle.cfgx_targets.specs.declared.info.TargetInfo.{TargetInfo}
+-- How targets are compared, field by field.
+use Rattle.std.proofs.Common.{◌≡◌, refl}
+use Rattle.std.specs.{declared.cmp.Ordering.Ordering, Ordering.ordering_then}
+use Rattle.std.specs.declared.cmp.Ordering.TheVariants.{Less, Equal, Greater}
+use Rattle.cfgx_targets.specs.laws.TargetEquality.{info_eq-Decides}
 
--- values that may be missing, if the test of two values decides whether they are the same
-pub options-decide : {X : Type 0} {E : X → X → Bool} → ((x y : X) → Decides (E x y) (x ≡ y))
-    → (one other : Option X) → Decides (option_eq E one other) (one ≡ other)
-options-decide d y one = grind arith
+then-assoc : (a b c : Ordering)
+    → ordering_then (ordering_then a b) c ≡ ordering_then a (ordering_then b c)
+then-assoc Less b c = refl
+then-assoc Equal b c = refl
+then-assoc Greater b c = refl
 
--- and so of targets, if the tests of their fields do
-pub targets-decide : {A : Type 0} (one other : TargetInfo A)
-    → {triple os abi arch env vendor families width endian atomics panic : Bool}
-    → Decides triple (one.triple ≡ other.triple) → Decides os (one.os ≡ other.os)
-    → Decides abi (one.abi ≡ other.abi) → Decides arch (one.arch ≡ other.arch)
-    → Decides env (one.env ≡ other.env) → Decides vendor (one.vendor ≡ other.vendor)
-    → Decides families (one.families ≡ other.families)
-    → Decides width (one.pointer_width ≡ other.pointer_width)
-    → Decides endian (one.endian ≡ other.endian)
-    → Decides atomics (one.has_atomics ≡ other.has_atomics)
-    → Decides panic (one.panic ≡ other.panic)
-    → Decides (triple && (os && (abi && (arch && (env && (vendor && (families && (width
-    && (endian && (atomics && panic)))))))))) (one ≡ other)
-targets-decide one other a b c d e f g h i j k = grind arith
+-- eleven orders, joined from the first on
+pub then-chain : (a b c d e f g h i j k : Ordering) {m n o p q r s t u v : Ordering}
+    → m ≡ ordering_then a b → n ≡ ordering_then m c → o ≡ ordering_then n d
+    → p ≡ ordering_then o e → q ≡ ordering_then p f → r ≡ ordering_then q g
+    → s ≡ ordering_then r h → t ≡ ordering_then s i → u ≡ ordering_then t j
+    → v ≡ ordering_then u k
+    → v ≡ ordering_then a (ordering_then b (ordering_then c (ordering_then d (ordering_then e
+    (ordering_then f (ordering_then g (ordering_then h (ordering_then i (ordering_then j k)))))))))
+then-chain a b c d e f g h i j k e1 e2 e3 e4 e5 e6 e7 e8 e9 e10 =
+    rw (e10, e9, e8, e7, e6, e5, e4, e3, e2, e1) (simp then-assoc)
+
+pub ruleset info_eq_tells = (info_eq-Decides)

@@ -2,7 +2,7 @@
 -- Source: the Rust Reference, `target_endian`; `impl FromStr for Endian` of `cfg-expr` 0.20.10.
 use Rattle.std.specs.Prelude.{◌≡◌, ℕ, List, [], ◌∷◌, codes, Option, Some, None, Result, Ok, Err}
 use Rattle.std.specs.Prelude.{if◌then◌else◌}
-use Rattle.std.specs.Str.{bytes_eq}
+use Rattle.std.specs.{Str.bytes_eq, declared.cmp.Ordering.Ordering, Ordering.nat_cmp}
 use Rattle.cfgx_syntax.specs.{Error.unexpected, Error.cause_of, declared.error.Reason.Reason}
 use Rattle.cfgx_targets.specs.declared.endian.Endian.{Endian}
 use Rattle.cfgx_targets.specs.declared.endian.Endian.TheVariants.{big, little}
@@ -27,3 +27,6 @@ ReadsEndian text (Err reason) = (endian_named text ≡ None)
 abbrev pub endian_rank : Endian → ℕ
 endian_rank big = 0
 endian_rank little = 1
+
+abbrev pub endian_cmp : Endian → Endian → Ordering
+endian_cmp one other = nat_cmp (endian_rank one) (endian_rank other)

@@ -4,6 +4,8 @@
 use Rattle.std.specs.Prelude.{◌≡◌, ℕ, ◌^◌, ◌<◌, List, codes, Option, Some, None, Result, Ok, Err}
 use Rattle.std.specs.Prelude.{if◌then◌else◌, option_map}
 use Rattle.std.specs.{Fmt.decimal, Option.option_or, Str.bytes_eq}
+use Rattle.std.specs.{declared.cmp.Ordering.Ordering, Ordering.nat_cmp}
+use Rattle.std.specs.declared.cmp.Ordering.TheVariants.{Less, Equal, Greater}
 use Rattle.cfgx_targets.specs.{Number.read_below, declared.atomic.HasAtomic.HasAtomic}
 use Rattle.cfgx_targets.specs.declared.atomic.HasAtomicFailure.{HasAtomicFailure}
 use Rattle.cfgx_targets.specs.declared.atomic.HasAtomicFailure.TheVariants.{Parse, Memory}
@@ -35,7 +37,9 @@ ReadsAtomic text (Ok width) = atomic_named text ≡ Some width
 ReadsAtomic text (Err (Parse error)) = (atomic_named text ≡ None) × (error ≡ text)
 ReadsAtomic text (Err (Memory error)) = atomic_named text ≡ None
 
--- the place of a width among all: by the number of bits, and then the pointer's
-abbrev pub atomic_rank : HasAtomic → ℕ
-atomic_rank (IntegerSize bits) = bits
-atomic_rank Pointer = 2 ^ 16
+-- the order of widths: by the number of bits, and then the pointer's
+abbrev pub atomic_cmp : HasAtomic → HasAtomic → Ordering
+atomic_cmp (IntegerSize bits) (IntegerSize others) = nat_cmp bits others
+atomic_cmp (IntegerSize _) Pointer = Less
+atomic_cmp Pointer (IntegerSize _) = Greater
+atomic_cmp Pointer Pointer = Equal

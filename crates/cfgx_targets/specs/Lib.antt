@@ -1,8 +1,8 @@
 pub mod Builtins
 pub mod Endian
-pub mod EqualTexts
 pub mod HasAtomic
 pub mod Number
 pub mod SortedList
 pub mod Table
 pub mod TargetInfo
+pub mod laws

@@ -1,9 +1,9 @@
 -- Tables of targets, sorted by their triples.
 -- Source: the documentation of `ALL_BUILTINS` and `get_builtin_target_by_triple` of `cfg-expr`.
-use Rattle.std.specs.Prelude.{◌≡◌, ◌≢◌, ℕ, ◌-◌, ◌<◌, List, length, Option}
+use Rattle.std.specs.Prelude.{◌≡◌, ℕ, ◌-◌, ◌<◌, List, length, Option, Some}
 use Rattle.std.specs.{declared.cmp.Ordering.TheVariants.Less, Ordering.nat_cmp, Str.bytes_eq}
 use Rattle.std.specs.Cmp.Lexicographic.{slice_cmp}
-use Rattle.std.specs.List.{AllAdjacentBelow, find, slice_index_or}
+use Rattle.std.specs.List.{AllAdjacentBelow, find, slice_get}
 use Rattle.cfgx_targets.specs.declared.info.TargetInfo.{TargetInfo}
 
 -- the triples are in this order, compared as bytes, and differ
@@ -14,14 +14,15 @@ IsBelow one next = slice_cmp nat_cmp one.triple next.triple ≡ Less
 abbrev pub AreIncreasing : {A : Type 0} → List (TargetInfo A) → Type 0
 AreIncreasing rows = AllAdjacentBelow IsBelow rows (length rows)
 
--- the triples first fail to increase at the place
+-- the triples first fail to increase at the place: the row there is not above the one before it
 pub record IsFirstNotAbove {A : Type 0} (rows : List (TargetInfo A)) (place : ℕ) : Type 0 where
-  pub not_first : 0 < place
-  pub inside : place < length rows
   pub rising : AllAdjacentBelow IsBelow rows place
-  pub not_above : (d : TargetInfo A)
-      → slice_cmp nat_cmp (slice_index_or rows (place - 1) d).triple
-      (slice_index_or rows place d).triple ≢ Less
+  pub not_first : 0 < place
+  pub before : TargetInfo A
+  pub row : TargetInfo A
+  pub is_before : slice_get rows (place - 1) ≡ Some before
+  pub is_row : slice_get rows place ≡ Some row
+  pub not_above : ¬ IsBelow before row
 
 -- the row with that triple, by looking at every row
 abbrev pub row_with : {A : Type 0} → List ℕ → List (TargetInfo A) → Option (TargetInfo A)

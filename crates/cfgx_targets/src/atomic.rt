@@ -1,14 +1,14 @@
 //! The widths of the atomics that a target has.
 
-ghost use Rattle.std.specs.Prelude.{◌≡◌, ◌↔◌, IsTrue};
-
 use crate::error::HasAtomicParseError;
 use crate::reading::read_has_atomic;
 use std::alloc::{AllocError, Allocator, Global};
 use std::fmt;
 
+mod order;
+
 /// A width of atomics. Widths in bits are ordered by their number, and the pointer's is above them.
-#[derive(Clone, Copy, Debug, PartialEq, Eq, PartialOrd, Ord, Hash)]
+#[derive(Clone, Copy, Debug, PartialEq, Eq, Hash)]
 pub enum HasAtomic {
     /// This many bits.
     IntegerSize(u16),
@@ -80,11 +80,4 @@ impl fmt::Display for HasAtomic {
             HasAtomic::Pointer => f.write_str("ptr"),
         }
     }
-}
-
-// Two refusals are equal if they are of one kind and, for faults, of one text.
-fn are_same_failures<A: Allocator>(one: &HasAtomicFailure<A>, other: &HasAtomicFailure<A>) -> bool
-    ensures { IsTrue result ↔ (one.now ≡ other.now) }
-{
-    one == other
 }

@@ -4,8 +4,11 @@ use crate::reading::read_endian;
 use cfgx_syntax::error::Reason;
 use std::str::FromStr;
 
-/// A byte order. The variants are spelled as the values of `target_endian`.
-#[derive(Clone, Copy, Debug, PartialEq, Eq, PartialOrd, Ord, Hash)]
+mod order;
+
+/// A byte order. The variants are spelled as the values of `target_endian`, and `big` is below
+/// `little`.
+#[derive(Clone, Copy, Debug, PartialEq, Eq, Hash)]
 pub enum Endian {
     /// The highest byte first.
     big,

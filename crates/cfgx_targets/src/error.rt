@@ -1,6 +1,6 @@
 //! What is wrong with the text of an atomic's width.
 
-ghost use Rattle.std.specs.Prelude.{◌≡◌, ◌++◌, ◌↔◌, IfOk, IsTrue, Some, codes};
+ghost use Rattle.std.specs.Prelude.{◌≡◌, ◌++◌, IfOk, Some, codes};
 
 use cfgx_fields::Field;
 use std::alloc::{AllocError, Allocator, Global};
@@ -59,14 +59,4 @@ impl<A: Allocator> fmt::Display for HasAtomicParseError<A> {
         f.write_str("expected integer or \"ptr\", found ")?;
         f.write_str(self.text.as_str())
     }
-}
-
-// Two faults are equal exactly if their texts are.
-fn are_same_faults<A: Allocator>(
-    one: &HasAtomicParseError<A>,
-    other: &HasAtomicParseError<A>,
-) -> bool
-    ensures { IsTrue result ↔ (one.now ≡ other.now) }
-{
-    one == other
 }

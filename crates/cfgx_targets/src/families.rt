@@ -13,15 +13,16 @@ use std::borrow::CowSlice;
 pub type Families<'a, A = Global> = SortedList<'a, Family<'a, A>, A>;
 
 impl<A: Allocator> Member for Family<'_, A> {
-    ghost use Rattle.std.proofs.Common.{rules};
-    ghost use Rattle.std.specs.Cmp.Rules.{comparing};
-    ghost use Rattle.cfgx_targets.specs.EqualTexts.{equal_texts};
+    ghost use Rattle.std.proofs.Common.{ap, rules, ◌∙◌};
+    ghost use Rattle.std.specs.Cmp.Lexicographic.{bytes_decides, texts_ties};
+    ghost use Rattle.std.specs.Ordering.{is_eq};
 
     ghost text = { λ family. family };
 
     ghost printed = { λ family. Prim.search rules };
 
-    ghost equal_is_same = { λ one other. Prim.search (rules, equal_texts) };
+    ghost equal_is_same = { λ one other equal.
+        (bytes_decides one other).0 (texts_ties one other ∙ ap is_eq equal) };
 }
 
 impl<'a, A: Allocator> SortedList<'a, Family<'a, A>, A> {

@@ -9,15 +9,16 @@ use crate::list::SortedList;
 use crate::made::put;
 use cfgx_fields::{Abi, Arch, Env, Field, Os, Panic, Triple, Vendor};
 use std::alloc::{AllocError, Allocator, Global};
+use std::hash::Hash;
 
-mod laws;
+mod comparing;
 
 /// What the predicates of a target ask for, with texts that are borrowed for `'a` or owned in the
 /// allocator `A`. `None` means that the target has no such value.
 ///
 /// Targets are ordered by their fields, the first one first.
 #[derive(Drop)]
-#[derive_where(Debug, PartialEq, Eq, PartialOrd, Ord, Hash)]
+#[derive_where(Debug, Hash)]
 pub struct TargetInfo<'a, A: Allocator = Global> {
     /// The name of the whole target.
     pub triple: Triple<'a, A>,
@@ -41,6 +42,15 @@ pub struct TargetInfo<'a, A: Allocator = Global> {
     pub has_atomics: HasAtomics<A>,
     /// The panic strategy, as `panic`.
     pub panic: Panic<'a, A>,
+}
+
+// The law of the derived hash: equal targets hash alike, since they are the same.
+#[derived]
+impl<'a, A> Hash for TargetInfo<'a, A> {
+    ghost use Rattle.std.proofs.Common.{refl};
+    ghost use Rattle.cfgx_targets.specs.laws.TargetEquality.{info_eq-same};
+
+    ghost respects_eq = { λ one other equal. rw (info_eq-same one other equal) refl };
 }
 
 // A copy of what the option holds, in memory of `alloc`.

@@ -8,7 +8,6 @@ pub mod endian;
 pub mod error;
 pub mod families;
 pub mod info;
-mod laws;
 pub mod list;
 mod made;
 pub mod reading;

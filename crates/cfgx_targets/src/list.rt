@@ -1,6 +1,7 @@
 //! Lists whose members stand in order.
 
-ghost use Rattle.std.specs.Prelude.{◌≡◌, ◌↔◌, Contains, IfOk, IsSorted, IsTrue, List, Some, map, ℕ};
+ghost use Rattle.std.specs.Prelude.{◌≡◌, ◌↔◌, Contains, IfOk, IsPermutation, IsSorted, IsTrue};
+ghost use Rattle.std.specs.Prelude.{List, Some, map, ℕ};
 ghost use Rattle.std.specs.Cmp.Lexicographic.{lists_agrees, lists_equiv, lists_per, lists_po};
 ghost use Rattle.std.specs.Cmp.Lexicographic.{lists_ties, lists_total, pointwise, slice_cmp};
 ghost use Rattle.std.specs.Cmp.Lexicographic.{slice_partial_cmp};
@@ -18,8 +19,6 @@ use std::cmp::Ordering;
 use std::fmt;
 use std::hash::{Hash, Hasher};
 use std::marker::Model;
-
-mod laws;
 
 /// What may stand in a sorted list: values that compare as equal are the same, and each prints as
 /// a text of its own.
@@ -118,7 +117,13 @@ impl<T: Member, A: Allocator> PartialEq for SortedList<'_, T, A> {
 
     ghost laws = { lists_per T.PartialEq.laws };
 
-    fn eq(&self, other: &Self) -> bool {
+    fn eq(&self, other: &Self) -> bool
+        ensures value { result ≡ pointwise T.eq self.now other.now }
+        ensures same { IsTrue result ↔ (self.now ≡ other.now) }
+        // Lists that are made of items are equal if these are rearrangements of each other.
+        ensures rearranged { (items others : List T) → IsSortedFrom T.cmp items self.now
+            → IsSortedFrom T.cmp others other.now → (IsTrue result ↔ IsPermutation items others) }
+    {
         self.as_slice() == other.as_slice()
     }
 }
@@ -146,7 +151,9 @@ impl<T: Member, A: Allocator> Ord for SortedList<'_, T, A> {
 
     ghost matches_eq = { lists_ties T.cmp T.matches_eq };
 
-    fn cmp(&self, other: &Self) -> Ordering {
+    fn cmp(&self, other: &Self) -> Ordering
+        ensures { result ≡ slice_cmp T.cmp self.now other.now }
+    {
         self.as_slice().cmp(other.as_slice())
     }
 }

@@ -8,8 +8,6 @@ ghost use Rattle.cfgx_targets.specs.Number.{read_below};
 use crate::atomic::HasAtomic;
 use crate::endian::Endian;
 
-mod laws;
-
 /// The number that the text writes, at most 255: at most one `+`, and then ASCII digits. `None`
 /// if it writes none.
 pub fn read_u8(text: &str) -> Option<u8>

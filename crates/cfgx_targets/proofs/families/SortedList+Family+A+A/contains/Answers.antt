@@ -1,7 +1,7 @@
 use Rattle.std.proofs.Common.{rules, ◌≡◌, nat_cmp}
 use Rattle.std.specs.Cmp.Lexicographic.{nat_list_cmp_total, slice_cmp}
-use Rattle.cfgx_targets.specs.EqualTexts.{equal_texts}
 use Rattle.cfgx_targets.proofs.OrderLemmas.{binary_search-answers, binary_search_by-gives}
+use Rattle.cfgx_targets.proofs.OrderLemmas.{equal_texts}
 use Rattle.cfgx_targets.proofs.families.SortedList+Family+A+A.contains.Goals as goal
 
 pub returns : goal.returns
