@@ -3,6 +3,7 @@
 pub mod adapters;
 mod boards;
 pub mod closures;
+pub mod comparing;
 pub mod comparing_conditions;
 mod compiled;
 pub mod features;

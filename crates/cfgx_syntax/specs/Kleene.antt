@@ -1,6 +1,7 @@
 -- Sixty-four answers that may be unknown, side by side in two planes of 64 bits.
 -- Source: Kleene's strong logic (see Logic.antt), lane by lane. Bit 0 is the lowest.
-use Rattle.std.specs.Prelude.{◌≡◌, ℕ, ◌-◌, ◌<◌, ◌^◌, ◌==◌, nat_eq, Bool, true, false, Option, Some, None}
+use Rattle.std.specs.Prelude.{◌≡◌, ℕ, ◌-◌, ◌<◌, ◌^◌, ◌==◌, nat_eq, Bool, true, false}
+use Rattle.std.specs.Prelude.{Option, Some, None}
 use Rattle.std.specs.Prelude.{bit_and, bit_or, if◌then◌else◌}
 use Rattle.std.specs.{Int.bit_at, Ordering.on, Ordering.eq_of_both}
 

@@ -5,7 +5,8 @@ ghost use Rattle.std.specs.Prelude.{replicate};
 ghost use Rattle.std.specs.List.{repeat};
 ghost use Rattle.std.specs.Fmt.{DisplaysOnOk};
 ghost use Rattle.cfgx_syntax.specs.Error.{cause_of, marks, more_terms_text, quoted, terms_front};
-ghost use Rattle.cfgx_syntax.specs.Error.{texts_eq, unexpected_text, FailsWith, fault_in, only_byte};
+ghost use Rattle.cfgx_syntax.specs.Error.{texts_eq, unexpected_text, FailsWith, fault_in};
+ghost use Rattle.cfgx_syntax.specs.Error.{only_byte};
 
 use std::alloc::{AllocError, AllocFailed, Allocator, Global};
 use std::fmt;

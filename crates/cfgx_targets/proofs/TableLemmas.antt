@@ -49,7 +49,8 @@ module _ {A : Type 0} (rows : List (TargetInfo A)) where
         row = row;
         is_before = slice_get_read rows _ (place - 1) before refl (omega arith) is_before;
         is_row = slice_get_read rows _ place row refl inside is_row;
-        not_above = λ below. absurd (let less : is_ge (order before row) ≡ false = ap is_ge below in cc);
+        not_above = λ below. absurd
+            (let less : is_ge (order before row) ≡ false = ap is_ge below in cc);
       }
 
       -- that is

@@ -12,5 +12,6 @@ cause_eq-equiv =
 pub fault_eq-equiv : IsEquivalence fault_eq
 fault_eq-equiv =
     and_equiv (on_texts_equal (λ f. f.original))
-    (and_equiv (and_equiv (on_equiv (λ f. f.start) nat_eq_equiv) (on_equiv (λ f. f.end) nat_eq_equiv))
+    (and_equiv
+    (and_equiv (on_equiv (λ f. f.start) nat_eq_equiv) (on_equiv (λ f. f.end) nat_eq_equiv))
     (on_equiv (λ f. f.cause) cause_eq-equiv))
