@@ -122,28 +122,23 @@ fn are_values_on(
     true
 }
 
-// Whether there are `count` rows, and each lane is the value on its row.
-fn agrees_in_lanes(
-    alloc: Global,
-    condition: &Expression,
-    rows: &[TargetInfo<'_>],
-    count: usize,
-) -> bool {
+// Whether each lane is the value on its row. There are at most 64 rows.
+fn agrees_in_lanes(alloc: Global, condition: &Expression, rows: &[TargetInfo<'_>]) -> bool {
     match on_rows(alloc, condition, rows) {
-        Ok(Some(lanes)) => are_values_on(alloc, condition, rows, lanes) && rows.len() == count,
+        Ok(Some(lanes)) => are_values_on(alloc, condition, rows, lanes),
         _ => false,
     }
 }
 
 // Whether the lanes agree on the first 130 rows, in pieces of 64, 64 and 2.
 fn agrees_in_pieces(alloc: Global, condition: &Expression, rows: &[TargetInfo<'_>]) -> bool {
-    let mut left = rows;
-    for count in [64, 64, 2] {
-        let (piece, others) = left.split_at(left.len().min(count));
-        if !agrees_in_lanes(alloc, condition, piece, count) {
+    let Some(first) = rows.get(..130) else {
+        return false;
+    };
+    for piece in first.chunks(64) {
+        if !agrees_in_lanes(alloc, condition, piece) {
             return false;
         }
-        left = others;
     }
     true
 }
