@@ -1,4 +1,4 @@
--- The token in front of a text, and its length, are determined by the text.
+-- The token that a text begins with, and its length, are determined by the text.
 use Rattle.std.proofs.Common.{◌≡◌, ℕ, ◌+◌, ◌-◌, ◌<◌, ◌≤◌, ◌≢◌, true, false, List, [], ◌∷◌, ◌++◌}
 use Rattle.std.proofs.Common.{length, take, drop, get_or, sym, refl, ◌∙◌, arith, ap, cond}
 use Rattle.std.proofs.Common.{append_assoc, append-nil, length-append, length-take, length-take-le}
@@ -10,7 +10,7 @@ use Rattle.cfgx_syntax.specs.Token.{Token, starts_word, continues_word, is_quote
 use Rattle.cfgx_syntax.specs.Token.{HasNoQuote, Spells, IsWhole, EndsWord}
 use Rattle.cfgx_syntax.specs.Items.{OpensNoValue, starts_token}
 
--- how many bytes the token in front of a text takes, by its first byte
+-- the number of bytes of the token that a text begins with, by the first byte
 abbrev pub token_len : List ℕ → ℕ
 token_len rest =
     cond (is_quote (get_or rest 0 0)) (position_or_len is_quote (drop 1 rest) + 2)
@@ -30,7 +30,7 @@ token_by bytes =
 starts_word-no_quote : (byte : ℕ) → starts_word byte ≡ true → is_quote byte ≡ false
 starts_word-no_quote byte h = grind arith
 
--- bytes of a word go on to its end
+-- the bytes of a word continue to its end
 goes_on : (bytes after : List ℕ) → list_all continues_word bytes ≡ true → EndsWord after
     → prefix_len continues_word (bytes ++ after) ≡ length bytes
 goes_on [] [] all ends = refl
@@ -51,7 +51,7 @@ quote_after (byte ∷ bytes) after none =
     let parts = or_parts (is_quote byte) (list_any is_quote bytes) none in
     rw (parts.0, quote_after bytes after parts.1) (omega arith)
 
--- the length of a token in front of a text
+-- the length of a token that a text begins with
 spelled_len : (bytes after : List ℕ) (token : Token) → Spells bytes token → IsWhole token after
     → token_len (bytes ++ after) ≡ length bytes
 spelled_len bytes after token is ends =
@@ -64,15 +64,15 @@ token_len_is rest token len spelled inside whole =
     ∙ spelled_len (take len rest) (drop len rest) token spelled whole
     ∙ length-take-le len rest inside
 
--- the test of two texts that are not equal
+-- the test of two texts that differ is false
 refuses : (xs ys : List ℕ) → xs ≢ ys → bytes_eq xs ys ≡ false
 refuses xs ys other = false_from_ne_true _ (λ same. other ((bytes_eq-Decides xs ys).0 same))
 
--- the token that bytes spell is one
+-- bytes spell only one token
 pub token_by_is : (bytes : List ℕ) (token : Token) → Spells bytes token → token_by bytes ≡ token
 token_by_is bytes token is = grind (arith, refuses, length-append, take_at)
 
--- the first byte of a token begins one, and so there is such a byte
+-- the first byte of a token is one that begins a token
 Spells-first : (bytes : List ℕ) (token : Token) → Spells bytes token
     → starts_token (get_or bytes 0 0) ≡ true
 Spells-first bytes token is = grind arith
@@ -80,12 +80,13 @@ Spells-first bytes token is = grind arith
 pub Spells-some : (bytes : List ℕ) (token : Token) → Spells bytes token → 1 ≤ length bytes
 Spells-some bytes token spells = grind arith
 
-pub front_starts : (rest : List ℕ) (token : Token) (len : ℕ) → Spells (take len rest) token
+-- the first byte of a text that begins with a token is one that begins a token
+pub begins_token : (rest : List ℕ) (token : Token) (len : ℕ) → Spells (take len rest) token
     → starts_token (get_or rest 0 0) ≡ true
-front_starts rest token len spelled =
+begins_token rest token len spelled =
     grind (arith, Spells-some, length-take, get_or-take, Spells-first)
 
--- if a quote is never closed, a token would not end in the text
+-- a value whose quote is never closed does not end in the text
 pub unclosed_len : (rest : List ℕ) → OpensNoValue rest → length rest < token_len rest
 unclosed_len rest (more, is, none) =
     let all = rw append-nil at (quote_after more [] none) in rw is (omega (arith, all))
