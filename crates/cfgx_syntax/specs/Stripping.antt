@@ -3,7 +3,7 @@
 use Rattle.std.specs.Prelude.{ℕ, ◌-◌, List, length, codes, nat_eq, ◌&&◌, if◌then◌else◌, slice_range}
 use Rattle.std.specs.List.{starts_with, ends_with}
 
--- What is between `cfg(` and `)` if the text starts and ends with them, else the text. Only one pair
+-- What is between `cfg(` and `)` if the text starts and ends with them, else the text. One pair
 -- is removed.
 unfoldable pub strip : List ℕ → List ℕ
 strip text =

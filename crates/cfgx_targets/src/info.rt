@@ -1,4 +1,4 @@
-//! What is known of one target.
+//! The description of a target.
 
 ghost use Rattle.std.specs.Prelude.{◌≡◌, IfOk, OnOk};
 
@@ -13,38 +13,38 @@ use std::hash::Hash;
 
 mod comparing;
 
-/// What the predicates of a target ask for, with texts that are borrowed for `'a` or owned in the
-/// allocator `A`. `None` means that the target has no such value.
+/// The values that the predicates on a target ask for. `None` means that the target has no such
+/// value. Texts are borrowed for `'a` or owned in the allocator `A`.
 ///
-/// Targets are ordered by their fields, the first one first.
+/// Targets are in the order of their first field that differs.
 #[derive(Drop)]
 #[derive_where(Debug, Hash)]
 pub struct TargetInfo<'a, A: Allocator = Global> {
     /// The name of the whole target.
     pub triple: Triple<'a, A>,
-    /// The operating system, as `target_os`.
+    /// The operating system, which is `target_os`.
     pub os: Option<Os<'a, A>>,
-    /// The binary interface, if it tells targets apart, as `target_abi`.
+    /// The ABI, if it distinguishes targets, which is `target_abi`.
     pub abi: Option<Abi<'a, A>>,
-    /// The architecture, as `target_arch`.
+    /// The architecture, which is `target_arch`.
     pub arch: Arch<'a, A>,
-    /// The interface or libc, if it tells targets apart, as `target_env`.
+    /// The ABI or libc, if it distinguishes targets, which is `target_env`.
     pub env: Option<Env<'a, A>>,
-    /// The vendor, as `target_vendor`.
+    /// The vendor, which is `target_vendor`.
     pub vendor: Option<Vendor<'a, A>>,
-    /// The families, as `target_family`.
+    /// The families, which are `target_family`.
     pub families: Families<'a, A>,
-    /// The number of bits of a pointer, as `target_pointer_width`.
+    /// The number of bits of a pointer, which is `target_pointer_width`.
     pub pointer_width: u8,
-    /// The order of bytes, as `target_endian`.
+    /// The byte order, which is `target_endian`.
     pub endian: Endian,
-    /// The widths of atomics, as `target_has_atomic`.
+    /// The widths of atomics, which are `target_has_atomic`.
     pub has_atomics: HasAtomics<A>,
-    /// The panic strategy, as `panic`.
+    /// The panic strategy, which is `panic`.
     pub panic: Panic<'a, A>,
 }
 
-// The law of the derived hash: equal targets hash alike, since they are the same.
+// The law of the derived hash: equal targets have equal hashes, since they are the same.
 #[derived]
 impl<'a, A> Hash for TargetInfo<'a, A> {
     ghost use Rattle.std.proofs.Common.{refl};
@@ -53,7 +53,7 @@ impl<'a, A> Hash for TargetInfo<'a, A> {
     ghost respects_eq = { λ one other equal. rw (info_eq-same one other equal) refl };
 }
 
-// A copy of what the option holds, in memory of `alloc`.
+// Returns a copy of `field`, in memory of `alloc`.
 fn copied_field<'a, K, A: Allocator>(
     field: &Option<Field<'a, K, A>>,
     alloc: A,
@@ -67,10 +67,10 @@ fn copied_field<'a, K, A: Allocator>(
 }
 
 impl<'a, A: Allocator + Copy> TargetInfo<'a, A> {
-    /// A target equal to this one. What is borrowed is borrowed again and takes no memory; what is
-    /// owned is copied into `alloc`.
+    /// Returns a target equal to this one. Borrowed texts and lists are borrowed again, and owned
+    /// ones are copied into `alloc`.
     ///
-    /// The error is that `alloc` refused a copy. This target stays as it was either way.
+    /// Returns an error if `alloc` refuses a copy.
     pub fn try_clone(&self, alloc: A) -> Result<Self, AllocError>
         ensures { IfOk result (λ copy. copy ≡ self.now) }
     {
@@ -79,7 +79,7 @@ impl<'a, A: Allocator + Copy> TargetInfo<'a, A> {
         copied.and(Ok(copy))
     }
 
-    // A target whose texts and lists are still to be put in.
+    // Returns a target whose texts and lists are empty.
     fn blank(pointer_width: u8, endian: Endian) -> Self
         ensures width { result.pointer_width ≡ pointer_width }
         ensures order { result.endian ≡ endian }
@@ -99,7 +99,7 @@ impl<'a, A: Allocator + Copy> TargetInfo<'a, A> {
         }
     }
 
-    // Puts in copies of the other's texts and lists.
+    // Replaces the texts and lists by copies of those of `other`.
     fn copy_parts(&mut self, other: &Self, alloc: A) -> Result<(), AllocError>
         ensures { OnOk result (self.new ≡ record other.now {
           pointer_width = self.old.pointer_width;
@@ -114,7 +114,7 @@ impl<'a, A: Allocator + Copy> TargetInfo<'a, A> {
         self.copy_options(other, alloc)
     }
 
-    // Puts in copies of the other's fields that may be missing.
+    // Replaces the optional texts by copies of those of `other`.
     fn copy_options(&mut self, other: &Self, alloc: A) -> Result<(), AllocError>
         ensures { OnOk result (self.new ≡ record self.old {
           os = other.now.os;

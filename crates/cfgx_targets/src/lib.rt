@@ -1,4 +1,4 @@
-//! What a compilation target is, as the conditions of `cfg()` see it.
+//! Compilation targets, as the conditions of `cfg()` see them.
 #![tactic(auto)]
 
 pub mod atomic;

@@ -1,5 +1,5 @@
 use Rattle.cfgx_targets.proofs.OrderLemmas.{binary_search-answers}
-use Rattle.cfgx_targets.proofs.list.SortedList.holds.Goals as goal
+use Rattle.cfgx_targets.proofs.list.SortedList.has_member.Goals as goal
 
 pub returns : goal.returns
 returns g c =
