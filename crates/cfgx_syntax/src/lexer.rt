@@ -61,7 +61,7 @@ pub struct LexerToken<'a> {
     pub span: Range<usize>,
 }
 
-/// Returns `text` without its leading white space. That is mostly ASCII, which is skipped first.
+/// Returns `text` without its leading white space, which is ASCII in most texts.
 #[tactic(auto, using(crate::proofs::Blanks::trim_blanks))]
 fn after_blanks(text: &str) -> &str
     ensures { IsTrimStart text.now result.now }
@@ -74,8 +74,8 @@ fn after_blanks(text: &str) -> &str
     }
 }
 
-/// Returns `text` without its leading white space, and the class of its first byte then, or `None`
-/// if nothing is left.
+/// Returns `text` without its leading white space, and the class of the first byte that is left, or
+/// `None` if none is left.
 #[tactic(auto, using(crate::proofs::Blanks::trimmed_already))]
 fn trimmed(text: &str) -> (&str, Option<Class>)
     ensures trimmed { IsTrimStart text.now result.0.now }

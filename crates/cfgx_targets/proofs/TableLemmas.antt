@@ -2,7 +2,8 @@
 use Rattle.std.proofs.{lemmas.Grind.common_steps, lemmas.Bool.cases_lt, lemmas.Cmp.alike_right}
 use Rattle.std.proofs.lemmas.Option.{slice_get_read}
 use Rattle.std.proofs.Common.{◌≡◌, refl, sym, ap, subst, ◌∙◌, inl, inr, ℕ, zero, suc, ◌+◌, ◌-◌, ◌<◌}
-use Rattle.std.proofs.Common.{Bool, true, false, List, [], ◌∷◌, length, get_or, arith, add-one}
+use Rattle.std.proofs.Common.{Bool, true, false, ◌&&◌, List, [], ◌∷◌, length, get_or, arith}
+use Rattle.std.proofs.Common.{add-one}
 use Rattle.std.proofs.{Common.nat_cmp, lemmas.List.Sorted.searchable_from_sorted}
 use Rattle.std.specs.Prelude.{Some, None, Ok, Err}
 use Rattle.std.specs.{declared.cmp.Ordering.Ordering, List.AllAdjacentBelow, List.find}
@@ -10,6 +11,7 @@ use Rattle.std.specs.declared.cmp.Ordering.TheVariants.{Less, Equal}
 use Rattle.std.specs.{List.Sorted.IsBinarySearchResult, List.Sorted.IsSortedBy, Str.bytes_eq}
 use Rattle.std.specs.Cmp.Lexicographic.{nat_list_cmp_total, slice_cmp, texts_ties}
 use Rattle.std.specs.Ordering.{is_lt, is_ge, is_eq, ordering_reverse}
+use Rattle.std.specs.Cmp.{first_so, second_so}
 use Rattle.cfgx_targets.specs.{Builtins.builtin_rows, declared.info.TargetInfo.TargetInfo}
 use Rattle.cfgx_targets.specs.Table.{IsBelow, AreIncreasing, IsFirstNotAbove, row_with}
 
@@ -108,10 +110,26 @@ module _ {A : Type 0} (rows : List (TargetInfo A)) where
         let rising = searchable_from_sorted nat_list_cmp_total key rows triple in_order in
         grind (arith, find-none, has_triple)
 
+-- whether the triples strictly increase
+abbrev are_increasing : {A : Type 0} → List (TargetInfo A) → Bool
+are_increasing [] = true
+are_increasing (row ∷ []) = true
+are_increasing (row ∷ next ∷ rows) =
+    is_lt (slice_cmp nat_cmp row.triple next.triple) && are_increasing (next ∷ rows)
+
+is_lt-Less : (order : Ordering) → is_lt order ≡ true → order ≡ Less
+is_lt-Less order below = grind arith
+
+-- rows that pass the test are in order
+increasing-from : {A : Type 0} (rows : List (TargetInfo A)) → are_increasing rows ≡ true
+    → AreIncreasing rows
+increasing-from [] test k d lt = absurd (omega (arith, lt))
+increasing-from (row ∷ []) test k d lt = absurd (omega (arith, lt))
+increasing-from (row ∷ next ∷ rows) test zero d lt = is_lt-Less _ (first_so _ _ test)
+increasing-from (row ∷ next ∷ rows) test (suc k) d lt =
+    let after = increasing-from (next ∷ rows) (second_so _ _ test) k d (omega (arith, lt)) in
+    rw add-one (rw add-one at after)
+
 -- the built-in targets are in order
 pub builtin_rows-increasing : {A : Type 0} → AreIncreasing (builtin_rows {A = A})
-builtin_rows-increasing zero d lt = refl
-builtin_rows-increasing (suc zero) d lt = refl
-builtin_rows-increasing (suc (suc zero)) d lt = refl
-builtin_rows-increasing (suc (suc (suc zero))) d lt = refl
-builtin_rows-increasing (suc (suc (suc (suc k)))) d lt = absurd (omega (arith, lt))
+builtin_rows-increasing = increasing-from builtin_rows refl

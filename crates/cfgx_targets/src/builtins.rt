@@ -7,7 +7,6 @@ use crate::atomic::HasAtomic;
 use crate::endian::Endian;
 use crate::info::TargetInfo;
 use crate::list::SortedList;
-use crate::made::{beside, push};
 use crate::table::TargetTable;
 use cfgx_fields::{Abi, Arch, Env, Family, Os, Panic, Triple, Vendor};
 use std::alloc::{AllocError, Allocator};
@@ -28,7 +27,9 @@ impl<'a, A: Allocator> SortedList<'a, Family<'a, A>, A> {
     pub fn unix_wasm(alloc: A) -> Result<Self, AllocError>
         ensures { IfOk result (λ list. list ≡ codes "unix" ∷ codes "wasm" ∷ []) }
     {
-        let families = two(alloc, Family::unix(), Family::wasm())?;
+        let mut families = Vec::new(alloc);
+        families.push(Family::unix())?;
+        families.push(Family::wasm())?;
         Ok(SortedList::from_sorted(families))
     }
 
@@ -50,31 +51,14 @@ impl<'a, A: Allocator> SortedList<'a, Family<'a, A>, A> {
         SortedList::of_one(alloc, Family::windows())
     }
 
-    // Returns the list of `family`.
+    // Returns the list of `family`, in memory of `alloc`.
     fn of_one(alloc: A, family: Family<'a, A>) -> Result<Self, AllocError>
         ensures { IfOk result (λ list. list ≡ family.entry ∷ []) }
     {
-        let families = one(alloc, family)?;
+        let mut families = Vec::new(alloc);
+        families.push(family)?;
         Ok(SortedList::from_sorted(families))
     }
-}
-
-// Returns a vector of `item`, in memory of `alloc`.
-fn one<T: Drop, A: Allocator>(alloc: A, item: T) -> Result<Vec<T, A>, AllocError>
-    ensures { IfOk result (λ items. items.items ≡ item ∷ []) }
-{
-    let mut items = Vec::new(alloc);
-    items.push(item)?;
-    Ok(items)
-}
-
-// Returns a vector of `item` and `other`, in memory of `alloc`.
-fn two<T: Drop, A: Allocator>(alloc: A, item: T, other: T) -> Result<Vec<T, A>, AllocError>
-    ensures { IfOk result (λ items. items.items ≡ item ∷ other ∷ []) }
-{
-    let mut items = one(alloc, item)?;
-    items.push(other)?;
-    Ok(items)
 }
 
 impl<'a, A: Allocator> SortedList<'a, HasAtomic, A> {
@@ -199,8 +183,7 @@ fn push_apple<'a, A: Allocator + Copy>(
         triple.now os.now (option_copied variant.entry) (option_copied variant.entry) ∷ []) }
 {
     let families = SortedList::unix(alloc)?;
-    let widths = SortedList::atomic_8_16_32_64_128_ptr(alloc);
-    let (families, has_atomics) = beside(families, widths)?;
+    let has_atomics = SortedList::atomic_8_16_32_64_128_ptr(alloc)?;
     let (abi, env) = match variant {
         Some(name) => (Some(Abi::new_const(name)), Some(Env::new_const(name))),
         None => (None, None),
@@ -218,5 +201,6 @@ fn push_apple<'a, A: Allocator + Copy>(
         has_atomics,
         panic: Panic::unwind(),
     };
-    push(rows, Ok(row))
+    rows.push(row)?;
+    Ok(())
 }

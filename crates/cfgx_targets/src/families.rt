@@ -1,10 +1,8 @@
 //! Lists of families.
 
-ghost use Rattle.std.specs.Prelude.{◌≡◌, ◌↔◌, ◌∷◌, ◌++◌, [], Contains, IfOk, IsSorted, IsTrue};
-ghost use Rattle.std.specs.Prelude.{OnOk};
+ghost use Rattle.std.specs.Prelude.{◌≡◌, ◌↔◌, Contains, IfOk, IsSorted, IsTrue};
 
 use crate::list::{Member, SortedList, are_sorted};
-use crate::made::push;
 use cfgx_fields::Family;
 use std::alloc::{AllocError, Allocator, Global};
 use std::borrow::CowSlice;
@@ -71,18 +69,7 @@ fn copied<'a, A: Allocator + Copy>(
 {
     let mut copies = Vec::with_capacity(alloc, families.len())?;
     for family in families {
-        push_copy(&mut copies, alloc, family)?;
+        copies.push(family.try_clone(alloc)?)?;
     }
     Ok(copies)
-}
-
-// Pushes a copy of `family`, in memory of `alloc`.
-fn push_copy<'a, A: Allocator + Copy>(
-    copies: &mut Vec<Family<'a, A>, A>,
-    alloc: A,
-    family: &Family<'a, A>,
-) -> Result<(), AllocError>
-    ensures { OnOk result (copies.new.items ≡ copies.old.items ++ family.now ∷ []) }
-{
-    push(copies, family.try_clone(alloc))
 }

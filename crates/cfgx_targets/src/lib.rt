@@ -9,6 +9,5 @@ pub mod error;
 pub mod families;
 pub mod info;
 pub mod list;
-mod made;
 pub mod reading;
 pub mod table;
