@@ -81,9 +81,9 @@ not_both refused one = let same = refused.only (Ok one.tree) one.reads.has in cc
 module _ {W M L : Type 0} {builder : Builder W M L} (text : List ℕ)
     (one : HasOneTokenList text) where
   -- what the parser refuses has a fault
-  pub ReadsAs-refused : (fault : Fault) → answer {builder = builder} text one ≡ Err fault
+  pub ReadsAs-fault : (fault : Fault) → answer {builder = builder} text one ≡ Err fault
       → ReadsAs text (Err fault)
-  ReadsAs-refused fault e =
+  ReadsAs-fault fault e =
       let shown = rw e at (whole_agrees builder text one.items one.ending) in
       ReadsAs-has (Err fault) (record {
         items = one.items;
@@ -101,4 +101,4 @@ reads_one_way text one = decided (answer text one) refl
         → (reading : Reading) × ReadsAs text reading
     decided (Ok u) e =
         let (tree, has) = tree_of text one u e in (Ok tree, ReadsAs-has (Ok tree) has)
-    decided (Err fault) e = (Err fault, ReadsAs-refused text one fault e)
+    decided (Err fault) e = (Err fault, ReadsAs-fault text one fault e)

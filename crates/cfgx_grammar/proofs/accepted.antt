@@ -10,7 +10,7 @@ use Rattle.cfgx_grammar.specs.{Tree.ListFunction, Tree.Tree, Tree.Trees, Tree.co
 use Rattle.cfgx_grammar.specs.Grammar.{commas, Separates, IsMember, IsList, IsTree, leaf_tokens}
 use Rattle.cfgx_grammar.specs.parsing.State.{Function, Open, name_of, Word, Pending, Builder, State}
 use Rattle.cfgx_grammar.specs.{parsing.State.initial, LastPredicate.class_of, LastPredicate.word_of}
-use Rattle.cfgx_grammar.specs.parsing.Step.{has_room, result_map, leaf_ended, ended_by}
+use Rattle.cfgx_grammar.specs.parsing.Step.{allows_count, result_map, leaf_ended, ended_by}
 use Rattle.cfgx_grammar.specs.parsing.Step.{predicate_ended, new_open, and_then, opened}
 use Rattle.cfgx_grammar.specs.parsing.Step.{member_count, function_ended, closed_by}
 use Rattle.cfgx_grammar.specs.parsing.Step.{apply, step, step_each, one_root, conclude}
@@ -52,7 +52,7 @@ module _ {M : Type 0} where
   abbrev pub Ends : List (Open M) → ℕ → ℕ → List Token → Type 0
   Ends [] roots members tokens = (roots + members ≡ 1) × (tokens ≡ [])
   Ends (top ∷ rest) roots members tokens =
-      (has_room top.function (top.members + members) ≡ true) × (n : ℕ) × (others : List Token)
+      (allows_count top.function (top.members + members) ≡ true) × (n : ℕ) × (others : List Token)
       × (trees : Trees Question) × (after : List Token)
       × (tokens ≡ Token.close_paren ∷ (commas n ++ (others ++ after))) × Separates n trees
       × IsList others trees × Ends rest roots (1 + count trees) after
@@ -106,7 +106,7 @@ module _ {M : Type 0} where
       (m, others, left, after, refl, may, rest, ends))
     where
       called : (function : Function) (list : List Token) (trees : Trees Question)
-          → has_room function (count trees) ≡ true → IsList list trees → (tree : Tree Question)
+          → allows_count function (count trees) ≡ true → IsList list trees → (tree : Tree Question)
           × IsMember (name_of function ∷ Token.open_paren ∷ (list ++ Token.close_paren ∷ [])) tree
       called (Function.list function) list trees room is =
           (Tree.list function trees, (list, refl, is))
@@ -219,7 +219,7 @@ module _ {W M L : Type 0} {builder : Builder W M L} where
   -- what a `)` that is taken closes
   abbrev pub Closes : State builder → State builder → Type 0
   Closes s u = (top : Open M) × (rest : List (Open M)) × (settled : State builder)
-      × (s.stack ≡ top ∷ rest) × (has_room top.function (member_count top s.pending) ≡ true)
+      × (s.stack ≡ top ∷ rest) × (allows_count top.function (member_count top s.pending) ≡ true)
       × (predicate_ended s ≡ Ok settled) × (function_ended settled.stack settled ≡ u)
 
   pub Closes-stack : (s u : State builder) (item : Item) (stack : List (Open M)) → s.stack ≡ stack

@@ -11,7 +11,7 @@ use Rattle.cfgx_grammar.specs.{Tree.ListFunction, Tree.Tree, Tree.Trees, Tree.co
 use Rattle.cfgx_grammar.specs.Grammar.{commas, Separates, leaf_tokens, IsCall, IsMember, IsList}
 use Rattle.cfgx_grammar.specs.parsing.State.{Function, Pending, Builder, Open, State, name_of}
 use Rattle.cfgx_grammar.specs.parsing.Step.{with_member, one_more, ended_by, predicate_ended}
-use Rattle.cfgx_grammar.specs.parsing.Step.{new_open, has_room, function_ended, closed_by}
+use Rattle.cfgx_grammar.specs.parsing.Step.{new_open, allows_count, function_ended, closed_by}
 use Rattle.cfgx_grammar.specs.parsing.Step.{with_parens, step_each, answer_from, step}
 use Rattle.cfgx_grammar.proofs.accepted.{leaf_tree, tokens_of, ok_same, ran}
 
@@ -253,7 +253,7 @@ module _ {W M L : Type 0} {builder : Builder W M L} (laws : Laws builder) where
   MemberEnds-call : (last : Option Token) (s : State builder) (items : List Item)
       (function : Function) (inner : List Token) (tree : Tree Question) (trees : Trees Question)
       → takes last Kind.name ≡ true → IsCall (name_of function) (tokens_of items) inner
-      → has_room function (count trees) ≡ true
+      → allows_count function (count trees) ≡ true
       → Calls builder laws.MemberBuilds laws.ListBuilds function tree trees
       → ((start : State builder) (members : List Item) → start.pending ≡ s.pending
       → tokens_of members ≡ inner → ListEnds (Some Token.open_paren) start members trees)

@@ -58,7 +58,7 @@ module _ {text : List ℕ} {nodes : List ExprNode} {asks : List ℕ} {tree : Tre
     (k : KeepsTree text nodes asks tree) where
   -- the predicates at a tree's places are what it asks
   asks_kept : map (question_in text nodes) asks ≡ map (λ (q : Question). Some q) (asked tree)
-  asks_kept = rw k.index_are (read-places tree (question_in text nodes) (λ (q : Question). Some q)
+  asks_kept = rw k.places_are (read-places tree (question_in text nodes) (λ (q : Question). Some q)
       (λ place question is. shown_same text nodes place
       question (rw k.nodes_are is)))
 

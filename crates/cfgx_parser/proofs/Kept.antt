@@ -28,7 +28,7 @@ asked_root tree = grind (arith, append-nil)
 -- the predicate at the root is the last that is asked
 KeepsTree-writes : (text : List ℕ) (w v : Written) (tree : Tree Question) → with_list_ended 0 w ≡ v
     → WritesNodes text nothing w (prefix tree) (own 0 tree) (inner 0 tree)
-    → KeepsTree text v.nodes v.index tree
+    → KeepsTree text v.nodes v.places tree
 KeepsTree-writes text w v tree is a = grind (arith, asked_root)
 
 module _ (text : List ℕ) (one : HasOneTokenList text) where
@@ -45,7 +45,7 @@ module _ (text : List ℕ) (one : HasOneTokenList text) where
       )
 
   pub KeepsOneTree-accepted : (u : ParserState) → answer text one ≡ Ok u
-      → KeepsOneTree text u.written.nodes u.written.index
+      → KeepsOneTree text u.written.nodes u.written.places
   KeepsOneTree-accepted u e =
       let (tree, has) = tree_of text one u e in
       let f = Finds-one text one (node_laws text) tree has in

@@ -9,7 +9,7 @@ use Rattle.cfgx_parser.{specs.nodes.KeepsTree.KeepsOneTree, specs.declared.parse
 use Rattle.cfgx_parser.proofs.Kept.{KeepsOneTree-accepted}
 use Rattle.cfgx_grammar.{specs.parsing.State.initial, proofs.Answering.reads_one_way}
 use Rattle.cfgx_parser.specs.parsing.Parser.{state_of, Ends, ReadsAll}
-use Rattle.cfgx_grammar.proofs.Answering.{HasOneTree-tree, ReadsAs-refused, answer, tree_of}
+use Rattle.cfgx_grammar.proofs.Answering.{HasOneTree-tree, ReadsAs-fault, answer, tree_of}
 
 -- the start of a text, and of the parser
 pub record Begins {A : Type 0} (text : List ℕ) (lexer : LexerState)
@@ -37,12 +37,12 @@ module _ {A : Type 0} {text : List ℕ} {lexer : LexerState} {old : Parser A} (n
       → ReadsAll {A = A} lexer old new (Err f) → Answers text (Err f)
   Answers-fails (failure.Parse error) b reads =
       let (fault, refused, same) = given (Err (failure.Parse error)) b reads in
-      (fault, same, ReadsAs-refused text b.one fault refused)
+      (fault, same, ReadsAs-fault text b.one fault refused)
   Answers-fails (failure.Memory error) b reads = reads_one_way text b.one
 
   -- what is accepted
   pub Accepted : Begins {A = A} text lexer old → ReadsAll {A = A} lexer old new (Ok tt)
-      → KeepsOneTree text new.writer.nodes.items new.writer.index.items
+      → KeepsOneTree text new.writer.nodes.items new.writer.places.items
       × (strip text ≡ text) × HasOneTree text
   Accepted b reads =
       let accepts = given (Ok tt) b reads in

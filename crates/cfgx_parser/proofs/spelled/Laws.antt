@@ -13,7 +13,7 @@ use Rattle.cfgx_parser.specs.{nodes.Node.{Written, with_leaf}, declared.nodes.Sp
 use Rattle.cfgx_parser.specs.nodes.Prefix.{Node, headed, prefix, prefix_each, places, places_by}
 use Rattle.cfgx_parser.{specs.nodes.Prefix.with_places, proofs.spelled.WritingLemmas.length-nodes}
 use Rattle.cfgx_parser.specs.nodes.WritesNodes.{IsPlaced, ArePlaced, WritesNodes}
-use Rattle.cfgx_parser.specs.parsing.NodeState.{counted, node_builder}
+use Rattle.cfgx_parser.specs.parsing.NodeState.{func_of, node_builder}
 use Rattle.cfgx_parser.specs.declared.nodes.ExprNode.TheVariants as node
 use Rattle.cfgx_parser.proofs.spelled.LocatedClasses.{NamesClass, NamesClass-class}
 use Rattle.cfgx_parser.proofs.spelled.WritingLemmas.{WritesNodes-none, WritesNodes-then}
@@ -28,7 +28,7 @@ inner place tree = if is_function (with_places place tree) then places place tre
 
 -- a function's tree, by its kind and its members
 record Called (function : Function) (tree : Tree Question) (trees : Trees Question) : Type 0 where
-  pub prefix_is : prefix tree ≡ headed (counted function (count trees)) (prefix_each trees)
+  pub prefix_is : prefix tree ≡ headed (func_of function (count trees)) (prefix_each trees)
   pub places_are : (place : ℕ) → places place tree ≡ places_by is_function (place + 1) trees
       ++ places_by is_leaf (place + 1) trees
   pub is_no_leaf : (place : ℕ) → is_leaf (with_places place tree) ≡ false
