@@ -24,25 +24,9 @@ use Rattle.cfgx_grammar.specs.Classification.{target_feature, Rule, by_name, key
 use Rattle.cfgx_grammar.specs.Classification.{target_rules, target_class, plain}
 use Rattle.cfgx_grammar.specs.Spelling.{key_and_value, spelling}
 use Rattle.cfgx_grammar.proofs.{Answering.ReadsAs-has, accepted.tokens_of, Stripped.strip-tree}
+use Rattle.cfgx_grammar.proofs.ListLemmas.{all_of_both, all_of_first, all_of_second}
 
 -- What a text asks can stand in a text.
-
--- all of both, and of each
-
-pub all_of_both : {X : Type 0} (P : X → Type 0) (xs ys : List X) → AllByRecursion P xs
-    → AllByRecursion P ys → AllByRecursion P (xs ++ ys)
-all_of_both P [] ys one other = other
-all_of_both P (x ∷ xs) ys one other = (one.0, all_of_both P xs ys one.1 other)
-
-pub all_of_first : {X : Type 0} (P : X → Type 0) (xs ys : List X)
-    → AllByRecursion P (xs ++ ys) → AllByRecursion P xs
-all_of_first P [] ys all = tt
-all_of_first P (x ∷ xs) ys all = (all.0, all_of_first P xs ys all.1)
-
-pub all_of_second : {X : Type 0} (P : X → Type 0) (xs ys : List X)
-    → AllByRecursion P (xs ++ ys) → AllByRecursion P ys
-all_of_second P [] ys all = all
-all_of_second P (x ∷ xs) ys all = all_of_second P xs ys all.1
 
 -- a key is a word, and a value has no quote
 abbrev pub IsSpelled : Token → Type 0

@@ -5,7 +5,7 @@ use Rattle.std.{specs.Prelude.slice_range, specs.Prelude.◌≤◌, specs.List.A
 use Rattle.cfgx_syntax.{specs.Cut.CanBeCut, proofs.Values.value_inside, specs.Token.{Token, Spells}}
 use Rattle.cfgx_syntax.specs.Items.{Item, ItemsFrom, HasOneTokenList}
 use Rattle.cfgx_grammar.{specs.Question.Question, specs.Tree.Tree, proofs.Answering.only_tree}
-use Rattle.cfgx_grammar.proofs.alone.{all_of_first}
+use Rattle.cfgx_grammar.proofs.ListLemmas.{all_of_first}
 use Rattle.cfgx_grammar.proofs.Answering.{answer, tree_of, Finds-one, HasOneTree-tree}
 use Rattle.cfgx_parser.specs.nodes.{KeepsTree.{KeepsTree, KeepsOneTree}, Prefix.{prefix, places}}
 use Rattle.cfgx_parser.specs.nodes.Node.{Written, nothing, with_list_ended}

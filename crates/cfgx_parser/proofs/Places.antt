@@ -3,20 +3,10 @@ use Rattle.std.proofs.Common.{◌≡◌, ℕ, zero, suc, ◌+◌, List, [], ◌�
 use Rattle.std.{proofs.Common.{refl, ap, arith}, specs.List.{AllZip, slice_get}}
 use Rattle.cfgx_grammar.specs.Tree.{Tree, Trees, asked}
 use Rattle.cfgx_grammar.proofs.Alike.{Alike, AlikeEach, asked-alike, length-asked}
+use Rattle.cfgx_grammar.proofs.ListLemmas.{slice_get-append, slice_get-append-add}
+use Rattle.std.proofs.lemmas.Option.{slice_get_within}
 use Rattle.cfgx_parser.specs.nodes.Prefix.{Node, prefix, prefix_each, with_places}
 use Rattle.cfgx_parser.specs.nodes.Prefix.{with_places_each, places}
-
-found-first : {X : Type 0} (xs ys : List X) (i : ℕ) (x : X) → slice_get xs i ≡ Some x
-    → slice_get (xs ++ ys) i ≡ Some x
-found-first [] ys i x is = absurd (cc)
-found-first (first ∷ xs) ys zero x is = is
-found-first (first ∷ xs) ys (suc i) x is = found-first xs ys i x is
-
-found-later : {X : Type 0} (xs ys : List X) (i n : ℕ) → n ≡ length xs + i
-    → slice_get (xs ++ ys) n ≡ slice_get ys i
-found-later [] ys i n at = ap (slice_get ys) (omega arith)
-found-later (x ∷ xs) ys i zero at = absurd (omega arith)
-found-later (x ∷ xs) ys i (suc n) at = found-later xs ys i n (omega arith)
 
 module _ {X Y : Type 0} (read : ℕ → Y) (of : X → Y) where
   -- what is read at the place of a predicate
@@ -43,9 +33,9 @@ module _ {X Y : Type 0} (read : ℕ → Y) (of : X → Y) where
     reads-trees Trees.none place each = AlikeEach.none
     reads-trees (Trees.more tree trees) place each =
         AlikeEach.more _ _ _ _ (reads-tree tree place (λ i n x at is. each i n x at
-        (found-first (prefix tree) (prefix_each trees) i _ is)))
+        (rw (slice_get-append (prefix tree) (prefix_each trees) i (slice_get_within _ i _ is)) is)))
         (reads-trees trees _ (λ i n x at is. each (length (prefix tree) + i) n x (omega arith)
-        (rw (found-later (prefix tree) (prefix_each trees) i _ refl) is)))
+        (rw (slice_get-append-add (prefix tree) (prefix_each trees) i _ refl) is)))
 
   read-asked : (ps : List ℕ) (xs : List X) → AllZip Reads ps xs → map read ps ≡ map of xs
   read-asked [] [] zipped = refl

@@ -36,7 +36,7 @@ impl Word<'_> {
     /// Returns the fault of this part of the text.
     fn fault(self, reason: Reason) -> Fault
         ensures { plain_fault result
-            ≡ fault_between (cause_of reason) self.span.start self.span.end }
+            ≡ fault_between (cause_of reason) self.entry.span.start self.entry.span.end }
     {
         Fault {
             reason,

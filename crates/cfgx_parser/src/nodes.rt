@@ -19,6 +19,19 @@ pub struct Span {
     pub end: usize,
 }
 
+impl Span {
+    ghost use Rattle.cfgx_parser.specs.nodes.Located.{IsSpan, at};
+
+    /// Returns the bytes of `text` at this span.
+    #[inline(always)]
+    pub(crate) fn cut(self, text: &str) -> &str
+        requires { IsSpan text.now self }
+        ensures { result.now ≡ at text.now self }
+    {
+        &text[self.start..self.end]
+    }
+}
+
 impl From<Range<usize>> for Span {
     ghost from_gives = { λ range span. span ≡ record { start = range.start; end = range.end } };
 
@@ -220,7 +233,7 @@ impl<A: SmallAllocator> Writer<A> {
     fn push_node(&mut self, node: ExprNode) -> Result<usize, AllocError>
         ensures place { IfOk result (λ place. place ≡ length (written_of self.old).nodes) }
         ensures written { OnOk result (written_of self.new ≡ with_node node (written_of self.old)) }
-        ensures refused { OnErr result (written_of self.new ≡ written_of self.old) }
+        ensures unchanged { OnErr result (written_of self.new ≡ written_of self.old) }
         ensures countable { OnOk result (length (written_of self.new).nodes < 2 ^ 64) }
     {
         let place = self.node_count;

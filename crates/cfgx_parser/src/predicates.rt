@@ -146,30 +146,16 @@ impl InnerTarget {
         ensures { target_of result ≡ target_question_at text.now self.now }
     {
         match self {
-            InnerTarget::Abi(span) => TargetPredicate::Abi(Abi::new_const(
-                &text[span.start..span.end],
-            )),
-            InnerTarget::Arch(span) => TargetPredicate::Arch(Arch::new_const(
-                &text[span.start..span.end],
-            )),
+            InnerTarget::Abi(span) => TargetPredicate::Abi(Abi::new_const(span.cut(text))),
+            InnerTarget::Arch(span) => TargetPredicate::Arch(Arch::new_const(span.cut(text))),
             InnerTarget::Endian(endian) => TargetPredicate::Endian(*endian),
-            InnerTarget::Env(span) => TargetPredicate::Env(Env::new_const(
-                &text[span.start..span.end],
-            )),
-            InnerTarget::Family(span) => {
-                TargetPredicate::Family(Family::new_const(&text[span.start..span.end]))
-            }
+            InnerTarget::Env(span) => TargetPredicate::Env(Env::new_const(span.cut(text))),
+            InnerTarget::Family(span) => TargetPredicate::Family(Family::new_const(span.cut(text))),
             InnerTarget::HasAtomic(atomic) => TargetPredicate::HasAtomic(*atomic),
-            InnerTarget::Os(span) => TargetPredicate::Os(Os::new_const(
-                &text[span.start..span.end],
-            )),
-            InnerTarget::Panic(span) => TargetPredicate::Panic(Panic::new_const(
-                &text[span.start..span.end],
-            )),
+            InnerTarget::Os(span) => TargetPredicate::Os(Os::new_const(span.cut(text))),
+            InnerTarget::Panic(span) => TargetPredicate::Panic(Panic::new_const(span.cut(text))),
             InnerTarget::PointerWidth(width) => TargetPredicate::PointerWidth(*width),
-            InnerTarget::Vendor(span) => {
-                TargetPredicate::Vendor(Vendor::new_const(&text[span.start..span.end]))
-            }
+            InnerTarget::Vendor(span) => TargetPredicate::Vendor(Vendor::new_const(span.cut(text))),
         }
     }
 }
@@ -186,26 +172,24 @@ impl InnerPredicate {
             InnerPredicate::Test => Predicate::Test,
             InnerPredicate::DebugAssertions => Predicate::DebugAssertions,
             InnerPredicate::ProcMacro => Predicate::ProcMacro,
-            InnerPredicate::Feature(span) => Predicate::Feature(&text[span.start..span.end]),
-            InnerPredicate::TargetFeature(span) => {
-                Predicate::TargetFeature(&text[span.start..span.end])
-            }
+            InnerPredicate::Feature(span) => Predicate::Feature(span.cut(text)),
+            InnerPredicate::TargetFeature(span) => Predicate::TargetFeature(span.cut(text)),
             InnerPredicate::Other {
                 identifier,
                 value: None,
-            } => Predicate::Flag(&text[identifier.start..identifier.end]),
+            } => Predicate::Flag(identifier.cut(text)),
             InnerPredicate::Other {
                 identifier,
                 value: Some(value),
             } => Predicate::KeyValue {
-                key: &text[identifier.start..identifier.end],
-                val: &text[value.start..value.end],
+                key: identifier.cut(text),
+                val: value.cut(text),
             },
         }
     }
 }
 
-/// The predicates of an expression, in the order in which they are asked.
+/// The predicates of a condition, in the order in which they are asked.
 #[derive(Drop)]
 pub struct Predicates<'a> {
     text: &'a str,

@@ -11,20 +11,9 @@ use Rattle.cfgx_grammar.specs.{FollowSet.{Kind, kind_of, is_kind}, Depth.{member
 use Rattle.cfgx_grammar.specs.Depth.{count_below, last_below, begins_member, depth, depth_at}
 use Rattle.cfgx_grammar.specs.parsing.State.{Function, Open, name_of}
 use Rattle.cfgx_grammar.specs.parsing.Step.{over_top, with_parens}
+use Rattle.cfgx_grammar.proofs.ListLemmas.{slice_get-append, slice_get-append_seam}
 
 -- Counting and searching the places of a list that grows at its end.
-
-module _ {X : Type 0} where
-  pub slice_get_front : (xs ys : List X) (k : ℕ) → k < length xs
-      → slice_get (xs ++ ys) k ≡ slice_get xs k
-  slice_get_front [] ys k lt = absurd (omega (arith, lt))
-  slice_get_front (x ∷ xs) ys zero lt = refl
-  slice_get_front (x ∷ xs) ys (suc k) lt = slice_get_front xs ys k (omega (arith, lt))
-
-  pub slice_get_next : (xs : List X) (y : X) (ys : List X)
-      → slice_get (xs ++ y ∷ ys) (length xs) ≡ Some y
-  slice_get_next [] y ys = refl
-  slice_get_next (x ∷ xs) y ys = slice_get_next xs y ys
 
 last_below-none : (test : ℕ → Bool) (n : ℕ) → ((k : ℕ) → test k ≡ false)
     → last_below test n ≡ None
@@ -128,9 +117,9 @@ module _ (prefix : List Item) (item : Item) where
   members_at_more level from counted is =
       let same =
       count_below-same (counts more level from) (counts prefix level from) (length prefix)
-      (λ k lt. rw (depth_at_front k (omega (arith, lt)), slice_get_front prefix (item ∷ []) k lt)
+      (λ k lt. rw (depth_at_front k (omega (arith, lt)), slice_get-append prefix (item ∷ []) k lt)
       refl) in
-      grind (arith, depth_at_end, slice_get_next, length_more)
+      grind (arith, depth_at_end, slice_get-append_seam, length_more)
 
   -- the token begins a member at the depth
   pub members_at_name : (level from : ℕ) → from ≤ length prefix → depth prefix ≡ level
@@ -148,7 +137,7 @@ module _ (prefix : List Item) (item : Item) where
       → IsOpenAt prefix level function start end place
       → IsOpenAt more level function start end place
   IsOpenAt-more level function start end place deep is =
-      grind (arith, slice_get_within, slice_get_front, depth_at_front, take_all, length_more)
+      grind (arith, slice_get_within, slice_get-append, depth_at_front, take_all, length_more)
 
   -- the token changes the members of the level, and how many of its members go on
   IsLevel-more : {M : Type 0} (level going goes : ℕ) (top : Open M) → level < depth more
@@ -157,7 +146,7 @@ module _ (prefix : List Item) (item : Item) where
       → members_at more (level + 1) (place + 1) ≡ top.members + goes)
       → IsLevel prefix false level top going → IsLevel more false level top goes
   IsLevel-more level going goes top deep adds is =
-      grind (arith, IsOpenAt-more, length_more, slice_get_front)
+      grind (arith, IsOpenAt-more, length_more, slice_get-append)
 
   -- the token adds no member to any level
   pub Levels-same : {M : Type 0} (roots going : ℕ) (stack : List (Open M))
@@ -198,7 +187,7 @@ module _ (prefix : List Item) (item : Item) where
       is_open = IsOpenAt-more (length rest) _ _ _ l.place (omega (arith, deep)) l.is_open;
       named_last = omega (arith, l.named_last, length_more);
       parens = ap (λ k. start_of (slice_get more k)) l.named_last
-          ∙ ap start_of (slice_get_next prefix item []);
+          ∙ ap start_of (slice_get-append_seam prefix item []);
       count_is = members_at_other (length rest + 1) (l.place + 1) other ∙ l.count_is;
     },
     Levels-same roots 1 rest (omega (arith, deep))

@@ -24,7 +24,8 @@ use Rattle.cfgx_grammar.specs.parsing.Step.{new_open, closed_by, opened, with_pa
 use Rattle.cfgx_grammar.specs.parsing.Step.{apply, step, unclosed, concluded_by, conclude}
 use Rattle.cfgx_grammar.specs.parsing.Step.{step_each, ended_as, answer_from, root_more}
 use Rattle.cfgx_grammar.proofs.faults.Levels.{Levels, IsLevel, start_of, Levels-same, Levels-member}
-use Rattle.cfgx_grammar.proofs.faults.Levels.{Levels-open, slice_get_next, members_at_other}
+use Rattle.cfgx_grammar.proofs.faults.Levels.{Levels-open, members_at_other}
+use Rattle.cfgx_grammar.proofs.ListLemmas.{slice_get-append_seam}
 use Rattle.cfgx_grammar.proofs.faults.Levels.{length_more, last_below-found, members_at_end}
 use Rattle.cfgx_grammar.proofs.faults.Levels.{innermost-none, depth_at_end}
 
@@ -234,7 +235,7 @@ module _ {W M L : Type 0} {builder : Builder W M L} (prefix : List Item) (s : St
           place = length prefix;
           is_open = record {
             name = item;
-            stands = slice_get_next prefix item [];
+            stands = slice_get-append_seam prefix item [];
             named = refl;
             starts = refl;
             ends = refl;
@@ -345,7 +346,7 @@ first_is : (items all prefix : List Item) → all ≡ prefix ++ items
 first_is [] all prefix is = rw (ap length (is ∙ append-nil prefix)) (grind arith)
 first_is (item ∷ items) all prefix is =
     let rest = first_is items all _ (is ∙ sym (append_assoc prefix (item ∷ []) items)) in
-    grind (arith, take-append_seam, slice_get_next, length_more, rest)
+    grind (arith, take-append_seam, slice_get-append_seam, length_more, rest)
 
 last_token-more : (prefix : List Item) (item : Item)
     → last_token (prefix ++ item ∷ []) ≡ Some item.token

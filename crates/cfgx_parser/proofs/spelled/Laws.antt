@@ -4,8 +4,8 @@ use Rattle.std.proofs.Common.{option_map, rules, arith, Some, None, refl, ap, su
 use Rattle.std.{specs.Prelude.if◌then◌else◌, proofs.lemmas.List.{append-nil, length_push}}
 use Rattle.cfgx_syntax.specs.Items.{Item}
 use Rattle.cfgx_grammar.{specs.Question.Leaf, specs.Question.Question, specs.Classification.Class}
-use Rattle.cfgx_grammar.{specs.Classification.class, proofs.alone.all_of_first}
-use Rattle.cfgx_grammar.{proofs.alone.all_of_second, proofs.spelled.Calls, proofs.spelled.Laws}
+use Rattle.cfgx_grammar.{specs.Classification.class, proofs.spelled.Calls, proofs.spelled.Laws}
+use Rattle.cfgx_grammar.proofs.ListLemmas.{all_of_first, all_of_second}
 use Rattle.cfgx_grammar.specs.Tree.{Tree, Trees, is_function, is_leaf, count}
 use Rattle.cfgx_grammar.{specs.parsing.State.Function, proofs.accepted.leaf_tree}
 use Rattle.cfgx_parser.specs.nodes.Located.{located, at, IsSpan, ValueHasCut}

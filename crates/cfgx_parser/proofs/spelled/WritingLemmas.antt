@@ -2,7 +2,7 @@
 use Rattle.std.proofs.{Common.{◌≡◌, ℕ, ◌+◌, List, [], ◌∷◌, ◌++◌, length}, lemmas.List.drop_at}
 use Rattle.std.proofs.Common.{refl, arith, append_assoc, length-append}
 use Rattle.std.proofs.lemmas.List.{append-nil, map-append, length-map, length_push, set_at, take_at}
-use Rattle.cfgx_grammar.{specs.Question.Question, proofs.alone.all_of_both}
+use Rattle.cfgx_grammar.{specs.Question.Question, proofs.ListLemmas.all_of_both}
 use Rattle.cfgx_parser.specs.nodes.Node.{Written, mark_of, asked_at, with_leaf}
 use Rattle.cfgx_parser.specs.nodes.Node.{with_function, with_function_ended}
 use Rattle.cfgx_parser.specs.nodes.Prefix.{Node, node_at, headed}
