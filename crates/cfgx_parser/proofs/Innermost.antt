@@ -1,4 +1,4 @@
--- The innermost list, of the function on top of the stack or of the root, as it is changed.
+-- A change of the innermost list, that of the innermost function or of the root.
 use Rattle.std.proofs.Common.{◌≡◌, ◌+◌, List, [], ◌∷◌, refl, ap}
 use Rattle.cfgx_grammar.specs.parsing.Step.{over_top, root_more}
 use Rattle.cfgx_parser.specs.parsing.{Fields.{open_of, opens_in, roots_in}, NodeState.OpenFunction}

@@ -1,4 +1,4 @@
--- What is kept of a text that is accepted: the nodes of its tree.
+-- The nodes and places that are kept of an accepted text are those of its one tree.
 use Rattle.std.proofs.Common.{◌≡◌, ℕ, List, [], ◌∷◌, ◌++◌, length, Ok, sym, ◌∙◌, arith}
 use Rattle.std.{proofs.lemmas.List.length-map, proofs.lemmas.List.append-nil}
 use Rattle.std.{specs.Prelude.slice_range, specs.Prelude.◌≤◌, specs.List.AllByRecursion}
@@ -21,7 +21,7 @@ placed_at : (text : List ℕ) (token : Token) (start end : ℕ)
     → IsPlaced text (record { token = token; start = start; end = end }) token
 placed_at text token start end spelled inside cut = grind (arith, value_inside)
 
--- what is asked of a tree at the root, with its list or before
+-- what a tree at the root asks, with its list or before
 asked_root : (tree : Tree Question) → inner 0 tree ++ own 0 tree ≡ places 0 tree
 asked_root tree = grind (arith, append-nil)
 

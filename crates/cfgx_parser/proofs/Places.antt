@@ -1,4 +1,4 @@
--- What stands at the places of a tree's predicates.
+-- The nodes at the places of a tree are its predicates.
 use Rattle.std.proofs.Common.{◌≡◌, ℕ, zero, suc, ◌+◌, List, [], ◌∷◌, ◌++◌, length, map, Some, sym}
 use Rattle.std.{proofs.Common.{refl, ap, arith}, specs.List.{AllZip, slice_get}}
 use Rattle.cfgx_grammar.specs.Tree.{Tree, Trees, asked}
@@ -9,11 +9,11 @@ use Rattle.cfgx_parser.specs.nodes.Prefix.{Node, prefix, prefix_each, with_place
 use Rattle.cfgx_parser.specs.nodes.Prefix.{with_places_each, places}
 
 module _ {X Y : Type 0} (read : ℕ → Y) (of : X → Y) where
-  -- what is read at the place of a predicate
+  -- the reading at the place of a predicate
   abbrev Reads : ℕ → X → Type 0
   Reads place x = read place ≡ of x
 
-  -- at the places of those among the nodes that begin at a place
+  -- the reading at each predicate among nodes that begin at a place
   abbrev ReadsEach : ℕ → List (Node X) → Type 0
   ReadsEach place nodes = (i n : ℕ) (x : X) → n ≡ place + i
       → slice_get nodes i ≡ Some (Node.leaf x) → Reads n x
@@ -48,7 +48,7 @@ module _ {X : Type 0} (tree : Tree X) where
       → read place ≡ of x) → map read (places 0 tree) ≡ map of (asked tree)
   read-places read of each = grind (arith, asked-alike, read-asked, reads-tree)
 
-  -- there is one for each predicate
+  -- there is one place for each predicate
   pub length-places : length (places 0 tree) ≡ length (asked tree)
   length-places = sym (length-asked _ (with_places 0 tree) tree
       (reads-tree {Y = ℕ} (λ _. 0) (λ _. 0) tree 0 (λ _ _ _ _ _. refl)))

@@ -52,8 +52,8 @@ members_at_end items level from past = count_below-none _ (length items) (λ k l
 
 -- The levels.
 
--- the name of an open function stands at the place, so many functions are open in front of it, and
--- more everywhere after it
+-- the name of an open function stands at the place, with `level` functions open before it, and more
+-- everywhere after it
 pub record IsOpenAt (prefix : List Item) (level : ℕ) (function : Function) (start end : ℕ)
     (place : ℕ) : Type 0 where
   pub name : Item
@@ -64,7 +64,7 @@ pub record IsOpenAt (prefix : List Item) (level : ℕ) (function : Function) (st
   pub before : depth_at prefix place ≡ level
   pub inside : (k : ℕ) → place < k → k ≤ length prefix → level < depth_at prefix k
 
--- the place is that of the last token, or of one in front of it
+-- the place is that of the last token, or that of a token before it
 abbrev pub IsLast : Bool → ℕ → List Item → Type 0
 IsLast true place prefix = place + 1 ≡ length prefix
 IsLast false place prefix = place + 1 < length prefix
@@ -73,7 +73,8 @@ abbrev pub start_of : Option Item → Option ℕ
 start_of item = option_map (λ (i : Item). i.start) item
 
 module _ {M : Type 0} where
-  -- an open function, by whether its name is the last token, and how many of its members go on
+  -- an open function; `is_named` says whether its name is the last token, and `going` is the number
+  -- of its members that have begun and not ended
   pub record IsLevel (prefix : List Item) (is_named : Bool) (level : ℕ) (top : Open M)
       (going : ℕ) : Type 0 where
     pub place : ℕ
@@ -139,7 +140,7 @@ module _ (prefix : List Item) (item : Item) where
   IsOpenAt-more level function start end place deep is =
       grind (arith, slice_get_within, slice_get-append, depth_at_front, take_all, length_more)
 
-  -- the token changes the members of the level, and how many of its members go on
+  -- the token changes the members of the level, and the number of those that have not ended
   IsLevel-more : {M : Type 0} (level going goes : ℕ) (top : Open M) → level < depth more
       → ((place : ℕ) → place < length prefix
       → members_at prefix (level + 1) (place + 1) ≡ top.members + going

@@ -1,4 +1,4 @@
--- What the parser refuses it refuses with the first fault.
+-- If the parser finds a fault, it is the first fault of the text.
 use Rattle.std.proofs.{lemmas.Grind.common_steps, Math.Seq.take-append_seam}
 use Rattle.std.proofs.Common.{take, ◌≡◌, ◌⊎◌, inl, ℕ, ◌+◌, Bool, true, false, List, [], ◌∷◌}
 use Rattle.std.proofs.Common.{◌++◌, length, reverse, cond, Option, Some, None, Result, Ok, Err, sym}
@@ -29,11 +29,11 @@ use Rattle.cfgx_grammar.proofs.ListLemmas.{slice_get-append_seam}
 use Rattle.cfgx_grammar.proofs.faults.Levels.{length_more, last_below-found, members_at_end}
 use Rattle.cfgx_grammar.proofs.faults.Levels.{innermost-none, depth_at_end}
 
--- What the parser keeps between two tokens, by the tokens in front of it.
+-- What the parser keeps between two tokens, by the tokens before.
 
--- Tokens are named from the last one back.
+-- In these definitions the list of the tokens is reversed.
 
--- the predicate that has begun
+-- the pending predicate
 abbrev pub begun_token : Item → List Item → Token → Option Pending
 begun_token item before (Token.key text) = predicate_last (item ∷ before)
 begun_token item before (Token.value text) = predicate_last (item ∷ before)
@@ -48,7 +48,7 @@ abbrev pub names_last : Option Token → Bool
 names_last None = false
 names_last (Some token) = names_function token
 
--- how many members have begun and not ended
+-- the number of members that have begun and not ended
 abbrev pub going : Option Pending → ℕ
 going None = 0
 going (Some pending) = 1
@@ -61,8 +61,8 @@ closings prefix = count_by (λ item. is_closing item.token) prefix
 
 -- What may stand after the last token says which it is.
 
--- What a token of this kind says of those in front of it. In front of a name no predicate has
--- begun and no name is the last token; in front of `(` stands a name, and in front of `=` a key.
+-- What a token of this kind says of those before it. Before a name no predicate is pending and the
+-- last token is no function's name; before `(` stands such a name, and before `=` a key.
 abbrev pub Says : Kind → Option Pending → Option Pending → Bool → Type 0
 Says Kind.name begun key names = (begun ≡ None) × (names ≡ false)
 Says Kind.opening begun key names = (begun ≡ None) × (names ≡ true)
@@ -74,15 +74,15 @@ pub says : (kind : Kind) (back : List Item) → takes (head_token back) kind ≡
     → Says kind (begun_last back) (predicate_last (take 1 back)) (names_last (head_token back))
 says kind back may = grind arith
 
--- a value ends the predicate whose key and `=` stand in front of it
+-- a value ends the predicate whose key and `=` stand before it
 value_says : (text : List ℕ) (start end : ℕ) (back : List Item)
     → takes (head_token back) Kind.value ≡ true
     → option_map (with_value (word_of text (start + 1) (end - 1))) (begun_last back)
     ≡ predicate_last (record { token = Token.value text; start = start; end = end } ∷ back)
 value_says text start end back may = grind arith
 
--- What comes of the tokens and what is shown of them: no fault, and something that this holds of,
--- or a fault on both sides.
+-- The result of the steps meets the fault of the definition: there is no fault and the property
+-- holds of the result, or the faults are the same.
 abbrev pub Meets : {A : Type 0} → (A → Type 0) → Result A Fault → Option Fault → Type 0
 Meets P (Ok t) fault = (fault ≡ None) × P t
 Meets P (Err found) fault = fault ≡ Some found
@@ -113,12 +113,12 @@ meets_when : {A : Type 0} (P : A → Type 0) (b : Bool) (r : Result A Fault) (re
     → Meets P (if b then r else Err refused) (option_or (when (not b) refused) fault)
 meets_when P b r refused fault pass = grind arith
 
--- the questions on a token that may follow the last one
+-- the checks of a token that may follow the last one
 abbrev pub fault_by : List Item → Item → Option Fault
 fault_by prefix item =
     first_of (unopened_fault prefix item ∷ closed_fault prefix item ∷ ended_fault prefix item ∷ [])
 
--- those on the end of a text whose functions are all closed
+-- the checks at the end of a text in which no function is open
 abbrev pub closed_end : ℕ → List Item → Option Fault
 closed_end len items =
     first_of (predicate_fault items ∷ empty_fault len items ∷ roots_fault len items ∷ [])
@@ -139,8 +139,8 @@ module _ {W M L : Type 0} {builder : Builder W M L} where
     pub height : length t.stack ≡ length s.stack
     pub levels : Levels prefix t.roots is_named t.stack 0
 
--- Each step refuses a token with the fault that the tokens in front of it show, and the end of the
--- text likewise.
+-- Each step finds the fault that the definition gives for the token and those before it. The end of
+-- the text does so too.
 
 module _ {W M L : Type 0} {builder : Builder W M L} (prefix : List Item) (s : State builder)
     (m : Matches prefix s) where
@@ -189,7 +189,7 @@ module _ {W M L : Type 0} {builder : Builder W M L} (prefix : List Item) (s : St
     abbrev more : Token → List Item
     more token = prefix ++ at token ∷ []
 
-    -- so many functions are open after the token
+    -- the number of functions that are open after the token
     abbrev Rises : Token → ℕ → Type 0
     Rises token height = height + cond (is_closing token) 1 0
         ≡ length s.stack + cond (names_function token) 1 0
@@ -198,7 +198,7 @@ module _ {W M L : Type 0} {builder : Builder W M L} (prefix : List Item) (s : St
         → closings (more token) + height ≡ names (more token)
     balanced token height rises = grind (arith, common_steps)
 
-    -- what the token leaves, by what it says of its own
+    -- the state after the token
     matched : (token : Token) (t : State builder) (w : ℕ)
         → t.pending ≡ begun_token (at token) (reverse prefix) token → going t.pending ≡ w
         → Rises token (length t.stack)
@@ -249,7 +249,7 @@ module _ {W M L : Type 0} {builder : Builder W M L} (prefix : List Item) (s : St
         } in
         (refl, matched token _ _ (pending ∙ sym none) refl rises (rw is_name (here, outer)))
 
-    -- `,` and `)`, in front of which a predicate ends
+    -- `,` and `)`, before which a predicate ends
     ended_here : (takes (last_token prefix) Kind.closing ≡ true)
         ⊎ (takes (last_token prefix) Kind.comma ≡ true)
         → Meets (Ended prefix false s) (predicate_ended s) (predicate_fault prefix)
@@ -332,7 +332,7 @@ module _ {W M L : Type 0} {builder : Builder W M L} (prefix : List Item) (s : St
       → EndAgrees (conclude (last_token prefix) len s) (end_fault len prefix)
   end_agrees len = grind (arith, end_stack)
 
--- What the steps answer for all tokens of a text is its first fault, or none.
+-- The steps over all tokens of a text find its first fault, or none.
 
 -- the first fault of some tokens after others
 abbrev first_after : List Item → List Item → Option Fault

@@ -1,4 +1,4 @@
--- The nodes of a tree are written for its items: the laws of the builder of nodes.
+-- The laws of the builder of nodes: for the items of a tree its nodes are written.
 use Rattle.std.proofs.Common.{◌≡◌, ℕ, ◌+◌, true, false, List, [], ◌++◌, length, Option}
 use Rattle.std.proofs.Common.{option_map, rules, arith, Some, None, refl, ap, subst}
 use Rattle.std.{specs.Prelude.if◌then◌else◌, proofs.lemmas.List.{append-nil, length_push}}
@@ -19,14 +19,14 @@ use Rattle.cfgx_parser.proofs.spelled.LocatedClasses.{NamesClass, NamesClass-cla
 use Rattle.cfgx_parser.proofs.spelled.WritingLemmas.{WritesNodes-none, WritesNodes-then}
 use Rattle.cfgx_parser.proofs.spelled.WritingLemmas.{WritesNodes-leaf, WritesNodes-function}
 
--- the places of what is asked with its list, and of what is asked before
+-- the places of the predicates that the tree asks with its list, and of those that it asks before
 abbrev pub own : ℕ → Tree Question → List ℕ
 own place tree = if is_leaf (with_places place tree) then places place tree else []
 
 abbrev pub inner : ℕ → Tree Question → List ℕ
 inner place tree = if is_function (with_places place tree) then places place tree else []
 
--- a function's tree, by its kind and its members
+-- the tree is a call of the function with these members
 record Called (function : Function) (tree : Tree Question) (trees : Trees Question) : Type 0 where
   pub prefix_is : prefix tree ≡ headed (func_of function (count trees)) (prefix_each trees)
   pub places_are : (place : ℕ) → places place tree ≡ places_by is_function (place + 1) trees
@@ -34,13 +34,13 @@ record Called (function : Function) (tree : Tree Question) (trees : Trees Questi
   pub is_no_leaf : (place : ℕ) → is_leaf (with_places place tree) ≡ false
   pub is_one : (place : ℕ) → is_function (with_places place tree) ≡ true
 
--- the two ways of writing the one member of a `not`
+-- the places of the one member of a `not`, as a tree and as a list
 places_one : (place : ℕ) (tree : Tree Question) → let one = Trees.more tree Trees.none in
     places place tree ≡ places_by is_function place one ++ places_by is_leaf place one
 places_one place tree = grind (arith, append-nil)
 
 module _ (text : List ℕ) where
-  -- for a tree whose items stand at their places, and for a list
+  -- what is written for a tree, and for a list, whose items stand in the text
   abbrev pub MemberWrites : List Item → Written → Written → Tree Question → Type 0
   MemberWrites items w v tree = ArePlaced text items
       → WritesNodes text w v (prefix tree) (own (length w.nodes) tree)

@@ -12,7 +12,7 @@ use Rattle.cfgx_parser.{specs.declared.function.Func.Func, specs.declared.nodes.
 pub WritesNodes-none : (text : List ℕ) (w : Written) → WritesNodes text w w [] [] []
 WritesNodes-none text w = grind (arith, append-nil)
 
--- one thing after another
+-- two parts, one after the other
 pub WritesNodes-then : {text : List ℕ} {old mid new : Written} {shown more : List (Node Question)}
     {own own_more inner inner_more : List ℕ}
     → WritesNodes text old mid shown own inner → WritesNodes text mid new more own_more inner_more

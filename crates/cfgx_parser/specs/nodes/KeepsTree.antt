@@ -22,8 +22,8 @@ pub record KeepsTree (text : List ℕ) (nodes : List ExprNode) (kept_places : Li
 -- the nodes and the places are those of the text's one tree
 pub record KeepsOneTree (text : List ℕ) (nodes : List ExprNode) (kept_places : List ℕ) : Type 0
   where
-  pub one : HasOneTree text
-  pub keeps : KeepsTree text nodes kept_places one.tree
+    pub one : HasOneTree text
+    pub keeps : KeepsTree text nodes kept_places one.tree
 
 abbrev pub predicate_of : ExprNode → Option InnerPredicate
 predicate_of (node.Fn func len) = None

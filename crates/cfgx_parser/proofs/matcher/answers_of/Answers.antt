@@ -1,4 +1,4 @@
--- The row that is added is the last one that is left; in the end none is.
+-- The answer that is added is that of the last row that is left. At the end no row is left.
 use Rattle.std.proofs.Common.{◌∙◌, ap}
 use Rattle.cfgx_syntax.specs.Kleene.{lane}
 use Rattle.cfgx_parser.proofs.MatchedLanes.{Added-fit, Added-end}
