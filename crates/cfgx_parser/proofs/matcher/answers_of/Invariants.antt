@@ -1,7 +1,7 @@
--- The planes hold the answers of the rows that come after the ones that are left.
+-- The planes have the answers of the rows after those that are left.
 use Rattle.std.proofs.Common.{length}
 use Rattle.cfgx_parser.{specs.Predicate.target_of, proofs.MatchedLanes.Added}
-use Rattle.cfgx_parser.proofs.matcher.answers.Given as goal
+use Rattle.cfgx_parser.proofs.matcher.answers_of.Given as goal
 
 abbrev pub invariant-loop-row : goal.invariant-loop-row
 invariant-loop-row g l =

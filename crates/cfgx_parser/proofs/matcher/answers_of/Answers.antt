@@ -1,15 +1,15 @@
--- The row that is added is the last one that is left; in the end none is.
+-- The answer that is added is that of the last row that is left. At the end no row is left.
 use Rattle.std.proofs.Common.{◌∙◌, ap}
 use Rattle.cfgx_syntax.specs.Kleene.{lane}
 use Rattle.cfgx_parser.proofs.MatchedLanes.{Added-fit, Added-end}
-use Rattle.cfgx_parser.proofs.matcher.answers.Goals as goal
+use Rattle.cfgx_parser.proofs.matcher.answers_of.Goals as goal
 
-pub with_lowest-is_true-requires : goal.with_lowest-is_true-requires
-with_lowest-is_true-requires g c =
+pub with_lane_0-is_true-requires : goal.with_lane_0-is_true-requires
+with_lane_0-is_true-requires g c =
     (Added-fit _ _ c.in-Some.ensures.cases.0 c.requires c.loop-row.invariant).0
 
-pub with_lowest-is_false-requires : goal.with_lowest-is_false-requires
-with_lowest-is_false-requires g c =
+pub with_lane_0-is_false-requires : goal.with_lane_0-is_false-requires
+with_lane_0-is_false-requires g c =
     (Added-fit _ _ c.in-Some.ensures.cases.0 c.requires c.loop-row.invariant).1
 
 pub new-requires : goal.new-requires
