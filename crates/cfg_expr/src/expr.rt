@@ -1,20 +1,11 @@
 //! Conditions, and the predicates that they ask.
-ghost use Rattle.std.specs.Prelude.{◌≡◌, ◌≤◌, Bool, List, Option, length, map, IfOk, IsOk, OnErr};
-ghost use Rattle.cfgx_syntax.specs.Kleene.{EachLane, IsDisjoint, Planes, lane};
+ghost use Rattle.std.specs.Prelude.{◌≡◌, ◌≤◌, length, IfOk, IsOk};
 ghost use Rattle.cfgx_syntax.specs.Stripping.{strip};
-ghost use Rattle.std.specs.List.{AllByRecursion};
 ghost use Rattle.cfgx_grammar.specs.Given.{AreAnswersTo};
-ghost use Rattle.cfgx_grammar.specs.Answer.{Answers, HasOneTree};
-ghost use Rattle.cfg_expr.specs.Asking.{AnswersBy};
-ghost use Rattle.cfg_expr.specs.Deciding.{DecidesExactly};
-ghost use Rattle.cfg_expr.specs.Evaluation.{Evaluates, IsValueBy, MayEvaluate};
-ghost use Rattle.cfgx_grammar.specs.Filling.{IsExact, PolarFillings, three_valued};
-ghost use Rattle.cfgx_grammar.specs.Fold.{tree_fold};
-ghost use Rattle.cfgx_grammar.specs.Homomorphism.{IsByLane, lane_valued};
-ghost use Rattle.cfgx_grammar.specs.Question.{Question};
-ghost use Rattle.cfgx_grammar.specs.Tree.{Tree, asked};
-ghost use Rattle.cfgx_grammar.specs.Grammar.{HasTree};
-ghost use Rattle.cfgx_grammar.specs.WellFormed.{IsWellFormed};
+ghost use Rattle.cfgx_grammar.specs.Answer.{Answers};
+ghost use Rattle.cfg_expr.specs.Deciding.{AreFillings, Decides, IsExactOverAll};
+ghost use Rattle.cfg_expr.specs.Evaluation.{AsksInOrder, EvaluatesTo, MayEvaluate};
+ghost use Rattle.cfg_expr.specs.Evaluation.{IsByLaneOverAll, IsValueInLanes};
 
 mod condition;
 mod evaluating;
@@ -30,7 +21,6 @@ use cfgx_parser::parsed::{Parsed, parse};
 pub use cfgx_parser::predicates::{Predicate, Predicates, TargetPredicate};
 use cfgx_syntax::logic::Kleene64;
 pub use cfgx_syntax::logic::Logic;
-use cfgx_syntax::logic::laws::are_disjoint;
 pub use cfgx_syntax::{lexer, logic};
 pub use condition::{Condition, ConditionReader};
 pub use spelling::spell;
@@ -66,6 +56,18 @@ pub enum Decision<A: Allocator = Global> {
         /// A filling with which it is false
         if_false: Vec<bool, A>,
     },
+}
+
+/// The value false.
+impl<A: Allocator> Default for Decision<A> {
+    ghost use Rattle.std.specs.Prelude.{◌≡◌, false};
+    ghost use Rattle.cfg_expr.specs.declared.expr.Decision.TheVariants.{Known};
+
+    ghost is_default = { λ decision. decision ≡ Known false };
+
+    fn default() -> Self {
+        Decision::Known(false)
+    }
 }
 
 impl<A: Allocator> Expression<A> {
@@ -153,8 +155,7 @@ impl<A: SmallAllocator> Expression<A> {
     /// whole, and then the list's own predicates. Each of them can stand in a text. It takes no
     /// memory.
     pub fn predicates(&self) -> Predicates<'_>
-        ensures asked { (one : HasOneTree self.now) × (result ≡ asked one.tree) }
-        ensures well_formed { AllByRecursion IsWellFormed result }
+        ensures { AsksInOrder self.now result }
     {
         self.condition().predicates()
     }
@@ -176,14 +177,7 @@ impl<A: SmallAllocator> Expression<A> {
         EP: FnMut(&Predicate<'_>) -> T,
         T: Logic,
         requires { MayEvaluate EP.FnMut self.now ep.old }
-        ensures value { IfOk result (λ value.
-            Evaluates T.Logic EP.FnMut self.now ep.old value ep.new) }
-        // What follows of a closure that no call changes, as one without state.
-        ensures by { IfOk result (λ value. (answer_to : Question → T)
-            → AnswersBy EP.FnMut ep.old answer_to
-            → IsValueBy T.Logic self.now answer_to value) }
-        ensures refused { OnErr result (ep.new ≡ ep.old) }
-        ensures short { length self.now ≤ 32 → IsOk result }
+        ensures { EvaluatesTo T.Logic EP.FnMut self.now ep.old ep.new result }
     {
         self.condition().eval(alloc, ep)
     }
@@ -200,14 +194,13 @@ impl<A: SmallAllocator> Expression<A> {
     /// `AllocError`: `alloc` refused memory.
     pub fn decide(&self, alloc: A, answers: &[Option<bool>]) -> Result<Decision<A>, AllocError>
         requires { AreAnswersTo answers.now self.now }
-        // This holds of all answers to the text's one tree, also if the call is out of memory.
-        ensures exact { (one : HasOneTree self.now) × ((given : List (Option Bool))
-            → length given ≡ length (asked one.tree) → IsExact one.tree given) }
-        ensures decision { IfOk result (λ decision. (one : HasOneTree self.now)
-            × DecidesExactly one.tree answers.now decision) }
+        // This holds also if the call is out of memory.
+        ensures exact { IsExactOverAll self.now }
+        ensures decision { IfOk result (Decides self.now answers.now) }
     {
-        self.condition()
-            .decide(alloc, answers, Decision::Known(false))
+        let mut decision = Decision::default();
+        self.condition().decide(alloc, answers, &mut decision)?;
+        Ok(decision)
     }
 
     /// The fillings of `decide` that show why the value over the answers is unknown, the one with
@@ -222,16 +215,11 @@ impl<A: SmallAllocator> Expression<A> {
         answers: &[Option<bool>],
     ) -> Result<Option<(Vec<bool, A>, Vec<bool, A>)>, AllocError>
         requires { AreAnswersTo answers.now self.now }
-        // This holds of all answers to the text's one tree, also if the call is out of memory.
-        ensures exact { (one : HasOneTree self.now) × ((given : List (Option Bool))
-            → length given ≡ length (asked one.tree) → IsExact one.tree given) }
-        ensures fillings { IfOk result (λ found. (one : HasOneTree self.now)
-            × PolarFillings one.tree answers.now found) }
+        // This holds also if the call is out of memory.
+        ensures exact { IsExactOverAll self.now }
+        ensures fillings { IfOk result (AreFillings self.now answers.now) }
     {
-        match self.decide(alloc, answers)? {
-            Decision::Known(_) => Ok(None),
-            Decision::Unknown { if_true, if_false } => Ok(Some((if_true, if_false))),
-        }
+        self.condition().polar_fillings(alloc, answers)
     }
 
     /// The value of the condition in each of 64 lanes, over answers that are there already.
@@ -244,17 +232,11 @@ impl<A: SmallAllocator> Expression<A> {
     /// No memory is taken if the text has at most 32 bytes. The error is that `alloc` refused it.
     pub fn eval_lanes(&self, alloc: A, answers: &[Kleene64]) -> Result<Kleene64, AllocError>
         requires { AreAnswersTo answers.now self.now }
-        // This holds of all answers to the text's one tree, also if the call is out of memory.
-        ensures lanes { (one : HasOneTree self.now) × ((given : List Planes)
-            → AllByRecursion IsDisjoint given → length given ≡ length (asked one.tree)
-            → IsByLane one.tree given) }
-        ensures value { IfOk result (λ value. (one : HasOneTree self.now)
-            × (value ≡ tree_fold lane_valued one.tree answers.now)
-            × EachLane value (λ i. tree_fold three_valued one.tree (map (lane i) answers.now))) }
+        // This holds also if the call is out of memory.
+        ensures lanes { IsByLaneOverAll self.now }
+        ensures value { IfOk result (IsValueInLanes self.now answers.now) }
         ensures short { length self.now ≤ 32 → IsOk result }
     {
-        // It does nothing but show that no lane of the answers is both true and false.
-        are_disjoint(answers);
-        evaluating::value_over(alloc, &self.parsed.as_ref(), answers)
+        self.condition().eval_lanes(alloc, answers)
     }
 }

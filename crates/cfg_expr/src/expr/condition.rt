@@ -1,22 +1,19 @@
 //! Conditions that are borrowed: those of expressions, and those that are read one after another.
-ghost use Rattle.std.specs.Prelude.{◌≡◌, ◌≤◌, Bool, List, Option, length, IfOk, IsOk, OnErr};
+ghost use Rattle.std.specs.Prelude.{◌≡◌, ◌≤◌, length, IfOk, IsOk, OnOk};
 ghost use Rattle.cfgx_syntax.specs.Stripping.{strip};
-ghost use Rattle.std.specs.List.{AllByRecursion};
 ghost use Rattle.cfgx_grammar.specs.Given.{AreAnswersTo};
-ghost use Rattle.cfgx_grammar.specs.Answer.{Answers, HasOneTree};
-ghost use Rattle.cfg_expr.specs.Asking.{AnswersBy};
-ghost use Rattle.cfg_expr.specs.Deciding.{DecidesExactly};
-ghost use Rattle.cfg_expr.specs.Evaluation.{Evaluates, IsValueBy, MayEvaluate};
-ghost use Rattle.cfgx_grammar.specs.Filling.{IsExact};
-ghost use Rattle.cfgx_grammar.specs.Question.{Question};
-ghost use Rattle.cfgx_grammar.specs.Tree.{asked};
-ghost use Rattle.cfgx_grammar.specs.WellFormed.{IsWellFormed};
+ghost use Rattle.cfgx_grammar.specs.Answer.{Answers};
+ghost use Rattle.cfg_expr.specs.Deciding.{AreFillings, Decides, IsExactOverAll};
+ghost use Rattle.cfg_expr.specs.Evaluation.{AsksInOrder, EvaluatesTo, MayEvaluate};
+ghost use Rattle.cfg_expr.specs.Evaluation.{IsByLaneOverAll, IsValueInLanes};
 
 use super::{Decision, Logic, Predicate, evaluating, filling};
 use crate::error::Failure;
 use crate::memory::SmallAllocator;
 use cfgx_parser::parsed::{ParsedRef, TextReader};
 use cfgx_parser::predicates::Predicates;
+use cfgx_syntax::logic::Kleene64;
+use cfgx_syntax::logic::laws::are_disjoint;
 use std::alloc::{AllocError, Global};
 use std::fmt;
 use std::marker::Model;
@@ -53,8 +50,7 @@ impl<'a> Condition<'a> {
 
     /// The predicates in the order in which they are asked, as those of an `Expression`.
     pub fn predicates(&self) -> Predicates<'a>
-        ensures asked { (one : HasOneTree self.now) × (result ≡ asked one.tree) }
-        ensures well_formed { AllByRecursion IsWellFormed result }
+        ensures { AsksInOrder self.now result }
     {
         self.parsed.predicates()
     }
@@ -70,40 +66,72 @@ impl<'a> Condition<'a> {
         T: Logic,
         A: SmallAllocator,
         requires { MayEvaluate EP.FnMut self.now ep.old }
-        ensures value { IfOk result (λ value.
-            Evaluates T.Logic EP.FnMut self.now ep.old value ep.new) }
-        // What follows of a closure that no call changes, as one without state.
-        ensures by { IfOk result (λ value. (answer_to : Question → T)
-            → AnswersBy EP.FnMut ep.old answer_to
-            → IsValueBy T.Logic self.now answer_to value) }
-        ensures refused { OnErr result (ep.new ≡ ep.old) }
-        ensures short { length self.now ≤ 32 → IsOk result }
+        ensures { EvaluatesTo T.Logic EP.FnMut self.now ep.old ep.new result }
     {
         evaluating::value_of(alloc, &self.parsed, ep)
     }
 
-    /// Whether the answers decide the condition, as `Expression::decide` says.
-    ///
-    /// It consumes an earlier decision, or `Decision::Known(false)` if there is none. If the value
-    /// is unknown, the new fillings reuse the memory of the earlier ones.
+    /// Replaces `decision` by what the answers decide, as `Expression::decide` says. New fillings
+    /// reuse the memory of those that it holds. Begin with `Decision::default()`.
     ///
     /// # Errors
     ///
-    /// `AllocError`: `alloc` refused memory.
+    /// `AllocError`: `alloc` refused memory. `decision` then says nothing of the condition.
     pub fn decide<A: SmallAllocator>(
         &self,
         alloc: A,
         answers: &[Option<bool>],
-        earlier: Decision<A>,
-    ) -> Result<Decision<A>, AllocError>
+        decision: &mut Decision<A>,
+    ) -> Result<(), AllocError>
         requires { AreAnswersTo answers.now self.now }
-        // This holds of all answers to the text's one tree, also if the call is out of memory.
-        ensures exact { (one : HasOneTree self.now) × ((given : List (Option Bool))
-            → length given ≡ length (asked one.tree) → IsExact one.tree given) }
-        ensures decision { IfOk result (λ decision. (one : HasOneTree self.now)
-            × DecidesExactly one.tree answers.now decision) }
+        // This holds also if the call is out of memory.
+        ensures exact { IsExactOverAll self.now }
+        ensures decision { OnOk result (Decides self.now answers.now decision.new) }
     {
-        filling::decide(alloc, &self.parsed, answers, earlier)
+        filling::decide(alloc, &self.parsed, answers, decision)
+    }
+
+    /// The two fillings of `decide`, as `Expression::polar_fillings` says.
+    ///
+    /// # Errors
+    ///
+    /// `AllocError`: `alloc` refused memory.
+    pub fn polar_fillings<A: SmallAllocator>(
+        &self,
+        alloc: A,
+        answers: &[Option<bool>],
+    ) -> Result<Option<(Vec<bool, A>, Vec<bool, A>)>, AllocError>
+        requires { AreAnswersTo answers.now self.now }
+        // This holds also if the call is out of memory.
+        ensures exact { IsExactOverAll self.now }
+        ensures fillings { IfOk result (AreFillings self.now answers.now) }
+    {
+        let mut decision = Decision::default();
+        self.decide(alloc, answers, &mut decision)?;
+        match decision {
+            Decision::Known(_) => Ok(None),
+            Decision::Unknown { if_true, if_false } => Ok(Some((if_true, if_false))),
+        }
+    }
+
+    /// The value of the condition in each of 64 lanes, as `Expression::eval_lanes` says.
+    ///
+    /// # Errors
+    ///
+    /// `AllocError`: `alloc` refused memory.
+    pub fn eval_lanes<A: SmallAllocator>(
+        &self,
+        alloc: A,
+        answers: &[Kleene64],
+    ) -> Result<Kleene64, AllocError>
+        requires { AreAnswersTo answers.now self.now }
+        // This holds also if the call is out of memory.
+        ensures lanes { IsByLaneOverAll self.now }
+        ensures value { IfOk result (IsValueInLanes self.now answers.now) }
+        ensures short { length self.now ≤ 32 → IsOk result }
+    {
+        prove!(are_disjoint(answers));
+        evaluating::value_over(alloc, &self.parsed, answers)
     }
 }
 
