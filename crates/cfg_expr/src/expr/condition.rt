@@ -1,4 +1,4 @@
-//! Conditions that are borrowed: those of expressions, and those that are read one after another.
+//! Borrowed conditions, and a reader that reads one condition after another.
 ghost use Rattle.std.specs.Prelude.{◌≡◌, ◌≤◌, length, IfOk, IsOk, OnOk};
 ghost use Rattle.cfgx_syntax.specs.Stripping.{strip};
 ghost use Rattle.cfgx_grammar.specs.Given.{AreAnswersTo};
@@ -18,7 +18,7 @@ use std::alloc::{AllocError, Global};
 use std::fmt;
 use std::marker::Model;
 
-/// A condition whose text and nodes are borrowed, from an `Expression` or a `ConditionReader`.
+/// A condition that borrows its text and nodes from an `Expression` or a `ConditionReader`.
 /// Contracts see it as its stripped text.
 #[derive(Drop)]
 pub struct Condition<'a> {
@@ -34,32 +34,33 @@ impl<'a> Model for Condition<'a> {
 }
 
 impl<'a> Condition<'a> {
-    /// The condition of a text that was read.
+    /// Makes the condition of a parsed text.
     pub(super) fn new(parsed: ParsedRef<'a>) -> Self
         ensures { result ≡ parsed.entry }
     {
         Condition { parsed }
     }
 
-    /// The text that was read, without the outer `cfg( )`. Spans count its bytes.
+    /// Returns the text without an outer `cfg( )`. Spans are ranges of its bytes.
     pub fn original(&self) -> &'a str
         ensures { result.now ≡ self.now }
     {
         self.parsed.original()
     }
 
-    /// The predicates in the order in which they are asked, as those of an `Expression`.
+    /// Returns the predicates in the order in which they are asked, as `Expression::predicates`
+    /// does.
     pub fn predicates(&self) -> Predicates<'a>
         ensures { AsksInOrder self.now result }
     {
         self.parsed.predicates()
     }
 
-    /// The value of the condition if `ep` answers each predicate, as `Expression::eval` says.
+    /// Evaluates the condition over what `ep` answers, as `Expression::eval` does.
     ///
     /// # Errors
     ///
-    /// `AllocError`: `alloc` refused memory. `ep` is as it was, so nothing was asked.
+    /// `AllocError`: `alloc` refused memory. `ep` has not changed, so nothing was asked.
     pub fn eval<EP, T, A>(&self, alloc: A, ep: &mut EP) -> Result<T, AllocError>
     where
         EP: FnMut(&Predicate<'_>) -> T,
@@ -71,12 +72,12 @@ impl<'a> Condition<'a> {
         evaluating::value_of(alloc, &self.parsed, ep)
     }
 
-    /// Replaces `decision` by what the answers decide, as `Expression::decide` says. New fillings
-    /// reuse the memory of those that it holds. Begin with `Decision::default()`.
+    /// Decides the condition as `Expression::decide` does, and replaces `decision`. New fillings
+    /// reuse the memory of those that it holds. `Decision::default()` holds none.
     ///
     /// # Errors
     ///
-    /// `AllocError`: `alloc` refused memory. `decision` then says nothing of the condition.
+    /// `AllocError`: `alloc` refused memory. `decision` is then of no use but to be replaced.
     pub fn decide<A: SmallAllocator>(
         &self,
         alloc: A,
@@ -84,14 +85,14 @@ impl<'a> Condition<'a> {
         decision: &mut Decision<A>,
     ) -> Result<(), AllocError>
         requires { AreAnswersTo answers.now self.now }
-        // This holds also if the call is out of memory.
+        // This also holds if the call is out of memory.
         ensures exact { IsExactOverAll self.now }
         ensures decision { OnOk result (Decides self.now answers.now decision.new) }
     {
         filling::decide(alloc, &self.parsed, answers, decision)
     }
 
-    /// The two fillings of `decide`, as `Expression::polar_fillings` says.
+    /// Returns the two fillings of `decide`, as `Expression::polar_fillings` does.
     ///
     /// # Errors
     ///
@@ -102,7 +103,7 @@ impl<'a> Condition<'a> {
         answers: &[Option<bool>],
     ) -> Result<Option<(Vec<bool, A>, Vec<bool, A>)>, AllocError>
         requires { AreAnswersTo answers.now self.now }
-        // This holds also if the call is out of memory.
+        // This also holds if the call is out of memory.
         ensures exact { IsExactOverAll self.now }
         ensures fillings { IfOk result (AreFillings self.now answers.now) }
     {
@@ -114,7 +115,7 @@ impl<'a> Condition<'a> {
         }
     }
 
-    /// The value of the condition in each of 64 lanes, as `Expression::eval_lanes` says.
+    /// Evaluates the condition in 64 lanes at once, as `Expression::eval_lanes` does.
     ///
     /// # Errors
     ///
@@ -125,7 +126,7 @@ impl<'a> Condition<'a> {
         answers: &[Kleene64],
     ) -> Result<Kleene64, AllocError>
         requires { AreAnswersTo answers.now self.now }
-        // This holds also if the call is out of memory.
+        // This also holds if the call is out of memory.
         ensures lanes { IsByLaneOverAll self.now }
         ensures value { IfOk result (IsValueInLanes self.now answers.now) }
         ensures short { length self.now ≤ 32 → IsOk result }
@@ -135,33 +136,35 @@ impl<'a> Condition<'a> {
     }
 }
 
-/// Prints the stripped text as `Debug` prints a text, in parentheses.
+/// Writes the `Debug` form of the stripped text in parentheses.
 impl fmt::Debug for Condition<'_> {
     fn fmt<W: fmt::Write>(&self, f: &mut fmt::Formatter<W>) -> fmt::Result {
         write!(f, "Condition({:?})", self.original())
     }
 }
 
-/// Reads one condition after another and reuses its memory. Only the first text, one that needs
-/// more room than each before it, and a faulty one take memory.
+/// Reads one condition after another in the same memory. Only the first read, one that needs more
+/// room than any before, and a faulty text allocate.
 #[derive(Drop)]
 pub struct ConditionReader<'a, A: SmallAllocator = Global> {
     texts: TextReader<'a, A>,
 }
 
 impl<'a, A: SmallAllocator> ConditionReader<'a, A> {
-    /// A reader that has read nothing. It takes no memory.
+    /// Makes a reader. Takes no memory.
     pub fn new(alloc: A) -> Self {
         ConditionReader {
             texts: TextReader::new(alloc),
         }
     }
 
-    /// The condition of a text, which may stand in `cfg( )`. It lasts until the next one is read,
-    /// and borrows the text.
+    /// Reads a text, which may stand in `cfg( )`. The condition borrows the text, and lasts until
+    /// the next one is read.
     ///
-    /// The error is the first fault of the text, or that the allocator refused memory. Either way
-    /// the next text can be read.
+    /// # Errors
+    ///
+    /// `Failure::Parse`: the first fault of the text. `Failure::Memory`: the allocator refused
+    /// memory. After either, the next text can be read.
     #[inline(always)]
     pub fn read(&mut self, original: &'a str) -> Result<Condition<'_>, Failure<A>>
         ensures { Answers (strip original.now) result }
@@ -170,7 +173,7 @@ impl<'a, A: SmallAllocator> ConditionReader<'a, A> {
     }
 }
 
-/// Prints the name alone.
+/// Writes the name alone.
 impl<A: SmallAllocator> fmt::Debug for ConditionReader<'_, A> {
     fn fmt<W: fmt::Write>(&self, f: &mut fmt::Formatter<W>) -> fmt::Result {
         f.debug_struct("ConditionReader").finish_non_exhaustive()

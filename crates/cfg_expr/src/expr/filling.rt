@@ -9,15 +9,10 @@
 //! an odd number. The pass pops the entry of each node and pushes one for each of its members.
 //! Every tree has a node, so there are never more entries than nodes. Neither the stack nor the
 //! result takes memory for up to 33 nodes.
-ghost use Rattle.std.specs.Prelude.{◌≡◌, ◌++◌, ◌∷◌, true, false, [], length, map};
+ghost use Rattle.std.specs.Prelude.{◌≡◌, ◌++◌, ◌∷◌, true, false, length, map};
 ghost use Rattle.std.specs.Prelude.{replicate, reverse, List, OnOk};
 ghost use Rattle.cfgx_grammar.specs.Given.{AreAnswersTo};
 ghost use Rattle.cfgx_grammar.specs.Answer.{HasOneTree};
-ghost use Rattle.cfgx_grammar.specs.Filling.{three_valued};
-ghost use Rattle.cfgx_grammar.specs.Fold.{tree_fold};
-ghost use Rattle.cfgx_grammar.specs.Grammar.{HasTree};
-ghost use Rattle.cfgx_grammar.specs.Question.{Question};
-ghost use Rattle.cfgx_grammar.specs.Tree.{Tree, asked};
 ghost use Rattle.cfgx_parser.specs.nodes.Shape.{Shape, shape};
 ghost use Rattle.cfg_expr.specs.Deciding.{HoldsFillings, IsDecision};
 ghost use Rattle.cfg_expr.specs.nodes.Parity.{arity, filled_at, pass};
@@ -29,7 +24,7 @@ use cfgx_parser::parsed::ParsedRef;
 use smallvec::SmallVec;
 use std::alloc::AllocError;
 
-/// The number of members of a function.
+/// Returns the number of members of a function.
 fn arity(func: &Func) -> usize
     ensures { result ≡ arity func.now }
 {
