@@ -1,5 +1,5 @@
 use Rattle.std.proofs.Common.{◌≡◌, ◌++◌, replicate, reverse}
-use Rattle.cfg_expr.proofs.expr.filling.put_ahead.Given as goal
+use Rattle.cfg_expr.proofs.expr.filling.push_repeated.Given as goal
 
 abbrev pub invariant-loop-member : goal.invariant-loop-member
 invariant-loop-member g l =
