@@ -10,7 +10,7 @@ mod rust_crate;
 mod tables;
 mod values;
 
-use cfgx_testing::rows::{Finding, found};
+use cfgx_testing::rows::{Finding, fail};
 use std::alloc::{AllocError, Global};
 use std::{env, fs, io};
 
@@ -24,7 +24,7 @@ fn finding(alloc: Global, check: &str, row: &[String]) -> Finding {
     }
     match values::finding(alloc, check, row) {
         Some(finding) => finding,
-        None => found(alloc, "no check of this name and this number of fields"),
+        None => fail(alloc, "no check of this name and this number of fields"),
     }
 }
 

@@ -6,7 +6,7 @@ mod pick;
 mod reading;
 mod target;
 
-use cfgx_testing::rows::{Finding, compare_pair, found, require};
+use cfgx_testing::rows::{Finding, compare_pair, fail, require};
 use cfgx_testing::streams::{ALL, run_text};
 use cfgx_testing::triples::SIM;
 use cfgx_testing::words::words_of;
@@ -30,7 +30,7 @@ fn finding_of_long_run(alloc: Global, row: &[String]) -> Option<Finding> {
     let (ended, words) = run_of(row)?;
     Some(match words_of(alloc, words) {
         Ok(words) => compare_run(alloc, words.as_slice(), &[], ended),
-        Err(_) => found(alloc, "out of memory"),
+        Err(_) => fail(alloc, "out of memory"),
     })
 }
 
@@ -52,7 +52,7 @@ fn finding_of_run(alloc: Global, row: &[String]) -> Option<Finding> {
     let (ended, words) = run_of(row)?;
     Some(match words_of(alloc, words) {
         Ok(words) => compare_unread(alloc, words.as_slice(), ended),
-        Err(_) => found(alloc, "out of memory"),
+        Err(_) => fail(alloc, "out of memory"),
     })
 }
 

@@ -9,7 +9,7 @@ mod stripping;
 mod tokens;
 
 use cfgx_testing::faults::fault_of;
-use cfgx_testing::rows::{Finding, compare, compare_pair, found, require};
+use cfgx_testing::rows::{Finding, compare, compare_pair, fail, require};
 use cfgx_testing::streams::{ALL, run_text};
 use std::alloc::Global;
 
@@ -21,7 +21,7 @@ pub(crate) fn compare_predicates(alloc: Global, text: &str, predicates: &str) ->
             let told = run_text(alloc, &["parse", text], ALL, &[]);
             compare_pair(alloc, told, ("0", written.as_str()))
         }
-        Err(_) => found(alloc, "out of memory"),
+        Err(_) => fail(alloc, "out of memory"),
     }
 }
 

@@ -1,7 +1,7 @@
 //! The answers of the Rust crate cfg-expr 0.20.10. The head of their file says which texts are left
 //! out.
 use crate::reading::read_otherwise;
-use cfgx_testing::rows::{Finding, compare_pair, found, rows_of, unescaped, wrong_rows};
+use cfgx_testing::rows::{Finding, compare_pair, fail, rows_of, unescaped, wrong_rows};
 use cfgx_testing::streams::{ALL, run_text};
 use std::alloc::{AllocError, Global};
 
@@ -25,7 +25,7 @@ fn finding(alloc: Global, row: &str) -> Finding {
             let told = run_text(alloc, &["parse", text.as_str()], ALL, &[]);
             compare_pair(alloc, told, (status, output.as_str()))
         }
-        None => found(alloc, "no text, status and output"),
+        None => fail(alloc, "no text, status and output"),
     }
 }
 

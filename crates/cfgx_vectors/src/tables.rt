@@ -2,7 +2,7 @@
 //! columns. The last column may be `word ..`: any number of fields.
 use crate::finding;
 use crate::reading::read_otherwise;
-use cfgx_testing::rows::{Finding, fields_of, found, rows_of, wrong_rows};
+use cfgx_testing::rows::{Finding, fields_of, fail, rows_of, wrong_rows};
 use std::alloc::{AllocError, Global};
 
 // The parts of a table.
@@ -39,7 +39,7 @@ fn finding_of_fields(alloc: Global, table: &Table<'_>, fields: &[String]) -> Fin
     if has_columns(fields.len(), table.columns) {
         finding(alloc, table.check, fields)
     } else {
-        found(alloc, "another number of fields than columns")
+        fail(alloc, "another number of fields than columns")
     }
 }
 
@@ -47,7 +47,7 @@ fn finding_of_fields(alloc: Global, table: &Table<'_>, fields: &[String]) -> Fin
 fn finding_of_row(alloc: Global, table: &Table<'_>, row: &str) -> Finding {
     match fields_of(alloc, row) {
         Some(fields) => finding_of_fields(alloc, table, fields.as_slice()),
-        None => found(alloc, "a field without a meaning"),
+        None => fail(alloc, "a field without a meaning"),
     }
 }
 

@@ -1,7 +1,7 @@
 //! The first failed call of a stream is the last call of both streams.
 use cfgx_engine::engine::run;
-use cfgx_testing::rows::{Finding, compare_pair, found};
-use cfgx_testing::streams::{ALL, Pieces, Recorder, is_left_so};
+use cfgx_testing::rows::{Finding, compare_pair, fail};
+use cfgx_testing::streams::{ALL, Pieces, Recorder, sink_matches};
 use cfgx_testing::triples::SIM;
 use cfgx_testing::words::words_of;
 use std::alloc::{AllocError, Global};
@@ -64,13 +64,13 @@ fn compare_left(
 ) -> Finding {
     let mut sink = Recorder::new(alloc);
     if !is_set(&mut sink, settings) {
-        return found(alloc, "no such sink");
+        return fail(alloc, "no such sink");
     }
     let (status, written, calls) = ended;
     let told = left_text(alloc, words, input, sink);
     match format!(in alloc; "{written} | {calls}") {
         Ok(wanted) => compare_pair(alloc, told, (status, wanted.as_str())),
-        Err(_) => found(alloc, "out of memory"),
+        Err(_) => fail(alloc, "out of memory"),
     }
 }
 
@@ -90,7 +90,7 @@ pub(super) fn finding(alloc: Global, row: &[String]) -> Option<Finding> {
                 words.as_slice(),
             )
         }
-        Err(_) => found(alloc, "out of memory"),
+        Err(_) => fail(alloc, "out of memory"),
     })
 }
 
@@ -102,7 +102,7 @@ fn ends_at_write(alloc: Global, words: &[&str], input: &str, output: &[u8], fail
     sink.each = 1;
     sink.failing_write = failing;
     let status = run(alloc, words, &mut source, &mut sink);
-    is_left_so(&sink, output, (failing, 0), 1) && status == 3 && source.is_read_whole()
+    sink_matches(&sink, output, (failing, 0), 1) && status == 3 && source.is_read_whole()
 }
 
 /// Whether each write of this output that fails ends the run with status 3: what went out, a byte a
@@ -131,7 +131,7 @@ fn ends_at_read(alloc: Global, input: &[u8], failing: u64, left: &[u8]) -> bool 
     sink.is_flush_failing = true;
     let status = run(alloc, &["pick", SIM], &mut source, &mut sink);
     let calls = (source.reads, source.failures);
-    is_left_so(&sink, b"", (0, 0), 0) && status == 3 && calls == (failing, 1) && source.left == left
+    sink_matches(&sink, b"", (0, 0), 0) && status == 3 && calls == (failing, 1) && source.left == left
 }
 
 // Whether each read of the input that fails ends the run. Each has three bytes, and the last one

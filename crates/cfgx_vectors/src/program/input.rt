@@ -1,6 +1,6 @@
 //! An input is read whole, up to its limit.
 use cfgx_engine::engine::{Input, Stop, read_input};
-use cfgx_testing::rows::{Finding, compare, found};
+use cfgx_testing::rows::{Finding, compare, fail};
 use cfgx_testing::streams::{Counting, Pieces};
 use std::alloc::{AllocError, Global};
 use std::str;
@@ -31,7 +31,7 @@ fn left_text(alloc: Global, failing_read: u64) -> Result<String, AllocError> {
 pub(super) fn finding_of_failed_read(alloc: Global, failing_read: &str, left: &str) -> Finding {
     match failing_read.parse() {
         Ok(failing_read) => compare(alloc, left_text(alloc, failing_read), left),
-        Err(_) => found(alloc, "no number of a read"),
+        Err(_) => fail(alloc, "no number of a read"),
     }
 }
 
@@ -58,7 +58,7 @@ fn reads_text(alloc: Global, bytes: &[u8], each: usize) -> Result<String, AllocE
 pub(super) fn finding_of_whole(alloc: Global, input: &str, each: &str, reads: &str) -> Finding {
     match each.parse() {
         Ok(each) => compare(alloc, reads_text(alloc, input.as_bytes(), each), reads),
-        Err(_) => found(alloc, "no number of bytes"),
+        Err(_) => fail(alloc, "no number of bytes"),
     }
 }
 
@@ -85,6 +85,6 @@ fn length_text(alloc: Global, count: usize, each: usize) -> Result<String, Alloc
 pub(super) fn finding_of_length(alloc: Global, count: &str, each: &str) -> Finding {
     match (count.parse(), each.parse()) {
         (Ok(length), Ok(each)) => compare(alloc, length_text(alloc, length, each), count),
-        _ => found(alloc, "no number of bytes"),
+        _ => fail(alloc, "no number of bytes"),
     }
 }

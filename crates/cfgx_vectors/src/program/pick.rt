@@ -1,6 +1,6 @@
 //! An input that is not UTF-8.
 use super::compare_run;
-use cfgx_testing::rows::{Finding, found};
+use cfgx_testing::rows::{Finding, fail};
 use cfgx_testing::triples::{IOS, SIM};
 use std::alloc::Global;
 
@@ -24,6 +24,6 @@ fn compare_refused(alloc: Global, input: &[u8]) -> Finding {
 pub(super) fn finding(alloc: Global, numbers: &str) -> Finding {
     match bytes_of(alloc, numbers) {
         Some(bytes) => compare_refused(alloc, bytes.as_slice()),
-        None => found(alloc, "a number that is no byte"),
+        None => fail(alloc, "a number that is no byte"),
     }
 }

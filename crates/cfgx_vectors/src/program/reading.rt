@@ -1,7 +1,7 @@
 //! Only `pick` reads, to the end of its input and no further. No write is of an empty slice.
 use cfgx_engine::engine::run;
-use cfgx_testing::rows::{Finding, compare, found};
-use cfgx_testing::streams::{ALL, Pieces, Recorder, SECTIONS, is_written};
+use cfgx_testing::rows::{Finding, compare, fail};
+use cfgx_testing::streams::{ALL, Pieces, Recorder, SECTIONS, has_written};
 use cfgx_testing::triples::SIM;
 use std::alloc::{AllocError, Global};
 
@@ -14,7 +14,7 @@ fn is_unread(alloc: Global, words: &[&str], input: &[u8], ended: (&str, &str)) -
     sink.each = 1;
     let found = run(alloc, words, &mut source, &mut sink);
     let calls = (source.reads, sink.writes);
-    let is_ended = status.parse() == Ok(found) && is_written(&sink, written.as_bytes());
+    let is_ended = status.parse() == Ok(found) && has_written(&sink, written.as_bytes());
     is_ended && calls == (0, written.len() as u64)
 }
 
@@ -44,6 +44,6 @@ fn reads_text(alloc: Global, each: usize, input: &str) -> Result<String, AllocEr
 pub(super) fn finding_of_reads(alloc: Global, each: &str, input: &str, reads: &str) -> Finding {
     match each.parse() {
         Ok(each) => compare(alloc, reads_text(alloc, each, input), reads),
-        Err(_) => found(alloc, "no number of bytes"),
+        Err(_) => fail(alloc, "no number of bytes"),
     }
 }

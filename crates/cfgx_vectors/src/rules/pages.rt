@@ -1,7 +1,7 @@
 //! Tables of `docs/RULES.md`, word for word, which `.ci/examples` compares with the page.
 use super::predicates::predicate_text;
 use super::{compare_fault, compare_predicates};
-use cfgx_testing::rows::{Finding, compare, compare_pair, found};
+use cfgx_testing::rows::{Finding, compare, compare_pair, fail};
 use cfgx_testing::streams::{ALL, run_text};
 use cfgx_testing::triples::SIM;
 use std::alloc::{AllocError, Global};
@@ -22,7 +22,7 @@ pub(super) fn finding_of_fault(alloc: Global, text: &str, fault: &str) -> Findin
     let text = quoted(text);
     match fault_in_cell(alloc, fault) {
         Ok(fault) => compare_fault(alloc, text, fault.as_str(), text),
-        Err(_) => found(alloc, "out of memory"),
+        Err(_) => fail(alloc, "out of memory"),
     }
 }
 
@@ -53,7 +53,7 @@ fn with_ff(alloc: Global, input: &str) -> Result<Vec<u8>, AllocError> {
 fn compare_picked_with_ff(alloc: Global, input: &str, printed: &str) -> Finding {
     match with_ff(alloc, input) {
         Ok(bytes) => compare_picked(alloc, bytes.as_slice(), printed),
-        Err(_) => found(alloc, "out of memory"),
+        Err(_) => fail(alloc, "out of memory"),
     }
 }
 

@@ -1,8 +1,8 @@
 //! What a fault prints, written out by hand from the rules of the format.
 use cfg_expr::error::{Failure, ParseError, Reason};
-use cfgx_testing::faults::{fault_text, is_fault};
-use cfgx_testing::holding::gives;
-use cfgx_testing::rows::{Finding, compare, found};
+use cfgx_testing::faults::{fault_text, fault_matches};
+use cfgx_testing::checking::value_equals;
+use cfgx_testing::rows::{Finding, compare, fail};
 use std::alloc::{AllocError, Global};
 use std::ops::Range;
 
@@ -95,7 +95,7 @@ fn compare_printed(alloc: Global, error: &ParseError, fault: &str, printed: &str
 pub(super) fn finding(alloc: Global, text: &str, fault: &str, printed: &str) -> Finding {
     match error_as_told(alloc, text, fault) {
         Some(error) => compare_printed(alloc, &error, fault, printed),
-        None => found(alloc, "no such fault"),
+        None => fail(alloc, "no such fault"),
     }
 }
 
@@ -116,7 +116,7 @@ fn unopened(alloc: Global, text: &str, span: Range<usize>) -> Result<ParseError,
 // Whether faults at these places of one text are equal.
 fn are_equal(alloc: Global, one: Range<usize>, other: Range<usize>) -> Result<bool, AllocError> {
     let one = unopened(alloc, "a)", one)?;
-    gives(unopened(alloc, "a)", other), &one)
+    value_equals(unopened(alloc, "a)", other), &one)
 }
 
 /// Whether equality of faults is that of their parts.
@@ -133,7 +133,7 @@ fn parse_failure(alloc: Global) -> Result<(), Failure> {
 // Whether the failure is that fault.
 fn is_unopened(alloc: Global, failure: &Result<(), Failure>) -> bool {
     match failure {
-        Err(Failure::Parse(error)) => is_fault(alloc, error, ")", "UnopenedParens at 0..1"),
+        Err(Failure::Parse(error)) => fault_matches(alloc, error, ")", "UnopenedParens at 0..1"),
         _ => false,
     }
 }

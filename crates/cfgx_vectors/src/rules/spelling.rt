@@ -3,8 +3,8 @@ use cfg_expr::error::Failure;
 use cfg_expr::expr::{Predicates, spell};
 use cfg_expr::{Expression, Predicate};
 use cfgx_engine::engine::Sink;
-use cfgx_testing::holding::holds;
-use cfgx_testing::rows::{Finding, compare, found, require};
+use cfgx_testing::checking::is_ok_true;
+use cfgx_testing::rows::{Finding, compare, fail, require};
 use cfgx_testing::streams::{ALL, Recorder};
 use cfgx_testing::texts::repeated;
 use std::alloc::{AllocError, Global};
@@ -103,7 +103,7 @@ fn compare_spelling(alloc: Global, text: &str, spelled: &str) -> Finding {
 pub(super) fn finding_of_long(alloc: Global, front: &str, back: &str) -> Finding {
     match repeated(alloc, front, "x", 5_000, back) {
         Ok(text) => compare_spelling(alloc, text.as_str(), text.as_str()),
-        Err(_) => found(alloc, "out of memory"),
+        Err(_) => fail(alloc, "out of memory"),
     }
 }
 
@@ -178,13 +178,13 @@ fn asks(alloc: Global, text: &str, predicates: Predicates<'_>) -> Result<bool, F
 // Whether both texts ask the same predicates.
 fn ask_the_same(alloc: Global, text: &str, other: &str) -> Result<bool, Failure> {
     let expression = Expression::parse(alloc, text)?;
-    Ok(holds(asks(alloc, other, expression.predicates())))
+    Ok(is_ok_true(asks(alloc, other, expression.predicates())))
 }
 
 // Whether the spelling asks the predicate that the text asks, if it is one.
 fn is_read_again(alloc: Global, text: &str, spelled: &str) -> bool {
     let has_several = text.starts_with("all(") || text.starts_with("any(");
-    has_several || holds(ask_the_same(alloc, text, spelled))
+    has_several || is_ok_true(ask_the_same(alloc, text, spelled))
 }
 
 /// Compares the spelling of the text with this one. It also has to stop where a writer takes

@@ -1,7 +1,7 @@
 //! Stripping: the outer `cfg( )` is taken off once, and spans count the bytes of what is left.
 use cfg_expr::Expression;
 use cfg_expr::error::Failure;
-use cfgx_testing::holding::holds;
+use cfgx_testing::checking::is_ok_true;
 use std::alloc::{AllocError, Global};
 use std::fmt::Debug;
 
@@ -52,5 +52,5 @@ fn is_shown(alloc: Global, text: &str, wanted: &str) -> Result<bool, Failure> {
 
 /// Whether `Debug` shows the stripped text.
 pub(super) fn shows_stripped(alloc: Global) -> bool {
-    holds(is_shown(alloc, "cfg(all(a))", "Expression(\"all(a)\")"))
+    is_ok_true(is_shown(alloc, "cfg(all(a))", "Expression(\"all(a)\")"))
 }

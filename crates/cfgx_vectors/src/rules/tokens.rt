@@ -2,7 +2,7 @@
 use cfg_expr::error::{Failure, ParseError};
 use cfg_expr::expr::lexer::{Lexer, LexerToken};
 use cfgx_testing::faults::fault_text;
-use cfgx_testing::rows::{Finding, compare, found};
+use cfgx_testing::rows::{Finding, compare, fail};
 use std::alloc::{AllocError, Global};
 
 // The item, if it is equal to its copy.
@@ -70,14 +70,14 @@ fn compare_all(alloc: Global, lexer: &mut Lexer<'_>, before: &str, items: &[Stri
     if has_ended(lexer) {
         Ok(())
     } else {
-        found(alloc, "one more item")
+        fail(alloc, "one more item")
     }
 }
 
 /// Compares the items of the text of a row with those of the row.
 pub(super) fn finding(alloc: Global, row: &[String]) -> Finding {
     let [text, before, items @ ..] = row else {
-        return found(alloc, "no text and no number");
+        return fail(alloc, "no text and no number");
     };
     let mut lexer = Lexer::new(alloc, text.as_str());
     compare_all(alloc, &mut lexer, before.as_str(), items)

@@ -2,7 +2,7 @@
 use cfg_expr::error::Failure;
 use cfg_expr::{Decision, Expression};
 use cfgx_testing::answers::Answer;
-use cfgx_testing::fillings::{answers_of, is_told};
+use cfgx_testing::fillings::{answers_of, each_call_decides};
 use cfgx_testing::rows::{Finding, compare, require};
 use std::alloc::{AllocError, Global};
 
@@ -54,7 +54,7 @@ fn decided_of(alloc: Global, text: &str, digits: &str) -> Result<String, Failure
 /// Compares what `decide` answers with what a row says, and requires the same of each other call.
 pub(super) fn finding(alloc: Global, text: &str, digits: &str, told: &str) -> Finding {
     compare(alloc, decided_of(alloc, text, digits), told)?;
-    let agrees = is_told(alloc, text, digits, told) == Some(true);
+    let agrees = each_call_decides(alloc, text, digits, told) == Some(true);
     require(
         alloc,
         agrees,

@@ -5,9 +5,9 @@ use cfg_expr::expr::{Predicates, TargetMatcher};
 use cfg_expr::targets::{TargetInfo, TargetTable};
 use cfg_expr::{Expression, Predicate};
 use cfgx_engine::resolve::{Section, Verdict, pick};
-use cfgx_testing::answers::{Answer, are_lanes, in_each, value_in_lanes};
-use cfgx_testing::holding::holds;
-use cfgx_testing::rows::{Finding, compare, found, require};
+use cfgx_testing::answers::{Answer, lanes_match_digits, in_each_lane, eval_in_lanes};
+use cfgx_testing::checking::is_ok_true;
+use cfgx_testing::rows::{Finding, compare, fail, require};
 use cfgx_testing::targets::push_rows;
 use std::alloc::{AllocError, Global};
 
@@ -34,7 +34,7 @@ fn answer_on<T: TargetMatcher>(predicate: &Predicate<'_>, target: &T, otherwise:
 fn lanes_on(predicate: &Predicate<'_>, (rows, otherwise): Asked<'_>) -> Kleene64 {
     match predicate {
         Predicate::Target(asked) if rows.len() <= 64 => asked.lanes(rows),
-        _ => in_each(otherwise),
+        _ => in_each_lane(otherwise),
     }
 }
 
@@ -91,8 +91,8 @@ fn has_lanes(
     let mut answer = |predicate: &Predicate<'_>| lanes_on(predicate, asked);
     let value = expression.eval(alloc, &mut answer)?;
     let answers = answers_on(alloc, expression.predicates(), asked)?;
-    let in_lanes = value_in_lanes(alloc, expression, answers.as_slice());
-    Ok(in_lanes == Some(value) && are_lanes(value, digits))
+    let in_lanes = eval_in_lanes(alloc, expression, answers.as_slice());
+    Ok(in_lanes == Some(value) && lanes_match_digits(value, digits))
 }
 
 // Compares the values of the condition on each target, and in the lanes past them, with the digits.
@@ -105,7 +105,7 @@ fn compare_values(
     let each = digits.get(..asked.0.len()).unwrap_or("");
     compare(alloc, values_text(alloc, expression, asked), each)?;
     let is_right = digits.len() == asked.0.len().saturating_add(1)
-        && holds(has_lanes(alloc, expression, asked, digits.as_bytes()));
+        && is_ok_true(has_lanes(alloc, expression, asked, digits.as_bytes()));
     require(alloc, is_right, "other values in lanes")
 }
 
@@ -113,7 +113,7 @@ fn compare_values(
 fn finding_on(alloc: Global, asked: Asked<'_>, text: &str, digits: &str) -> Finding {
     match Expression::parse(alloc, text) {
         Ok(expression) => compare_values(alloc, &expression, asked, digits),
-        Err(_) => found(alloc, "a fault"),
+        Err(_) => fail(alloc, "a fault"),
     }
 }
 
@@ -173,7 +173,7 @@ fn compare_on(alloc: Global, rows: &[TargetInfo<'_>], text: &str, digits: &str) 
 pub(super) fn finding_on_built_in(alloc: Global, text: &str, digits: &str) -> Finding {
     match TargetTable::builtins(alloc) {
         Ok(table) => compare_on(alloc, table.rows(), text, digits),
-        Err(_) => found(alloc, "out of memory"),
+        Err(_) => fail(alloc, "out of memory"),
     }
 }
 
@@ -188,7 +188,7 @@ fn rows_by_hand(alloc: Global) -> Result<Vec<TargetInfo<'static>>, AllocError> {
 pub(super) fn finding_by_hand(alloc: Global, text: &str, digits: &str) -> Finding {
     match rows_by_hand(alloc) {
         Ok(rows) => finding_on(alloc, (rows.as_slice(), Some(true)), text, digits),
-        Err(_) => found(alloc, "out of memory"),
+        Err(_) => fail(alloc, "out of memory"),
     }
 }
 

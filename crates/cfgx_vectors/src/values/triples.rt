@@ -1,13 +1,13 @@
 //! Tables of targets with increasing triples, and the targets that are found in them.
 use cfg_expr::targets::{TableError, TargetInfo, TargetTable, get_builtin_target_by_triple};
-use cfgx_testing::holding::push;
+use cfgx_testing::checking::push_ok;
 use cfgx_testing::targets::bare;
 use std::alloc::{AllocError, Global};
 
 // Adds a row for each of these triples.
 fn push_rows<'a>(rows: &mut Vec<TargetInfo<'a>>, triples: &'a str) -> Result<(), AllocError> {
     for triple in triples.split_whitespace() {
-        push(rows, Ok(bare(triple)))?;
+        push_ok(rows, Ok(bare(triple)))?;
     }
     Ok(())
 }
