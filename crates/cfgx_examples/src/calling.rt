@@ -140,13 +140,13 @@ fn prints<T: std::fmt::Debug>(alloc: Global, value: &T, text: &str) -> bool {
     }
 }
 
-// Whether `Debug` of the value of `result` prints `text`.
+// Whether `Debug` of the value of `outcome` prints `text`.
 fn value_prints<T: std::fmt::Debug + Drop, E: Drop>(
     alloc: Global,
-    result: Result<T, E>,
+    outcome: Result<T, E>,
     text: &str,
 ) -> bool {
-    match &result {
+    match &outcome {
         Ok(value) => prints(alloc, value, text),
         Err(_) => false,
     }

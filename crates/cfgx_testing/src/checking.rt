@@ -3,34 +3,34 @@ use std::alloc::{AllocError, Allocator, Global};
 use std::fmt::Display;
 use std::hash::{DefaultHasher, Hash, Hasher};
 
-/// Whether `result` is `Ok(true)`.
-pub fn is_ok_true<E: Drop>(result: Result<bool, E>) -> bool {
-    match result {
+/// Whether `outcome` is `Ok(true)`.
+pub fn is_ok_true<E: Drop>(outcome: Result<bool, E>) -> bool {
+    match outcome {
         Ok(value) => value,
         Err(_error) => false,
     }
 }
 
-/// Whether the value of `result` equals `wanted`.
+/// Whether the value of `outcome` equals `wanted`.
 pub fn value_equals<T: PartialEq + Drop, E: Drop>(
-    result: Result<T, E>,
+    outcome: Result<T, E>,
     wanted: &T,
 ) -> Result<bool, E> {
-    Ok(result? == *wanted)
+    Ok(outcome? == *wanted)
 }
 
-/// Pushes the value of `result`.
+/// Pushes the value of `outcome`.
 pub fn push_ok<T: Drop, A: Allocator>(
     list: &mut Vec<T, A>,
-    result: Result<T, AllocError>,
+    outcome: Result<T, AllocError>,
 ) -> Result<(), AllocError> {
-    list.push(result?)?;
+    list.push(outcome?)?;
     Ok(())
 }
 
-/// Replaces `*place` by the value of `result`.
-pub fn assign_ok<T: Drop>(place: &mut T, result: Result<T, AllocError>) -> Result<(), AllocError> {
-    *place = result?;
+/// Replaces `*place` by the value of `outcome`.
+pub fn assign_ok<T: Drop>(place: &mut T, outcome: Result<T, AllocError>) -> Result<(), AllocError> {
+    *place = outcome?;
     Ok(())
 }
 

@@ -1,6 +1,6 @@
 //! Decisions and fillings, as rows write them.
 use crate::answers::{Answer, answer_of, each_call_finds, lanes_of};
-use crate::checking::is_ok_true;
+use crate::checking::{is_ok_true, value_equals};
 use cfg_expr::error::Failure;
 use cfg_expr::expr::{Condition, ConditionReader};
 use cfg_expr::{Decision, Expression};
@@ -67,7 +67,27 @@ fn expression_matches(
     )
 }
 
-// Whether `decide` of a condition returns what `row` says, also in the memory of an earlier
+// Whether `polar_fillings` and `eval_lanes` of a condition return what those of the expression do.
+fn condition_agrees(
+    alloc: Global,
+    condition: &Condition<'_>,
+    expression: &Expression,
+    answers: &[Answer],
+) -> Result<bool, AllocError> {
+    let count = answers.len();
+    if condition.predicates().left() != count || expression.predicates().left() != count {
+        return Ok(false);
+    }
+    let lanes = lanes_of(alloc, answers)?;
+    let value = condition.eval_lanes(alloc, lanes.as_slice())?;
+    let fillings = condition.polar_fillings(alloc, answers)?;
+    Ok(
+        value == expression.eval_lanes(alloc, lanes.as_slice())?
+            && value_equals(expression.polar_fillings(alloc, answers), &fillings)?,
+    )
+}
+
+// Whether `decide` of a condition finds the decision of `row`, also in the memory of an earlier
 // decision.
 fn condition_decides(
     alloc: Global,
@@ -78,28 +98,35 @@ fn condition_decides(
     if condition.predicates().left() != answers.len() {
         return Ok(false);
     }
-    let decision = condition.decide(alloc, answers, Decision::Known(false))?;
-    let is_right = decision_matches(&decision, row);
-    let again = condition.decide(alloc, answers, decision)?;
-    Ok(is_right && decision_matches(&again, row))
+    let mut decision = Decision::default();
+    condition.decide(alloc, answers, &mut decision)?;
+    let is_first_right = decision_matches(&decision, row);
+    condition.decide(alloc, answers, &mut decision)?;
+    Ok(is_first_right && decision_matches(&decision, row))
 }
 
-// Reads the text, and checks what `decide` returns for it.
+// Reads the text, and checks the calls of the condition.
 fn reader_decides<'a>(
     alloc: Global,
     reader: &mut ConditionReader<'a>,
-    text: &'a str,
-    answers: &[Answer],
-    row: &str,
+    expression: &Expression,
+    (text, answers, row): (&'a str, &[Answer], &str),
 ) -> Result<bool, Failure> {
     let condition = reader.read(text)?;
-    Ok(condition_decides(alloc, &condition, answers, row)?)
+    Ok(
+        condition_decides(alloc, &condition, answers, row)?
+            && condition_agrees(alloc, &condition, expression, answers)?,
+    )
 }
 
-// Whether a new reader reads the text as a condition whose calls return what `row` says.
-fn new_reader_decides(alloc: Global, text: &str, answers: &[Answer], row: &str) -> bool {
+// Whether a new reader reads the text of `row` as a condition whose calls return what `row` says.
+fn new_reader_decides(
+    alloc: Global,
+    expression: &Expression,
+    row: (&str, &[Answer], &str),
+) -> bool {
     let mut reader = ConditionReader::new(alloc);
-    is_ok_true(reader_decides(alloc, &mut reader, text, answers, row))
+    is_ok_true(reader_decides(alloc, &mut reader, expression, row))
 }
 
 /// Whether each call of an expression and of a condition with this text returns, over the answers
@@ -111,6 +138,6 @@ pub fn each_call_decides(alloc: Global, text: &str, digits: &str, row: &str) -> 
     Some(
         each_call_finds(alloc, &expression, answers, row.parse().ok())
             && is_ok_true(expression_matches(alloc, &expression, answers, row))
-            && new_reader_decides(alloc, text, answers, row),
+            && new_reader_decides(alloc, &expression, (text, answers, row)),
     )
 }

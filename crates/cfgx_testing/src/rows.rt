@@ -226,15 +226,12 @@ where
 pub type Checked<'a> = (&'a str, &'a str, usize);
 
 // Describes what is wrong with a table: its wrong rows, or its number of rows.
-fn wrong_in_table<F>(
-    alloc: Global,
-    (name, table, count): Checked<'_>,
-    check: &F,
-) -> Result<String, AllocError>
+fn wrong_in_table<F>(alloc: Global, checked: Checked<'_>, check: &F) -> Result<String, AllocError>
 where
     F: Fn(&str, &[String]) -> Option<bool>,
     requires { F.IsAlwaysCallable check.now }
 {
+    let (name, table, count) = checked;
     let rows = rows_of(alloc, table)?;
     let mut wrong = wrong_rows(
         alloc,

@@ -51,8 +51,8 @@ const MANIFEST: &[(&str, &str)] = &[
     ),
 ];
 
-fn is_fault<T: Drop>(result: Result<T, Failure>) -> bool {
-    matches!(&result, Err(Failure::Parse(_)))
+fn is_fault<T: Drop>(outcome: Result<T, Failure>) -> bool {
+    matches!(&outcome, Err(Failure::Parse(_)))
 }
 
 #[test]

@@ -83,12 +83,16 @@ fn sections_are_evaluated_with_the_lines_of_a_compiler(
     Ok(())
 }
 
-// Whether the built-in rows and `row` make a table in which both `row` and a built-in row are found.
-fn makes_a_table(alloc: Global, row: TargetInfo<'static>) -> Result<bool, AllocError> {
+// Whether the built-in rows and `row` make a table in which `triple` and a built-in triple are found.
+fn makes_a_table(
+    alloc: Global,
+    row: TargetInfo<'static>,
+    triple: &str,
+) -> Result<bool, AllocError> {
     let Some(table) = builtins_and(alloc, row)? else {
         return Ok(false);
     };
-    Ok(has_triple(&table, TRIPLE) && has_triple(&table, IOS))
+    Ok(has_triple(&table, triple) && has_triple(&table, IOS))
 }
 
 fn has_triple(table: &TargetTable<'_>, triple: &str) -> bool {
@@ -102,7 +106,7 @@ fn is_row_added(
     lines: &'static str,
 ) -> Result<bool, AllocError> {
     match row_of(alloc, triple, lines)? {
-        Some(row) => makes_a_table(alloc, row),
+        Some(row) => makes_a_table(alloc, row, triple),
         None => Ok(false),
     }
 }

@@ -1,6 +1,7 @@
 //! Calls that stand in no example of the pages, written as in Rust, without types that Rust would
 //! infer.
 use super::streams::Kept;
+use cfg_expr::Decision;
 use cfg_expr::error::{Failure, Reason};
 use cfg_expr::expr::Logic;
 use cfg_expr::expr::laws::{homomorphisms_keep_values, lanes_are_homomorphisms};
@@ -89,6 +90,10 @@ fn system_is_copied(alloc: Global) -> Result<bool, AllocError> {
     Ok(is_linux(&os) && is_ok_true(value_equals(os.try_clone(alloc), &os)))
 }
 
+fn is_known_false(decision: &Decision) -> bool {
+    matches!(decision, Decision::Known(false))
+}
+
 #[test]
 fn values_are_read_and_made(rt: HostRuntime) -> Result<(), &'static str> {
     let alloc = rt.alloc();
@@ -109,6 +114,7 @@ fn values_are_read_and_made(rt: HostRuntime) -> Result<(), &'static str> {
         ("a copy", is_ok_true(system_is_copied(alloc))),
         ("a stripped text", text_is_stripped(alloc)),
         ("a fault", fault_is_made(alloc)),
+        ("a decision", is_known_false(&Decision::default())),
     ])
 }
 
@@ -118,7 +124,6 @@ fn call_laws() {
     lanes_are_homomorphisms();
     has_an_output();
     has_one_output();
-    are_disjoint(&[Kleene64::new(1, 2)]);
 }
 
 // `Option` has methods `and` and `or` of its own, so the trait is named here.
@@ -144,6 +149,7 @@ fn lanes_are_joined_one_by_one() -> Result<(), &'static str> {
         ("true lanes", three.is_true() == 0b001),
         ("false lanes", three.is_false() == 0b010),
         ("other lanes", three != Kleene64::new(1, 0)),
+        ("disjoint planes", are_disjoint(&[three])),
     ])
 }
 

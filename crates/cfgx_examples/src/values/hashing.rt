@@ -5,9 +5,9 @@ use cfgx_testing::targets::row_of;
 use std::alloc::{AllocError, Global};
 use std::hash::Hash;
 
-// The hash of the value of `result`.
-fn hash_of_ok<T: Hash + Drop>(result: Result<T, AllocError>) -> Result<u64, AllocError> {
-    Ok(hash_of(&result?))
+// The hash of the value of `outcome`.
+fn hash_of_ok<T: Hash + Drop>(outcome: Result<T, AllocError>) -> Result<u64, AllocError> {
+    Ok(hash_of(&outcome?))
 }
 
 // Each field, with a value that differs from that of a bare row.
