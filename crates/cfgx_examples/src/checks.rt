@@ -1,4 +1,4 @@
-//! Tables of rows that pass the checks of their names.
+//! Tables of rows, and the checks of these rows by name.
 //!
 //! All tables share one test and one closure.
 use crate::auditing::AUDITED;

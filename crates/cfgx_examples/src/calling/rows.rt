@@ -31,12 +31,10 @@ fn answers_of(
     Ok(answers)
 }
 
-// The predicate is dropped by name, since a drop at the end of the scope takes long to prove.
+// The answers of at most 64 rows.
 fn lanes(predicate: Predicate<'_>, rows: &[TargetInfo]) -> Kleene64 {
-    let lanes = match &predicate {
+    match predicate {
         Predicate::Target(target) if rows.len() <= 64 => target.lanes(rows),
         _ => Kleene64::new(0, 0),
-    };
-    drop(predicate);
-    lanes
+    }
 }

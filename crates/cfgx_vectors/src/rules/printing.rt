@@ -65,7 +65,7 @@ fn texts_of(alloc: Global, error: &ParseError) -> Result<String, AllocError> {
     format!(in alloc; "{reason} | {description}")
 }
 
-/// What the reason prints that rows write as `name`, and the description of a fault with it.
+/// What the reason `name` of a row prints, and the description of a fault with that reason.
 pub(super) fn reason_texts(alloc: Global, name: &str) -> Result<String, AllocError> {
     match error_of(alloc, "", 0..0, name) {
         Some(error) => texts_of(alloc, &error),

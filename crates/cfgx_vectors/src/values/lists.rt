@@ -22,7 +22,7 @@ pub(super) fn families_text(alloc: Global, names: &str) -> Result<String, AllocE
     format!(in alloc; "{list}")
 }
 
-// The width of `text`. The error also means that it is none.
+// The width of `text`. Returns the error also if `text` is no width.
 fn width_of(alloc: Global, text: &str) -> Result<HasAtomic, AllocError> {
     HasAtomic::read(alloc, text).ok().ok_or(AllocError)
 }
