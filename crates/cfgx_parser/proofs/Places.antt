@@ -1,6 +1,6 @@
 -- The nodes at the places of a tree are its predicates.
-use Rattle.std.proofs.Common.{◌≡◌, ℕ, zero, suc, ◌+◌, List, [], ◌∷◌, ◌++◌, length, map, Some, sym}
-use Rattle.std.{proofs.Common.{refl, ap, arith}, specs.List.{AllZip, slice_get}}
+use Rattle.std.proofs.Common.{◌≡◌, ℕ, suc, ◌+◌, List, [], ◌∷◌, length, map, Some, sym}
+use Rattle.std.{proofs.Common.{refl, arith}, specs.List.{AllZip, slice_get}}
 use Rattle.cfgx_grammar.specs.Tree.{Tree, Trees, asked}
 use Rattle.cfgx_grammar.proofs.Alike.{Alike, AlikeEach, asked-alike, length-asked}
 use Rattle.cfgx_grammar.proofs.ListLemmas.{slice_get-append, slice_get-append-add}
