@@ -77,7 +77,7 @@ impl<'a> Condition<'a> {
     ///
     /// # Errors
     ///
-    /// `AllocError`: `alloc` refused memory. `decision` is then of no use but to be replaced.
+    /// `AllocError`: `alloc` refused memory. Nothing is known of `decision` then.
     pub fn decide<A: SmallAllocator>(
         &self,
         alloc: A,

@@ -1,6 +1,9 @@
 -- The borrowed condition is seen as the expression is.
 use Rattle.cfg_expr.proofs.expr.Expression.decide.Goals as goal
 
+pub returns-in_err-decide-clause-exact : goal.returns-in_err-decide-clause-exact
+returns-in_err-decide-clause-exact g c = rw c.condition.ensures at c.decide.ensures.exact
+
 pub returns-clause-exact : goal.returns-clause-exact
 returns-clause-exact g c = rw c.condition.ensures at c.decide.ensures.exact
 
