@@ -1,5 +1,5 @@
 -- What a call of `cfgx_check` tells of a fault.
--- Source: c/cfgx.h.
+-- Source: include/cfgx.h.
 use Rattle.std.specs.Prelude.{◌==◌, ℕ, List, length, if◌then◌else◌}
 use Rattle.cfgx_syntax.specs.Stripping.{strip}
 use Rattle.cfgx_syntax.specs.Error.{Cause, Fault}

@@ -1,5 +1,5 @@
 -- What a call of `cfgx_run` gives.
--- Source: c/cfgx.h for the call; docs/RULES.md for the output that a request has.
+-- Source: include/cfgx.h for the call; docs/RULES.md for the output that a request has.
 use Rattle.std.specs.Prelude.{◌≡◌, ◌==◌, ℕ, List, ◌++◌, drop, length, nat_le, if◌then◌else◌}
 use Rattle.std.specs.List.{slice_split}
 use Rattle.std.specs.Str.{is_utf8}

@@ -1,5 +1,5 @@
 -- Answers and values as bytes.
--- Source: c/cfgx.h.
+-- Source: include/cfgx.h.
 use Rattle.std.specs.Prelude.{◌≡◌, ◌==◌, ℕ, Bool, true, false, List, [], ◌∷◌, Option, Some, None}
 use Rattle.std.specs.Prelude.{length, map, if◌then◌else◌}
 use Rattle.cfgx_grammar.specs.Answer.{HasOneTree}

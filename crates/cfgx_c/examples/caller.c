@@ -1,4 +1,4 @@
-/* The program cfgx once more, over the call `cfgx_run`. */
+/* The program cfgx, over the call `cfgx_run`. */
 #include "cfgx.h"
 
 #include <stdio.h>
@@ -12,7 +12,7 @@ struct bytes {
     size_t room;
 };
 
-/* Makes `room` bytes of room in all. There is always a byte, so that `at` is not null. */
+/* Grows the block to `room` bytes, and one more, so that `at` is never null. */
 static void make_room(struct bytes *bytes, size_t room)
 {
     uint8_t *at = realloc(bytes->at, room + 1);
@@ -23,7 +23,7 @@ static void make_room(struct bytes *bytes, size_t room)
     bytes->room = room;
 }
 
-/* Adds the words of the command line, with a zero byte between each two. */
+/* Appends `count` words, with a zero byte between each two. */
 static void add_words(struct bytes *words, char **word, int count)
 {
     for (int i = 0; i < count; i++) {
@@ -37,7 +37,7 @@ static void add_words(struct bytes *words, char **word, int count)
     }
 }
 
-/* Adds what is left of standard input. */
+/* Appends all of standard input. */
 static void add_input(struct bytes *input)
 {
     size_t count;

@@ -1,6 +1,6 @@
-/* The calls of cfgx.h against rows: what each answers, with room and without, and with each growth
- * refused in turn. It is linked with -Wl,--wrap=malloc,--wrap=realloc,--wrap=free. With the
- * argument `time` it says how long a call takes. */
+/* Compares what the calls of cfgx.h return with rows: with room for the output and without, and
+ * with each growth refused in turn. It is linked with -Wl,--wrap=malloc,--wrap=realloc,--wrap=free.
+ * With the argument `time` it prints how long a call takes. */
 #include "cfgx.h"
 
 #include <stdio.h>
@@ -9,10 +9,10 @@
 
 static int failures = 0;
 
-/* How many rows were tested. */
+/* The number of rows that were tested. */
 static size_t rows = 0;
 
-/* Says what does not hold. */
+/* Prints `what` and counts a failure, unless `holds`. */
 static void check(int holds, const char *call, const char *text, const char *what)
 {
     if (!holds) {
@@ -21,8 +21,8 @@ static void check(int holds, const char *call, const char *text, const char *wha
     }
 }
 
-/* The growths since the last call of `begin`, the one that is refused, and how many blocks are
- * taken. */
+/* The number of growths since the last call of `refuse_growth`, the one that is refused, and the
+ * number of blocks that are not freed. */
 static size_t growths = 0, refused = SIZE_MAX, blocks = 0;
 
 void *__real_malloc(size_t size);
@@ -49,8 +49,8 @@ void __wrap_free(void *block)
     __real_free(block);
 }
 
-/* The growths of a call are counted, and the one with this number is refused. */
-static void begin(size_t number)
+/* Counts growths from 0, and refuses the one with this number. */
+static void refuse_growth(size_t number)
 {
     growths = 0;
     refused = number;
@@ -63,7 +63,7 @@ static const uint8_t *bytes_of(const char *text)
     return (const uint8_t *)text;
 }
 
-/* What the program answers to words and an input. The words are one literal. */
+/* What the program prints for words and an input. The words are one literal. */
 struct run {
     const char *words;
     size_t words_length;
@@ -105,13 +105,13 @@ static const struct run runs[] = {
 
 static uint8_t output[1 << 18];
 
-/* Calls `cfgx_run` with this much room, and checks the status and what is told as needed. */
-static void run_over(const struct run *run, size_t room, size_t number, uint32_t status,
-                     size_t wanted)
+/* Calls `cfgx_run` with a buffer of `room` bytes, and checks the status and the length. */
+static void check_run(const struct run *run, size_t room, size_t number, uint32_t status,
+                      size_t wanted)
 {
     size_t needed = 12345;
     memset(output, '#', sizeof output);
-    begin(number);
+    refuse_growth(number);
     uint32_t found = cfgx_run(bytes_of(run->words), run->words_length, bytes_of(run->input),
                               strlen(run->input), output, room, &needed);
     check(found == status, "cfgx_run", run->words, "the status is another one");
@@ -119,7 +119,7 @@ static void run_over(const struct run *run, size_t room, size_t number, uint32_t
     check(blocks == 0, "cfgx_run", run->words, "a block is left behind");
 }
 
-/* Whether the first bytes of the buffer are these, and all others are as they were. */
+/* Returns whether the buffer begins with `wanted`, and all other bytes are as they were. */
 static int is_output(const char *wanted, size_t length)
 {
     size_t same = 0;
@@ -129,21 +129,21 @@ static int is_output(const char *wanted, size_t length)
     return same == sizeof output;
 }
 
-/* Runs with exact room, with much, with a byte too little and with none, and returns how many
- * growths a run has. */
-static size_t test_rooms(const struct run *run)
+/* Runs with exact room, with much, with a byte too little and with none, and returns the number of
+ * growths of a run. */
+static size_t test_buffers(const struct run *run)
 {
     rows++;
     size_t length = strlen(run->output);
-    run_over(run, length, NONE, run->status, length);
+    check_run(run, length, NONE, run->status, length);
     check(is_output(run->output, length), "cfgx_run", run->words, "another output, exact room");
     size_t count = growths;
-    run_over(run, sizeof output, NONE, run->status, length);
+    check_run(run, sizeof output, NONE, run->status, length);
     check(is_output(run->output, length), "cfgx_run", run->words, "another output, much room");
     if (length > 0) {
-        run_over(run, length - 1, NONE, run->status, length);
+        check_run(run, length - 1, NONE, run->status, length);
         check(is_output("", 0), "cfgx_run", run->words, "written, though a byte was lacking");
-        run_over(run, 0, NONE, run->status, length);
+        check_run(run, 0, NONE, run->status, length);
         check(is_output("", 0), "cfgx_run", run->words, "written without room");
     }
     return count;
@@ -151,9 +151,9 @@ static size_t test_rooms(const struct run *run)
 
 static void test_run(const struct run *run)
 {
-    size_t count = test_rooms(run);
+    size_t count = test_buffers(run);
     for (size_t number = 0; number < count; number++) {
-        run_over(run, sizeof output, number, CFGX_OUT_OF_MEMORY, 0);
+        check_run(run, sizeof output, number, CFGX_OUT_OF_MEMORY, 0);
         check(is_output("", 0), "cfgx_run", run->words, "written out of memory");
     }
 }
@@ -182,7 +182,7 @@ static const struct faulty faults[] = {
     {"cfg()", {4, 0, 0, 0, CFGX_EMPTY}},
 };
 
-static int is_fault(const struct cfgx_fault *one, const struct cfgx_fault *other)
+static int is_same_fault(const struct cfgx_fault *one, const struct cfgx_fault *other)
 {
     return one->offset == other->offset && one->start == other->start && one->end == other->end
         && one->members == other->members && one->reason == other->reason;
@@ -194,10 +194,10 @@ static void check_text(const char *text, size_t number, uint32_t status,
 {
     struct cfgx_fault fault = {91, 92, 93, 94, 95};
     struct cfgx_fault kept = fault;
-    begin(number);
+    refuse_growth(number);
     uint32_t found = cfgx_check(bytes_of(text), strlen(text), &fault);
     check(found == status, "cfgx_check", text, "the status is another one");
-    check(is_fault(&fault, wanted ? wanted : &kept), "cfgx_check", text, "another fault");
+    check(is_same_fault(&fault, wanted ? wanted : &kept), "cfgx_check", text, "another fault");
     check(blocks == 0, "cfgx_check", text, "a block is left behind");
 }
 
@@ -245,7 +245,7 @@ static const struct value values[] = {
 };
 
 /* Calls `cfgx_value`, and checks the status and the value. */
-static void value_over(const struct value *row, size_t number, uint32_t status)
+static void check_value(const struct value *row, size_t number, uint32_t status)
 {
     static uint8_t answers[1 << 16];
     uint8_t value = 77;
@@ -253,7 +253,7 @@ static void value_over(const struct value *row, size_t number, uint32_t status)
     for (size_t i = 0; i < count; i++) {
         answers[i] = (uint8_t)(row->answers[i] - '0');
     }
-    begin(number);
+    refuse_growth(number);
     uint32_t found = cfgx_value(bytes_of(row->text), strlen(row->text), answers, count, &value);
     uint8_t wanted = status == CFGX_DONE ? row->value : 77;
     check(found == status, "cfgx_value", row->text, "the status is another one");
@@ -264,22 +264,22 @@ static void value_over(const struct value *row, size_t number, uint32_t status)
 static void test_value(const struct value *row)
 {
     rows++;
-    value_over(row, NONE, row->status);
+    check_value(row, NONE, row->status);
     if (row->status == CFGX_NOT_UTF8) {
         check(growths == 0, "cfgx_value", row->text, "memory is asked for");
     }
     size_t count = growths;
     for (size_t number = 0; number < count; number++) {
-        value_over(row, number, CFGX_OUT_OF_MEMORY);
+        check_value(row, number, CFGX_OUT_OF_MEMORY);
     }
 }
 
-/* Long texts, long words and many answers: memory is there, so no call gives up. */
+/* Long texts, long words and many answers. There is memory for them, so no call is out of it. */
 #define MEMBERS 50000
 
 static char long_text[1 << 18], long_output[1 << 18], long_answers[MEMBERS + 2];
 
-/* Writes MEMBERS times `a`, with `between` between each two, and returns where they end. */
+/* Writes `a` MEMBERS times, with `between` between each two, and returns where they end. */
 static char *write_members(char *at, char between)
 {
     for (size_t i = 0; i < MEMBERS; i++) {
@@ -307,7 +307,7 @@ static void test_long_checks(void)
     test_check(long_text, CFGX_FAULTY, &not);
 }
 
-/* The value of `all` over MEMBERS flags, if the answer at this place is another one. */
+/* Tests the value of `all` over MEMBERS flags that are all true but the one at `place`. */
 static void test_long_value(size_t place, char answer, uint8_t value)
 {
     struct value row = {long_text, long_answers, CFGX_DONE, value};
@@ -339,15 +339,15 @@ static void test_long_runs(void)
     *end++ = ')';
     strcpy(write_members(long_output, '\n'), "\n");
     struct run lines = {long_text, (size_t)(end - long_text), "", 0, long_output};
-    test_rooms(&lines);
+    test_buffers(&lines);
     /* many words: no flag names the predicate, and then the last one does */
     memcpy(long_text, "eval\0b\0", 7);
     end = write_members(long_text + 7, '\0');
     struct run without = {long_text, (size_t)(end - long_text), "", 0, "false\n"};
-    test_rooms(&without);
+    test_buffers(&without);
     end[-1] = 'b';
     struct run with = {long_text, (size_t)(end - long_text), "", 0, "true\n"};
-    test_rooms(&with);
+    test_buffers(&with);
 }
 
 /* Wrong use asks for memory only to keep the usage line, if its words are not UTF-8. */
@@ -355,7 +355,7 @@ static void test_wrong_use(void)
 {
     rows++;
     static const struct run wrong = RUN("\xff", "", 2, USAGE);
-    run_over(&wrong, sizeof output, NONE, 2, strlen(USAGE));
+    check_run(&wrong, sizeof output, NONE, 2, strlen(USAGE));
     check(growths == 1, "cfgx_run", wrong.words, "memory is asked for");
 }
 
@@ -368,7 +368,7 @@ static void test_big(size_t length, uint32_t status, const char *last, size_t wa
 {
     rows++;
     size_t needed = 0;
-    begin(NONE);
+    refuse_growth(NONE);
     uint32_t found = cfgx_run(bytes_of("pick\0" SIM), sizeof "pick\0" SIM - 1, big_input, length,
                               big_output, sizeof big_output, &needed);
     size_t tail = strlen(last);
@@ -390,8 +390,8 @@ static void test_limits(void)
     test_big(MOST + 1, 1, "input too long\n", 15);
 }
 
-/* How long a call of `cfgx_value` takes. */
-static void tell_time(void)
+/* Prints how long a call of `cfgx_value` takes. */
+static void print_time(void)
 {
     const char *text = "all(unix, feature = \"x\")";
     uint8_t answers[2] = {1, 1}, value = 0;
@@ -425,7 +425,7 @@ int main(int count, char **words)
     test_wrong_use();
     test_limits();
     if (count > 1 && strcmp(words[1], "time") == 0) {
-        tell_time();
+        print_time();
     }
     printf("%zu rows, %d failures\n", rows, failures);
     return failures == 0 ? 0 : 1;

@@ -1,4 +1,7 @@
-"""The value of the condition on the command line, with an answer for each predicate: 0, 1 or ?."""
+"""Prints the value of a condition over its answers, one of 0, 1 and ? for each predicate.
+
+usage: caller.py LIBRARY TEXT ANSWERS
+"""
 import ctypes
 import sys
 
@@ -11,8 +14,8 @@ engine.cfgx_value.argtypes = [
 ]
 
 
-def value_of(text, answers):
-    """True, False, or None if it is unknown. Each answer is one of these three."""
+def evaluate(text, answers):
+    """Returns True, False, or None for unknown. Each answer is one of these three."""
     text = text.encode()
     answers = bytes(2 if answer is None else answer for answer in answers)
     value = ctypes.c_uint8()
@@ -23,4 +26,4 @@ def value_of(text, answers):
 
 
 answers = [{"0": False, "1": True, "?": None}[letter] for letter in sys.argv[3]]
-print(value_of(sys.argv[2], answers))
+print(evaluate(sys.argv[2], answers))

@@ -1,4 +1,4 @@
-//! Whether each text of the command line is a condition, and where it is at fault.
+//! Prints of each text of the command line whether it is a condition, or its first fault.
 use std::env::args;
 
 /// `struct cfgx_fault` of `cfgx.h`.
@@ -16,8 +16,8 @@ extern "C" {
     fn cfgx_check(text: *const u8, text_length: usize, fault: *mut CfgxFault) -> u32;
 }
 
-/// What is said of a text.
-fn told(text: &str) -> String {
+/// Returns whether the text is a condition, or else its first fault.
+fn describe(text: &str) -> String {
     let mut fault = CfgxFault::default();
     // The pointer and the length are those of a text, and no other pointer leads to the fault.
     match unsafe { cfgx_check(text.as_ptr(), text.len(), &mut fault) } {
@@ -32,6 +32,6 @@ fn told(text: &str) -> String {
 
 fn main() {
     for text in args().skip(1) {
-        println!("{text}: {}", told(&text));
+        println!("{text}: {}", describe(&text));
     }
 }
