@@ -255,6 +255,6 @@ impl<A: SmallAllocator> Expression<A> {
     {
         // It does nothing but show that no lane of the answers is both true and false.
         are_disjoint(answers);
-        evaluating::value_over(alloc, &self.parsed.as_ref(), answers)
+        evaluating::eval_over_answers(alloc, &self.parsed.as_ref(), answers)
     }
 }

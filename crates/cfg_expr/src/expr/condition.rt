@@ -79,7 +79,7 @@ impl<'a> Condition<'a> {
         ensures refused { OnErr result (ep.new ≡ ep.old) }
         ensures short { length self.now ≤ 32 → IsOk result }
     {
-        evaluating::value_of(alloc, &self.parsed, ep)
+        evaluating::eval(alloc, &self.parsed, ep)
     }
 
     /// Whether the answers decide the condition, as `Expression::decide` says.

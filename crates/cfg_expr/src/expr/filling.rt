@@ -142,7 +142,7 @@ pub(crate) fn decide<A: SmallAllocator>(
     ensures decision { IfOk result (λ decision. (one : HasOneTree parsed.now)
         × IsDecision one.tree answers.now decision) }
 {
-    match evaluating::value_over(alloc, parsed, answers)? {
+    match evaluating::eval_over_answers(alloc, parsed, answers)? {
         Some(value) => Ok(Decision::Known(value)),
         None => {
             let mut ahead = SmallVec::new(&alloc);

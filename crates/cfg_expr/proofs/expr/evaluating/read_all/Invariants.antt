@@ -6,4 +6,4 @@ use Rattle.cfg_expr.proofs.expr.evaluating.read_all.Given as goal
 
 abbrev pub invariant-loop-place : goal.invariant-loop-place
 invariant-loop-place g l =
-    Reading g.T.Logic (map shape l.nodes) l.initial.slots l.place l.stack l.slots
+    Reading g.T.Logic (map shape l.nodes) l.fn.slots l.place l.stack
