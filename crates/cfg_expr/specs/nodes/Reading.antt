@@ -2,7 +2,7 @@
 -- joined yet, the first one on top. Source: Polish notation, whose functions stand in front of
 -- their members.
 use Rattle.std.specs.Prelude.{◌++◌, ℕ, List, [], ◌∷◌, length, min, take, drop}
-use Rattle.std.specs.Prelude.{Option, Some, None, unwrap_or}
+use Rattle.std.specs.Prelude.{Option, Some, None}
 use Rattle.std.specs.List.{filter_map}
 use Rattle.cfgx_grammar.specs.Fold.{Operations, literal_value, from_last}
 use Rattle.cfgx_parser.specs.nodes.Shape.{Shape}
@@ -23,12 +23,6 @@ identity_of logic Or = logic.bottom
 abbrev pub join_of : {T : Type 0} → Operations T → Connective → T → T → T
 join_of logic And = logic.and
 join_of logic Or = logic.or
-
--- the value in a slot
-abbrev pub any_value : {T : Type 0} → Slot T → Option T
-any_value (slot.Leaf value) = Some value
-any_value (slot.Function value) = Some value
-any_value slot.Empty = None
 
 -- the value in a slot, if it is of the kind
 abbrev pub value_in : {T : Type 0} → Kind → Slot T → Option T
@@ -57,7 +51,9 @@ joined logic connective members = from_last (join_of logic connective)
 
 -- the value in a slot, or the top of the logic if it is empty
 abbrev pub value_or_top : {T : Type 0} → Operations T → Slot T → T
-value_or_top logic one = unwrap_or (any_value one) logic.top
+value_or_top logic (slot.Leaf value) = value
+value_or_top logic (slot.Function value) = value
+value_or_top logic slot.Empty = logic.top
 
 -- the value on top of the stack, or the top of the logic if the stack is empty
 abbrev pub top_value : {T : Type 0} → Operations T → List (Slot T) → T

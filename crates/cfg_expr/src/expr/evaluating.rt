@@ -1,9 +1,8 @@
-//! Evaluation of a condition over the answers to its predicates.
+//! Evaluation of a condition. Each answer goes into the slot of its node. The nodes are then read
+//! backwards over one stack: a leaf is pushed, and a function replaces its members by their joined
+//! value. The value of the whole condition is left.
 //!
-//! Each answer goes into the slot of its node. The nodes are then read from the last to the first
-//! over one stack: a leaf is pushed, and a function replaces its members by their joined value. The
-//! value of the whole condition is left. Unread answers occupy the front of the slots, the stack
-//! the back; they never overlap.
+//! Unread answers occupy the front of the slots, the stack the back; they never overlap.
 ghost use Rattle.std.specs.Prelude.{◌≡◌, ◌<◌, ◌≤◌, ◌+◌, ◌∷◌, ℕ, List, IfOk, OnErr, IsOk};
 ghost use Rattle.std.specs.Prelude.{length, map, set, get_or, take, drop};
 ghost use Rattle.cfgx_grammar.specs.Answer.{HasOneTree};
@@ -33,38 +32,31 @@ use std::alloc::{AllocError, Allocator};
 use std::mem;
 
 /// An unread answer, or an entry of the stack: the value of a subtree.
-#[derive(Drop)]
+#[derive(Default, Drop)]
 pub(crate) enum Slot<T> {
+    #[default]
     Empty,
+    /// The value of a predicate or a literal
     Leaf(T),
     Function(T),
 }
 
-/// What the root of a subtree is: a predicate or a literal, or a function.
+/// The kind of a subtree.
 #[derive(Clone, Copy)]
 pub(crate) enum Kind {
     Leaf,
     Function,
 }
 
-impl<T> Default for Slot<T> {
-    ghost use Rattle.cfg_expr.specs.declared.expr.evaluating.Slot.TheVariants as slot;
-
-    fn default() -> Self
-        ensures { result ≡ slot.Empty }
-    {
-        Slot::Empty
-    }
-}
-
 impl<T: Logic> Slot<T> {
     /// Takes the value if the slot has one of this `kind`.
-    fn take(&mut self, kind: Kind) -> Option<T>
+    fn take_if(&mut self, kind: Kind) -> Option<T>
         ensures value { result ≡ value_in kind self.old }
         ensures left { self.new ≡ without kind self.old }
     {
         match (mem::replace(self, Slot::Empty), kind) {
-            (Slot::Leaf(value), Kind::Leaf) | (Slot::Function(value), Kind::Function) => Some(value),
+            (Slot::Leaf(value), Kind::Leaf) => Some(value),
+            (Slot::Function(value), Kind::Function) => Some(value),
             (other, _) => {
                 *self = other;
                 None
@@ -83,7 +75,7 @@ impl<T: Logic> Slot<T> {
     }
 }
 
-/// Joins the values of the members of `all` or `any`.
+/// How the values of members are joined: those of `all` by `and`, and those of `any` by `or`.
 #[derive(Clone, Copy)]
 pub(crate) enum Connective {
     And,
@@ -119,7 +111,7 @@ impl Connective {
     {
         let mut value = value;
         for place in (0..members.len()).rev() {
-            if let Some(last) = members[place].take(kind) {
+            if let Some(last) = members[place].take_if(kind) {
                 value = self.join(value, last);
             }
         }
@@ -142,15 +134,15 @@ fn literal_value<T: Logic>(truth: bool) -> T
     if truth { T::top() } else { T::bottom() }
 }
 
-/// The stack of the subtrees that no function has joined yet, in the slots from `begin` on. The
-/// first one is on top.
+/// The stack of the subtrees that no function has joined yet. It occupies the slots from `begin`
+/// on, and its top is the first of them.
 #[derive(Drop)]
 pub(crate) struct Stack<'a, T> {
     slots: &'a mut [Slot<T>],
     begin: usize,
 }
 
-impl<'a, T: Logic> Stack<'a, T> {
+impl<T: Logic> Stack<'_, T> {
     /// Pushes `entry`.
     fn push(&mut self, entry: Slot<T>)
         requires { (0 < self.old.begin) × (self.old.begin ≤ length self.old.slots.now) }
@@ -182,7 +174,7 @@ impl<'a, T: Logic> Stack<'a, T> {
         top.value_or_top()
     }
 
-    /// Replaces the `count` entries on top, or all if there are fewer, by their joined value.
+    /// Replaces the top `count` entries, or all if there are fewer, by their joined value.
     fn join(&mut self, connective: Connective, count: usize)
         requires { (0 < self.old.begin) × (self.old.begin ≤ length self.old.slots.now) }
         ensures entries { entries self.new
@@ -198,7 +190,7 @@ impl<'a, T: Logic> Stack<'a, T> {
         self.push(Slot::Function(value));
     }
 
-    /// Reads `node`, whose slot is the one at `place`.
+    /// Reads `node`, whose slot is at `place`.
     fn read(&mut self, node: &ExprNode, place: usize)
         requires { (place < self.old.begin) × (self.old.begin ≤ length self.old.slots.now) }
         ensures entries { entries self.new
@@ -216,8 +208,8 @@ impl<'a, T: Logic> Stack<'a, T> {
             ExprNode::Literal(truth) => self.push(Slot::Leaf(literal_value(*truth))),
             ExprNode::Fn { func, .. } => match func {
                 Func::Not => {
-                    let value = self.pop();
-                    self.push(Slot::Function(value.not()));
+                    let member = self.pop();
+                    self.push(Slot::Function(member.not()));
                 }
                 Func::All(count) => self.join(Connective::And, *count),
                 Func::Any(count) => self.join(Connective::Or, *count),
@@ -226,8 +218,8 @@ impl<'a, T: Logic> Stack<'a, T> {
     }
 }
 
-/// Returns the value of the condition, with the answers in the slots of its predicates.
-fn read_all<T: Logic>(nodes: &[ExprNode], slots: &mut [Slot<T>]) -> T
+/// Returns the value of the condition whose answers are in the slots.
+fn eval_nodes<T: Logic>(nodes: &[ExprNode], slots: &mut [Slot<T>]) -> T
     requires { length slots.old ≡ length nodes.now }
     ensures { (tree : Tree Question) (answers : List T)
         → map shape nodes.now ≡ map shape_of (prefix tree) → length answers ≡ length (asked tree)
@@ -266,7 +258,7 @@ fn put_answer<T: Logic>(answer: T, place: usize, slots: &mut [Slot<T>])
     }
 }
 
-/// Asks `ep` for one answer.
+/// Returns what `ep` answers to `predicate`.
 fn ask<EP, T>(predicate: Predicate<'_>, ep: &mut EP) -> T
 where
     EP: FnMut(&Predicate<'_>) -> T,
@@ -323,7 +315,7 @@ where
     let mut slots = empty_slots(&alloc, nodes.len())?;
     let slots = slots.as_mut_slice();
     ask_each(parsed, slots, ep);
-    Ok(read_all(nodes, slots))
+    Ok(eval_nodes(nodes, slots))
 }
 
 /// Returns the value of the condition over `answers` in the order of its predicates.
@@ -347,5 +339,5 @@ where
     let mut slots = empty_slots(&alloc, nodes.len())?;
     let slots = slots.as_mut_slice();
     put_each(parsed.places(), answers, slots);
-    Ok(read_all(nodes, slots))
+    Ok(eval_nodes(nodes, slots))
 }

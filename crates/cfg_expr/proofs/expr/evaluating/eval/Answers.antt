@@ -12,7 +12,7 @@ returns-clause-value g c =
       one = one;
       answers = ends.answers;
       calls = ends.calls;
-      value_is = c.read_all.ensures one.tree ends.answers
+      value_is = c.eval_nodes.ensures one.tree ends.answers
           (shapes-kept c.nodes-nodes.result.now c.nodes-nodes.ensures.nodes one)
           (Calls-length g.EP.FnMut ends.calls) (rw blank at ends.slots_are);
     }

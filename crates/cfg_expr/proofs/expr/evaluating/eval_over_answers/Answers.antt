@@ -1,5 +1,5 @@
 -- The answers that are given stand at the places of the text's one tree.
-use Rattle.std.proofs.{Common.{◌∙◌, ap, arith, length}, lemmas.Grind.common_steps}
+use Rattle.std.proofs.Common.{◌∙◌, ap, length}
 use Rattle.cfgx_grammar.{specs.Tree.asked, proofs.Answering.only_tree}
 use Rattle.cfg_expr.{proofs.evaluated.Nodes.shapes-kept, proofs.Rooms.room}
 use Rattle.cfg_expr.proofs.expr.evaluating.eval_over_answers.Goals as goal
@@ -11,7 +11,7 @@ returns-clause-value g c =
     let many = given.2 ∙ ap (λ tree. length (asked tree)) (only_tree found.0 given.0 given.1) in
     let blank = c.as_mut_slice-slots.ensures.value ∙ c.in_ok-slots.ensures.slots in (
       found.0,
-      c.read_all.ensures found.0.tree c.args.answers.now
+      c.eval_nodes.ensures found.0.tree c.args.answers.now
           (shapes-kept c.nodes-nodes.result.now c.nodes-nodes.ensures.nodes found.0) many
           (rw (blank, found.1) at c.put_each.ensures),
     )
@@ -21,6 +21,3 @@ empty_slots-requires g c = room _ _ g.met.T.Logic.small
 
 pub as_mut_slice-slots-requires : goal.as_mut_slice-slots-requires
 as_mut_slice-slots-requires g c = room _ _ g.met.T.Logic.small
-
-pub read_all-requires : goal.read_all-requires
-read_all-requires g c = grind (arith, common_steps)

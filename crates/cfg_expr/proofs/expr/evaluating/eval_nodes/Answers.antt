@@ -6,7 +6,7 @@ use Rattle.cfgx_parser.specs.nodes.Shape.{Shape, shape}
 use Rattle.cfg_expr.specs.declared.expr.evaluating.Slot.TheVariants as slot
 use Rattle.cfg_expr.specs.nodes.Reading.{top_value, read}
 use Rattle.cfg_expr.proofs.evaluated.{Placed.read-placed, Read.{Reading-next, value-entry}}
-use Rattle.cfg_expr.proofs.expr.evaluating.read_all.Goals as goal
+use Rattle.cfg_expr.proofs.expr.evaluating.eval_nodes.Goals as goal
 
 pub loop-place-preserved : goal.loop-place-preserved
 loop-place-preserved g c =
