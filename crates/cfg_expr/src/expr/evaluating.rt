@@ -36,7 +36,6 @@ use std::mem;
 pub(crate) enum Slot<T> {
     #[default]
     Empty,
-    /// The value of a predicate or a literal
     Leaf(T),
     Function(T),
 }
@@ -44,6 +43,7 @@ pub(crate) enum Slot<T> {
 /// The kind of a subtree.
 #[derive(Clone, Copy)]
 pub(crate) enum Kind {
+    /// A predicate or a literal
     Leaf,
     Function,
 }
@@ -75,7 +75,7 @@ impl<T: Logic> Slot<T> {
     }
 }
 
-/// How the values of members are joined: those of `all` by `and`, and those of `any` by `or`.
+/// How members are joined: those of `all` by `and`, and those of `any` by `or`.
 #[derive(Clone, Copy)]
 pub(crate) enum Connective {
     And,
@@ -93,13 +93,13 @@ impl Connective {
         }
     }
 
-    /// Joins two values.
-    fn join<T: Logic>(self, value: T, last: T) -> T
-        ensures { result ≡ join_of T.Logic self value last }
+    /// Joins the value of `member` to `value`.
+    fn join<T: Logic>(self, value: T, member: T) -> T
+        ensures { result ≡ join_of T.Logic self value member }
     {
         match self {
-            Connective::And => value.and(last),
-            Connective::Or => value.or(last),
+            Connective::And => value.and(member),
+            Connective::Or => value.or(member),
         }
     }
 
@@ -111,8 +111,8 @@ impl Connective {
     {
         let mut value = value;
         for place in (0..members.len()).rev() {
-            if let Some(last) = members[place].take_if(kind) {
-                value = self.join(value, last);
+            if let Some(member) = members[place].take_if(kind) {
+                value = self.join(value, member);
             }
         }
         value
