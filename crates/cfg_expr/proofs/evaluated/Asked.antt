@@ -4,8 +4,8 @@ use Rattle.std.{proofs.Common.append_assoc, proofs.Common.arith, proofs.lemmas.L
 use Rattle.cfgx_grammar.specs.{Question.Question, Tree.Tree, Tree.asked}
 use Rattle.cfgx_parser.specs.nodes.Prefix.{places}
 use Rattle.cfg_expr.specs.Asking.{Asker, Asks, Calls, MayAsk, MayAskEach}
-use Rattle.cfg_expr.specs.declared.expr.evaluating.Member.{Member}
-use Rattle.cfg_expr.specs.declared.expr.evaluating.Member.TheVariants as member
+use Rattle.cfg_expr.specs.declared.expr.evaluating.Slot.{Slot}
+use Rattle.cfg_expr.specs.declared.expr.evaluating.Slot.TheVariants as slot
 use Rattle.cfg_expr.specs.nodes.AnswerSlots.{Asking, AnswersPut}
 
 -- one call more
@@ -18,16 +18,16 @@ Calls-then (Calls.more _ _ _ _ _ _ _ first calls) asks =
     Calls.more _ _ _ _ _ _ _ first (Calls-then calls asks)
 
 module _ {F T : Type 0} {asker : Asker F T} {start now : F} {questions rest : List Question}
-    {at left : List ℕ} {initial slots : List (Member T)}
+    {at left : List ℕ} {initial slots : List (Slot T)}
     (asking : Asking asker start questions at initial now rest left slots) where
   pub Asking-may : {question : Question} {others : List Question} → rest ≡ question ∷ others
       → MayAskEach asker start questions → MayAsk asker now question
   Asking-may {question} {others} is may = grind arith
 
   pub Asking-next : {question : Question} {others : List Question} {answer : T} {after : F}
-      {place : ℕ} {next : List ℕ} {new : List (Member T)} → rest ≡ question ∷ others
+      {place : ℕ} {next : List ℕ} {new : List (Slot T)} → rest ≡ question ∷ others
       → Asks asker now question answer after → left ≡ place ∷ next
-      → new ≡ set slots place (member.Leaf answer)
+      → new ≡ set slots place (slot.Leaf answer)
       → Asking asker start questions at initial after others next new
   Asking-next {question} {others} {answer} is asks left_is put = record {
     before = asking.before ++ question ∷ [];

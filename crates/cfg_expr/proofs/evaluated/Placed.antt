@@ -14,8 +14,8 @@ use Rattle.cfgx_grammar.proofs.ListLemmas.{all_of_first, all_of_second}
 use Rattle.cfgx_parser.specs.nodes.Prefix.{Node, prefix, prefix_each, places, places_by}
 use Rattle.cfgx_parser.specs.{nodes.Shape.{shape, shape_of}, declared.nodes.ExprNode.ExprNode}
 use Rattle.cfgx_parser.proofs.Shapes.{length-shape, places-shape, shapes-shape}
-use Rattle.cfg_expr.specs.nodes.{AnswerSlots.{no_answers, with_answers}, Reading.{Member, read}}
-use Rattle.cfg_expr.specs.declared.expr.evaluating.Member.TheVariants as member
+use Rattle.cfg_expr.specs.nodes.{AnswerSlots.{no_answers, with_answers}, Reading.{Slot, read}}
+use Rattle.cfg_expr.specs.declared.expr.evaluating.Slot.TheVariants as slot
 use Rattle.cfg_expr.proofs.evaluated.{Nodes.read-mapped, Read.{slot_of, entry, read-tree}}
 
 -- the place is none of these
@@ -24,37 +24,37 @@ Misses place places = AllByRecursion (λ other. place ≡ other → ⊥) places
 
 module _ {T : Type 0} where
   -- what is in the slot at a place
-  abbrev at : List (Member T) → ℕ → Member T
-  at slots place = get_or slots place member.Joined
+  abbrev at : List (Slot T) → ℕ → Slot T
+  at slots place = get_or slots place slot.Empty
 
   -- if each slot is right but for the places still to come, all are right at the end
-  put-right : (all slots : List (Member T)) (ps : List ℕ) (xs : List T)
-      → map (at all) ps ≡ map member.Leaf xs → length slots ≡ length all
+  put-right : (all slots : List (Slot T)) (ps : List ℕ) (xs : List T)
+      → map (at all) ps ≡ map slot.Leaf xs → length slots ≡ length all
       → ((place : ℕ) → Misses place ps → at slots place ≡ at all place)
       → with_answers slots ps xs ≡ all
   put-right all slots [] [] found many right =
-      ext_get_or member.Joined slots all many (λ place inside. right place tt)
+      ext_get_or slot.Empty slots all many (λ place inside. right place tt)
   put-right all slots [] (x ∷ xs) found many right = absurd (cc)
   put-right all slots (p ∷ ps) [] found many right = absurd (cc)
   put-right all slots (p ∷ ps) (x ∷ xs) found many right =
-      let here : at all p ≡ member.Leaf x = cc in
-      let rest : map (at all) ps ≡ map member.Leaf xs = cc in
+      let here : at all p ≡ slot.Leaf x = cc in
+      let rest : map (at all) ps ≡ map slot.Leaf xs = cc in
       let below : p < length slots = ⊎_elim (λ below. below)
-      (λ past. absurd (cc (here, get_or_past all p member.Joined (omega (arith, many, past)))))
+      (λ past. absurd (cc (here, get_or_past all p slot.Empty (omega (arith, many, past)))))
       (cases_lt p (length slots)) in
-      put-right all (set slots p (member.Leaf x)) ps xs rest (length-set slots p _ ∙ many)
+      put-right all (set slots p (slot.Leaf x)) ps xs rest (length-set slots p _ ∙ many)
       (λ place misses. ⊎_elim
       (λ same. get_or-set_at slots p place _ _ same below ∙ sym here ∙ ap (at all) (sym same))
       (λ other. get_or-set_other slots p place _ _ other ∙ right place (other, misses))
       (cases_eq place p))
 
-  abbrev slots : List (Node T) → List (Member T)
+  abbrev slots : List (Node T) → List (Slot T)
   slots = map slot_of
 
   -- what stands at none of the places is no answer
   mutual
     covered : (tree : Tree T) (first place offset : ℕ) → place ≡ first + offset
-        → Misses place (places first tree) → at (slots (prefix tree)) offset ≡ member.Joined
+        → Misses place (places first tree) → at (slots (prefix tree)) offset ≡ slot.Empty
     covered (Tree.leaf x) first place zero is misses = absurd (misses.0 (omega (arith, is)))
     covered (Tree.list function trees) first place (suc offset) is misses =
         let these = places_by is_function (first + 1) trees in
@@ -68,7 +68,7 @@ module _ {T : Type 0} where
     each-covered : (trees : Trees T) (first place offset : ℕ) → place ≡ first + offset
         → Misses place (places_by is_function first trees)
         → Misses place (places_by is_leaf first trees)
-        → at (slots (prefix_each trees)) offset ≡ member.Joined
+        → at (slots (prefix_each trees)) offset ≡ slot.Empty
     each-covered Trees.none first place offset is inner own = refl
     each-covered (Trees.more (Tree.leaf x) trees) first place zero is inner own =
         absurd (own.0 (omega (arith, is)))
@@ -78,9 +78,9 @@ module _ {T : Type 0} where
         let these = slots (prefix tree) in
         let count = length-map (prefix tree) slot_of in
         ap (λ l. at l offset) (map-append slot_of (prefix tree) (prefix_each trees)) ∙ ⊎_elim
-        (λ below. get_or_append_left these _ member.Joined offset (omega (arith, count))
+        (λ below. get_or_append_left these _ slot.Empty offset (omega (arith, count))
         ∙ covered tree first place offset is (all_of_first _ (places first tree) _ inner))
-        (λ past. get_or-append_right these _ _ offset member.Joined count past
+        (λ past. get_or-append_right these _ _ offset slot.Empty count past
         ∙ each-covered trees _ place (offset - length (prefix tree)) (omega (arith, is))
         (all_of_second _ (places first tree) _ inner) own) (cases_lt offset (length (prefix tree)))
 
@@ -89,11 +89,11 @@ module _ {T : Type 0} where
   placed tree =
       let all = slots (prefix tree) in
       let count = length (prefix tree) in
-      let blank : (place : ℕ) → at (no_answers count) place ≡ member.Joined =
+      let blank : (place : ℕ) → at (no_answers count) place ≡ slot.Empty =
       λ place. grind (arith, get_or-replicate, get_or_past, length-replicate) in
       put-right all (no_answers count) (places 0 tree) (asked tree)
-      (read-mapped tree slot_of member.Joined)
-      (length-replicate count member.Joined ∙ sym (length-map (prefix tree) slot_of))
+      (read-mapped tree slot_of slot.Empty)
+      (length-replicate count slot.Empty ∙ sym (length-map (prefix tree) slot_of))
       (λ place misses. blank place ∙ sym (covered tree 0 place place (omega arith) misses))
 
 -- answers to what a tree asks, put at its places and read, leave its value over them

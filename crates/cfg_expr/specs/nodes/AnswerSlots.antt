@@ -4,22 +4,22 @@ use Rattle.cfgx_grammar.specs.Question.{Question}
 use Rattle.cfgx_grammar.specs.Tree.{Tree, asked}
 use Rattle.cfgx_parser.specs.nodes.Prefix.{places}
 use Rattle.cfg_expr.specs.Asking.{Asker, Calls}
-use Rattle.cfg_expr.specs.declared.expr.evaluating.Member.{Member}
-use Rattle.cfg_expr.specs.declared.expr.evaluating.Member.TheVariants as member
+use Rattle.cfg_expr.specs.declared.expr.evaluating.Slot.{Slot}
+use Rattle.cfg_expr.specs.declared.expr.evaluating.Slot.TheVariants as slot
 
 -- with one answer after another put at these places
-abbrev pub with_answers : {T : Type 0} → List (Member T) → List ℕ → List T → List (Member T)
+abbrev pub with_answers : {T : Type 0} → List (Slot T) → List ℕ → List T → List (Slot T)
 with_answers slots places [] = slots
 with_answers slots [] (answer ∷ answers) = slots
 with_answers slots (place ∷ places) (answer ∷ answers) =
-    with_answers (set slots place (member.Leaf answer)) places answers
+    with_answers (set slots place (slot.Leaf answer)) places answers
 
 module _ {F T : Type 0} (asker : Asker F T) where
   -- where the asking stands: some questions were asked, one call each, and what the answers to the
   -- rest make of the slots, all answers make of the first ones
   pub record Asking (start : F) (questions : List Question) (places : List ℕ)
-      (initial : List (Member T)) (now : F) (rest : List Question) (left : List ℕ)
-      (slots : List (Member T)) : Type 0 where
+      (initial : List (Slot T)) (now : F) (rest : List Question) (left : List ℕ)
+      (slots : List (Slot T)) : Type 0 where
     pub before : List Question
     pub given : List T
     pub calls : Calls asker start before given now
@@ -29,12 +29,12 @@ module _ {F T : Type 0} (asker : Asker F T) where
         → with_answers slots left more ≡ with_answers initial places (given ++ more)
 
   -- all that a tree asks was asked, and the answers are put at the places of its predicates
-  pub record AnswersPut (tree : Tree Question) (start : F) (initial : List (Member T)) (after : F)
-      (slots : List (Member T)) : Type 0 where
+  pub record AnswersPut (tree : Tree Question) (start : F) (initial : List (Slot T)) (after : F)
+      (slots : List (Slot T)) : Type 0 where
     pub answers : List T
     pub calls : Calls asker start (asked tree) answers after
     pub slots_are : slots ≡ with_answers initial (places 0 tree) answers
 
 -- no answer yet at any of so many places
-abbrev pub no_answers : {T : Type 0} → ℕ → List (Member T)
-no_answers count = replicate count member.Joined
+abbrev pub no_answers : {T : Type 0} → ℕ → List (Slot T)
+no_answers count = replicate count slot.Empty

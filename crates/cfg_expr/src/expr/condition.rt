@@ -69,7 +69,7 @@ impl<'a> Condition<'a> {
         requires { MayEvaluate EP.FnMut self.now ep.old }
         ensures { EvaluatesTo T.Logic EP.FnMut self.now ep.old ep.new result }
     {
-        evaluating::value_of(alloc, &self.parsed, ep)
+        evaluating::eval(alloc, &self.parsed, ep)
     }
 
     /// Decides the condition as `Expression::decide` does, and replaces `decision`. New fillings
@@ -132,7 +132,7 @@ impl<'a> Condition<'a> {
         ensures short { length self.now ≤ 32 → IsOk result }
     {
         prove!(are_disjoint(answers));
-        evaluating::value_over(alloc, &self.parsed, answers)
+        evaluating::eval_over_answers(alloc, &self.parsed, answers)
     }
 }
 

@@ -158,7 +158,7 @@ pub(crate) fn decide<A: SmallAllocator>(
     ensures decision { OnOk result ((one : HasOneTree parsed.now)
         × IsDecision one.tree answers.now decision.new) }
 {
-    if let Some(value) = evaluating::value_over(alloc, parsed, answers)? {
+    if let Some(value) = evaluating::eval_over_answers(alloc, parsed, answers)? {
         *decision = Decision::Known(value);
         return Ok(());
     }

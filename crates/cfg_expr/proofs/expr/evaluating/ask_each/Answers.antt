@@ -33,7 +33,7 @@ ask-answer-requires g c =
 pub loop-predicate-preserved : goal.loop-predicate-preserved
 loop-predicate-preserved g c =
     Asking-next c.loop-predicate.invariant c.in-Some.ensures.steps c.ask-answer.ensures
-    c.in-Some-next.ensures.steps c.put_member.ensures
+    c.in-Some-next.ensures.steps c.put_answer.ensures
 
 pub unreachable-requires : goal.unreachable-requires
 unreachable-requires g c =

@@ -1,8 +1,9 @@
--- The rest of the answers, put at the rest of the places, leaves what all of them leave.
-use Rattle.std.proofs.Common.{◌≡◌, drop}
+-- The answers that are left, put at the places that are left, leave what all of them leave.
+use Rattle.std.proofs.Common.{◌≡◌}
 use Rattle.cfg_expr.specs.nodes.AnswerSlots.{with_answers}
 use Rattle.cfg_expr.proofs.expr.evaluating.put_each.Given as goal
 
-abbrev pub invariant-loop-answer : goal.invariant-loop-answer
-invariant-loop-answer g l = with_answers l.slots l.places.rest.now (drop l.answer-index l.given)
-    ≡ with_answers l.initial.slots l.initial.places.rest.now l.given
+abbrev pub invariant-loop-place : goal.invariant-loop-place
+invariant-loop-place g l =
+    with_answers l.slots l.place-iterator.a.rest.now l.place-iterator.b.rest.now
+    ≡ with_answers l.initial.slots l.places l.answers

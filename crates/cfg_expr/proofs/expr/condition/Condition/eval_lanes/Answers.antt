@@ -6,16 +6,16 @@ use Rattle.cfg_expr.proofs.expr.condition.Condition.eval_lanes.Goals as goal
 
 pub returns-clause-lanes : goal.returns-clause-lanes
 returns-clause-lanes g c =
-    let one = rw c.self.view_is at c.value_over.ensures.one in
+    let one = rw c.self.view_is at c.eval_over_answers.ensures.one in
     (one, λ given disjoint many. IsByLane-fold one.tree given disjoint)
 
 pub returns-clause-value : goal.returns-clause-value
 returns-clause-value g c =
-    rw (sym c.self.view_is) (IfOk-weaker c.value_over.result _ _
+    rw (sym c.self.view_is) (IfOk-weaker c.eval_over_answers.result _ _
     (λ value found. (
       found.0,
       found.1,
       λ i below. ap (lane i) found.1
           ∙ IsByLane-fold found.0.tree c.args.answers.now c.are_disjoint.ensures.disjoint i below,
     ))
-    c.value_over.ensures.value)
+    c.eval_over_answers.ensures.value)

@@ -4,5 +4,4 @@ use Rattle.cfg_expr.proofs.expr.evaluating.Connective.join_kind.Given as goal
 
 abbrev pub invariant-loop-place : goal.invariant-loop-place
 invariant-loop-place g l =
-    Joins (join_of g.T.Logic l.self) l.functions l.fn.value l.initial.members l.value l.left
-    l.place l.members
+    Joins (join_of g.T.Logic l.self) l.kind l.fn.value l.initial.members l.value l.place l.members

@@ -2,8 +2,8 @@
 use Rattle.std.proofs.Common.{map}
 use Rattle.cfgx_parser.specs.nodes.Shape.{shape}
 use Rattle.cfg_expr.proofs.evaluated.Read.{Reading}
-use Rattle.cfg_expr.proofs.expr.evaluating.read_all.Given as goal
+use Rattle.cfg_expr.proofs.expr.evaluating.eval_nodes.Given as goal
 
 abbrev pub invariant-loop-place : goal.invariant-loop-place
 invariant-loop-place g l =
-    Reading g.T.Logic (map shape l.nodes) l.initial.slots l.place l.stack l.slots
+    Reading g.T.Logic (map shape l.nodes) l.fn.slots l.place l.stack

@@ -2,7 +2,7 @@
 use Rattle.std.proofs.{Common.{◌∙◌, ap, arith, length, rules}, lemmas.List.length-replicate}
 use Rattle.std.proofs.lemmas.Grind.{common_steps}
 use Rattle.cfg_expr.proofs.Rooms.{room}
-use Rattle.cfg_expr.proofs.expr.evaluating.slots_of.Goals as goal
+use Rattle.cfg_expr.proofs.expr.evaluating.empty_slots.Goals as goal
 
 pub push_reserved-requires : goal.push_reserved-requires
 push_reserved-requires g c =
