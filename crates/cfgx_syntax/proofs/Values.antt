@@ -22,7 +22,7 @@ HasNoQuote-from (byte ∷ bytes) none =
     rw (is_quote-other byte (none 0 (omega arith)))
     (HasNoQuote-from bytes (λ i lt. none (suc i) (omega arith)))
 
--- what a value holds, cut out of the text one byte in from both ends of its spelling
+-- the text of a value is its spelling without the byte at each end
 pub value_inside : (text inside : List ℕ) (start end : ℕ) → end ≤ length text
     → slice_range text start end ≡ in_quotes inside
     → slice_range text (start + 1) (end - 1) ≡ inside

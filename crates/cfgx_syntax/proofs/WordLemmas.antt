@@ -10,11 +10,11 @@ use Rattle.cfgx_syntax.specs.{Cut.IsCut, Cut.IsValueCut, lexing.Beginnings.Begin
 use Rattle.cfgx_syntax.specs.Token.{Token, starts_word, continues_word, IsWord, EndsWord, Spells}
 use Rattle.cfgx_syntax.specs.Token.{IsWhole}
 
--- what stands in a word is ASCII
+-- a byte of a word is ASCII
 pub continues_word-ascii : (byte : ℕ) → continues_word byte ≡ true → byte < 128
 continues_word-ascii byte h = grind arith
 
--- what starts a word may stand in one
+-- a byte that starts a word continues one
 pub starts_word-continues : (byte : ℕ) → starts_word byte ≡ true → continues_word byte ≡ true
 starts_word-continues byte h = grind arith
 

@@ -18,7 +18,7 @@ const SPACES: &str = "                                                          
 // 64 carets.
 const CARETS: &str = "^^^^^^^^^^^^^^^^^^^^^^^^^^^^^^^^^^^^^^^^^^^^^^^^^^^^^^^^^^^^^^^^";
 
-/// Why a text has no value. Equal reasons have the same variant, number and texts.
+/// The kind of a fault. Equal reasons have the same variant, number and texts.
 #[derive(Clone, Copy, Debug)]
 pub enum Reason {
     /// A `not` with no member or several. The field is the number of its members.
