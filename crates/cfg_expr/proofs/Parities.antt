@@ -1,13 +1,17 @@
--- The pass over the nodes, and the places of the predicates, give the polar fillings.
+-- The pass over the nodes and the places of the predicates give the polar fillings.
 use Rattle.std.proofs.Common.{◌≡◌, ℕ, Bool, true, false, not, List, [], ◌∷◌, ◌++◌, map}
-use Rattle.std.proofs.Common.{replicate, Option, sym, refl, ap, ◌∙◌, append_assoc, map-id}
+use Rattle.std.proofs.Common.{replicate, Option, None, sym, refl, ap, ◌∙◌, append_assoc, map-id}
 use Rattle.std.proofs.{lemmas.Slice.Zip.AllZip-map, lemmas.List.append-nil, lemmas.List.map-append}
 use Rattle.cfgx_grammar.specs.{Question.Question, Tree.{ListFunction, Tree, Trees, asked, count}}
-use Rattle.cfgx_grammar.specs.Filling.{filled_by, polar, polarities, polarities_each}
+use Rattle.cfgx_grammar.specs.Filling.{filled_by, polar, polarities, polarities_each, three_valued}
+use Rattle.cfgx_grammar.specs.Fold.{tree_fold}
 use Rattle.cfgx_grammar.proofs.Alike.{Alike, AlikeEach, asked-alike, polarities-shape}
 use Rattle.cfgx_parser.specs.nodes.Prefix.{Node, list_func, prefix, prefix_each, places}
 use Rattle.cfgx_parser.specs.nodes.Shape.{Shape, shape, shape_of}
 use Rattle.cfgx_parser.{specs.declared.nodes.ExprNode.ExprNode, proofs.Shapes.places-shape}
+use Rattle.cfg_expr.specs.Deciding.{HoldsFillings, IsDecision}
+use Rattle.cfg_expr.specs.declared.expr.Decision.{Decision}
+use Rattle.cfg_expr.specs.declared.expr.Decision.TheVariants as decision
 use Rattle.cfg_expr.specs.nodes.Parity.{turned, members_of, pass, filled_at}
 use Rattle.cfg_expr.proofs.evaluated.Nodes.{read-mapped}
 
@@ -28,7 +32,7 @@ module _ {X : Type 0} where
   abbrev odds_each : Bool → Trees X → List Bool
   odds_each odd trees = map odd_in (prefix_each (polarities_each odd trees))
 
-  -- of the nodes of a tree the pass finds the parities of its predicates
+  -- over the nodes of a tree, the pass finds the parities of its predicates
   mutual
     pass-tree : (tree : Tree X) (odd : Bool) (ahead : List Bool) (rest : List Shape)
         → pass (map shape_of (prefix tree) ++ rest) (odd ∷ ahead)
@@ -46,7 +50,7 @@ module _ {X : Type 0} where
         rw (map-append shape_of (prefix tree), append_assoc (map shape_of (prefix tree)))
         (rw (pass-tree tree odd, pass-each trees odd, map-append odd_in, append_assoc) refl)
 
--- The polarities for `fill` are those for false, turned over if `fill` is true.
+-- The polarities for `fill` are those for false, or their opposites if `fill` is true.
 
 turned-not : (fill odd : Bool) → not (turned fill odd) ≡ turned fill (not odd)
 turned-not fill false = refl
@@ -87,3 +91,13 @@ polar-kept nodes tree nodes_are found asks answers fill asks_are is =
     rw (passed, places_are, read-mapped parities odd_in false, map-id) (ap (filled_by answers)
     (sym (AllZip-map (turned fill) (asked parities) _
     (asked-alike (Turned fill) parities _ (turned-alike fill false tree)))))
+
+-- a decision is right if the value is unknown and it holds the polar fillings
+pub IsDecision-unknown : {X A : Type 0} (tree : Tree X) (answers : List (Option Bool))
+    (given : Decision A) {with_true with_false : List Bool}
+    → tree_fold three_valued tree answers ≡ None → with_true ≡ polar tree answers true
+    → with_false ≡ polar tree answers false → HoldsFillings given with_true with_false
+    → IsDecision tree answers given
+IsDecision-unknown tree answers (decision.Known value) unknown first second holds = absurd holds
+IsDecision-unknown tree answers (decision.Unknown if_true if_false) unknown first second holds =
+    (unknown, holds.0 ∙ first, holds.1 ∙ second)

@@ -1,11 +1,18 @@
 -- What is decided over answers of which some may be unknown.
 -- Source: Kleene's strong logic.
-use Rattle.std.specs.Prelude.{◌≡◌, Bool, true, false, List, Option, Some, None}
-use Rattle.cfgx_grammar.specs.Tree.{Tree}
+use Rattle.std.specs.Prelude.{◌≡◌, ℕ, Bool, true, false, List, Option, Some, None, Vec, length}
+use Rattle.cfgx_grammar.specs.Answer.{HasOneTree}
+use Rattle.cfgx_grammar.specs.Tree.{Tree, asked}
 use Rattle.cfgx_grammar.specs.Fold.{tree_fold}
-use Rattle.cfgx_grammar.specs.Filling.{IsExact, polar, three_valued}
+use Rattle.cfgx_grammar.specs.Filling.{IsExact, PolarFillings, polar, three_valued}
 use Rattle.cfg_expr.specs.declared.expr.Decision.{Decision}
 use Rattle.cfg_expr.specs.declared.expr.Decision.TheVariants as decision
+
+-- the value is unknown, and these are the fillings
+abbrev pub HoldsFillings : {A : Type 0} → Decision A → List Bool → List Bool → Type 0
+HoldsFillings (decision.Known value) with_true with_false = ⊥
+HoldsFillings (decision.Unknown if_true if_false) with_true with_false =
+    (if_true.items ≡ with_true) × (if_false.items ≡ with_false)
 
 -- the value in three values is known, and is this one; or it is unknown, and these are the polar
 -- fillings with true and with false
@@ -16,9 +23,23 @@ IsDecision tree answers (decision.Unknown if_true if_false) =
     × (if_true.items ≡ polar tree answers true)
     × (if_false.items ≡ polar tree answers false)
 
--- So it is decided: the value is known exactly if every filling of the answers leads to it, and
--- unknown exactly if the tree is true with the one polar filling and false with the other.
+-- The decision is right. The value is known exactly if every filling of the answers leads to it,
+-- and unknown exactly if the tree is true with the one polar filling and false with the other.
 pub record DecidesExactly {X A : Type 0} (tree : Tree X) (answers : List (Option Bool))
     (given : Decision A) : Type 0 where
   pub is : IsDecision tree answers given
   pub exact : IsExact tree answers
+
+-- what `decide` promises of its decision
+abbrev pub Decides : {A : Type 0} → List ℕ → List (Option Bool) → Decision A → Type 0
+Decides text answers given = (one : HasOneTree text) × DecidesExactly one.tree answers given
+
+-- what `polar_fillings` promises of its fillings
+abbrev pub AreFillings : {A : Type 0} → List ℕ → List (Option Bool)
+    → Option (Vec Bool A × Vec Bool A) → Type 0
+AreFillings text answers found = (one : HasOneTree text) × PolarFillings one.tree answers found
+
+-- the text has one tree, which is exact over any answers to it
+abbrev pub IsExactOverAll : List ℕ → Type 0
+IsExactOverAll text = (one : HasOneTree text) × ((answers : List (Option Bool))
+    → length answers ≡ length (asked one.tree) → IsExact one.tree answers)

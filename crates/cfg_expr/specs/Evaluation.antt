@@ -1,11 +1,21 @@
--- What `eval` of a condition asks and answers.
-use Rattle.std.specs.Prelude.{◌≡◌, ℕ, List, map}
+-- What the predicates of a condition are, and what its evaluation promises.
+use Rattle.std.specs.Prelude.{◌≡◌, ◌≤◌, ℕ, List, Result, IfOk, IsOk, OnErr, length, map}
+use Rattle.std.specs.List.{AllByRecursion}
+use Rattle.cfgx_syntax.specs.Kleene.{EachLane, IsDisjoint, Planes, lane}
 use Rattle.cfgx_grammar.specs.Question.{Question}
 use Rattle.cfgx_grammar.specs.Tree.{Tree, asked}
 use Rattle.cfgx_grammar.specs.Grammar.{HasTree}
 use Rattle.cfgx_grammar.specs.Answer.{HasOneTree}
+use Rattle.cfgx_grammar.specs.Filling.{three_valued}
 use Rattle.cfgx_grammar.specs.Fold.{Operations, tree_fold}
-use Rattle.cfg_expr.specs.Asking.{Asker, Calls, MayAskEach}
+use Rattle.cfgx_grammar.specs.Homomorphism.{IsByLane, lane_valued}
+use Rattle.cfgx_grammar.specs.WellFormed.{IsWellFormed}
+use Rattle.cfg_expr.specs.Asking.{AnswersBy, Asker, Calls, MayAskEach}
+
+-- the questions of the text's one tree in the order in which it asks them; each can stand in a text
+pub record AsksInOrder (text : List ℕ) (questions : List Question) : Type 0 where
+  pub asked : (one : HasOneTree text) × (questions ≡ asked one.tree)
+  pub well_formed : AllByRecursion IsWellFormed questions
 
 module _ {F T : Type 0} (logic : Operations T) (asker : Asker F T) where
   -- the closure was asked what the text's one tree asks, one call each, and the value is that of
@@ -26,3 +36,27 @@ pub record IsValueBy {T : Type 0} (logic : Operations T) (text : List ℕ)
     (answer_to : Question → T) (value : T) : Type 0 where
   pub one : HasOneTree text
   pub value_is : value ≡ tree_fold logic one.tree (map answer_to (asked one.tree))
+
+-- what `eval` promises of its result, and of the closure before and after
+pub record EvaluatesTo {F T E : Type 0} (logic : Operations T) (asker : Asker F T) (text : List ℕ)
+    (before after : F) (result : Result T E) : Type 0 where
+  pub value : IfOk result (λ value. Evaluates logic asker text before value after)
+  -- what follows of a closure that no call changes, such as one without state
+  pub by : IfOk result (λ value. (answer_to : Question → T) → AnswersBy asker before answer_to
+      → IsValueBy logic text answer_to value)
+  -- nothing was asked
+  pub refused : OnErr result (after ≡ before)
+  -- a text of at most 32 bytes needs no memory
+  pub short : length text ≤ 32 → IsOk result
+
+-- the value of the text's one tree over the answers, in all lanes at once and in each by itself
+abbrev pub IsValueInLanes : List ℕ → List Planes → Planes → Type 0
+IsValueInLanes text answers value = (one : HasOneTree text)
+    × (value ≡ tree_fold lane_valued one.tree answers)
+    × EachLane value (λ i. tree_fold three_valued one.tree (map (lane i) answers))
+
+-- the text has one tree, which is evaluated lane by lane over any answers to it
+abbrev pub IsByLaneOverAll : List ℕ → Type 0
+IsByLaneOverAll text = (one : HasOneTree text) × ((answers : List Planes)
+    → AllByRecursion IsDisjoint answers → length answers ≡ length (asked one.tree)
+    → IsByLane one.tree answers)

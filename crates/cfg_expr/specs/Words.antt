@@ -1,4 +1,4 @@
--- Words of other crates for the contracts of a caller of `parse` and `eval`.
+-- Words of the crates below for contracts of callers of `parse` and `eval`.
 pub use Rattle.cfgx_syntax.specs.Stripping.{strip}
 pub use Rattle.cfgx_grammar.specs.Answer.{Answers, HasOneTree}
 pub use Rattle.cfgx_grammar.specs.Fold.{tree_fold}

@@ -1,5 +1,5 @@
--- How the nodes that a `ParsedRef` gives are evaluated and filled. Internal: no public contract
--- names it.
+-- How the nodes of a `ParsedRef` are evaluated and its answers are filled. Internal: no public
+-- contract cites this.
 pub mod AnswerSlots
 pub mod Parity
 pub mod Reading

@@ -1,2 +1,2 @@
--- How the value of a predicate is written. Internal: no public contract names it.
+-- How the value of a predicate is written. Internal: no public contract cites this.
 pub mod ValueBytes

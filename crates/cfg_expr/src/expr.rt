@@ -1,20 +1,11 @@
 //! Conditions, and the predicates that they ask.
-ghost use Rattle.std.specs.Prelude.{◌≡◌, ◌≤◌, Bool, List, Option, length, map, IfOk, IsOk, OnErr};
-ghost use Rattle.cfgx_syntax.specs.Kleene.{EachLane, IsDisjoint, Planes, lane};
+ghost use Rattle.std.specs.Prelude.{◌≡◌, ◌≤◌, length, IfOk, IsOk};
 ghost use Rattle.cfgx_syntax.specs.Stripping.{strip};
-ghost use Rattle.std.specs.List.{AllByRecursion};
 ghost use Rattle.cfgx_grammar.specs.Given.{AreAnswersTo};
-ghost use Rattle.cfgx_grammar.specs.Answer.{Answers, HasOneTree};
-ghost use Rattle.cfg_expr.specs.Asking.{AnswersBy};
-ghost use Rattle.cfg_expr.specs.Deciding.{DecidesExactly};
-ghost use Rattle.cfg_expr.specs.Evaluation.{Evaluates, IsValueBy, MayEvaluate};
-ghost use Rattle.cfgx_grammar.specs.Filling.{IsExact, PolarFillings, three_valued};
-ghost use Rattle.cfgx_grammar.specs.Fold.{tree_fold};
-ghost use Rattle.cfgx_grammar.specs.Homomorphism.{IsByLane, lane_valued};
-ghost use Rattle.cfgx_grammar.specs.Question.{Question};
-ghost use Rattle.cfgx_grammar.specs.Tree.{Tree, asked};
-ghost use Rattle.cfgx_grammar.specs.Grammar.{HasTree};
-ghost use Rattle.cfgx_grammar.specs.WellFormed.{IsWellFormed};
+ghost use Rattle.cfgx_grammar.specs.Answer.{Answers};
+ghost use Rattle.cfg_expr.specs.Deciding.{AreFillings, Decides, IsExactOverAll};
+ghost use Rattle.cfg_expr.specs.Evaluation.{AsksInOrder, EvaluatesTo, MayEvaluate};
+ghost use Rattle.cfg_expr.specs.Evaluation.{IsByLaneOverAll, IsValueInLanes};
 
 mod condition;
 mod evaluating;
@@ -30,7 +21,6 @@ use cfgx_parser::parsed::{Parsed, parse};
 pub use cfgx_parser::predicates::{Predicate, Predicates, TargetPredicate};
 use cfgx_syntax::logic::Kleene64;
 pub use cfgx_syntax::logic::Logic;
-use cfgx_syntax::logic::laws::are_disjoint;
 pub use cfgx_syntax::{lexer, logic};
 pub use condition::{Condition, ConditionReader};
 pub use spelling::spell;
@@ -52,24 +42,36 @@ impl<A: Allocator> Model for Expression<A> {
     ghost view = { λ e. e.parsed };
 }
 
-/// What is known of the value of a condition over answers of which some may be unknown.
+/// What `decide` found.
 #[derive_where(Debug)]
 #[derive(Drop)]
 pub enum Decision<A: Allocator = Global> {
-    /// It is this, whatever the unknown answers are
+    /// The value, whatever the unknown answers are
     Known(bool),
-    /// The unknown answers decide: two ways to fill them show it. Each is a filling, with one truth
-    /// value for each answer, in order: that answer, if it is known
+    /// The value depends on the unknown answers, as two fillings show. A filling has one truth
+    /// value for each answer, in order: the answer, if it is known
     Unknown {
         /// A filling with which the condition is true
         if_true: Vec<bool, A>,
-        /// A filling with which it is false
+        /// A filling with which the condition is false
         if_false: Vec<bool, A>,
     },
 }
 
+/// Returns `Decision::Known(false)`, which takes no memory.
+impl<A: Allocator> Default for Decision<A> {
+    ghost use Rattle.std.specs.Prelude.{◌≡◌, false};
+    ghost use Rattle.cfg_expr.specs.declared.expr.Decision.TheVariants.{Known};
+
+    ghost is_default = { λ decision. decision ≡ Known false };
+
+    fn default() -> Self {
+        Decision::Known(false)
+    }
+}
+
 impl<A: Allocator> Expression<A> {
-    /// The text that was read, without the outer `cfg( )`. Spans count its bytes.
+    /// Returns the text without an outer `cfg( )`. Spans are ranges of its bytes.
     pub fn original(&self) -> &str
         ensures { result.now ≡ self.now }
     {
@@ -77,7 +79,7 @@ impl<A: Allocator> Expression<A> {
     }
 }
 
-/// Prints the stripped text.
+/// Writes the stripped text.
 impl<A: Allocator> fmt::Display for Expression<A> {
     ghost use Rattle.std.specs.Prelude.{Some};
 
@@ -88,7 +90,7 @@ impl<A: Allocator> fmt::Display for Expression<A> {
     }
 }
 
-/// Two expressions are equal if their stripped texts are: `key` and `key,` are not.
+/// Two expressions are equal if their stripped texts are equal: `key` and `key,` are not.
 impl<A: Allocator> PartialEq for Expression<A> {
     ghost use Rattle.std.specs.Prelude.{nat_eq, ◌↔◌, IsTrue};
     ghost use Rattle.std.specs.Cmp.{partial_equiv_from_equiv};
@@ -105,7 +107,7 @@ impl<A: Allocator> PartialEq for Expression<A> {
     }
 }
 
-/// Prints the stripped text as `Debug` prints a text, in parentheses.
+/// Writes the `Debug` form of the stripped text in parentheses.
 impl<A: Allocator> fmt::Debug for Expression<A> {
     fn fmt<W: fmt::Write>(&self, f: &mut fmt::Formatter<W>) -> fmt::Result {
         write!(f, "Expression({:?})", self.original())
@@ -113,16 +115,18 @@ impl<A: Allocator> fmt::Debug for Expression<A> {
 }
 
 impl<A: SmallAllocator> Expression<A> {
-    /// The condition, borrowed. It takes no memory.
+    /// Borrows the expression as a condition. Takes no memory.
     pub fn condition(&self) -> Condition<'_>
         ensures { result ≡ self.now }
     {
         Condition::new(self.parsed.as_ref())
     }
 
-    /// The expression of a text, which may stand in `cfg( )`.
+    /// Parses a text, which may stand in `cfg( )`.
     ///
-    /// The error is the first fault of the text, or that `alloc` refused memory.
+    /// # Errors
+    ///
+    /// `Failure::Parse`: the first fault of the text. `Failure::Memory`: `alloc` refused memory.
     pub fn parse(alloc: A, original: &str) -> Result<Self, Failure<A>>
         ensures { Answers (strip original.now) result }
     {
@@ -131,16 +135,18 @@ impl<A: SmallAllocator> Expression<A> {
         })
     }
 
-    /// What `parse` answers, under the name of Rust's trait, which has no allocator to pass.
+    /// Does what `parse` does, under the name of Rust's trait, which has no allocator to pass.
     pub fn from_str(alloc: A, original: &str) -> Result<Self, Failure<A>>
         ensures { Answers (strip original.now) result }
     {
         Self::parse(alloc, original)
     }
 
-    /// An expression of the same text. This one stays as it was.
+    /// Copies the expression.
     ///
-    /// The error is that `alloc` refused the copy.
+    /// # Errors
+    ///
+    /// `AllocError`: `alloc` refused memory.
     pub fn try_clone(&self, alloc: A) -> Result<Self, AllocError>
         ensures { IfOk result (λ copy. copy ≡ self.now) }
     {
@@ -149,69 +155,58 @@ impl<A: SmallAllocator> Expression<A> {
         })
     }
 
-    /// The predicates in the order in which they are asked: in each list the functions first,
-    /// whole, and then the list's own predicates. Each of them can stand in a text. It takes no
-    /// memory.
+    /// Returns the predicates in the order in which they are asked: those of a list's functions,
+    /// one function after another, and then the list's own. Takes no memory.
     pub fn predicates(&self) -> Predicates<'_>
-        ensures asked { (one : HasOneTree self.now) × (result ≡ asked one.tree) }
-        ensures well_formed { AllByRecursion IsWellFormed result }
+        ensures { AsksInOrder self.now result }
     {
         self.condition().predicates()
     }
 
-    /// The value of the condition if `ep` answers each predicate.
+    /// Evaluates the condition over what `ep` answers to its predicates.
     ///
-    /// Each occurrence of a predicate is asked once, in the order of `predicates`. The members of
-    /// `all` are joined by `and` to `top`, those of `any` by `or` to `bottom`: from the last back,
-    /// the predicates and literals of the list, and then its functions.
+    /// `ep` is asked each occurrence of a predicate once, in the order of `predicates`. The members
+    /// of `all` are joined by `and` to `top`, and those of `any` by `or` to `bottom`: from the last
+    /// back, first the predicates and literals of the list, and then its functions.
     ///
-    /// `ep` must be callable on each predicate, in each state that the calls before leave it in.
-    /// All memory is taken before the first question, and none if the text has at most 32 bytes.
+    /// `ep` must be callable on each predicate, in every state in which earlier calls leave it. All
+    /// memory is taken before the first question, and none for a text of at most 32 bytes.
     ///
     /// # Errors
     ///
-    /// `AllocError`: `alloc` refused memory. `ep` is as it was, so nothing was asked.
+    /// `AllocError`: `alloc` refused memory. `ep` has not changed, so nothing was asked.
     pub fn eval<EP, T>(&self, alloc: A, ep: &mut EP) -> Result<T, AllocError>
     where
         EP: FnMut(&Predicate<'_>) -> T,
         T: Logic,
         requires { MayEvaluate EP.FnMut self.now ep.old }
-        ensures value { IfOk result (λ value.
-            Evaluates T.Logic EP.FnMut self.now ep.old value ep.new) }
-        // What follows of a closure that no call changes, as one without state.
-        ensures by { IfOk result (λ value. (answer_to : Question → T)
-            → AnswersBy EP.FnMut ep.old answer_to
-            → IsValueBy T.Logic self.now answer_to value) }
-        ensures refused { OnErr result (ep.new ≡ ep.old) }
-        ensures short { length self.now ≤ 32 → IsOk result }
+        ensures { EvaluatesTo T.Logic EP.FnMut self.now ep.old ep.new result }
     {
         self.condition().eval(alloc, ep)
     }
 
-    /// Whether the answers decide the condition: its value, or a filling of the unknown answers for
-    /// each of the two.
+    /// Decides the condition over answers of which some may be unknown: returns its value, or two
+    /// fillings of the unknown answers, one with which it is true and one with which it is false.
     ///
-    /// There is one answer for each occurrence of a predicate, in the order of `predicates`, and
-    /// `None` if it is unknown. The value is known exactly if every way to fill the unknown answers
-    /// leads to it.
+    /// `answers` has one answer for each occurrence of a predicate, in the order of `predicates`.
+    /// An unknown one is `None`. The value is known exactly if every filling leads to it.
     ///
     /// # Errors
     ///
     /// `AllocError`: `alloc` refused memory.
     pub fn decide(&self, alloc: A, answers: &[Option<bool>]) -> Result<Decision<A>, AllocError>
         requires { AreAnswersTo answers.now self.now }
-        // This holds of all answers to the text's one tree, also if the call is out of memory.
-        ensures exact { (one : HasOneTree self.now) × ((given : List (Option Bool))
-            → length given ≡ length (asked one.tree) → IsExact one.tree given) }
-        ensures decision { IfOk result (λ decision. (one : HasOneTree self.now)
-            × DecidesExactly one.tree answers.now decision) }
+        // This also holds if the call is out of memory.
+        ensures exact { IsExactOverAll self.now }
+        ensures decision { IfOk result (Decides self.now answers.now) }
     {
-        self.condition()
-            .decide(alloc, answers, Decision::Known(false))
+        let mut decision = Decision::default();
+        self.condition().decide(alloc, answers, &mut decision)?;
+        Ok(decision)
     }
 
-    /// The fillings of `decide` that show why the value over the answers is unknown, the one with
-    /// which the condition is true and then the other one, or `None` if the value is known.
+    /// Returns the two fillings of `decide`, first the one with which the condition is true, or
+    /// `None` if the value is known.
     ///
     /// # Errors
     ///
@@ -222,39 +217,29 @@ impl<A: SmallAllocator> Expression<A> {
         answers: &[Option<bool>],
     ) -> Result<Option<(Vec<bool, A>, Vec<bool, A>)>, AllocError>
         requires { AreAnswersTo answers.now self.now }
-        // This holds of all answers to the text's one tree, also if the call is out of memory.
-        ensures exact { (one : HasOneTree self.now) × ((given : List (Option Bool))
-            → length given ≡ length (asked one.tree) → IsExact one.tree given) }
-        ensures fillings { IfOk result (λ found. (one : HasOneTree self.now)
-            × PolarFillings one.tree answers.now found) }
+        // This also holds if the call is out of memory.
+        ensures exact { IsExactOverAll self.now }
+        ensures fillings { IfOk result (AreFillings self.now answers.now) }
     {
-        match self.decide(alloc, answers)? {
-            Decision::Known(_) => Ok(None),
-            Decision::Unknown { if_true, if_false } => Ok(Some((if_true, if_false))),
-        }
+        self.condition().polar_fillings(alloc, answers)
     }
 
-    /// The value of the condition in each of 64 lanes, over answers that are there already.
+    /// Evaluates the condition in 64 lanes at once, such as those of `TargetPredicate::lanes`.
     ///
-    /// There is one answer for each occurrence of a predicate, in the order of `predicates`. They
-    /// are joined as `eval` joins them, so each lane of the value is the value over this lane of
-    /// the answers: of the targets that `TargetPredicate::lanes` is asked of, each one gets its
-    /// own.
+    /// `answers` has one answer for each occurrence of a predicate, in the order of `predicates`.
+    /// They are joined as in `eval`, so each lane of the value is the value over this lane of the
+    /// answers. Takes no memory for a text of at most 32 bytes.
     ///
-    /// No memory is taken if the text has at most 32 bytes. The error is that `alloc` refused it.
+    /// # Errors
+    ///
+    /// `AllocError`: `alloc` refused memory.
     pub fn eval_lanes(&self, alloc: A, answers: &[Kleene64]) -> Result<Kleene64, AllocError>
         requires { AreAnswersTo answers.now self.now }
-        // This holds of all answers to the text's one tree, also if the call is out of memory.
-        ensures lanes { (one : HasOneTree self.now) × ((given : List Planes)
-            → AllByRecursion IsDisjoint given → length given ≡ length (asked one.tree)
-            → IsByLane one.tree given) }
-        ensures value { IfOk result (λ value. (one : HasOneTree self.now)
-            × (value ≡ tree_fold lane_valued one.tree answers.now)
-            × EachLane value (λ i. tree_fold three_valued one.tree (map (lane i) answers.now))) }
+        // This also holds if the call is out of memory.
+        ensures lanes { IsByLaneOverAll self.now }
+        ensures value { IfOk result (IsValueInLanes self.now answers.now) }
         ensures short { length self.now ≤ 32 → IsOk result }
     {
-        // It does nothing but show that no lane of the answers is both true and false.
-        are_disjoint(answers);
-        evaluating::eval_over_answers(alloc, &self.parsed.as_ref(), answers)
+        self.condition().eval_lanes(alloc, answers)
     }
 }

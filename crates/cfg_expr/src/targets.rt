@@ -1,4 +1,4 @@
-//! Targets: the fields that they are described by, and tables of them.
+//! Targets, their fields, and tables of them.
 
 pub use cfgx_fields::{Abi, Arch, Env, Family, Os, Panic, Triple, Vendor};
 pub use cfgx_targets::atomic::{HasAtomic, HasAtomicFailure};

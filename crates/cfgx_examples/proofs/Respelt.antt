@@ -1,4 +1,4 @@
--- What is read of a text that asks one predicate alone.
+-- The result for a text that asks one predicate alone.
 use Rattle.std.{proofs.Common.{◌∙◌, List, ℕ, Ok, Err, sym, subst}, specs.Prelude.Result}
 use Rattle.cfgx_syntax.specs.{Stripping.strip, declared.error.Failure.Failure}
 use Rattle.cfgx_syntax.specs.declared.error.Failure.TheVariants as failure

@@ -1,4 +1,4 @@
--- Terms written piece by piece are cut off as if they were written at once.
+-- Terms that are written piece by piece are cut off where one whole term is.
 use Rattle.std.proofs.Common.{◌≡◌, ℕ, zero, suc, ◌+◌, ◌<◌, ◌≤◌, List, [], ◌∷◌, ◌++◌, length, take}
 use Rattle.std.proofs.Common.{refl, ap, sym, ◌∙◌, arith, append_assoc, length-append}
 use Rattle.std.specs.Prelude.{codes, set}
@@ -13,13 +13,13 @@ take-front (suc n) (byte ∷ front) rest = ap (λ l. byte ∷ l) (take-front n f
 pub cut-front : (front rest : List ℕ) → cut (cut front ++ rest) ≡ cut (front ++ rest)
 cut-front front rest = take-front 64 front rest
 
--- a term has no more than there is room for
+-- the bytes of a term fit
 pub cut-short : (bytes : List ℕ) (n : ℕ) → n ≤ 64 → length bytes ≡ 64
     → take n bytes ≡ cut (take n bytes)
 cut-short bytes n within long =
     sym (take_all 64 (take n bytes) (omega (arith, length-take-le n bytes (omega (arith, long)))))
 
--- one byte more, if there is room
+-- a pushed byte, if there is room
 pub cut-pushed : (bytes : List ℕ) (n byte : ℕ) → n < 64 → length bytes ≡ 64
     → take (n + 1) (set bytes n byte) ≡ cut (take n bytes ++ byte ∷ [])
 cut-pushed bytes n byte room long =
@@ -28,7 +28,7 @@ cut-pushed bytes n byte room long =
     omega (arith, short, length-append (take n bytes) (byte ∷ [])) in
     take_more_set bytes n byte (omega (arith, long)) ∙ sym (take_all 64 _ fits)
 
--- and if there is none
+-- a pushed byte, if there is no room
 pub cut-full : (bytes : List ℕ) (n byte : ℕ) → n ≡ 64 → length bytes ≡ 64
     → take n bytes ≡ cut (take n bytes ++ byte ∷ [])
 cut-full bytes n byte full long =
@@ -36,14 +36,14 @@ cut-full bytes n byte full long =
     cut-short bytes n (omega (arith, full)) long
     ∙ sym (take-append-le 64 (take n bytes) (byte ∷ []) (omega (arith, short, full)))
 
--- a byte after what was written of some bytes
+-- the next byte of a list that is written byte by byte
 pub cut-next : (old front now new : List ℕ) (byte : ℕ) → now ≡ cut (old ++ front)
     → new ≡ cut (now ++ byte ∷ []) → new ≡ cut (old ++ (front ++ byte ∷ []))
 cut-next old front now new byte is next =
     next ∙ ap (λ l. cut (l ++ byte ∷ [])) is ∙ cut-front (old ++ front) (byte ∷ [])
     ∙ ap cut (append_assoc old front (byte ∷ []))
 
--- the parts of a term one after another
+-- a term whose parts are written one after another
 pub cut-in_parens : (one other first second third fourth fifth : List ℕ) (sign : ℕ)
     → first ≡ cut (codes "(") → second ≡ cut (first ++ one) → third ≡ cut (second ++ sign ∷ [])
     → fourth ≡ cut (third ++ other) → fifth ≡ cut (fourth ++ codes ")")

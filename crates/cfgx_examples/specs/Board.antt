@@ -3,7 +3,7 @@ use Rattle.std.specs.Prelude.{ℕ, Bool, false, List, ◌==◌}
 use Rattle.std.specs.Str.{bytes_eq}
 use Rattle.cfg_expr.specs.Words.{TargetQuestion}
 
--- whether a board of this system and these bits meets a predicate: it knows nothing of others
+-- whether a board with this system and pointer width meets a predicate; it meets no other one
 abbrev pub board_meets : List ℕ → ℕ → TargetQuestion → Bool
 board_meets os pointer_width (TargetQuestion.os text) = bytes_eq os text
 board_meets os pointer_width (TargetQuestion.pointer_width bits) = pointer_width == bits

@@ -1,4 +1,4 @@
--- What the proved callers answer.
+-- What the proved callers return.
 use Rattle.std.specs.Prelude.{ℕ, Bool, false, List, codes, Result, Ok, Err}
 use Rattle.std.specs.Borrow.{Bor}
 use Rattle.std.specs.List.{list_any}
@@ -9,7 +9,7 @@ use Rattle.cfgx_grammar.specs.Question.{Question}
 use Rattle.cfgx_grammar.specs.WellFormed.{IsAlone}
 use Rattle.cfgx_examples.specs.Terms.{cut}
 
--- whether a predicate is a bare key of no other meaning, and one of these
+-- whether a predicate is one of `flags`; a flag is a bare key without another meaning
 abbrev pub is_among : List (Bor (List ℕ)) → Question → Bool
 is_among flags (Question.flag name) = list_any (λ flag. bytes_eq flag.now name) flags
 is_among flags (Question.target question) = false
@@ -20,7 +20,7 @@ is_among flags (Question.feature text) = false
 is_among flags (Question.target_feature text) = false
 is_among flags (Question.key_value key value) = false
 
--- the term of a predicate: its name if it is such a key, and else `?`
+-- the term of a predicate: its name if it is a flag, and otherwise `?`
 abbrev pub term_of : Question → List ℕ
 term_of (Question.flag name) = cut name
 term_of (Question.target question) = codes "?"
@@ -31,7 +31,7 @@ term_of (Question.feature text) = codes "?"
 term_of (Question.target_feature text) = codes "?"
 term_of (Question.key_value key value) = codes "?"
 
--- the expression of a text that asks this predicate alone was read, or the call was out of memory
+-- the call returned an expression that asks this predicate alone, or it ran out of memory
 abbrev pub IsReadAlone : {A : Type 0} → Question → Result (List ℕ) (Failure A) → Type 0
 IsReadAlone question (Ok expression) = IsAlone expression question
 IsReadAlone question (Err (failure.Parse error)) = ⊥

@@ -1,33 +1,34 @@
-//! Tables of rows, each of which passes the check of its table.
+//! Tables of rows, and the checks of these rows by name.
 //!
-//! They share one test, since a closure is four functions to prove, and a test two.
+//! All tables share one test and one closure.
 use crate::auditing::AUDITED;
 use crate::calling::ANSWERS;
 use crate::evaluating::{BY_FLAGS, TERMS};
 use crate::{auditing, calling, evaluating};
-use cfgx_testing::rows::{Checked, check_tables};
+use cfgx_testing::rows::{Checked, Finding, check_tables};
 use std::alloc::Global;
 
-/// Each table, and how many rows it has.
+/// The name of a check, its table, and the number of rows.
 const TABLES: &[Checked<'static>] = &[
-    ("answers of examples", ANSWERS, 63),
+    ("examples", ANSWERS, 64),
     ("verdicts on many targets", AUDITED, 6),
-    ("values by a list of flags", BY_FLAGS, 5),
-    ("terms are written and questions counted", TERMS, 12),
+    ("values with flags", BY_FLAGS, 5),
+    ("terms and questions", TERMS, 12),
 ];
 
-fn is_row(alloc: Global, check: &str, row: &[String]) -> bool {
+// Whether the row passes the check, or `None` if no check has this name.
+fn row_is_right(alloc: Global, check: &str, row: &[String]) -> Option<bool> {
     match check {
-        "answers of examples" => calling::is_row(alloc, row),
-        "verdicts on many targets" => auditing::is_row(alloc, row),
-        "values by a list of flags" => evaluating::has_value(alloc, row),
-        "terms are written and questions counted" => evaluating::has_terms(alloc, row),
-        _ => false,
+        "examples" => calling::row_is_right(alloc, row),
+        "verdicts on many targets" => Some(auditing::row_is_right(alloc, row)),
+        "values with flags" => Some(evaluating::value_is_right(alloc, row)),
+        "terms and questions" => Some(evaluating::terms_are_right(alloc, row)),
+        _ => None,
     }
 }
 
 #[test]
-fn examples_answer_what_the_tables_say(rt: HostRuntime) -> Result<(), String> {
+fn rows_of_each_table_are_right(rt: HostRuntime) -> Finding {
     let alloc = rt.alloc();
-    check_tables(alloc, TABLES, |check, row| is_row(alloc, check, row))
+    check_tables(alloc, TABLES, |check, row| row_is_right(alloc, check, row))
 }

@@ -1,4 +1,4 @@
-//! Callers of `Expression::eval`, each proved by its contract alone.
+//! Callers of `Expression::eval`. Each is proved by the contract of `eval` alone.
 ghost use Rattle.std.specs.Prelude.{◌≡◌, ◌+◌, ◌^◌, ◌*◌, ◌%◌, ◌-◌, length, min, IfOk};
 ghost use Rattle.cfg_expr.specs.Evaluation.{IsValueBy};
 ghost use Rattle.cfg_expr.specs.Words.{HasOneTree, asked, question_of};
@@ -8,12 +8,12 @@ pub mod terms;
 
 use cfg_expr::expr::Logic;
 use cfg_expr::{Expression, Predicate};
-use cfgx_testing::answers::value_with;
-use cfgx_testing::holding::holds;
+use cfgx_testing::answers::eval_over_answers;
+use cfgx_testing::checking::is_ok_true;
 use std::alloc::{AllocError, Global};
 use terms::Terms;
 
-/// Whether a predicate is one of the flags: a bare key of no other meaning.
+/// Whether a predicate is one of `flags`. A flag is a bare key without another meaning.
 fn is_among(flags: &[&str], predicate: &Predicate<'_>) -> bool
     ensures { result ≡ is_among flags.now (question_of predicate.now) }
 {
@@ -23,8 +23,8 @@ fn is_among(flags: &[&str], predicate: &Predicate<'_>) -> bool
     }
 }
 
-/// The value of a condition if these flags are true, and all else is false.
-pub fn value_with_flags(
+/// The value of a condition if `flags` are true and everything else is false.
+pub fn eval_with_flags(
     alloc: Global,
     expression: &Expression,
     flags: &[&str],
@@ -36,7 +36,7 @@ pub fn value_with_flags(
     expression.eval(alloc, &mut answer)
 }
 
-/// The term of a predicate: its name if it is a bare key of no other meaning, and else `?`.
+/// The term of a predicate: its name if it is a flag, and otherwise `?`.
 fn term_of(predicate: &Predicate<'_>) -> Terms
     ensures { result ≡ term_of (question_of predicate.now) }
 {
@@ -46,15 +46,15 @@ fn term_of(predicate: &Predicate<'_>) -> Terms
     }
 }
 
-/// How a condition joins its predicates, written down.
-pub fn terms_of(alloc: Global, expression: &Expression) -> Result<Terms, AllocError>
+/// The term by which a condition joins the terms of its predicates.
+pub fn joined_terms(alloc: Global, expression: &Expression) -> Result<Terms, AllocError>
     ensures { IfOk result (IsValueBy ⟦<Terms as Logic>⟧ expression.now term_of) }
 {
     expression.eval(alloc, &mut |predicate: &Predicate<'_>| term_of(predicate))
 }
 
-/// How many questions the value of a condition takes.
-pub fn questions_of(alloc: Global, expression: &Expression) -> Result<usize, AllocError>
+/// Counts the questions that the evaluation of a condition asks.
+pub fn count_questions(alloc: Global, expression: &Expression) -> Result<usize, AllocError>
     ensures { IfOk result (λ count. (one : HasOneTree expression.now)
         × (count ≡ min (length (asked one.tree)) (2 ^ 64 - 1))) }
 {
@@ -67,8 +67,8 @@ pub fn questions_of(alloc: Global, expression: &Expression) -> Result<usize, All
     Ok(count)
 }
 
-/// A logic of no law: `and` is the sum of three times the first value and the second one, `or` is
-/// the first one, and `not` changes nothing. Sums wrap.
+/// A logic without laws: `and` is the sum of three times its first value and its second value, `or`
+/// is its first value, and `not` is its value. Sums wrap.
 #[derive(Clone, Copy, Debug, PartialEq, Eq)]
 pub struct Lawless(pub u64);
 
@@ -108,7 +108,7 @@ impl Logic for Lawless {
     }
 }
 
-/// Texts, flags that are set, and the values.
+/// A row is a text, the flags that are true, and the value.
 pub const BY_FLAGS: &str = r#"
 all(a, not(test)) | a | true
 all(a, not(test)) | test | false
@@ -117,14 +117,15 @@ any(a, feature = "b") | b feature | false
 all(a, b) | a | false
 "#;
 
-// The value of the expression with these flags, two at most.
-fn value_by(alloc: Global, expression: &Expression, flags: &str) -> Option<bool> {
+// The value if the flags of a row are true, of which there are at most two.
+fn eval_with_flags_of_row(alloc: Global, expression: &Expression, flags: &str) -> Option<bool> {
     let (one, other) = flags.split_once(' ').unwrap_or((flags, ""));
-    value_with_flags(alloc, expression, &[one, other]).ok()
+    eval_with_flags(alloc, expression, &[one, other]).ok()
 }
 
-/// Texts, how many questions are asked, and the terms that join the predicates, by their names, and
-/// by their names with the numbers of their calls. The last member that is asked is joined first.
+/// A row is a text, the number of its questions, and two terms: one of the names of the predicates,
+/// and one of these names with the numbers of the questions. The last member that is asked is joined
+/// first.
 pub const TERMS: &str = r#"
 all(a, any(b), c) | 3 | (((T&c)&a)&(F|b)) | (((T&c3)&a2)&(F|b1))
 not(any(x)) | 1 | !(F|x) | !(F|x1)
@@ -137,13 +138,13 @@ any(true, not(a), false) | 1 | (((F|F)|T)|!a) | (((F|F)|T)|!a1)
 a | 1 | a | a1
 any(a, a, a) | 3 | (((F|a)|a)|a) | (((F|a3)|a2)|a1)
 all() | 0 | T | T
-// What follows 64 bytes is cut off.
+// A term keeps its first 64 bytes.
 ~not(~100~a~)~100~ | 1 | ~!~64~ | ~!~64~
 "#;
 
-// The terms of the predicates' names with the numbers of their calls, and how many calls there
-// were. No text here has more than nine.
-fn numbered_terms(alloc: Global, expression: &Expression) -> Result<(Terms, usize), AllocError> {
+// The term of the names of the predicates with the numbers of the questions, and the number of
+// questions. No text here asks more than nine.
+fn numbered_term(alloc: Global, expression: &Expression) -> Result<(Terms, usize), AllocError> {
     let mut count = 0u8;
     let mut answer = |predicate: &Predicate<'_>| {
         count = count.saturating_add(1);
@@ -151,63 +152,68 @@ fn numbered_terms(alloc: Global, expression: &Expression) -> Result<(Terms, usiz
         term.push(b'0'.saturating_add(count));
         term
     };
-    let terms = expression.eval(alloc, &mut answer)?;
-    Ok((terms, usize::from(count)))
+    let term = expression.eval(alloc, &mut answer)?;
+    Ok((term, usize::from(count)))
 }
 
-// Whether as many questions are asked of the expression, and these are its terms, by names alone
-// and with the numbers of the calls.
-fn is_written(
+// Whether the expression asks this number of questions and has these two terms.
+fn terms_are(
     alloc: Global,
     expression: &Expression,
     questions: &str,
-    names: &str,
+    named: &str,
     numbered: &str,
 ) -> Result<bool, AllocError> {
-    let (terms, count) = numbered_terms(alloc, expression)?;
-    let is_counted = questions_of(alloc, expression)? == count && questions.parse() == Ok(count);
-    let is_named = terms_of(alloc, expression)?.as_bytes() == names.as_bytes();
-    Ok(is_counted && is_named && terms.as_bytes() == numbered.as_bytes())
+    let (term, count) = numbered_term(alloc, expression)?;
+    let is_counted = count_questions(alloc, expression)? == count && questions.parse() == Ok(count);
+    let is_named = joined_terms(alloc, expression)?.as_bytes() == named.as_bytes();
+    Ok(is_counted && is_named && term.as_bytes() == numbered.as_bytes())
 }
 
-/// Whether a text has the value of the row with the row's flags.
-pub fn has_value(alloc: Global, row: &[String]) -> bool {
+/// Whether the text of `row` has its value if the flags of `row` are true.
+pub fn value_is_right(alloc: Global, row: &[String]) -> bool {
     let [text, flags, value] = row else {
         return false;
     };
     match Expression::parse(alloc, text.as_str()) {
         Ok(expression) => {
-            value_by(alloc, &expression, flags.as_str()) == Some(value.as_str() == "true")
+            eval_with_flags_of_row(alloc, &expression, flags.as_str())
+                == Some(value.as_str() == "true")
         }
         Err(_) => false,
     }
 }
 
-/// Whether a text has the questions and the terms of the row.
-pub fn has_terms(alloc: Global, row: &[String]) -> bool {
-    let [text, questions, names, numbered] = row else {
+/// Whether the text of `row` asks its number of questions and has its terms.
+pub fn terms_are_right(alloc: Global, row: &[String]) -> bool {
+    let [text, questions, named, numbered] = row else {
         return false;
     };
-    let told = (questions.as_str(), names.as_str(), numbered.as_str());
+    let (questions, named, numbered) = (questions.as_str(), named.as_str(), numbered.as_str());
     match Expression::parse(alloc, text.as_str()) {
-        Ok(expression) => holds(is_written(alloc, &expression, told.0, told.1, told.2)),
+        Ok(expression) => is_ok_true(terms_are(alloc, &expression, questions, named, numbered)),
         Err(_) => false,
     }
 }
 
-// The value over these answers, one after another, and how many questions are asked.
-fn value_of(alloc: Global, text: &str, answers: &[Lawless]) -> Option<(Lawless, usize)> {
+// The value of `text` over these answers to its questions in turn, and the number of questions.
+fn eval_and_count(alloc: Global, text: &str, answers: &[Lawless]) -> Option<(Lawless, usize)> {
     let expression = Expression::parse(alloc, text).ok()?;
-    let value = value_with(alloc, &expression, answers);
-    value.zip(questions_of(alloc, &expression).ok())
+    let value = eval_over_answers(alloc, &expression, answers);
+    value.zip(count_questions(alloc, &expression).ok())
 }
 
 // `any(b)` is `bottom`, which is 2; then 3 * 1 + 30 = 33, 3 * 33 + 10 = 109, 3 * 109 + 2 = 329. Of
-// two members, 3 * 1 + 7 = 10 and 3 * 10 + 5 = 35.
+// two members, 3 * 1 + 7 = 10 and 3 * 10 + 5 = 35. Of three, 3 * 1 + 9 = 12, 3 * 12 + 7 = 43 and
+// 3 * 43 + 5 = 134. What `any` joins never counts here, and is asked all the same.
 #[test]
 fn the_last_member_is_joined_first(rt: HostRuntime) {
+    let alloc = rt.alloc();
     let answers = [Lawless(20), Lawless(10), Lawless(30)];
-    assert!(rt; value_of(rt.alloc(), "all(a, any(b), c)", &answers) == Some((Lawless(329), 3)));
+    assert!(rt; eval_and_count(alloc, "all(a, any(b), c)", &answers) == Some((Lawless(329), 3)));
     let answers = [Lawless(5), Lawless(7)];
-    assert!(rt; value_of(rt.alloc(), "all(a, b)", &answers) == Some((Lawless(35), 2)));
+    assert!(rt; eval_and_count(alloc, "all(a, b)", &answers) == Some((Lawless(35), 2)));
+    assert!(rt; eval_and_count(alloc, "any(a, b)", &answers) == Some((Lawless(2), 2)));
+    let answers = [Lawless(5), Lawless(7), Lawless(9)];
+    assert!(rt; eval_and_count(alloc, "all(a, b, c)", &answers) == Some((Lawless(134), 3)));
 }

@@ -1,4 +1,4 @@
-//! The callers that the pages show, and others, each proved by the contracts that it calls.
+//! The callers on the pages, and others. Each is proved by the contracts of its calls.
 #![tactic(auto)]
 
 #[cfg(test)]

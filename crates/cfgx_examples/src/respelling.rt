@@ -1,4 +1,4 @@
-//! A caller who spells a predicate and reads the spelling again.
+//! A caller that spells a predicate and parses the spelling.
 ghost use Rattle.std.specs.Prelude.{IfSome};
 ghost use Rattle.cfgx_grammar.specs.WellFormed.{IsAlone, IsWellFormed};
 ghost use Rattle.cfgx_parser.specs.Predicate.{question_of};
@@ -10,7 +10,7 @@ use cfg_expr::{Expression, Predicate};
 use std::alloc::Global;
 use std::test::Fail;
 
-/// The expression of a text that asks one predicate alone. It is never refused for a fault.
+/// Parses a text that asks one predicate alone. The text has no fault.
 fn read_alone(alloc: Global, predicate: &Predicate<'_>, text: &str) -> Result<Expression, Failure>
     requires { IsAlone text.now (question_of predicate.now) }
     ensures { IsReadAlone (question_of predicate.now) result }
@@ -19,8 +19,8 @@ fn read_alone(alloc: Global, predicate: &Predicate<'_>, text: &str) -> Result<Ex
     Expression::parse(alloc, text)
 }
 
-/// The expression of a predicate's own spelling, which asks this predicate alone, or `None` if the
-/// spelling was not written.
+/// Parses the spelling of a predicate. The expression asks this predicate alone. Returns `None` if
+/// the spelling was not written.
 pub fn read_again(alloc: Global, predicate: &Predicate<'_>) -> Option<Result<Expression, Failure>>
     requires { IsWellFormed (question_of predicate.now) }
     ensures { IfSome result (IsReadAlone (question_of predicate.now)) }
@@ -35,8 +35,8 @@ pub fn read_again(alloc: Global, predicate: &Predicate<'_>) -> Option<Result<Exp
     Some(read_alone(alloc, predicate, text))
 }
 
-// Whether the predicate is spelled, and its spelling is this text, which asks one predicate.
-fn is_read_as(alloc: Global, predicate: &Predicate<'_>, text: &str) -> bool
+// Whether the predicate is spelled as `text`, and `text` asks one predicate.
+fn is_spelled_as(alloc: Global, predicate: &Predicate<'_>, text: &str) -> bool
     requires { IsWellFormed (question_of predicate.now) }
 {
     match read_again(alloc, predicate) {
@@ -45,20 +45,20 @@ fn is_read_as(alloc: Global, predicate: &Predicate<'_>, text: &str) -> bool
     }
 }
 
-// Whether this holds of the first predicate of the expression.
-fn is_first_read_as(alloc: Global, expression: &Expression, text: &str) -> bool {
+// Whether the first predicate of the expression is spelled as `text`.
+fn is_first_spelled_as(alloc: Global, expression: &Expression, text: &str) -> bool {
     let first = expression.predicates().next();
-    let is_read = match &first {
-        Some(predicate) => is_read_as(alloc, predicate, text),
+    let is_spelled = match &first {
+        Some(predicate) => is_spelled_as(alloc, predicate, text),
         None => false,
     };
     drop(first);
-    is_read
+    is_spelled
 }
 
 #[test]
 fn a_spelling_asks_its_predicate(rt: HostRuntime) -> Result<(), Fail> {
     let expression = Expression::parse(rt.alloc(), "all(panic = \"abort\", unix)")?;
-    assert!(rt; is_first_read_as(rt.alloc(), &expression, "panic = \"abort\""));
+    assert!(rt; is_first_spelled_as(rt.alloc(), &expression, "panic = \"abort\""));
     Ok(())
 }

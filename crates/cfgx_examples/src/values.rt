@@ -1,6 +1,5 @@
-//! Logics, fields, hashes, widths and verdicts, whose answers are known from outside.
+//! Fields, hashes, verdicts and widths, compared with values that are known from outside.
 mod fields;
 mod hashing;
-mod logics;
 mod verdicts;
 mod widths;

@@ -1,5 +1,5 @@
-//! The example of the README of `cfg-expr`, on three rows that are written by hand: what is not
-//! asked of the target is true.
+//! The example in the README of `cfg-expr`, on three rows that are written by hand. Predicates that
+//! are not on the target are true.
 use cfg_expr::targets::{
     Abi, Arch, Endian, Env, Families, HasAtomic, HasAtomics, Os, Panic, TargetInfo, Triple, Vendor,
 };
@@ -7,7 +7,7 @@ use cfg_expr::{Expression, Predicate};
 use cfgx_testing::triples::DARWIN;
 use std::alloc::{AllocError, Global};
 
-/// The condition.
+/// The condition of the example.
 const CONDITION: &str = "all(target_os = \"windows\", target_arch = \"x86\", windows, \
     target_env = \"msvc\", target_feature = \"fxsr\", target_feature = \"sse\", \
     target_feature = \"sse2\", target_pointer_width = \"32\", target_endian = \"little\", \
@@ -21,7 +21,7 @@ const WIDTHS: &[HasAtomic] = &[
     HasAtomic::Pointer,
 ];
 
-// Windows of this vendor, for x86.
+// A row of Windows for x86, with this triple and vendor.
 fn windows(
     alloc: Global,
     triple: &'static str,
@@ -43,7 +43,7 @@ fn windows(
     })
 }
 
-// The row of macOS.
+// A row of macOS.
 fn darwin(alloc: Global) -> Result<TargetInfo<'static>, AllocError> {
     let families = Families::unix(alloc)?;
     let has_atomics = HasAtomics::atomic_8_16_32_64_128_ptr(alloc)?;
@@ -62,7 +62,7 @@ fn darwin(alloc: Global) -> Result<TargetInfo<'static>, AllocError> {
     })
 }
 
-// The value of the condition on the row, if what is not asked of it is true.
+// The value of the condition on the row. Predicates that are not on the target are true.
 fn value_on(
     alloc: Global,
     condition: &Expression,
@@ -77,8 +77,8 @@ fn value_on(
     )
 }
 
-// The value of the text on the row. An expression is owned where its type is named.
-fn value_of_text(alloc: Global, row: Result<TargetInfo<'_>, AllocError>) -> Option<bool> {
+// The value of `CONDITION` on the row, or `None` if memory ran out.
+fn value_of_condition(alloc: Global, row: Result<TargetInfo<'_>, AllocError>) -> Option<bool> {
     match (Expression::parse(alloc, CONDITION), &row) {
         (Ok(condition), Ok(row)) => value_on(alloc, &condition, row).ok(),
         _ => None,
@@ -89,8 +89,8 @@ fn value_of_text(alloc: Global, row: Result<TargetInfo<'_>, AllocError>) -> Opti
 fn a_condition_on_windows_has_its_value(rt: HostRuntime) {
     let alloc = rt.alloc();
     let pc = windows(alloc, "i686-pc-windows-msvc", "pc");
-    assert!(rt; value_of_text(alloc, pc) == Some(true));
+    assert!(rt; value_of_condition(alloc, pc) == Some(true));
     let uwp = windows(alloc, "i686-uwp-windows-msvc", "uwp");
-    assert!(rt; value_of_text(alloc, uwp) == Some(false));
-    assert!(rt; value_of_text(alloc, darwin(alloc)) == Some(false));
+    assert!(rt; value_of_condition(alloc, uwp) == Some(false));
+    assert!(rt; value_of_condition(alloc, darwin(alloc)) == Some(false));
 }

@@ -1,5 +1,6 @@
-//! The named values of the field types, each the borrowed text that equals its name.
-//! If nothing else fixes the allocator, a caller names it, as in `Abi::<Global>::abi64()`.
+//! The named values of the field types, which borrow their texts.
+//!
+//! A caller names the allocator if nothing else determines it: `Abi::<Global>::abi64()`.
 
 mod abis;
 mod architectures;

@@ -1,5 +1,4 @@
-//! The type behind all field types: a text that is borrowed or owned, marked with its kind, which
-//! compares by its bytes alone.
+//! The type behind all field types: a borrowed or owned text with its kind.
 
 ghost use Rattle.std.specs.Prelude.{◌≡◌, ◌↔◌, IfOk, IsTrue, Some};
 ghost use Rattle.std.specs.Prelude.{fold, nat_eq, refl, string_bytes};
@@ -21,8 +20,8 @@ use std::marker::{Model, PhantomData};
 
 /// A text of the kind `K`, borrowed for `'a` or owned in the allocator `A`.
 ///
-/// Both behave alike: contracts see the list of its bytes, and `==`, the order and the hash are
-/// those of `str`, which depend on the bytes alone. Fields of two kinds have two types.
+/// Contracts see the list of its bytes. `==`, the order and the hash are those of `str`, so they
+/// do not depend on who owns the text. Fields of two kinds have two types.
 #[derive(Drop)]
 pub struct Field<'a, K, A: Allocator = Global> {
     text: CowStr<'a, A>,
@@ -39,7 +38,7 @@ impl<'a, K, A: Allocator> Model for Field<'a, K, A> {
 }
 
 impl<'a, K, A: Allocator> Field<'a, K, A> {
-    /// Owns the text that it is given, and takes no memory.
+    /// Returns a field that owns `text`. It allocates nothing.
     pub fn new(text: String<A>) -> Self
         ensures { result ≡ string_bytes text }
     {
@@ -49,7 +48,7 @@ impl<'a, K, A: Allocator> Field<'a, K, A> {
         }
     }
 
-    /// Borrows the text that it is given, and takes no memory.
+    /// Returns a field that borrows `text`. It allocates nothing.
     pub const fn new_const(text: &'a str) -> Self
         ensures { result ≡ text.now }
     {
@@ -59,17 +58,17 @@ impl<'a, K, A: Allocator> Field<'a, K, A> {
         }
     }
 
-    /// The text.
+    /// Returns the text.
     pub fn as_str(&self) -> &str
         ensures { result.now ≡ self.now }
     {
         self.text.as_str()
     }
 
-    /// A field equal to this one. A borrowed text is borrowed again and takes no memory; an owned
-    /// one is copied into `alloc`.
+    /// Returns a field equal to this one. A borrowed text is borrowed again, and an owned one is
+    /// copied into `alloc`.
     ///
-    /// The error is that `alloc` refused the copy. This field stays as it was either way.
+    /// Returns an error if `alloc` refuses the copy.
     pub fn try_clone(&self, alloc: A) -> Result<Self, AllocError>
         ensures { IfOk result (λ copy. copy ≡ self.now) }
     {

@@ -1,8 +1,6 @@
-//! The field types of a target, with their named values: what it is made of (its triple, ABI,
-//! architecture and vendor) and where a program runs (its operating system, family, environment
-//! and panic strategy).
+//! The field types of a target, with their named values.
 //!
-//! Each is a text of its own type, as in the crate `cfg-expr`.
+//! Each field is a text with a type of its own, such as `Arch` or `Os`.
 #![tactic(auto)]
 
 use std::alloc::Global;

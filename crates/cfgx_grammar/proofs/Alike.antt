@@ -1,4 +1,4 @@
--- Trees of one shape and with the same literals, whose other leaves stand in a relation one by one.
+-- Trees of one shape with the same literals, whose other leaves are related one by one.
 use Rattle.std.proofs.Common.{arith, ◌≡◌, Bool, List, [], ◌∷◌, ◌++◌, length}
 use Rattle.std.{proofs.lemmas.Slice.Zip.AllZip-long, specs.List.AllZip}
 use Rattle.cfgx_grammar.specs.Tree.{ListFunction, Tree, Trees, is_function, is_leaf, asked}
@@ -6,7 +6,7 @@ use Rattle.cfgx_grammar.specs.{Tree.asked_by, Fold.Left, Fold.left_for, Fold.ans
 use Rattle.cfgx_grammar.specs.Fold.{answered_each}
 use Rattle.cfgx_grammar.specs.Filling.{polarities, polarities_each}
 
--- Lists whose items stand in a relation.
+-- Lists whose items are related one by one.
 
 pub AllZip-append : {T U : Type 0} (R : T → U → Type 0) (xs others : List T) (ys more : List U)
     → AllZip R xs ys → AllZip R others more → AllZip R (xs ++ others) (ys ++ more)
@@ -29,7 +29,7 @@ module _ {T U : Type 0} (R : T → U → Type 0) where
       more : (x : Tree T) (y : Tree U) (xs : Trees T) (ys : Trees U) → Alike x y
           → AlikeEach xs ys → AlikeEach (Trees.more x xs) (Trees.more y ys)
 
--- trees of one shape, whatever their leaves are that are no literals
+-- trees of one shape with the same literals, whatever their other leaves are
 abbrev pub SameShape : {T U : Type 0} → Tree T → Tree U → Type 0
 SameShape {T} {U} = Alike (λ (x : T) (y : U). Unit {0})
 
@@ -44,7 +44,7 @@ module _ {T U : Type 0} (R : T → U → Type 0) where
   same_leaves x y alike = grind arith
 
   mutual
-    -- they ask alike
+    -- such trees ask related leaves
     pub asked-alike : (x : Tree T) (y : Tree U) → Alike R x y → AllZip R (asked x) (asked y)
     asked-alike _ _ (Alike.leaf x y related) = (related, tt)
     asked-alike _ _ (Alike.literal truth) = tt
@@ -71,7 +71,7 @@ module _ {T U : Type 0} (R : T → U → Type 0) where
 
 module _ {X T : Type 0} (otherwise : T) where
   mutual
-    -- a tree keeps its shape when it is answered
+    -- an answered tree has the shape of the tree
     pub answered-shape : (tree : Tree X) (answers : List T)
         → SameShape tree (answered otherwise tree answers)
     answered-shape (Tree.leaf x) answers = Alike.leaf _ _ tt
@@ -86,7 +86,7 @@ module _ {X T : Type 0} (otherwise : T) where
     answered_each-shape (Trees.more tree trees) left = AlikeEach.more _ _ _ _
         (answered-shape tree (left_for tree left)) (answered_each-shape trees _)
 
--- and when its predicates become their polarities
+-- the tree of polarities has the shape of the tree
 module _ {X : Type 0} where
   mutual
     pub polarities-shape : (polarity : Bool) (tree : Tree X)

@@ -1,4 +1,4 @@
--- What the parser answers for the one token list of a text, the grammar answers for the text.
+-- The result of the parser for the one token list of a text is what the grammar says of the text.
 use Rattle.std.proofs.Common.{arith, ◌≡◌, ℕ, List, [], ◌∷◌, length, Some, None, Result, Ok, Err}
 use Rattle.std.proofs.Common.{refl}
 use Rattle.cfgx_syntax.specs.Items.{Item, Ending, AreItems, HasOneTokenList}
@@ -16,12 +16,12 @@ module _ {W M L : Type 0} {builder : Builder W M L} (text : List ℕ)
   abbrev pub answer : Result (State builder) Fault
   answer = answer_from None initial text one.items one.ending
 
-  -- a tree is spelled by the one token list
+  -- the one token list spells the tree
   pub Finds-one : (laws : Laws builder) (tree : Tree Question) → HasTree text tree
       → Finds laws text one.items one.ending tree
   Finds-one laws tree has = grind (arith, Finds-tree)
 
-  -- what is accepted has a tree
+  -- an accepted text has a tree
   pub tree_of : (u : State builder) → answer ≡ Ok u → (tree : Tree Question) × HasTree text tree
   tree_of u e =
       let r = ran (step_each None initial one.items) _ u e in
@@ -29,12 +29,12 @@ module _ {W M L : Type 0} {builder : Builder W M L} (text : List ℕ)
       let ended : conclude r.0.0 (length text) r.0.1 ≡ Ok u = grind (arith, r.2) in
       grind (arith, ended, IsTree-accepted)
 
--- What the parser that builds the tree answers for a text that reads so.
+-- The result of the parser that builds the tree, for a text with this reading.
 abbrev Shows : Reading → Result (State tree_builder) Fault → Type 0
 Shows (Ok tree) answer = (s : State tree_builder) × (answer ≡ Ok s) × (s.written ≡ tree ∷ [])
 Shows (Err fault) answer = answer ≡ Err fault
 
--- the items of such a text, for which it answers that
+-- the items of such a text, and the result for them
 record Shown (text : List ℕ) (reading : Reading) : Type 0 where
   pub items : List Item
   pub ending : Ending
@@ -57,7 +57,7 @@ shown text (Err fault) has =
         → EndAgrees r (Some fault) → r ≡ Err fault
     refused r fault agrees = grind arith
 
--- A text reads one way: its items are the same, and so is the answer for them.
+-- A text reads one way: its items are the same, and so is the result for them.
 pub ReadsAs-has : {text : List ℕ} (reading : Reading) → HasReading text reading
     → ReadsAs text reading
 ReadsAs-has {text} reading has = grind (arith, shown, ItemsFrom-same)
@@ -65,12 +65,12 @@ ReadsAs-has {text} reading has = grind (arith, shown, ItemsFrom-same)
 pub HasOneTree-tree : {text : List ℕ} {tree : Tree Question} → HasTree text tree → HasOneTree text
 HasOneTree-tree {text} {tree} has = record { tree = tree; reads = ReadsAs-has (Ok tree) has }
 
--- any tree of such a text is that one
+-- a text with one tree has no other tree
 pub only_tree : {text : List ℕ} (one : HasOneTree text) (tree : Tree Question)
     → HasTree text tree → tree ≡ one.tree
 only_tree one tree has = let same = one.reads.only (Ok tree) has in cc
 
--- a text reads as one fault, and not as a tree too
+-- a text that reads as one fault has no other fault, and no tree
 pub same_fault : {text : List ℕ} {one other : Fault} → ReadsAs text (Err one)
     → ReadsAs text (Err other) → one ≡ other
 same_fault this that = let same = that.only (Err _) this.has in cc
@@ -80,10 +80,10 @@ not_both refused one = let same = refused.only (Ok one.tree) one.reads.has in cc
 
 module _ {W M L : Type 0} {builder : Builder W M L} (text : List ℕ)
     (one : HasOneTokenList text) where
-  -- what the parser refuses has a fault
-  pub ReadsAs-refused : (fault : Fault) → answer {builder = builder} text one ≡ Err fault
+  -- a text for which the parser finds a fault reads as this fault
+  pub ReadsAs-fault : (fault : Fault) → answer {builder = builder} text one ≡ Err fault
       → ReadsAs text (Err fault)
-  ReadsAs-refused fault e =
+  ReadsAs-fault fault e =
       let shown = rw e at (whole_agrees builder text one.items one.ending) in
       ReadsAs-has (Err fault) (record {
         items = one.items;
@@ -101,4 +101,4 @@ reads_one_way text one = decided (answer text one) refl
         → (reading : Reading) × ReadsAs text reading
     decided (Ok u) e =
         let (tree, has) = tree_of text one u e in (Ok tree, ReadsAs-has (Ok tree) has)
-    decided (Err fault) e = (Err fault, ReadsAs-refused text one fault e)
+    decided (Err fault) e = (Err fault, ReadsAs-fault text one fault e)

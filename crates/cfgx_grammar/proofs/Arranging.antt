@@ -1,4 +1,4 @@
--- The questions of a function are those of its arranged members, and its value is that of theirs.
+-- A function asks what its arranged members ask, and its value is that of their values.
 use Rattle.std.proofs.Common.{◌≡◌, Bool, ◌++◌, refl, append_assoc, arith}
 use Rattle.cfgx_grammar.specs.{Question.Question, Fold.Operations, Fold.values_by, Fold.values_of}
 use Rattle.cfgx_grammar.specs.Tree.{Tree, Trees, is_function, is_leaf, only, followed_by, arranged}

@@ -1,4 +1,4 @@
--- What the rest of a text answers, the whole answers: one token after another.
+-- The result for the rest of a text is that for the whole, one token after another.
 use Rattle.std.proofs.Common.{arith, ◌≡◌, ℕ, List, Option, Some, None, Result}
 use Rattle.cfgx_syntax.specs.{Error.Fault, Token.Token}
 use Rattle.cfgx_syntax.specs.Items.{Item, Ending, Stands, EndsAs, ItemsFrom, lexical}
@@ -6,8 +6,8 @@ use Rattle.cfgx_syntax.proofs.TokenList.{Follows-stands, no_more_items}
 use Rattle.cfgx_grammar.specs.parsing.State.{Builder, State}
 use Rattle.cfgx_grammar.specs.parsing.Step.{and_then, step, step_each, ended_as, answer_from}
 
--- what is answered from one place and state on is answered from the other place and state on,
--- after the last token
+-- the result from one place and state on is that from another place and state on, after the last
+-- token
 pub record Continues {W M L : Type 0} {builder : Builder W M L} (text : List ℕ) (from : ℕ)
     (s : State builder) (place : ℕ) (last : Option Token) (t : State builder) : Type 0 where
   pub rest_of : (items : List Item) (ending : Ending) → ItemsFrom text from items ending
@@ -16,7 +16,7 @@ pub record Continues {W M L : Type 0} {builder : Builder W M L} (text : List ℕ
 
 module _ {W M L : Type 0} {builder : Builder W M L} {text : List ℕ} {from place : ℕ}
     {s t : State builder} {last : Option Token} (c : Continues text from s place last t) where
-  -- at the token that comes next, the answer is what its step leads to
+  -- the result at the next token is what the step of it leads to
   pub Continues-token : (item : Item) (r : Result (State builder) Fault)
       → Stands text place item → step last t item ≡ r
       → (items : List Item) (ending : Ending) → ItemsFrom text from items ending

@@ -1,10 +1,10 @@
--- Answers that are dealt out to a tree are what the answered tree asks.
+-- The leaves of an answered tree are the answers that were dealt out to it.
 use Rattle.std.proofs.Common.{◌≡◌, ◌≤◌, List, [], ◌∷◌, ◌++◌, length, take, take_all}
 use Rattle.std.proofs.Common.{refl, arith, length-append, length-drop, take-add}
 use Rattle.cfgx_grammar.specs.Tree.{Tree, Trees, is_function, is_leaf, asked, asked_by}
 use Rattle.cfgx_grammar.specs.Fold.{left_after, left_to, answered, answered_each}
 
--- two parts of what is asked, one after another
+-- two parts of what is asked, one after the other
 taken_both : {X T : Type 0} (first second : List X) (answers these those : List T)
     → these ≡ take (length first) answers → those ≡ take (length second) (left_after first answers)
     → these ++ those ≡ take (length (first ++ second)) answers
@@ -12,7 +12,7 @@ taken_both first second answers these those these_are those_are =
     rw (these_are, those_are, length-append first second, take-add (length first)) refl
 
 module _ {X T : Type 0} (otherwise : T) where
-  -- what the members of a list ask that are functions, and those that are leaves
+  -- what the functions of a list ask, and what its leaves ask
   abbrev Takes : Trees X → List T → List T → Type 0
   Takes trees inner own =
       let answers = answered_each otherwise trees (record { functions = inner; leaves = own }) in

@@ -13,7 +13,7 @@ use Rattle.cfgx_grammar.proofs.Alike.{AllZip-append, length-asked, length-asked_
 -- Values of two logics that are related stay so.
 
 -- the operations of two logics preserve a relation of their values for each polarity, which `not`
--- turns over
+-- negates
 pub record Preserve {T U : Type 0} (one : Operations T) (other : Operations U)
     (R : Bool → T → U → Type 0) : Type 0 where
   pub top : (p : Bool) → R p one.top other.top
@@ -105,19 +105,19 @@ Along-all one other R top (p ∷ ps) (x ∷ xs) (y ∷ ys) all =
     (all.0, Along-all one other R top ps xs ys all.1)
 Along-all one other R top _ _ _ all = absurd all
 
--- a relation of all answers holds of the values
+-- if all answers are related, so are the values
 pub fold_kept : {T U X : Type 0} (one : Operations T) (other : Operations U) (R : T → U → Type 0)
     → Preserve one other (λ p. R) → (tree : Tree X) (xs : List T) (ys : List U) → AllZip R xs ys
     → R (tree_fold one tree xs) (tree_fold other tree ys)
 fold_kept one other R preserve tree xs ys all = value_kept one other (λ p. R) preserve tree true
     xs ys (Along-all one other R (preserve.top true) _ xs ys all)
 
--- a filling makes a known value
+-- every filling leads to a known value
 
 agreement : Preserve three_valued two_valued (λ p. Agrees)
 agreement = grind arith
 
--- the polar filling with `fill` gives the value, and `fill` if that is unknown
+-- the polar filling with `fill` leads to the value, or to `fill` if that is unknown
 
 abbrev Side : Bool → Option Bool → Bool → Type 0
 Side fill value side = side ≡ unwrap_or value fill

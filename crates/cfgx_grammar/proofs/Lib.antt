@@ -4,6 +4,7 @@ pub mod Arranging
 pub mod Continuing
 pub mod Dealing
 pub mod Exactness
+pub mod ListLemmas
 pub mod MappedValues
 pub mod Matched
 pub mod Stripped

@@ -1,4 +1,4 @@
--- What a map between two logics makes of a value is the value of what it makes of the answers.
+-- A map between two logics takes the value over answers to the value over the mapped answers.
 use Rattle.std.proofs.Common.{arith, ◌≡◌, ℕ, ◌<◌, List, [], ◌∷◌, map, refl, bit_and}
 use Rattle.std.{specs.List.{AllByRecursion, AllZip}, proofs.lemmas.Bool.Decides.Decides-eqb}
 use Rattle.cfgx_syntax.{specs.Kleene.{Planes, IsDisjoint, lane}, proofs.LaneLemmas.EachLane-bottom}
@@ -10,7 +10,7 @@ use Rattle.cfgx_grammar.{specs.Homomorphism.lane_valued, proofs.Exactness.fold_k
 
 module _ {T U : Type 0} (one : Operations T) (other : Operations U) (Holds : T → Type 0)
     (to : T → U) (is : IsHomomorphism one other Holds to) where
-  -- a value, and what the map makes of it
+  -- a value and its image under the map
   abbrev Becomes : T → U → Type 0
   Becomes x u = Holds x × (to x ≡ u)
 
@@ -25,7 +25,7 @@ module _ {T U : Type 0} (one : Operations T) (other : Operations U) (Holds : T �
   tree_fold-mapped tree answers all =
       (fold_kept one other Becomes (grind arith) tree answers _ (each-becomes answers all)).1
 
--- the answer of a lane
+-- a lane is a homomorphism
 pub IsHomomorphism-lane : (i : ℕ) → i < 64
     → IsHomomorphism lane_valued three_valued IsDisjoint (lane i)
 IsHomomorphism-lane i below = record {
@@ -36,7 +36,7 @@ IsHomomorphism-lane i below = record {
   not = λ x p. (AreDisjoint-not _ _ p, EachLane-not x p i below);
 }
 
--- a map stays one if what is known of a value is said in another way
+-- a homomorphism stays one if what is known of the values is stated in another way
 IsHomomorphism-same : {T U : Type 0} {one : Operations T} {other : Operations U}
     {Holds Same : T → Type 0} {to : T → U}
     → ((x : T) → Holds x → Same x) → ((x : T) → Same x → Holds x)

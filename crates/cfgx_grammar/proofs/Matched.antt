@@ -1,4 +1,4 @@
--- That the tests by which a target is matched decide whether values are the same.
+-- The tests by which a target is matched decide whether values are the same.
 use Rattle.std.proofs.Common.{arith, ◌≡◌, Decides}
 use Rattle.cfgx_targets.specs.declared.atomic.HasAtomic.{HasAtomic}
 use Rattle.cfgx_grammar.specs.Matching.{is_same_width}

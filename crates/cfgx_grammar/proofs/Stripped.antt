@@ -1,4 +1,4 @@
--- Nothing is stripped from a text that has a tree: after the word `cfg` no `(` may stand.
+-- Nothing is stripped from a text that has a tree, since no `(` may follow the key `cfg`.
 use Rattle.std.proofs.Common.{◌≡◌, ℕ, Bool, true, false, List, ◌∷◌, ◌++◌, nat_eq, refl, ap}
 use Rattle.std.{proofs.Common.◌∙◌, proofs.Common.arith, proofs.Common.codes, specs.List.starts_with}
 use Rattle.std.{proofs.lemmas.Slice.Eq.starts_is, proofs.lemmas.Bool.Decides.Decides-eqb}

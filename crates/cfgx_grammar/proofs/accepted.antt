@@ -1,4 +1,4 @@
--- What the parser accepts is spelled by a tree.
+-- A tree spells the tokens that the parser accepts.
 use Rattle.std.proofs.Common.{◌≡◌, ℕ, suc, ◌+◌, true, List, [], ◌∷◌, ◌++◌, refl, ap, ◌∙◌, arith}
 use Rattle.std.proofs.Common.{subst, add-zero, append_assoc, ◌⊎◌, inl, inr, Option, Some, None}
 use Rattle.std.proofs.Common.{option_map, Result, Ok, sym, false, Bool, map, Err, append-nil}
@@ -10,7 +10,7 @@ use Rattle.cfgx_grammar.specs.{Tree.ListFunction, Tree.Tree, Tree.Trees, Tree.co
 use Rattle.cfgx_grammar.specs.Grammar.{commas, Separates, IsMember, IsList, IsTree, leaf_tokens}
 use Rattle.cfgx_grammar.specs.parsing.State.{Function, Open, name_of, Word, Pending, Builder, State}
 use Rattle.cfgx_grammar.specs.{parsing.State.initial, LastPredicate.class_of, LastPredicate.word_of}
-use Rattle.cfgx_grammar.specs.parsing.Step.{has_room, result_map, leaf_ended, ended_by}
+use Rattle.cfgx_grammar.specs.parsing.Step.{allows_count, result_map, leaf_ended, ended_by}
 use Rattle.cfgx_grammar.specs.parsing.Step.{predicate_ended, new_open, and_then, opened}
 use Rattle.cfgx_grammar.specs.parsing.Step.{member_count, function_ended, closed_by}
 use Rattle.cfgx_grammar.specs.parsing.Step.{apply, step, step_each, one_root, conclude}
@@ -21,16 +21,16 @@ abbrev pub leaf_tree : Leaf → Tree Question
 leaf_tree (Leaf.predicate question) = Tree.leaf question
 leaf_tree (Leaf.literal truth) = Tree.literal truth
 
--- it is the member that its tokens spell
+-- the tokens of a leaf spell its tree as a member
 pub IsMember-leaf : (tokens : List Token) (leaf : Leaf) → IsLeaf tokens leaf
     → IsMember tokens (leaf_tree leaf)
 IsMember-leaf tokens leaf is = grind arith
 
--- What completes the open lists of the parser, as it is read from the end of a text: one member in
--- front of another.
+-- The tokens that complete the open lists of the parser. They are read from the end of a text: a
+-- member is put before those that are there.
 
--- which commas may come in front of the members that are left: none, any number, or, after a
--- member, those that separate it from them
+-- the number of commas that may stand before the members that are left: none, any number, or, after
+-- a member, as `Separates` says
 abbrev pub NoComma : ℕ → Trees Question → Type 0
 NoComma n trees = n ≡ 0
 
@@ -46,19 +46,19 @@ one_tree tokens (Trees.more tree Trees.none) one (member, n, rest, are, some, sp
 one_tree tokens (Trees.more tree (Trees.more second trees)) one list = absurd (omega arith)
 
 module _ {M : Type 0} where
-  -- The tokens close the open functions, the innermost of which has so many more members: after
-  -- each `)` come commas and the members that are left of the list around it. At the root stands
-  -- one item.
+  -- The tokens close the open functions, the innermost of which has `members` more members: after
+  -- each `)` come commas and the members that are left of the list around it. The root has one
+  -- member.
   abbrev pub Ends : List (Open M) → ℕ → ℕ → List Token → Type 0
   Ends [] roots members tokens = (roots + members ≡ 1) × (tokens ≡ [])
   Ends (top ∷ rest) roots members tokens =
-      (has_room top.function (top.members + members) ≡ true) × (n : ℕ) × (others : List Token)
+      (allows_count top.function (top.members + members) ≡ true) × (n : ℕ) × (others : List Token)
       × (trees : Trees Question) × (after : List Token)
       × (tokens ≡ Token.close_paren ∷ (commas n ++ (others ++ after))) × Separates n trees
       × IsList others trees × Ends rest roots (1 + count trees) after
 
-  -- the tokens are commas, members of the innermost list, and what closes it, if so many members
-  -- have no place in the stack yet
+  -- the tokens are commas, members of the innermost list, and what closes it; `members` is the
+  -- number of members that the stack does not count yet
   abbrev pub Rest : (ℕ → Trees Question → Type 0) → List (Open M) → ℕ → ℕ → List Token → Type 0
   Rest May stack roots members tokens = (n : ℕ) × (others : List Token)
       × (trees : Trees Question) × (after : List Token)
@@ -72,7 +72,7 @@ module _ {M : Type 0} where
   Rest-none May stack roots members tokens may ends =
       (0, [], Trees.none, tokens, refl, may, refl, rw (add-zero members) ends)
 
-  -- a comma, and a member, in front of what is left
+  -- a comma, and a member, before what is left
   pub Rest-comma : (stack : List (Open M)) (roots members : ℕ) (tokens : List Token)
       → Rest AnyCommas stack roots members tokens
       → Rest Separates stack roots members (Token.comma ∷ tokens)
@@ -89,7 +89,7 @@ module _ {M : Type 0} where
       let end = subst (λ m. Ends stack roots m after) sum ends in
       (0, _, Trees.more tree trees, after, all, refl, (member, n, others, refl, may, is, list), end)
 
-  -- a call in front of what is left after it
+  -- a call before what is left after it
   pub Rest-call : (function : Function) (begun : Open M) (stack : List (Open M)) (roots : ℕ)
       (tokens : List Token) → begun.function ≡ function → begun.members ≡ 0
       → Rest NoComma (begun ∷ stack) roots 0 tokens
@@ -106,7 +106,7 @@ module _ {M : Type 0} where
       (m, others, left, after, refl, may, rest, ends))
     where
       called : (function : Function) (list : List Token) (trees : Trees Question)
-          → has_room function (count trees) ≡ true → IsList list trees → (tree : Tree Question)
+          → allows_count function (count trees) ≡ true → IsList list trees → (tree : Tree Question)
           × IsMember (name_of function ∷ Token.open_paren ∷ (list ++ Token.close_paren ∷ [])) tree
       called (Function.list function) list trees room is =
           (Tree.list function trees, (list, refl, is))
@@ -116,13 +116,13 @@ module _ {M : Type 0} where
           let tokens = ap (λ l. Token.not ∷ Token.open_paren ∷ (l ++ Token.close_paren ∷ [])) are in
           (Tree.not tree, (member, n, tokens, spelled))
 
--- What the predicate that ends leaves, and what completes a state by its last token.
+-- The state after a predicate that ends, and what completes a state by its last token.
 
 pub ok_same : {A E : Type 0} (s t : A) → ◌≡◌ {A = Result A E} (Ok s) (Ok t) → s ≡ t
 ok_same s t e = cc
 
 module _ {W M L : Type 0} {builder : Builder W M L} where
-  -- what comes of a predicate that ends well
+  -- the state after a predicate that ends without a fault
   pub record LeafEnds (s t : State builder) (p : Pending) : Type 0 where
     pub leaf : Leaf
     pub written : L
@@ -133,14 +133,14 @@ module _ {W M L : Type 0} {builder : Builder W M L} where
       → predicate_ended s ≡ Ok t → LeafEnds s t p
   LeafEnds-ended s t p pending ends = grind arith
 
-  -- nothing ends if nothing pends
+  -- the state is the same if no predicate is pending
   pub same_ended : (s t : State builder) → s.pending ≡ None → predicate_ended s ≡ Ok t → s ≡ t
   same_ended s t none ends = ok_same s t (ap (ended_by s) (sym none) ∙ ends)
 
   abbrev pub RestOf : (ℕ → Trees Question → Type 0) → State builder → ℕ → List Token → Type 0
   RestOf May s members tokens = Rest May s.stack s.roots members tokens
 
-  -- tokens that begin with a predicate of this key, which the stack does not count yet
+  -- the tokens begin with a predicate of this key, which the stack does not count yet
   abbrev pub LeafRest : State builder → List ℕ → List Token → Type 0
   LeafRest s key tokens =
       (value : Option (List ℕ)) × (leaf : Leaf) × (others : List Token)
@@ -166,7 +166,7 @@ module _ {W M L : Type 0} {builder : Builder W M L} where
       → s.pending ≡ None → (others : List Token) × (tokens ≡ Token.open_paren ∷ others)
       × RestOf NoComma s 0 others
 
-  -- Where a member may come, so may one with no comma in front of it.
+  -- where a member may follow, it may follow without a comma
   pub Completes-member : (last : Option Token) (s : State builder) (tokens : List Token)
       → takes last Kind.name ≡ true → (s.pending ≡ None → RestOf NoComma s 0 tokens)
       → Completes last s tokens
@@ -179,7 +179,7 @@ module _ {W M L : Type 0} {builder : Builder W M L} where
   LeafRest-ended s t tokens p is ends r =
       let e = LeafEnds-ended s t p is ends in grind arith
 
-  -- where a comma may come, what stands in front of it ends
+  -- where a comma may follow, the member before it ends
   pub Completes-ended : (last : Option Token) (s t : State builder) (tokens : List Token)
       → takes last Kind.comma ≡ true → predicate_ended s ≡ Ok t → RestOf Separates t 0 tokens
       → Completes last s tokens
@@ -188,7 +188,7 @@ module _ {W M L : Type 0} {builder : Builder W M L} where
       LeafRest-ended s t tokens p is ends r in
       let same = λ (none : s.pending ≡ None). same_ended s t none ends in grind (arith, ended, same)
 
-  -- where `)` may come, or the end of the text, no member is left
+  -- where `)` or the end of the text may follow, no member is left
   pub Completes-none : (last : Option Token) (s t : State builder) (tokens : List Token)
       → (takes last Kind.closing ≡ true) ⊎ ((lacks_value last ≡ false) × (s.stack ≡ []))
       → predicate_ended s ≡ Ok t → Ends t.stack t.roots 0 tokens → Completes last s tokens
@@ -199,13 +199,13 @@ module _ {W M L : Type 0} {builder : Builder W M L} where
       ends (Rest-none Separates t.stack t.roots 0 tokens tt e) in
       grind (arith, named, after)
 
--- What the steps accept is spelled by a tree: each token stands in front of what completes the
--- state after it.
+-- A tree spells what the steps accept: each token is put before the tokens that complete the state
+-- after it.
 
 abbrev pub tokens_of : List Item → List Token
 tokens_of items = map (λ item. item.token) items
 
--- what went well, part by part
+-- the parts of a result that is `Ok`
 allowed : {A B E : Type 0} (b : Bool) (f : A → B) (r : Result A E) (e : E) (u : B)
     → (if b then result_map f r else Err e) ≡ Ok u
     → (b ≡ true) × (t : A) × (r ≡ Ok t) × (f t ≡ u)
@@ -216,10 +216,10 @@ pub ran : {A B E : Type 0} (r : Result A E) (f : A → Result B E) (u : B) → a
 ran r f u e = grind arith
 
 module _ {W M L : Type 0} {builder : Builder W M L} where
-  -- what a `)` that is taken closes
+  -- the function that an accepted `)` closes
   abbrev pub Closes : State builder → State builder → Type 0
   Closes s u = (top : Open M) × (rest : List (Open M)) × (settled : State builder)
-      × (s.stack ≡ top ∷ rest) × (has_room top.function (member_count top s.pending) ≡ true)
+      × (s.stack ≡ top ∷ rest) × (allows_count top.function (member_count top s.pending) ≡ true)
       × (predicate_ended s ≡ Ok settled) × (function_ended settled.stack settled ≡ u)
 
   pub Closes-stack : (s u : State builder) (item : Item) (stack : List (Open M)) → s.stack ≡ stack
@@ -229,13 +229,13 @@ module _ {W M L : Type 0} {builder : Builder W M L} where
       let (room, settled, ends, closed) = allowed _ _ (predicate_ended s) _ u does in
       (top, rest, settled, is, room, ends, closed)
 
-  -- `)` stands in front of what completes the function around
+  -- `)` before the tokens that complete the list around the function
   Ends-close : (s u : State builder) (tokens : List Token) (c : Closes s u)
       → Completes (Some Token.close_paren) u tokens
       → Ends c.2.stack c.2.roots 0 (Token.close_paren ∷ tokens)
   Ends-close s u tokens (top, rest, settled, is, room, ends, closed) completes = grind arith
 
-  -- a function's name in front of its members
+  -- the name of a function before its members
   Rest-name : (function : Function) (s u : State builder) (item : Item) (tokens : List Token)
       → ◌≡◌ {A = Result (State builder) Fault} (Ok (opened s function item)) (Ok u)
       → Completes (Some Token.all) u tokens → s.pending ≡ None
@@ -244,7 +244,7 @@ module _ {W M L : Type 0} {builder : Builder W M L} where
       let (others, are, r) = (rw (← ok_same _ u does) at completes) _ s.stack refl none in
       rw are (Rest-call function (new_open s function item) s.stack s.roots others refl refl r)
 
-  -- one token in front of others
+  -- one token before others
   module _ (s u : State builder) (tokens : List Token) (start end : ℕ) where
     abbrev at : Token → Item
     at token = record { token = token; start = start; end = end }
@@ -284,7 +284,7 @@ module _ {W M L : Type 0} {builder : Builder W M L} where
         grind (arith, Completes-ended, Rest-comma)
     Completes-applied _ _ may does completes = absurd (false≢true may)
 
-  -- the end of the text finds one member at the root, where no function is open
+  -- at the end no function is open, and there is one root
   one_rooted : (len : ℕ) (s u : State builder) → one_root len s ≡ Ok u → s.roots ≡ 1
   one_rooted len s u e = grind arith
 

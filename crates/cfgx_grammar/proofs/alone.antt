@@ -1,4 +1,4 @@
--- The predicates that a text asks, and the text of one alone.
+-- The predicates that a text asks, and the text of one predicate alone.
 use Rattle.std.proofs.{lemmas.Grind.common_steps, lemmas.Str.NoCharPasses-nil}
 use Rattle.std.proofs.lemmas.Fmt.{decimal_is_IsNumeral}
 use Rattle.std.proofs.Common.{◌≤◌, ◌≡◌, ℕ, Bool, true, false, List, [], ◌∷◌, ◌++◌, map, Some, None}
@@ -24,25 +24,9 @@ use Rattle.cfgx_grammar.specs.Classification.{target_feature, Rule, by_name, key
 use Rattle.cfgx_grammar.specs.Classification.{target_rules, target_class, plain}
 use Rattle.cfgx_grammar.specs.Spelling.{key_and_value, spelling}
 use Rattle.cfgx_grammar.proofs.{Answering.ReadsAs-has, accepted.tokens_of, Stripped.strip-tree}
+use Rattle.cfgx_grammar.proofs.ListLemmas.{all_of_both, all_of_first, all_of_second}
 
--- What a text asks can stand in a text.
-
--- all of both, and of each
-
-pub all_of_both : {X : Type 0} (P : X → Type 0) (xs ys : List X) → AllByRecursion P xs
-    → AllByRecursion P ys → AllByRecursion P (xs ++ ys)
-all_of_both P [] ys one other = other
-all_of_both P (x ∷ xs) ys one other = (one.0, all_of_both P xs ys one.1 other)
-
-pub all_of_first : {X : Type 0} (P : X → Type 0) (xs ys : List X)
-    → AllByRecursion P (xs ++ ys) → AllByRecursion P xs
-all_of_first P [] ys all = tt
-all_of_first P (x ∷ xs) ys all = (all.0, all_of_first P xs ys all.1)
-
-pub all_of_second : {X : Type 0} (P : X → Type 0) (xs ys : List X)
-    → AllByRecursion P (xs ++ ys) → AllByRecursion P ys
-all_of_second P [] ys all = all
-all_of_second P (x ∷ xs) ys all = all_of_second P xs ys all.1
+-- The predicates that a text asks are well formed.
 
 -- a key is a word, and a value has no quote
 abbrev pub IsSpelled : Token → Type 0
@@ -62,7 +46,7 @@ spelled_items text from (item ∷ items) ending come =
 abbrev AreWellFormed : List Question → Type 0
 AreWellFormed questions = AllByRecursion IsWellFormed questions
 
--- one of two
+-- a fact of both branches of an `if`
 kept_if : {A : Type 0} (P : A → Type 0) (b : Bool) (x y : A) → P x → P y → P (if b then x else y)
 kept_if P b x y here there = grind arith
 
@@ -93,14 +77,14 @@ pub well_formed_tree : (text : List ℕ) (tree : Tree Question) → HasTree text
     → AreWellFormed (asked tree)
 well_formed_tree text tree has = grind (arith, spelled_items, well_formed_member, all_of_first)
 
--- The spelling of a predicate that can stand in a text is a text of this predicate alone.
+-- The spelling of a well-formed predicate is a text of this predicate alone.
 
--- a key alone, or with its value
+-- the text of a key alone, or of a key with its value
 abbrev pub text_of : List ℕ → Option (List ℕ) → List ℕ
 text_of key None = key
 text_of key (Some value) = key_and_value key value
 
--- a key and perhaps a value say the predicate, and its spelling is theirs
+-- the predicate is well formed, and its spelling is the text of that key and value
 pub record IsSpelt (question : Question) : Type 0 where
   pub well_formed : IsWellFormed question
   pub spelled : spelling question ≡ text_of well_formed.key well_formed.value
@@ -155,7 +139,7 @@ module _ (key : List ℕ) (value : Option (List ℕ)) where
   Each v [] goal = goal
   Each v (first ∷ rest) goal = Good (first.read v) → Each v rest goal
 
-  -- then the table is
+  -- a table is good if each of its rules is
   good_by_name : {V : Type 0} (name : List ℕ) (v : V) (otherwise : Class) (goal : Type 0)
       → Good otherwise → (rules : List (Rule V))
       → (Good (by_name rules name v otherwise) → goal) → Each v rules goal
@@ -294,7 +278,7 @@ items_alone key (Some value) is_key quoted =
     let past = subst IsBlank (sym (drop_of_length-le text long)) (NoCharPasses-nil _) in
     ((key_stands, (equals_stands, (value_stands, past))), refl)
 
--- Its one tree: the spelling of a predicate that can stand in a text is a text of it alone.
+-- The one tree of the spelling of a well-formed predicate is the leaf of this predicate.
 pub spelling_alone : (question : Question) → IsWellFormed question
     → IsAlone (spelling question) question
 spelling_alone question is =

@@ -1,4 +1,4 @@
--- What is spelled by a tree is accepted, and what is built keeps the laws of the builder.
+-- Tokens that a tree spells are accepted, and what is built of them keeps the laws of the builder.
 use Rattle.std.proofs.Common.{◌≡◌, ℕ, zero, suc, ◌+◌, ◌-◌, ◌<◌, true, false, List, [], ◌∷◌, ◌++◌}
 use Rattle.std.proofs.Common.{Option, Some, None, Ok, sym, refl, ap, ◌∙◌, arith, add-zero}
 use Rattle.std.proofs.Common.{append_assoc, length, take, drop, append-nil}
@@ -11,14 +11,13 @@ use Rattle.cfgx_grammar.specs.{Tree.ListFunction, Tree.Tree, Tree.Trees, Tree.co
 use Rattle.cfgx_grammar.specs.Grammar.{commas, Separates, leaf_tokens, IsCall, IsMember, IsList}
 use Rattle.cfgx_grammar.specs.parsing.State.{Function, Pending, Builder, Open, State, name_of}
 use Rattle.cfgx_grammar.specs.parsing.Step.{with_member, one_more, ended_by, predicate_ended}
-use Rattle.cfgx_grammar.specs.parsing.Step.{new_open, has_room, function_ended, closed_by}
+use Rattle.cfgx_grammar.specs.parsing.Step.{new_open, allows_count, function_ended, closed_by}
 use Rattle.cfgx_grammar.specs.parsing.Step.{with_parens, step_each, answer_from, step}
 use Rattle.cfgx_grammar.proofs.accepted.{leaf_tree, tokens_of, ok_same, ran}
 
--- The tokens of a tree are taken, from any state in which a member may come, and what is built
--- keeps the laws of the builder.
+-- The tokens of a tree are accepted from any state in which a member may follow.
 
--- a key, and a key with its value, as they stand at their tokens
+-- a pending predicate: a key, or a key with its value
 abbrev pub key_at : Item → List ℕ → Pending
 key_at x key = record { key = word_of key x.start x.end; value = None }
 
@@ -28,7 +27,7 @@ value_at x key z value = record {
   value = Some (word_of value (z.start + 1) (z.end - 1));
 }
 
--- where a call of the function ends, with these members
+-- the law of a call: what is built of a function that has these members
 abbrev pub Calls : {W M L : Type 0} → Builder W M L → (List Item → W → W → Tree Question → Type 0)
     → (List Item → W → W → Trees Question → Type 0) → Function → Tree Question → Trees Question
     → Type 0
@@ -37,7 +36,8 @@ Calls {W} builder MemberBuilds ListBuilds function tree trees = (head opening cl
     → MemberBuilds (head ∷ opening ∷ (members ++ closing ∷ [])) w
     (builder.function_ended (builder.mark_of w) function (count trees) v) tree
 
--- what is built of the tokens of a tree, and of those of a list: from the first to the second
+-- The laws of a builder. `MemberBuilds` and `ListBuilds` say that the tokens of a tree or a list
+-- change what is built from the first to the second.
 pub record Laws {W M L : Type 0} (builder : Builder W M L) : Type 1 where
   pub MemberBuilds : List Item → W → W → Tree Question → Type 0
   pub ListBuilds : List Item → W → W → Trees Question → Type 0
@@ -60,7 +60,7 @@ pub record Laws {W M L : Type 0} (builder : Builder W M L) : Type 1 where
       → Calls builder MemberBuilds ListBuilds Function.not (Tree.not tree)
       (Trees.more tree Trees.none)
 
--- the items of two parts, and of one token
+-- the items of tokens in two parts, and of one token
 split_items : (items : List Item) (front back : List Token) → tokens_of items ≡ front ++ back
     → (xs : List Item) × (ys : List Item) × (items ≡ xs ++ ys) × (tokens_of xs ≡ front)
     × (tokens_of ys ≡ back)
@@ -79,17 +79,17 @@ no_items : (items : List Item) → tokens_of items ≡ [] → items ≡ []
 no_items [] is = refl
 no_items (x ∷ items) is = absurd (cc)
 
--- after a member, and after the commas that follow it: `)`, `,` and the end may come
+-- `)`, `,` or the end may follow, as after a member and the commas behind it
 abbrev IsEnd : Option Token → Type 0
 IsEnd last = (takes last Kind.closing ≡ true) × (takes last Kind.comma ≡ true)
     × (lacks_value last ≡ false)
 
--- counts of members
+-- the function with `n` more members
 abbrev more : {M : Type 0} → ℕ → Open M → Open M
 more n f = record f { members = f.members + n }
 
 module _ {W M L : Type 0} {builder : Builder W M L} where
-  -- the state after so many more members of the innermost list
+  -- the state with `n` more members of the innermost list
   abbrev grown : ℕ → State builder → State builder
   grown zero s = s
   grown (suc n) s = grown n (with_member s)
@@ -97,7 +97,7 @@ module _ {W M L : Type 0} {builder : Builder W M L} where
   abbrev settled : State builder → W → State builder
   settled s written = record s { pending = None; written = written }
 
-  -- and after one more
+  -- the settled state with one more member
   abbrev pub between : State builder → W → State builder
   between s written = with_member (settled s written)
 
@@ -107,7 +107,7 @@ module _ {W M L : Type 0} {builder : Builder W M L} where
   grown_top zero s top rest = rw add-zero refl
   grown_top (suc n) s top rest = grind (arith, grown_top n s (one_more top) rest)
 
-  -- the state in front of a function's members
+  -- the state before the members of a function
   abbrev pub inside : State builder → Function → Item → Item → State builder
   inside s function head opening = record s {
     stack = with_parens opening.start (new_open s function head) ∷ s.stack;
@@ -120,7 +120,7 @@ module _ {W M L : Type 0} {builder : Builder W M L} where
       ≡ step_each (Some Token.open_paren) (inside s function head opening) rest
   opens last s function head opening rest may named is = grind arith
 
-  -- one part of the items, and then the other
+  -- the steps of items in two parts
   steps_both : (xs ys : List Item) (last : Option Token) (s : State builder)
       (read : Option Token × State builder) → step_each last s xs ≡ Ok read
       → step_each last s (xs ++ ys) ≡ step_each read.0 read.1 ys
@@ -153,7 +153,7 @@ module _ {W M L : Type 0} {builder : Builder W M L} (laws : Laws builder) where
     pub builds : laws.MemberBuilds member s.written written tree
     pub members_come : 0 < n → read ≡ (Some Token.comma, between s written)
 
-  -- when a list has been taken
+  -- the last token and the state when the items of a list have been taken
   pub record ListEnds (last : Option Token) (s : State builder) (items : List Item)
       (trees : Trees Question) : Type 0 where
     pub read : Option Token × State builder
@@ -215,7 +215,7 @@ module _ {W M L : Type 0} {builder : Builder W M L} (laws : Laws builder) where
     members_come = λ some. refl;
   }
 
-  -- the last member, and a member in front of others
+  -- the last member of a list, and a member before others
   ListEnds-one : (last : Option Token) (s : State builder) (member beyond : List Item) (n : ℕ)
       (tree : Tree Question) → MemberEnds last s (member ++ beyond) member n tree
       → ListEnds last s (member ++ beyond) (Trees.more tree Trees.none)
@@ -253,7 +253,7 @@ module _ {W M L : Type 0} {builder : Builder W M L} (laws : Laws builder) where
   MemberEnds-call : (last : Option Token) (s : State builder) (items : List Item)
       (function : Function) (inner : List Token) (tree : Tree Question) (trees : Trees Question)
       → takes last Kind.name ≡ true → IsCall (name_of function) (tokens_of items) inner
-      → has_room function (count trees) ≡ true
+      → allows_count function (count trees) ≡ true
       → Calls builder laws.MemberBuilds laws.ListBuilds function tree trees
       → ((start : State builder) (members : List Item) → start.pending ≡ s.pending
       → tokens_of members ≡ inner → ListEnds (Some Token.open_paren) start members trees)
@@ -325,7 +325,7 @@ module _ {W M L : Type 0} {builder : Builder W M L} (laws : Laws builder) where
 
 -- The builder that builds the tree itself.
 
--- a list of trees as the members of a function
+-- the trees of a list as the members of a function
 abbrev trees_of : List (Tree Question) → Trees Question
 trees_of [] = Trees.none
 trees_of (tree ∷ trees) = Trees.more tree (trees_of trees)
@@ -336,8 +336,7 @@ called (Function.list function) trees = Tree.list function (trees_of trees)
 called Function.not [] = Tree.list ListFunction.all Trees.none
 called Function.not (tree ∷ trees) = Tree.not tree
 
--- it keeps the trees of the open lists that have ended, those of inner lists after those of outer
--- ones
+-- the builder of trees: it keeps the trees of open lists that have ended, those of inner lists last
 abbrev pub tree_builder : Builder (List (Tree Question)) ℕ Leaf
 tree_builder = record {
   nothing = [];
@@ -386,7 +385,7 @@ tree_built items built tree is = is
 -- A text whose tokens a tree spells is accepted.
 
 module _ {W M L : Type 0} {builder : Builder W M L} (laws : Laws builder) where
-  -- the tokens are taken, and the tree is built of the first of them: commas may follow
+  -- the tokens are accepted, and the tree is built of the first of them; the others are commas
   pub record Finds (text : List ℕ) (items : List Item) (ending : Ending) (tree : Tree Question)
       : Type 0 where
     pub first : List Item

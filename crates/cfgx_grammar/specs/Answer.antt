@@ -1,4 +1,4 @@
--- What a stripped text reads as, and what `Expression::parse` answers for it, by the grammar and
+-- What a stripped text reads as, and what `Expression::parse` returns for it, by the grammar and
 -- the first fault alone.
 use Rattle.std.specs.Prelude.{◌≡◌, ℕ, List, Result, Ok, Err}
 use Rattle.cfgx_syntax.specs.{Stripping.strip, declared.error.Failure.Failure}
@@ -15,8 +15,8 @@ abbrev pub HasReading : List ℕ → Reading → Type 0
 HasReading text (Ok tree) = HasTree text tree
 HasReading text (Err fault) = HasFault text fault
 
--- The text reads as this, and as nothing else. A text in UTF-8 has one token list, and then reads
--- as something so, by the lemma `reads_one_way`.
+-- The text reads as this, and as nothing else. A text in UTF-8 has one such reading, by the lemma
+-- `reads_one_way`.
 pub record ReadsAs (text : List ℕ) (reading : Reading) : Type 0 where
   pub has : HasReading text reading
   pub only : (other : Reading) → HasReading text other → other ≡ reading
@@ -26,8 +26,8 @@ pub record HasOneTree (text : List ℕ) : Type 0 where
   pub tree : Tree Question
   pub reads : ReadsAs text (Ok tree)
 
--- The answer is what the text reads as. An expression, from which nothing more is stripped, is seen
--- as the text; a fault holds the text. If the call is out of memory, the text still reads one way.
+-- The result is what the text reads as. An expression is seen as the text, from which nothing more
+-- is stripped; a fault has the text. If the call is out of memory, the text still reads one way.
 abbrev pub Answers : {A : Type 0} → List ℕ → Result (List ℕ) (Failure A) → Type 0
 Answers text (Ok expression) = (expression ≡ text) × (strip text ≡ text) × HasOneTree text
 Answers text (Err (failure.Parse error)) = (fault : Fault)

@@ -12,10 +12,11 @@ pub data Part : Type 0 where
   of_key : Part
   of_value : Part
 
--- a predicate or a literal, or why it is neither
+-- what a key and its value say: a predicate or a literal; or why they are neither, and which part
+-- is at fault
 pub data Class : Type 0 where
   is : Leaf → Class
-  refused : Cause → Part → Class
+  faulty : Cause → Part → Class
 
 abbrev pub predicate : Question → Class
 predicate question = Class.is (Leaf.predicate question)
@@ -23,16 +24,16 @@ predicate question = Class.is (Leaf.predicate question)
 -- a key that takes no value
 abbrev pub bare : Leaf → Option (List ℕ) → Class
 bare leaf None = Class.is leaf
-bare leaf (Some value) = Class.refused (unexpected []) Part.of_value
+bare leaf (Some value) = Class.faulty (unexpected []) Part.of_value
 
 -- a key that needs a value; without one, `missing` was expected
 abbrev pub valued : (List ℕ → Class) → List ℕ → Option (List ℕ) → Class
-valued with missing None = Class.refused (unexpected (missing ∷ [])) Part.of_key
+valued with missing None = Class.faulty (unexpected (missing ∷ [])) Part.of_key
 valued with missing (Some value) = with value
 
 -- a value that was read, or a fault of the value
 abbrev pub if_read : {X : Type 0} → (X → TargetQuestion) → Cause → Option X → Class
-if_read ask cause None = Class.refused cause Part.of_value
+if_read ask cause None = Class.faulty cause Part.of_value
 if_read ask cause (Some x) = predicate (Question.target (ask x))
 
 abbrev pub target_names : List (List ℕ)
@@ -42,13 +43,13 @@ target_names = codes "target_arch" ∷ codes "target_feature" ∷ codes "target_
     ∷ codes "target_vendor" ∷ []
 
 abbrev pub target_feature : List ℕ → Class
-target_feature [] = Class.refused (unexpected (codes "<feature>" ∷ [])) Part.of_value
+target_feature [] = Class.faulty (unexpected (codes "<feature>" ∷ [])) Part.of_value
 target_feature (byte ∷ bytes) = predicate (Question.target_feature (byte ∷ bytes))
 
 abbrev pub asks : TargetQuestion → Class
 asks question = predicate (Question.target question)
 
--- a rule of a table: a name, and what it makes of a value
+-- a rule of a table: a name, and what a value says with it
 pub record Rule (Value : Type 0) : Type 0 where
   pub name : List ℕ
   pub read : Value → Class
@@ -56,13 +57,13 @@ pub record Rule (Value : Type 0) : Type 0 where
 abbrev pub rule : {Value : Type 0} → List ℕ → (Value → Class) → Rule Value
 rule name read = record { name = name; read = read }
 
--- what the first rule of that name makes of the value, or `otherwise` if no rule has the name
+-- what the value says by the first rule of that name, or `otherwise` if no rule has the name
 abbrev pub by_name : {Value : Type 0} → List (Rule Value) → List ℕ → Value → Class → Class
 by_name [] name value otherwise = otherwise
 by_name (first ∷ rest) name value otherwise = if bytes_eq name first.name then first.read value
     else by_name rest name value otherwise
 
--- by what follows `target_` in the key
+-- the rules of keys that begin with `target_`, by the rest of the key
 abbrev pub target_rules : List (Rule (List ℕ))
 target_rules = rule (codes "abi") (λ value. asks (TargetQuestion.abi value))
     ∷ rule (codes "arch") (λ value. asks (TargetQuestion.arch value))
@@ -81,12 +82,12 @@ target_rules = rule (codes "abi") (λ value. asks (TargetQuestion.abi value))
 
 abbrev pub target_class : List ℕ → List ℕ → Class
 target_class name value = by_name target_rules name value
-    (Class.refused (unexpected target_names) Part.of_key)
+    (Class.faulty (unexpected target_names) Part.of_key)
 
 abbrev pub family : List ℕ → Leaf
 family name = Leaf.predicate (Question.target (TargetQuestion.family name))
 
--- by the key
+-- the rules of the other keys
 abbrev pub key_rules : List (Rule (Option (List ℕ)))
 key_rules = rule (codes "true") (bare (Leaf.literal true))
     ∷ rule (codes "false") (bare (Leaf.literal false))
@@ -101,12 +102,12 @@ key_rules = rule (codes "true") (bare (Leaf.literal true))
     (codes "= \"<panic_strategy>\""))
     ∷ []
 
--- any other key
+-- a key without a meaning of its own
 abbrev pub plain : List ℕ → Option (List ℕ) → Class
 plain key None = predicate (Question.flag key)
 plain key (Some value) = predicate (Question.key_value key value)
 
--- a key that begins with `target_`: it needs a value
+-- a key that begins with `target_`, which needs a value
 abbrev pub target_key : List ℕ → Option (List ℕ) → Class
 target_key key value = valued (target_class (drop 7 key)) (codes "= \"<target_cfg_value>\"") value
 

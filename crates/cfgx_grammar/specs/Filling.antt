@@ -1,6 +1,6 @@
--- Answers that may be unknown, and what fills the unknown ones.
--- Source: Kleene's strong logic, in which a value is known if every way to fill what is unknown
--- leads to it, for each occurrence by itself.
+-- Answers that may be unknown, and the fillings of the unknown ones.
+-- Source: Kleene's strong logic, in which a value is known if every filling leads to it, where each
+-- occurrence is filled by itself.
 use Rattle.std.specs.Prelude.{◌≡◌, ◌↔◌, Bool, true, false, not, List}
 use Rattle.std.specs.Prelude.{Option, Some, None, Vec, map, unwrap_or, zip}
 use Rattle.std.specs.List.{AllZip}
@@ -9,23 +9,24 @@ use Rattle.cfgx_syntax.specs.contracts.logic.OptionBoolLogic.TheImpl as kleene_l
 use Rattle.cfgx_grammar.specs.Tree.{Tree, Trees, asked}
 use Rattle.cfgx_grammar.specs.Fold.{Operations, tree_fold}
 
--- truth values, and answers that may be unknown
+-- the logics of truth values, and of answers that may be unknown
 abbrev pub two_valued : Operations Bool
 two_valued = bool_logic.ghosts
 
 abbrev pub three_valued : Operations (Option Bool)
 three_valued = kleene_logic.ghosts
 
--- a truth value is the answer, if that is known
+-- if the answer is known, the truth value is the answer
 abbrev pub Agrees : Option Bool → Bool → Type 0
 Agrees None filled = Unit {0}
 Agrees (Some answer) filled = filled ≡ answer
 
--- one truth value for each answer, and the answer itself if that is known
+-- there is one truth value for each answer, and it is the answer if that is known
 abbrev pub IsFilling : List (Option Bool) → List Bool → Type 0
 IsFilling answers filling = AllZip Agrees answers filling
 
--- each predicate's polarity in its place: that of the tree, turned over by each `not` around it
+-- the tree with each predicate replaced by its polarity: `polarity`, negated once for each `not`
+-- around the predicate
 abbrev mutual
   pub polarities : {X : Type 0} → Bool → Tree X → Tree Bool
   polarities polarity (Tree.leaf x) = Tree.leaf polarity
@@ -39,16 +40,16 @@ abbrev mutual
   polarities_each polarity (Trees.more tree trees) =
       Trees.more (polarities polarity tree) (polarities_each polarity trees)
 
--- each answer that is known, and for each unknown one the truth value beside it
+-- the answers, with each unknown one replaced by the truth value beside it
 abbrev pub filled_by : List (Option Bool) → List Bool → List Bool
 filled_by answers others = map (λ x. unwrap_or x.0 x.1) (zip answers others)
 
--- Unknown answers are filled by the polarities of their predicates, if that of the tree is `fill`:
--- so with `fill` below an even number of `not`, and with its opposite below an odd number.
+-- The answers, with each unknown one filled by the polarity of its predicate: with `fill` below an
+-- even number of `not`, and with its opposite below an odd number.
 abbrev pub polar : {X : Type 0} → Tree X → List (Option Bool) → Bool → List Bool
 polar tree answers fill = filled_by answers (asked (polarities fill tree))
 
--- the value of a tree in three values, against the fillings of the answers
+-- the value in three values is exact, by the fillings of the answers
 pub record IsExact {X : Type 0} (tree : Tree X) (answers : List (Option Bool)) : Type 0 where
   -- it is known exactly if every filling leads to it
   pub known : (value : Bool) → (tree_fold three_valued tree answers ≡ Some value)
@@ -59,7 +60,7 @@ pub record IsExact {X : Type 0} (tree : Tree X) (answers : List (Option Bool)) :
       ↔ ((tree_fold two_valued tree (polar tree answers true) ≡ true)
       × (tree_fold two_valued tree (polar tree answers false) ≡ false))
 
--- what `polar_fillings` answers: `None` if the value is known, and else the polar fillings with
+-- the result of `polar_fillings`: `None` if the value is known, and else the polar fillings with
 -- true and with false
 abbrev pub PolarFillings : {X A : Type 0} → Tree X → List (Option Bool)
     → Option (Vec Bool A × Vec Bool A) → Type 0

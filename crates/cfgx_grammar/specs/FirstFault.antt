@@ -1,7 +1,7 @@
 -- The first fault of a stripped text that is no condition: the reason and the bytes that the crate
--- cfg-expr names, except that functions count as roots too, and that members are counted without a
--- limit. It is the fault of the first token that has one; else the place where no token can start;
--- else what is wrong at the end of the text. Each is counted on the tokens before a place.
+-- cfg-expr reports, except that functions count as roots too, and that members are counted without
+-- a limit. It is the fault of the first token that has one; else the fault where no token can
+-- start; else the fault at the end of the text. All counts are over the tokens before a place.
 use Rattle.std.specs.Prelude.{◌≡◌, ℕ, ◌+◌, ◌==◌, ◌&&◌, ◌||◌, Bool, false, not, nat_lt, List, []}
 use Rattle.std.specs.Prelude.{◌∷◌, length, take, reverse, codes, slice_get, Option, Some, None}
 use Rattle.std.specs.Prelude.{option_map, option_and_then, if◌then◌else◌}
@@ -19,18 +19,18 @@ use Rattle.cfgx_grammar.specs.FollowSet.{Kind, kind_of, is_kind, next, expected}
 abbrev pub fault_between : Cause → ℕ → ℕ → Fault
 fault_between cause start end = record { cause = cause; start = start; end = end }
 
--- the fault, at the part that `class` names
+-- the fault of a predicate, at the part that is at fault
 abbrev pub class_fault : KeyAndValue → Class → Option Fault
 class_fault p (Class.is leaf) = None
-class_fault p (Class.refused cause part) =
+class_fault p (Class.faulty cause part) =
     Some (fault_between cause (part_of p part).start (part_of p part).end)
 
--- the fault of the predicate with which the tokens end, if they end with one
+-- the fault of the predicate at the end of the tokens, if they end with a predicate
 abbrev pub predicate_fault : List Item → Option Fault
-predicate_fault front = option_and_then (λ p. class_fault p (class_of p))
-    (predicate_last (reverse front))
+predicate_fault prefix = option_and_then (λ p. class_fault p (class_of p))
+    (predicate_last (reverse prefix))
 
--- a predicate that has begun ends at the token
+-- whether a pending predicate ends at the token
 abbrev pub ends_predicate : Token → Bool
 ends_predicate token = is_closing token || is_kind Kind.comma (kind_of token)
 
@@ -39,17 +39,16 @@ head_token [] = None
 head_token (item ∷ before) = Some item.token
 
 abbrev pub last_token : List Item → Option Token
-last_token front = head_token (reverse front)
+last_token prefix = head_token (reverse prefix)
 
--- Questions on a place of a text, in the order in which they are asked. The first one that shows a
--- fault counts.
+-- The checks at a place of a text, in their order. The first check that finds a fault counts.
 
 abbrev pub first_of : List (Option Fault) → Option Fault
 first_of [] = None
 first_of (fault ∷ []) = fault
 first_of (fault ∷ other ∷ others) = option_or fault (first_of (other ∷ others))
 
--- the fault, if it is so
+-- the fault, if the test passes
 abbrev pub when : Bool → Fault → Option Fault
 when is_so fault = if is_so then Some fault else None
 
@@ -60,33 +59,33 @@ count_fault name count close = when (names_not name.token && not (count == 1))
 
 -- the fault of a `)` after the tokens, if it closes the function at the place and that is a `not`
 abbrev pub not_fault : List Item → Item → ℕ → Option Fault
-not_fault front close function = option_and_then
-    (λ name. count_fault name (members front function) close) (slice_get front function)
+not_fault prefix close function = option_and_then
+    (λ name. count_fault name (members prefix function) close) (slice_get prefix function)
 
--- At a token, with the tokens before it.
+-- The checks at a token, with the tokens before it.
 
 -- it may not follow the token before it
 abbrev pub follow_fault : List Item → Item → Option Fault
-follow_fault front item = when (not (next (last_token front) item.token))
-    (fault_between (unexpected (expected (last_token front))) item.start item.end)
+follow_fault prefix item = when (not (next (last_token prefix) item.token))
+    (fault_between (unexpected (expected (last_token prefix))) item.start item.end)
 
 -- it is a `)` while no function is open
 abbrev pub unopened_fault : List Item → Item → Option Fault
-unopened_fault front item = when (is_closing item.token && depth front == 0)
+unopened_fault prefix item = when (is_closing item.token && depth prefix == 0)
     (fault_between unopened_parens item.start item.end)
 
 -- it is a `)` that closes a `not` without exactly one member
 abbrev pub closed_fault : List Item → Item → Option Fault
-closed_fault front item = if is_closing item.token
-    then option_and_then (not_fault front item) (innermost front) else None
+closed_fault prefix item = if is_closing item.token
+    then option_and_then (not_fault prefix item) (innermost prefix) else None
 
 -- it is a `)` or a `,` at which a faulty predicate ends
 abbrev pub ended_fault : List Item → Item → Option Fault
-ended_fault front item = if ends_predicate item.token then predicate_fault front else None
+ended_fault prefix item = if ends_predicate item.token then predicate_fault prefix else None
 
 abbrev pub fault_after : List Item → Item → Option Fault
-fault_after front item = first_of (follow_fault front item ∷ unopened_fault front item
-    ∷ closed_fault front item ∷ ended_fault front item ∷ [])
+fault_after prefix item = first_of (follow_fault prefix item ∷ unopened_fault prefix item
+    ∷ closed_fault prefix item ∷ ended_fault prefix item ∷ [])
 
 -- the fault of the token at the place
 abbrev pub fault_at : List Item → ℕ → Option Fault
@@ -103,12 +102,12 @@ abbrev pub unclosed_fault : ℕ → Item → Option Item → Fault
 unclosed_fault len name (Some paren) = fault_between unclosed_parens paren.start len
 unclosed_fault len name None = fault_between (unexpected (codes "(" ∷ [])) name.start name.end
 
--- by the place of its name
+-- the fault of an open function, by the place of its name
 abbrev pub open_fault : ℕ → List Item → ℕ → Option Fault
 open_fault len items function = option_map
     (λ name. unclosed_fault len name (slice_get items (function + 1))) (slice_get items function)
 
--- At the end of a text of `len` bytes, with its tokens.
+-- The checks at the end of a text of `len` bytes, with its tokens.
 
 -- the last one is `=`
 abbrev pub value_fault : ℕ → List Item → Option Fault

@@ -12,7 +12,7 @@ abbrev pub from_last : {T : Type 0} → (T → T → T) → T → List T → T
 from_last join begin [] = begin
 from_last join begin (value ∷ values) = join (from_last join begin values) value
 
--- the value of a list, by the values of its members as they are joined
+-- the value of a function, by the values of its arranged members
 abbrev pub list_value : {T : Type 0} → Operations T → ListFunction → List T → T
 list_value logic ListFunction.all values = from_last logic.and logic.top values
 list_value logic ListFunction.any values = from_last logic.or logic.bottom values
@@ -22,8 +22,7 @@ abbrev pub literal_value : {T : Type 0} → Operations T → Bool → T
 literal_value logic true = logic.top
 literal_value logic false = logic.bottom
 
--- the value of a tree of answers: among the values of a list's members those of the functions come
--- first, and then those of the leaves
+-- the value of a tree of answers; the members of a function are arranged, functions first
 abbrev mutual
   pub tree_value : {T : Type 0} → Operations T → Tree T → T
   tree_value logic (Tree.leaf answer) = answer
@@ -32,22 +31,22 @@ abbrev mutual
       (values_by logic is_function trees ++ values_by logic is_leaf trees)
   tree_value logic (Tree.not tree) = logic.not (tree_value logic tree)
 
-  -- the values of the trees of a list that pass the test
+  -- the values of those trees of a list that pass the test
   pub values_by : {T : Type 0} → Operations T → (Tree T → Bool) → Trees T → List T
   values_by logic test Trees.none = []
   values_by logic test (Trees.more tree trees) = if test tree
       then tree_value logic tree ∷ values_by logic test trees else values_by logic test trees
 
--- those of all the trees of a list
+-- the values of all trees of a list
 abbrev pub values_of : {T : Type 0} → Operations T → Trees T → List T
 values_of logic trees = values_by logic (λ _. true) trees
 
--- the first of the answers, and `otherwise` if there is none
+-- the first of the answers, or `otherwise` if there is none
 abbrev pub first_or : {T : Type 0} → T → List T → T
 first_or otherwise [] = otherwise
 first_or otherwise (answer ∷ answers) = answer
 
--- the answers that are left if each of the questions takes one
+-- the answers that are left when each of the questions has taken one
 abbrev pub left_after : {X T : Type 0} → List X → List T → List T
 left_after questions answers = drop (length questions) answers
 
@@ -56,25 +55,25 @@ pub record Left (T : Type 0) : Type 0 where
   pub functions : List T
   pub leaves : List T
 
--- those from which a member takes its own
+-- the answers from which a member takes its own
 abbrev pub left_for : {X T : Type 0} → Tree X → Left T → List T
 left_for tree left = if is_function tree then left.functions else left.leaves
 
--- what is left once it has taken them
+-- the answers that are left when a member has taken its own
 abbrev pub left_by : {X T : Type 0} → Tree X → Left T → Left T
 left_by tree left = if is_function tree
     then record left { functions = left_after (asked tree) left.functions }
     else record left { leaves = left_after (asked tree) left.leaves }
 
--- those of a list that may take all of these: its functions ask first
+-- the answers for the functions and for the leaves of a list, whose functions ask first
 abbrev pub left_to : {X T : Type 0} → Trees X → List T → Left T
 left_to trees answers = record {
   functions = answers;
   leaves = left_after (asked_by is_function trees) answers;
 }
 
--- the tree with answers in the place of its predicates, which are dealt out in the order in which
--- it asks; a literal takes none
+-- the tree with an answer in the place of each predicate; the answers are dealt out in the order in
+-- which the tree asks
 abbrev mutual
   pub answered : {X T : Type 0} → T → Tree X → List T → Tree T
   answered otherwise (Tree.leaf x) answers = Tree.leaf (first_or otherwise answers)
@@ -83,13 +82,13 @@ abbrev mutual
       Tree.list function (answered_each otherwise trees (left_to trees answers))
   answered otherwise (Tree.not tree) answers = Tree.not (answered otherwise tree answers)
 
-  -- the same for the members of a list, one after another
+  -- the members of a list with answers, one after another
   pub answered_each : {X T : Type 0} → T → Trees X → Left T → Trees T
   answered_each otherwise Trees.none left = Trees.none
   answered_each otherwise (Trees.more tree trees) left = Trees.more
       (answered otherwise tree (left_for tree left))
       (answered_each otherwise trees (left_by tree left))
 
--- the value of a tree over as many answers as it asks
+-- the value of a tree over answers to its predicates
 abbrev pub tree_fold : {X T : Type 0} → Operations T → Tree X → List T → T
 tree_fold logic tree answers = tree_value logic (answered logic.top tree answers)

@@ -1,10 +1,9 @@
--- Which token may stand after which: what the crate cfg-expr allows after each token, and what it
--- says that it expected.
+-- Which token may follow which, and what a fault says was expected, as in the crate cfg-expr.
 use Rattle.std.specs.Prelude.{ℕ, Bool, true, false, List, [], ◌∷◌, codes, Option, Some, None}
 use Rattle.std.specs.List.{list_any}
 use Rattle.cfgx_syntax.specs.Token.{Token}
 
--- the kinds of tokens; a key and a function's name are one, and begin a member
+-- the kinds of tokens; a key and the name of a function are of one kind, and begin a member
 pub data Kind : Type 0 where
   name : Kind
   equals : Kind
@@ -30,7 +29,8 @@ is_kind Kind.closing Kind.closing = true
 is_kind Kind.comma Kind.comma = true
 is_kind _ _ = false
 
--- what may stand after the last token, or at the start; after a function's name a `(`
+-- the kinds that may follow the last token, or stand at the start; the last case is the name of a
+-- function
 abbrev pub followers : Option Token → List Kind
 followers None = Kind.name ∷ []
 followers (Some Token.open_paren) = Kind.name ∷ Kind.closing ∷ []
@@ -44,11 +44,11 @@ followers _ = Kind.opening ∷ []
 abbrev pub takes : Option Token → Kind → Bool
 takes last kind = list_any (is_kind kind) (followers last)
 
--- whether the token may come next: after the last one, or at the start
+-- whether the token may follow the last one, or stand at the start
 abbrev pub next : Option Token → Token → Bool
 next last token = takes last (kind_of token)
 
--- what a fault says that it expected there; the last case is a function's name
+-- the terms that a fault there says were expected; the last case is the name of a function
 abbrev pub expected : Option Token → List (List ℕ)
 expected None = codes "<key>" ∷ codes "all" ∷ codes "any" ∷ codes "not" ∷ []
 expected (Some Token.open_paren) = codes "<key>" ∷ codes ")" ∷ codes "all" ∷ codes "any"

@@ -1,6 +1,6 @@
 -- Which tokens spell which tree: the grammar of `ConfigurationPredicate` in the Rust Reference,
--- with its literals `true` and `false`, and with any number of commas where it has one, as the
--- crate cfg-expr takes them.
+-- with its literals `true` and `false`, and with any number of commas where it has one, as in the
+-- crate cfg-expr.
 use Rattle.std.specs.Prelude.{◌≡◌, ℕ, ◌<◌, List, [], ◌∷◌, ◌++◌, replicate, map, Option, Some, None}
 use Rattle.cfgx_syntax.specs.Token.{Token}
 use Rattle.cfgx_syntax.specs.Items.{Item, Ending, AreItems}
@@ -11,12 +11,12 @@ use Rattle.cfgx_grammar.specs.Tree.{ListFunction, Tree, Trees}
 abbrev pub commas : ℕ → List Token
 commas n = replicate n Token.comma
 
--- a key, and perhaps `=` and a value
+-- the tokens of a key, and of `=` and the value if there is one
 abbrev pub leaf_tokens : List ℕ → Option (List ℕ) → List Token
 leaf_tokens key None = Token.key key ∷ []
 leaf_tokens key (Some value) = Token.key key ∷ Token.equals ∷ Token.value value ∷ []
 
--- the tokens spell the predicate, or the literal
+-- the tokens spell the predicate or the literal
 abbrev pub IsLeaf : List Token → Leaf → Type 0
 IsLeaf tokens leaf =
     (key : List ℕ) × (value : Option (List ℕ)) × (tokens ≡ leaf_tokens key value)
@@ -31,8 +31,7 @@ abbrev pub list_name : ListFunction → Token
 list_name ListFunction.all = Token.all
 list_name ListFunction.any = Token.any
 
--- n commas stand between a member and those after it: any number after the last, else at least
--- one
+-- `n` commas may stand between a member and these: any number if there are none, else at least one
 abbrev pub Separates : ℕ → Trees Question → Type 0
 Separates n Trees.none = Unit {0}
 Separates n (Trees.more tree trees) = 0 < n

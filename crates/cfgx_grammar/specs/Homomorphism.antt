@@ -5,9 +5,8 @@ use Rattle.cfgx_syntax.specs.Kleene.{Planes, EachLane, lane}
 use Rattle.cfgx_syntax.specs.contracts.logic.kleene.Kleene64Logic.TheImpl as lanes_logic
 use Rattle.cfgx_grammar.specs.{Tree.Tree, Fold.Operations, Fold.tree_fold, Filling.three_valued}
 
--- The map takes each constant and each operation of one logic to that of another. `Holds` is what
--- is known of every value of the first one, such as the invariant of its type; what the operations
--- make keeps it.
+-- The map takes each constant and each operation of one logic to that of another. `Holds` is known
+-- of every value of the first logic, such as the invariant of its type, and the operations keep it.
 pub record IsHomomorphism {T U : Type 0} (one : Operations T) (other : Operations U)
     (Holds : T → Type 0) (to : T → U) : Type 0 where
   pub top : Holds one.top × (to one.top ≡ other.top)
@@ -18,7 +17,7 @@ pub record IsHomomorphism {T U : Type 0} (one : Operations T) (other : Operation
       → Holds (one.or x y) × (to (one.or x y) ≡ other.or (to x) (to y))
   pub not : (x : T) → Holds x → Holds (one.not x) × (to (one.not x) ≡ other.not (to x))
 
--- what passes the test
+-- the value passes the test
 abbrev pub Passes : {T : Type 0} → (T → Bool) → T → Type 0
 Passes test x = IsTrue (test x)
 
@@ -26,11 +25,11 @@ Passes test x = IsTrue (test x)
 abbrev pub is_disjoint : Planes → Bool
 is_disjoint planes = bit_and planes.is_true planes.is_false == 0
 
--- sixty-four answers at once
+-- the logic of sixty-four answers at once
 abbrev pub lane_valued : Operations Planes
 lane_valued = lanes_logic.ghosts
 
--- in each lane, the value over the answers is that in three values over this lane of the answers
+-- each lane of the value is the value in three values over this lane of the answers
 abbrev pub IsByLane : {X : Type 0} → Tree X → List Planes → Type 0
 IsByLane tree answers = EachLane (tree_fold lane_valued tree answers)
     (λ i. tree_fold three_valued tree (map (lane i) answers))

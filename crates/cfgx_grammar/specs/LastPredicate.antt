@@ -1,4 +1,4 @@
--- The predicate with which some tokens end.
+-- The predicate at the end of tokens.
 -- Source: the Rust Reference's conditional compilation, where a predicate is a key, or a key, `=`
 -- and a value in quotes.
 use Rattle.std.specs.Prelude.{ℕ, ◌+◌, ◌-◌, List, ◌∷◌, Option, Some, None, option_map, unwrap_or}
@@ -6,7 +6,7 @@ use Rattle.std.specs.Prelude.{map}
 use Rattle.cfgx_syntax.specs.{Token.Token, Items.Item}
 use Rattle.cfgx_grammar.specs.Classification.{Class, Part, class}
 
--- a key, or what stands between the quotes of a value, and its place in the text
+-- a key, or a value without its quotes, with its span
 pub record Word : Type 0 where
   pub text : List ℕ
   pub start : ℕ
@@ -15,12 +15,12 @@ pub record Word : Type 0 where
 abbrev pub word_of : List ℕ → ℕ → ℕ → Word
 word_of text start end = record { text = text; start = start; end = end }
 
--- a predicate as it stands in the text: its key, and perhaps its value, without the quotes
+-- a predicate as it stands in the text: its key, and its value if it has one
 pub record KeyAndValue : Type 0 where
   pub key : Word
   pub value : Option Word
 
--- with this value
+-- the predicate with this value
 abbrev pub with_value : Word → KeyAndValue → KeyAndValue
 with_value value p = record p { value = Some value }
 
@@ -29,12 +29,12 @@ abbrev pub part_of : KeyAndValue → Part → Word
 part_of p Part.of_key = p.key
 part_of p Part.of_value = unwrap_or p.value p.key
 
--- what its key and value say
+-- what the key and the value say
 abbrev pub class_of : KeyAndValue → Class
 class_of p = class p.key.text (option_map (λ v. v.text) p.value)
 
--- the predicate with which tokens end: a key, or a key, `=` and a value; the tokens and their items
--- are given from the last one back
+-- the predicate at the end of tokens: a key, or a key, `=` and a value; the list of the tokens is
+-- reversed
 abbrev pub predicate_of : List Token → List Item → Option KeyAndValue
 predicate_of (Token.key text ∷ _) (item ∷ _) =
     Some (record { key = word_of text item.start item.end; value = None })

@@ -1,5 +1,5 @@
--- A predicate as it is asked: what it says, and not where its text lies in memory. The variants are
--- those of `Predicate` and `TargetPredicate` in the crate cfg-expr.
+-- A predicate as it is asked: what it says, without the addresses of its texts. The cases are those
+-- of `Predicate` and `TargetPredicate` in the crate cfg-expr.
 use Rattle.std.specs.Prelude.{ℕ, Bool, List}
 use Rattle.cfgx_targets.specs.{declared.endian.Endian.Endian, declared.atomic.HasAtomic.HasAtomic}
 
@@ -26,8 +26,8 @@ pub data Question : Type 0 where
   flag : List ℕ → Question
   key_value : List ℕ → List ℕ → Question
 
--- What stands in a condition where no function does: a predicate, or one of the literals `true` and
--- `false` of the Rust Reference's conditional compilation, which asks nothing.
+-- A predicate, or one of the literals `true` and `false` of the Rust Reference's conditional
+-- compilation, which ask nothing.
 pub data Leaf : Type 0 where
   predicate : Question → Leaf
   literal : Bool → Leaf

@@ -8,7 +8,7 @@ pub data ListFunction : Type 0 where
 
 -- A leaf, or a function with its members in source order: the `all`, `any` and `not` of the Rust
 -- Reference's conditional compilation. The leaves of a condition are its predicates, and the
--- literals `true` and `false`; with answers in the place of the predicates it can be evaluated.
+-- literals `true` and `false`. A tree whose leaves are answers has a value.
 mutual
   pub data Tree (X : Type 0) : Type 0 where
     leaf : X → Tree X
@@ -36,17 +36,17 @@ only test Trees.none = Trees.none
 only test (Trees.more tree trees) = if test tree then Trees.more tree (only test trees) else only
     test trees
 
--- these trees, and then those
+-- the trees of both lists, one list after the other
 abbrev pub followed_by : {X : Type 0} → Trees X → Trees X → Trees X
 followed_by Trees.none others = others
 followed_by (Trees.more tree trees) others = Trees.more tree (followed_by trees others)
 
--- the members of a function as they are asked: the functions first, then the leaves, each in source
--- order (the order of `Expression::predicates` in the crate cfg-expr)
+-- the members of a function in the order in which they are asked: first the functions, then the
+-- leaves, each in source order (the order of `Expression::predicates` in the crate cfg-expr)
 abbrev pub arranged : {X : Type 0} → Trees X → Trees X
 arranged trees = followed_by (only is_function trees) (only is_leaf trees)
 
--- how many trees there are
+-- the number of trees
 abbrev pub count : {X : Type 0} → Trees X → ℕ
 count Trees.none = 0
 count (Trees.more tree trees) = suc (count trees)
@@ -59,12 +59,12 @@ abbrev mutual
   asked (Tree.list function trees) = asked_by is_function trees ++ asked_by is_leaf trees
   asked (Tree.not tree) = asked tree
 
-  -- those of the trees of a list that pass the test, one tree after another
+  -- the predicates of those trees of a list that pass the test, one tree after another
   pub asked_by : {X : Type 0} → (Tree X → Bool) → Trees X → List X
   asked_by test Trees.none = []
   asked_by test (Trees.more tree trees) = (if test tree then asked tree else [])
       ++ asked_by test trees
 
--- those of all the trees of a list
+-- the predicates of all trees of a list
 abbrev pub asked_each : {X : Type 0} → Trees X → List X
 asked_each trees = asked_by (λ _. true) trees

@@ -1,15 +1,15 @@
--- Predicates as they can stand in a text, and the text of one alone.
+-- Predicates that can stand in a text, and the text of one predicate alone.
 use Rattle.std.specs.Prelude.{◌≡◌, ℕ, List, Option, Some, None, Ok}
 use Rattle.cfgx_syntax.specs.{Stripping.strip, Token.IsKey, Token.HasNoQuote}
 use Rattle.cfgx_grammar.specs.{Question.Question, Tree.Tree, Answer.ReadsAs}
 use Rattle.cfgx_grammar.specs.Classification.{class, predicate}
 
--- a value that can stand between quotes
+-- a value, if there is one, can stand between quotes
 abbrev pub CanBeQuoted : Option (List ℕ) → Type 0
 CanBeQuoted None = Unit {0}
 CanBeQuoted (Some value) = HasNoQuote value
 
--- a key, and perhaps a value, say the predicate
+-- some key, perhaps with a value, says the predicate
 pub record IsWellFormed (question : Question) : Type 0 where
   pub key : List ℕ
   pub value : Option (List ℕ)

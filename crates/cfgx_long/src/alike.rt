@@ -1,12 +1,13 @@
-//! Values of conditions of which each predicate has the same answer, in short, wide and deep texts.
+//! Values of conditions whose predicates all have the same answer, in short, wide and deep texts.
 use cfg_expr::Expression;
 use cfg_expr::expr::logic::Kleene64;
-use cfgx_testing::answers::{Answer, agree, answer_of, are_lanes, value_in_lanes, value_with};
-use cfgx_testing::holding::holds;
+use cfgx_testing::answers::{
+    Answer, answer_of, each_call_finds, eval_in_lanes, eval_over_answers, lanes_match_digits,
+};
+use cfgx_testing::checking::is_ok_true;
 use std::alloc::{AllocError, Global};
 
-/// A text, how many predicates it asks, and its values if these are all true, all false, and all
-/// unknown.
+/// A text, the number of its predicates, and its values if all answers are true, false, and unknown.
 pub(crate) const ALIKE: &str = r#"
 all() | 0 | 111
 any() | 0 | 000
@@ -48,8 +49,8 @@ all(a,~true,~100000~) | 1 | 10?
 ~not(~100001~true~)~100001~ | 0 | 000
 "#;
 
-// Whether the digit is the value over `bool` if each of `count` answers is `answer`.
-fn is_bool_value(
+// Whether the value over `bool` is that of the digit, if each of `count` answers is `answer`.
+fn bool_value_is(
     alloc: Global,
     expression: &Expression,
     answer: bool,
@@ -57,12 +58,12 @@ fn is_bool_value(
     count: usize,
 ) -> Result<bool, AllocError> {
     let answers = vec![in alloc; answer; count]?;
-    Ok(value_with(alloc, expression, answers.as_slice()) == Some(digit == b'1'))
+    Ok(eval_over_answers(alloc, expression, answers.as_slice()) == Some(digit == b'1'))
 }
 
-// Whether the digit is the value by each of three calls, and over `bool` if the answer is known, if
-// each of `count` answers is `answer`.
-fn is_value(
+// Whether each call finds the value of the digit, if each of `count` answers is `answer`. A known
+// answer is also a `bool`.
+fn value_is(
     alloc: Global,
     expression: &Expression,
     answer: Answer,
@@ -70,49 +71,66 @@ fn is_value(
     count: usize,
 ) -> Result<bool, AllocError> {
     let answers = vec![in alloc; answer; count]?;
-    let is_agreed = agree(alloc, expression, answers.as_slice(), answer_of(digit));
+    let is_right = each_call_finds(alloc, expression, answers.as_slice(), answer_of(digit));
     match answer {
-        Some(answer) if is_agreed => is_bool_value(alloc, expression, answer, digit, count),
-        _ => Ok(is_agreed),
+        Some(answer) if is_right => bool_value_is(alloc, expression, answer, digit, count),
+        _ => Ok(is_right),
     }
 }
 
-// Whether these are the values in lanes over the answers, by two calls.
-fn have_lanes(alloc: Global, expression: &Expression, digits: &[u8], answers: &[Kleene64]) -> bool {
-    let value = value_with(alloc, expression, answers);
+// Whether `eval` and `eval_lanes` find the lanes of the digits over `answers`.
+fn both_find_lanes(
+    alloc: Global,
+    expression: &Expression,
+    digits: &[u8],
+    answers: &[Kleene64],
+) -> bool {
+    let value = eval_over_answers(alloc, expression, answers);
     match value {
         Some(lanes) => {
-            are_lanes(lanes, digits) && value_in_lanes(alloc, expression, answers) == value
+            lanes_match_digits(lanes, digits)
+                && eval_in_lanes(alloc, expression, answers) == value
         }
         None => false,
     }
 }
 
-// Whether the digits are the values in lanes if in each of `count` answers the first lane is true,
-// the second one false, and all others are unknown.
-fn agree_in_lanes(
+// Whether the lanes of the value are those of the digits, if each of `count` answers is true in the
+// first lane, false in the second one, and unknown in all others.
+fn lanes_are(
     alloc: Global,
     expression: &Expression,
     digits: &[u8],
     count: usize,
 ) -> Result<bool, AllocError> {
     let answers = vec![in alloc; Kleene64::new(0b01, 0b10); count]?;
-    Ok(have_lanes(alloc, expression, digits, answers.as_slice()))
+    Ok(both_find_lanes(alloc, expression, digits, answers.as_slice()))
 }
 
-// Whether these are the values if the answers are all true, all false, and all unknown.
-fn have_all_values(alloc: Global, expression: &Expression, digits: &[u8], count: usize) -> bool {
+// Whether the values are those of the digits, if all answers are true, false, and unknown.
+fn values_are(alloc: Global, expression: &Expression, digits: &[u8], count: usize) -> bool {
     for (digit, answer) in digits.iter().zip([Some(true), Some(false), None]) {
-        if !holds(is_value(alloc, expression, answer, *digit, count)) {
+        if !is_ok_true(value_is(alloc, expression, answer, *digit, count)) {
             return false;
         }
     }
-    digits.len() == 3 && holds(agree_in_lanes(alloc, expression, digits, count))
+    digits.len() == 3 && is_ok_true(lanes_are(alloc, expression, digits, count))
 }
 
-/// Whether the text asks `count` predicates and has the values of the digits.
-pub(crate) fn have_values(alloc: Global, text: &str, count: &str, digits: &str) -> Option<bool> {
+// Whether the values of the text are those of the digits. Returns `None` if the text or the count is
+// faulty.
+fn text_has_values(alloc: Global, text: &str, count: &str, digits: &str) -> Option<bool> {
     let count = count.parse::<usize>().ok()?;
     let expression = Expression::parse(alloc, text).ok()?;
-    Some(have_all_values(alloc, &expression, digits.as_bytes(), count))
+    Some(values_are(alloc, &expression, digits.as_bytes(), count))
+}
+
+/// Whether the text of the row has the number of predicates and the values of the row.
+pub(crate) fn has_values(alloc: Global, row: &[String]) -> bool {
+    match row {
+        [text, count, digits] => {
+            text_has_values(alloc, text.as_str(), count.as_str(), digits.as_str()) == Some(true)
+        }
+        _ => false,
+    }
 }

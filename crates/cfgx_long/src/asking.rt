@@ -1,11 +1,12 @@
-//! How often targets are asked: by each call, each of them once for each occurrence of a predicate
-//! on the target, whatever it says.
+//! How often each call asks a target: once for each occurrence of a predicate on the target, whatever
+//! the target answers.
 use cfg_expr::error::Failure;
 use cfg_expr::expr::TargetMatcher;
-use cfg_expr::targets::{Arch, Endian, Families, HasAtomics, Os, Panic, TargetInfo, Triple};
+use cfg_expr::targets::{Os, TargetInfo};
 use cfg_expr::{Decision, Expression, TargetPredicate};
 use cfgx_engine::resolve::{Section, Verdict, audit, decide_on, pick};
-use cfgx_testing::holding::holds;
+use cfgx_testing::checking::is_ok_true;
+use cfgx_testing::targets::bare;
 use std::alloc::{AllocError, Global};
 use std::cell::Cell;
 
@@ -37,28 +38,27 @@ impl TargetMatcher for Nothing {
     }
 }
 
-// A row of the system `here`, which is 64 bits wide and knows of little else.
+// Makes a row of the system `here`.
 fn row_here() -> TargetInfo<'static> {
-    TargetInfo {
-        triple: Triple::new_const("here"),
-        os: Some(Os::new_const("here")),
-        abi: None,
-        arch: Arch::new_const("arch"),
-        env: None,
-        vendor: None,
-        families: Families::new_const(&[]),
-        pointer_width: 64,
-        endian: Endian::little,
-        has_atomics: HasAtomics::new_const(&[]),
-        panic: Panic::new_const("unwind"),
-    }
+    let mut row: TargetInfo<'static> = bare("here");
+    row.os = Some(Os::new_const("here"));
+    row
 }
 
-/// Asks the target, and counts how often.
+/// A target, and how often it was asked.
 #[derive(Drop)]
 struct Counting<'t, M: TargetMatcher> {
     target: &'t M,
     asked: Cell<usize>,
+}
+
+impl<'t, M: TargetMatcher> Counting<'t, M> {
+    fn new(target: &'t M) -> Self {
+        Counting {
+            target,
+            asked: Cell::new(0),
+        }
+    }
 }
 
 impl<M: TargetMatcher> TargetMatcher for Counting<'_, M> {
@@ -70,16 +70,8 @@ impl<M: TargetMatcher> TargetMatcher for Counting<'_, M> {
     }
 }
 
-// The target, of which nothing was asked.
-fn unasked<M: TargetMatcher>(target: &M) -> Counting<'_, M> {
-    Counting {
-        target,
-        asked: Cell::new(0),
-    }
-}
-
-/// A target, a condition, what the target says of it, and how often it is asked. `everything` meets
-/// each predicate, `nothing` meets none, and `here` is a row of that system, of 64 bits.
+/// A target, a condition, the verdict, and how often the target is asked. `everything` meets each
+/// predicate, `nothing` meets none, and `here` is a row of the system `here`, with 64 bits.
 pub(crate) const ASKED: &str = r#"
 everything | unix | Yes | 1
 everything | not(unix) | No | 1
@@ -101,7 +93,7 @@ nothing | any(a, feature = "x", key = "unix") | Unknown | 0
 nothing | any(~unix,~100000~) | No | 100000
 nothing | all(~unix,~100000~test) | No | 100000
 nothing | any(~unix,~100000~test) | Unknown | 100000
-// A target that says yes and no in turn, and no and yes.
+// A target that meets every second predicate.
 here | target_os = "here" | Yes | 1
 here | target_os = "there" | No | 1
 here | all(target_os = "here", target_os = "there") | No | 2
@@ -112,8 +104,8 @@ here | any(~unix, target_os = "here",~1000~test) | Yes | 2000
 here | any(~unix, not(target_os = "here"),~1000~test) | Unknown | 2000
 "#;
 
-// Whether each of the targets was asked `count` times, and its verdict is the wanted one.
-fn are_audited<M: TargetMatcher>(
+// Whether each target was asked `count` times, and each verdict is the wanted one.
+fn audit_matches<M: TargetMatcher>(
     targets: &[Counting<'_, M>],
     verdicts: &[Verdict],
     wanted: Verdict,
@@ -127,20 +119,24 @@ fn are_audited<M: TargetMatcher>(
     targets.len() == verdicts.len()
 }
 
-// Whether an audit of three counting targets gives the wanted verdict and asks each `count` times.
-fn is_audited<M: TargetMatcher>(
+// Whether `audit` asks each of three targets `count` times, and returns the wanted verdicts.
+fn audits<M: TargetMatcher>(
     alloc: Global,
     condition: &Expression,
     target: &M,
     wanted: Verdict,
     count: usize,
 ) -> Result<bool, AllocError> {
-    let targets = [unasked(target), unasked(target), unasked(target)];
+    let targets = [
+        Counting::new(target),
+        Counting::new(target),
+        Counting::new(target),
+    ];
     let verdicts = audit(alloc, condition, &targets)?;
-    Ok(are_audited(&targets, verdicts.as_slice(), wanted, count))
+    Ok(audit_matches(&targets, verdicts.as_slice(), wanted, count))
 }
 
-// The verdict that what was decided stands for.
+// The verdict of a decision.
 fn verdict_of(decision: &Decision) -> Verdict {
     match decision {
         Decision::Known(true) => Verdict::Yes,
@@ -149,15 +145,15 @@ fn verdict_of(decision: &Decision) -> Verdict {
     }
 }
 
-// What the program does for a line.
-fn is_decided<M: TargetMatcher>(
+// Whether `decide_on` asks the target `count` times, and its decision has the wanted verdict.
+fn decides<M: TargetMatcher>(
     alloc: Global,
     condition: &Expression,
     target: &M,
     wanted: Verdict,
     count: usize,
 ) -> Result<bool, AllocError> {
-    let target = unasked(target);
+    let target = Counting::new(target);
     let mut answers = Vec::new(alloc);
     let decision = decide_on(alloc, condition, &target, &mut answers)?;
     Ok(
@@ -167,22 +163,23 @@ fn is_decided<M: TargetMatcher>(
     )
 }
 
-fn is_picked<M: TargetMatcher>(
+// Whether `pick` asks the target `count` times, and returns the wanted verdict.
+fn picks<M: TargetMatcher>(
     alloc: Global,
     condition: Expression,
     target: &M,
     wanted: Verdict,
     count: usize,
 ) -> Result<bool, AllocError> {
-    let target = unasked(target);
+    let target = Counting::new(target);
     let name = String::new(alloc);
     let verdicts = pick(alloc, &[Section { name, condition }], &target)?;
     Ok(verdicts.as_slice() == [wanted].as_slice() && target.asked.get() == count)
 }
 
-// The verdict that a row tells.
-fn told_verdict(told: &str) -> Option<Verdict> {
-    match told {
+// Returns the verdict with this name.
+fn verdict_named(name: &str) -> Option<Verdict> {
+    match name {
         "Yes" => Some(Verdict::Yes),
         "No" => Some(Verdict::No),
         "Unknown" => Some(Verdict::Unknown),
@@ -190,8 +187,8 @@ fn told_verdict(told: &str) -> Option<Verdict> {
     }
 }
 
-// Whether each call gives the wanted verdict on the target, and asks it `count` times.
-fn is_asked<M: TargetMatcher>(
+// Whether each call asks the target `count` times, and finds the wanted verdict.
+fn each_call_asks<M: TargetMatcher>(
     alloc: Global,
     text: &str,
     target: &M,
@@ -199,33 +196,39 @@ fn is_asked<M: TargetMatcher>(
     count: usize,
 ) -> Result<bool, Failure> {
     let condition = Expression::parse(alloc, text)?;
-    let is_audited = holds(is_audited(alloc, &condition, target, wanted, count));
-    let is_decided = holds(is_decided(alloc, &condition, target, wanted, count));
-    let is_picked = holds(is_picked(alloc, condition, target, wanted, count));
-    Ok(is_audited && is_decided && is_picked)
+    let audits = is_ok_true(audits(alloc, &condition, target, wanted, count));
+    let decides = is_ok_true(decides(alloc, &condition, target, wanted, count));
+    let picks = is_ok_true(picks(alloc, condition, target, wanted, count));
+    Ok(audits && decides && picks)
 }
 
-// Whether each call does so on the target of this name.
-fn is_named_asked(alloc: Global, name: &str, text: &str, wanted: Verdict, count: usize) -> bool {
+// Whether each call asks the target with this name `count` times, and finds the wanted verdict.
+fn each_call_asks_named(
+    alloc: Global,
+    name: &str,
+    text: &str,
+    wanted: Verdict,
+    count: usize,
+) -> bool {
     match name {
-        "everything" => holds(is_asked(alloc, text, &Everything, wanted, count)),
-        "nothing" => holds(is_asked(alloc, text, &Nothing, wanted, count)),
+        "everything" => is_ok_true(each_call_asks(alloc, text, &Everything, wanted, count)),
+        "nothing" => is_ok_true(each_call_asks(alloc, text, &Nothing, wanted, count)),
         "here" => {
             let row = row_here();
-            holds(is_asked(alloc, text, &row, wanted, count))
+            is_ok_true(each_call_asks(alloc, text, &row, wanted, count))
         }
         _ => false,
     }
 }
 
-/// Whether the row is what it says.
-pub(crate) fn is_row(alloc: Global, row: &[String]) -> bool {
-    let [target, text, told, count] = row else {
+/// Whether each call asks the target of the row as often as the row says, and finds its verdict.
+pub(crate) fn asks_target(alloc: Global, row: &[String]) -> bool {
+    let [target, text, verdict, count] = row else {
         return false;
     };
-    match (told_verdict(told.as_str()), count.parse::<usize>()) {
+    match (verdict_named(verdict.as_str()), count.parse::<usize>()) {
         (Some(wanted), Ok(count)) => {
-            is_named_asked(alloc, target.as_str(), text.as_str(), wanted, count)
+            each_call_asks_named(alloc, target.as_str(), text.as_str(), wanted, count)
         }
         _ => false,
     }

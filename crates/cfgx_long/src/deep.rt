@@ -1,11 +1,12 @@
-//! Deep, wide and long texts end in an answer.
+//! Deep, wide and long texts are read, or get their fault.
 use cfg_expr::Expression;
 use cfg_expr::error::Failure;
 use cfg_expr::expr::{Condition, ConditionReader, Predicates};
-use cfgx_testing::holding::prints;
+use cfgx_testing::checking::{is_ok_true, prints};
+use cfgx_testing::faults::text_has_fault;
 use std::alloc::Global;
 
-/// Faulty texts, and their faults.
+/// A text, and its fault.
 pub(crate) const FAULTS: &str = r#"
 ~all(~100000~ | UnclosedParens at 399999..400000
 ~not(~100000~a | UnclosedParens at 399999..400001
@@ -23,7 +24,15 @@ any(~a,~49998~8) | U[`<key>` `all` `any` `not`] at 100000..100001
 all(b~,~3000~c d) | U[`=` `,` `)`] at 3007..3008
 "#;
 
-/// Accepted texts, and how many predicates they ask.
+/// Whether the text of the row has the fault of the row.
+pub(crate) fn has_fault(alloc: Global, row: &[String]) -> bool {
+    match row {
+        [text, fault] => text_has_fault(alloc, text.as_str(), text.as_str(), fault.as_str()),
+        _ => false,
+    }
+}
+
+/// A text, and the number of its predicates.
 pub(crate) const ACCEPTED: &str = r#"
 any(~a,~100~) | 100
 any(~a,~100000~) | 100000
@@ -35,58 +44,70 @@ any(~a,~2000000~) | 2000000
 any(~abcdefg,~1100000~) | 1100000
 "#;
 
-// Whether `count` predicates are left, and `count` are given.
-fn have_count(predicates: Predicates<'_>, count: Option<usize>) -> bool {
+// Whether `left` returns `count`, and the iterator yields as many predicates.
+fn yields_count(predicates: Predicates<'_>, count: Option<usize>) -> bool {
     Some(predicates.left()) == count && Some(predicates.count()) == count
 }
 
-/// Whether the text asks `count` predicates, and its expression keeps and prints it.
-pub(crate) fn asks(alloc: Global, text: &str, count: &str) -> Result<bool, Failure> {
+// Returns whether the text has `count` predicates, and its expression keeps and prints the text.
+fn parses(alloc: Global, text: &str, count: &str) -> Result<bool, Failure> {
     let expression = Expression::parse(alloc, text)?;
     let is_kept = expression.original() == text && prints(alloc, &expression, text);
-    Ok(is_kept && have_count(expression.predicates(), count.parse().ok()))
+    Ok(is_kept && yields_count(expression.predicates(), count.parse().ok()))
 }
 
-/// Texts that one reader reads one after another, and how many predicates each asks.
+/// Whether the text of the row has the number of predicates of the row.
+pub(crate) fn has_predicates(alloc: Global, row: &[String]) -> bool {
+    match row {
+        [text, count] => is_ok_true(parses(alloc, text.as_str(), count.as_str())),
+        _ => false,
+    }
+}
+
+/// Texts that one reader reads one after another, each with the number of its predicates.
 pub(crate) const READ: &str = r#"
 any(~a,~100000~) | 100000 | ~not(~100000~a~)~100000~ | 1 | a | 1
 "#;
 
-// Whether reading gave this text and `count` predicates.
-fn is_read(read: &Result<Condition<'_>, Failure>, text: &str, count: &str) -> bool {
+// Whether the condition was read, has this text and `count` predicates.
+fn is_condition(read: &Result<Condition<'_>, Failure>, text: &str, count: &str) -> bool {
     match read {
         Ok(condition) => {
-            condition.original() == text && have_count(condition.predicates(), count.parse().ok())
+            condition.original() == text
+                && yields_count(condition.predicates(), count.parse().ok())
         }
         Err(_) => false,
     }
 }
 
-// Whether the reader reads the text of a pair so.
-fn is_pair<'a>(reader: &mut ConditionReader<'a>, pair: &'a [String]) -> bool {
+// Whether the reader reads the text of the pair, which has the number of predicates of the pair.
+fn reads_pair<'a>(reader: &mut ConditionReader<'a>, pair: &'a [String]) -> bool {
     match pair {
-        [text, count] => is_read(&reader.read(text.as_str()), text.as_str(), count.as_str()),
+        [text, count] => {
+            is_condition(&reader.read(text.as_str()), text.as_str(), count.as_str())
+        }
         _ => false,
     }
 }
 
-// Whether the reader reads all texts of the row.
-fn are_pairs<'a>(reader: &mut ConditionReader<'a>, row: &'a [String]) -> bool {
+// Whether the reader reads each pair of the row.
+fn reads_pairs<'a>(reader: &mut ConditionReader<'a>, row: &'a [String]) -> bool {
     for pair in row.chunks(2) {
-        if !is_pair(reader, pair) {
+        if !reads_pair(reader, pair) {
             return false;
         }
     }
     !row.is_empty()
 }
 
-/// Whether one reader does.
-pub(crate) fn are_read(alloc: Global, row: &[String]) -> bool {
+/// Whether a new reader reads each text of the row.
+pub(crate) fn reads_texts(alloc: Global, row: &[String]) -> bool {
     let mut reader = ConditionReader::new(alloc);
-    are_pairs(&mut reader, row)
+    reads_pairs(&mut reader, row)
 }
 
-/// A fault far from the start, which prints as many spaces.
+/// A run over a text whose fault is far from its start. The output has as many spaces before the
+/// marker as the text has bytes before the fault.
 pub(crate) const FAR: &str = r#"
 1 | all(b~,~3000~c d)\n~ ~3007~^ expected one of `=`, `,`, `)` here\n | parse \
 | all(b~,~3000~c d)

@@ -1,36 +1,34 @@
-//! Ten thousand texts that a generator with fixed seeds makes: tokens in any order, conditions,
-//! damaged conditions, and characters in any order. What is accepted prints, spells and evaluates
-//! as it has to, and what is refused has a fault in the text, which prints.
-//!
-//! Values whose drop takes long to prove at the end of a scope are dropped by name.
+//! Ten thousand texts that a generator makes from fixed seeds: tokens in any order, conditions,
+//! damaged conditions, and characters in any order. The print and the spellings of an accepted text
+//! are parsed again, and its values compared. The fault of a refused text lies in the text.
 mod agreeing;
 mod making;
 mod numbers;
 
-use agreeing::agrees_in_each_lane;
+use agreeing::calls_agree_in_lanes;
 use cfg_expr::error::{Failure, ParseError};
 use cfg_expr::expr::{Predicates, spell};
 use cfg_expr::{Expression, Predicate};
-use cfgx_testing::holding::holds;
-use making::made;
+use cfgx_testing::checking::is_ok_true;
+use making::make_text;
 use numbers::Numbers;
 use std::alloc::{AllocError, Global};
 
-// Whether the print of the expression is parsed to an equal one.
-fn is_printed(alloc: Global, expression: &Expression) -> Result<bool, Failure> {
+// Returns whether the printed expression is parsed to an equal one.
+fn print_is_parsed(alloc: Global, expression: &Expression) -> Result<bool, Failure> {
     let printed = format!(in alloc; "{expression}")?;
     Ok(Expression::parse(alloc, printed.as_str())? == *expression)
 }
 
-// Writes the spelling of the predicate and a comma. What goes out of scope is dropped by name.
+// Writes the spelling of the predicate and a comma. Returns whether there was memory for both.
 fn push_spelling(spellings: &mut Vec<u8>, predicate: Predicate<'_>) -> bool {
     let is_written = spell(&predicate, spellings).is_ok() && spellings.push(b',').is_ok();
     drop(predicate);
     is_written
 }
 
-// The spellings of the predicates, as members of `all`.
-fn spellings(alloc: Global, predicates: Predicates<'_>) -> Option<Vec<u8>> {
+// Returns an `all` of the spellings of the predicates.
+fn spell_all(alloc: Global, predicates: Predicates<'_>) -> Option<Vec<u8>> {
     let mut spellings = Vec::from_slice(alloc, b"all(").ok()?;
     for predicate in predicates {
         if !push_spelling(&mut spellings, predicate) {
@@ -41,84 +39,86 @@ fn spellings(alloc: Global, predicates: Predicates<'_>) -> Option<Vec<u8>> {
     Some(spellings)
 }
 
-// Whether the text is parsed to the same predicates.
-fn are_asked(alloc: Global, expression: &Expression, spelled: &[u8]) -> Option<bool> {
-    let text = str::from_utf8(spelled).ok()?;
-    let spelled = Expression::parse(alloc, text).ok()?;
-    Some(expression.predicates().eq(spelled.predicates()))
+// Returns whether the text is parsed to the same predicates.
+fn has_same_predicates(alloc: Global, expression: &Expression, text: &[u8]) -> Option<bool> {
+    let text = str::from_utf8(text).ok()?;
+    let other = Expression::parse(alloc, text).ok()?;
+    Some(expression.predicates().eq(other.predicates()))
 }
 
-// Whether the spellings of the predicates are.
-fn are_spelled(alloc: Global, expression: &Expression) -> Option<bool> {
-    let spellings = spellings(alloc, expression.predicates())?;
-    are_asked(alloc, expression, spellings.as_slice())
+// Returns whether the spellings of the predicates are parsed to the same predicates.
+fn spellings_are_parsed(alloc: Global, expression: &Expression) -> Option<bool> {
+    let spellings = spell_all(alloc, expression.predicates())?;
+    has_same_predicates(alloc, expression, spellings.as_slice())
 }
 
-// Whether an accepted text is right in all that is said of it.
-fn is_expression(alloc: Global, numbers: &mut Numbers, expression: &Expression) -> bool {
-    holds(is_printed(alloc, expression))
-        && are_spelled(alloc, expression) == Some(true)
-        && holds(agrees_in_each_lane(alloc, numbers, expression))
+// Whether the expression is printed, spelled and evaluated right.
+fn expression_passes(alloc: Global, numbers: &mut Numbers, expression: &Expression) -> bool {
+    is_ok_true(print_is_parsed(alloc, expression))
+        && spellings_are_parsed(alloc, expression) == Some(true)
+        && is_ok_true(calls_agree_in_lanes(alloc, numbers, expression))
 }
 
-// Whether the fault lies in the text, which it has a copy of, and prints.
-fn is_fault(alloc: Global, error: &ParseError, text: &str) -> Result<bool, AllocError> {
+// Returns whether the fault lies in `text`, and its print begins with its part of the text.
+fn fault_passes(alloc: Global, error: &ParseError, text: &str) -> Result<bool, AllocError> {
     let printed = format!(in alloc; "{error}")?;
     let (original, start, end) = (error.original.as_str(), error.span.start, error.span.end);
     let is_inside = start <= end && end <= original.len() && text.contains(original);
     Ok(is_inside && printed.as_str().starts_with(original))
 }
 
-// Whether the text was accepted, and whether it asks at least two predicates, as numbers to add up.
-// It is nothing if the answer is not as it has to be.
-fn counted(
+// Checks what parsing the text returned. Returns 1 or 0 for an accepted text, and 1 or 0 for one with
+// at least two predicates, or `None` if the check fails.
+fn count_parsed(
     alloc: Global,
     numbers: &mut Numbers,
     text: &str,
     parsed: &Result<Expression, Failure>,
 ) -> Option<(usize, usize)> {
     match parsed {
-        Ok(expression) if is_expression(alloc, numbers, expression) => {
+        Ok(expression) if expression_passes(alloc, numbers, expression) => {
             Some((1, usize::from(expression.predicates().left() > 1)))
         }
-        Err(Failure::Parse(error)) if holds(is_fault(alloc, error, text)) => Some((0, 0)),
+        Err(Failure::Parse(error)) if is_ok_true(fault_passes(alloc, error, text)) => {
+            Some((0, 0))
+        }
         _ => None,
     }
 }
 
-// What is to be counted of the text.
-fn seen(alloc: Global, numbers: &mut Numbers, text: &str) -> Option<(usize, usize)> {
-    counted(alloc, numbers, text, &Expression::parse(alloc, text))
+// Parses the text, and returns what `count_parsed` returns for it.
+fn count_text(alloc: Global, numbers: &mut Numbers, text: &str) -> Option<(usize, usize)> {
+    count_parsed(alloc, numbers, text, &Expression::parse(alloc, text))
 }
 
-// Texts of one seed.
+// The number of texts of one seed.
 const TEXTS: usize = 2_500;
 
-// How many texts are accepted, and how many of these ask at least two predicates. The error is the
-// first text that is not as it has to be.
-fn counts_of(alloc: Global, seed: u64) -> Result<(usize, usize), String> {
+// Returns how many texts are accepted, and how many have at least two predicates. The error is the
+// first text whose check fails.
+fn count_texts(alloc: Global, seed: u64) -> Result<(usize, usize), String> {
     let mut numbers = Numbers::new(seed);
-    let (mut accepted, mut asking) = (0usize, 0usize);
+    let (mut accepted, mut with_several) = (0usize, 0usize);
     for _text in 0..TEXTS {
-        let Ok(text) = made(alloc, &mut numbers) else {
+        let Ok(text) = make_text(alloc, &mut numbers) else {
             return Err(String::new(alloc));
         };
-        let Some((is_accepted, is_asking)) = seen(alloc, &mut numbers, text.as_str()) else {
+        let Some((accepts, has_several)) = count_text(alloc, &mut numbers, text.as_str()) else {
             return Err(text);
         };
-        accepted = accepted.saturating_add(is_accepted);
-        asking = asking.saturating_add(is_asking);
+        accepted = accepted.saturating_add(accepts);
+        with_several = with_several.saturating_add(has_several);
     }
-    Ok((accepted, asking))
+    Ok((accepted, with_several))
 }
 
-// Some are refused and some accepted, at least 500 of each.
+// Of each seed at least 500 texts are accepted and 500 refused.
 #[test]
-fn texts_are_as_said(rt: HostRuntime) -> Result<(), String> {
+fn generated_texts_pass(rt: HostRuntime) -> Result<(), String> {
     for seed in 1..=4 {
-        let (accepted, asking) = counts_of(rt.alloc(), seed)?;
-        let are_enough = (500..=TEXTS - 500).contains(&accepted) && asking >= 300;
-        assert!(rt; are_enough, "{accepted} {asking}");
+        let (accepted, with_several) = count_texts(rt.alloc(), seed)?;
+        let are_enough = (500..=TEXTS - 500).contains(&accepted) && with_several >= 300;
+        assert!(rt; are_enough, "{accepted} {with_several}");
     }
     Ok(())
 }

@@ -1,11 +1,13 @@
-//! A hundred thousand members, and functions, of which some answers are unknown, and their lanes.
+//! A hundred thousand members or functions with unknown answers, and lanes of as many members.
 use cfg_expr::Expression;
+use cfg_expr::expr::Condition;
 use cfg_expr::expr::logic::Kleene64;
-use cfgx_testing::answers::value_in_lanes;
+use cfgx_testing::answers::eval_in_lanes;
+use cfgx_testing::fillings::each_call_decides;
 use std::alloc::Global;
 
-/// A text, the answers in the order of the questions, and the value if it is known, or else the two
-/// fillings with which it is true and false.
+/// A text, the answers in the order of the questions, and the decision: the value if it is known, or
+/// else the two fillings with which it is true and false.
 pub(crate) const LARGE: &str = r#"
 any(~a,~100000~) | ~?~100000~ | ~1~100000~ ~0~100000~
 any(~a,~100000~true) | ~?~100000~ | true
@@ -15,29 +17,64 @@ all(~a,~100000~any()) | ~?~100000~ | false
 ~not(~99999~a~)~99999~ | 1 | false
 "#;
 
-/// The members of `any`.
+/// Whether the text of the row is decided as the row says.
+pub(crate) fn decides(alloc: Global, row: &[String]) -> bool {
+    match row {
+        [text, answers, decision] => {
+            each_call_decides(alloc, text.as_str(), answers.as_str(), decision.as_str())
+                == Some(true)
+        }
+        _ => false,
+    }
+}
+
+/// An `any` with many members.
 pub(crate) const MEMBERS: &str = r#"
 any(~a,~100000~)
 "#;
 
-// The value of the text in lanes.
-fn value_over(alloc: Global, text: &str, answers: &[Kleene64]) -> Option<Kleene64> {
+// Evaluates the condition in lanes. Returns `None` unless there is one answer for each predicate.
+fn eval_condition_in_lanes(
+    alloc: Global,
+    condition: &Condition<'_>,
+    answers: &[Kleene64],
+) -> Option<Kleene64> {
+    if condition.predicates().left() == answers.len() {
+        condition.eval_lanes(alloc, answers).ok()
+    } else {
+        None
+    }
+}
+
+// Whether the expression of the text and its condition have this value in lanes. Returns `None` if
+// the text is faulty.
+fn values_are(
+    alloc: Global,
+    text: &str,
+    answers: &[Kleene64],
+    wanted: Kleene64,
+) -> Option<bool> {
     let expression = Expression::parse(alloc, text).ok()?;
-    value_in_lanes(alloc, &expression, answers)
+    let condition = expression.condition();
+    Some(
+        eval_in_lanes(alloc, &expression, answers) == Some(wanted)
+            && eval_condition_in_lanes(alloc, &condition, answers) == Some(wanted),
+    )
 }
 
-// The value in lanes of members of `any` of which the first is true in lane 1 alone and false in
-// lane 0, and all others are false in both.
-fn value_of_any(alloc: Global, text: &str) -> Option<Kleene64> {
+// Whether the value of `any` is its first member, which is true in lane 1 and false in lane 0, if all
+// others are false in both lanes.
+fn any_is_first_member(alloc: Global, text: &str) -> Option<bool> {
+    let first = Kleene64::new(0b10, 0b01);
     let mut answers = vec![in alloc; Kleene64::new(0, 0b11); 100_000].ok()?;
-    *answers.first_mut()? = Kleene64::new(0b10, 0b01);
-    value_over(alloc, text, answers.as_slice())
+    *answers.first_mut()? = first;
+    values_are(alloc, text, answers.as_slice(), first)
 }
 
-/// Whether that is what the first member is.
-pub(crate) fn is_first(alloc: Global, row: &[String]) -> bool {
+/// Whether the value of the text of the row is its first member.
+pub(crate) fn first_member_decides(alloc: Global, row: &[String]) -> bool {
     match row {
-        [text] => value_of_any(alloc, text.as_str()) == Some(Kleene64::new(0b10, 0b01)),
+        [text] => any_is_first_member(alloc, text.as_str()) == Some(true),
         _ => false,
     }
 }

@@ -1,13 +1,13 @@
-//! The allocator that refuses on demand, and the arena that counts its blocks.
+//! Tests of the allocator that refuses on demand, and of the arena that counts its blocks.
+use cfgx_testing::checking::{check_all, is_ok_true};
 use cfgx_testing::heap::{empty_heap, has_every_block};
-use cfgx_testing::holding::{all_hold, holds};
 use cfgx_testing::refusing::Refusing;
 use std::alloc::{AllocError, Allocator, Global};
 use std::mem::forget;
 
-// Whether 100 bytes are pushed to a list that starts with no block and outgrows each that it gets.
-// A function of any allocator is shorter to prove than one of a heap.
-fn is_filled<A: Allocator>(alloc: A) -> Result<bool, AllocError> {
+// Pushes 100 bytes to a list that begins with no block and outgrows each that it gets. Returns
+// whether it has them.
+fn fill_list<A: Allocator>(alloc: A) -> Result<bool, AllocError> {
     let mut bytes = Vec::new(alloc);
     for byte in 0..100u8 {
         bytes.push(byte)?;
@@ -15,11 +15,11 @@ fn is_filled<A: Allocator>(alloc: A) -> Result<bool, AllocError> {
     Ok(bytes.len() == 100)
 }
 
-// How many growths of the list are refused in turn, until a turn has too few for the next refusal.
-fn refused_growths(heap: &Refusing<Global>) -> Option<u64> {
+// Refuses each growth of the list in turn, until a turn has fewer. Returns how many there are.
+fn count_list_growths(heap: &Refusing<Global>) -> Option<u64> {
     for n in 1..=100u64 {
         heap.refuse(n);
-        let is_filled = holds(is_filled(heap));
+        let is_filled = is_ok_true(fill_list(heap));
         if is_filled == heap.has_refused() {
             return None;
         }
@@ -30,12 +30,9 @@ fn refused_growths(heap: &Refusing<Global>) -> Option<u64> {
     None
 }
 
-// Whether the second growth from now is refused, leaves the list as it was, and is not refused
-// again. Both arguments are the heap.
-fn is_refused_the_second<A: Allocator>(
-    heap: &Refusing<Global>,
-    alloc: A,
-) -> Result<bool, AllocError> {
+// Returns whether the second growth from now is refused, leaves the list as it was, and succeeds
+// when it is tried again. Both arguments are the same allocator.
+fn refuses_second<A: Allocator>(heap: &Refusing<Global>, alloc: A) -> Result<bool, AllocError> {
     let mut bytes = Vec::with_capacity(alloc, 1)?;
     bytes.push(7u8)?;
     let was_ahead = !heap.has_refused();
@@ -45,18 +42,18 @@ fn is_refused_the_second<A: Allocator>(
     Ok(was_ahead & is_refused & stays & (bytes.as_slice() == [7, 8].as_slice()))
 }
 
-// Whether nothing is refused but the growth that is to be.
+// Whether the allocator refuses the second growth when it is told to, and no other growth.
 fn refuses_only_one(heap: &Refusing<Global>) -> bool {
-    let was_filled = heap.has_refused() && holds(is_filled(heap));
+    let was_filled = heap.has_refused() && is_ok_true(fill_list(heap));
     heap.refuse(2);
-    let is_one = holds(is_refused_the_second(heap, heap));
+    let is_one = is_ok_true(refuses_second(heap, heap));
     heap.refuse(1);
     heap.refuse(0);
-    was_filled && is_one && holds(is_filled(heap))
+    was_filled && is_one && is_ok_true(fill_list(heap))
 }
 
-// Whether a list is made, and then forgotten or dropped.
-fn is_made<A: Allocator>(alloc: A, is_forgotten: bool) -> Result<bool, AllocError> {
+// Makes a list of one block, and then forgets or drops it.
+fn make_list<A: Allocator>(alloc: A, is_forgotten: bool) -> Result<bool, AllocError> {
     let bytes = vec![in alloc; 0u8; 8]?;
     if is_forgotten {
         forget(bytes);
@@ -66,23 +63,24 @@ fn is_made<A: Allocator>(alloc: A, is_forgotten: bool) -> Result<bool, AllocErro
     Ok(true)
 }
 
-// Whether a block is known to be out if its list is forgotten, and to be back if it is dropped.
-fn is_told(alloc: Global, is_forgotten: bool) -> bool {
-    let heap = empty_heap(alloc);
-    let is_made = holds(is_made(&heap, is_forgotten));
+// Whether the arena counts the block of a forgotten list as in use, and that of a dropped one as
+// freed.
+fn counts_block(global: Global, is_forgotten: bool) -> bool {
+    let heap = empty_heap(global);
+    let is_made = is_ok_true(make_list(&heap, is_forgotten));
     is_made && has_every_block(heap) != is_forgotten
 }
 
 #[test]
-fn growths_are_refused_and_blocks_told(rt: HostRuntime) -> Result<(), &'static str> {
+fn growths_are_refused_and_blocks_counted(rt: HostRuntime) -> Result<(), &'static str> {
     let heap = Refusing::new(rt.alloc());
-    all_hold(&[
+    check_all(&[
         ("only one growth is refused", refuses_only_one(&heap)),
         (
             "each growth is refused in turn",
-            refused_growths(&heap).unwrap_or(0) >= 3,
+            count_list_growths(&heap).unwrap_or(0) >= 3,
         ),
-        ("a block that is out is told", is_told(rt.alloc(), true)),
-        ("a block that is back is told", is_told(rt.alloc(), false)),
+        ("a block in use is counted", counts_block(rt.alloc(), true)),
+        ("a freed block is not", counts_block(rt.alloc(), false)),
     ])
 }

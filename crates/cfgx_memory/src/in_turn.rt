@@ -1,88 +1,93 @@
 //! Calls that take memory, with each of their growths refused in turn.
 //!
-//! A call answers `Ok(true)` if it gave its plain answer, `AllocError` if it was out of memory and
-//! left all else as it was, and `Ok(false)` in every other case. After each refused growth it is
-//! made again with memory, and every block is given back.
+//! The check of a call returns `Ok(true)` if the call returned its usual result, `AllocError` if it
+//! was out of memory and left all else as it was, and `Ok(false)` in every other case. After each
+//! refused growth the call is made again with memory, and every block has to be freed.
 mod calls;
-pub(crate) mod conditions;
 mod decisions;
+pub(crate) mod expressions;
 mod fields;
 mod inputs;
+pub(crate) mod lexing;
+pub(crate) mod lists;
 pub(crate) mod reading;
+mod rows;
 mod runs;
-pub(crate) mod targets;
+pub(crate) mod texts;
+pub(crate) mod verdicts;
+pub(crate) mod widths;
 
 use cfg_expr::memory::SmallAllocator;
-use cfgx_testing::heap::growths;
-use cfgx_testing::holding::{gives, holds};
+use cfgx_testing::checking::{is_ok_true, value_equals};
+use cfgx_testing::heap::count_growths;
 use cfgx_testing::rows::{Checked, check_tables};
-use conditions::Read;
-use runs::Wanted;
+use runs::Ending;
 use std::alloc::{AllocError, Global};
+use texts::Parsed;
 
-/// What is made, or out of memory.
-pub(crate) type Made<T> = Result<T, AllocError>;
+/// A value, or out of memory.
+pub(crate) type AllocResult<T> = Result<T, AllocError>;
 
-/// What a call answers.
-type Finding = Made<bool>;
+/// What the check of a call returns.
+type Outcome = AllocResult<bool>;
 
 /// A call that takes memory.
 #[derive(Clone, Copy)]
 enum Call<'a> {
-    /// The lexer of this text.
-    Lexed(&'a str),
-    /// A reader of this text, of which this was parsed before.
-    Read(&'a str, &'a Read),
-    /// The call of this name with a text, of which this was parsed before.
-    Parsed(&'a str, &'a str, &'a Read),
-    /// A run of the program with these words, and how it ends.
-    Run(&'a [&'a str], &'a Wanted<'a>),
-    /// The call of this name with a text.
-    Named(&'a str, &'a str),
+    /// The lexer reads this text.
+    Lex(&'a str),
+    /// A reader reads this text. Parsing it elsewhere returned this.
+    Read(&'a str, &'a Parsed),
+    /// The call with this name gets this text. Parsing it elsewhere returned this.
+    Text(&'a str, &'a str, &'a Parsed),
+    /// The program runs with these words and ends so.
+    Run(&'a [&'a str], &'a Ending<'a>),
+    /// The call with this name, one of the table `CALLS`, gets this text.
+    Other(&'a str, &'a str),
 }
 
-// What the call answers. What is no part of it takes memory of the other allocator.
-fn answer_to<A: SmallAllocator>(out: Global, alloc: A, call: &Call<'_>) -> Finding {
+// Makes the call in memory of `alloc` and checks its result. What the check itself needs is in
+// memory of `global`.
+fn check_call<A: SmallAllocator>(global: Global, alloc: A, call: &Call<'_>) -> Outcome {
     match call {
-        Call::Lexed(text) => conditions::lexes(alloc, text),
-        Call::Read(text, parsed) => reading::is_read(alloc, text, parsed),
-        Call::Parsed(call, text, parsed) => conditions::answer_to(alloc, call, text, parsed),
-        Call::Run(words, wanted) => runs::is_run(out, alloc, words, wanted),
-        Call::Named(call, text) => calls::answer_to(out, alloc, call, text),
+        Call::Lex(text) => lexing::check_lexer(alloc, text),
+        Call::Read(text, parsed) => reading::check_reader(alloc, text, parsed),
+        Call::Text(name, text, parsed) => texts::check_call(alloc, name, text, parsed),
+        Call::Run(words, ending) => runs::check_run(global, alloc, words, ending),
+        Call::Other(name, text) => calls::check_call(global, alloc, name, text),
     }
 }
 
-// How many growths the call takes, each of which is refused in turn.
-fn growths_of(alloc: Global, call: Call<'_>) -> Option<u64> {
-    growths(alloc, |heap| answer_to(alloc, heap, &call))
+// Refuses each growth of the call in turn. Returns how many there are, or `None` if a check fails.
+fn refuse_each_growth(global: Global, call: Call<'_>) -> Option<u64> {
+    count_growths(global, |heap| check_call(global, heap, &call))
 }
 
-/// A value that gives copies of itself.
+// Whether the call takes memory and passes its check with each growth refused in turn.
+fn survives_refusals(global: Global, call: Call<'_>) -> bool {
+    refuse_each_growth(global, call).unwrap_or(0) > 0
+}
+
+/// A value with a method that copies it.
 trait TryClone<A>: PartialEq + Drop {
-    /// The copy, in memory of `alloc`.
-    fn copy(&self, alloc: A) -> Made<Self>;
+    /// Returns a copy in memory of `alloc`.
+    fn copy(&self, alloc: A) -> AllocResult<Self>;
 }
 
-// Whether the value gives a copy that is equal to it. Out of memory, it has to give that copy when
-// it is asked again. Its type is not known here, which makes drops short to prove.
-fn gives_copy<T: TryClone<A>, A: SmallAllocator>(alloc: A, value: &T) -> Finding {
-    let answer = gives(value.copy(alloc), value);
-    if answer.is_ok() || holds(gives(value.copy(alloc), value)) {
-        answer
+// Checks that `value` equals its copy. Out of memory, a second copy must succeed.
+fn check_copy<T: TryClone<A>, A: SmallAllocator>(alloc: A, value: &T) -> Outcome {
+    let outcome = value_equals(value.copy(alloc), value);
+    if outcome.is_ok() || is_ok_true(value_equals(value.copy(alloc), value)) {
+        outcome
     } else {
         Ok(false)
     }
 }
 
-/// Whether there is nothing. The type is not known here, which makes its drop short to prove.
-pub(crate) fn is_none<T: Drop>(item: Option<T>) -> bool {
-    item.is_none()
-}
-
-// The first of the answers that is not true, if there is one.
-fn all_are(findings: &[Finding]) -> Finding {
-    for finding in findings {
-        match finding {
+// Returns the first outcome that is not `Ok(true)`, or `Ok(true)` if there is none.
+fn combine(outcomes: &[Outcome]) -> Outcome {
+    for outcome in outcomes {
+        match outcome {
             Ok(true) => {}
             Ok(false) => return Ok(false),
             Err(_) => return Err(AllocError),
@@ -92,27 +97,27 @@ fn all_are(findings: &[Finding]) -> Finding {
 }
 
 const TABLES: &[Checked<'_>] = &[
-    ("each growth of a call on a text", conditions::TEXTS, 47),
+    ("each growth of a call on a text", texts::TEXTS, 47),
     ("each growth of each run", runs::RUNS, 31),
     ("each growth of each other call", calls::CALLS, 36),
-    ("growths of decisions", decisions::DECIDED, 8),
+    ("growths of decisions", decisions::DECISIONS, 8),
     ("growths of a reader", reading::READ, 8),
 ];
 
-// Whether the row of this table is what it says.
-fn is_row(alloc: Global, table: &str, row: &[String]) -> bool {
+// Returns whether the row passes the check of this table, or `None` if there is no such table.
+fn row_passes(global: Global, table: &str, row: &[String]) -> Option<bool> {
     match table {
-        "each growth of a call on a text" => conditions::is_row(alloc, row),
-        "each growth of each run" => runs::is_row(alloc, row),
-        "each growth of each other call" => calls::is_row(alloc, row),
-        "growths of decisions" => decisions::is_row(alloc, row),
-        "growths of a reader" => reading::is_row(alloc, row),
-        _ => false,
+        "each growth of a call on a text" => Some(texts::row_passes(global, row)),
+        "each growth of each run" => Some(runs::row_passes(global, row)),
+        "each growth of each other call" => Some(calls::row_passes(global, row)),
+        "growths of decisions" => Some(decisions::row_passes(global, row)),
+        "growths of a reader" => Some(reading::row_passes(global, row)),
+        _ => None,
     }
 }
 
 #[test]
 fn each_growth_is_refused(rt: HostRuntime) -> Result<(), String> {
-    let alloc = rt.alloc();
-    check_tables(alloc, TABLES, |table, row| is_row(alloc, table, row))
+    let global = rt.alloc();
+    check_tables(global, TABLES, |table, row| row_passes(global, table, row))
 }

@@ -1,22 +1,25 @@
-//! Calls that take no memory, with every growth refused: each gives its plain answer, and asks for
+//! Calls that take no memory, with every growth refused: each returns its usual result and asks for
 //! no growth.
 //!
-//! What such a call is given is made with memory first.
+//! What a call gets is made with memory first. A check takes the allocator twice: as `heap`, which it
+//! has refuse, and as `alloc`, in which it makes the call.
 mod conditions;
 mod faults;
+mod lists;
+mod logics;
 mod named;
-mod targets;
+mod tables;
 mod values;
 
-use crate::in_turn::Made;
+use crate::in_turn::AllocResult;
+use cfgx_testing::checking::hash_of;
 use cfgx_testing::heap::{Heap, empty_heap, has_every_block};
-use cfgx_testing::holding::hash_of;
 use cfgx_testing::rows::{Checked, check_tables};
 use std::alloc::Global;
 use std::hash::Hash;
 
-// Whether the first two are equal and hash alike, and the third is above both.
-fn are_ordered<T: Ord + Hash>(one: &T, same: &T, above: &T) -> bool {
+// Whether `one` equals `same` with the same hash, and is below `above`.
+fn is_ordered<T: Ord + Hash>(one: &T, same: &T, above: &T) -> bool {
     one == same
         && one != above
         && one.cmp(same).is_eq()
@@ -24,46 +27,58 @@ fn are_ordered<T: Ord + Hash>(one: &T, same: &T, above: &T) -> bool {
         && hash_of(one) == hash_of(same)
 }
 
-// Whether all three were made, and are ordered so.
-fn are_made_in_order<T: Ord + Hash>(one: &Made<T>, same: &Made<T>, above: &Made<T>) -> bool {
+// Whether all three were made, and `is_ordered` holds of them.
+fn is_made_and_ordered<T: Ord + Hash>(
+    one: &AllocResult<T>,
+    same: &AllocResult<T>,
+    above: &AllocResult<T>,
+) -> bool {
     match (one, same, above) {
-        (Ok(one), Ok(same), Ok(above)) => are_ordered(one, same, above),
+        (Ok(one), Ok(same), Ok(above)) => is_ordered(one, same, above),
         _ => false,
     }
 }
 
 const TABLES: &[Checked<'_>] = &[
-    ("conditions take no memory", conditions::ASKED, 17),
-    ("faults take no memory", faults::ROWS, 3),
-    ("targets take no memory", targets::CHECKS, 15),
-    ("other values take no memory", values::CHECKS, 26),
+    ("conditions take no memory", conditions::CONDITIONS, 23),
+    ("faults take no memory", faults::FAULTS, 3),
+    ("lists take no memory", lists::LISTS, 10),
+    ("tables of targets take no memory", tables::TABLES, 5),
+    ("other values take no memory", values::VALUES, 26),
 ];
 
-// Whether the row of this table is what it says.
-fn is_row(alloc: Global, heap: Heap<'_>, table: &str, row: &[String]) -> bool {
+// Returns whether the row passes the check of this table, or `None` if there is no such table.
+fn row_passes(global: Global, heap: Heap<'_>, table: &str, row: &[String]) -> Option<bool> {
     match table {
-        "conditions take no memory" => conditions::is_row(alloc, heap, heap, row),
-        "faults take no memory" => faults::is_row(alloc, heap, heap, row),
-        "targets take no memory" => targets::is_row(alloc, heap, heap, row),
-        "other values take no memory" => values::is_row(alloc, heap, heap, row),
-        _ => false,
+        "conditions take no memory" => Some(conditions::row_passes(global, heap, heap, row)),
+        "faults take no memory" => Some(faults::row_passes(global, heap, heap, row)),
+        "lists take no memory" => Some(lists::row_passes(global, heap, heap, row)),
+        "tables of targets take no memory" => Some(tables::row_passes(heap, heap, row)),
+        "other values take no memory" => Some(values::row_passes(global, heap, heap, row)),
+        _ => None,
     }
 }
 
-// Whether the row is what it says, with no growth refused.
-fn asks_for_no_memory(alloc: Global, heap: Heap<'_>, table: &str, row: &[String]) -> bool {
+// Returns whether the row passes with no growth refused, or `None` if there is no such table.
+fn passes_without_growth(
+    global: Global,
+    heap: Heap<'_>,
+    table: &str,
+    row: &[String],
+) -> Option<bool> {
     let refused = heap.refused_growths();
-    is_row(alloc, heap, table, row) && heap.refused_growths() == refused
+    let passes = row_passes(global, heap, table, row)?;
+    Some(passes && heap.refused_growths() == refused)
 }
 
 #[test]
 fn calls_take_no_memory(rt: HostRuntime) -> Result<(), String> {
-    let alloc = rt.alloc();
-    let heap = empty_heap(alloc);
+    let global = rt.alloc();
+    let heap = empty_heap(global);
     check_tables(
-        alloc,
+        global,
         TABLES,
-        |table, row| asks_for_no_memory(alloc, &heap, table, row),
+        |table, row| passes_without_growth(global, &heap, table, row),
     )?;
     assert!(rt; has_every_block(heap));
     Ok(())

@@ -1,4 +1,4 @@
--- The predicates at a tree's places are what the tree asks, in this order.
+-- The predicates at the places of a tree are what the tree asks, in this order.
 use Rattle.std.proofs.{Common.{◌≡◌, ℕ, zero, suc, List, [], ◌∷◌}, lemmas.Option.slice_get-map}
 use Rattle.std.proofs.Common.{length, map, Option, Some, option_map, refl, ap, arith, rules}
 use Rattle.std.specs.List.{AllByRecursion, slice_get, filter_map}
@@ -56,9 +56,9 @@ length-questions_at text nodes (place ∷ asks) names =
 
 module _ {text : List ℕ} {nodes : List ExprNode} {asks : List ℕ} {tree : Tree Question}
     (k : KeepsTree text nodes asks tree) where
-  -- the predicates at a tree's places are what it asks
+  -- the predicates at the places of a tree are what it asks
   asks_kept : map (question_in text nodes) asks ≡ map (λ (q : Question). Some q) (asked tree)
-  asks_kept = rw k.index_are (read-places tree (question_in text nodes) (λ (q : Question). Some q)
+  asks_kept = rw k.places_are (read-places tree (question_in text nodes) (λ (q : Question). Some q)
       (λ place question is. shown_same text nodes place
       question (rw k.nodes_are is)))
 

@@ -1,11 +1,11 @@
--- What is kept of a text that is accepted: the nodes of its tree.
+-- The nodes and places that are kept of an accepted text are those of its one tree.
 use Rattle.std.proofs.Common.{◌≡◌, ℕ, List, [], ◌∷◌, ◌++◌, length, Ok, sym, ◌∙◌, arith}
 use Rattle.std.{proofs.lemmas.List.length-map, proofs.lemmas.List.append-nil}
 use Rattle.std.{specs.Prelude.slice_range, specs.Prelude.◌≤◌, specs.List.AllByRecursion}
 use Rattle.cfgx_syntax.{specs.Cut.CanBeCut, proofs.Values.value_inside, specs.Token.{Token, Spells}}
 use Rattle.cfgx_syntax.specs.Items.{Item, ItemsFrom, HasOneTokenList}
 use Rattle.cfgx_grammar.{specs.Question.Question, specs.Tree.Tree, proofs.Answering.only_tree}
-use Rattle.cfgx_grammar.proofs.alone.{all_of_first}
+use Rattle.cfgx_grammar.proofs.ListLemmas.{all_of_first}
 use Rattle.cfgx_grammar.proofs.Answering.{answer, tree_of, Finds-one, HasOneTree-tree}
 use Rattle.cfgx_parser.specs.nodes.{KeepsTree.{KeepsTree, KeepsOneTree}, Prefix.{prefix, places}}
 use Rattle.cfgx_parser.specs.nodes.Node.{Written, nothing, with_list_ended}
@@ -21,14 +21,14 @@ placed_at : (text : List ℕ) (token : Token) (start end : ℕ)
     → IsPlaced text (record { token = token; start = start; end = end }) token
 placed_at text token start end spelled inside cut = grind (arith, value_inside)
 
--- what is asked of a tree at the root, with its list or before
+-- what a tree at the root asks, with its list or before
 asked_root : (tree : Tree Question) → inner 0 tree ++ own 0 tree ≡ places 0 tree
 asked_root tree = grind (arith, append-nil)
 
 -- the predicate at the root is the last that is asked
 KeepsTree-writes : (text : List ℕ) (w v : Written) (tree : Tree Question) → with_list_ended 0 w ≡ v
     → WritesNodes text nothing w (prefix tree) (own 0 tree) (inner 0 tree)
-    → KeepsTree text v.nodes v.index tree
+    → KeepsTree text v.nodes v.places tree
 KeepsTree-writes text w v tree is a = grind (arith, asked_root)
 
 module _ (text : List ℕ) (one : HasOneTokenList text) where
@@ -45,7 +45,7 @@ module _ (text : List ℕ) (one : HasOneTokenList text) where
       )
 
   pub KeepsOneTree-accepted : (u : ParserState) → answer text one ≡ Ok u
-      → KeepsOneTree text u.written.nodes u.written.index
+      → KeepsOneTree text u.written.nodes u.written.places
   KeepsOneTree-accepted u e =
       let (tree, has) = tree_of text one u e in
       let f = Finds-one text one (node_laws text) tree has in

@@ -1,4 +1,4 @@
--- Answers one after another as the bits of two planes, the first one lowest.
+-- A list of answers as the bits of two planes; the first answer is the lowest bit.
 use Rattle.std.proofs.Common.{◌≡◌, ◌∙◌, ◌+◌, ◌*◌, ◌<◌, ◌≤◌, ◌^◌, ℕ, zero, suc, Bool, true, false}
 use Rattle.std.proofs.Common.{not, List, [], ◌∷◌, ◌++◌, length, map, refl, ap, arith}
 use Rattle.std.{specs.Prelude.if◌then◌else◌, specs.Int.bit_at, specs.List.slice_get}
@@ -29,7 +29,7 @@ digit-opposite b = grind arith
 answer-digit : (b : Bool) → answer_of_bits (digit b) (digit (not b)) ≡ slice_get (b ∷ []) 0
 answer-digit b = grind arith
 
--- at most one of both planes has a bit
+-- no bit is set in both planes
 bits-disjoint : (bs : List Bool) (i : ℕ) → bit_at (bits bs) i + bit_at (bits (map not bs)) i ≤ 1
 bits-disjoint [] i = omega (arith, bit_at-zero i)
 bits-disjoint (b ∷ bs) zero = omega (arith, bit_at-first, digit-opposite b)
@@ -45,13 +45,13 @@ lane-bits (b ∷ bs) zero =
 lane-bits (b ∷ bs) (suc i) =
     rw (bit_at-next b (bits bs) i, bit_at-next (not b) (bits (map not bs)) i) (lane-bits bs i)
 
--- so many answers need so many bits
+-- `n` answers need `n` bits
 bits-lt : (bs : List Bool) → bits bs < 2 ^ length bs
 bits-lt [] = omega arith
 bits-lt (b ∷ bs) = grind (arith, bits-lt bs, pow-succ' 2 (length bs))
 
--- What two planes hold, while answers are added from the last row to the first: those of the rows
--- that come after the ones that are left.
+-- While answers are added from the last row to the first, the planes have the answers of the rows
+-- after those that are left.
 pub record Added {T : Type 0} (answer : T → Bool) (rows left : List T) (is_true is_false : ℕ)
     : Type 0 where
   pub done : List T
@@ -60,13 +60,13 @@ pub record Added {T : Type 0} (answer : T → Bool) (rows left : List T) (is_tru
   pub false_is : is_false ≡ bits (map not (map answer done))
 
 module _ {T : Type 0} {answer : T → Bool} {rows left : List T} {is_true is_false : ℕ} where
-  -- a row that is left has a bit in both planes
+  -- there is room for one more bit if a row is left
   pub Added-fit : (before : List T) (row : T) → left ≡ before ++ row ∷ [] → length rows ≤ 64
       → Added answer rows left is_true is_false → (is_true < 2 ^ 63) × (is_false < 2 ^ 63)
   Added-fit before row left_is few added =
       grind (arith, bits-lt, length-append, length-map, pow_mono)
 
-  -- in the end they hold the answers of all rows
+  -- at the end the planes have the answers of all rows
   pub Added-end : length left ≡ 0 → Added answer rows left is_true is_false
       → AreDisjoint is_true is_false
       × EachLane (record { is_true = is_true; is_false = is_false }) (slice_get (map answer rows))

@@ -1,4 +1,4 @@
--- How many nodes the tree of so many tokens has, and that of so many bytes.
+-- A tree has no more nodes than its text has tokens, and no more than it has bytes.
 use Rattle.std.proofs.Common.{◌≡◌, ℕ, ◌+◌, ◌≤◌, List, ◌++◌, length, Option, ap}
 use Rattle.std.{proofs.Common.arith, proofs.Common.length-append, proofs.lemmas.List.length-map}
 use Rattle.cfgx_syntax.{specs.Token.Token, proofs.ItemSizes.items-bytes}

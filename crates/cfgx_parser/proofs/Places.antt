@@ -1,29 +1,19 @@
--- What stands at the places of a tree's predicates.
+-- The nodes at the places of a tree are its predicates.
 use Rattle.std.proofs.Common.{◌≡◌, ℕ, zero, suc, ◌+◌, List, [], ◌∷◌, ◌++◌, length, map, Some, sym}
 use Rattle.std.{proofs.Common.{refl, ap, arith}, specs.List.{AllZip, slice_get}}
 use Rattle.cfgx_grammar.specs.Tree.{Tree, Trees, asked}
 use Rattle.cfgx_grammar.proofs.Alike.{Alike, AlikeEach, asked-alike, length-asked}
+use Rattle.cfgx_grammar.proofs.ListLemmas.{slice_get-append, slice_get-append-add}
+use Rattle.std.proofs.lemmas.Option.{slice_get_within}
 use Rattle.cfgx_parser.specs.nodes.Prefix.{Node, prefix, prefix_each, with_places}
 use Rattle.cfgx_parser.specs.nodes.Prefix.{with_places_each, places}
 
-found-first : {X : Type 0} (xs ys : List X) (i : ℕ) (x : X) → slice_get xs i ≡ Some x
-    → slice_get (xs ++ ys) i ≡ Some x
-found-first [] ys i x is = absurd (cc)
-found-first (first ∷ xs) ys zero x is = is
-found-first (first ∷ xs) ys (suc i) x is = found-first xs ys i x is
-
-found-later : {X : Type 0} (xs ys : List X) (i n : ℕ) → n ≡ length xs + i
-    → slice_get (xs ++ ys) n ≡ slice_get ys i
-found-later [] ys i n at = ap (slice_get ys) (omega arith)
-found-later (x ∷ xs) ys i zero at = absurd (omega arith)
-found-later (x ∷ xs) ys i (suc n) at = found-later xs ys i n (omega arith)
-
 module _ {X Y : Type 0} (read : ℕ → Y) (of : X → Y) where
-  -- what is read at the place of a predicate
+  -- the reading at the place of a predicate
   abbrev Reads : ℕ → X → Type 0
   Reads place x = read place ≡ of x
 
-  -- at the places of those among the nodes that begin at a place
+  -- the reading at each predicate among nodes that begin at a place
   abbrev ReadsEach : ℕ → List (Node X) → Type 0
   ReadsEach place nodes = (i n : ℕ) (x : X) → n ≡ place + i
       → slice_get nodes i ≡ Some (Node.leaf x) → Reads n x
@@ -43,9 +33,9 @@ module _ {X Y : Type 0} (read : ℕ → Y) (of : X → Y) where
     reads-trees Trees.none place each = AlikeEach.none
     reads-trees (Trees.more tree trees) place each =
         AlikeEach.more _ _ _ _ (reads-tree tree place (λ i n x at is. each i n x at
-        (found-first (prefix tree) (prefix_each trees) i _ is)))
+        (rw (slice_get-append (prefix tree) (prefix_each trees) i (slice_get_within _ i _ is)) is)))
         (reads-trees trees _ (λ i n x at is. each (length (prefix tree) + i) n x (omega arith)
-        (rw (found-later (prefix tree) (prefix_each trees) i _ refl) is)))
+        (rw (slice_get-append-add (prefix tree) (prefix_each trees) i _ refl) is)))
 
   read-asked : (ps : List ℕ) (xs : List X) → AllZip Reads ps xs → map read ps ≡ map of xs
   read-asked [] [] zipped = refl
@@ -58,7 +48,7 @@ module _ {X : Type 0} (tree : Tree X) where
       → read place ≡ of x) → map read (places 0 tree) ≡ map of (asked tree)
   read-places read of each = grind (arith, asked-alike, read-asked, reads-tree)
 
-  -- there is one for each predicate
+  -- there is one place for each predicate
   pub length-places : length (places 0 tree) ≡ length (asked tree)
   length-places = sym (length-asked _ (with_places 0 tree) tree
       (reads-tree {Y = ℕ} (λ _. 0) (λ _. 0) tree 0 (λ _ _ _ _ _. refl)))

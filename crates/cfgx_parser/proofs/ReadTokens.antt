@@ -1,5 +1,4 @@
--- What the rest of a text answers, the whole answers: one token after another, as the lexer gives
--- them.
+-- The result for the rest of a text is that for the whole, one token of the lexer after another.
 use Rattle.std.proofs.Common.{◌≡◌, ℕ, List, [], ◌∷◌, length, drop, Option, Some, Result, Ok, Err}
 use Rattle.std.proofs.Common.{arith}
 use Rattle.cfgx_syntax.specs.Items.{Item, Ending, IsBlank}
@@ -14,7 +13,7 @@ use Rattle.cfgx_parser.{specs.declared.parser.Parser.Parser}
 use Rattle.cfgx_grammar.specs.parsing.Step.{step, conclude, answer_from}
 use Rattle.cfgx_parser.specs.parsing.Parser.{state_of, FailsAs, Ends, ReadsAll}
 
--- what the parser keeps of the last token decides the answer
+-- what the parser keeps of the last token decides the result
 answer-like : (last : Option Token) (s : ParserState) (text : List ℕ) (items : List Item)
     (ending : Ending)
     → answer_from (token_like (last_of last)) s text items ending
@@ -22,7 +21,7 @@ answer-like : (last : Option Token) (s : ParserState) (text : List ℕ) (items :
 answer-like last s text [] ending = grind arith
 answer-like last s text (item ∷ items) ending = grind arith
 
--- where the reader stands
+-- the lexer and the parser have come to this place
 pub record LeadsTo {A : Type 0} (lexer now : LexerState) (old : Parser A) (last : LastToken)
     (parser : Parser A) : Type 0 where
   pub text : now.text ≡ lexer.text
@@ -34,7 +33,7 @@ module _ {A : Type 0} {lexer now : LexerState} {old before : Parser A} {last : L
   abbrev from : ParserState
   from = state_of {A = A} before
 
-  -- a token that is read
+  -- a token that the parser accepts
   pub LeadsTo-read : (next : LexerState) (lexed : LexerToken) → GivesItem now (item_of lexed) next
       → step (token_like last) from (item_of lexed) ≡ Ok (state_of {A = A} after)
       → LeadsTo {A = A} lexer next old (last_of (Some (token_of lexed.token))) after
@@ -52,7 +51,7 @@ module _ {A : Type 0} {lexer now : LexerState} {old before : Parser A} {last : L
     };
   })
 
-  -- a token that is refused, whose fault is that of the whole
+  -- a token with a fault, which is the fault of the text
   pub ReadsAll-read : (next : LexerState) (item : Item) (failure : Failure A)
       → GivesItem now item next → FailsAs lexer.text failure (step (token_like last) from item)
       → ReadsAll {A = A} lexer old after (Err failure)

@@ -1,10 +1,11 @@
--- What a `SmallVec` takes in memory fits, where its allocator is small.
+-- A `SmallVec` fits in memory, if its allocator is small.
 use Rattle.std.proofs.Common.{ℕ, ◌+◌, ◌<◌, ◌≤◌, ◌^◌}
 pub use Rattle.std.proofs.Common.{arith, rules}
 use prog.Memory.{up}
 use Prim.Native.Nat.{max}
 
--- its size, with n bytes of elements inline, and an allocator of that alignment and size
+-- the size of a `SmallVec` with `n` bytes of elements inline, and an allocator of this alignment
+-- and size
 abbrev listed : (align size n : ℕ) → ℕ
 listed align size n =
     let inline = max 8 (max 8 (max align 1)) in let heap = max 8 inline in

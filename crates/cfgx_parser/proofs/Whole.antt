@@ -1,4 +1,4 @@
--- What reading the whole text gives, `parse` answers.
+-- `parse` returns what the grammar says, once the whole text is read.
 use Rattle.std.proofs.Common.{◌≡◌, ℕ, List, Result, Ok, Err}
 use Rattle.std.{specs.Prelude.IsErrAnd, proofs.lemmas.Result.err_from_is_err_and}
 use Rattle.cfgx_syntax.{specs.Items.HasOneTokenList, specs.Stripping.strip}
@@ -9,16 +9,16 @@ use Rattle.cfgx_parser.{specs.nodes.KeepsTree.KeepsOneTree, specs.declared.parse
 use Rattle.cfgx_parser.proofs.Kept.{KeepsOneTree-accepted}
 use Rattle.cfgx_grammar.{specs.parsing.State.initial, proofs.Answering.reads_one_way}
 use Rattle.cfgx_parser.specs.parsing.Parser.{state_of, Ends, ReadsAll}
-use Rattle.cfgx_grammar.proofs.Answering.{HasOneTree-tree, ReadsAs-refused, answer, tree_of}
+use Rattle.cfgx_grammar.proofs.Answering.{HasOneTree-tree, ReadsAs-fault, answer, tree_of}
 
--- the start of a text, and of the parser
+-- the lexer and the parser are at the start of the text
 pub record Begins {A : Type 0} (text : List ℕ) (lexer : LexerState)
     (parser : Parser A) : Type 0 where
   pub one : HasOneTokenList text
   pub lexer_is : lexer ≡ starting text
   pub state_is : state_of {A = A} parser ≡ initial
 
--- if it is out of memory
+-- a call that is out of memory
 pub Answers-memory : {A : Type 0} (text : List ℕ) → HasOneTokenList text → (error : _)
     (result : Result (List ℕ) (Failure A)) → IsErrAnd result (λ f. f ≡ failure.Memory error)
     → Answers text result
@@ -37,12 +37,12 @@ module _ {A : Type 0} {text : List ℕ} {lexer : LexerState} {old : Parser A} (n
       → ReadsAll {A = A} lexer old new (Err f) → Answers text (Err f)
   Answers-fails (failure.Parse error) b reads =
       let (fault, refused, same) = given (Err (failure.Parse error)) b reads in
-      (fault, same, ReadsAs-refused text b.one fault refused)
+      (fault, same, ReadsAs-fault text b.one fault refused)
   Answers-fails (failure.Memory error) b reads = reads_one_way text b.one
 
-  -- what is accepted
+  -- an accepted text
   pub Accepted : Begins {A = A} text lexer old → ReadsAll {A = A} lexer old new (Ok tt)
-      → KeepsOneTree text new.writer.nodes.items new.writer.index.items
+      → KeepsOneTree text new.writer.nodes.items new.writer.places.items
       × (strip text ≡ text) × HasOneTree text
   Accepted b reads =
       let accepts = given (Ok tt) b reads in

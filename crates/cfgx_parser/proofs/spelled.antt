@@ -1,4 +1,4 @@
--- The nodes of the tree that spells a text are written.
+-- For a text that a tree spells, the nodes of this tree are written.
 pub mod Laws
 pub mod LocatedClasses
 pub mod WritingLemmas

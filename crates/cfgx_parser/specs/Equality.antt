@@ -1,5 +1,5 @@
--- When two questions are the same, as a test. Each is made a list by which it can be told from all
--- others.
+-- The tests of whether two questions are the same. Each question has a code, a list that no other
+-- question has.
 use Rattle.std.specs.Prelude.{ℕ, Bool, List, [], ◌∷◌, nat_eq}
 use Rattle.std.specs.Ordering.{on}
 use Rattle.std.specs.Cmp.Lexicographic.{pointwise}
@@ -12,7 +12,7 @@ abbrev pub atomic_code : HasAtomic → List ℕ
 atomic_code (IntegerSize bits) = bits ∷ []
 atomic_code Pointer = []
 
--- the place of its case, and then its text or its number
+-- the number of the case, and then the text or the number that it has
 abbrev pub target_code : TargetQuestion → List ℕ
 target_code (TargetQuestion.abi text) = 0 ∷ text
 target_code (TargetQuestion.arch text) = 1 ∷ text
@@ -25,7 +25,7 @@ target_code (TargetQuestion.panic text) = 7 ∷ text
 target_code (TargetQuestion.pointer_width width) = 8 ∷ width ∷ []
 target_code (TargetQuestion.vendor text) = 9 ∷ text
 
--- the place of its case, and then its texts, one after another
+-- the number of the case, and then its texts
 abbrev pub question_code : Question → List (List ℕ)
 question_code (Question.target question) = (0 ∷ []) ∷ target_code question ∷ []
 question_code Question.test = (1 ∷ []) ∷ []
@@ -36,10 +36,10 @@ question_code (Question.target_feature text) = (5 ∷ []) ∷ text ∷ []
 question_code (Question.flag key) = (6 ∷ []) ∷ key ∷ []
 question_code (Question.key_value key value) = (7 ∷ []) ∷ key ∷ value ∷ []
 
--- of one case, and with the same text or number
+-- whether two questions on the target are the same
 abbrev pub target_eq : TargetQuestion → TargetQuestion → Bool
 target_eq = on target_code (pointwise nat_eq)
 
--- of one case, and with the same texts
+-- whether two questions are the same
 abbrev pub question_eq : Question → Question → Bool
 question_eq = on question_code (pointwise (pointwise nat_eq))

@@ -1,4 +1,4 @@
--- A predicate of the program without where its texts lie in memory.
+-- A predicate of the program as a question, without the addresses of its texts.
 use Rattle.cfgx_grammar.specs.Question.{Question, TargetQuestion}
 use Rattle.cfgx_parser.specs.declared.predicates.TargetPredicate.{TargetPredicate}
 use Rattle.cfgx_parser.specs.declared.predicates.TargetPredicate.TheVariants as target

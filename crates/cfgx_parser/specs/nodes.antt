@@ -1,5 +1,5 @@
--- A tree as the list of nodes in which a parser writes it. Internal: no public contract of
--- `cfg_expr` names it.
+-- A tree as the list of its nodes, and how it is written. Internal: no public contract of
+-- `cfg_expr` cites it.
 pub mod KeepsTree
 pub mod Located
 pub mod Node

@@ -24,14 +24,14 @@ pub(crate) enum FuncKind {
 pub enum Func {
     /// `not()`, which has one member
     Not,
-    /// `all()` with this many members
+    /// `all()`, with the number of its members
     All(usize),
-    /// `any()` with this many members
+    /// `any()`, with the number of its members
     Any(usize),
 }
 
 impl Func {
-    /// The place of its name in the order of functions.
+    /// Returns the rank of the name in the order of functions.
     fn rank(self) -> u8
         ensures { result ≡ func_rank self }
     {
@@ -42,7 +42,7 @@ impl Func {
         }
     }
 
-    /// The number of its members.
+    /// Returns the number of members.
     fn members(self) -> usize
         ensures { result ≡ func_members self }
     {
@@ -53,7 +53,7 @@ impl Func {
     }
 }
 
-/// Two functions are equal if they have the same name and as many members.
+/// Two functions are equal if they have the same name and the same number of members.
 impl PartialEq for Func {
     ghost eq = { func_eq };
 
@@ -85,8 +85,7 @@ impl PartialOrd for Func {
     }
 }
 
-/// Functions are ordered by name, `not`, `all` and `any`, and those of one name by the number of
-/// their members.
+/// Functions are ordered by name (`not`, `all`, `any`), and then by the number of their members.
 impl Ord for Func {
     ghost cmp = { func_cmp };
 

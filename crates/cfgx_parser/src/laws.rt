@@ -1,5 +1,5 @@
-//! What holds of the questions of all conditions: the function's clause is the law. Its body does
-//! nothing, and a caller that calls it knows the law.
+//! Laws of the questions of conditions. A law is the clause of a function that does nothing: its
+//! callers know the law.
 ghost use Rattle.std.specs.Prelude.{◌≡◌};
 ghost use Rattle.cfgx_grammar.specs.Question.{Question};
 ghost use Rattle.cfgx_grammar.specs.Tree.{ListFunction, Tree, Trees, asked, asked_each, arranged};

@@ -12,21 +12,21 @@ use cfgx_syntax::logic::Kleene64;
 use cfgx_targets::info::TargetInfo;
 use std::alloc::{AllocError, Allocator};
 
-/// What predicates on the target are asked of. A caller's own type may be one.
+/// A target of which predicates are asked. A caller's own type may be one.
 pub trait TargetMatcher {
     ghost use Rattle.std.specs.Prelude.{Bool};
     ghost use Rattle.cfgx_grammar.specs.Question.{TargetQuestion};
 
-    /// What is answered to a predicate: a function of both values.
+    /// The answer to a predicate, which depends on the two values alone.
     ghost answer: { Self → TargetQuestion → Bool };
 
-    /// Whether the predicate is true of this target.
+    /// Whether the predicate `tp` is true of this target.
     fn matches(&self, tp: &TargetPredicate<'_>) -> bool
         ensures { result ≡ answer self.now (target_of tp.now) };
 }
 
-/// A field that a target lacks is taken as `""` for the binary interface and the environment, as
-/// `none` for the operating system and as `unknown` for the vendor.
+/// A missing field is read as `""` for the binary interface and the environment, `none` for the
+/// operating system, and `unknown` for the vendor.
 impl<A: Allocator> TargetMatcher for TargetInfo<'_, A> {
     ghost answer = { meets };
 
@@ -49,7 +49,7 @@ impl<A: Allocator> TargetMatcher for TargetInfo<'_, A> {
     }
 }
 
-// Whether a field has this text, where `missing` stands for the text of a missing one.
+// Whether `field` has the text `text`. A missing field has the text `missing`.
 fn has_field<K, A: Allocator>(field: &Option<Field<'_, K, A>>, missing: &str, text: &str) -> bool
     ensures { result ≡ has_text field.now missing.now text.now }
 {
@@ -59,16 +59,16 @@ fn has_field<K, A: Allocator>(field: &Option<Field<'_, K, A>>, missing: &str, te
     }
 }
 
-// The plane, moved up by a lane, with this bit as the lowest.
-fn with_lowest(plane: u64, bit: bool) -> u64
+// Returns the plane with its lanes moved up by one, and `bit` as lane 0.
+fn with_lane_0(plane: u64, bit: bool) -> u64
     requires { plane < 2 ^ 63 }
     ensures { result ≡ (if bit then 1 else 0) + 2 * plane }
 {
     2 * plane + u64::from(bit)
 }
 
-// What each of the rows answers, in its lane.
-fn answers<T: TargetMatcher>(predicate: &TargetPredicate<'_>, rows: &[T]) -> Kleene64
+// Returns the answers of the rows: lane `i` is that of row `i`.
+fn answers_of<T: TargetMatcher>(predicate: &TargetPredicate<'_>, rows: &[T]) -> Kleene64
     requires { length rows.now ≤ 64 }
     ensures { EachLane result
         (slice_get (map (λ row. T.answer row (target_of predicate.now)) rows.now)) }
@@ -77,33 +77,33 @@ fn answers<T: TargetMatcher>(predicate: &TargetPredicate<'_>, rows: &[T]) -> Kle
     let mut left = rows;
     while let Some((row, before)) = left.split_last() {
         let answer = row.matches(predicate);
-        is_true = with_lowest(is_true, answer);
-        is_false = with_lowest(is_false, !answer);
+        is_true = with_lane_0(is_true, answer);
+        is_false = with_lane_0(is_false, !answer);
         left = before;
     }
     Kleene64::new(is_true, is_false)
 }
 
 impl<'a, A: Allocator> TargetPredicate<'a, A> {
-    /// Whether the predicate is true of the target, as the target answers.
+    /// Whether the predicate is true of `target`.
     pub fn matches<T: TargetMatcher>(&self, target: &T) -> bool
         ensures { result ≡ T.answer target.now (target_of self.now) }
     {
         target.matches(&self.borrowed())
     }
 
-    /// Whether the predicate is true of each of at most 64 targets, as these answer: lane `i` is
-    /// the answer of row `i`, and the lanes past the rows are unknown. It takes no memory.
+    /// Returns the answers of at most 64 targets: lane `i` is that of row `i`, and the lanes past
+    /// the rows are unknown. It takes no memory.
     pub fn lanes<T: TargetMatcher>(&self, rows: &[T]) -> Kleene64
         requires { length rows.now ≤ 64 }
         ensures { EachLane result
             (slice_get (map (λ row. T.answer row (target_of self.now)) rows.now)) }
     {
-        answers(&self.borrowed(), rows)
+        answers_of(&self.borrowed(), rows)
     }
 
-    // The predicate of the same kind and text, which is borrowed: the allocator that may own the
-    // text is not seen.
+    // Returns the predicate with its text borrowed, so that a matcher does not depend on the
+    // allocator that may own the text.
     fn borrowed(&self) -> TargetPredicate<'_>
         ensures { target_of result ≡ target_of self.now }
     {
@@ -122,8 +122,8 @@ impl<'a, A: Allocator> TargetPredicate<'a, A> {
         }
     }
 
-    /// A predicate equal to this one. A borrowed text is borrowed again and takes no memory; an
-    /// owned one is copied into `alloc`.
+    /// Returns an equal predicate. A borrowed text is borrowed again and takes no memory; an owned
+    /// one is copied into `alloc`.
     ///
     /// The error is that `alloc` refused the copy. This predicate stays as it was either way.
     pub fn try_clone(&self, alloc: A) -> Result<Self, AllocError>

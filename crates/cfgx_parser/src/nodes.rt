@@ -10,13 +10,26 @@ use std::alloc::AllocError;
 use std::mem;
 use std::ops::Range;
 
-/// Bytes of a text, as a `Range`, but `Copy`.
+/// A range of the bytes of a text. Unlike a `Range`, it is `Copy`.
 #[derive(Clone, Copy, Debug)]
 pub struct Span {
-    /// The first one
+    /// The position of the first byte
     pub start: usize,
-    /// The one after the last
+    /// The position after the last byte
     pub end: usize,
+}
+
+impl Span {
+    ghost use Rattle.cfgx_parser.specs.nodes.Located.{IsSpan, at};
+
+    /// Returns the bytes of `text` at this span.
+    #[inline(always)]
+    pub(crate) fn cut(self, text: &str) -> &str
+        requires { IsSpan text.now self }
+        ensures { result.now ≡ at text.now self }
+    {
+        &text[self.start..self.end]
+    }
 }
 
 impl From<Range<usize>> for Span {
@@ -28,32 +41,32 @@ impl From<Range<usize>> for Span {
     }
 }
 
-/// A predicate on the target, by where its text stands.
+/// A predicate on the target, with the span of its text.
 #[derive(Clone, Copy, Debug)]
 pub enum InnerTarget {
-    /// `target_abi`, by its value
+    /// `target_abi`, with its value
     Abi(Span),
-    /// `target_arch`, by its value
+    /// `target_arch`, with its value
     Arch(Span),
     /// `target_endian`
     Endian(Endian),
-    /// `target_env`, by its value
+    /// `target_env`, with its value
     Env(Span),
-    /// `target_family`, by its value, and the bare keys `unix` and `windows`, by the key
+    /// `target_family` with its value, or `unix` or `windows`, with this key as the value
     Family(Span),
     /// `target_has_atomic`
     HasAtomic(HasAtomic),
-    /// `target_os`, by its value
+    /// `target_os`, with its value
     Os(Span),
-    /// `panic`, by its value
+    /// `panic`, with its value
     Panic(Span),
     /// `target_pointer_width`, in bits
     PointerWidth(u8),
-    /// `target_vendor`, by its value
+    /// `target_vendor`, with its value
     Vendor(Span),
 }
 
-/// A predicate, by where its parts stand in the text.
+/// A predicate, with the spans of its parts.
 #[derive(Clone, Copy, Debug)]
 pub enum InnerPredicate {
     /// A predicate on the target
@@ -64,11 +77,11 @@ pub enum InnerPredicate {
     DebugAssertions,
     /// `proc_macro`
     ProcMacro,
-    /// `feature`, by its value
+    /// `feature`, with its value
     Feature(Span),
-    /// `target_feature`, by its value
+    /// `target_feature`, with its value
     TargetFeature(Span),
-    /// A key of no other meaning
+    /// A key without a meaning of its own
     Other {
         /// The key
         identifier: Span,
@@ -77,14 +90,14 @@ pub enum InnerPredicate {
     },
 }
 
-/// A node of a condition. A function stands in front of its members, in source order.
+/// A node of a condition. The nodes are in source order: a function stands before its members.
 #[derive(Clone, Copy, Debug)]
 pub enum ExprNode {
     /// A function
     Fn {
         /// The function, with the number of its members
         func: Func,
-        /// The number of nodes of its tree, itself among them
+        /// The number of nodes of its tree, this node included
         len: usize,
     },
     /// A predicate
@@ -93,7 +106,7 @@ pub enum ExprNode {
     Literal(bool),
 }
 
-// The node of a function that has begun.
+// The node of a function that has begun and not ended.
 impl Default for ExprNode {
     ghost use Rattle.cfgx_parser.specs.nodes.Node.{begun};
 
@@ -112,48 +125,45 @@ impl Default for ExprNode {
 pub(crate) struct Mark {
     /// The place of its node
     pub(crate) node: usize,
-    /// How many predicates of open lists were written before it
+    /// The number of predicates of open lists before it
     pub(crate) leaves: usize,
 }
 
-/// How many bytes of a text there are for each node, so that room for the nodes is made at once.
-const BYTES_FOR_A_NODE: usize = 8;
+/// The number of bytes of a text for which one node is expected.
+const BYTES_PER_NODE: usize = 8;
 
-/// The fewest nodes for which room is made.
-const LEAST_RESERVED: usize = 3;
+/// The smallest capacity for nodes that is reserved on the heap.
+const MIN_CAPACITY: usize = 3;
 
-/// The most nodes for which room is made at once. It is 140 KiB: a block of that size grows where
-/// it stands, and is not copied.
-const MOST_RESERVED: usize = 2560;
+/// The largest capacity for nodes that is reserved at once. It is 140 KiB: a block of that size
+/// grows where it stands, and is not copied.
+const MAX_CAPACITY: usize = 2560;
 
-/// For how many nodes, predicates and open functions there is room from the first text on, if many
-/// texts are read in the same memory.
-pub(crate) const KEPT_ROOM: usize = 8;
+/// The capacity that a reader reserves on its first text.
+pub(crate) const KEPT_CAPACITY: usize = 8;
 
-/// For how many nodes of a text of so many bytes room is made at once.
-fn room_for(len: usize) -> usize {
-    (len / BYTES_FOR_A_NODE)
-        .max(LEAST_RESERVED)
-        .min(MOST_RESERVED)
+/// Returns the capacity to reserve for the nodes of a text of `len` bytes.
+fn capacity_for(len: usize) -> usize {
+    (len / BYTES_PER_NODE).max(MIN_CAPACITY).min(MAX_CAPACITY)
 }
 
-/// The nodes of a tree as they are written, one pass over the text.
+/// The nodes of a tree while they are written, in one pass over the text.
 #[derive(Drop)]
 pub(crate) struct Writer<A: SmallAllocator> {
     /// The nodes, in source order
     pub(crate) nodes: SmallVec<ExprNode, 1, A>,
-    /// The places of predicates whose list is open, those of inner lists last
+    /// The places of the predicates whose list is open, those of inner lists last
     pub(crate) leaves: SmallVec<usize, 4, A>,
     /// The places of the other predicates, in the order in which they are asked
-    pub(crate) index: SmallVec<usize, 4, A>,
-    /// How many nodes there are: a `SmallVec` has to find out where its elements are to tell that
-    count: usize,
-    /// How many predicates of open lists there are
-    held: usize,
-    /// For how many nodes room is made once the inline place is taken
-    room: usize,
-    /// The two counts are the lengths of their lists
-    ghost counted: { (count ≡ length nodes.items) × (held ≡ length leaves.items) },
+    pub(crate) places: SmallVec<usize, 4, A>,
+    /// `nodes.len()`, cached: a `SmallVec` first tests whether it is inline
+    node_count: usize,
+    /// `leaves.len()`, cached for the same reason
+    leaf_count: usize,
+    /// The capacity to reserve when the nodes first move to the heap, and then 0
+    first_capacity: usize,
+    /// Both counts are the lengths of their vectors
+    ghost counted: { (node_count ≡ length nodes.items) × (leaf_count ≡ length leaves.items) },
 }
 
 impl<A: SmallAllocator> Writer<A> {
@@ -163,167 +173,166 @@ impl<A: SmallAllocator> Writer<A> {
     ghost use Rattle.cfgx_parser.specs.nodes.Node.{with_list_ended, with_function_ended, completed};
     ghost use Rattle.cfgx_parser.specs.nodes.Writer.{written_of, KeepsNodes};
 
-    /// A writer that has written nothing of a text of so many bytes.
+    /// Returns a writer that has written nothing of a text of `len` bytes.
     pub(crate) fn new(alloc: A, len: usize) -> Self
         ensures { written_of result ≡ nothing }
     {
         Writer {
             nodes: SmallVec::new(alloc),
             leaves: SmallVec::new(alloc),
-            index: SmallVec::new(alloc),
-            count: 0,
-            held: 0,
-            room: room_for(len),
+            places: SmallVec::new(alloc),
+            node_count: 0,
+            leaf_count: 0,
+            first_capacity: capacity_for(len),
         }
     }
 
-    /// Forgets what was written, to write the nodes of a text of so many bytes. Its memory stays.
+    /// Clears the writer for a text of `len` bytes, and keeps the memory.
     pub(crate) fn restart(&mut self, len: usize)
         ensures { written_of self.new ≡ nothing }
     {
         self.nodes.clear();
         self.leaves.clear();
-        self.index.clear();
-        self.count = 0;
-        self.held = 0;
-        self.room = room_for(len);
+        self.places.clear();
+        self.node_count = 0;
+        self.leaf_count = 0;
+        self.first_capacity = capacity_for(len);
     }
 
-    /// Whether the nodes are inline, so that no room is kept for them.
+    /// Whether the nodes are inline.
     pub(crate) fn is_inline(&self) -> bool {
         !self.nodes.spilled()
     }
 
-    /// Makes room for a few of each that is not inline.
-    pub(crate) fn keep_room(&mut self) -> Result<(), AllocError>
+    /// Moves the vectors to the heap.
+    pub(crate) fn move_to_heap(&mut self) -> Result<(), AllocError>
         ensures { written_of self.new ≡ written_of self.old }
     {
-        self.leaves.reserve(KEPT_ROOM)?;
-        self.index.reserve(KEPT_ROOM)?;
-        self.nodes.reserve(KEPT_ROOM)
+        self.leaves.reserve(KEPT_CAPACITY)?;
+        self.places.reserve(KEPT_CAPACITY)?;
+        self.nodes.reserve(KEPT_CAPACITY)
     }
 
-    /// Makes room for one more node. The first time it is room for as many as the text is likely to
+    /// Reserves capacity for one more node, the first time for as many as the text is likely to
     /// have.
     #[cold]
     #[inline(never)]
-    fn make_room(&mut self) -> Result<(), AllocError>
+    fn grow(&mut self) -> Result<(), AllocError>
         ensures written { written_of self.new ≡ written_of self.old }
-        ensures room { OnOk result (HasRoomFor self.new.nodes 1) }
+        ensures reserved { OnOk result (HasRoomFor self.new.nodes 1) }
     {
-        let room = mem::replace(&mut self.room, 0);
-        if room == 0 {
+        let capacity = mem::replace(&mut self.first_capacity, 0);
+        if capacity == 0 {
             return self.nodes.reserve(1);
         }
-        self.nodes.reserve_exact(room)
+        self.nodes.reserve_exact(capacity)
     }
 
-    /// Writes a node, and answers its place.
+    /// Writes a node, and returns its place.
     #[inline(always)]
-    fn push(&mut self, node: ExprNode) -> Result<usize, AllocError>
+    fn push_node(&mut self, node: ExprNode) -> Result<usize, AllocError>
         ensures place { IfOk result (λ place. place ≡ length (written_of self.old).nodes) }
         ensures written { OnOk result (written_of self.new ≡ with_node node (written_of self.old)) }
-        ensures refused { OnErr result (written_of self.new ≡ written_of self.old) }
+        ensures unchanged { OnErr result (written_of self.new ≡ written_of self.old) }
         ensures countable { OnOk result (length (written_of self.new).nodes < 2 ^ 64) }
     {
-        let place = self.count;
+        let place = self.node_count;
         prove!(place == self.nodes.len());
         if place == self.nodes.capacity() {
-            self.make_room()?;
+            self.grow()?;
         }
         self.nodes.push_reserved(node);
         prove!(place < self.nodes.len());
-        self.count = place + 1;
+        self.node_count = place + 1;
         Ok(place)
     }
 
     /// Writes a predicate or a literal of the innermost list. A literal is not asked.
-    pub(crate) fn leaf(&mut self, leaf: ExprNode) -> Result<(), AllocError>
+    pub(crate) fn push_leaf(&mut self, leaf: ExprNode) -> Result<(), AllocError>
         ensures written { OnOk result
             (written_of self.new ≡ with_leaf leaf (written_of self.old)) }
         ensures kept { KeepsNodes (written_of self.old) (written_of self.new) }
     {
         let is_asked = matches!(leaf, ExprNode::Predicate(_));
-        let place = self.push(leaf)?;
+        let place = self.push_node(leaf)?;
         if is_asked {
             self.leaves.push(place)?;
-            prove!(self.held < self.leaves.len());
-            self.held += 1;
+            prove!(self.leaf_count < self.leaves.len());
+            self.leaf_count += 1;
         }
         Ok(())
     }
 
-    /// Writes the node of a function that has begun. What it holds is known at the function's end.
-    ///
-    /// The result is where the function began.
-    pub(crate) fn function(&mut self) -> Result<Mark, AllocError>
+    /// Writes the node of a function that begins, and returns where it begins. `end_function`
+    /// completes the node.
+    pub(crate) fn begin_function(&mut self) -> Result<Mark, AllocError>
         ensures mark { IfOk result (λ mark. mark ≡ mark_of (written_of self.old)) }
         ensures written { OnOk result
             (written_of self.new ≡ with_function (written_of self.old)) }
         ensures kept { KeepsNodes (written_of self.old) (written_of self.new) }
     {
-        let node = self.push(ExprNode::default())?;
-        let leaves = self.held;
+        let node = self.push_node(ExprNode::default())?;
+        let leaves = self.leaf_count;
         Ok(Mark { node, leaves })
     }
 
-    /// Ends a list of one predicate.
+    /// Ends a list that has one predicate of its own.
     fn end_leaf(&mut self) -> Result<(), AllocError>
         ensures written { OnOk result (written_of self.new
             ≡ with_list_ended (length (written_of self.old).leaves - 1) (written_of self.old)) }
         ensures kept { KeepsNodes (written_of self.old) (written_of self.new) }
     {
         if let Some(place) = self.leaves.pop() {
-            self.held -= 1;
-            self.index.push(place)?;
+            self.leaf_count -= 1;
+            self.places.push(place)?;
         }
         Ok(())
     }
 
-    /// Ends a list of any number of predicates.
+    /// Ends a list whose own predicates come after the first `leaves`.
     fn end_leaves(&mut self, leaves: usize) -> Result<(), AllocError>
         requires { leaves ≤ length (written_of self.old).leaves }
         ensures written { OnOk result
             (written_of self.new ≡ with_list_ended leaves (written_of self.old)) }
         ensures kept { KeepsNodes (written_of self.old) (written_of self.new) }
     {
-        self.index
+        self.places
             .extend_from_slice(&self.leaves.as_slice()[leaves..])?;
         self.leaves.truncate(leaves);
-        self.held = leaves;
+        self.leaf_count = leaves;
         Ok(())
     }
 
-    /// Ends a list: its own predicates, which come after the first `leaves`, are asked next. Mostly
-    /// there is none or one, which takes fewer steps than a slice.
+    /// Ends a list: its own predicates, which come after the first `leaves`, are asked next. Most
+    /// lists have none or one, which takes fewer steps than a slice.
     #[inline(always)]
     pub(crate) fn end_list(&mut self, leaves: usize) -> Result<(), AllocError>
         ensures written { OnOk result
             (written_of self.new ≡ with_list_ended leaves (written_of self.old)) }
         ensures kept { KeepsNodes (written_of self.old) (written_of self.new) }
     {
-        let held = self.held;
-        if held <= leaves {
+        let count = self.leaf_count;
+        if count <= leaves {
             return Ok(());
         }
-        if held - leaves == 1 {
+        if count - leaves == 1 {
             return self.end_leaf();
         }
         self.end_leaves(leaves)
     }
 
-    /// Completes the node of a function, of which no more members come.
+    /// Completes the node of a function whose members are all written.
     #[inline(always)]
     fn complete(&mut self, place: usize, func: Func)
         ensures { written_of self.new ≡ completed place func (written_of self.old) }
     {
-        if place < self.count {
-            let len = self.count - place;
+        if place < self.node_count {
+            let len = self.node_count - place;
             self.nodes[place] = ExprNode::Fn { func, len };
         }
     }
 
-    /// Ends the function that began at the mark.
+    /// Ends the function that began at `mark`.
     pub(crate) fn end_function(&mut self, mark: Mark, func: Func) -> Result<(), AllocError>
         ensures written { OnOk result
             (written_of self.new ≡ with_function_ended mark func (written_of self.old)) }

@@ -25,7 +25,7 @@ pub struct Parsed<A: Allocator = Global> {
     /// In source order
     nodes: SmallVec<ExprNode, 1, A>,
     /// The places of the predicates among the nodes, in the order in which they are asked
-    index: SmallVec<usize, 4, A>,
+    places: SmallVec<usize, 4, A>,
 }
 
 impl<A: Allocator> Model for Parsed<A> {
@@ -36,11 +36,11 @@ impl<A: Allocator> Model for Parsed<A> {
 
     ghost view = { λ p. string_bytes p.original };
 
-    ghost invariant = { λ p. KeepsOneTree (string_bytes p.original) p.nodes.items p.index.items };
+    ghost invariant = { λ p. KeepsOneTree (string_bytes p.original) p.nodes.items p.places.items };
 }
 
 impl<A: Allocator> Parsed<A> {
-    /// The text that was read, without the outer `cfg( )`.
+    /// Returns the text that was read, without the outer `cfg( )`.
     pub fn original(&self) -> &str
         ensures { result.now ≡ self.now }
     {
@@ -56,18 +56,18 @@ impl<A: Allocator> fmt::Debug for Parsed<A> {
 }
 
 impl<A: SmallAllocator> Parsed<A> {
-    /// What was read, borrowed.
+    /// Returns what was read, borrowed.
     pub fn as_ref(&self) -> ParsedRef<'_>
         ensures { result ≡ self.now }
     {
         ParsedRef {
             original: self.original.as_str(),
             nodes: self.nodes.as_slice(),
-            index: self.index.as_slice(),
+            places: self.places.as_slice(),
         }
     }
 
-    /// The same text, with its nodes.
+    /// Returns a copy in `alloc`.
     ///
     /// The error is that `alloc` refused the copy.
     pub fn try_clone(&self, alloc: A) -> Result<Self, AllocError>
@@ -76,7 +76,7 @@ impl<A: SmallAllocator> Parsed<A> {
         Ok(Parsed {
             original: String::from_str(alloc, self.original.as_str())?,
             nodes: SmallVec::from_slice(alloc, self.nodes.as_slice())?,
-            index: SmallVec::from_slice(alloc, self.index.as_slice())?,
+            places: SmallVec::from_slice(alloc, self.places.as_slice())?,
         })
     }
 }
@@ -89,7 +89,7 @@ pub struct ParsedRef<'a> {
     /// In source order
     nodes: &'a [ExprNode],
     /// The places of the predicates among the nodes, in the order in which they are asked
-    index: &'a [usize],
+    places: &'a [usize],
 }
 
 impl<'a> Model for ParsedRef<'a> {
@@ -100,18 +100,18 @@ impl<'a> Model for ParsedRef<'a> {
 
     ghost view = { λ p. p.original.now };
 
-    ghost invariant = { λ p. KeepsOneTree p.original.now p.nodes.now p.index.now };
+    ghost invariant = { λ p. KeepsOneTree p.original.now p.nodes.now p.places.now };
 }
 
 impl<'a> ParsedRef<'a> {
-    /// The text that was read, without the outer `cfg( )`.
+    /// Returns the text that was read, without the outer `cfg( )`.
     pub fn original(&self) -> &'a str
         ensures { result.now ≡ self.now }
     {
         self.original
     }
 
-    /// The nodes of the tree, in source order: no more than the text has bytes.
+    /// Returns the nodes of the tree, in source order. There are no more nodes than bytes.
     pub fn nodes(&self) -> &'a [ExprNode]
         ensures nodes { (one : HasOneTree self.now)
             × (map (node_at self.now) result.now ≡ prefix one.tree) }
@@ -120,19 +120,19 @@ impl<'a> ParsedRef<'a> {
         self.nodes
     }
 
-    /// The places of the predicates among the nodes, in the order in which they are asked.
+    /// Returns the places of the predicates among the nodes, in the order in which they are asked.
     pub fn places(&self) -> &'a [usize]
         ensures { (one : HasOneTree self.now) × (result.now ≡ places 0 one.tree) }
     {
-        self.index
+        self.places
     }
 
-    /// The predicates in the order in which they are asked. It takes no memory.
+    /// Returns the predicates in the order in which they are asked. It takes no memory.
     pub fn predicates(&self) -> Predicates<'a>
         ensures asked { (one : HasOneTree self.now) × (result ≡ asked one.tree) }
         ensures well_formed { AllByRecursion IsWellFormed result }
     {
-        Predicates::new(self.original, self.nodes, self.index)
+        Predicates::new(self.original, self.nodes, self.places)
     }
 }
 
@@ -154,11 +154,11 @@ pub fn parse<A: SmallAllocator>(alloc: A, original: &str) -> Result<Parsed<A>, F
     let mut parser = Parser::new(alloc, text.len());
     parser.read_all(alloc, lexer)?;
     let original = String::from_str(alloc, text)?;
-    let (nodes, index) = parser.into_parts();
+    let (nodes, places) = parser.into_parts();
     Ok(Parsed {
         original,
         nodes,
-        index,
+        places,
     })
 }
 
@@ -170,7 +170,7 @@ pub struct TextReader<'a, A: SmallAllocator> {
 }
 
 impl<'a, A: SmallAllocator> TextReader<'a, A> {
-    /// A reader that has read nothing. It takes no memory.
+    /// Returns a reader that has read nothing. It takes no memory.
     pub fn new(alloc: A) -> Self {
         TextReader {
             alloc,
@@ -195,7 +195,7 @@ impl<'a, A: SmallAllocator> TextReader<'a, A> {
         Ok(ParsedRef {
             original: text,
             nodes: parser.nodes(),
-            index: parser.index(),
+            places: parser.places(),
         })
     }
 }

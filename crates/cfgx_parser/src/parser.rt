@@ -1,20 +1,21 @@
-//! From a text to the nodes of its tree, in one pass.
+//! The parser: from a text to the nodes of its tree, in one pass.
 ghost use Rattle.std.specs.Prelude.{◌≡◌, ◌+◌, ◌≤◌, ◌^◌, length, ◌<◌, ◌↔◌, ◌≢◌, [], true};
 ghost use Rattle.std.specs.Prelude.{option_map};
 ghost use Rattle.std.specs.Prelude.{map, reverse, IsTrue, OnOk, IfOk, Err};
 ghost use Rattle.cfgx_syntax.specs.Error.{cause_of, unexpected};
 ghost use Rattle.cfgx_syntax.specs.Lexer.{token_of, item_of};
 ghost use Rattle.cfgx_grammar.specs.FollowSet.{next, expected};
-ghost use Rattle.cfgx_parser.specs.parsing.NodeState.{counted};
+ghost use Rattle.cfgx_parser.specs.parsing.NodeState.{func_of};
 ghost use Rattle.cfgx_grammar.specs.FirstFault.{fault_between, lacks_value};
-ghost use Rattle.cfgx_grammar.specs.parsing.Step.{with_member, predicate_ended, has_room};
+ghost use Rattle.cfgx_grammar.specs.parsing.Step.{with_member, predicate_ended, allows_count};
 ghost use Rattle.cfgx_grammar.specs.parsing.Step.{apply, step, unclosed, one_root, conclude};
 ghost use Rattle.cfgx_parser.specs.parsing.Fields.{function_of, open_of, empty_list};
-ghost use Rattle.cfgx_parser.specs.parsing.Fields.{last_of, token_like, shown, counted_around};
+ghost use Rattle.cfgx_parser.specs.parsing.Fields.{last_of, token_like, plain_fault};
+ghost use Rattle.cfgx_parser.specs.parsing.Fields.{counted_around};
 
-use crate::classification::{Pending, Word, classify};
+use crate::classification::{Fault, Pending, Word, classify};
 use crate::function::{Func, FuncKind};
-use crate::nodes::{ExprNode, KEPT_ROOM, Mark, Span, Writer};
+use crate::nodes::{ExprNode, KEPT_CAPACITY, Mark, Span, Writer};
 use cfgx_syntax::error::{Failure, Reason};
 use cfgx_syntax::lexer::{Lexer, LexerToken, Token};
 use cfgx_syntax::memory::SmallAllocator;
@@ -24,29 +25,29 @@ use std::alloc::AllocError;
 /// A list that has not ended: the members of a function, or the root.
 #[derive(Clone, Copy)]
 pub(crate) struct OpenList {
-    /// How many of its members have ended
+    /// The number of its members that have ended
     members: usize,
-    /// Where its `(` stands, once that was read
-    parens_index: Option<usize>,
+    /// The position of its `(`, once that is read
+    parens_position: Option<usize>,
 }
 
 impl OpenList {
-    /// A list whose first member is still to come.
+    /// Returns a list of which nothing is read.
     fn new() -> Self
         ensures { result ≡ empty_list }
     {
         OpenList {
             members: 0,
-            parens_index: None,
+            parens_position: None,
         }
     }
 }
 
-/// A function whose `)` was not read yet.
+/// A function whose `)` is not read yet.
 #[derive(Clone, Copy)]
-pub(crate) struct FuncAndSpan {
+pub(crate) struct OpenFunc {
     kind: FuncKind,
-    /// Where its name stands
+    /// The bytes of its name
     span: Span,
     /// Where it began among the nodes
     mark: Mark,
@@ -54,9 +55,9 @@ pub(crate) struct FuncAndSpan {
     around: OpenList,
 }
 
-impl Default for FuncAndSpan {
+impl Default for OpenFunc {
     fn default() -> Self {
-        FuncAndSpan {
+        OpenFunc {
             kind: FuncKind::Not,
             span: Span { start: 0, end: 0 },
             mark: Mark { node: 0, leaves: 0 },
@@ -65,14 +66,14 @@ impl Default for FuncAndSpan {
     }
 }
 
-/// The last token, as far as it tells what may follow.
+/// What the parser keeps of the last token: enough to tell what may follow.
 #[derive(Clone, Copy)]
 pub(crate) enum LastToken {
-    /// None was read
+    /// No token is read yet
     Start,
-    /// A word that names no function
+    /// A word that is not the name of a function
     Key,
-    /// What stands between two quotes
+    /// A value in quotes
     Value,
     /// `=`
     Equals,
@@ -87,7 +88,7 @@ pub(crate) enum LastToken {
 }
 
 impl LastToken {
-    /// This token.
+    /// Returns what is kept of `token`.
     fn of(token: Token<'_>) -> Self
         ensures { result ≡ last_of (Some (token_of token.entry)) }
     {
@@ -103,20 +104,12 @@ impl LastToken {
     }
 }
 
-/// What is wrong with the text.
-#[derive(Clone, Copy)]
-pub(crate) struct Fault {
-    reason: Reason,
-    /// The bytes that are at fault
-    span: Span,
-}
-
-/// Why the parser goes no further. It is small, since each step may answer it.
+/// Why parsing stopped. Small, because every step returns it.
 #[derive(Clone, Copy)]
 pub(crate) enum Halt {
-    /// The parser has noted a fault
+    /// At a fault, which the parser has noted
     Fault,
-    /// It is out of memory
+    /// Out of memory
     Memory,
 }
 
@@ -130,27 +123,27 @@ impl From<AllocError> for Halt {
     }
 }
 
-/// What was read so far.
+/// The state of the parser between two tokens.
 #[derive(Drop)]
 pub(crate) struct Parser<'a, A: SmallAllocator> {
     /// The functions that are open, the innermost last
-    func_stack: SmallVec<FuncAndSpan, 2, A>,
-    /// The innermost list. It is not on the stack, so that counting a member is cheap
+    func_stack: SmallVec<OpenFunc, 2, A>,
+    /// The innermost open list. It is not on the stack, so that counting a member is cheap
     list: OpenList,
     /// The nodes of what has ended
     writer: Writer<A>,
-    /// The predicate or literal that has not ended
+    /// The predicate or literal that has begun and not ended
     pending: Option<Pending<'a>>,
-    /// What is wrong, once that was found
+    /// The fault at which parsing stopped, until `failure` takes it
     fault: Option<Fault>,
     /// Each open function, and each member that has ended, has a node
     ghost bounded: { list.members + counted_around (reverse func_stack.items)
         ≤ length writer.nodes.items },
-    /// A number can count the nodes
+    /// The number of nodes fits in a `usize`
     ghost countable: { length writer.nodes.items < 2 ^ 64 },
 }
 
-/// Whether the token may stand after the last one, or at the start.
+/// Whether `token` may stand after the last one, or at the start.
 fn may_follow(last: LastToken, token: Token<'_>) -> bool
     ensures { result ≡ next (token_like last) (token_of token.entry) }
 {
@@ -167,7 +160,8 @@ fn may_follow(last: LastToken, token: Token<'_>) -> bool
     }
 }
 
-/// What a fault says that it expected after the last token, or at the start.
+/// Returns the reason of a token that may not stand there: what was expected after the last token,
+/// or at the start.
 fn expected(last: LastToken) -> Reason
     ensures { cause_of result ≡ unexpected (expected (token_like last)) }
 {
@@ -184,16 +178,16 @@ fn expected(last: LastToken) -> Reason
     })
 }
 
-/// Whether a value has to follow the last token.
+/// Whether a value must follow the last token.
 fn lacks_value(last: LastToken) -> bool
     ensures { result ≡ lacks_value (token_like last) }
 {
     matches!(last, LastToken::Equals)
 }
 
-/// The function with this many members.
-fn counted(kind: FuncKind, members: usize) -> Func
-    ensures { result ≡ counted (function_of kind) members }
+/// Returns the function with `members` members.
+fn func_of(kind: FuncKind, members: usize) -> Func
+    ensures { result ≡ func_of (function_of kind) members }
 {
     match kind {
         FuncKind::Not => Func::Not,
@@ -202,9 +196,9 @@ fn counted(kind: FuncKind, members: usize) -> Func
     }
 }
 
-/// Whether the function may have this many members.
-fn has_room(kind: FuncKind, members: usize) -> bool
-    ensures { result ≡ has_room (function_of kind) members }
+/// Whether a function of this kind may have `members` members.
+fn allows_count(kind: FuncKind, members: usize) -> bool
+    ensures { result ≡ allows_count (function_of kind) members }
 {
     match kind {
         FuncKind::Not => members == 1,
@@ -212,15 +206,15 @@ fn has_room(kind: FuncKind, members: usize) -> bool
     }
 }
 
-/// The fault of a text of so many bytes that ends while this function is open.
-fn unclosed(top: &FuncAndSpan, list: OpenList, len: usize) -> Fault
-    ensures { shown result ≡ unclosed len (open_of top.now list) list.parens_index }
+/// Returns the fault of a text of `len` bytes that ends inside `top`, whose members are in `list`.
+fn unclosed(top: &OpenFunc, list: OpenList, len: usize) -> Fault
+    ensures { plain_fault result ≡ unclosed len (open_of top.now list) list.parens_position }
 {
-    match list.parens_index {
-        Some(place) => Fault {
+    match list.parens_position {
+        Some(position) => Fault {
             reason: Reason::UnclosedParens,
             span: Span {
-                start: place,
+                start: position,
                 end: len,
             },
         },
@@ -234,10 +228,11 @@ fn unclosed(top: &FuncAndSpan, list: OpenList, len: usize) -> Fault
 impl<'a, A: SmallAllocator> Parser<'a, A> {
     ghost use Rattle.cfgx_grammar.specs.parsing.State.{initial};
     ghost use Rattle.cfgx_parser.specs.parsing.Parser.{state_of, Gives, Opens, WritesPending};
-    ghost use Rattle.cfgx_parser.specs.parsing.Parser.{parens_opened, value_added, IsQuoted, Says};
+    ghost use Rattle.cfgx_parser.specs.parsing.Parser.{parens_opened, value_added, IsQuoted};
+    ghost use Rattle.cfgx_parser.specs.parsing.Parser.{FailsAsHalted};
     ghost use Rattle.cfgx_parser.specs.parsing.Parser.{closed_at, concluded, HaltsAs, ReadsAll};
 
-    /// A parser that has read nothing of a text of so many bytes.
+    /// Returns a parser that has read nothing of a text of `len` bytes.
     pub(crate) fn new(alloc: A, len: usize) -> Self
         ensures { state_of result ≡ initial }
     {
@@ -250,19 +245,18 @@ impl<'a, A: SmallAllocator> Parser<'a, A> {
         }
     }
 
-    /// Makes room that is not inline: what is inline is overwritten before each text, and where a
-    /// function ends.
+    /// Moves the vectors to the heap: inline storage is rewritten by every `clear`.
     #[cold]
     #[inline(never)]
-    fn keep_room(&mut self) -> Result<(), AllocError>
+    fn move_to_heap(&mut self) -> Result<(), AllocError>
         ensures { state_of self.new ≡ state_of self.old }
     {
-        self.func_stack.reserve(KEPT_ROOM)?;
-        self.writer.keep_room()
+        self.func_stack.reserve(KEPT_CAPACITY)?;
+        self.writer.move_to_heap()
     }
 
-    /// Forgets what was read, to read a text of so many bytes. Its memory stays. A fault was taken
-    /// by the failure that told it.
+    /// Clears the state for a text of `len` bytes, and keeps the memory. No fault is left from the
+    /// last text: `failure` has taken it.
     #[inline(always)]
     pub(crate) fn restart(&mut self, len: usize) -> Result<(), AllocError>
         ensures { state_of self.new ≡ initial }
@@ -272,12 +266,12 @@ impl<'a, A: SmallAllocator> Parser<'a, A> {
         self.pending = None;
         self.writer.restart(len);
         if self.writer.is_inline() {
-            self.keep_room()?;
+            self.move_to_heap()?;
         }
         Ok(())
     }
 
-    /// Notes a fault.
+    /// Notes a fault, and returns the halt for it.
     fn halt(&mut self, reason: Reason, span: Span) -> Halt
         ensures { HaltsAs result self.new
             (Err (fault_between (cause_of reason) span.start span.end)) }
@@ -286,10 +280,10 @@ impl<'a, A: SmallAllocator> Parser<'a, A> {
         Halt::Fault
     }
 
-    /// The failure of a text of which no more is read. A fault has a copy of the text, for which
-    /// memory may be refused.
+    /// Returns the failure of a text at which parsing stopped. That of a fault has a copy of the
+    /// text, for which memory may be refused.
     fn failure(&mut self, alloc: A, original: &str, halt: Halt) -> Failure<A>
-        ensures { Says original.now halt self.old result }
+        ensures { FailsAsHalted original.now halt self.old result }
     {
         match (halt, self.fault.take()) {
             (Halt::Fault, Some(fault)) => {
@@ -300,14 +294,14 @@ impl<'a, A: SmallAllocator> Parser<'a, A> {
         }
     }
 
-    /// Notes where the `(` of the innermost function stands.
-    fn open_parens(&mut self, place: usize)
-        ensures { state_of self.new ≡ parens_opened (state_of self.old) place }
+    /// Notes the position of the `(` of the innermost function.
+    fn open_parens(&mut self, position: usize)
+        ensures { state_of self.new ≡ parens_opened (state_of self.old) position }
     {
-        self.list.parens_index = Some(place);
+        self.list.parens_position = Some(position);
     }
 
-    /// Counts a member that has ended in the innermost list.
+    /// Counts one more member of the innermost list.
     fn count_member(&mut self)
         requires { self.old.list.members + counted_around (reverse self.old.func_stack.items)
             < length self.old.writer.nodes.items }
@@ -317,8 +311,8 @@ impl<'a, A: SmallAllocator> Parser<'a, A> {
         self.list.members += 1;
     }
 
-    /// Writes the predicate or literal that has begun.
-    fn write_leaf(&mut self) -> Result<(), Halt>
+    /// Writes the pending predicate or literal, if there is one.
+    fn write_pending(&mut self) -> Result<(), Halt>
         ensures { WritesPending self.old self.new result }
     {
         let Some(pending) = &self.pending else {
@@ -326,48 +320,37 @@ impl<'a, A: SmallAllocator> Parser<'a, A> {
         };
         let leaf = match classify(pending) {
             Ok(leaf) => leaf,
-            Err((reason, span)) => return Err(self.halt(reason, span)),
+            Err(Fault { reason, span }) => return Err(self.halt(reason, span)),
         };
         self.pending = None;
-        self.writer.leaf(leaf)?;
+        self.writer.push_leaf(leaf)?;
         Ok(())
     }
 
-    /// Writes the predicate or literal that has begun, if one has. At a `)` often none has, so this
-    /// asks for that first.
-    fn write_pending(&mut self) -> Result<(), Halt>
-        ensures { WritesPending self.old self.new result }
-    {
-        if self.pending.is_none() {
-            return Ok(());
-        }
-        self.write_leaf()
-    }
-
-    /// Ends the predicate or literal that has begun, if one has.
+    /// Writes the pending predicate or literal, if there is one, and counts it.
     fn end_predicate(&mut self) -> Result<(), Halt>
         ensures answer { Gives result self.new (predicate_ended (state_of self.old)) }
         ensures functions { OnOk result
             (self.new.func_stack.items ≡ self.old.func_stack.items) }
     {
         if self.pending.is_some() {
-            self.write_leaf()?;
+            self.write_pending()?;
             self.count_member();
         }
         Ok(())
     }
 
-    /// Opens a function, whose name stands at the span.
+    /// Opens a function whose name stands at `span`.
     #[inline(always)]
     fn open(&mut self, kind: FuncKind, span: Span) -> Result<(), AllocError>
         ensures { OnOk result (Opens self.old self.new (function_of kind) span) }
     {
-        let mark = self.writer.function()?;
+        let mark = self.writer.begin_function()?;
         // A comparison costs less than the call, which is out of line.
         if self.func_stack.len() == self.func_stack.capacity() {
             self.func_stack.reserve(1)?;
         }
-        self.func_stack.push_reserved(FuncAndSpan {
+        self.func_stack.push_reserved(OpenFunc {
             kind,
             span,
             mark,
@@ -377,7 +360,7 @@ impl<'a, A: SmallAllocator> Parser<'a, A> {
         Ok(())
     }
 
-    /// Closes the innermost function at a `)`, which stands at the span.
+    /// Closes the innermost function at the `)` that stands at `span`.
     fn close(&mut self, span: Span) -> Result<(), Halt>
         ensures { Gives result self.new (closed_at (state_of self.old) span) }
     {
@@ -385,19 +368,19 @@ impl<'a, A: SmallAllocator> Parser<'a, A> {
             return Err(self.halt(Reason::UnopenedParens, span));
         };
         let members = self.list.members + usize::from(self.pending.is_some());
-        if !has_room(top.kind, members) {
+        if !allows_count(top.kind, members) {
             let (start, end) = (top.span.start, span.end);
             return Err(self.halt(Reason::InvalidNot(members), Span { start, end }));
         }
         self.write_pending()?;
         self.list = top.around;
         self.writer
-            .end_function(top.mark, counted(top.kind, members))?;
+            .end_function(top.mark, func_of(top.kind, members))?;
         self.count_member();
         Ok(())
     }
 
-    /// Notes the value of the predicate that has begun, which stands in quotes at the span.
+    /// Notes the value of the pending predicate, which stands in quotes at `span`.
     fn add_value(&mut self, text: &'a str, span: Span)
         requires { span.start + 1 ≤ span.end }
         ensures { state_of self.new ≡ value_added (state_of self.old) text.now span }
@@ -413,7 +396,7 @@ impl<'a, A: SmallAllocator> Parser<'a, A> {
         }
     }
 
-    /// What a token does if it may stand there.
+    /// Takes a token that may stand after the last one.
     fn apply(&mut self, lexed: LexerToken<'a>) -> Result<(), Halt>
         requires quoted { IsQuoted lexed }
         ensures { Gives result self.new
@@ -438,7 +421,7 @@ impl<'a, A: SmallAllocator> Parser<'a, A> {
         Ok(())
     }
 
-    /// Reads one token after the last one, or at the start.
+    /// Takes a token after the last one, or at the start.
     fn read(&mut self, last: LastToken, lexed: LexerToken<'a>) -> Result<(), Halt>
         requires quoted { IsQuoted lexed }
         ensures { Gives result self.new
@@ -450,9 +433,8 @@ impl<'a, A: SmallAllocator> Parser<'a, A> {
         self.apply(lexed)
     }
 
-    /// Ends a text of so many bytes whose functions all have ended. One member has to stand at
-    /// the root.
-    fn one_root(&mut self, len: usize) -> Result<(), Halt>
+    /// Ends the list of roots of a text of `len` bytes. There must be exactly one root.
+    fn end_roots(&mut self, len: usize) -> Result<(), Halt>
         requires { self.old.func_stack.items ≡ [] }
         ensures { Gives result self.new (one_root len (state_of self.old)) }
     {
@@ -464,8 +446,8 @@ impl<'a, A: SmallAllocator> Parser<'a, A> {
         }
     }
 
-    /// Ends a text of so many bytes in which no value is missing.
-    fn end_root(&mut self, len: usize) -> Result<(), Halt>
+    /// Ends a text of `len` bytes in which no value is missing. No function may be open.
+    fn end_text(&mut self, len: usize) -> Result<(), Halt>
         ensures { Gives result self.new (concluded (state_of self.old) len) }
     {
         if let Some(top) = self.func_stack.last() {
@@ -473,20 +455,20 @@ impl<'a, A: SmallAllocator> Parser<'a, A> {
             return Err(self.halt(reason, span));
         }
         self.end_predicate()?;
-        self.one_root(len)
+        self.end_roots(len)
     }
 
-    /// Ends a text of so many bytes after its last token, and completes its nodes.
+    /// Ends a text of `len` bytes after its last token.
     fn finish(&mut self, last: LastToken, len: usize) -> Result<(), Halt>
         ensures { Gives result self.new (conclude (token_like last) len (state_of self.old)) }
     {
         if lacks_value(last) {
             return Err(self.halt(Reason::Unexpected(&["\"<value>\""]), Span::from(len..len)));
         }
-        self.end_root(len)
+        self.end_text(len)
     }
 
-    /// Reads what the lexer gives, to the end of the text.
+    /// Reads all tokens of the lexer, to the end of the text.
     ///
     /// The error is the first fault of the text, or that the call is out of memory.
     pub(crate) fn read_all(&mut self, alloc: A, lexer: Lexer<'a, A>) -> Result<(), Failure<A>>
@@ -508,27 +490,27 @@ impl<'a, A: SmallAllocator> Parser<'a, A> {
         }
     }
 
-    /// The nodes that were written.
+    /// Returns the nodes that were written.
     pub(crate) fn nodes(&self) -> &[ExprNode]
         ensures { result.now ≡ self.now.writer.nodes.items }
     {
         self.writer.nodes.as_slice()
     }
 
-    /// The places of the predicates among them.
-    pub(crate) fn index(&self) -> &[usize]
-        ensures { result.now ≡ self.now.writer.index.items }
+    /// Returns the places of the predicates among the nodes, in the order in which they are asked.
+    pub(crate) fn places(&self) -> &[usize]
+        ensures { result.now ≡ self.now.writer.places.items }
     {
-        self.writer.index.as_slice()
+        self.writer.places.as_slice()
     }
 
-    /// The nodes that were written, and the places of the predicates among them.
+    /// Returns the nodes that were written, and the places of the predicates among them.
     pub(crate) fn into_parts(self) -> (SmallVec<ExprNode, 1, A>, SmallVec<usize, 4, A>)
         ensures nodes { result.0 ≡ self.entry.writer.nodes }
-        ensures index { result.1 ≡ self.entry.writer.index }
+        ensures places { result.1 ≡ self.entry.writer.places }
     {
         let Parser { writer, .. } = self;
-        let Writer { nodes, index, .. } = writer;
-        (nodes, index)
+        let Writer { nodes, places, .. } = writer;
+        (nodes, places)
     }
 }

@@ -1,4 +1,4 @@
-//! Predicates as they are asked, and the iterator over those of an expression.
+//! The predicates of a condition, and the iterator over them.
 ghost use Rattle.std.specs.Prelude.{◌≡◌, ◌↔◌, IsTrue, length};
 ghost use Rattle.std.specs.Cmp.{partial_equiv_from_equiv};
 ghost use Rattle.std.specs.Cmp.Lexicographic.{lists_equiv, nat_list_eq_equiv};
@@ -58,9 +58,9 @@ pub enum Predicate<'a, A: Allocator = Global> {
     Feature(&'a str),
     /// `target_feature`, with the name of the feature
     TargetFeature(&'a str),
-    /// A bare key of no other meaning, such as `loom`
+    /// A bare key without a meaning of its own, such as `loom`
     Flag(&'a str),
-    /// A key with a value, of no other meaning
+    /// A key without a meaning of its own, with a value
     KeyValue {
         /// The key
         key: &'a str,
@@ -140,78 +140,62 @@ impl<A: Allocator> Eq for Predicate<'_, A> {
 }
 
 impl InnerTarget {
-    /// The predicate, with its texts cut out of the text in which it stands.
-    fn to_pred<'a>(&self, text: &'a str) -> TargetPredicate<'a>
+    /// Returns the predicate, with its text cut out of `text`, in which it stands.
+    fn to_predicate<'a>(&self, text: &'a str) -> TargetPredicate<'a>
         requires { TargetHasCut text.now self.now }
         ensures { target_of result ≡ target_question_at text.now self.now }
     {
         match self {
-            InnerTarget::Abi(span) => TargetPredicate::Abi(Abi::new_const(
-                &text[span.start..span.end],
-            )),
-            InnerTarget::Arch(span) => TargetPredicate::Arch(Arch::new_const(
-                &text[span.start..span.end],
-            )),
+            InnerTarget::Abi(span) => TargetPredicate::Abi(Abi::new_const(span.cut(text))),
+            InnerTarget::Arch(span) => TargetPredicate::Arch(Arch::new_const(span.cut(text))),
             InnerTarget::Endian(endian) => TargetPredicate::Endian(*endian),
-            InnerTarget::Env(span) => TargetPredicate::Env(Env::new_const(
-                &text[span.start..span.end],
-            )),
-            InnerTarget::Family(span) => {
-                TargetPredicate::Family(Family::new_const(&text[span.start..span.end]))
-            }
+            InnerTarget::Env(span) => TargetPredicate::Env(Env::new_const(span.cut(text))),
+            InnerTarget::Family(span) => TargetPredicate::Family(Family::new_const(span.cut(text))),
             InnerTarget::HasAtomic(atomic) => TargetPredicate::HasAtomic(*atomic),
-            InnerTarget::Os(span) => TargetPredicate::Os(Os::new_const(
-                &text[span.start..span.end],
-            )),
-            InnerTarget::Panic(span) => TargetPredicate::Panic(Panic::new_const(
-                &text[span.start..span.end],
-            )),
+            InnerTarget::Os(span) => TargetPredicate::Os(Os::new_const(span.cut(text))),
+            InnerTarget::Panic(span) => TargetPredicate::Panic(Panic::new_const(span.cut(text))),
             InnerTarget::PointerWidth(width) => TargetPredicate::PointerWidth(*width),
-            InnerTarget::Vendor(span) => {
-                TargetPredicate::Vendor(Vendor::new_const(&text[span.start..span.end]))
-            }
+            InnerTarget::Vendor(span) => TargetPredicate::Vendor(Vendor::new_const(span.cut(text))),
         }
     }
 }
 
 impl InnerPredicate {
-    /// The predicate, with its texts cut out of the text in which it stands.
+    /// Returns the predicate, with its texts cut out of `text`, in which it stands.
     #[inline(always)]
-    pub(crate) fn to_pred<'a>(&self, text: &'a str) -> Predicate<'a>
+    pub(crate) fn to_predicate<'a>(&self, text: &'a str) -> Predicate<'a>
         requires { HasCut text.now self.now }
         ensures { question_of result ≡ question_at text.now self.now }
     {
         match self {
-            InnerPredicate::Target(target) => Predicate::Target(target.to_pred(text)),
+            InnerPredicate::Target(target) => Predicate::Target(target.to_predicate(text)),
             InnerPredicate::Test => Predicate::Test,
             InnerPredicate::DebugAssertions => Predicate::DebugAssertions,
             InnerPredicate::ProcMacro => Predicate::ProcMacro,
-            InnerPredicate::Feature(span) => Predicate::Feature(&text[span.start..span.end]),
-            InnerPredicate::TargetFeature(span) => {
-                Predicate::TargetFeature(&text[span.start..span.end])
-            }
+            InnerPredicate::Feature(span) => Predicate::Feature(span.cut(text)),
+            InnerPredicate::TargetFeature(span) => Predicate::TargetFeature(span.cut(text)),
             InnerPredicate::Other {
                 identifier,
                 value: None,
-            } => Predicate::Flag(&text[identifier.start..identifier.end]),
+            } => Predicate::Flag(identifier.cut(text)),
             InnerPredicate::Other {
                 identifier,
                 value: Some(value),
             } => Predicate::KeyValue {
-                key: &text[identifier.start..identifier.end],
-                val: &text[value.start..value.end],
+                key: identifier.cut(text),
+                val: value.cut(text),
             },
         }
     }
 }
 
-/// The predicates of an expression, in the order in which they are asked.
+/// The predicates of a condition, in the order in which they are asked.
 #[derive(Drop)]
 pub struct Predicates<'a> {
     text: &'a str,
     nodes: &'a [ExprNode],
-    /// The places of those that are still to come
-    index: &'a [usize],
+    /// The places of the predicates that are left
+    places: &'a [usize],
 }
 
 impl<'a> Model for Predicates<'a> {
@@ -221,28 +205,32 @@ impl<'a> Model for Predicates<'a> {
 
     ghost Value = { List Question };
 
-    ghost view = { λ p. questions_at p.text.now p.nodes.now p.index.now };
+    ghost view = { λ p. questions_at p.text.now p.nodes.now p.places.now };
 
-    ghost invariant = { λ p. NamePredicates p.text.now p.nodes.now p.index.now };
+    ghost invariant = { λ p. NamePredicates p.text.now p.nodes.now p.places.now };
 }
 
 impl<'a> Predicates<'a> {
     ghost use Rattle.cfgx_parser.specs.nodes.KeepsTree.{questions_at, NamePredicates};
 
-    /// The predicates of the nodes at the places, one after another as these come. The nodes are
-    /// those of the text.
-    pub(crate) fn new(text: &'a str, nodes: &'a [ExprNode], index: &'a [usize]) -> Self
-        requires { NamePredicates text.now nodes.now index.now }
-        ensures { result ≡ questions_at text.now nodes.now index.now }
+    /// Returns the iterator over the predicates at `places` among `nodes`, which are those of
+    /// `text`.
+    pub(crate) fn new(text: &'a str, nodes: &'a [ExprNode], places: &'a [usize]) -> Self
+        requires { NamePredicates text.now nodes.now places.now }
+        ensures { result ≡ questions_at text.now nodes.now places.now }
     {
-        Predicates { text, nodes, index }
+        Predicates {
+            text,
+            nodes,
+            places,
+        }
     }
 
-    /// The number of predicates that are still to come.
+    /// Returns the number of predicates that are left.
     pub fn left(&self) -> usize
         ensures { result ≡ length self.now }
     {
-        self.index.len()
+        self.places.len()
     }
 }
 
@@ -257,10 +245,10 @@ impl<'a> Iterator for Predicates<'a> {
 
     #[inline(always)]
     fn next(&mut self) -> Option<Predicate<'a>> {
-        let (place, others) = self.index.split_first()?;
-        self.index = others;
+        let (place, others) = self.places.split_first()?;
+        self.places = others;
         match self.nodes.get(*place) {
-            Some(ExprNode::Predicate(predicate)) => Some(predicate.to_pred(self.text)),
+            Some(ExprNode::Predicate(predicate)) => Some(predicate.to_predicate(self.text)),
             _ => unreachable!(),
         }
     }

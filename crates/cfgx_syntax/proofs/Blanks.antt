@@ -1,4 +1,4 @@
--- ASCII white space in front of a text, and the white space after that.
+-- Leading white space: first ASCII white space, and then any other.
 use Rattle.std.proofs.Common.{◌≡◌, ℕ, ◌+◌, ◌<◌, true, false, List, [], ◌∷◌, ◌++◌, length, take}
 use Rattle.std.proofs.Common.{Some, None, drop, get_or, sym, refl, ap, ◌∙◌, subst, arith, add-zero}
 use Rattle.std.proofs.Common.{length-append, length-drop, take-append-drop}
@@ -26,20 +26,20 @@ one_blank c h =
     let white : is_not_whitespace c ≡ false = grind arith in
     (c ∷ [], rw (encode_ascii c (blank-ascii c h)) refl, (white, tt))
 
--- the bytes in front that are ASCII white space are no other characters
-front-blank : (text : List ℕ)
+-- leading bytes of ASCII white space are whole characters of white space
+blank-prefix : (text : List ℕ)
     → NoCharPasses is_not_whitespace (take (prefix_len is_blank text) text)
-front-blank [] = NoCharPasses-nil is_not_whitespace
-front-blank (c ∷ cs) =
+blank-prefix [] = NoCharPasses-nil is_not_whitespace
+blank-prefix (c ∷ cs) =
     cond_both (is_blank c) (1 + prefix_len is_blank cs) 0
     (λ n. NoCharPasses is_not_whitespace (take n (c ∷ cs)))
     (λ is. rw one-add (NoCharPasses-append is_not_whitespace (c ∷ []) _ (one_blank c is)
-    (front-blank cs)))
+    (blank-prefix cs)))
     (λ _. NoCharPasses-nil is_not_whitespace)
 
--- A text without the white space at its front.
+-- A text without its leading white space.
 
--- a text that is empty or begins with another character is whole
+-- a text that is empty or begins with another character has no leading white space
 pub IsTrimStart-here : (text more : List ℕ)
     → EmptyOrStartsWithPassing is_not_whitespace text more → IsTrimStart text text
 IsTrimStart-here text more starts =
@@ -54,15 +54,15 @@ IsTrimStart-ascii (c ∷ cs) low stops =
     IsTrimStart-here (c ∷ cs) cs
     (λ _. (c, visible, rw (encode_ascii c ascii) refl, ascii-scalar c ascii))
 
--- white space before a text goes together with that at the front of the text
-pub IsTrimStart-past : (front text rest : List ℕ) → NoCharPasses is_not_whitespace front
-    → IsTrimStart text rest → IsTrimStart (front ++ text) rest
-IsTrimStart-past front text rest blank (n, is, white, starts, short) = (
-  length front + n,
-  is ∙ sym (drop-append-add front text n),
-  rw take-append-add (NoCharPasses-append is_not_whitespace front (take n text) blank white),
+-- white space before a text, and the leading white space of the text, are skipped together
+pub IsTrimStart-past : (before text rest : List ℕ) → NoCharPasses is_not_whitespace before
+    → IsTrimStart text rest → IsTrimStart (before ++ text) rest
+IsTrimStart-past before text rest blank (n, is, white, starts, short) = (
+  length before + n,
+  is ∙ sym (drop-append-add before text n),
+  rw take-append-add (NoCharPasses-append is_not_whitespace before (take n text) blank white),
   starts,
-  omega (arith, short, length-append front text),
+  omega (arith, short, length-append before text),
 )
 
 module _ (text bytes rest : List ℕ) (n : ℕ) (len : n ≡ prefix_len is_blank bytes)
@@ -72,8 +72,8 @@ module _ (text bytes rest : List ℕ) (n : ℕ) (len : n ≡ prefix_len is_blank
 
   pub trim_after : (trimmed : List ℕ) → IsTrimStart rest trimmed → IsTrimStart text trimmed
   trim_after trimmed left =
-      let front : NoCharPasses is_not_whitespace (take n text) = rw blanks (front-blank text) in
-      let whole = IsTrimStart-past (take n text) (drop n text) trimmed front
+      let blank : NoCharPasses is_not_whitespace (take n text) = rw blanks (blank-prefix text) in
+      let whole = IsTrimStart-past (take n text) (drop n text) trimmed blank
       (subst (λ l. IsTrimStart l trimmed) is left) in
       subst (λ l. IsTrimStart l trimmed) (take-append-drop n text) whole
 
@@ -88,7 +88,7 @@ module _ (text bytes rest : List ℕ) (n : ℕ) (len : n ≡ prefix_len is_blank
 above-blank : (byte : ℕ) → 32 < byte → byte < 128 → is_blank byte ≡ false
 above-blank byte above low = grind arith
 
--- a byte of a class that begins no white space is ASCII, and above the space
+-- a byte of a class with which no white space begins is ASCII, and above the space
 visible : (found : Class) (byte : ℕ) → is_of found byte ≡ true → may_be_white found ≡ false
     → (32 < byte) × (byte < 128)
 visible class.Letter byte is white = grind arith
@@ -101,14 +101,14 @@ visible class.Quote byte is white = grind arith
 visible class.Blank byte is white = cc
 visible class.Other byte is white = cc
 
--- a text that begins with such a byte is whole
+-- a text that begins with such a byte has no leading white space
 pub trim_visible : (text : List ℕ) (found : Class) → BeginsWithClass text (Some found)
     → may_be_white found ≡ false → IsTrimStart text text
 trim_visible text found begins white =
     let (above, low) = visible found (get_or text 0 0) begins.1 white in
     IsTrimStart-ascii text (λ _. low) (λ _. above-blank (get_or text 0 0) above low)
 
--- an empty text is whole
+-- an empty text has no leading white space
 pub trim_nothing : (text : List ℕ) → BeginsWithClass text None → IsTrimStart text text
 trim_nothing text empty = IsTrimStart-here text [] (λ some. absurd (omega (arith, some, empty)))
 

@@ -1,4 +1,4 @@
--- Each byte has its class in the table, and a run is counted four bytes at a time.
+-- The table has the class of each byte, and a run is counted four bytes a turn.
 use Rattle.std.proofs.Common.{◌≡◌, ℕ, zero, suc, ◌+◌, ◌<◌, Bool, true, ◌&&◌, List, [], ◌∷◌, length}
 use Rattle.std.proofs.Common.{get_or, if◌then◌else◌, subst, arith}
 use Rattle.std.proofs.lemmas.List.Sums.{prefix_len-drop_yes, prefix_len-drop_no}
@@ -15,7 +15,7 @@ unfoldable pub class_of : ℕ → Class
 class_of = first_of (class.Letter ∷ class.Digit ∷ class.Equals ∷ class.OpenParen
     ∷ class.CloseParen ∷ class.Comma ∷ class.Quote ∷ class.Blank ∷ [])
 
--- the classes are those of `from` and the numbers after it
+-- the classes are those of the numbers from `from` on
 unfoldable pub each : ℕ → List Class → Bool
 each from [] = true
 each from (class ∷ others) = is_of class from && each (suc from) others
@@ -32,5 +32,5 @@ each-at from (class ∷ others) (suc place) byte default all inside at =
     each-at (suc from) others place byte default (second_so _ _ all) (omega (arith, inside))
     (omega (arith, at))
 
--- a byte that is looked at is counted or ends the run, and after the last the rest is counted
+-- a byte is counted or ends the run, and the rest is counted after the last turn
 pub ruleset counted = (prefix_len-drop_yes, prefix_len-drop_no, prefix_len-le-length)

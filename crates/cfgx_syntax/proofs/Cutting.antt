@@ -4,7 +4,7 @@ use Rattle.std.proofs.Common.{ℕ, ◌+◌, ◌<◌, ◌≤◌, List, length, dr
 use Rattle.cfgx_syntax.specs.{Cut.CanBeCut, Token.Token}
 
 module _ (text : List ℕ) (place : ℕ) (within : place ≤ length text) where
-  -- a token in front of the rest of a text can be cut out of the text
+  -- a token that the rest of a text begins with can be cut out of the text
   pub CanBeCut-from_rest : (token : Token) (len : ℕ) → 0 < len
       → CanBeCut (drop place text) token 0 len → CanBeCut text token place (place + len)
   CanBeCut-from_rest token len some cut = grind (arith, common_steps)

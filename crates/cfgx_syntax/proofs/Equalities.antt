@@ -1,4 +1,4 @@
--- That the tests of causes, faults and failures tell whether two of them are the same.
+-- The tests of causes, faults and failures decide whether two of them are the same.
 use Rattle.std.proofs.Common.{arith, ◌≡◌, ℕ, Bool, ◌&&◌, List, [], ◌∷◌, Bor, map, nat_eq, refl, ap}
 use Rattle.std.specs.{Bool.Decides, Cmp.unsigned_Decides}
 use Rattle.std.specs.{Prelude.Option, Option.option_eq}
@@ -15,7 +15,7 @@ texts-decide = pointwise_decides bytes_decides
 pub cause_eq-Decides : (one other : Cause) → Decides (cause_eq one other) (one ≡ other)
 cause_eq-Decides one other = grind (arith, texts-decide)
 
--- faults are the same if the tests of their parts say so
+-- faults are the same exactly if the tests of all parts are true
 parts-decide : (one other : TextFault) {original start end cause : Bool}
     → Decides original (one.original ≡ other.original) → Decides start (one.start ≡ other.start)
     → Decides end (one.end ≡ other.end) → Decides cause (one.cause ≡ other.cause)
@@ -31,7 +31,7 @@ pub failure_eq-Decides : (one other : Option TextFault)
     → Decides (option_eq fault_eq one other) (one ≡ other)
 failure_eq-Decides one other = grind (arith, fault_eq-Decides)
 
--- texts behind references are compared as the texts are
+-- texts behind references are compared by their bytes
 pub pointwise-now : (one other : List (Bor (List ℕ)))
     → pointwise (λ x y. pointwise nat_eq x.now y.now) one other
     ≡ texts_eq (map (λ t. t.now) one) (map (λ t. t.now) other)
@@ -40,7 +40,7 @@ pointwise-now [] (y ∷ ys) = refl
 pointwise-now (x ∷ xs) [] = refl
 pointwise-now (x ∷ xs) (y ∷ ys) = rw (pointwise-now xs ys) refl
 
--- two failures that are faults are equal if the faults are
+-- two failures with faults are equal exactly if the faults are
 pub failures-parse : {A : Type 0} (x y : Failure A) (one other : ParseError A) (result : Bool)
     → x ≡ Parse one → y ≡ Parse other → (IsTrue result ↔ (fault_of one ≡ fault_of other))
     → IsTrue result ↔ (failure_of x ≡ failure_of y)

@@ -18,9 +18,9 @@ use Rattle.cfgx_syntax.proofs.Blanks.{IsTrimStart-here, IsTrimStart-past}
 use Rattle.cfgx_syntax.proofs.Scanning.{IsAfter, Stands-found, Ending-found, rest_is}
 use Rattle.cfgx_syntax.proofs.{Scanning.CanBeCut-found, TokenList.ItemsFrom-same}
 use Rattle.cfgx_syntax.proofs.Values.{BeginsWith-value, HasNoQuote-from}
-use Rattle.cfgx_syntax.proofs.WordLemmas.{BeginsWith-byte, BeginsWith-word, word_front}
+use Rattle.cfgx_syntax.proofs.WordLemmas.{BeginsWith-byte, BeginsWith-word, word_prefix}
 
--- what is left of a text after the white space in front is a text
+-- a text without its leading white space is a text
 abbrev Trimmed : List ℕ → Type 0
 Trimmed text = (rest : List ℕ) × IsTrimStart text rest × IsUtf8 rest
 
@@ -66,12 +66,12 @@ data Begins (rest : List ℕ) : Type 0 where
 quote_is : (byte : ℕ) → is_quote byte ≡ true → byte ≡ 34
 quote_is byte h = grind arith
 
--- no quote stands in front of the first
+-- no quote stands before the first
 HasNoQuote-before : (bytes : List ℕ) → HasNoQuote (before_first is_quote bytes)
 HasNoQuote-before bytes =
     grind (arith, HasNoQuote-from, length-take, fails_before_first, get_or-take)
 
--- a quote in front is closed, or it is not
+-- the quote that a text begins with is closed, or it is not
 begins_quote : (more : List ℕ) → IsUtf8 (34 ∷ more) → Begins (34 ∷ more)
 begins_quote more utf8 =
     let n = position_or_len is_quote more in
@@ -94,10 +94,10 @@ begins_quote more utf8 =
 begins_word : (rest : List ℕ) → IsUtf8 rest → starts_word (get_or rest 0 0) ≡ true → Begins rest
 begins_word rest utf8 starts =
     let len = prefix_len continues_word rest in
-    let found = word_spells (take len rest) (word_front rest starts).0 in
+    let found = word_spells (take len rest) (word_prefix rest starts).0 in
     Begins.token found.0 len (BeginsWith-word rest found.0 utf8 starts found.1)
 
--- what begins a token, and is neither of a word nor a quote, is one of four marks
+-- a byte that begins a token, but no word and no value, is one of four marks
 begins_mark : (rest : List ℕ) → IsUtf8 rest → 0 < length rest
     → starts_token (get_or rest 0 0) ≡ true → starts_word (get_or rest 0 0) ≡ false
     → is_quote (get_or rest 0 0) ≡ false → Begins rest
@@ -129,14 +129,14 @@ begins (byte ∷ more) utf8 some =
     Begins.fault expects_token 1 (inl (record { none = none; why = refl; one = refl })))
     (cases_Bool (starts_token byte))
 
--- from a place on, the text is some items and an ending
+-- from `from` on, the text is a list of items and an ending
 record Found (text : List ℕ) (from : ℕ) : Type 0 where
   pub items : List Item
   pub ending : Ending
   pub are : ItemsFrom text from items ending
   pub cuts : AllByRecursion (λ i. CanBeCut text i.token i.start i.end) items
 
--- the first item or the ending, if what follows an item is known
+-- the items and the ending from `from` on, if they are known from each later place on
 found_after : (text rest : List ℕ) (from : ℕ) → IsUtf8 rest → IsAfter text rest from
     → ((place : ℕ) → from < place → place ≤ length text → IsUtf8 (drop place text)
     → Found text place)
@@ -144,20 +144,20 @@ found_after : (text rest : List ℕ) (from : ℕ) → IsUtf8 rest → IsAfter te
 found_after text rest from utf8 beyond next some (Begins.fault cause len wrong) =
     let end = Ending-found text rest from beyond cause len some wrong in
     record { items = []; ending = end.0; are = end.1; cuts = tt }
-found_after text rest from utf8 beyond next some (Begins.token kind len front) =
+found_after text rest from utf8 beyond next some (Begins.token kind len first) =
     let s : ℕ = length text - length rest in
-    let stands = Stands-found text rest from beyond kind len front in
+    let stands = Stands-found text rest from beyond kind len first in
     let past : drop len rest ≡ drop (s + len) text =
     ap (drop len) (rest_is text rest from beyond) ∙ drop-drop len s text in
     let text_after : IsUtf8 (drop (s + len) text) =
-    subst IsUtf8 past (IsUtf8-drop rest len utf8 front.cut.spelling.at_end) in
-    let past_from : from < s + len = omega (arith, stands.comes_after, front.some) in
+    subst IsUtf8 past (IsUtf8-drop rest len utf8 first.cut.spelling.at_end) in
+    let past_from : from < s + len = omega (arith, stands.comes_after, first.some) in
     let more = next (s + len) past_from stands.inside text_after in
     record {
       items = record { token = kind; start = s; end = s + len } ∷ more.items;
       ending = more.ending;
       are = (stands, more.are);
-      cuts = (CanBeCut-found text rest from beyond kind len front, more.cuts);
+      cuts = (CanBeCut-found text rest from beyond kind len first, more.cuts);
     }
 
 found : (fuel : ℕ) (text : List ℕ) (from : ℕ) → length text < from + fuel → from ≤ length text

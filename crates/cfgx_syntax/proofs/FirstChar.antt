@@ -1,4 +1,4 @@
--- White space in front of a character that is none ends at one place.
+-- White space ends at the first other character, and nowhere else.
 use Rattle.std.proofs.Common.{◌≡◌, ℕ, ◌<◌, ◌≤◌, true, List, [], ◌∷◌, ◌++◌, length, drop, sym, ap}
 use Rattle.std.proofs.Common.{◌∙◌, arith, length-append, append_assoc, length-drop}
 use Rattle.std.specs.{Prelude.encode_utf8, Prelude.slice_range, Char.is_not_whitespace}
@@ -7,7 +7,7 @@ use Rattle.std.proofs.{lemmas.List.Folds.drop_split, lemmas.Bool.both_ways}
 use Rattle.std.proofs.lemmas.Str.{cons_from_encodes, encode_same, length-encode}
 use Rattle.cfgx_syntax.specs.Items.{IsBlank}
 
--- white space alone lies between `from` and the place, and a character that is none stands there
+-- `c` at `place` is the first character from `from` on that is no white space
 pub record IsFirst (text : List ℕ) (from place c : ℕ) : Type 0 where
   pub comes_after : from ≤ place
   pub gap : IsBlank (slice_range text from place)
@@ -15,11 +15,11 @@ pub record IsFirst (text : List ℕ) (from place c : ℕ) : Type 0 where
   pub stands : drop place text ≡ encode_utf8 c ++ more
   pub visible : is_not_whitespace c ≡ true
 
--- a character takes a byte at least
+-- a character takes at least one byte
 char_some : (c : ℕ) (more : List ℕ) → 0 < length (encode_utf8 c ++ more)
 char_some c more = grind (arith, length-append, length-encode)
 
--- after white space, the first character that is none, and what follows it, are determined
+-- the first character after white space, and what follows it, are determined
 same_after : (ws vs : List ℕ) (c d : ℕ) (r t : List ℕ) → NonePass is_not_whitespace ws
     → NonePass is_not_whitespace vs → is_not_whitespace c ≡ true → is_not_whitespace d ≡ true
     → encode_utf8_all ws ++ (encode_utf8 c ++ r) ≡ encode_utf8_all vs ++ (encode_utf8 d ++ t)
@@ -32,7 +32,7 @@ same_after (w ∷ ws) (v ∷ vs) c d r t white light seen shown e =
     let same = encode_same w v _ _ (simp append_assoc at e) in
     same_after ws vs c d r t white.1 light.1 seen shown same.1
 
--- white space alone does not go on with such a character
+-- a text of only white space has no other character
 none_after : (ws cs : List ℕ) (c : ℕ) (r : List ℕ) → NonePass is_not_whitespace ws
     → NonePass is_not_whitespace cs → is_not_whitespace c ≡ true
     → encode_utf8_all ws ++ (encode_utf8 c ++ r) ≡ encode_utf8_all cs → ⊥
@@ -41,7 +41,7 @@ none_after (w ∷ ws) cs c r white light seen e =
     let same = cons_from_encodes cs _ w (sym (rw append_assoc at e)) in
     none_after ws same.0 c r white.1 (rw same.1 at light).1 seen (sym same.2)
 
--- what follows `from`: the white space, and the character
+-- the text from `from` on is the white space, the character and the rest
 from_first : (text : List ℕ) (from place c : ℕ) (first : IsFirst text from place c)
     → encode_utf8_all first.gap.0 ++ (encode_utf8 c ++ first.more) ≡ drop from text
 from_first text from place c first = grind (arith, drop_split)

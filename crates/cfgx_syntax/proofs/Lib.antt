@@ -4,11 +4,11 @@ pub mod Cutting
 pub mod Equalities
 pub mod Finding
 pub mod FirstChar
-pub mod Fronts
+pub mod FirstToken
+pub mod ItemSizes
 pub mod LaneLemmas
 pub mod Repeated
 pub mod Scanning
-pub mod ItemSizes
 pub mod TokenList
 pub mod Values
 pub mod WordLemmas

@@ -1,4 +1,4 @@
--- What the lexer finds after white space stands in the whole text.
+-- What the lexer finds after white space has a place in the whole text.
 use Rattle.std.proofs.Common.{Some, rules, ◌≡◌, ℕ, ◌+◌, ◌-◌, ◌<◌, ◌≤◌, min, true, false, List}
 use Rattle.std.proofs.Common.{length, inl, inr, ◌⊎◌, refl, drop, get_or, ap, subst, arith}
 use Rattle.std.{proofs.Common.length-drop, proofs.lemmas.Str.byte_from_char}
@@ -10,11 +10,11 @@ use Rattle.cfgx_syntax.specs.Items.{OpensNoValue, starts_token, Ending}
 use Rattle.cfgx_syntax.specs.lexing.Beginnings.{BeginsWith, BeginsNone, BeginsUnclosed}
 use Rattle.cfgx_syntax.proofs.Cutting.{CanBeCut-from_rest}
 
--- what begins a token is ASCII
+-- a byte that begins a token is ASCII
 pub starts_token-ascii : (c : ℕ) → starts_token c ≡ true → c < 128
 starts_token-ascii c h = grind arith
 
--- `rest` is what follows the white space after the place in the text
+-- `rest` is the text from `place` on, without its leading white space
 pub record IsAfter (text rest : List ℕ) (place : ℕ) : Type 0 where
   pub inside : place ≤ length text
   pub trimmed : IsTrimStart (drop place text) rest
@@ -59,7 +59,7 @@ module _ (text rest : List ℕ) (place : ℕ) (beyond : IsAfter text rest place)
   IsStuck-found some none =
       grind (arith, byte_from_char, starts_token-ascii, rest_is, place_le_start, gap_is_blank)
 
-  -- how the text ends, by why no token begins and how many bytes are at fault
+  -- the ending of the text, from the cause and the number of bytes at fault
   pub Ending-found : (cause : Cause) (len : ℕ) → 0 < length rest
       → BeginsNone rest cause len ⊎ BeginsUnclosed rest cause len
       → (ending : Ending) × EndsAs text place ending
@@ -74,7 +74,7 @@ module _ (text rest : List ℕ) (place : ℕ) (beyond : IsAfter text rest place)
       let ends : IsUnclosed text place start = search (rules, place_le_start, gap_is_blank) in
       (Ending.unclosed_quotes start, ends, rw (unclosed.why, all) refl)
 
--- the state after what was given
+-- the states at equal places are equal
 pub state_at : (text : List ℕ) (n m : ℕ) → n ≡ m
     → ◌≡◌ {A = LexerState} (record { text = text; place = n }) (record { text = text; place = m })
 state_at text n m e = let f : ℕ → LexerState = λ k. record { text = text; place = k } in ap f e

@@ -1,4 +1,4 @@
--- A text has one token list.
+-- A text has only one token list.
 use Rattle.std.proofs.Common.{rules, ◌≡◌, ℕ, ◌+◌, ◌-◌, ◌≤◌, true, List, [], length, get_or, ◌∷◌}
 use Rattle.std.proofs.Common.{◌++◌, take, drop, sym, refl, ◌∙◌, arith, cond, ltb, ◌⊎◌, inl, inr}
 use Rattle.std.proofs.{Common.length-drop, lemmas.List.drop-drop, lemmas.Str.encode_ascii}
@@ -6,19 +6,19 @@ use Rattle.std.proofs.{lemmas.Grind.common_steps, lemmas.Bool.le-ltb, lemmas.Boo
 use Rattle.std.specs.{Prelude.encode_utf8, Prelude.slice_range, Char.is_not_whitespace}
 use Rattle.cfgx_syntax.specs.Items.{Item, Stands, Ending, EndsAs, ItemsFrom, IsBlank, starts_token}
 use Rattle.cfgx_syntax.proofs.FirstChar.{IsFirst, IsFirst-same, IsFirst-not_blank}
-use Rattle.cfgx_syntax.proofs.Fronts.{front_starts, unclosed_len, token_len, token_len_is, token_by}
-use Rattle.cfgx_syntax.proofs.Fronts.{token_by_is}
+use Rattle.cfgx_syntax.proofs.FirstToken.{begins_token, unclosed_len, token_len, token_len_is}
+use Rattle.cfgx_syntax.proofs.FirstToken.{token_by, token_by_is}
 
--- what begins a token is no white space
+-- a byte that begins a token is no white space
 starts_token-visible : (c : ℕ) → starts_token c ≡ true → is_not_whitespace c ≡ true
 starts_token-visible c h = grind (arith, common_steps)
 
--- what comes next is an item, or the text ends
+-- the next item of the text, or its ending
 abbrev Comes : List ℕ → ℕ → Item ⊎ Ending → Type 0
 Comes text from (inl item) = Stands text from item
 Comes text from (inr ending) = EndsAs text from ending
 
--- what comes at a place where a character stands that is no white space, by the text alone
+-- the item or the ending at a character that is no white space, by the text alone
 abbrev next_at : List ℕ → ℕ → ℕ → Item ⊎ Ending
 next_at text place c =
     let rest = drop place text in
@@ -27,7 +27,7 @@ next_at text place c =
     (inl (record { token = token_by (take len rest); start = place; end = place + len })))
     (inr (Ending.no_token place))
 
--- white space alone comes to the end of the text, or something comes at its first other character
+-- only white space is left, or something comes at the first other character
 data Next (text : List ℕ) (from : ℕ) (next : Item ⊎ Ending) : Type 0 where
   ends : IsBlank (drop from text) → next ≡ inr Ending.blank → Next text from next
   begins : (place c : ℕ) → IsFirst text from place c → next ≡ next_at text place c
@@ -37,7 +37,7 @@ first_char : (rest : List ℕ) → starts_token (get_or rest 0 0) ≡ true
     → rest ≡ encode_utf8 (get_or rest 0 0) ++ drop 1 rest
 first_char rest starts = grind (arith, encode_ascii)
 
--- a byte that begins a token is the first character after white space
+-- a byte that begins a token is the first character after the white space
 first_of : (text : List ℕ) (from place : ℕ) → from ≤ place → IsBlank (slice_range text from place)
     → starts_token (get_or (drop place text) 0 0) ≡ true
     → IsFirst text from place (get_or (drop place text) 0 0)
@@ -48,7 +48,7 @@ next_of : (text : List ℕ) (from : ℕ) (next : Item ⊎ Ending) → Comes text
 next_of text from (inl item) at =
     let rest = drop item.start text in
     let len = item.end - item.start in
-    let starts = front_starts rest item.token len at.spelled in
+    let starts = begins_token rest item.token len at.spelled in
     let end : item.start + len ≡ item.end = omega (arith, at.ordered) in
     let inside : len ≤ length rest =
     omega (arith, at.ordered, at.inside, length-drop item.start text) in
@@ -78,13 +78,13 @@ same_next text from one other (Next.begins p c first e) (Next.begins q d second 
     let same = IsFirst-same text from p q c d first second in
     e ∙ (λ i. next_at text (same.0 i) (same.1 i)) ∙ sym f
 
--- one thing comes next
+-- only one thing comes next
 Comes-same : (text : List ℕ) (from : ℕ) (one other : Item ⊎ Ending) → Comes text from one
     → Comes text from other → one ≡ other
 Comes-same text from one other here there =
     same_next text from one other (next_of text from one here) (next_of text from other there)
 
--- what stands next is the first of the items
+-- the list begins with the item
 pub record Follows (text : List ℕ) (item : Item) (items : List Item)
     (ending : Ending) : Type 0 where
   pub rest : List Item
@@ -98,7 +98,7 @@ Follows-stands text place item [] ending stands come =
 Follows-stands text place item (other ∷ others) ending stands come =
     let both = Comes-same text place (inl other) (inl item) come.0 stands in grind arith
 
--- from a place on, the items and the ending are determined
+-- the items and the ending from `from` on are determined
 pub ItemsFrom-same : (text : List ℕ) (from : ℕ) (items others : List Item) (ending end : Ending)
     → ItemsFrom text from items ending → ItemsFrom text from others end
     → (others ≡ items) × (end ≡ ending)

@@ -1,4 +1,4 @@
--- Where a value ends: at the first quote after the one that opens it.
+-- A value ends at the first quote after the one that opens it.
 use Rattle.std.proofs.Common.{rules, ◌≡◌, ℕ, suc, ◌+◌, ◌-◌, ◌<◌, ◌≤◌, ◌≢◌, false, List, [], ◌∷◌}
 use Rattle.std.proofs.Common.{Some, ◌++◌, length, take, drop, get_or, sym, refl, ap, ◌∙◌, arith}
 use Rattle.std.proofs.Common.{length-append, append_assoc, length-take, length-drop}
@@ -6,7 +6,7 @@ use Rattle.std.specs.{Prelude.codes, Prelude.slice_range, Str.IsUtf8, List.prefi
 use Rattle.std.{proofs.Math.Seq.split_at, proofs.lemmas.Str.IsCharBoundary-after_ascii}
 use Rattle.std.proofs.lemmas.List.{get_or-take, take_at, get_or_at, take-take, drop-take, drop-drop}
 use Rattle.cfgx_syntax.specs.Token.{Token, is_quote, HasNoQuote, in_quotes}
-use Rattle.cfgx_syntax.{specs.lexing.Beginnings.BeginsWith, proofs.WordLemmas.IsCut-front}
+use Rattle.cfgx_syntax.{specs.lexing.Beginnings.BeginsWith, proofs.WordLemmas.IsCut-prefix}
 use Rattle.cfgx_syntax.specs.lexing.ByteClasses.{FindsQuote, in_run}
 use Rattle.cfgx_syntax.specs.declared.lexer.bytes.Run.TheVariants as run
 use Rattle.std.proofs.lemmas.List.Sums.{prefix_len_passes, prefix_len_stops}
@@ -39,7 +39,7 @@ value_inside text inside start end within is =
     rw (long, ← drop-drop 1 start text, ← take-take n (n + 1) (drop 1 rest) (omega arith), beyond)
     (take_at inside (codes "\"") n refl)
 
--- a text begins with the value that stands between its first byte, a quote, and the next quote
+-- a text begins with the value between its first byte, which is a quote, and the next quote
 pub BeginsWith-value : (text inside beyond : List ℕ) → IsUtf8 text → HasNoQuote inside
     → text ≡ codes "\"" ++ (inside ++ (codes "\"" ++ beyond))
     → BeginsWith text (Token.value inside) (length inside + 2)
@@ -56,7 +56,7 @@ BeginsWith-value text inside beyond utf8 none is =
     let opens = IsCharBoundary-after_ascii text 0 utf8 (omega arith) (omega arith) in
     let ends = IsCharBoundary-after_ascii text (n + 1) utf8 (omega arith) (omega arith) in
     let spelled : take (n + 2) text ≡ quoted = rw whole (take_at quoted beyond (n + 2) wide) in
-    search (rules, IsCut-front)
+    search (rules, IsCut-prefix)
 
 -- a text that begins with a quote begins with the value up to the next quote
 pub BeginsWith-first : (text rest : List ℕ) (len : ℕ) → IsUtf8 text → text ≡ codes "\"" ++ rest
@@ -70,11 +70,11 @@ BeginsWith-first text rest len utf8 is (inside, quote, none) =
     rw long at (BeginsWith-value text (take len rest) (drop (suc len) rest) utf8 plain
     (rw parts at is))
 
--- the first quote of a text stands after the bytes at its front that are no quotes
-pub FindsQuote-front : (text : List ℕ) (wide len : ℕ) → wide ≤ length text
+-- the first quote of a text is the first byte of a prefix that is a quote
+pub FindsQuote-prefix : (text : List ℕ) (wide len : ℕ) → wide ≤ length text
     → len ≡ prefix_len (in_run run.Value) (take wide text) → len < wide
     → FindsQuote text (Some len)
-FindsQuote-front text wide len inside is short =
+FindsQuote-prefix text wide len inside is short =
     let long = length-take wide text in
     let stops = prefix_len_stops (in_run run.Value) (take wide text) 0 (omega (arith, is, long)) in
     let quote : get_or text len 0 ≡ 34 = grind (arith, get_or-take, stops) in

@@ -1,4 +1,4 @@
--- Where a word and a token of one byte end.
+-- The end of a word, and of a token of one byte.
 use Rattle.std.proofs.Common.{rules, ◌≡◌, ℕ, zero, suc, ◌+◌, ◌<◌, ◌≤◌, Bool, true, List, [], ◌∷◌}
 use Rattle.std.proofs.Common.{length, take, drop, get_or, refl, arith, add-one}
 use Rattle.std.proofs.Math.Numerals.{one-add}
@@ -18,11 +18,11 @@ continues_word-ascii byte h = grind arith
 pub starts_word-continues : (byte : ℕ) → starts_word byte ≡ true → continues_word byte ≡ true
 starts_word-continues byte h = grind arith
 
-passing_front : (p : ℕ → Bool) (xs : List ℕ) → list_all p (take (prefix_len p xs) xs) ≡ true
-passing_front p [] = refl
-passing_front p (x ∷ xs) =
+passing_prefix : (p : ℕ → Bool) (xs : List ℕ) → list_all p (take (prefix_len p xs) xs) ≡ true
+passing_prefix p [] = refl
+passing_prefix p (x ∷ xs) =
     cond_both (p x) (1 + prefix_len p xs) 0 (λ n. list_all p (take n (x ∷ xs)) ≡ true)
-    (λ passes. rw (one-add, passes) (passing_front p xs)) (λ _. refl)
+    (λ passes. rw (one-add, passes) (passing_prefix p xs)) (λ _. refl)
 
 EndsWord-after : (xs : List ℕ) → EndsWord (drop (prefix_len continues_word xs) xs)
 EndsWord-after [] = refl
@@ -30,16 +30,16 @@ EndsWord-after (x ∷ xs) =
     cond_both (continues_word x) (1 + prefix_len continues_word xs) 0
     (λ n. EndsWord (drop n (x ∷ xs))) (λ _. rw one-add (EndsWord-after xs)) (λ stops. stops)
 
--- the word in front of a text that starts with one: its first byte, and those that continue it
-pub word_front : (text : List ℕ) → starts_word (get_or text 0 0) ≡ true
+-- the word that a text starts with is its first byte, and those that continue it
+pub word_prefix : (text : List ℕ) → starts_word (get_or text 0 0) ≡ true
     → IsWord (take (prefix_len continues_word text) text)
     × (prefix_len continues_word (drop 1 text) + 1 ≡ prefix_len continues_word text)
-word_front [] starts = absurd (false≢true starts)
-word_front (byte ∷ rest) starts =
+word_prefix [] starts = absurd (false≢true starts)
+word_prefix (byte ∷ rest) starts =
     rw (starts_word-continues byte starts, one-add)
-    ((starts, passing_front continues_word rest), omega arith)
+    ((starts, passing_prefix continues_word rest), omega arith)
 
--- after bytes that pass a test which only ASCII passes
+-- a text can be cut after leading bytes that pass a test, if only ASCII passes it
 pub IsCharBoundary-after : (p : ℕ → Bool) → ((c : ℕ) → p c ≡ true → c < 128) → (text : List ℕ)
     → IsUtf8 text → IsCharBoundary text (prefix_len p text)
 IsCharBoundary-after p low text utf8 = by (prefix_len p text) refl where
@@ -53,10 +53,10 @@ IsCharBoundary-after p low text utf8 = by (prefix_len p text) refl where
 IsWhole-word : (rest : List ℕ) (token : Token) → EndsWord rest → IsWhole token rest
 IsWhole-word rest token ends = grind arith
 
--- the front of a text up to a place where it can be cut
-pub IsCut-front : (text : List ℕ) (len : ℕ) → IsUtf8 text → len ≤ length text
+-- a prefix can be cut out of a text if the text can be cut after it
+pub IsCut-prefix : (text : List ℕ) (len : ℕ) → IsUtf8 text → len ≤ length text
     → IsCharBoundary text len → IsCut text 0 len
-IsCut-front text len utf8 inside cut = search (rules, IsCharBoundary-start)
+IsCut-prefix text len utf8 inside cut = search (rules, IsCharBoundary-start)
 
 -- a text, whose bytes these are, begins with a token of one byte
 pub BeginsWith-byte : (text bytes : List ℕ) (token : Token) (byte : ℕ) → IsUtf8 text
@@ -77,7 +77,7 @@ BeginsWith-word text token utf8 starts spelled =
     let n = prefix_len continues_word text in
     let cut = IsCharBoundary-after continues_word continues_word-ascii text utf8 in
     let whole = IsWhole-word (drop n text) token (EndsWord-after text) in
-    grind (arith, word_front, IsCut-front)
+    grind (arith, word_prefix, IsCut-prefix)
 
--- no more bytes pass than there are, and the first of a word is one that passes
-pub ruleset lengths = (prefix_len-le-length, word_front, take_rest)
+-- the lengths of a word and of the text that starts with it
+pub ruleset lengths = (prefix_len-le-length, word_prefix, take_rest)

@@ -10,8 +10,7 @@ use Rattle.cfgx_syntax.specs.declared.error.Reason.TheVariants as reason
 use Rattle.cfgx_syntax.specs.declared.error.ParseError.{ParseError}
 use Rattle.cfgx_syntax.specs.declared.error.Failure.TheVariants as failure
 
--- why a text is refused: the program's `Reason`, with the terms of `Unexpected` as bytes, so that
--- no address counts
+-- a `Reason` of the program, with the terms of `Unexpected` as bytes, so that no address counts
 pub data Cause : Type 0 where
   invalid_not : ℕ → Cause
   invalid_characters : Cause
@@ -41,7 +40,7 @@ cause_of reason.MultipleRootPredicates = multiple_root_predicates
 cause_of reason.InvalidHasAtomic = invalid_has_atomic
 cause_of reason.UnknownBuiltin = unknown_builtin
 
--- the place of a cause among the cases
+-- the index of a cause among the cases
 abbrev pub cause_place : Cause → ℕ
 cause_place (invalid_not _) = 0
 cause_place invalid_characters = 1
@@ -66,11 +65,11 @@ abbrev pub cause_terms : Cause → List (List ℕ)
 cause_terms (unexpected terms) = terms
 cause_terms _ = []
 
--- whether the texts are the same, one after another
+-- whether both lists have the same texts in the same order
 abbrev pub texts_eq : List (List ℕ) → List (List ℕ) → Bool
 texts_eq = pointwise bytes_eq
 
--- whether two causes are the same: one case, one number and the same terms
+-- whether two causes have the same case, number and terms
 abbrev pub cause_eq : Cause → Cause → Bool
 cause_eq = eq_of_both (on cause_place nat_eq)
     (eq_of_both (on cause_number nat_eq) (on cause_terms texts_eq))
@@ -83,16 +82,16 @@ quoted term = codes "`" ++ term ++ codes "`"
 abbrev pub more_terms_text : List (List ℕ) → List ℕ
 more_terms_text terms = flat_map (λ term. codes ", " ++ quoted term) terms
 
--- what is written before the first term, by those after it
-abbrev pub terms_front : List (List ℕ) → List ℕ
-terms_front [] = codes "expected a "
-terms_front (_ ∷ _) = codes "expected one of "
+-- the words before the first expected term, by the terms after it
+abbrev pub opening_words : List (List ℕ) → List ℕ
+opening_words [] = codes "expected a "
+opening_words (_ ∷ _) = codes "expected one of "
 
--- what `Unexpected` prints: that nothing was expected, the one term, or one of several
+-- what `Unexpected` prints: that no term was expected, the one term, or the several terms
 abbrev pub unexpected_text : List (List ℕ) → List ℕ
 unexpected_text [] = codes "the term was not expected here"
 unexpected_text (term ∷ others) =
-    terms_front others ++ quoted term ++ more_terms_text others ++ codes " here"
+    opening_words others ++ quoted term ++ more_terms_text others ++ codes " here"
 
 -- what a reason prints
 abbrev pub reason_text : Cause → List ℕ
@@ -115,7 +114,7 @@ description_of (invalid_not _) = codes "not() takes 1 predicate"
 description_of (unexpected _) = codes "unexpected term"
 description_of cause = reason_text cause
 
--- a fault: why a text is refused, and where: the bytes from `start` up to `end` are at fault
+-- a fault: a cause, and the bytes `start..end` of the text that are at fault
 pub record Fault : Type 0 where
   pub cause : Cause
   pub start : ℕ
@@ -134,7 +133,7 @@ fault_eq = eq_of_both (on (λ f. f.original) bytes_eq)
     (eq_of_both (eq_of_both (on (λ f. f.start) nat_eq) (on (λ f. f.end) nat_eq))
     (on (λ f. f.cause) cause_eq))
 
--- the fault with the text that it is in
+-- the fault as one of `text`
 abbrev pub fault_in : List ℕ → Fault → TextFault
 fault_in text fault = record {
   original = text;
@@ -143,12 +142,12 @@ fault_in text fault = record {
   cause = fault.cause;
 }
 
--- the byte of a text that has one
+-- the byte of a text of one byte
 abbrev pub only_byte : List ℕ → ℕ
 only_byte text = slice_index text 0
 
--- the marks below the text, after the spaces: what was never closed is named from its start, what
--- was never opened is one place, and every other fault is marked byte for byte
+-- the marks below a span: one where something is never closed or was never opened, else one below
+-- each of the `width` bytes
 abbrev pub marks : ℕ → Cause → List ℕ
 marks width unclosed_parens = codes "-"
 marks width unclosed_quotes = codes "-"
@@ -171,12 +170,12 @@ fault_of e = record {
   cause = cause_of e.reason;
 }
 
--- the fault of a failure, or none if the call was out of memory
+-- the fault of a failure, or none if the call ran out of memory
 abbrev pub failure_of : {A : Type 0} → Failure A → Option TextFault
 failure_of (failure.Parse error) = Some (fault_of error)
 failure_of (failure.Memory _) = None
 
--- the failure is this fault, or the call was out of memory for its copy of the text
+-- the failure is `fault`, or the call ran out of memory for the copy of the text
 abbrev pub FailsWith : {A : Type 0} → TextFault → Failure A → Type 0
 FailsWith fault (failure.Parse error) = fault_of error ≡ fault
 FailsWith fault (failure.Memory error) = Unit {0}

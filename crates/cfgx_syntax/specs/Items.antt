@@ -1,5 +1,5 @@
--- The tokens of a text with their places, as a relation on the whole text. Places count bytes from
--- the text's start.
+-- The tokens of a text with their places, as a relation on the whole text. A place is an index of a
+-- byte.
 -- Source: the lexical rules that `cfg-expr` documents at its `Lexer`, and `char::is_whitespace`.
 use Rattle.std.specs.Prelude.{◌≡◌, ℕ, ◌+◌, ◌≤◌, ◌||◌, Bool, true, false, List, [], ◌∷◌, ◌++◌}
 use Rattle.std.specs.Prelude.{Option, Some, None, codes, drop, encode_utf8, length, slice_range}
@@ -15,7 +15,7 @@ pub record Item : Type 0 where
   pub start : ℕ
   pub end : ℕ
 
--- white space alone, in the sense of `char::is_whitespace`
+-- only white space, in the sense of `char::is_whitespace`
 abbrev pub IsBlank : List ℕ → Type 0
 IsBlank bytes = NoCharPasses is_not_whitespace bytes
 
@@ -23,16 +23,16 @@ IsBlank bytes = NoCharPasses is_not_whitespace bytes
 abbrev pub starts_token : ℕ → Bool
 starts_token c = char_set_contains (codes "(),=\"") c || starts_word c
 
--- the rest of a text begins with a character that is no white space and that begins no token
+-- `rest` begins with a character that is no white space and begins no token
 abbrev pub StartsNoToken : List ℕ → Type 0
 StartsNoToken rest = (c : ℕ) × (more : List ℕ) × IsScalar c × (rest ≡ encode_utf8 c ++ more)
     × (is_not_whitespace c ≡ true) × (starts_token c ≡ false)
 
--- the rest of a text begins with a quote, and no quote stands after it
+-- `rest` begins with a quote, and has no other quote
 abbrev pub OpensNoValue : List ℕ → Type 0
 OpensNoValue rest = (more : List ℕ) × (rest ≡ codes "\"" ++ more) × HasNoQuote more
 
--- the item stands in the text, with white space alone between `from` and it
+-- the item stands in the text, with only white space between `from` and it
 pub record Stands (text : List ℕ) (from : ℕ) (item : Item) : Type 0 where
   pub comes_after : from ≤ item.start
   pub gap : IsBlank (slice_range text from item.start)
@@ -41,20 +41,20 @@ pub record Stands (text : List ℕ) (from : ℕ) (item : Item) : Type 0 where
   pub inside : item.end ≤ length text
   pub whole : IsWhole item.token (drop item.end text)
 
--- how a text ends after its last token: with white space alone, at a character with which no token
+-- how a text ends after its last token: with only white space, at a character with which no token
 -- can start, or at a quote that is never closed
 pub data Ending : Type 0 where
   blank : Ending
   no_token : ℕ → Ending
   unclosed_quotes : ℕ → Ending
 
--- no token can start at the place, and white space alone lies between `from` and it
+-- no token can start at `place`, and only white space lies between `from` and it
 pub record IsStuck (text : List ℕ) (from : ℕ) (place : ℕ) : Type 0 where
   pub comes_after : from ≤ place
   pub gap : IsBlank (slice_range text from place)
   pub stuck : StartsNoToken (drop place text)
 
--- a quote at the place is never closed, and white space alone lies between `from` and it
+-- a quote at `place` is never closed, and only white space lies between `from` and it
 pub record IsUnclosed (text : List ℕ) (from : ℕ) (place : ℕ) : Type 0 where
   pub comes_after : from ≤ place
   pub gap : IsBlank (slice_range text from place)
@@ -65,7 +65,7 @@ EndsAs text from Ending.blank = IsBlank (drop from text)
 EndsAs text from (Ending.no_token place) = IsStuck text from place
 EndsAs text from (Ending.unclosed_quotes place) = IsUnclosed text from place
 
--- from the place `from` on, the text has these items one after another, and then this ending
+-- from `from` on, the text has the items in this order, and then the ending
 abbrev pub ItemsFrom : List ℕ → ℕ → List Item → Ending → Type 0
 ItemsFrom text from [] ending = EndsAs text from ending
 ItemsFrom text from (item ∷ items) ending =
@@ -75,7 +75,7 @@ ItemsFrom text from (item ∷ items) ending =
 abbrev pub AreItems : List ℕ → List Item → Ending → Type 0
 AreItems text items ending = ItemsFrom text 0 items ending
 
--- the text has one token list, and one way in which it ends, and each token can be cut out of it
+-- the text has exactly one token list and one ending, and each token can be cut out of it
 pub record HasOneTokenList (text : List ℕ) : Type 0 where
   pub items : List Item
   pub ending : Ending
@@ -84,12 +84,12 @@ pub record HasOneTokenList (text : List ℕ) : Type 0 where
   pub only : (others : List Item) (end : Ending) → AreItems text others end
       → (others ≡ items) × (end ≡ ending)
 
--- the cause at a place where no token can start: what a text may begin with was expected there
+-- the cause where no token can start: the terms with which a condition may begin were expected
 abbrev pub expects_token : Cause
 expects_token = unexpected (codes "<key>" ∷ codes "all" ∷ codes "any" ∷ codes "not" ∷ [])
 
--- the fault for an ending: none for white space, the one byte where no token can start, or all
--- from a quote that is never closed to the end of the text
+-- the fault of an ending: none for white space, one byte where no token can start, or all bytes
+-- from a quote that is never closed
 abbrev pub lexical : List ℕ → Ending → Option Fault
 lexical text Ending.blank = None
 lexical text (Ending.no_token place) =

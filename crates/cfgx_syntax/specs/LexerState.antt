@@ -1,16 +1,16 @@
--- How far a `Lexer` has come.
+-- The state of a `Lexer`.
 use Rattle.std.specs.Prelude.{ℕ, List, length}
 
--- the stripped text, and the place after the last token that was given: at the end after a failure
--- or after `None`
+-- the stripped text, and the place after the last token, which is the end of the text after a
+-- failure and after `None`
 pub record LexerState : Type 0 where
   pub text : List ℕ
   pub place : ℕ
 
--- nothing was given yet
+-- the state before the first call
 abbrev pub starting : List ℕ → LexerState
 starting text = record { text = text; place = 0 }
 
--- nothing is to come
+-- the state after the last item
 abbrev pub at_end : LexerState → LexerState
 at_end state = record state { place = length state.text }

@@ -40,7 +40,7 @@ pub record IsKey (word : List ℕ) : Type 0 where
 abbrev pub is_quote : ℕ → Bool
 is_quote byte = char_set_contains (codes "\"") byte
 
--- no quote stands in the bytes
+-- no byte is a quote
 abbrev pub HasNoQuote : List ℕ → Type 0
 HasNoQuote bytes = list_any is_quote bytes ≡ false
 
@@ -48,7 +48,7 @@ HasNoQuote bytes = list_any is_quote bytes ≡ false
 abbrev pub in_quotes : List ℕ → List ℕ
 in_quotes bytes = codes "\"" ++ bytes ++ codes "\""
 
--- The bytes spell the token. A value has no escapes: it runs to the next quote.
+-- The bytes spell the token. A value has no escapes: it ends at the next quote.
 abbrev pub Spells : List ℕ → Token → Type 0
 Spells bytes (Token.key word) = (bytes ≡ word) × IsKey word
 Spells bytes (Token.value inside) = (bytes ≡ in_quotes inside) × HasNoQuote inside
@@ -60,12 +60,12 @@ Spells bytes Token.open_paren = bytes ≡ codes "("
 Spells bytes Token.close_paren = bytes ≡ codes ")"
 Spells bytes Token.comma = bytes ≡ codes ","
 
--- the rest of a text does not go on with a word
+-- `rest` does not continue a word
 abbrev pub EndsWord : List ℕ → Type 0
 EndsWord [] = IsTrue true
 EndsWord (byte ∷ _) = continues_word byte ≡ false
 
--- the token is whole in front of the rest of its text: a word runs as far as it can
+-- the token is whole if `rest` follows it: a word is as long as it can be
 abbrev pub IsWhole : Token → List ℕ → Type 0
 IsWhole (Token.key _) rest = EndsWord rest
 IsWhole Token.all rest = EndsWord rest

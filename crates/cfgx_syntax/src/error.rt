@@ -4,25 +4,26 @@ ghost use Rattle.std.specs.Prelude.{◌≡◌, ◌↔◌, ◌-◌, ◌<◌, ◌�
 ghost use Rattle.std.specs.Prelude.{replicate};
 ghost use Rattle.std.specs.List.{repeat};
 ghost use Rattle.std.specs.Fmt.{DisplaysOnOk};
-ghost use Rattle.cfgx_syntax.specs.Error.{cause_of, marks, more_terms_text, quoted, terms_front};
-ghost use Rattle.cfgx_syntax.specs.Error.{texts_eq, unexpected_text, FailsWith, fault_in};
-ghost use Rattle.cfgx_syntax.specs.Error.{only_byte};
+ghost use Rattle.cfgx_syntax.specs.Error.{cause_of, fault_in, marks, more_terms_text, only_byte};
+ghost use Rattle.cfgx_syntax.specs.Error.{opening_words, quoted, texts_eq, unexpected_text};
+ghost use Rattle.cfgx_syntax.specs.Error.{FailsWith};
 
 use std::alloc::{AllocError, AllocFailed, Allocator, Global};
 use std::fmt;
 use std::ops::Range;
 
-// 64 of each mark.
+// 64 spaces.
 const SPACES: &str = "                                                                ";
 
+// 64 carets.
 const CARETS: &str = "^^^^^^^^^^^^^^^^^^^^^^^^^^^^^^^^^^^^^^^^^^^^^^^^^^^^^^^^^^^^^^^^";
 
-/// Why a text is refused. Equal reasons have the same variant, number and texts.
+/// Why a text has no value. Equal reasons have the same variant, number and texts.
 #[derive(Clone, Copy, Debug)]
 pub enum Reason {
-    /// `not` has this many members, which is not one.
+    /// A `not` with no member or several. The field is the number of its members.
     InvalidNot(usize),
-    /// Characters that no expression has. No call of this crate answers it.
+    /// Characters that no expression has. No call of this crate returns it.
     InvalidCharacters,
     /// A parenthesis is never closed.
     UnclosedParens,
@@ -30,23 +31,26 @@ pub enum Reason {
     UnopenedParens,
     /// A quote is never closed.
     UnclosedQuotes,
-    /// A quote is closed that was never opened. No call of this crate answers it.
+    /// A quote is closed that was never opened. No call of this crate returns it.
     UnopenedQuotes,
-    /// There is no predicate, literal or function.
+    /// The text has no predicate, literal or function.
     Empty,
-    /// A term that may not stand here, with the terms that may; none if nothing may.
+    /// A term that may not stand there. The field has the terms that may, and is empty if none
+    /// may.
     Unexpected(&'static [&'static str]),
-    /// A number is none or out of its range, or a `target_endian` is neither `big` nor `little`.
+    /// A number that does not parse or is out of range, or a `target_endian` that is neither `big`
+    /// nor `little`.
     InvalidInteger,
     /// More than one predicate, literal or function stands outside of every function.
     MultipleRootPredicates,
     /// The width of an atomic is neither an integer nor `ptr`.
     InvalidHasAtomic,
-    /// A built-in name that is not known. No call of this crate answers it.
+    /// A built-in name that is not known. No call of this crate returns it.
     UnknownBuiltin,
 }
 
-/// Why a text was refused, and where in it. Equal faults have the same text, span and reason.
+/// A fault, which is a reason with a span, and the text that it is in. Equal errors have the same
+/// text, span and reason.
 #[derive(Drop)]
 #[derive_where(Debug)]
 pub struct ParseError<A: Allocator = Global> {
@@ -54,17 +58,17 @@ pub struct ParseError<A: Allocator = Global> {
     pub original: String<A>,
     /// The bytes of `original` that are at fault.
     pub span: Range<usize>,
-    /// What is wrong there.
+    /// What is wrong with those bytes.
     pub reason: Reason,
 }
 
-/// The two ways in which a text may be refused.
+/// The error of a call that reads a text.
 #[derive(Drop)]
 #[derive_where(Debug)]
 pub enum Failure<A: Allocator = Global> {
-    /// The text is faulty.
+    /// The text has a fault.
     Parse(ParseError<A>),
-    /// The call is out of memory. Nothing is said of the text.
+    /// The call ran out of memory. The text may have a fault or none.
     Memory(AllocError),
 }
 
@@ -104,7 +108,7 @@ impl PartialEq for Reason {
     }
 }
 
-// Whether the texts are the same, one after another.
+// Returns whether both lists have the same texts in the same order.
 #[tactic(auto, using(crate::proofs::Equalities::texts))]
 fn are_same_texts(texts: &[&str], others: &[&str]) -> bool
     ensures value { result ≡ texts_eq (map (λ t. t.now) texts.now) (map (λ t. t.now) others.now) }
@@ -179,8 +183,8 @@ impl<A: Allocator> Eq for Failure<A> {
 }
 
 impl<A: Allocator> Failure<A> {
-    /// The fault of `original` at the bytes `span`, with a copy of the text in `alloc`; the
-    /// call is out of memory if `alloc` refuses the copy. The text stays as it was.
+    /// Returns the error for `reason` at the bytes `span` of `original`, with a copy of `original`
+    /// in `alloc`, or `Memory` if `alloc` refuses the copy.
     pub fn of(alloc: A, original: &str, span: Range<usize>, reason: Reason) -> Failure<A>
         ensures { FailsWith (fault_in original.now
             (record { cause = cause_of reason; start = span.start; end = span.end })) result }
@@ -230,7 +234,7 @@ impl<T: Drop, A: Allocator> From<AllocFailed<T>> for Failure<A> {
 impl Reason {
     ghost use Rattle.cfgx_syntax.specs.Error.{cause_of, description_of};
 
-    // The reason in a few words, without its number and its terms.
+    // Returns the reason in a few words, without its number and its terms.
     fn description(self) -> &'static str
         ensures { result.now ≡ description_of (cause_of self) }
     {
@@ -265,7 +269,7 @@ impl fmt::Display for Reason {
     }
 }
 
-// Which terms may stand where another one did.
+// Writes which of `terms` were expected, or that none was.
 fn write_unexpected<W: fmt::Write>(f: &mut fmt::Formatter<W>, terms: &[&str]) -> fmt::Result
     ensures { DisplaysOnOk W.write_str_gives f.old result
         (Some (unexpected_text (map (λ t. t.now) terms.now))) f.new }
@@ -273,15 +277,15 @@ fn write_unexpected<W: fmt::Write>(f: &mut fmt::Formatter<W>, terms: &[&str]) ->
     let Some((first, others)) = terms.split_first() else {
         return f.write_str("the term was not expected here");
     };
-    f.write_str(front_of(others))?;
+    f.write_str(opening_words(others))?;
     write_quoted(f, first)?;
     write_more_terms(f, others)?;
     f.write_str(" here")
 }
 
-// What is written before the first term, by those after it.
-fn front_of(others: &[&str]) -> &'static str
-    ensures { result.now ≡ terms_front (map (λ t. t.now) others.now) }
+// Returns the words before the first expected term. `others` are the terms after it.
+fn opening_words(others: &[&str]) -> &'static str
+    ensures { result.now ≡ opening_words (map (λ t. t.now) others.now) }
 {
     if others.is_empty() {
         "expected a "
@@ -290,7 +294,7 @@ fn front_of(others: &[&str]) -> &'static str
     }
 }
 
-// A term between back quotes.
+// Writes `term` between back quotes.
 fn write_quoted<W: fmt::Write>(f: &mut fmt::Formatter<W>, term: &str) -> fmt::Result
     ensures { DisplaysOnOk W.write_str_gives f.old result (Some (quoted term.now)) f.new }
 {
@@ -299,7 +303,7 @@ fn write_quoted<W: fmt::Write>(f: &mut fmt::Formatter<W>, term: &str) -> fmt::Re
     f.write_str("`")
 }
 
-// Each of the terms between back quotes, after a comma.
+// Writes each of `terms` after a comma and a space, between back quotes.
 fn write_more_terms<W: fmt::Write>(f: &mut fmt::Formatter<W>, terms: &[&str]) -> fmt::Result
     ensures { DisplaysOnOk W.write_str_gives f.old result
         (Some (more_terms_text (map (λ t. t.now) terms.now))) f.new }
@@ -314,7 +318,7 @@ fn write_more_terms<W: fmt::Write>(f: &mut fmt::Formatter<W>, terms: &[&str]) ->
 impl<A: Allocator> ParseError<A> {
     ghost use Rattle.cfgx_syntax.specs.Error.{cause_of, description_of};
 
-    /// What is wrong, in a few words: the reason's text without its number and its terms.
+    /// Returns the reason in a few words, without its number and its terms.
     pub fn description(&self) -> &'static str
         ensures { result.now ≡ description_of (cause_of self.now.reason) }
     {
@@ -341,7 +345,7 @@ impl<A: Allocator> fmt::Display for ParseError<A> {
     }
 }
 
-// The marks below a span of that many bytes.
+// Writes the marks below a span of `width` bytes.
 fn write_marks<W: fmt::Write>(
     f: &mut fmt::Formatter<W>,
     width: usize,
@@ -357,44 +361,44 @@ fn write_marks<W: fmt::Write>(
     }
 }
 
-// A text, that many times.
-fn write_repeated<W: fmt::Write>(f: &mut fmt::Formatter<W>, text: &str, times: usize) -> fmt::Result
-    ensures { DisplaysOnOk W.write_str_gives f.old result (Some (repeat times text.now)) f.new }
+// Writes `text` `count` times.
+fn write_repeated<W: fmt::Write>(f: &mut fmt::Formatter<W>, text: &str, count: usize) -> fmt::Result
+    ensures { DisplaysOnOk W.write_str_gives f.old result (Some (repeat count text.now)) f.new }
 {
-    for _time in 0..times {
+    for _time in 0..count {
         f.write_str(text)?;
     }
     Ok(())
 }
 
-// A mark, that many times; `many` is 64 of them, so that a long span takes few calls.
-fn write_times<W: fmt::Write>(
+// Writes `mark` `count` times. `block` is 64 marks, so that a long span takes few calls.
+fn write_in_blocks<W: fmt::Write>(
     f: &mut fmt::Formatter<W>,
     mark: &str,
-    many: &str,
-    times: usize,
+    block: &str,
+    count: usize,
 ) -> fmt::Result
-    requires { many.now ≡ repeat 64 mark.now }
-    ensures { DisplaysOnOk W.write_str_gives f.old result (Some (repeat times mark.now)) f.new }
+    requires { block.now ≡ repeat 64 mark.now }
+    ensures { DisplaysOnOk W.write_str_gives f.old result (Some (repeat count mark.now)) f.new }
 {
-    write_repeated(f, many, times / 64)?;
-    write_repeated(f, mark, times % 64)
+    write_repeated(f, block, count / 64)?;
+    write_repeated(f, mark, count % 64)
 }
 
-// A space for each byte in front of a span.
+// Writes `count` spaces: one for each byte before a span.
 #[tactic(auto, using(crate::proofs::Repeated::repeat_one))]
-fn write_spaces<W: fmt::Write>(f: &mut fmt::Formatter<W>, times: usize) -> fmt::Result
+fn write_spaces<W: fmt::Write>(f: &mut fmt::Formatter<W>, count: usize) -> fmt::Result
     ensures { DisplaysOnOk W.write_str_gives f.old result
-        (Some (replicate times (only_byte (codes " ")))) f.new }
+        (Some (replicate count (only_byte (codes " ")))) f.new }
 {
-    write_times(f, " ", SPACES, times)
+    write_in_blocks(f, " ", SPACES, count)
 }
 
-// A caret for each byte of a span.
+// Writes `count` carets: one for each byte of a span.
 #[tactic(auto, using(crate::proofs::Repeated::repeat_one))]
-fn write_carets<W: fmt::Write>(f: &mut fmt::Formatter<W>, times: usize) -> fmt::Result
+fn write_carets<W: fmt::Write>(f: &mut fmt::Formatter<W>, count: usize) -> fmt::Result
     ensures { DisplaysOnOk W.write_str_gives f.old result
-        (Some (replicate times (only_byte (codes "^")))) f.new }
+        (Some (replicate count (only_byte (codes "^")))) f.new }
 {
-    write_times(f, "^", CARETS, times)
+    write_in_blocks(f, "^", CARETS, count)
 }

@@ -1,4 +1,4 @@
-//! Tokens of a `cfg()` text with the bytes that spell them.
+//! The tokens of a `cfg()` text, with the bytes that spell them.
 ghost use Rattle.std.specs.Prelude.{◌≡◌, ◌-◌, ◌<◌, ◌≤◌, length, slice_index, codes, get_or};
 ghost use Rattle.std.specs.Prelude.{true, Some};
 ghost use Rattle.std.specs.List.{prefix_len};
@@ -25,23 +25,23 @@ use std::ops::Range;
 /// texts lie.
 #[derive(Clone, Copy, Debug, PartialEq, Eq)]
 pub enum Token<'a> {
-    /// A word that names no function
+    /// A word that names no function.
     Key(&'a str),
-    /// What stands between two quotes
+    /// The text between two quotes.
     Value(&'a str),
-    /// `=`
+    /// `=`.
     Equals,
-    /// `all`
+    /// `all`.
     All,
-    /// `any`
+    /// `any`.
     Any,
-    /// `not`
+    /// `not`.
     Not,
-    /// `(`
+    /// `(`.
     OpenParen,
-    /// `)`
+    /// `)`.
     CloseParen,
-    /// `,`
+    /// `,`.
     Comma,
 }
 
@@ -52,30 +52,30 @@ impl fmt::Display for Token<'_> {
     }
 }
 
-/// A token, and the bytes of the stripped text that spell it.
+/// A token with its place in the stripped text.
 #[derive(Clone, Debug, Drop)]
 pub struct LexerToken<'a> {
-    /// The token
+    /// The token.
     pub token: Token<'a>,
-    /// Where it stands, in bytes of the stripped text
+    /// The bytes of the stripped text that spell it.
     pub span: Range<usize>,
 }
 
-/// The text without the white space in front of it, where ASCII white space stands in most cases.
+/// Returns `text` without its leading white space, which is ASCII in most texts.
 #[tactic(auto, using(crate::proofs::Blanks::trim_blanks))]
 fn after_blanks(text: &str) -> &str
     ensures { IsTrimStart text.now result.now }
 {
     let rest = &text[Run::Blanks.len(text.as_bytes())..];
     match rest.as_bytes().first() {
-        // Only a longer character may be white space now.
+        // Only a character beyond ASCII can still be white space.
         Some(first) if !first.is_ascii() => rest.trim_start(),
         _ => rest,
     }
 }
 
-/// The text without the white space in front of it, and the class of the byte that is next, if
-/// there is one.
+/// Returns `text` without its leading white space, and the class of the first byte that is left, or
+/// `None` if none is left.
 #[tactic(auto, using(crate::proofs::Blanks::trimmed_already))]
 fn trimmed(text: &str) -> (&str, Option<Class>)
     ensures trimmed { IsTrimStart text.now result.0.now }
@@ -84,7 +84,7 @@ fn trimmed(text: &str) -> (&str, Option<Class>)
     let Some(class) = first_class(text) else {
         return (text, None);
     };
-    // Mostly there is no white space, and the class tells so.
+    // In most calls the class shows that there is no white space.
     if !class.may_be_white() {
         return (text, Some(class));
     }
@@ -92,7 +92,7 @@ fn trimmed(text: &str) -> (&str, Option<Class>)
     (rest, first_class(rest))
 }
 
-/// How many bytes spell the word that the text begins with.
+/// Returns the length of the word that `text` starts with.
 #[tactic(auto, using(crate::proofs::WordLemmas::lengths))]
 fn word_len(text: &str) -> usize
     requires some { 0 < length text.now }
@@ -102,7 +102,7 @@ fn word_len(text: &str) -> usize
     Run::Word.len(&text.as_bytes()[1..]) + 1
 }
 
-/// The token that a word spells.
+/// Returns the token that `word` spells.
 fn word_token(word: &str) -> Token<'_>
     requires { IsWord word.now }
     ensures { Spells word.now (token_of result) }
@@ -115,8 +115,10 @@ fn word_token(word: &str) -> Token<'_>
     }
 }
 
-/// The token that a text with a quote in front begins with, and how many bytes spell it. The error
-/// is that no further quote stands in the text, and that all of its bytes are at fault.
+/// Returns the value that `text` starts with, and the number of bytes that spell it.
+///
+/// `text` starts with a quote. If no other quote follows, the error has the reason and the number
+/// of bytes at fault, which is `text.len()`.
 fn value_token(text: &str) -> Result<(Token<'_>, usize), (Reason, usize)>
     requires some { 0 < length text.now }
     requires quote { slice_index text.now 0 ≡ slice_index (codes "\"") 0 }
@@ -129,9 +131,11 @@ fn value_token(text: &str) -> Result<(Token<'_>, usize), (Reason, usize)>
     }
 }
 
-/// The token that the text begins with, by the class of its first byte, and how many bytes spell
-/// it. The error is why no token can start there, and how many bytes are at fault: one, also if a
-/// longer character stands there, or all of them after a quote that is never closed.
+/// Returns the token that `text` starts with, and the number of bytes that spell it. `class` is the
+/// class of the first byte.
+///
+/// If no token starts there, the error has the reason and the number of bytes at fault: all of them
+/// after a quote that is never closed, else one, even of a longer character.
 fn first_token(text: &str, class: Class) -> Result<(Token<'_>, usize), (Reason, usize)>
     requires { BeginsWithClass text.now (Some class) }
     ensures { BeginsAs text.now result }
@@ -158,9 +162,9 @@ fn first_token(text: &str, class: Class) -> Result<(Token<'_>, usize), (Reason, 
 #[derive(Drop)]
 pub struct Lexer<'a, A: Allocator = Global> {
     original: &'a str,
-    /// What follows the last token
+    /// The text after the last token.
     inner: &'a str,
-    /// What a fault's copy of the text is made with: none after a refusal
+    /// The allocator for the copy of the text that an error has; `None` after an error.
     alloc: Option<A>,
 }
 
@@ -183,7 +187,7 @@ impl<'a, A: Allocator> Model for Lexer<'a, A> {
 }
 
 impl<'a, A: Allocator> Lexer<'a, A> {
-    /// A lexer of what `strip` keeps of the text. It takes no memory.
+    /// Returns a lexer of `strip(text)`. It allocates nothing.
     #[tactic(auto, using(crate::proofs::Finding::one_list))]
     pub fn new(alloc: A, text: &'a str) -> Self
         ensures starts { result ≡ starting (strip text.now) }
@@ -197,15 +201,15 @@ impl<'a, A: Allocator> Lexer<'a, A> {
         }
     }
 
-    /// The text that is read: what `strip` keeps. Spans count its bytes.
+    /// Returns the stripped text, whose bytes spans count.
     pub fn original(&self) -> &'a str
         ensures { result.now ≡ self.now.text }
     {
         self.original
     }
 
-    /// The number of bytes after the last token: it falls with each item, and is 0
-    /// after `None` and after a refusal.
+    /// Returns the number of bytes after the last token. It falls with each item, and is 0 after
+    /// `None` and after an error.
     pub fn items_left_bound(&self) -> usize
         ensures { result ≡ length self.now.text - self.now.place }
     {
@@ -213,8 +217,8 @@ impl<'a, A: Allocator> Lexer<'a, A> {
     }
 }
 
-/// Each item is the next token. The error is the lexical fault that the text ends with, or that the
-/// lexer is out of memory for its copy of the text.
+/// Yields the tokens in order. The error is the fault at which they end, or `Memory` if there is no
+/// memory for the copy of the text.
 impl<'a, A: Allocator> Iterator for Lexer<'a, A> {
     type Item = Result<LexerToken<'a>, Failure<A>>;
 

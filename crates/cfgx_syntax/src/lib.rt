@@ -1,5 +1,5 @@
-//! What a `cfg()` text is made of: its tokens, the faults of reading it, the values that it can
-//! have, and the allocators of what is made of it.
+//! The tokens of a `cfg()` text, its faults, the values that it can have, and the allocators of
+//! expressions.
 #![tactic(auto)]
 
 pub mod error;

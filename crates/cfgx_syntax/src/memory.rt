@@ -1,10 +1,10 @@
 //! The allocators of expressions.
 use std::alloc::{Allocator, Global};
 
-/// An allocator's handle that is copied, and that takes at most 2^32 bytes, as a reference does.
+/// A copyable allocator handle of at most 2^32 bytes, such as a reference.
 ///
-/// The vectors of an expression hold one beside their inline places, so the bytes that they take
-/// depend on it. Every `&A` is such a handle: one of any other size is passed as `&alloc`.
+/// The vectors of an expression store the handle beside their inline elements, so its size is part
+/// of theirs. Every `&A` is such a handle, so any other allocator is passed as `&alloc`.
 pub trait SmallAllocator: Allocator + Copy {
     ghost use Rattle.cfgx_syntax.specs.Size.{IsSmall};
 

@@ -1,9 +1,9 @@
-//! What of a text is read: a condition with or without `cfg( )` around it.
+//! The condition of a text with or without an outer `cfg( )`.
 ghost use Rattle.std.specs.Prelude.{◌≡◌};
 ghost use Rattle.cfgx_syntax.specs.Stripping.{strip};
 
-/// What lies between the outer `cfg(` and `)` of the text, if it has both, and otherwise the
-/// text. This is done once.
+/// Returns the text between `cfg(` and `)` if `text` starts and ends with them, else `text`. Only
+/// one pair is removed.
 pub fn strip(text: &str) -> &str
     ensures { result.now ≡ strip text.now }
 {

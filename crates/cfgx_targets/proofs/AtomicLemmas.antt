@@ -1,4 +1,4 @@
--- That what a width of atomics and a byte order print is read again.
+-- What a width of atomics or a byte order prints reads as the same value.
 use Rattle.std.{proofs.Common.{◌≡◌, refl, ℕ, List, arith}, specs.Prelude.{Some, Result, Ok}}
 use Rattle.cfgx_targets.specs.Endian.{endian_named, endian_text}
 use Rattle.cfgx_targets.specs.HasAtomic.{IsWidth, ReadsAtomic, atomic_named, atomic_text}
@@ -19,7 +19,7 @@ pub atomic_named-text : (width : HasAtomic) → IsWidth width
 unfolding atomic_named read_below
 atomic_named-text width fits = grind (arith, read_below-decimal)
 
--- so the reading of what a width prints answers that width
+-- a read of what a width prints returns that width
 pub ReadsAtomic-text : {A : Type 0} (text : List ℕ) (result : Result HasAtomic (HasAtomicFailure A))
     → ReadsAtomic text result → (width : HasAtomic) → IsWidth width → text ≡ atomic_text width
     → result ≡ Ok width

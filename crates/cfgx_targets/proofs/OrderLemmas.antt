@@ -1,5 +1,5 @@
--- Lists in order: when a list is one, what a search by halves finds in it, and that a sorted
--- rearrangement is the only one.
+-- Sorted lists: the test for them, binary search in them, and that items have only one sorted
+-- rearrangement.
 use Rattle.std.proofs.lemmas.Grind.{common_steps}
 use Rattle.std.proofs.{lemmas.Bool.cases_lt, lemmas.Bool.not-true, lemmas.Cmp.tied_itself}
 use Rattle.std.proofs.{lemmas.List.Sums.sum_by-cons, Common.arith, lemmas.Fn.always_returns_same}
@@ -18,12 +18,12 @@ use Rattle.std.specs.List.Sorted.{IsBinarySearchResult, IsSearchInRange}
 use Rattle.std.specs.Ordering.{is_lt, is_le, is_eq, is_some_and, partial_le, ordering_reverse}
 use Rattle.cfgx_targets.specs.SortedList.{IsSortedFrom}
 
--- texts which compare as equal are the same
+-- texts that compare as equal are the same
 pub equal_texts : (one other : List ℕ) → slice_cmp nat_cmp one other ≡ Equal → one ≡ other
 equal_texts one other equal = (bytes_decides one other).0 (texts_ties one other ∙ ap is_eq equal)
 
 module _ {X : Type 0} {R : X → X → Ordering} (o : IsTotalOrder R) where
-  -- not above is the same as: the other one is not below
+  -- a value is not above another exactly if the other is not below it
   le-lt : (x y : X) → is_le (R x y) ≡ not (is_lt (R y x))
   le-lt x y = grind arith
 
@@ -34,7 +34,7 @@ module _ {X : Type 0} {R : X → X → Ordering} (o : IsTotalOrder R) where
     in_order : (x y : X) → partial_le C x y ≡ true → is_lt (R y x) ≡ false
     in_order x y h = not-true (is_lt (R y x)) (sym (neighbors x y) ∙ h)
 
-    -- what `is_sorted` answers
+    -- what `is_sorted` returns
     pub is_sorted-answers : (xs : List X) (r : Bool)
         → IsAllAdjacentAnswer (λ x y b. partial_le C x y ≡ b) xs r → IsTrue r ↔ IsSorted R xs
     is_sorted-answers xs true h = (λ _ k d _ lt. in_order _ _ (h k d lt), λ _. refl)
@@ -49,7 +49,7 @@ module _ {X : Type 0} {R : X → X → Ordering} (o : IsTotalOrder R) where
               sym falls ∙ (neighbors low high ∙ ap not rises),
         )
 
-  -- what a search by halves finds in a list in order
+  -- a binary search of a sorted list finds an item exactly if it is a member
   pub binary_search-answers : (same : (x y : X) → R x y ≡ Equal → x ≡ y) (xs : List X) (x : X)
       → (r : Result ℕ ℕ) → IsSorted R xs → IsSearchInRange r (length xs)
       → IsBinarySearchResult (λ y. R y x) xs r → IsTrue (is_ok r) ↔ Contains xs x
@@ -68,7 +68,7 @@ module _ {X : Type 0} {R : X → X → Ordering} (o : IsTotalOrder R) where
             [ inl lt ↦ (let e = below lt in cc) | inr le ↦ (let e = above le in cc) ]),
       )
 
--- what a search by halves found, if each call of its closure answers the rank of a member
+-- what a binary search finds, if each call of its closure returns the rank of a member
 pub binary_search_by-gives : {X F : Type 0} {g : Mut F (Bor X × Unit {0}) Ordering} {f : F}
     → (rank : X → Ordering) (xs : List X) (r : Result ℕ ℕ)
     → ((ord : X → Ordering) → ComputesKey g ord f → IsBinarySearchResult ord xs r)
@@ -77,11 +77,11 @@ pub binary_search_by-gives : {X F : Type 0} {g : Mut F (Bor X × Unit {0}) Order
     → IsBinarySearchResult rank xs r
 binary_search_by-gives {g = g} {f = f} rank xs r clause each = grind (arith, always_returns_same)
 
--- how many members are equal to q
+-- the number of members that are equal to `q`
 abbrev count_equal : {X : Type 0} → (X → X → Ordering) → X → List X → ℕ
 count_equal R q xs = count_by (λ y. is_eq (R q y)) xs
 
--- none is below the one before it
+-- no member is below the one before it
 abbrev pub Rises : {X : Type 0} → (X → X → Ordering) → List X → Type 0
 Rises R [] = ⊤
 Rises R (x ∷ []) = ⊤
@@ -103,11 +103,11 @@ Rises-tail : {X : Type 0} (R : X → X → Ordering) (x : X) (xs : List X) → R
 Rises-tail a0 x xs s = grind arith
 
 module _ {X : Type 0} {R : X → X → Ordering} (o : IsTotalOrder R) where
-  -- what is below the first is below what is not below the first
+  -- a value below `y` is below every value that is not below `y`
   below-chain : (x y z : X) → R x y ≡ Less → is_lt (R z y) ≡ false → R x z ≡ Less
   below-chain x y z h up = grind arith
 
-  -- a list that begins above q has none equal to q
+  -- a sorted list that begins above `q` has no member equal to `q`
   count_equal-below : (q y : X) (ys : List X) → R q y ≡ Less → Rises R (y ∷ ys)
       → count_equal R q (y ∷ ys) ≡ 0
   count_equal-below q y [] h s = rw (sum_by-cons, h) refl
@@ -118,13 +118,13 @@ module _ {X : Type 0} {R : X → X → Ordering} (o : IsTotalOrder R) where
   count_equal-first : (x : X) (xs : List X) → 0 < count_equal R x (x ∷ xs)
   count_equal-first x xs = grind (arith, common_steps)
 
-  -- of two lists in order with as many of each, none begins below the other
+  -- of two sorted lists with the same members, neither begins below the other
   not-below : (x y : X) (xs ys : List X) → Rises R (y ∷ ys)
       → ((q : X) → count_equal R q (x ∷ xs) ≡ count_equal R q (y ∷ ys)) → R x y ≡ Less → ⊥
   not-below x y xs ys t h less =
       omega (arith, count_equal-below x y ys less t, h x, count_equal-first x xs)
 
-  -- and are the same
+  -- two sorted lists with the same members are the same
   rises-same : (same : (x y : X) → R x y ≡ Equal → x ≡ y) (xs ys : List X) → Rises R xs → Rises R ys
       → ((q : X) → count_equal R q xs ≡ count_equal R q ys) → xs ≡ ys
   rises-same same [] [] s t h = refl
@@ -145,7 +145,7 @@ module _ {X : Type 0} {R : X → X → Ordering} (o : IsTotalOrder R) where
       by_cases Greater e = absurd (not-below y x ys xs s (λ q. sym (h q))
           (o.antisymm y x ∙ ap ordering_reverse e))
 
-  -- the members that items give in order are fixed by the items, in any arrangement of them
+  -- sorted lists that are rearrangements of each other are the same
   pub sorted-same : (same : (x y : X) → R x y ≡ Equal → x ≡ y) (xs ys : List X)
       → IsPermutation xs ys → IsSorted R xs → IsSorted R ys → xs ≡ ys
   sorted-same same xs ys p s t = grind (arith, rises-same, Rises-from, sum_by-IsPermutation)
@@ -155,11 +155,11 @@ module _ {X : Type 0} {R : X → X → Ordering} (o : IsTotalOrder R) where
     decides-same : (x y : X) → Decides (E x y) (x ≡ y)
     decides-same x y = grind arith
 
-    -- the test of two lists member by member
+    -- the test of two lists, member by member, decides whether they are the same
     pub lists-same : (xs ys : List X) → IsTrue (pointwise E xs ys) ↔ (xs ≡ ys)
     lists-same xs ys = pointwise_decides decides-same xs ys
 
-    -- is true exactly if one is made of a rearrangement of what the other is made of
+    -- two sorted lists are equal exactly if their items are rearrangements of each other
     pub lists-made_same : (xs ys items others : List X)
         → IsSortedFrom R items xs → IsSortedFrom R others ys
         → IsTrue (pointwise E xs ys) ↔ IsPermutation items others

@@ -1,8 +1,9 @@
--- Rows in the order of their triples: the first that is not, and what a search by halves finds.
+-- Rows in the order of their triples: the first row out of order, and binary search.
 use Rattle.std.proofs.{lemmas.Grind.common_steps, lemmas.Bool.cases_lt, lemmas.Cmp.alike_right}
 use Rattle.std.proofs.lemmas.Option.{slice_get_read}
 use Rattle.std.proofs.Common.{◌≡◌, refl, sym, ap, subst, ◌∙◌, inl, inr, ℕ, zero, suc, ◌+◌, ◌-◌, ◌<◌}
-use Rattle.std.proofs.Common.{Bool, true, false, List, [], ◌∷◌, length, get_or, arith, add-one}
+use Rattle.std.proofs.Common.{Bool, true, false, ◌&&◌, List, [], ◌∷◌, length, get_or, arith}
+use Rattle.std.proofs.Common.{add-one}
 use Rattle.std.proofs.{Common.nat_cmp, lemmas.List.Sorted.searchable_from_sorted}
 use Rattle.std.specs.Prelude.{Some, None, Ok, Err}
 use Rattle.std.specs.{declared.cmp.Ordering.Ordering, List.AllAdjacentBelow, List.find}
@@ -10,10 +11,11 @@ use Rattle.std.specs.declared.cmp.Ordering.TheVariants.{Less, Equal}
 use Rattle.std.specs.{List.Sorted.IsBinarySearchResult, List.Sorted.IsSortedBy, Str.bytes_eq}
 use Rattle.std.specs.Cmp.Lexicographic.{nat_list_cmp_total, slice_cmp, texts_ties}
 use Rattle.std.specs.Ordering.{is_lt, is_ge, is_eq, ordering_reverse}
+use Rattle.std.specs.Cmp.{first_so, second_so}
 use Rattle.cfgx_targets.specs.{Builtins.builtin_rows, declared.info.TargetInfo.TargetInfo}
 use Rattle.cfgx_targets.specs.Table.{IsBelow, AreIncreasing, IsFirstNotAbove, row_with}
 
--- the first member that passes a test
+-- `find` finds the first member that passes a test
 find-at : {X : Type 0} (p : X → Bool) (xs : List X) (i : ℕ) (x : X) → i < length xs
     → x ≡ get_or xs i x → p x ≡ true → ((k : ℕ) → k < i → p (get_or xs k x) ≡ false)
     → find p xs ≡ Some x
@@ -35,12 +37,12 @@ module _ {A : Type 0} (rows : List (TargetInfo A)) where
   abbrev order : TargetInfo A → TargetInfo A → Ordering
   order one other = slice_cmp nat_cmp one.triple other.triple
 
-  -- a row and the one before it
+  -- a row and the row before it
   module _ (place : ℕ) (before row : TargetInfo A) (beyond : 0 < place)
       (inside : place < length rows) (rising : AllAdjacentBelow IsBelow rows place)
       (is_before : before ≡ get_or rows (place - 1) before) (is_row : row ≡ get_or rows place row)
     where
-      -- that is not above it
+      -- the row is the first that is not above the one before
       pub first-not_above : is_ge (order before row) ≡ true → IsFirstNotAbove rows place
       first-not_above ge = record {
         rising = rising;
@@ -53,7 +55,7 @@ module _ {A : Type 0} (rows : List (TargetInfo A)) where
             (let less : is_ge (order before row) ≡ false = ap is_ge below in cc);
       }
 
-      -- that is
+      -- the row is above the one before
       pub below-more : is_ge (order before row) ≡ false → AllAdjacentBelow IsBelow rows (place + 1)
       below-more lt = grind (arith, common_steps)
 
@@ -81,7 +83,7 @@ module _ {A : Type 0} (rows : List (TargetInfo A)) where
         → slice_cmp nat_cmp row.triple triple ≡ r → bytes_eq row.triple triple ≡ is_eq r
     has_triple triple row r h = texts_ties row.triple triple ∙ ap is_eq h
 
-    -- the row that a search by halves found is the one by looking at every row
+    -- the row that a binary search finds is the one with the triple
     pub row_with-found : (triple : List ℕ) (place : ℕ) (row : TargetInfo A) → place < length rows
         → row ≡ get_or rows place row
         → IsBinarySearchResult (λ r. slice_cmp nat_cmp r.triple triple) rows (Ok place)
@@ -99,7 +101,7 @@ module _ {A : Type 0} (rows : List (TargetInfo A)) where
         let alike = alike_right nat_list_cmp_total row.triple triple one.triple equal in
         let less = sym alike ∙ below in has_triple triple one Less less)
 
-    -- if it finds none, no row has the triple
+    -- if a binary search finds no row, no row has the triple
     pub row_with-missing : (triple : List ℕ) (place : ℕ)
         → IsBinarySearchResult (λ row. slice_cmp nat_cmp row.triple triple) rows (Err place)
         → row_with triple rows ≡ None
@@ -108,10 +110,26 @@ module _ {A : Type 0} (rows : List (TargetInfo A)) where
         let rising = searchable_from_sorted nat_list_cmp_total key rows triple in_order in
         grind (arith, find-none, has_triple)
 
--- the targets that are built in are in order
+-- whether the triples strictly increase
+abbrev are_increasing : {A : Type 0} → List (TargetInfo A) → Bool
+are_increasing [] = true
+are_increasing (row ∷ []) = true
+are_increasing (row ∷ next ∷ rows) =
+    is_lt (slice_cmp nat_cmp row.triple next.triple) && are_increasing (next ∷ rows)
+
+is_lt-Less : (order : Ordering) → is_lt order ≡ true → order ≡ Less
+is_lt-Less order below = grind arith
+
+-- rows that pass the test are in order
+increasing-from : {A : Type 0} (rows : List (TargetInfo A)) → are_increasing rows ≡ true
+    → AreIncreasing rows
+increasing-from [] test k d lt = absurd (omega (arith, lt))
+increasing-from (row ∷ []) test k d lt = absurd (omega (arith, lt))
+increasing-from (row ∷ next ∷ rows) test zero d lt = is_lt-Less _ (first_so _ _ test)
+increasing-from (row ∷ next ∷ rows) test (suc k) d lt =
+    let after = increasing-from (next ∷ rows) (second_so _ _ test) k d (omega (arith, lt)) in
+    rw add-one (rw add-one at after)
+
+-- the built-in targets are in order
 pub builtin_rows-increasing : {A : Type 0} → AreIncreasing (builtin_rows {A = A})
-builtin_rows-increasing zero d lt = refl
-builtin_rows-increasing (suc zero) d lt = refl
-builtin_rows-increasing (suc (suc zero)) d lt = refl
-builtin_rows-increasing (suc (suc (suc zero))) d lt = refl
-builtin_rows-increasing (suc (suc (suc (suc k)))) d lt = absurd (omega (arith, lt))
+builtin_rows-increasing = increasing-from builtin_rows refl

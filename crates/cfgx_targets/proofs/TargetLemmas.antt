@@ -1,4 +1,4 @@
--- How targets are compared, field by field.
+-- The comparisons of targets, field by field.
 use Rattle.std.proofs.Common.{◌≡◌, refl}
 use Rattle.std.specs.{declared.cmp.Ordering.Ordering, Ordering.ordering_then}
 use Rattle.std.specs.declared.cmp.Ordering.TheVariants.{Less, Equal, Greater}
@@ -10,7 +10,7 @@ then-assoc Less b c = refl
 then-assoc Equal b c = refl
 then-assoc Greater b c = refl
 
--- eleven orders, joined from the first on
+-- eleven orders that are joined from the left are joined from the right
 pub then-chain : (a b c d e f g h i j k : Ordering) {m n o p q r s t u v : Ordering}
     → m ≡ ordering_then a b → n ≡ ordering_then m c → o ≡ ordering_then n d
     → p ≡ ordering_then o e → q ≡ ordering_then p f → r ≡ ordering_then q g

@@ -1,15 +1,15 @@
--- The targets that are built in. These five rows are a choice of this repository.
+-- The built-in targets, which are a choice of this repository.
 use Rattle.std.specs.Prelude.{ℕ, List, [], ◌∷◌, ◌++◌, codes, map, Option, Some, None}
 use Rattle.cfgx_targets.specs.declared.atomic.HasAtomic.{HasAtomic}
 use Rattle.cfgx_targets.specs.declared.atomic.HasAtomic.TheVariants.{IntegerSize, Pointer}
 use Rattle.cfgx_targets.specs.declared.endian.Endian.TheVariants.{little}
 use Rattle.cfgx_targets.specs.declared.info.TargetInfo.{TargetInfo}
 
--- widths of so many bits, and then that of a pointer
+-- the widths of `bits`, and then the width of a pointer
 abbrev pub widths_and_pointer : List ℕ → List HasAtomic
 widths_and_pointer bits = map IntegerSize bits ++ Pointer ∷ []
 
--- what all of them have, and where they differ
+-- the row of a target of Apple, by the values in which these rows differ
 abbrev pub apple_row : {A : Type 0} → List ℕ → List ℕ → Option (List ℕ) → Option (List ℕ)
     → TargetInfo A
 apple_row triple os abi env = record {
@@ -26,7 +26,7 @@ apple_row triple os abi env = record {
   panic = codes "unwind";
 }
 
--- in the order of their triples
+-- the rows, in the order of their triples
 abbrev pub builtin_rows : {A : Type 0} → List (TargetInfo A)
 builtin_rows = apple_row (codes "aarch64-apple-darwin") (codes "macos") None None
     ∷ apple_row (codes "aarch64-apple-ios") (codes "ios") None None

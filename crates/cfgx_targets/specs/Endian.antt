@@ -1,4 +1,4 @@
--- Byte orders and their names, which are those of the key `target_endian`.
+-- Byte orders and their names, which are the values of the key `target_endian`.
 -- Source: the Rust Reference, `target_endian`; `impl FromStr for Endian` of `cfg-expr` 0.20.10.
 use Rattle.std.specs.Prelude.{◌≡◌, ℕ, List, [], ◌∷◌, codes, Option, Some, None, Result, Ok, Err}
 use Rattle.std.specs.Prelude.{if◌then◌else◌}
@@ -17,13 +17,13 @@ unfoldable pub endian_named : List ℕ → Option Endian
 endian_named text = if bytes_eq text (endian_text big) then Some big
     else if bytes_eq text (endian_text little) then Some little else None
 
--- what the reading of a byte order answers: the one of that name, or the names that are expected
+-- a read of a byte order returns the one that `text` names, or the names that are expected
 abbrev pub ReadsEndian : List ℕ → Result Endian Reason → Type 0
 ReadsEndian text (Ok endian) = endian_named text ≡ Some endian
 ReadsEndian text (Err reason) = (endian_named text ≡ None)
     × (cause_of reason ≡ unexpected (endian_text big ∷ endian_text little ∷ []))
 
--- the place of a byte order among both
+-- the rank of a byte order in their order
 abbrev pub endian_rank : Endian → ℕ
 endian_rank big = 0
 endian_rank little = 1

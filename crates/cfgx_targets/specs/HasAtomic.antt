@@ -1,5 +1,5 @@
--- Widths of atomic operations (in names `atomic`, or `width`) and their texts, which are those of
--- the key `target_has_atomic`.
+-- Widths of atomic operations (in names `atomic`, or `width`) and their texts, which are the values
+-- of the key `target_has_atomic`.
 -- Source: the Rust Reference, `target_has_atomic`; `HasAtomic` of `cfg-expr` 0.20.10.
 use Rattle.std.specs.Prelude.{◌≡◌, ℕ, ◌^◌, ◌<◌, List, codes, Option, Some, None, Result, Ok, Err}
 use Rattle.std.specs.Prelude.{if◌then◌else◌, option_map}
@@ -25,19 +25,19 @@ unfoldable pub atomic_named : List ℕ → Option HasAtomic
 atomic_named text =
     option_or (option_map IntegerSize (read_below (2 ^ 16) text)) (pointer_named text)
 
--- a width of the program has sixteen bits
+-- the number of bits fits into the sixteen bits of the program's type
 abbrev pub IsWidth : HasAtomic → Type 0
 IsWidth (IntegerSize bits) = bits < 2 ^ 16
 IsWidth Pointer = Unit {0}
 
--- What the reading of a width answers: the one that the text names, or, only if it names none, the
--- fault with that text, or that it is out of memory.
+-- A read of a width returns the width that `text` names. Only if it names none, the result is the
+-- error with `text`, or `Memory`.
 abbrev pub ReadsAtomic : {A : Type 0} → List ℕ → Result HasAtomic (HasAtomicFailure A) → Type 0
 ReadsAtomic text (Ok width) = atomic_named text ≡ Some width
 ReadsAtomic text (Err (Parse error)) = (atomic_named text ≡ None) × (error ≡ text)
 ReadsAtomic text (Err (Memory error)) = atomic_named text ≡ None
 
--- the order of widths: by the number of bits, and then the pointer's
+-- the order of widths: numbers of bits in order, and then the width of a pointer
 abbrev pub atomic_cmp : HasAtomic → HasAtomic → Ordering
 atomic_cmp (IntegerSize bits) (IntegerSize others) = nat_cmp bits others
 atomic_cmp (IntegerSize _) Pointer = Less

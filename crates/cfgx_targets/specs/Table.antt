@@ -6,7 +6,7 @@ use Rattle.std.specs.Cmp.Lexicographic.{slice_cmp}
 use Rattle.std.specs.List.{AllAdjacentBelow, find, slice_get}
 use Rattle.cfgx_targets.specs.declared.info.TargetInfo.{TargetInfo}
 
--- the triples are in this order, compared as bytes, and differ
+-- the triple of `one` is below that of `next`, compared as bytes
 abbrev pub IsBelow : {A : Type 0} → TargetInfo A → TargetInfo A → Type 0
 IsBelow one next = slice_cmp nat_cmp one.triple next.triple ≡ Less
 
@@ -14,7 +14,7 @@ IsBelow one next = slice_cmp nat_cmp one.triple next.triple ≡ Less
 abbrev pub AreIncreasing : {A : Type 0} → List (TargetInfo A) → Type 0
 AreIncreasing rows = AllAdjacentBelow IsBelow rows (length rows)
 
--- the triples first fail to increase at the place: the row there is not above the one before it
+-- the row at `place` is the first whose triple is not above the one before
 pub record IsFirstNotAbove {A : Type 0} (rows : List (TargetInfo A)) (place : ℕ) : Type 0 where
   pub rising : AllAdjacentBelow IsBelow rows place
   pub not_first : 0 < place
@@ -24,6 +24,6 @@ pub record IsFirstNotAbove {A : Type 0} (rows : List (TargetInfo A)) (place : �
   pub is_row : slice_get rows place ≡ Some row
   pub not_above : ¬ IsBelow before row
 
--- the row with that triple, by looking at every row
+-- the first row with the triple
 abbrev pub row_with : {A : Type 0} → List ℕ → List (TargetInfo A) → Option (TargetInfo A)
 row_with triple rows = find (λ row. bytes_eq row.triple triple) rows

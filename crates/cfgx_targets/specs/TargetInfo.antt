@@ -9,7 +9,7 @@ use Rattle.cfgx_targets.specs.{declared.atomic.HasAtomic.HasAtomic, declared.end
 use Rattle.cfgx_targets.specs.{declared.info.TargetInfo.TargetInfo, Endian.endian_cmp}
 use Rattle.cfgx_targets.specs.{HasAtomic.atomic_cmp}
 
--- whether all fields are the same, if these are the tests of byte orders and of widths
+-- whether all fields are equal, by the given tests of byte orders and of widths
 abbrev pub info_eq : (Endian → Endian → Bool) → (HasAtomic → HasAtomic → Bool)
     → {A : Type 0} → TargetInfo A → TargetInfo A → Bool
 info_eq endian_eq width_eq one other =
@@ -25,11 +25,11 @@ info_eq endian_eq width_eq one other =
     && (pointwise width_eq one.has_atomics other.has_atomics
     && bytes_eq one.panic other.panic)))))))))
 
--- texts by their bytes
+-- the order of texts, by their bytes
 abbrev pub text_cmp : List ℕ → List ℕ → Ordering
 text_cmp = slice_cmp nat_cmp
 
--- by the fields, the first one first
+-- the order of targets, by the first field that differs
 abbrev pub info_cmp : {A : Type 0} → TargetInfo A → TargetInfo A → Ordering
 info_cmp one other =
     ordering_then (text_cmp one.triple other.triple)

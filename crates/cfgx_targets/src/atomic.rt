@@ -1,4 +1,4 @@
-//! The widths of the atomics that a target has.
+//! The width of an atomic, its text and its errors.
 
 use crate::error::HasAtomicParseError;
 use crate::reading::read_has_atomic;
@@ -7,22 +7,22 @@ use std::fmt;
 
 mod order;
 
-/// A width of atomics. Widths in bits are ordered by their number, and the pointer's is above them.
+/// A width of atomics. Numbers of bits are in order, and below the width of a pointer.
 #[derive(Clone, Copy, Debug, PartialEq, Eq, Hash)]
 pub enum HasAtomic {
-    /// This many bits.
+    /// A number of bits.
     IntegerSize(u16),
-    /// As wide as a pointer.
+    /// The width of a pointer.
     Pointer,
 }
 
-/// The two ways in which the reading of a width may refuse.
+/// The error of `HasAtomic::read`.
 #[derive(Drop)]
 #[derive_where(Debug, PartialEq, Eq)]
 pub enum HasAtomicFailure<A: Allocator = Global> {
     /// The text names no width.
     Parse(HasAtomicParseError<A>),
-    /// The text names no width, and the call is out of memory for the copy of it.
+    /// The text names no width, and there is no memory for the copy of it.
     Memory(AllocError),
 }
 
@@ -52,10 +52,10 @@ impl HasAtomic {
     ghost use Rattle.std.specs.Prelude.{◌≡◌, Ok};
     ghost use Rattle.cfgx_targets.specs.HasAtomic.{IsWidth, ReadsAtomic, atomic_text};
 
-    /// Reads a number of bits, at most 65535, or `ptr`. What it prints, it reads again.
+    /// Reads a number of bits, at most 65535, or `ptr`. It reads what `Display` prints.
     ///
-    /// A text that names a width takes no memory. Any other one is copied into `alloc` for the
-    /// fault, and is `Memory` if that copy is refused.
+    /// A text that names a width takes no memory. Any other text is copied into `alloc` for the
+    /// error, which is `Memory` if `alloc` refuses the copy.
     pub fn read<A: Allocator>(alloc: A, text: &str) -> Result<HasAtomic, HasAtomicFailure<A>>
         ensures reads { ReadsAtomic text.now result }
         ensures printed { (width : HasAtomic) → IsWidth width → text.now ≡ atomic_text width

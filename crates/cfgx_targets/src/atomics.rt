@@ -1,4 +1,4 @@
-//! The widths of atomics that a target has, as a list.
+//! Lists of widths of atomics.
 
 ghost use Rattle.std.specs.Prelude.{◌≡◌, ◌↔◌, Contains, IfOk, IsSorted, IsTrue};
 
@@ -22,9 +22,9 @@ impl Member for HasAtomic {
     ghost equal_is_same = { λ one other. Prim.search (comparing, rules) };
 }
 
-// It goes by the slice alone, so a call need not name the allocator of a list.
+// This impl fixes the allocator, so that a call of `is_sorted` need not name it.
 impl SortedList<'static, HasAtomic> {
-    /// Whether no width is below the one before it.
+    /// Returns whether no width is below the one before it.
     pub fn is_sorted(widths: &[HasAtomic]) -> bool
         ensures { IsTrue result ↔ IsSorted ⟦<HasAtomic as Ord>⟧.cmp widths.now }
     {
@@ -33,17 +33,17 @@ impl SortedList<'static, HasAtomic> {
 }
 
 impl<'a, A: Allocator> SortedList<'a, HasAtomic, A> {
-    /// Whether the width is a member.
+    /// Returns whether `width` is a member.
     pub fn contains(&self, width: HasAtomic) -> bool
         ensures { IsTrue result ↔ Contains self.now width }
     {
-        self.holds(&width)
+        self.has_member(&width)
     }
 
-    /// A list equal to this one. A borrowed list is borrowed again and takes no memory; an owned
-    /// one is copied into `alloc`.
+    /// Returns a list equal to this one. A borrowed list is borrowed again, and an owned one is
+    /// copied into `alloc`.
     ///
-    /// The error is that `alloc` refused the copy. This list stays as it was either way.
+    /// Returns an error if `alloc` refuses the copy.
     pub fn try_clone(&self, alloc: A) -> Result<Self, AllocError>
         ensures { IfOk result (λ copy. copy ≡ self.now) }
     {

@@ -1,4 +1,4 @@
-//! The named lists, the targets that are built in, and a fixed version.
+//! The named lists, the built-in targets, and a fixed version.
 
 ghost use Rattle.std.specs.Prelude.{◌≡◌, ◌∷◌, ◌++◌, [], IfOk, OnOk, codes, option_copied};
 ghost use Rattle.cfgx_targets.specs.Builtins.{apple_row, builtin_rows, widths_and_pointer};
@@ -7,80 +7,65 @@ use crate::atomic::HasAtomic;
 use crate::endian::Endian;
 use crate::info::TargetInfo;
 use crate::list::SortedList;
-use crate::made::{beside, push};
 use crate::table::TargetTable;
 use cfgx_fields::{Abi, Arch, Env, Family, Os, Panic, Triple, Vendor};
 use std::alloc::{AllocError, Allocator};
 
 impl<'a, A: Allocator> SortedList<'a, Family<'a, A>, A> {
-    /// The list of `unix`, in memory of `alloc`.
+    /// Returns the list of `unix`, in memory of `alloc`.
     ///
-    /// The error is that `alloc` refused it.
+    /// Returns an error if `alloc` refuses it.
     pub fn unix(alloc: A) -> Result<Self, AllocError>
         ensures { IfOk result (λ list. list ≡ codes "unix" ∷ []) }
     {
         SortedList::of_one(alloc, Family::unix())
     }
 
-    /// The list of `unix` and `wasm`, in memory of `alloc`.
+    /// Returns the list of `unix` and `wasm`, in memory of `alloc`.
     ///
-    /// The error is that `alloc` refused it.
+    /// Returns an error if `alloc` refuses it.
     pub fn unix_wasm(alloc: A) -> Result<Self, AllocError>
         ensures { IfOk result (λ list. list ≡ codes "unix" ∷ codes "wasm" ∷ []) }
     {
-        let families = two(alloc, Family::unix(), Family::wasm())?;
+        let mut families = Vec::new(alloc);
+        families.push(Family::unix())?;
+        families.push(Family::wasm())?;
         Ok(SortedList::from_sorted(families))
     }
 
-    /// The list of `wasm`, in memory of `alloc`.
+    /// Returns the list of `wasm`, in memory of `alloc`.
     ///
-    /// The error is that `alloc` refused it.
+    /// Returns an error if `alloc` refuses it.
     pub fn wasm(alloc: A) -> Result<Self, AllocError>
         ensures { IfOk result (λ list. list ≡ codes "wasm" ∷ []) }
     {
         SortedList::of_one(alloc, Family::wasm())
     }
 
-    /// The list of `windows`, in memory of `alloc`.
+    /// Returns the list of `windows`, in memory of `alloc`.
     ///
-    /// The error is that `alloc` refused it.
+    /// Returns an error if `alloc` refuses it.
     pub fn windows(alloc: A) -> Result<Self, AllocError>
         ensures { IfOk result (λ list. list ≡ codes "windows" ∷ []) }
     {
         SortedList::of_one(alloc, Family::windows())
     }
 
-    // The list of this family.
+    // Returns the list of `family`, in memory of `alloc`.
     fn of_one(alloc: A, family: Family<'a, A>) -> Result<Self, AllocError>
         ensures { IfOk result (λ list. list ≡ family.entry ∷ []) }
     {
-        let families = one(alloc, family)?;
+        let mut families = Vec::new(alloc);
+        families.push(family)?;
         Ok(SortedList::from_sorted(families))
     }
 }
 
-// A vector of this one item, in memory of `alloc`.
-fn one<T: Drop, A: Allocator>(alloc: A, item: T) -> Result<Vec<T, A>, AllocError>
-    ensures { IfOk result (λ items. items.items ≡ item ∷ []) }
-{
-    let mut items = Vec::new(alloc);
-    items.push(item)?;
-    Ok(items)
-}
-
-// A vector of these two items, in memory of `alloc`.
-fn two<T: Drop, A: Allocator>(alloc: A, item: T, other: T) -> Result<Vec<T, A>, AllocError>
-    ensures { IfOk result (λ items. items.items ≡ item ∷ other ∷ []) }
-{
-    let mut items = one(alloc, item)?;
-    items.push(other)?;
-    Ok(items)
-}
-
 impl<'a, A: Allocator> SortedList<'a, HasAtomic, A> {
-    /// The list of the widths 8, 16, 32, 64 and 128 and that of a pointer, in memory of `alloc`.
+    /// Returns the list of 8, 16, 32, 64 and 128 bits and the width of a pointer, in memory of
+    /// `alloc`.
     ///
-    /// The error is that `alloc` refused it.
+    /// Returns an error if `alloc` refuses it.
     pub fn atomic_8_16_32_64_128_ptr(alloc: A) -> Result<Self, AllocError>
         ensures { IfOk result (λ list. list ≡ widths_and_pointer (8 ∷ 16 ∷ 32 ∷ 64 ∷ 128 ∷ [])) }
     {
@@ -96,9 +81,9 @@ impl<'a, A: Allocator> SortedList<'a, HasAtomic, A> {
         Ok(SortedList::from_sorted(widths))
     }
 
-    /// The list of the widths 8, 16, 32 and 64 and that of a pointer, in memory of `alloc`.
+    /// Returns the list of 8, 16, 32 and 64 bits and the width of a pointer, in memory of `alloc`.
     ///
-    /// The error is that `alloc` refused it.
+    /// Returns an error if `alloc` refuses it.
     pub fn atomic_8_16_32_64_ptr(alloc: A) -> Result<Self, AllocError>
         ensures { IfOk result (λ list. list ≡ widths_and_pointer (8 ∷ 16 ∷ 32 ∷ 64 ∷ [])) }
     {
@@ -113,9 +98,9 @@ impl<'a, A: Allocator> SortedList<'a, HasAtomic, A> {
         Ok(SortedList::from_sorted(widths))
     }
 
-    /// The list of the widths 8, 16 and 32 and that of a pointer, in memory of `alloc`.
+    /// Returns the list of 8, 16 and 32 bits and the width of a pointer, in memory of `alloc`.
     ///
-    /// The error is that `alloc` refused it.
+    /// Returns an error if `alloc` refuses it.
     pub fn atomic_8_16_32_ptr(alloc: A) -> Result<Self, AllocError>
         ensures { IfOk result (λ list. list ≡ widths_and_pointer (8 ∷ 16 ∷ 32 ∷ [])) }
     {
@@ -130,7 +115,8 @@ impl<'a, A: Allocator> SortedList<'a, HasAtomic, A> {
     }
 }
 
-/// `1.99.0`, a fixed text. No claim is made that rows or named values are those of such a compiler.
+/// Returns `1.99.0`, a fixed text. The built-in targets and the named values need not be those of
+/// that compiler.
 pub const fn rustc_version() -> &'static str
     ensures { result.now ≡ codes "1.99.0" }
 {
@@ -138,9 +124,9 @@ pub const fn rustc_version() -> &'static str
 }
 
 impl<'a, A: Allocator + Copy> TargetTable<'a, A> {
-    /// The targets that are built in, in memory of `alloc`.
+    /// Returns the table of the built-in targets, in memory of `alloc`.
     ///
-    /// The error is that `alloc` refused it.
+    /// Returns an error if `alloc` refuses it.
     pub fn builtins(alloc: A) -> Result<Self, AllocError>
         ensures { IfOk result (λ table. table ≡ builtin_rows) }
     {
@@ -149,7 +135,7 @@ impl<'a, A: Allocator + Copy> TargetTable<'a, A> {
     }
 }
 
-// The triples of the targets that are built in, in order.
+// The triples of the built-in targets, in order.
 const DARWIN: &str = "aarch64-apple-darwin";
 
 const IOS: &str = "aarch64-apple-ios";
@@ -160,7 +146,7 @@ const SIM: &str = "aarch64-apple-ios-sim";
 
 const TVOS: &str = "aarch64-apple-tvos";
 
-// The rows of the targets that are built in.
+// Returns the rows of the built-in targets.
 fn rows<'a, A: Allocator + Copy>(alloc: A) -> Result<Vec<TargetInfo<'a, A>, A>, AllocError>
     ensures { IfOk result (λ rows. rows.items ≡ builtin_rows) }
 {
@@ -169,7 +155,7 @@ fn rows<'a, A: Allocator + Copy>(alloc: A) -> Result<Vec<TargetInfo<'a, A>, A>, 
     Ok(rows)
 }
 
-// Adds the rows of these targets to a list of none.
+// Pushes the rows of the built-in targets onto `rows`, which is empty.
 fn push_rows<'a, A: Allocator + Copy>(
     rows: &mut Vec<TargetInfo<'a, A>, A>,
     alloc: A,
@@ -184,8 +170,8 @@ fn push_rows<'a, A: Allocator + Copy>(
     push_apple(rows, alloc, TVOS, "tvos", None)
 }
 
-// Adds a target of Apple's with this triple and operating system. The variant, if there is one,
-// is its ABI and its environment.
+// Pushes a target of Apple with the triple and the operating system. `variant` is both its ABI and
+// its environment.
 fn push_apple<'a, A: Allocator + Copy>(
     rows: &mut Vec<TargetInfo<'a, A>, A>,
     alloc: A,
@@ -197,8 +183,7 @@ fn push_apple<'a, A: Allocator + Copy>(
         triple.now os.now (option_copied variant.entry) (option_copied variant.entry) ∷ []) }
 {
     let families = SortedList::unix(alloc)?;
-    let widths = SortedList::atomic_8_16_32_64_128_ptr(alloc);
-    let (families, has_atomics) = beside(families, widths)?;
+    let has_atomics = SortedList::atomic_8_16_32_64_128_ptr(alloc)?;
     let (abi, env) = match variant {
         Some(name) => (Some(Abi::new_const(name)), Some(Env::new_const(name))),
         None => (None, None),
@@ -216,5 +201,6 @@ fn push_apple<'a, A: Allocator + Copy>(
         has_atomics,
         panic: Panic::unwind(),
     };
-    push(rows, Ok(row))
+    rows.push(row)?;
+    Ok(())
 }

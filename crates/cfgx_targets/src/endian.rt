@@ -1,4 +1,4 @@
-//! The order in which a target stores the bytes of a number.
+//! Byte orders.
 
 use crate::reading::read_endian;
 use cfgx_syntax::error::Reason;
@@ -6,17 +6,17 @@ use std::str::FromStr;
 
 mod order;
 
-/// A byte order. The variants are spelled as the values of `target_endian`, and `big` is below
-/// `little`.
+/// The order in which a target stores the bytes of a number. The variants are spelled like the
+/// values of `target_endian`, and `big` is below `little`.
 #[derive(Clone, Copy, Debug, PartialEq, Eq, Hash)]
 pub enum Endian {
-    /// The highest byte first.
+    /// The highest byte comes first.
     big,
-    /// The lowest byte first.
+    /// The lowest byte comes first.
     little,
 }
 
-/// Reads the names `big` and `little`, letter for letter. The error of any other text names both.
+/// Reads `big` or `little`, letter for letter. The error of any other text has both names.
 impl FromStr for Endian {
     ghost use Rattle.cfgx_targets.specs.Endian.{ReadsEndian};
 

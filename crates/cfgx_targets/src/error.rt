@@ -1,4 +1,4 @@
-//! What is wrong with the text of an atomic's width.
+//! The error for a text that names no width of atomics.
 
 ghost use Rattle.std.specs.Prelude.{◌≡◌, ◌++◌, IfOk, Some, codes};
 
@@ -7,7 +7,7 @@ use std::alloc::{AllocError, Allocator, Global};
 use std::fmt;
 use std::marker::Model;
 
-// Marks a text that should have named a width of atomics.
+// Marks a field as a text that names no width of atomics.
 #[derive(Drop)]
 struct WidthKind;
 
@@ -29,9 +29,8 @@ impl<A: Allocator> Model for HasAtomicParseError<A> {
 }
 
 impl<A: Allocator> HasAtomicParseError<A> {
-    /// The fault of this text, which is copied into `alloc`.
-    ///
-    /// The error is that `alloc` refused the copy.
+    /// Returns the error for `text`, which is copied into `alloc`, or `AllocError` if `alloc`
+    /// refuses the copy.
     pub(crate) fn new(alloc: A, text: &str) -> Result<Self, AllocError>
         ensures { IfOk result (λ error. error ≡ text.now) }
     {
@@ -40,9 +39,8 @@ impl<A: Allocator> HasAtomicParseError<A> {
         })
     }
 
-    /// A fault equal to this one, whose text is copied into `alloc`.
-    ///
-    /// The error is that `alloc` refused the copy. This fault stays as it was either way.
+    /// Returns an error equal to this one, whose text is copied into `alloc`, or `AllocError` if
+    /// `alloc` refuses the copy.
     pub fn try_clone(&self, alloc: A) -> Result<Self, AllocError>
         ensures { IfOk result (λ copy. copy ≡ self.now) }
     {

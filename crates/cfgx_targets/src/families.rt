@@ -1,15 +1,13 @@
-//! The families of a target.
+//! Lists of families.
 
-ghost use Rattle.std.specs.Prelude.{◌≡◌, ◌↔◌, ◌∷◌, ◌++◌, [], Contains, IfOk, IsSorted, IsTrue};
-ghost use Rattle.std.specs.Prelude.{OnOk};
+ghost use Rattle.std.specs.Prelude.{◌≡◌, ◌↔◌, Contains, IfOk, IsSorted, IsTrue};
 
 use crate::list::{Member, SortedList, are_sorted};
-use crate::made::push;
 use cfgx_fields::Family;
 use std::alloc::{AllocError, Allocator, Global};
 use std::borrow::CowSlice;
 
-/// A sorted list of families, in which contracts see their texts.
+/// A sorted list of families. Contracts see their texts.
 pub type Families<'a, A = Global> = SortedList<'a, Family<'a, A>, A>;
 
 impl<A: Allocator> Member for Family<'_, A> {
@@ -26,14 +24,14 @@ impl<A: Allocator> Member for Family<'_, A> {
 }
 
 impl<'a, A: Allocator> SortedList<'a, Family<'a, A>, A> {
-    /// Whether no family is below the one before it.
+    /// Returns whether no family is below the one before it.
     pub fn is_sorted(families: &[Family<'_, A>]) -> bool
         ensures { IsTrue result ↔ IsSorted ⟦<Family<'a, A> as Ord>⟧.cmp families.now }
     {
         are_sorted(families)
     }
 
-    /// Whether a member has the text of this family.
+    /// Returns whether a member has the text of `family`.
     pub fn contains(&self, family: &Family<'_>) -> bool
         ensures { IsTrue result ↔ Contains self.now family.now }
     {
@@ -43,10 +41,10 @@ impl<'a, A: Allocator> SortedList<'a, Family<'a, A>, A> {
             .is_ok()
     }
 
-    /// A list equal to this one. A borrowed list is borrowed again and takes no memory; an owned
-    /// one is copied into `alloc`, with its texts.
+    /// Returns a list equal to this one. A borrowed list is borrowed again, and an owned one is
+    /// copied into `alloc`, with the texts that it owns.
     ///
-    /// The error is that `alloc` refused the copy. This list stays as it was either way.
+    /// Returns an error if `alloc` refuses a copy.
     pub fn try_clone(&self, alloc: A) -> Result<Self, AllocError>
     where
         A: Copy,
@@ -62,7 +60,7 @@ impl<'a, A: Allocator> SortedList<'a, Family<'a, A>, A> {
     }
 }
 
-// Copies of the families, in memory of `alloc`.
+// Returns copies of `families`, in memory of `alloc`.
 fn copied<'a, A: Allocator + Copy>(
     alloc: A,
     families: &[Family<'a, A>],
@@ -71,18 +69,7 @@ fn copied<'a, A: Allocator + Copy>(
 {
     let mut copies = Vec::with_capacity(alloc, families.len())?;
     for family in families {
-        push_copy(&mut copies, alloc, family)?;
+        copies.push(family.try_clone(alloc)?)?;
     }
     Ok(copies)
-}
-
-// Adds a copy of the family, in memory of `alloc`.
-fn push_copy<'a, A: Allocator + Copy>(
-    copies: &mut Vec<Family<'a, A>, A>,
-    alloc: A,
-    family: &Family<'a, A>,
-) -> Result<(), AllocError>
-    ensures { OnOk result (copies.new.items ≡ copies.old.items ++ family.now ∷ []) }
-{
-    push(copies, family.try_clone(alloc))
 }

@@ -1,50 +1,48 @@
-//! What is known of one target.
+//! The description of a target.
 
-ghost use Rattle.std.specs.Prelude.{◌≡◌, IfOk, OnOk};
+ghost use Rattle.std.specs.Prelude.{◌≡◌, IfOk};
 
 use crate::atomics::HasAtomics;
 use crate::endian::Endian;
 use crate::families::Families;
-use crate::list::SortedList;
-use crate::made::put;
 use cfgx_fields::{Abi, Arch, Env, Field, Os, Panic, Triple, Vendor};
 use std::alloc::{AllocError, Allocator, Global};
 use std::hash::Hash;
 
 mod comparing;
 
-/// What the predicates of a target ask for, with texts that are borrowed for `'a` or owned in the
-/// allocator `A`. `None` means that the target has no such value.
+/// The values that the predicates on a target ask for. `None` means that the target has no such
+/// value. Texts are borrowed for `'a` or owned in the allocator `A`.
 ///
-/// Targets are ordered by their fields, the first one first.
+/// Targets are in the order of their first field that differs.
 #[derive(Drop)]
 #[derive_where(Debug, Hash)]
 pub struct TargetInfo<'a, A: Allocator = Global> {
-    /// The name of the whole target.
+    /// The name of the target.
     pub triple: Triple<'a, A>,
-    /// The operating system, as `target_os`.
+    /// The operating system, `target_os`.
     pub os: Option<Os<'a, A>>,
-    /// The binary interface, if it tells targets apart, as `target_abi`.
+    /// The ABI, `target_abi`, if it distinguishes targets.
     pub abi: Option<Abi<'a, A>>,
-    /// The architecture, as `target_arch`.
+    /// The architecture, `target_arch`.
     pub arch: Arch<'a, A>,
-    /// The interface or libc, if it tells targets apart, as `target_env`.
+    /// The ABI or libc, `target_env`, if it distinguishes targets.
     pub env: Option<Env<'a, A>>,
-    /// The vendor, as `target_vendor`.
+    /// The vendor, `target_vendor`.
     pub vendor: Option<Vendor<'a, A>>,
-    /// The families, as `target_family`.
+    /// The families, `target_family`.
     pub families: Families<'a, A>,
-    /// The number of bits of a pointer, as `target_pointer_width`.
+    /// The number of bits of a pointer, `target_pointer_width`.
     pub pointer_width: u8,
-    /// The order of bytes, as `target_endian`.
+    /// The byte order, `target_endian`.
     pub endian: Endian,
-    /// The widths of atomics, as `target_has_atomic`.
+    /// The widths of atomics, `target_has_atomic`.
     pub has_atomics: HasAtomics<A>,
-    /// The panic strategy, as `panic`.
+    /// The panic strategy, `panic`.
     pub panic: Panic<'a, A>,
 }
 
-// The law of the derived hash: equal targets hash alike, since they are the same.
+// The law of the derived hash: equal targets have equal hashes, since they are the same.
 #[derived]
 impl<'a, A> Hash for TargetInfo<'a, A> {
     ghost use Rattle.std.proofs.Common.{refl};
@@ -53,7 +51,7 @@ impl<'a, A> Hash for TargetInfo<'a, A> {
     ghost respects_eq = { λ one other equal. rw (info_eq-same one other equal) refl };
 }
 
-// A copy of what the option holds, in memory of `alloc`.
+// Returns a copy of `field`, in memory of `alloc`.
 fn copied_field<'a, K, A: Allocator>(
     field: &Option<Field<'a, K, A>>,
     alloc: A,
@@ -67,65 +65,25 @@ fn copied_field<'a, K, A: Allocator>(
 }
 
 impl<'a, A: Allocator + Copy> TargetInfo<'a, A> {
-    /// A target equal to this one. What is borrowed is borrowed again and takes no memory; what is
-    /// owned is copied into `alloc`.
+    /// Returns a target equal to this one. Borrowed texts and lists are borrowed again, and owned
+    /// ones are copied into `alloc`.
     ///
-    /// The error is that `alloc` refused a copy. This target stays as it was either way.
+    /// Returns an error if `alloc` refuses a copy.
     pub fn try_clone(&self, alloc: A) -> Result<Self, AllocError>
         ensures { IfOk result (λ copy. copy ≡ self.now) }
     {
-        let mut copy = Self::blank(self.pointer_width, self.endian);
-        let copied = copy.copy_parts(self, alloc);
-        copied.and(Ok(copy))
-    }
-
-    // A target whose texts and lists are still to be put in.
-    fn blank(pointer_width: u8, endian: Endian) -> Self
-        ensures width { result.pointer_width ≡ pointer_width }
-        ensures order { result.endian ≡ endian }
-    {
-        TargetInfo {
-            triple: Field::new_const(""),
-            os: None,
-            abi: None,
-            arch: Field::new_const(""),
-            env: None,
-            vendor: None,
-            families: SortedList::new_const(&[]),
-            pointer_width,
-            endian,
-            has_atomics: SortedList::new_const(&[]),
-            panic: Field::new_const(""),
-        }
-    }
-
-    // Puts in copies of the other's texts and lists.
-    fn copy_parts(&mut self, other: &Self, alloc: A) -> Result<(), AllocError>
-        ensures { OnOk result (self.new ≡ record other.now {
-          pointer_width = self.old.pointer_width;
-          endian = self.old.endian;
-        }) }
-    {
-        put(&mut self.triple, other.triple.try_clone(alloc))?;
-        put(&mut self.arch, other.arch.try_clone(alloc))?;
-        put(&mut self.panic, other.panic.try_clone(alloc))?;
-        put(&mut self.families, other.families.try_clone(alloc))?;
-        put(&mut self.has_atomics, other.has_atomics.try_clone(alloc))?;
-        self.copy_options(other, alloc)
-    }
-
-    // Puts in copies of the other's fields that may be missing.
-    fn copy_options(&mut self, other: &Self, alloc: A) -> Result<(), AllocError>
-        ensures { OnOk result (self.new ≡ record self.old {
-          os = other.now.os;
-          abi = other.now.abi;
-          env = other.now.env;
-          vendor = other.now.vendor;
-        }) }
-    {
-        put(&mut self.os, copied_field(&other.os, alloc))?;
-        put(&mut self.abi, copied_field(&other.abi, alloc))?;
-        put(&mut self.env, copied_field(&other.env, alloc))?;
-        put(&mut self.vendor, copied_field(&other.vendor, alloc))
+        Ok(TargetInfo {
+            triple: self.triple.try_clone(alloc)?,
+            os: copied_field(&self.os, alloc)?,
+            abi: copied_field(&self.abi, alloc)?,
+            arch: self.arch.try_clone(alloc)?,
+            env: copied_field(&self.env, alloc)?,
+            vendor: copied_field(&self.vendor, alloc)?,
+            families: self.families.try_clone(alloc)?,
+            pointer_width: self.pointer_width,
+            endian: self.endian,
+            has_atomics: self.has_atomics.try_clone(alloc)?,
+            panic: self.panic.try_clone(alloc)?,
+        })
     }
 }

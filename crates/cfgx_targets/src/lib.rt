@@ -1,4 +1,4 @@
-//! What a compilation target is, as the conditions of `cfg()` see it.
+//! Compilation targets, as the conditions of `cfg()` see them.
 #![tactic(auto)]
 
 pub mod atomic;
@@ -9,6 +9,5 @@ pub mod error;
 pub mod families;
 pub mod info;
 pub mod list;
-mod made;
 pub mod reading;
 pub mod table;

@@ -1,4 +1,4 @@
-//! Lists whose members stand in order.
+//! Sorted lists.
 
 ghost use Rattle.std.specs.Prelude.{◌≡◌, ◌↔◌, Contains, IfOk, IsPermutation, IsSorted, IsTrue};
 ghost use Rattle.std.specs.Prelude.{List, Some, map, ℕ};
@@ -20,12 +20,12 @@ use std::fmt;
 use std::hash::{Hash, Hasher};
 use std::marker::Model;
 
-/// What may stand in a sorted list: values that compare as equal are the same, and each prints as
-/// a text of its own.
+/// A value that may be in a sorted list: values that compare as equal are the same, and contracts
+/// know what each prints.
 pub trait Member: Ord + Hash + fmt::Debug + fmt::Display + Drop {
     ghost use Rattle.std.specs.declared.cmp.Ordering.TheVariants.{Equal};
 
-    /// The bytes that a member prints.
+    /// The text that a member prints.
     ghost text: { Self → List ℕ };
 
     ghost printed: { (member : Self) → Self.output member ≡ Some (text member) };
@@ -34,8 +34,7 @@ pub trait Member: Ord + Hash + fmt::Debug + fmt::Display + Drop {
 }
 
 /// A sorted list, which may have repeats, borrowed for `'a` or owned in the allocator `A`.
-///
-/// Both behave alike: contracts see the list of its members.
+/// Contracts see the list of its members.
 #[derive(Drop)]
 #[derive_where(Debug)]
 pub struct SortedList<'a, T: Member, A: Allocator = Global> {
@@ -54,9 +53,9 @@ impl<'a, T: Member, A: Allocator> Model for SortedList<'a, T, A> {
 }
 
 impl<'a, T: Member, A: Allocator> SortedList<'a, T, A> {
-    /// The items in order, with repeats kept, in memory of `alloc`.
+    /// Returns the sorted list of `items`, repeats included, in memory of `alloc`.
     ///
-    /// The error is that `alloc` refused it.
+    /// Returns an error if `alloc` refuses it.
     pub fn new<I: Iterator<Item = T>>(alloc: A, items: I) -> Result<Self, AllocError>
         requires can { I.can_next items }
         requires ends { IsFinite (I.remaining items) }
@@ -69,7 +68,7 @@ impl<'a, T: Member, A: Allocator> SortedList<'a, T, A> {
         })
     }
 
-    /// Owns members that are in order.
+    /// Returns the list that owns `items`, which are sorted.
     pub(crate) fn from_sorted(items: Vec<T, A>) -> Self
         requires { IsSorted T.cmp items.items }
         ensures { result ≡ items.items }
@@ -79,7 +78,8 @@ impl<'a, T: Member, A: Allocator> SortedList<'a, T, A> {
         }
     }
 
-    /// Borrows items that are in order, and takes no memory. `is_sorted` is the test for that.
+    /// Returns the list that borrows `items`, which are sorted, and allocates nothing. `is_sorted`
+    /// tests whether items are sorted.
     pub fn new_const(items: &'a [T]) -> Self
         requires { IsSorted T.cmp items.now }
         ensures { result ≡ items.now }
@@ -89,7 +89,7 @@ impl<'a, T: Member, A: Allocator> SortedList<'a, T, A> {
         }
     }
 
-    /// The members, in order.
+    /// Returns the members, in order.
     pub fn as_slice(&self) -> &[T]
         ensures members { result.now ≡ self.now }
         ensures sorted { IsSorted T.cmp result.now }
@@ -97,15 +97,15 @@ impl<'a, T: Member, A: Allocator> SortedList<'a, T, A> {
         self.items.as_slice()
     }
 
-    /// Whether the item is a member.
-    pub(crate) fn holds(&self, item: &T) -> bool
+    /// Returns whether `item` is a member.
+    pub(crate) fn has_member(&self, item: &T) -> bool
         ensures { IsTrue result ↔ Contains self.now item.now }
     {
         self.as_slice().binary_search(item).is_ok()
     }
 }
 
-/// Whether no item is below the one before it.
+/// Returns whether no item is below the one before it.
 pub(crate) fn are_sorted<T: Member>(items: &[T]) -> bool
     ensures { IsTrue result ↔ IsSorted T.cmp items.now }
 {
@@ -120,7 +120,7 @@ impl<T: Member, A: Allocator> PartialEq for SortedList<'_, T, A> {
     fn eq(&self, other: &Self) -> bool
         ensures value { result ≡ pointwise T.eq self.now other.now }
         ensures same { IsTrue result ↔ (self.now ≡ other.now) }
-        // Lists that are made of items are equal if these are rearrangements of each other.
+        // Lists are equal if the items that they were made of are rearrangements of each other.
         ensures rearranged { (items others : List T) → IsSortedFrom T.cmp items self.now
             → IsSortedFrom T.cmp others other.now → (IsTrue result ↔ IsPermutation items others) }
     {
@@ -168,7 +168,7 @@ impl<T: Member, A: Allocator> Hash for SortedList<'_, T, A> {
     }
 }
 
-/// The members between braces, with a comma and a space between two.
+/// Prints the members between braces, with a comma and a space between two.
 impl<T: Member, A: Allocator> fmt::Display for SortedList<'_, T, A> {
     ghost output = { λ list. Some (list_text (map T.text list)) };
 
@@ -179,7 +179,7 @@ impl<T: Member, A: Allocator> fmt::Display for SortedList<'_, T, A> {
     }
 }
 
-// The members, with a comma and a space between two.
+// Writes `members`, with a comma and a space between two.
 fn write_members<T: Member, W: fmt::Write>(f: &mut fmt::Formatter<W>, members: &[T]) -> fmt::Result
     ensures { DisplaysOnOk W.write_str_gives f.old result
         (Some (separated_text (map T.text members.now))) f.new }
@@ -193,7 +193,7 @@ fn write_members<T: Member, W: fmt::Write>(f: &mut fmt::Formatter<W>, members: &
     }
 }
 
-// Each of the members, after a comma and a space.
+// Writes each of `members` after a comma and a space.
 fn write_others<T: Member, W: fmt::Write>(f: &mut fmt::Formatter<W>, members: &[T]) -> fmt::Result
     ensures { DisplaysOnOk W.write_str_gives f.old result
         (Some (others_text (map T.text members.now))) f.new }
@@ -204,8 +204,8 @@ fn write_others<T: Member, W: fmt::Write>(f: &mut fmt::Formatter<W>, members: &[
     Ok(())
 }
 
-// The items in order. They are pushed one by one, since `collect` asks for less memory after a
-// refused growth.
+// Returns the items in order. It pushes them one by one, since `collect` asks for less memory after
+// `alloc` refused a growth.
 fn sorted<T: Ord + Drop, A: Allocator, I: Iterator<Item = T>>(
     alloc: A,
     items: I,

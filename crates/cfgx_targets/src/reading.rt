@@ -1,4 +1,4 @@
-//! Readers of the values of target keys. None of them takes memory.
+//! Readers of the values of target keys. They allocate nothing.
 
 ghost use Rattle.std.specs.Prelude.{◌≡◌, ◌^◌};
 ghost use Rattle.cfgx_targets.specs.Endian.{endian_named};
@@ -8,23 +8,23 @@ ghost use Rattle.cfgx_targets.specs.Number.{read_below};
 use crate::atomic::HasAtomic;
 use crate::endian::Endian;
 
-/// The number that the text writes, at most 255: at most one `+`, and then ASCII digits. `None`
-/// if it writes none.
+/// Returns the number that `text` writes, at most 255: at most one `+`, and then ASCII digits.
+/// Returns `None` for any other text.
 pub fn read_u8(text: &str) -> Option<u8>
     ensures { result ≡ read_below (2 ^ 8) text.now }
 {
     text.parse::<u8>().ok()
 }
 
-/// The number that the text writes, at most 65535: at most one `+`, and then ASCII digits. `None`
-/// if it writes none.
+/// Returns the number that `text` writes, at most 65535: at most one `+`, and then ASCII digits.
+/// Returns `None` for any other text.
 pub fn read_u16(text: &str) -> Option<u16>
     ensures { result ≡ read_below (2 ^ 16) text.now }
 {
     text.parse::<u16>().ok()
 }
 
-/// The byte order that the text names, or `None`.
+/// Returns the byte order that `text` names, if it names one.
 #[tactic(auto, unfolding(crate::specs::Endian::endian_named))]
 pub fn read_endian(text: &str) -> Option<Endian>
     ensures { result ≡ endian_named text.now }
@@ -36,8 +36,8 @@ pub fn read_endian(text: &str) -> Option<Endian>
     }
 }
 
-/// The width of atomics that the text names: a number as `read_u16` reads it, or `ptr`. `None` for
-/// any other text.
+/// Returns the width of atomics that `text` names: a number that `read_u16` reads, or `ptr`.
+/// Returns `None` for any other text.
 #[tactic(auto, unfolding(crate::specs::HasAtomic::atomic_named))]
 pub fn read_has_atomic(text: &str) -> Option<HasAtomic>
     ensures { result ≡ atomic_named text.now }

@@ -1,4 +1,4 @@
-//! Targets, found by their triples.
+//! Tables of targets.
 
 ghost use Rattle.std.specs.Prelude.{◌≡◌, IfErr, IfOk, MatchOption, option_copied};
 ghost use Rattle.cfgx_targets.specs.Table.{AreIncreasing, IsFirstNotAbove, row_with};
@@ -8,8 +8,8 @@ use std::alloc::{Allocator, Global};
 use std::fmt;
 use std::marker::Model;
 
-/// Targets in strictly increasing order of their triples, compared as bytes. Contracts see the list
-/// of rows.
+/// Targets in strictly increasing order of their triples, which are compared as bytes. Contracts
+/// see the list of rows.
 #[derive(Drop)]
 pub struct TargetTable<'a, A: Allocator = Global> {
     rows: Vec<TargetInfo<'a, A>, A>,
@@ -30,20 +30,17 @@ impl<'a, A: Allocator> Model for TargetTable<'a, A> {
 /// Rows whose triples do not strictly increase.
 #[derive(Drop)]
 pub struct TableError<'a, A: Allocator = Global> {
-    /// Where the order first breaks: the index of a row whose triple is equal to the one before it,
-    /// or below.
+    /// The index of the first row whose triple is not above the one before.
     pub index: usize,
-    /// All rows, in the order of the argument.
+    /// All rows, in their order.
     pub rows: Vec<TargetInfo<'a, A>, A>,
 }
 
 impl<'a, A: Allocator> TargetTable<'a, A> {
-    /// Makes a table of these rows, without taking memory.
+    /// Returns the table of `rows`. It allocates nothing.
     ///
-    /// # Errors
-    ///
-    /// `TableError`: the triples do not strictly increase. It contains the rows, so that the caller
-    /// can sort them and try again.
+    /// Returns an error if the triples do not strictly increase. The error has the rows, so that
+    /// the caller can sort them and try again.
     pub fn from_rows(rows: Vec<TargetInfo<'a, A>, A>) -> Result<Self, TableError<'a, A>>
         ensures kept { IfOk result (λ table. table ≡ rows.entry.items) }
         ensures increasing { IfOk result (λ table. AreIncreasing table) }
@@ -56,7 +53,7 @@ impl<'a, A: Allocator> TargetTable<'a, A> {
         }
     }
 
-    /// The table of rows that are known to be in order.
+    /// Returns the table of `rows`, whose triples increase.
     pub(crate) fn from_increasing(rows: Vec<TargetInfo<'a, A>, A>) -> Self
         requires { AreIncreasing rows.items }
         ensures { result ≡ rows.entry.items }
@@ -64,7 +61,7 @@ impl<'a, A: Allocator> TargetTable<'a, A> {
         TargetTable { rows }
     }
 
-    /// The rows, in the order of their triples.
+    /// Returns the rows, in the order of their triples.
     pub fn rows(&self) -> &[TargetInfo<'a, A>]
         ensures rows { result.now ≡ self.now }
         ensures increasing { AreIncreasing result.now }
@@ -73,7 +70,7 @@ impl<'a, A: Allocator> TargetTable<'a, A> {
     }
 }
 
-// Where the triples first fail to increase.
+// Returns the index of the first row whose triple is not above the one before.
 fn first_not_above<A: Allocator>(rows: &[TargetInfo<'_, A>]) -> Option<usize>
     ensures { MatchOption result (AreIncreasing rows.now) (IsFirstNotAbove rows.now) }
 {
@@ -87,7 +84,7 @@ fn first_not_above<A: Allocator>(rows: &[TargetInfo<'_, A>]) -> Option<usize>
     None
 }
 
-/// The row of the table with this triple, or `None` if no row has it.
+/// Returns the row of `table` with `triple`, or `None` if no row has it.
 pub fn get_builtin_target_by_triple<'t, 'a, A: Allocator>(
     table: &'t TargetTable<'a, A>,
     triple: &str,

@@ -1,5 +1,5 @@
-//! The values of a condition over one list of answers, however they are asked for.
-use crate::holding::holds;
+//! The value of a condition over one list of answers, by each call that computes it.
+use crate::checking::is_ok_true;
 use cfg_expr::expr::Logic;
 use cfg_expr::expr::logic::Kleene64;
 use cfg_expr::{Expression, Predicate};
@@ -8,7 +8,7 @@ use std::alloc::{AllocError, Global};
 /// True, false, or unknown.
 pub type Answer = Option<bool>;
 
-/// What a digit of a row stands for: `1`, `0`, or anything else for unknown.
+/// The answer of a digit: true for `1`, false for `0`, and unknown for any other byte.
 pub fn answer_of(digit: u8) -> Answer {
     match digit {
         b'1' => Some(true),
@@ -17,8 +17,8 @@ pub fn answer_of(digit: u8) -> Answer {
     }
 }
 
-/// The same answer in each lane.
-pub fn in_each(answer: Answer) -> Kleene64 {
+/// The lanes that all hold `answer`.
+pub fn in_each_lane(answer: Answer) -> Kleene64 {
     match answer {
         Some(true) => Kleene64::top(),
         Some(false) => Kleene64::bottom(),
@@ -26,8 +26,8 @@ pub fn in_each(answer: Answer) -> Kleene64 {
     }
 }
 
-/// Whether the digits stand for the lanes, one for each, and the last one for all others.
-pub fn are_lanes(lanes: Kleene64, digits: &[u8]) -> bool {
+/// Whether each lane holds the answer of its digit. The last digit stands for all lanes past it.
+pub fn lanes_match_digits(lanes: Kleene64, digits: &[u8]) -> bool {
     for i in 0..64 {
         let digit = digits.get(i).or(digits.last());
         if lanes.lane(i) != digit.copied().and_then(answer_of) {
@@ -37,8 +37,9 @@ pub fn are_lanes(lanes: Kleene64, digits: &[u8]) -> bool {
     true
 }
 
-/// The value over the answers, if one after another is asked for, and no more.
-pub fn value_with<T: Logic + Copy>(
+/// Evaluates over `answers`, one for each question in turn. Returns `None` if there are more or
+/// fewer questions.
+pub fn eval_over_answers<T: Logic + Copy>(
     alloc: Global,
     expression: &Expression,
     answers: &[T],
@@ -53,8 +54,8 @@ pub fn value_with<T: Logic + Copy>(
     (count == answers.len()).then_some(value)
 }
 
-/// The value in lanes, if there is one answer for each predicate.
-pub fn value_in_lanes(
+/// Evaluates in lanes. Returns `None` unless there is one answer for each predicate.
+pub fn eval_in_lanes(
     alloc: Global,
     expression: &Expression,
     answers: &[Kleene64],
@@ -66,8 +67,8 @@ pub fn value_in_lanes(
     }
 }
 
-// Whether it has each answer that is known.
-fn is_filling(filling: &[bool], answers: &[Answer]) -> bool {
+// Whether `filling` keeps each known answer.
+fn fills(filling: &[bool], answers: &[Answer]) -> bool {
     for (value, answer) in filling.iter().zip(answers) {
         if answer.unwrap_or(*value) != *value {
             return false;
@@ -76,7 +77,7 @@ fn is_filling(filling: &[bool], answers: &[Answer]) -> bool {
     filling.len() == answers.len()
 }
 
-// Whether this is a filling of the answers that leads to the value.
+// Whether `filling` fills `answers` and makes the condition `value`.
 fn leads_to(
     alloc: Global,
     expression: &Expression,
@@ -84,11 +85,11 @@ fn leads_to(
     filling: &[bool],
     value: bool,
 ) -> bool {
-    value_with(alloc, expression, filling) == Some(value) && is_filling(filling, answers)
+    eval_over_answers(alloc, expression, filling) == Some(value) && fills(filling, answers)
 }
 
-// Whether there are two fillings exactly if the value is unknown, one for each truth value.
-fn are_fillings(
+// Whether `polar_fillings` returns two fillings exactly if `value` is unknown, one for each value.
+fn polar_fillings_show(
     alloc: Global,
     expression: &Expression,
     answers: &[Answer],
@@ -99,32 +100,43 @@ fn are_fillings(
     }
     let fillings = expression.polar_fillings(alloc, answers)?;
     Ok(match &fillings {
-        Some((one, other)) => {
+        Some((if_true, if_false)) => {
             value.is_none()
-                && leads_to(alloc, expression, answers, one.as_slice(), true)
-                && leads_to(alloc, expression, answers, other.as_slice(), false)
+                && leads_to(alloc, expression, answers, if_true.as_slice(), true)
+                && leads_to(alloc, expression, answers, if_false.as_slice(), false)
         }
         None => value.is_some(),
     })
 }
 
-// Whether the value over these answers in each lane is this one in each lane.
-fn agrees_in_lanes(
+/// The answers, each in all lanes.
+pub fn lanes_of(alloc: Global, answers: &[Answer]) -> Result<Vec<Kleene64>, AllocError> {
+    let mut lanes = Vec::with_capacity(alloc, answers.len())?;
+    for answer in answers {
+        lanes.push(in_each_lane(*answer))?;
+    }
+    Ok(lanes)
+}
+
+// Whether `eval_lanes` returns `value` in each lane if each answer stands in all lanes.
+fn lanes_return(
     alloc: Global,
     expression: &Expression,
     answers: &[Answer],
     value: Answer,
 ) -> Result<bool, AllocError> {
-    let mut lanes = Vec::with_capacity(alloc, answers.len())?;
-    for answer in answers {
-        lanes.push(in_each(*answer))?;
-    }
-    Ok(value_in_lanes(alloc, expression, lanes.as_slice()) == Some(in_each(value)))
+    let lanes = lanes_of(alloc, answers)?;
+    Ok(eval_in_lanes(alloc, expression, lanes.as_slice()) == Some(in_each_lane(value)))
 }
 
-/// Whether this is the value over the answers, by each of the three calls.
-pub fn agree(alloc: Global, expression: &Expression, answers: &[Answer], value: Answer) -> bool {
-    value_with(alloc, expression, answers) == Some(value)
-        && holds(agrees_in_lanes(alloc, expression, answers, value))
-        && holds(are_fillings(alloc, expression, answers, value))
+/// Whether `eval`, `eval_lanes` and `polar_fillings` all find `value` over `answers`.
+pub fn each_call_finds(
+    alloc: Global,
+    expression: &Expression,
+    answers: &[Answer],
+    value: Answer,
+) -> bool {
+    eval_over_answers(alloc, expression, answers) == Some(value)
+        && is_ok_true(lanes_return(alloc, expression, answers, value))
+        && is_ok_true(polar_fillings_show(alloc, expression, answers, value))
 }

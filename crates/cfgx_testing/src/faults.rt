@@ -3,11 +3,11 @@ use cfg_expr::Expression;
 use cfg_expr::error::{Failure, ParseError, Reason};
 use std::alloc::{AllocError, Global};
 
-// The terms between back quotes and brackets.
+// The terms in back quotes, between brackets.
 fn terms_text(alloc: Global, terms: &[&str]) -> Result<String, AllocError> {
     let mut text = String::from_str(alloc, "[")?;
-    for (place, term) in terms.iter().enumerate() {
-        text.push_str(if place == 0 { "`" } else { " `" })?;
+    for (i, term) in terms.iter().enumerate() {
+        text.push_str(if i == 0 { "`" } else { " `" })?;
         text.push_str(term)?;
         text.push_str("`")?;
     }
@@ -15,8 +15,8 @@ fn terms_text(alloc: Global, terms: &[&str]) -> Result<String, AllocError> {
     Ok(text)
 }
 
-/// A fault as rows write it: `UnopenedParens at 3..4`, `InvalidNot(2) at 0..9`, and for
-/// `Unexpected` its terms, as in ``U[`=` `,` `)`] at 2..3``.
+/// A fault as rows write it, such as `UnopenedParens at 3..4` or `InvalidNot(2) at 0..9`. For
+/// `Unexpected` rows write the terms, such as ``U[`=` `,` `)`] at 2..3``.
 pub fn fault_text(alloc: Global, error: &ParseError) -> Result<String, AllocError> {
     let (start, end) = (error.span.start, error.span.end);
     match error.reason {
@@ -28,14 +28,14 @@ pub fn fault_text(alloc: Global, error: &ParseError) -> Result<String, AllocErro
     }
 }
 
-// A fault and the text in which it is, as rows write them: `UnopenedParens at 3..4 | key)`.
+// A fault and its text, as rows write them, such as `UnopenedParens at 3..4 | key)`.
 fn fault_and_original(alloc: Global, error: &ParseError) -> Result<String, AllocError> {
     let fault = fault_text(alloc, error)?;
     let original = error.original.as_str();
     format!(in alloc; "{fault} | {original}")
 }
 
-/// The fault of a text and the stripped text as rows write them, or `accepted`.
+/// The fault of `text` and the stripped text, as rows write them, or `accepted`.
 pub fn fault_of(alloc: Global, text: &str) -> Result<String, AllocError> {
     match Expression::parse(alloc, text) {
         Err(Failure::Parse(error)) => fault_and_original(alloc, &error),
@@ -44,18 +44,18 @@ pub fn fault_of(alloc: Global, text: &str) -> Result<String, AllocError> {
     }
 }
 
-/// Whether rows write the fault so, and this is its stripped text.
-pub fn is_fault(alloc: Global, error: &ParseError, original: &str, wanted: &str) -> bool {
+/// Whether rows write the fault as `wanted`, and its text is `original`.
+pub fn fault_matches(alloc: Global, error: &ParseError, original: &str, wanted: &str) -> bool {
     match fault_text(alloc, error) {
         Ok(fault) => fault.as_str() == wanted && error.original.as_str() == original,
         Err(_) => false,
     }
 }
 
-/// Whether the text is faulty, rows write its fault so, and it is stripped to `original`.
-pub fn has_fault(alloc: Global, text: &str, original: &str, wanted: &str) -> bool {
+/// Whether `text` has a fault that rows write as `wanted`, in the stripped text `original`.
+pub fn text_has_fault(alloc: Global, text: &str, original: &str, wanted: &str) -> bool {
     match Expression::parse(alloc, text) {
-        Err(Failure::Parse(error)) => is_fault(alloc, &error, original, wanted),
+        Err(Failure::Parse(error)) => fault_matches(alloc, &error, original, wanted),
         _ => false,
     }
 }

@@ -1,12 +1,12 @@
-//! Values and fillings, as rows write them.
-use crate::answers::{Answer, agree, answer_of};
-use crate::holding::holds;
+//! Decisions and fillings, as rows write them.
+use crate::answers::{Answer, answer_of, each_call_finds, lanes_of};
+use crate::checking::{is_ok_true, value_equals};
 use cfg_expr::error::Failure;
 use cfg_expr::expr::{Condition, ConditionReader};
 use cfg_expr::{Decision, Expression};
 use std::alloc::{AllocError, Allocator, Global};
 
-/// The answers that the digits stand for.
+/// The answers of `digits`.
 pub fn answers_of(alloc: Global, digits: &str) -> Result<Vec<Answer>, AllocError> {
     let mut answers = Vec::with_capacity(alloc, digits.len())?;
     for digit in digits.as_bytes() {
@@ -15,8 +15,8 @@ pub fn answers_of(alloc: Global, digits: &str) -> Result<Vec<Answer>, AllocError
     Ok(answers)
 }
 
-// Whether this is the filling of the digits.
-fn has_digits(filling: &[bool], digits: &str) -> bool {
+// Whether `filling` is the filling of `digits`.
+fn filling_matches(filling: &[bool], digits: &str) -> bool {
     for (value, digit) in filling.iter().zip(digits.as_bytes()) {
         if answer_of(*digit) != Some(*value) {
             return false;
@@ -25,92 +25,119 @@ fn has_digits(filling: &[bool], digits: &str) -> bool {
     filling.len() == digits.len()
 }
 
-// Whether a row tells these two fillings so.
-fn are_fillings_of_row(with_true: &[bool], with_false: &[bool], told: &str) -> bool {
-    match told.split_once(' ') {
-        Some((one, other)) => has_digits(with_true, one) && has_digits(with_false, other),
+// Whether the two fillings are those of `row`, which a space separates.
+fn both_fillings_match(if_true: &[bool], if_false: &[bool], row: &str) -> bool {
+    match row.split_once(' ') {
+        Some((one, other)) => filling_matches(if_true, one) && filling_matches(if_false, other),
         None => false,
     }
 }
 
-/// Whether a row tells this decision: its value if it is known, or else the two fillings.
-pub fn is_decided<A: Allocator>(decision: &Decision<A>, told: &str) -> bool {
+/// Whether `decision` is that of `row`: a known value, or two fillings.
+pub fn decision_matches<A: Allocator>(decision: &Decision<A>, row: &str) -> bool {
     match decision {
-        Decision::Known(value) => told == if *value { "true" } else { "false" },
+        Decision::Known(value) => row == if *value { "true" } else { "false" },
         Decision::Unknown { if_true, if_false } => {
-            are_fillings_of_row(if_true.as_slice(), if_false.as_slice(), told)
+            both_fillings_match(if_true.as_slice(), if_false.as_slice(), row)
         }
     }
 }
 
-// Whether a row tells these fillings, or a value if there are none.
-fn has_fillings_of_row(found: &Option<(Vec<bool>, Vec<bool>)>, told: &str) -> bool {
-    match found {
-        Some((one, other)) => are_fillings_of_row(one.as_slice(), other.as_slice(), told),
-        None => !told.contains(' '),
+// Whether `fillings` are those of `row`. A row with a known value has none.
+fn fillings_match(fillings: &Option<(Vec<bool>, Vec<bool>)>, row: &str) -> bool {
+    match fillings {
+        Some((one, other)) => both_fillings_match(one.as_slice(), other.as_slice(), row),
+        None => !row.contains(' '),
     }
 }
 
-// Whether `polar_fillings` and `decide` answer what a row tells.
-fn answers_as_row(
+// Whether `polar_fillings` and `decide` of an expression return what `row` says.
+fn expression_matches(
     alloc: Global,
     expression: &Expression,
     answers: &[Answer],
-    told: &str,
+    row: &str,
 ) -> Result<bool, AllocError> {
     if expression.predicates().left() != answers.len() {
         return Ok(false);
     }
     Ok(
-        has_fillings_of_row(&expression.polar_fillings(alloc, answers)?, told)
-            && is_decided(&expression.decide(alloc, answers)?, told),
+        fillings_match(&expression.polar_fillings(alloc, answers)?, row)
+            && decision_matches(&expression.decide(alloc, answers)?, row),
     )
 }
 
-// Whether `decide` of the condition answers what a row tells, also in the memory of an earlier
+// Whether `polar_fillings` and `eval_lanes` of a condition return what those of the expression do.
+fn condition_agrees(
+    alloc: Global,
+    condition: &Condition<'_>,
+    expression: &Expression,
+    answers: &[Answer],
+) -> Result<bool, AllocError> {
+    let count = answers.len();
+    if condition.predicates().left() != count || expression.predicates().left() != count {
+        return Ok(false);
+    }
+    let lanes = lanes_of(alloc, answers)?;
+    let value = condition.eval_lanes(alloc, lanes.as_slice())?;
+    let fillings = condition.polar_fillings(alloc, answers)?;
+    Ok(
+        value == expression.eval_lanes(alloc, lanes.as_slice())?
+            && value_equals(expression.polar_fillings(alloc, answers), &fillings)?,
+    )
+}
+
+// Whether `decide` of a condition finds the decision of `row`, also in the memory of an earlier
 // decision.
-fn decides(
+fn condition_decides(
     alloc: Global,
     condition: &Condition<'_>,
     answers: &[Answer],
-    told: &str,
+    row: &str,
 ) -> Result<bool, AllocError> {
     if condition.predicates().left() != answers.len() {
         return Ok(false);
     }
-    let decision = condition.decide(alloc, answers, Decision::Known(false))?;
-    let is_right = is_decided(&decision, told);
-    let again = condition.decide(alloc, answers, decision)?;
-    Ok(is_right && is_decided(&again, told))
+    let mut decision = Decision::default();
+    condition.decide(alloc, answers, &mut decision)?;
+    let is_first_right = decision_matches(&decision, row);
+    condition.decide(alloc, answers, &mut decision)?;
+    Ok(is_first_right && decision_matches(&decision, row))
 }
 
-// Whether it does for the condition that the reader reads.
-fn reads_and_decides<'a>(
+// Reads the text, and checks the calls of the condition.
+fn reader_decides<'a>(
     alloc: Global,
     reader: &mut ConditionReader<'a>,
-    text: &'a str,
-    answers: &[Answer],
-    told: &str,
+    expression: &Expression,
+    (text, answers, row): (&'a str, &[Answer], &str),
 ) -> Result<bool, Failure> {
     let condition = reader.read(text)?;
-    Ok(decides(alloc, &condition, answers, told)?)
+    Ok(
+        condition_decides(alloc, &condition, answers, row)?
+            && condition_agrees(alloc, &condition, expression, answers)?,
+    )
 }
 
-// Whether it does for the condition that a new reader reads.
-fn is_decided_by_reader(alloc: Global, text: &str, answers: &[Answer], told: &str) -> bool {
+// Whether a new reader reads the text of `row` as a condition whose calls return what `row` says.
+fn new_reader_decides(
+    alloc: Global,
+    expression: &Expression,
+    row: (&str, &[Answer], &str),
+) -> bool {
     let mut reader = ConditionReader::new(alloc);
-    holds(reads_and_decides(alloc, &mut reader, text, answers, told))
+    is_ok_true(reader_decides(alloc, &mut reader, expression, row))
 }
 
-/// Whether a row tells what the text is over these answers, of which there are as many as
-/// predicates, by each call.
-pub fn is_told(alloc: Global, text: &str, digits: &str, told: &str) -> Option<bool> {
+/// Whether each call of an expression and of a condition with this text returns, over the answers
+/// of `digits`, what `row` says. Returns `None` if the text is faulty or memory runs out.
+pub fn each_call_decides(alloc: Global, text: &str, digits: &str, row: &str) -> Option<bool> {
     let answers = answers_of(alloc, digits).ok()?;
     let expression = Expression::parse(alloc, text).ok()?;
     let answers = answers.as_slice();
     Some(
-        agree(alloc, &expression, answers, told.parse().ok())
-            && holds(answers_as_row(alloc, &expression, answers, told))
-            && is_decided_by_reader(alloc, text, answers, told),
+        each_call_finds(alloc, &expression, answers, row.parse().ok())
+            && is_ok_true(expression_matches(alloc, &expression, answers, row))
+            && new_reader_decides(alloc, &expression, (text, answers, row)),
     )
 }

@@ -1,25 +1,25 @@
-//! An allocator for tests, which refuses one growth of its holder's choice.
+//! An allocator for tests that refuses a growth on demand.
 ghost use Rattle.std.specs.Prelude.{◌≡◌};
 
 use std::alloc::{AllocError, Allocator};
 use std::cell::Cell;
 
-/// Refuses every growth, as an argument of `Refusing::refuse`.
+/// The argument by which `Refusing::refuse` refuses every growth.
 pub const EVERY: u64 = u64::MAX;
 
-/// Which growth is refused next, and how many growths there were so far.
+/// The growth that is refused next, and the numbers of growths so far.
 #[derive(Clone, Copy)]
 struct Countdown {
-    // How many growths from here the refused one is, and 0 if none is ahead.
+    // 1 if the next growth is refused, 2 if the one after it is, and so on; 0 if none is.
     ahead: u64,
-    // How many growths were asked for.
+    // The number of growths that were asked for.
     asked: u64,
-    // How many of them were refused.
+    // The number of growths that were refused.
     refused: u64,
 }
 
-/// Asks `inner` for each growth but one, or but all, and frees by it. A growth is any block that is
-/// wanted, a first one or one to move to, by whoever holds a `&`.
+/// An allocator that passes each call to `inner`, except the growths that it refuses. A growth is
+/// any call for a block, also for one to move to.
 #[derive(Drop)]
 pub struct Refusing<B: Allocator> {
     inner: B,
@@ -27,7 +27,7 @@ pub struct Refusing<B: Allocator> {
 }
 
 impl<B: Allocator> Refusing<B> {
-    /// Lets each growth through until `refuse` is called.
+    /// Returns an allocator that refuses nothing until `refuse` is called.
     pub fn new(inner: B) -> Refusing<B> {
         Refusing {
             inner,
@@ -39,39 +39,39 @@ impl<B: Allocator> Refusing<B> {
         }
     }
 
-    /// Sets the countdown: the `n`-th growth from now on is refused, 1 being the next one, and
-    /// those before and after it are let through. With 0 all are, and with `EVERY` none is.
+    /// Refuses the `n`th growth from now on and no other: the next one if `n` is 1, none if `n` is 0,
+    /// and each one if `n` is `EVERY`.
     pub fn refuse(&self, n: u64) {
         let mut countdown = self.countdown.get();
         countdown.ahead = n;
         self.countdown.set(countdown);
     }
 
-    /// The inner allocator.
+    /// Returns the inner allocator.
     pub fn into_inner(self) -> B
         ensures { result ≡ self.inner }
     {
         self.inner
     }
 
-    /// Whether no refusal lies ahead.
+    /// Whether the growth that `refuse` named was refused. True if it named none.
     pub fn has_refused(&self) -> bool {
         self.countdown.get().ahead == 0
     }
 
-    /// How many growths were asked for since it was made, refused ones among them.
+    /// The number of growths that were asked for, also those that were refused.
     pub fn asked_growths(&self) -> u64 {
         self.countdown.get().asked
     }
 
-    /// How many growths were refused since it was made.
+    /// The number of growths that were refused.
     pub fn refused_growths(&self) -> u64 {
         self.countdown.get().refused
     }
 }
 
-// Takes one growth off the countdown. True if that ends it, or if every growth is refused, which no
-// clause can say: a cell's number is no part of its value.
+// Counts a growth. Returns whether it is refused. No clause can say when: the content of a cell is
+// no part of its value.
 fn ends_countdown(countdown: &Cell<Countdown>) -> bool {
     let Countdown {
         ahead,
@@ -92,7 +92,7 @@ fn ends_countdown(countdown: &Cell<Countdown>) -> bool {
 }
 
 unsafe impl<B: Allocator> Allocator for Refusing<B> {
-    // A block is the inner allocator's, and so is the right to free it.
+    // The right to free a block is that of the inner allocator.
     ghost dealloc_token = { λ refusing. B.dealloc_token refusing.inner };
 
     fn allocate(&self, size: usize, align: usize) -> Result<*mut u8, AllocError> {

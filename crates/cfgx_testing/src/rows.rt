@@ -1,18 +1,18 @@
-//! Tables of rows as text, one row a line, and what their checks find.
+//! Tables of rows as text, one row per line, and the findings of their checks.
 //!
-//! A line that is empty or begins with `// ` or `# ` is no row. A backslash at the end of a line of
-//! code says that the row goes on in the next one. The fields of a row are divided by ` | `. In a
-//! field `\n`, `\t`, `\r`, `\0` and `\\` stand for what they are in Rust, `\u{a0}` for the
-//! character of that number, and `\e` for nothing, so that a field can be empty. `~piece~times~`
-//! stands for the piece that many times, and a field that is `USAGE`, `SECTIONS` or `VERDICTS` for
-//! the text of that name.
+//! An empty line and a line that begins with `// ` or `# ` are no rows. A backslash at the end of a
+//! line continues the row on the next line. ` | ` separates the fields of a row.
+//!
+//! In a field `\n`, `\t`, `\r`, `\0` and `\\` are the escapes of Rust, `\u{a0}` is the character with
+//! that number, and `\e` is the empty text. `~piece~3~` repeats the piece three times. A field that
+//! is `USAGE`, `SECTIONS` or `VERDICTS` stands for the text with that name.
 use crate::streams::{SECTIONS, USAGE, VERDICTS};
 use std::alloc::{AllocError, Global};
 use std::fmt::Debug;
 use std::mem;
 use std::str::Split;
 
-// Adds the text of a piece after a backslash, unless it begins with no escape.
+// Pushes the text of `piece`, which follows a backslash. Returns `None` if it begins with no escape.
 fn push_unescaped(text: &mut String, piece: &str) -> Option<()> {
     if let Some(rest) = piece.strip_prefix("u{") {
         let (number, rest) = rest.split_once('}')?;
@@ -33,7 +33,7 @@ fn push_unescaped(text: &mut String, piece: &str) -> Option<()> {
     text.push_str(letters.as_str()).ok()
 }
 
-/// The text without its escapes, or `None` if one has no meaning.
+/// Replaces the escapes of `field`. Returns `None` if one has no meaning.
 pub fn unescaped(alloc: Global, field: &str) -> Option<String> {
     let mut pieces = field.split('\\');
     let mut text = String::from_str(alloc, pieces.next()?).ok()?;
@@ -48,7 +48,7 @@ pub fn unescaped(alloc: Global, field: &str) -> Option<String> {
     Some(text)
 }
 
-/// The text with escapes for what a line cannot show.
+/// Escapes the characters of `text` that a line cannot show.
 pub fn escaped(alloc: Global, text: &str) -> Result<String, AllocError> {
     let mut field = String::new(alloc);
     for letter in text.chars() {
@@ -64,7 +64,7 @@ pub fn escaped(alloc: Global, text: &str) -> Result<String, AllocError> {
     Ok(field)
 }
 
-// Adds the piece that many times.
+// Pushes `piece` repeatedly, as often as the number `times` says.
 fn push_times(text: &mut String, piece: &str, times: &str) -> Option<()> {
     for _time in 0..times.parse::<usize>().ok()? {
         text.push_str(piece).ok()?;
@@ -72,7 +72,7 @@ fn push_times(text: &mut String, piece: &str, times: &str) -> Option<()> {
     Some(())
 }
 
-// Adds each piece as many times as the next part says, and the part after both.
+// Pushes the parts, of which each three are a piece, its number of times, and the text after it.
 fn push_parts(text: &mut String, mut parts: Split<'_, char>) -> Option<()> {
     while let Some(piece) = parts.next() {
         push_times(text, piece, parts.next()?)?;
@@ -81,7 +81,7 @@ fn push_parts(text: &mut String, mut parts: Split<'_, char>) -> Option<()> {
     Some(())
 }
 
-// The text with its pieces repeated, or `None` if one has no number.
+// Repeats the pieces of `field`. Returns `None` if one has no number.
 fn expanded(alloc: Global, field: &str) -> Option<String> {
     let mut parts = field.split('~');
     let mut text = String::from_str(alloc, parts.next()?).ok()?;
@@ -89,7 +89,7 @@ fn expanded(alloc: Global, field: &str) -> Option<String> {
     Some(text)
 }
 
-// The text that a field stands for, or `None` if it has no meaning.
+// The text that `field` stands for, or `None` if it has no meaning.
 fn text_of(alloc: Global, field: &str) -> Option<String> {
     let field = match field {
         "USAGE" => USAGE,
@@ -100,7 +100,7 @@ fn text_of(alloc: Global, field: &str) -> Option<String> {
     String::from_str(alloc, field).ok()
 }
 
-/// The texts that the fields of a row stand for, or `None` if one has no meaning.
+/// The texts that the fields of `row` stand for, or `None` if one has no meaning.
 pub fn fields_of(alloc: Global, row: &str) -> Option<Vec<String>> {
     let mut fields = Vec::new(alloc);
     for field in row.split(" | ") {
@@ -109,22 +109,22 @@ pub fn fields_of(alloc: Global, row: &str) -> Option<Vec<String>> {
     Some(fields)
 }
 
-// Adds a line to the row, and the row to the rows if it does not go on in the next line.
+// Pushes `line` to `row`, and `row` to `rows` unless the next line continues it.
 fn push_line(
     alloc: Global,
     rows: &mut Vec<String>,
     row: &mut String,
     line: &str,
 ) -> Result<(), AllocError> {
-    let front = line.strip_suffix('\\');
-    row.push_str(front.unwrap_or(line))?;
-    if front.is_none() {
+    let continued = line.strip_suffix('\\');
+    row.push_str(continued.unwrap_or(line))?;
+    if continued.is_none() {
         rows.push(mem::replace(row, String::new(alloc)))?;
     }
     Ok(())
 }
 
-/// The rows of a table.
+/// The rows of `table`.
 pub fn rows_of(alloc: Global, table: &str) -> Result<Vec<String>, AllocError> {
     let mut rows = Vec::new(alloc);
     let mut row = String::new(alloc);
@@ -140,59 +140,54 @@ pub fn rows_of(alloc: Global, table: &str) -> Result<Vec<String>, AllocError> {
     Ok(rows)
 }
 
-/// What a check finds: nothing if the row is right, and otherwise what is so in place of what the
-/// row says.
+/// The finding of a check. The error says what is wrong with a row, or what the row should say.
 pub type Finding = Result<(), String>;
 
-/// Finds this text.
-pub fn found(alloc: Global, text: &str) -> Finding {
-    Err(String::from_str(alloc, text).unwrap_or(String::new(alloc)))
+/// Returns the error that says `wrong`.
+pub fn fail(alloc: Global, wrong: &str) -> Finding {
+    Err(String::from_str(alloc, wrong).unwrap_or(String::new(alloc)))
 }
 
-/// Compares what is so with what a row says.
-pub fn compare<E: Debug + Drop>(alloc: Global, told: Result<String, E>, wanted: &str) -> Finding {
-    match told {
-        Ok(told) => {
-            if told.as_str() == wanted {
+/// Compares the text of `actual` with `wanted`.
+pub fn compare<E: Debug + Drop>(alloc: Global, actual: Result<String, E>, wanted: &str) -> Finding {
+    match actual {
+        Ok(actual) => {
+            if actual.as_str() == wanted {
                 return Ok(());
             }
-            Err(told)
+            Err(actual)
         }
         Err(error) => {
-            let told = format!(in alloc; "{error:?}");
-            Err(told.unwrap_or(String::new(alloc)))
+            let shown = format!(in alloc; "{error:?}");
+            Err(shown.unwrap_or(String::new(alloc)))
         }
     }
 }
 
-/// Compares what is so with what two fields of a row say, between which ` | ` stands.
+/// Compares the text of `actual` with two fields of a row, which ` | ` separates.
 pub fn compare_pair<E: Debug + Drop>(
     alloc: Global,
-    told: Result<String, E>,
+    actual: Result<String, E>,
     (one, other): (&str, &str),
 ) -> Finding {
     match format!(in alloc; "{one} | {other}") {
-        Ok(wanted) => compare(alloc, told, wanted.as_str()),
-        Err(_) => found(alloc, "out of memory"),
+        Ok(wanted) => compare(alloc, actual, wanted.as_str()),
+        Err(_) => fail(alloc, "out of memory"),
     }
 }
 
-/// Finds what is wrong unless it is right.
+/// Returns the error that says `wrong`, unless `is_right`.
 pub fn require(alloc: Global, is_right: bool, wrong: &str) -> Finding {
-    if is_right {
-        Ok(())
-    } else {
-        found(alloc, wrong)
-    }
+    if is_right { Ok(()) } else { fail(alloc, wrong) }
 }
 
-// Adds a wrong row as it is written, and what was found.
+// Pushes a wrong row as it is written, and what its check found.
 fn push_wrong(alloc: Global, wrong: &mut String, row: &str, found: &str) -> Result<(), AllocError> {
     let found = escaped(alloc, found)?;
     wrong.push_str(format!(in alloc; "wrong: {row}\nfound: {found}\n")?.as_str())
 }
 
-/// The rows in which the check finds something, each as it is written and with what was found.
+/// The rows that do not pass `check`, as they are written, each with what `check` found.
 pub fn wrong_rows<F>(alloc: Global, rows: &[String], check: F) -> Result<String, AllocError>
 where
     F: Fn(&str) -> Finding,
@@ -207,102 +202,102 @@ where
     Ok(wrong)
 }
 
-// What is found in the row if its fields do not pass the check.
-fn finding_of<F>(alloc: Global, row: &str, check: &F) -> Finding
+// The finding of a check that returns whether a row is right, or `None` if it has no such name.
+fn finding_of(alloc: Global, is_right: Option<bool>) -> Finding {
+    match is_right {
+        Some(is_right) => require(alloc, is_right, "something else"),
+        None => fail(alloc, "no check of this name"),
+    }
+}
+
+// Checks the fields of `row`.
+fn check_row<F>(alloc: Global, row: &str, name: &str, check: &F) -> Finding
 where
-    F: Fn(&[String]) -> bool,
+    F: Fn(&str, &[String]) -> Option<bool>,
     requires { F.IsAlwaysCallable check.now }
 {
     match fields_of(alloc, row) {
-        Some(fields) => require(alloc, check(fields.as_slice()), "something else"),
-        None => found(alloc, "a field without a meaning"),
+        Some(fields) => finding_of(alloc, check(name, fields.as_slice())),
+        None => fail(alloc, "a field without a meaning"),
     }
 }
 
-// The number of rows, and those that are wrong.
-fn judged<F>(alloc: Global, table: &str, check: &F) -> Result<(usize, String), AllocError>
-where
-    F: Fn(&[String]) -> bool,
-    requires { F.IsAlwaysCallable check.now }
-{
-    let rows = rows_of(alloc, table)?;
-    let wrong = wrong_rows(alloc, rows.as_slice(), |row| finding_of(alloc, row, check))?;
-    Ok((rows.len(), wrong))
-}
-
-/// Returns how many rows the table has, if each can be taken apart and its fields pass the check.
-///
-/// The error tells the rows of which that is not so.
-pub fn passing<F>(alloc: Global, table: &str, check: &F) -> Result<usize, String>
-where
-    F: Fn(&[String]) -> bool,
-    requires { F.IsAlwaysCallable check.now }
-{
-    match judged(alloc, table, check) {
-        Ok((rows, wrong)) => {
-            if wrong.is_empty() {
-                return Ok(rows);
-            }
-            Err(wrong)
-        }
-        Err(_) => Err(String::new(alloc)),
-    }
-}
-
-/// Checks a number. The error tells it if it is not the wanted one.
-pub fn check_count(alloc: Global, found: usize, wanted: usize) -> Result<(), String> {
-    if found == wanted {
-        return Ok(());
-    }
-    let told = format!(in alloc; "{found} rows in place of {wanted}");
-    Err(told.unwrap_or(String::new(alloc)))
-}
-
-/// Checks a table that has to have `rows` rows.
-///
-/// The error tells the rows that cannot be taken apart or whose fields do not pass the check, or
-/// how many rows the table has.
-pub fn check_rows<F>(alloc: Global, table: &str, rows: usize, check: F) -> Result<(), String>
-where
-    F: Fn(&[String]) -> bool,
-    requires { F.IsAlwaysCallable check }
-{
-    check_count(alloc, passing(alloc, table, &check)?, rows)
-}
-
-/// The name of a check, a table for it, and how many rows that has.
+/// The name of a check, a table for it, and the number of the rows of that table.
 pub type Checked<'a> = (&'a str, &'a str, usize);
 
-// What is wrong, after the name of the check.
+// Describes what is wrong with a table: its wrong rows, or its number of rows.
+fn wrong_in_table<F>(alloc: Global, checked: Checked<'_>, check: &F) -> Result<String, AllocError>
+where
+    F: Fn(&str, &[String]) -> Option<bool>,
+    requires { F.IsAlwaysCallable check.now }
+{
+    let (name, table, count) = checked;
+    let rows = rows_of(alloc, table)?;
+    let mut wrong = wrong_rows(
+        alloc,
+        rows.as_slice(),
+        |row| check_row(alloc, row, name, check),
+    )?;
+    let found = rows.len();
+    if found != count {
+        let line = format!(in alloc; "{found} rows in place of {count}")?;
+        wrong.push_str(line.as_str())?;
+    }
+    Ok(wrong)
+}
+
+// Checks a table. The error begins with the name of the check.
+fn check_table<F>(alloc: Global, checked: Checked<'_>, check: &F) -> Finding
+where
+    F: Fn(&str, &[String]) -> Option<bool>,
+    requires { F.IsAlwaysCallable check.now }
+{
+    match wrong_in_table(alloc, checked, check) {
+        Ok(wrong) => {
+            if wrong.is_empty() {
+                return Ok(());
+            }
+            Err(named(alloc, checked.0, wrong))
+        }
+        Err(_) => fail(alloc, "out of memory"),
+    }
+}
+
+// Puts the name of a check before what is wrong.
 fn named(alloc: Global, name: &str, wrong: String) -> String {
     match format!(in alloc; "{name}: {wrong}") {
-        Ok(told) => told,
+        Ok(text) => text,
         Err(_) => wrong,
     }
 }
 
-/// As [`check_rows`], of each of some tables, by the check of its name, which the error tells too.
-pub fn check_tables<F>(alloc: Global, tables: &[Checked<'_>], check: F) -> Result<(), String>
+/// Checks the rows of each table. `check` gets the name of the check and the fields of a row, and
+/// returns whether the row is right, or `None` if no check has this name.
+///
+/// The error describes the first table with a wrong row, or with another number of rows.
+pub fn check_tables<F>(alloc: Global, tables: &[Checked<'_>], check: F) -> Finding
 where
-    F: Fn(&str, &[String]) -> bool,
+    F: Fn(&str, &[String]) -> Option<bool>,
     requires { F.IsAlwaysCallable check }
 {
-    for (name, table, rows) in tables {
-        if let Err(wrong) = check_rows(alloc, table, *rows, |row| check(name, row)) {
-            return Err(named(alloc, name, wrong));
-        }
+    for checked in tables {
+        check_table(alloc, *checked, &check)?;
     }
     Ok(())
 }
 
-/// As [`check_rows`], of rows of two fields.
-pub fn check_pairs<F>(alloc: Global, table: &str, rows: usize, check: F) -> Result<(), String>
-where
-    F: Fn(&str, &str) -> bool,
-    requires { F.IsAlwaysCallable check }
-{
-    check_rows(alloc, table, rows, |row| match row {
-        [one, other] => check(one.as_str(), other.as_str()),
-        _ => false,
-    })
+/// `piece` repeated `times` times, between `prefix` and `suffix`.
+pub fn repeated(
+    alloc: Global,
+    prefix: &str,
+    piece: &str,
+    times: usize,
+    suffix: &str,
+) -> Result<String, AllocError> {
+    let mut text = String::from_str(alloc, prefix)?;
+    for _time in 0..times {
+        text.push_str(piece)?;
+    }
+    text.push_str(suffix)?;
+    Ok(text)
 }

@@ -1,5 +1,4 @@
-//! Streams in memory: sources that hold nothing or give little a call, a sink that takes little a
-//! call, each of which fails where it is told to, and what a run writes into them.
+//! Streams in memory that move few bytes per call and fail on demand, and runs over them.
 ghost use Rattle.std.specs.Prelude.{◌≡◌, [], Some};
 ghost use Rattle.std.specs.Io.{ReadsAtMost};
 ghost use Rattle.std.specs.Io.KnownBytes.{ReadConsumes};
@@ -9,27 +8,27 @@ use std::alloc::{AllocError, Global};
 use std::io::ErrorKind;
 use std::{io, str};
 
-/// What a run with words of no use writes.
+/// The output of wrong use.
 pub const USAGE: &str =
     "usage: cfgx parse TEXT | eval TEXT FLAG.. | target TRIPLE TEXT | pick TRIPLE\n";
 
-/// The sections that the simulator takes, may take and does not take.
+/// Sections of which the simulator takes the first, may take the second and does not take the third.
 pub const SECTIONS: &str = "a\tcfg(target_abi = \"sim\")\n\
     b\tany(windows, feature = \"x\")\n\
     c\tall(windows, feature = \"x\")\n";
 
-/// What `pick` writes of them on the simulator.
+/// The output of `pick` for `SECTIONS` on the simulator.
 pub const VERDICTS: &str = "a\tyes\nb\tunknown\n\ttrue with 01\n\tfalse with 00\nc\tno\n";
 
-/// No limit.
+/// The number of bytes per call that is no limit.
 pub const ALL: usize = usize::MAX;
 
-/// An interrupted call, which is not tried again either.
+/// The error of an interrupted call. Such a call is not tried again either.
 pub fn interrupted() -> io::Error {
     io::Error::from(ErrorKind::Interrupted)
 }
 
-/// A source at its end, whose reads never fail.
+/// A source without bytes. Its reads never fail.
 #[derive(Drop)]
 pub struct Ended;
 
@@ -43,25 +42,25 @@ impl Source for Ended {
     }
 }
 
-/// A source of at most `each` bytes a call, whose read of the number `failing_read`, counted from
-/// 1, fails.
+/// A source that returns at most `each` bytes per call. Its read with the number `failing_read`,
+/// counted from 1, fails.
 #[derive(Drop)]
 pub struct Pieces<'a> {
-    /// The bytes that are still to come
+    /// The bytes that were not read yet
     pub left: &'a [u8],
     each: usize,
     failing_read: u64,
-    /// How many reads there were
+    /// The number of reads
     pub reads: u64,
-    /// How many of them failed
+    /// The number of failed reads
     pub failures: u64,
     has_ended: bool,
-    /// Whether a read was of an empty buffer, or came after one that failed or met the end
+    /// Whether a read had an empty buffer, or followed a read that failed or met the end
     pub is_misused: bool,
 }
 
 impl Pieces<'_> {
-    /// A source of these bytes, no read of which fails if that number is 0.
+    /// Returns a source of `left`. No read fails if `failing_read` is 0.
     pub fn new(left: &[u8], each: usize, failing_read: u64) -> Pieces<'_>
         ensures { result.failures ≡ 0 }
     {
@@ -76,7 +75,7 @@ impl Pieces<'_> {
         }
     }
 
-    /// Whether all was read, with no failed call.
+    /// Whether all bytes were read and no call was wrong or failed.
     pub fn is_read_whole(&self) -> bool {
         self.left.is_empty() && self.failures == 0 && !self.is_misused
     }
@@ -99,9 +98,9 @@ impl io::Read for Pieces<'_> {
         }
         self.has_ended = self.left.is_empty();
         let count = buffer.len().min(self.each.max(1)).min(self.left.len());
-        let (front, beyond) = self.left.split_at(count);
-        buffer[..count].copy_from_slice(front);
-        self.left = beyond;
+        let (taken, rest) = self.left.split_at(count);
+        buffer[..count].copy_from_slice(taken);
+        self.left = rest;
         Ok(count)
     }
 }
@@ -112,18 +111,18 @@ impl Source for Pieces<'_> {
     ghost unread = { λ source. Some source.left.now };
 
     fn read(&mut self, buffer: &mut [u8]) -> io::Result<usize> {
-        let answer = io::Read::read(self, buffer);
-        if answer.is_err() {
+        let count = io::Read::read(self, buffer);
+        if count.is_err() {
             self.failures += 1;
         }
-        answer
+        count
     }
 }
 
-/// A source of `left` bytes, which are what the buffer holds, at most `each` of them a call.
+/// A source of `left` bytes, at most `each` per call. It leaves the buffer as it is.
 #[derive(Drop)]
 pub struct Counting {
-    /// How many bytes are still to come
+    /// The number of bytes that were not read yet
     pub left: usize,
     /// The most bytes of a call
     pub each: usize,
@@ -134,7 +133,7 @@ impl Source for Counting {
 
     ghost failures = { λ _. 0 };
 
-    // So it says no more than how many there are: the bytes that are read are proved.
+    // The source does not tell its bytes: of these the contract of a read says enough.
     ghost unread = { λ _. None };
 
     fn read(&mut self, buffer: &mut [u8]) -> io::Result<usize> {
@@ -144,34 +143,34 @@ impl Source for Counting {
     }
 }
 
-/// A sink that takes at most `each` bytes a call and `room` bytes in all. Its write of the number
-/// `failing_write` fails, and that of the number `empty_write` takes no byte, both counted from 1.
+/// A sink that takes at most `each` bytes per call and `room` bytes in all. Its write with the number
+/// `failing_write` fails, and that with the number `empty_write` takes no byte, both counted from 1.
 #[derive(Drop)]
 pub struct Recorder {
-    /// What was written
+    /// The bytes that were written
     pub bytes: Vec<u8>,
-    /// How many calls failed
+    /// The number of failed calls
     pub failures: u64,
     /// The most bytes of a call
     pub each: usize,
-    /// The most bytes that are still taken
+    /// The number of bytes that the sink still takes
     pub room: usize,
-    /// The write that fails, or 0
+    /// The number of the write that fails, or 0
     pub failing_write: u64,
-    /// The write that takes nothing, or 0
+    /// The number of the write that takes no byte, or 0
     pub empty_write: u64,
-    /// Whether a flush fails
+    /// Whether each flush fails
     pub is_flush_failing: bool,
-    /// How many writes there were
+    /// The number of writes
     pub writes: u64,
-    /// How many flushes there were
+    /// The number of flushes
     pub flushes: u64,
-    /// Whether a write was of an empty slice, or a call came after a failed one
+    /// Whether a write had an empty slice, or a call followed a failed one
     pub is_misused: bool,
 }
 
 impl Recorder {
-    /// A sink that takes all.
+    /// Returns a sink that takes all bytes.
     pub fn new(alloc: Global) -> Recorder
         ensures { result.failures ≡ 0 }
     {
@@ -229,14 +228,23 @@ impl Sink for Recorder {
     }
 }
 
-/// Whether this was written with one flush and no failed call.
-pub fn is_written(sink: &Recorder, written: &[u8]) -> bool {
-    sink.bytes.as_slice() == written && sink.failures == 0 && sink.flushes == 1 && !sink.is_misused
+/// Whether `output` was written with one flush and no failed call.
+pub fn has_written(sink: &Recorder, output: &[u8]) -> bool {
+    sink_matches(sink, output, (sink.writes, 1), 0)
 }
 
-/// Whether a run with these words reads the input to its end, writes this with one flush and no
-/// failed call, and ends with this status. A read gives and a write takes at most `each` bytes.
-pub fn is_run_over(
+/// Whether `output` was written by these numbers of writes and flushes, of which `failures` failed.
+/// No write had an empty slice, and no call followed a failed one.
+pub fn sink_matches(sink: &Recorder, output: &[u8], calls: (u64, u64), failures: u64) -> bool {
+    sink.bytes.as_slice() == output
+        && (sink.writes, sink.flushes) == calls
+        && sink.failures == failures
+        && !sink.is_misused
+}
+
+/// Whether a run with `words` reads `input` to its end, writes the output of `ended` with one flush
+/// and no failed call, and returns the status of `ended`. Each call moves at most `each` bytes.
+pub fn run_ends_with(
     alloc: Global,
     words: &[&str],
     each: usize,
@@ -247,34 +255,27 @@ pub fn is_run_over(
     let mut sink = Recorder::new(alloc);
     sink.each = each;
     let status = run(alloc, words, &mut source, &mut sink);
-    is_written(&sink, ended.0.as_bytes()) && status == ended.1 && source.is_read_whole()
+    has_written(&sink, ended.0.as_bytes()) && status == ended.1 && source.is_read_whole()
 }
 
-/// Whether a run with these words and no input ends with this status, and writes this with one
-/// flush and no failed call.
-pub fn is_answer(alloc: Global, words: &[&str], status: u8, written: &str) -> bool {
-    is_run_over(alloc, words, ALL, &[], (written, status))
-}
-
-// The status and what was written, as rows write them. It says so if the streams were not used as
-// they have to be.
+// The status and the output, as rows write them. The text says so if a call of a stream was wrong.
 fn ended_text(
     alloc: Global,
     status: u8,
     sink: &Recorder,
     is_read_whole: bool,
 ) -> Result<String, AllocError> {
-    let written = sink.bytes.as_slice();
-    let text = str::from_utf8(written).unwrap_or("bytes that are not UTF-8");
+    let output = sink.bytes.as_slice();
+    let text = str::from_utf8(output).unwrap_or("bytes that are not UTF-8");
     let is_stopped = status == 3 && !sink.is_misused;
-    if is_stopped || (is_read_whole && is_written(sink, written)) {
+    if is_stopped || (is_read_whole && has_written(sink, output)) {
         return format!(in alloc; "{status} | {text}");
     }
     format!(in alloc; "{status} | {text} | with a wrong call of a stream")
 }
 
-/// How a run with these words over the input ends and what it writes, as rows write them, for
-/// example `0 | yes`. A read gives and a write takes at most `each` bytes.
+/// The status and the output of a run with `words` over `input`, as rows write them, such as
+/// `0 | yes`. Each call moves at most `each` bytes.
 pub fn run_text(
     alloc: Global,
     words: &[&str],
@@ -286,13 +287,4 @@ pub fn run_text(
     sink.each = each;
     let status = run(alloc, words, &mut source, &mut sink);
     ended_text(alloc, status, &sink, source.is_read_whole())
-}
-
-/// Whether the sink had these calls, `failures` of which failed, and got these bytes. No call may
-/// be of an empty slice, and none may come after a failed one.
-pub fn is_left_so(sink: &Recorder, written: &[u8], calls: (u64, u64), failures: u64) -> bool {
-    sink.bytes.as_slice() == written
-        && (sink.writes, sink.flushes) == calls
-        && sink.failures == failures
-        && !sink.is_misused
 }

@@ -1,12 +1,13 @@
-//! Rows of targets that are made by hand.
-use crate::holding::{push, put};
+//! Rows of targets: made by hand, or built in.
+use crate::checking::{assign_ok, push_ok};
 use cfg_expr::targets::{
-    Abi, Arch, Endian, Env, Families, HasAtomics, Os, Panic, TargetInfo, Triple, Vendor,
+    Abi, Arch, Endian, Env, Families, HasAtomics, Os, Panic, TargetInfo, TargetTable, Triple,
+    Vendor, get_builtin_target_by_triple,
 };
 use cfgx_targets::reading::{read_endian, read_u8};
 use std::alloc::{AllocError, Global};
 
-/// A row that lacks all that a row may lack.
+/// A row with this triple, in which everything is missing that may be.
 pub fn bare(triple: &str) -> TargetInfo<'_> {
     TargetInfo {
         triple: Triple::new_const(triple),
@@ -23,25 +24,25 @@ pub fn bare(triple: &str) -> TargetInfo<'_> {
     }
 }
 
-// Sets the field of this name to a text.
+// Sets the field with this name to `text`.
 fn set_text(
     row: &mut TargetInfo<'static>,
     name: &str,
     text: &'static str,
 ) -> Result<(), AllocError> {
     match name {
-        "triple" => put(&mut row.triple, Ok(Triple::new_const(text))),
-        "os" => put(&mut row.os, Ok(Some(Os::new_const(text)))),
-        "abi" => put(&mut row.abi, Ok(Some(Abi::new_const(text)))),
-        "arch" => put(&mut row.arch, Ok(Arch::new_const(text))),
-        "env" => put(&mut row.env, Ok(Some(Env::new_const(text)))),
-        "vendor" => put(&mut row.vendor, Ok(Some(Vendor::new_const(text)))),
-        "panic" => put(&mut row.panic, Ok(Panic::new_const(text))),
+        "triple" => assign_ok(&mut row.triple, Ok(Triple::new_const(text))),
+        "os" => assign_ok(&mut row.os, Ok(Some(Os::new_const(text)))),
+        "abi" => assign_ok(&mut row.abi, Ok(Some(Abi::new_const(text)))),
+        "arch" => assign_ok(&mut row.arch, Ok(Arch::new_const(text))),
+        "env" => assign_ok(&mut row.env, Ok(Some(Env::new_const(text)))),
+        "vendor" => assign_ok(&mut row.vendor, Ok(Some(Vendor::new_const(text)))),
+        "panic" => assign_ok(&mut row.panic, Ok(Panic::new_const(text))),
         _ => Err(AllocError),
     }
 }
 
-// Sets the field of this name. The name of a list stands for the list too.
+// Sets the field with this name to `value`. The name of a list sets that list.
 fn set_field(
     alloc: Global,
     row: &mut TargetInfo<'static>,
@@ -49,11 +50,11 @@ fn set_field(
     value: &'static str,
 ) -> Result<(), AllocError> {
     match name {
-        "unix" => put(&mut row.families, Families::unix(alloc)),
-        "windows" => put(&mut row.families, Families::windows(alloc)),
-        "bits" => put(&mut row.pointer_width, read_u8(value).ok_or(AllocError)),
-        "endian" => put(&mut row.endian, read_endian(value).ok_or(AllocError)),
-        "atomics" => put(
+        "unix" => assign_ok(&mut row.families, Families::unix(alloc)),
+        "windows" => assign_ok(&mut row.families, Families::windows(alloc)),
+        "bits" => assign_ok(&mut row.pointer_width, read_u8(value).ok_or(AllocError)),
+        "endian" => assign_ok(&mut row.endian, read_endian(value).ok_or(AllocError)),
+        "atomics" => assign_ok(
             &mut row.has_atomics,
             HasAtomics::atomic_8_16_32_64_128_ptr(alloc),
         ),
@@ -73,8 +74,8 @@ fn set_fields(
     Ok(())
 }
 
-/// A row with this triple and these fields, which lacks all else that a row may lack. Spaces stand
-/// between the fields: `os=ios` and so on, or `unix`, `windows` or `atomics` for a list.
+/// A bare row with this triple and these fields. Spaces separate the fields: `os=ios` and so on, or
+/// `unix`, `windows` or `atomics` for a list.
 pub fn row_of(
     alloc: Global,
     triple: &'static str,
@@ -85,7 +86,7 @@ pub fn row_of(
     is_set.and(Ok(row))
 }
 
-/// Adds a row for each line, which is a triple with fields after it.
+/// Pushes a row for each line, which is a triple with fields after it.
 pub fn push_rows(
     alloc: Global,
     rows: &mut Vec<TargetInfo<'static>>,
@@ -93,7 +94,36 @@ pub fn push_rows(
 ) -> Result<(), AllocError> {
     for line in lines.lines() {
         let (triple, fields) = line.split_once(' ').unwrap_or((line, ""));
-        push(rows, row_of(alloc, triple, fields))?;
+        push_ok(rows, row_of(alloc, triple, fields))?;
     }
     Ok(())
+}
+
+// Pushes a copy of the row of `table` with each of these triples. The error is also a missing row.
+fn push_copies(
+    alloc: Global,
+    rows: &mut Vec<TargetInfo<'static>>,
+    table: &TargetTable<'static>,
+    triples: &[&str],
+) -> Result<(), AllocError> {
+    for triple in triples {
+        match get_builtin_target_by_triple(table, triple) {
+            Some(row) => push_ok(rows, row.try_clone(alloc))?,
+            None => return Err(AllocError),
+        }
+    }
+    Ok(())
+}
+
+/// Copies of the built-in rows with these triples, in this order.
+///
+/// The error is that memory ran out, or that a triple is not built in.
+pub fn builtin_rows(
+    alloc: Global,
+    triples: &[&str],
+) -> Result<Vec<TargetInfo<'static>>, AllocError> {
+    let table: TargetTable<'static> = TargetTable::builtins(alloc)?;
+    let mut rows: Vec<TargetInfo<'static>> = Vec::new(alloc);
+    let pushed = push_copies(alloc, &mut rows, &table, triples);
+    pushed.and(Ok(rows))
 }

@@ -1,8 +1,8 @@
-//! Rows of runs of the program: `status | what is written | word | word ..`. A `\0` divides words.
-use crate::streams::is_answer;
+//! Rows of runs of the program: `status | output | word | word ..`. A `\0` separates words.
+use crate::streams::{ALL, run_ends_with};
 use std::alloc::{AllocError, Global};
 
-/// The words that texts are.
+/// The words of `texts`.
 pub fn words_of(alloc: Global, texts: &[String]) -> Result<Vec<&str>, AllocError> {
     let mut words = Vec::new(alloc);
     for text in texts {
@@ -13,13 +13,15 @@ pub fn words_of(alloc: Global, texts: &[String]) -> Result<Vec<&str>, AllocError
     Ok(words)
 }
 
-/// Whether a run with the words of the row ends and writes as the row says.
-pub fn is_run(alloc: Global, row: &[String]) -> bool {
-    let [status, written, words @ ..] = row else {
+/// Whether a run with the words of `row` has the status and the output of `row`.
+pub fn run_matches_row(alloc: Global, row: &[String]) -> bool {
+    let [status, output, words @ ..] = row else {
         return false;
     };
     match (words_of(alloc, words), status.parse()) {
-        (Ok(words), Ok(status)) => is_answer(alloc, words.as_slice(), status, written.as_str()),
+        (Ok(words), Ok(status)) => {
+            run_ends_with(alloc, words.as_slice(), ALL, &[], (output.as_str(), status))
+        }
         _ => false,
     }
 }

@@ -1,6 +1,6 @@
-//! Checks the files of its folder `data` that its arguments name: the answers of the Rust crate,
-//! and tables of the rules of texts, of the program `cfgx`, and of values and targets. It prints
-//! each wrong row with what was found, and how many rows each file has.
+//! Checks the files that its arguments name: results of the Rust crate, and tables about the rules
+//! of texts, about the program `cfgx`, and about values and targets. It prints each wrong row with
+//! what was found, and the number of rows of each file.
 #![tactic(auto)]
 
 mod program;
@@ -10,11 +10,11 @@ mod rust_crate;
 mod tables;
 mod values;
 
-use cfgx_testing::rows::{Finding, found};
+use cfgx_testing::rows::{Finding, fail};
 use std::alloc::{AllocError, Global};
 use std::{env, fs, io};
 
-// What the check of this name finds in a row.
+// The finding of the check with this name in a row.
 fn finding(alloc: Global, check: &str, row: &[String]) -> Finding {
     if let Some(finding) = rules::finding(alloc, check, row) {
         return finding;
@@ -24,11 +24,11 @@ fn finding(alloc: Global, check: &str, row: &[String]) -> Finding {
     }
     match values::finding(alloc, check, row) {
         Some(finding) => finding,
-        None => found(alloc, "no check of this name and this number of fields"),
+        None => fail(alloc, "no check of this name and this number of fields"),
     }
 }
 
-// What is wrong in the file, and how many rows it has.
+// What is wrong in the file, and the number of its rows.
 fn report(alloc: Global, name: &str, text: &str) -> Result<String, AllocError> {
     if name.ends_with(".tsv") {
         rust_crate::report(alloc, name, text)

@@ -1,23 +1,21 @@
-//! Runs of the program: what they write, their statuses, and the calls of their streams.
+//! Runs of the program: their outputs, their statuses, and the calls of their streams.
 mod counted;
 mod failing;
 mod input;
-mod pick;
 mod reading;
-mod target;
 
-use cfgx_testing::rows::{Finding, compare_pair, found, require};
+use cfgx_testing::rows::{Finding, compare_pair, fail, require};
 use cfgx_testing::streams::{ALL, run_text};
-use cfgx_testing::triples::SIM;
+use cfgx_testing::triples::{IOS, SIM, TRIPLES};
 use cfgx_testing::words::words_of;
 use std::alloc::Global;
 
-// Compares the status of a run over the input and what it writes with those of a row.
+// Compares the status and the output of a run over `input` with those of a row.
 fn compare_run(alloc: Global, words: &[&str], input: &[u8], ended: (&str, &str)) -> Finding {
     compare_pair(alloc, run_text(alloc, words, ALL, input), ended)
 }
 
-// The status and what is written, and the words that come after them in a row.
+// The status and the output of a row, and the words after them.
 fn run_of(row: &[String]) -> Option<((&str, &str), &[String])> {
     match row {
         [status, written, words @ ..] => Some(((status.as_str(), written.as_str()), words)),
@@ -25,17 +23,17 @@ fn run_of(row: &[String]) -> Option<((&str, &str), &[String])> {
     }
 }
 
-// Compares a run without an input with the row.
+// Compares a run without input with the row.
 fn finding_of_long_run(alloc: Global, row: &[String]) -> Option<Finding> {
     let (ended, words) = run_of(row)?;
     Some(match words_of(alloc, words) {
         Ok(words) => compare_run(alloc, words.as_slice(), &[], ended),
-        Err(_) => found(alloc, "out of memory"),
+        Err(_) => fail(alloc, "out of memory"),
     })
 }
 
-// Compares a run with these words with the row. It may not read, and has to end at a failed write.
-fn compare_unread(alloc: Global, words: &[&str], ended: (&str, &str)) -> Finding {
+// Compares a run with these words with the row. The run may not read, and must end at a failed write.
+fn compare_without_reads(alloc: Global, words: &[&str], ended: (&str, &str)) -> Finding {
     compare_run(alloc, words, &[], ended)?;
     let (status, written) = ended;
     require(
@@ -51,17 +49,17 @@ fn compare_unread(alloc: Global, words: &[&str], ended: (&str, &str)) -> Finding
 fn finding_of_run(alloc: Global, row: &[String]) -> Option<Finding> {
     let (ended, words) = run_of(row)?;
     Some(match words_of(alloc, words) {
-        Ok(words) => compare_unread(alloc, words.as_slice(), ended),
-        Err(_) => found(alloc, "out of memory"),
+        Ok(words) => compare_without_reads(alloc, words.as_slice(), ended),
+        Err(_) => fail(alloc, "out of memory"),
     })
 }
 
-// Compares a run of `pick` on the target with a row.
+// Compares a run of `pick` on the target with the row.
 fn compare_pick(alloc: Global, triple: &str, input: &str, ended: (&str, &str)) -> Finding {
     compare_run(alloc, &["pick", triple], input.as_bytes(), ended)
 }
 
-// Compares a run of `pick` with streams of which each call moves at most `each` bytes.
+// Compares a run of `pick` with streams that move at most `each` bytes per call.
 fn compare_in_pieces(alloc: Global, each: usize, input: &str, ended: (&str, &str)) -> Finding {
     compare_pair(
         alloc,
@@ -70,7 +68,7 @@ fn compare_in_pieces(alloc: Global, each: usize, input: &str, ended: (&str, &str
     )
 }
 
-// Compares a run of `pick` with streams that move a few bytes a call, or all, and fail in turn.
+// Compares a run of `pick` with streams that move few bytes per call, or all, and fail at each call.
 fn compare_by_streams(alloc: Global, input: &str, ended: (&str, &str)) -> Finding {
     for each in &[1, 2, 3, 7, ALL] {
         compare_in_pieces(alloc, *each, input, ended)?;
@@ -82,26 +80,58 @@ fn compare_by_streams(alloc: Global, input: &str, ended: (&str, &str)) -> Findin
     )
 }
 
-// What the check of a row of one field finds.
+// Compares the value of `text` on each target of `TRIPLES` with that of a row.
+fn compare_on_each_target(alloc: Global, written: &str, text: &str) -> Finding {
+    for triple in TRIPLES {
+        compare_run(alloc, &["target", *triple, text], &[], ("0", written))?;
+    }
+    Ok(())
+}
+
+// The bytes whose hexadecimal numbers the row lists, or `None` if it lists something else.
+fn bytes_of(alloc: Global, row: &str) -> Option<Vec<u8>> {
+    let mut bytes = Vec::new(alloc);
+    for number in row.split(' ') {
+        bytes.push(u8::from_str_radix(number, 16).ok()?).ok()?;
+    }
+    Some(bytes)
+}
+
+// Compares the output of `pick` for `input` with that for bytes that are not UTF-8.
+fn compare_refused(alloc: Global, input: &[u8]) -> Finding {
+    let ended = ("1", "input is not UTF-8\n");
+    compare_run(alloc, &["pick", SIM], input, ended)?;
+    compare_run(alloc, &["pick", IOS], input, ended)
+}
+
+// Checks that `pick` refuses the bytes of a row.
+fn finding_of_bytes(alloc: Global, row: &str) -> Finding {
+    match bytes_of(alloc, row) {
+        Some(bytes) => compare_refused(alloc, bytes.as_slice()),
+        None => fail(alloc, "a number that is no byte"),
+    }
+}
+
+// The finding of a check in a row of one field.
 fn finding_of_one(alloc: Global, check: &str, field: &str) -> Option<Finding> {
     Some(match check {
         "counted stream" => require(alloc, counted::property(field)?, "it does not hold"),
-        "not UTF-8" => pick::finding(alloc, field),
+        "not UTF-8" => finding_of_bytes(alloc, field),
         _ => return None,
     })
 }
 
-// What the check of a row of two fields finds.
+// The finding of a check in a row of two fields.
 fn finding_of_two(alloc: Global, check: &str, one: &str, other: &str) -> Option<Finding> {
     Some(match check {
-        "run on each target" => target::finding(alloc, one, other),
+        "run on each target" => compare_on_each_target(alloc, one, other),
         "failed read" => input::finding_of_failed_read(alloc, one, other),
         "length of an input" => input::finding_of_length(alloc, one, other),
         _ => return None,
     })
 }
 
-// What the check of a row of three fields finds.
+// The finding of a check in a row of three fields.
 fn finding_of_three(
     alloc: Global,
     check: &str,
@@ -118,7 +148,7 @@ fn finding_of_three(
     })
 }
 
-// What the check of this name finds in the row, by the number of its fields.
+// The finding of the check with this name in the row, by the number of its fields.
 fn finding_by_number(alloc: Global, check: &str, row: &[String]) -> Option<Finding> {
     match row {
         [one] => finding_of_one(alloc, check, one.as_str()),
@@ -134,8 +164,8 @@ fn finding_by_number(alloc: Global, check: &str, row: &[String]) -> Option<Findi
     }
 }
 
-/// What the check of this name finds in the row, or `None` if no check of it takes that number of
-/// fields.
+/// The finding of the check with this name in the row, or `None` if no such check takes this number
+/// of fields.
 pub(crate) fn finding(alloc: Global, check: &str, row: &[String]) -> Option<Finding> {
     match check {
         "run" => finding_of_run(alloc, row),

@@ -9,28 +9,28 @@ mod stripping;
 mod tokens;
 
 use cfgx_testing::faults::fault_of;
-use cfgx_testing::rows::{Finding, compare, compare_pair, found, require};
+use cfgx_testing::rows::{Finding, compare, compare_pair, fail, require};
 use cfgx_testing::streams::{ALL, run_text};
 use std::alloc::Global;
 
-/// Compares the predicates that `parse` prints with these, which a line feed divides.
+/// Compares the predicates that `parse` prints with `predicates`, which line feeds separate.
 pub(crate) fn compare_predicates(alloc: Global, text: &str, predicates: &str) -> Finding {
     let end = if predicates.is_empty() { "" } else { "\n" };
     match format!(in alloc; "{predicates}{end}") {
         Ok(written) => {
-            let told = run_text(alloc, &["parse", text], ALL, &[]);
-            compare_pair(alloc, told, ("0", written.as_str()))
+            let actual = run_text(alloc, &["parse", text], ALL, &[]);
+            compare_pair(alloc, actual, ("0", written.as_str()))
         }
-        Err(_) => found(alloc, "out of memory"),
+        Err(_) => fail(alloc, "out of memory"),
     }
 }
 
-/// Compares the fault of the text and what it is stripped to with these.
+/// Compares the fault of the text and the stripped text with those of a row.
 fn compare_fault(alloc: Global, text: &str, fault: &str, stripped: &str) -> Finding {
     compare_pair(alloc, fault_of(alloc, text), (fault, stripped))
 }
 
-// Whether what the name says holds, if it has a check.
+// Whether the property with this name holds, or `None` if no property has it.
 fn property(alloc: Global, name: &str) -> Option<bool> {
     Some(match name {
         "equal reasons have equal parts" => printing::compares_reasons(),
@@ -42,7 +42,7 @@ fn property(alloc: Global, name: &str) -> Option<bool> {
     })
 }
 
-// What the check of a row of one field finds.
+// The finding of a check in a row of one field.
 fn finding_of_one(alloc: Global, check: &str, name: &str) -> Option<Finding> {
     if check != "property" {
         return None;
@@ -50,7 +50,7 @@ fn finding_of_one(alloc: Global, check: &str, name: &str) -> Option<Finding> {
     Some(require(alloc, property(alloc, name)?, "it does not hold"))
 }
 
-// What the check of a row of two fields finds.
+// The finding of a check in a row of two fields.
 fn finding_of_two(alloc: Global, check: &str, one: &str, other: &str) -> Option<Finding> {
     Some(match check {
         "fault" => compare_fault(alloc, one, other, one),
@@ -67,7 +67,7 @@ fn finding_of_two(alloc: Global, check: &str, one: &str, other: &str) -> Option<
     })
 }
 
-// What the check of a row of three fields finds.
+// The finding of a check in a row of three fields.
 fn finding_of_three(
     alloc: Global,
     check: &str,
@@ -85,8 +85,8 @@ fn finding_of_three(
     })
 }
 
-/// What the check of this name finds in the row, or `None` if no check of it takes that number of
-/// fields.
+/// The finding of the check with this name in the row, or `None` if no such check takes this number
+/// of fields.
 pub(crate) fn finding(alloc: Global, check: &str, row: &[String]) -> Option<Finding> {
     if check == "items" {
         return Some(tokens::finding(alloc, row));

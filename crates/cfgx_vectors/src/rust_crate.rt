@@ -1,35 +1,35 @@
-//! The answers of the Rust crate cfg-expr 0.20.10. The head of their file says which texts are left
+//! Results of the Rust crate cfg-expr 0.20.10. The head of the file names the texts that it leaves
 //! out.
-use crate::reading::read_otherwise;
-use cfgx_testing::rows::{Finding, compare_pair, found, rows_of, unescaped, wrong_rows};
+use crate::reading::first_misread_line;
+use cfgx_testing::rows::{Finding, compare_pair, fail, rows_of, unescaped, wrong_rows};
 use cfgx_testing::streams::{ALL, run_text};
 use std::alloc::{AllocError, Global};
 
-// The text, the status and the output of a row, between which tabs stand.
+// The text, the status and the output of a row, which tabs separate.
 fn fields_of(row: &str) -> Option<(&str, &str, &str)> {
-    let (text, answer) = row.split_once('\t')?;
-    let (status, output) = answer.split_once('\t')?;
+    let (text, result) = row.split_once('\t')?;
+    let (status, output) = result.split_once('\t')?;
     Some((text, status, output))
 }
 
-// The text and the output without escapes, and the status.
+// The text and the output without their escapes, and the status.
 fn unescaped_fields(alloc: Global, row: &str) -> Option<(String, String, &str)> {
     let (text, status, output) = fields_of(row)?;
     Some((unescaped(alloc, text)?, unescaped(alloc, output)?, status))
 }
 
-// Whether `parse` answers as the row says.
+// Compares the status and the output of `parse` with those of a row.
 fn finding(alloc: Global, row: &str) -> Finding {
     match unescaped_fields(alloc, row) {
         Some((text, output, status)) => {
-            let told = run_text(alloc, &["parse", text.as_str()], ALL, &[]);
-            compare_pair(alloc, told, (status, output.as_str()))
+            let actual = run_text(alloc, &["parse", text.as_str()], ALL, &[]);
+            compare_pair(alloc, actual, (status, output.as_str()))
         }
-        None => found(alloc, "no text, status and output"),
+        None => fail(alloc, "no text, status and output"),
     }
 }
 
-// Adds the text and the output of a row, if it has both.
+// Pushes the text and the output of a row, if it has both.
 fn push_texts(alloc: Global, texts: &mut Vec<String>, row: &str) -> Result<(), AllocError> {
     if let Some((text, output, _)) = unescaped_fields(alloc, row) {
         texts.push(text)?;
@@ -47,17 +47,17 @@ fn texts_of(alloc: Global, rows: &[String]) -> Result<Vec<String>, AllocError> {
     Ok(texts)
 }
 
-// A line that tells a text or an output that one reader reads otherwise than parsing does.
-fn otherwise(alloc: Global, rows: &[String]) -> Result<String, AllocError> {
+// A line that names the first text or output that one reader does not read as `parse` does.
+fn misread(alloc: Global, rows: &[String]) -> Result<String, AllocError> {
     let texts = texts_of(alloc, rows)?;
-    read_otherwise(alloc, texts.as_slice())
+    first_misread_line(alloc, texts.as_slice())
 }
 
-/// The wrong rows of the file, and how many rows it has.
+/// The wrong rows of the file, and the number of its rows.
 pub(crate) fn report(alloc: Global, name: &str, text: &str) -> Result<String, AllocError> {
     let rows = rows_of(alloc, text)?;
     let count = rows.len();
     let wrong = wrong_rows(alloc, rows.as_slice(), |row| finding(alloc, row))?;
-    let otherwise = otherwise(alloc, rows.as_slice())?;
-    format!(in alloc; "{wrong}{otherwise}{name}: {count} rows")
+    let misread = misread(alloc, rows.as_slice())?;
+    format!(in alloc; "{wrong}{misread}{name}: {count} rows")
 }

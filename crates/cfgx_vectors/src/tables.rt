@@ -1,8 +1,8 @@
-//! Files of tables. A table begins with a line `[check: 12 rows]` and a line with the names of its
-//! columns. The last column may be `word ..`: any number of fields.
+//! Files of tables. A table begins with a line `[check: 12 rows]` and a line that names its columns.
+//! A last column such as `word ..` stands for any number of fields.
 use crate::finding;
-use crate::reading::read_otherwise;
-use cfgx_testing::rows::{Finding, fields_of, found, rows_of, wrong_rows};
+use crate::reading::first_misread_line;
+use cfgx_testing::rows::{Finding, fail, fields_of, rows_of, wrong_rows};
 use std::alloc::{AllocError, Global};
 
 // The parts of a table.
@@ -14,7 +14,7 @@ struct Table<'a> {
     rows: &'a str,
 }
 
-// Takes a table apart, without the bracket in front.
+// The parts of a table, whose text lacks the first bracket.
 fn table_of(text: &str) -> Option<Table<'_>> {
     let (head, text) = text.split_once("]\n")?;
     let (check, count) = head.split_once(": ")?;
@@ -34,24 +34,24 @@ fn has_columns(fields: usize, columns: &str) -> bool {
     fields == names || (columns.ends_with(" ..") && fields.saturating_add(1) >= names)
 }
 
-// What the check finds in the fields of a row.
+// The finding of the check of the table in the fields of a row.
 fn finding_of_fields(alloc: Global, table: &Table<'_>, fields: &[String]) -> Finding {
     if has_columns(fields.len(), table.columns) {
         finding(alloc, table.check, fields)
     } else {
-        found(alloc, "another number of fields than columns")
+        fail(alloc, "another number of fields than columns")
     }
 }
 
-// What the check finds in a row.
+// The finding of the check of the table in a row.
 fn finding_of_row(alloc: Global, table: &Table<'_>, row: &str) -> Finding {
     match fields_of(alloc, row) {
         Some(fields) => finding_of_fields(alloc, table, fields.as_slice()),
-        None => found(alloc, "a field without a meaning"),
+        None => fail(alloc, "a field without a meaning"),
     }
 }
 
-// Adds the fields of a row.
+// Pushes the fields of a row.
 fn push_fields(texts: &mut Vec<String>, fields: Vec<String>) -> Result<(), AllocError> {
     for field in fields {
         texts.push(field)?;
@@ -59,7 +59,7 @@ fn push_fields(texts: &mut Vec<String>, fields: Vec<String>) -> Result<(), Alloc
     Ok(())
 }
 
-// Adds the fields of each row that has a meaning.
+// Pushes the fields of each row. A row in which a field has no meaning has none.
 fn push_texts(alloc: Global, texts: &mut Vec<String>, rows: &[String]) -> Result<(), AllocError> {
     for row in rows {
         if let Some(fields) = fields_of(alloc, row.as_str()) {
@@ -69,16 +69,20 @@ fn push_texts(alloc: Global, texts: &mut Vec<String>, rows: &[String]) -> Result
     Ok(())
 }
 
-// What is known of a file so far: what is wrong in it, how many rows it has, and their fields.
+// The tables of a file that were checked so far.
 #[derive(Drop)]
 struct File {
+    // What is wrong in them
     wrong: String,
+    // The number of their rows
     rows: usize,
+    // The fields of their rows
     texts: Vec<String>,
 }
 
 impl File {
-    fn take_count(
+    // Counts the rows of a table, and compares the number with that in its head.
+    fn check_count(
         &mut self,
         alloc: Global,
         table: &Table<'_>,
@@ -89,11 +93,12 @@ impl File {
             return Ok(());
         }
         let check = table.check;
-        let told = format!(in alloc; "wrong: a table of {check} has {rows} rows\n")?;
-        self.wrong.push_str(told.as_str())
+        let line = format!(in alloc; "wrong: a table of {check} has {rows} rows\n")?;
+        self.wrong.push_str(line.as_str())
     }
 
-    fn take_rows(
+    // Checks the rows of a table.
+    fn check_rows(
         &mut self,
         alloc: Global,
         table: &Table<'_>,
@@ -102,47 +107,47 @@ impl File {
         let wrong = wrong_rows(alloc, rows, |row| finding_of_row(alloc, table, row))?;
         self.wrong.push_str(wrong.as_str())?;
         push_texts(alloc, &mut self.texts, rows)?;
-        self.take_count(alloc, table, rows.len())
+        self.check_count(alloc, table, rows.len())
     }
 
-    // Takes a table, without the bracket in front.
-    fn take_table(&mut self, alloc: Global, text: &str) -> Result<(), AllocError> {
+    // Checks a table, whose text lacks the first bracket.
+    fn check_table(&mut self, alloc: Global, text: &str) -> Result<(), AllocError> {
         match table_of(text) {
-            Some(table) => self.take_rows(alloc, &table, rows_of(alloc, table.rows)?.as_slice()),
+            Some(table) => self.check_rows(alloc, &table, rows_of(alloc, table.rows)?.as_slice()),
             None => self
                 .wrong
                 .push_str("wrong: a table without a head and columns\n"),
         }
     }
 
-    // Takes what stands in front of the first table, which may have no row.
-    fn take_head(&mut self, alloc: Global, head: &str) -> Result<(), AllocError> {
+    // Checks that no row stands before the first table.
+    fn check_head(&mut self, alloc: Global, head: &str) -> Result<(), AllocError> {
         if rows_of(alloc, head)?.is_empty() {
             return Ok(());
         }
-        self.wrong
-            .push_str("wrong: a row in front of the first table\n")
+        self.wrong.push_str("wrong: a row before the first table\n")
     }
 
-    fn take(&mut self, alloc: Global, text: &str) -> Result<(), AllocError> {
+    // Checks all tables of a file.
+    fn check(&mut self, alloc: Global, text: &str) -> Result<(), AllocError> {
         let mut tables = text.split("\n[");
-        self.take_head(alloc, tables.next().unwrap_or(""))?;
+        self.check_head(alloc, tables.next().unwrap_or(""))?;
         for table in tables {
-            self.take_table(alloc, table)?;
+            self.check_table(alloc, table)?;
         }
         Ok(())
     }
 }
 
-/// The wrong rows of the file, and how many rows it has.
+/// The wrong rows of the file, and the number of its rows.
 pub(crate) fn report(alloc: Global, name: &str, text: &str) -> Result<String, AllocError> {
     let mut file = File {
         wrong: String::new(alloc),
         rows: 0,
         texts: Vec::new(alloc),
     };
-    file.take(alloc, text)?;
-    let otherwise = read_otherwise(alloc, file.texts.as_slice())?;
+    file.check(alloc, text)?;
+    let misread = first_misread_line(alloc, file.texts.as_slice())?;
     let (wrong, rows) = (file.wrong.as_str(), file.rows);
-    format!(in alloc; "{wrong}{otherwise}{name}: {rows} rows")
+    format!(in alloc; "{wrong}{misread}{name}: {rows} rows")
 }

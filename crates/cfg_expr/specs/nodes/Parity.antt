@@ -1,5 +1,5 @@
--- How one pass over the nodes finds which predicates stand below an odd number of `not`, and with
--- what the unknown answers to them are filled.
+-- A pass over the nodes that finds the predicates below an odd number of `not`, and the fillings
+-- that follow from it.
 use Rattle.std.specs.Prelude.{◌++◌, ℕ, Bool, true, false, not, List, [], ◌∷◌, get_or, map}
 use Rattle.std.specs.Prelude.{replicate, Option}
 use Rattle.cfgx_grammar.specs.Filling.{filled_by}
@@ -7,7 +7,7 @@ use Rattle.cfgx_parser.specs.nodes.Shape.{Shape}
 use Rattle.cfgx_parser.specs.declared.function.Func.{Func}
 use Rattle.cfgx_parser.specs.declared.function.Func.TheVariants.{Not, All, Any}
 
--- the truth value, or its opposite if it is to be turned over
+-- the truth value, or its opposite if the second one is true
 abbrev pub turned : Bool → Bool → Bool
 turned value false = value
 turned value true = not value
@@ -17,32 +17,32 @@ is_not Not = true
 is_not (All count) = false
 is_not (Any count) = false
 
--- how many members a function has
+-- the number of members of a function
 abbrev pub arity : Func → ℕ
 arity Not = 1
 arity (All count) = count
 arity (Any count) = count
 
--- what is found of a node below an odd number of `not`, or an even one
-abbrev pub found_of : Shape → Bool → Bool
-found_of Shape.predicate odd = odd
-found_of shape odd = false
+-- whether the node is a predicate below an odd number of `not`
+abbrev pub odd_of : Shape → Bool → Bool
+odd_of Shape.predicate odd = odd
+odd_of shape odd = false
 
--- what holds of its members
+-- for each member of the node, whether it stands below an odd number of `not`
 abbrev pub members_of : Shape → Bool → List Bool
 members_of (Shape.function func) odd = replicate (arity func) (turned odd (is_not func))
 members_of shape odd = []
 
--- What is found of the nodes one after another. Of each tree that is still to come, the next one
--- first, it is given whether it stands below an odd number of `not`.
+-- For each node, whether it is a predicate below an odd number of `not`. `ahead` has an entry for
+-- each tree that is still to come, the next one first: whether it stands below an odd number.
 abbrev pub pass : List Shape → List Bool → List Bool
 pass shapes [] = []
 pass [] (odd ∷ ahead) = []
 pass (shape ∷ shapes) (odd ∷ ahead) =
-    found_of shape odd ∷ pass shapes (members_of shape odd ++ ahead)
+    odd_of shape odd ∷ pass shapes (members_of shape odd ++ ahead)
 
--- the answers to the predicates at the places; unknown ones become `fill`, turned over below an odd
--- number of `not`
+-- the answers to the predicates at `places`, with `fill` for an unknown one, or its opposite below
+-- an odd number of `not`
 abbrev pub filled_at : List Bool → List ℕ → List (Option Bool) → Bool → List Bool
 filled_at odds places answers fill =
     filled_by answers (map (turned fill) (map (λ place. get_or odds place false) places))

@@ -1,27 +1,24 @@
-//! Conditions that are borrowed: those of expressions, and those that are read one after another.
-ghost use Rattle.std.specs.Prelude.{◌≡◌, ◌≤◌, Bool, List, Option, length, IfOk, IsOk, OnErr};
+//! Borrowed conditions, and a reader that reads one condition after another.
+ghost use Rattle.std.specs.Prelude.{◌≡◌, ◌≤◌, length, IfOk, IsOk, OnOk};
 ghost use Rattle.cfgx_syntax.specs.Stripping.{strip};
-ghost use Rattle.std.specs.List.{AllByRecursion};
 ghost use Rattle.cfgx_grammar.specs.Given.{AreAnswersTo};
-ghost use Rattle.cfgx_grammar.specs.Answer.{Answers, HasOneTree};
-ghost use Rattle.cfg_expr.specs.Asking.{AnswersBy};
-ghost use Rattle.cfg_expr.specs.Deciding.{DecidesExactly};
-ghost use Rattle.cfg_expr.specs.Evaluation.{Evaluates, IsValueBy, MayEvaluate};
-ghost use Rattle.cfgx_grammar.specs.Filling.{IsExact};
-ghost use Rattle.cfgx_grammar.specs.Question.{Question};
-ghost use Rattle.cfgx_grammar.specs.Tree.{asked};
-ghost use Rattle.cfgx_grammar.specs.WellFormed.{IsWellFormed};
+ghost use Rattle.cfgx_grammar.specs.Answer.{Answers};
+ghost use Rattle.cfg_expr.specs.Deciding.{AreFillings, Decides, IsExactOverAll};
+ghost use Rattle.cfg_expr.specs.Evaluation.{AsksInOrder, EvaluatesTo, MayEvaluate};
+ghost use Rattle.cfg_expr.specs.Evaluation.{IsByLaneOverAll, IsValueInLanes};
 
 use super::{Decision, Logic, Predicate, evaluating, filling};
 use crate::error::Failure;
 use crate::memory::SmallAllocator;
 use cfgx_parser::parsed::{ParsedRef, TextReader};
 use cfgx_parser::predicates::Predicates;
+use cfgx_syntax::logic::Kleene64;
+use cfgx_syntax::logic::laws::are_disjoint;
 use std::alloc::{AllocError, Global};
 use std::fmt;
 use std::marker::Model;
 
-/// A condition whose text and nodes are borrowed, from an `Expression` or a `ConditionReader`.
+/// A condition that borrows its text and nodes from an `Expression` or a `ConditionReader`.
 /// Contracts see it as its stripped text.
 #[derive(Drop)]
 pub struct Condition<'a> {
@@ -37,103 +34,137 @@ impl<'a> Model for Condition<'a> {
 }
 
 impl<'a> Condition<'a> {
-    /// The condition of a text that was read.
+    /// Makes the condition of a parsed text.
     pub(super) fn new(parsed: ParsedRef<'a>) -> Self
         ensures { result ≡ parsed.entry }
     {
         Condition { parsed }
     }
 
-    /// The text that was read, without the outer `cfg( )`. Spans count its bytes.
+    /// Returns the text without an outer `cfg( )`. Spans are ranges of its bytes.
     pub fn original(&self) -> &'a str
         ensures { result.now ≡ self.now }
     {
         self.parsed.original()
     }
 
-    /// The predicates in the order in which they are asked, as those of an `Expression`.
+    /// Returns the predicates in the order in which they are asked, as `Expression::predicates`
+    /// does.
     pub fn predicates(&self) -> Predicates<'a>
-        ensures asked { (one : HasOneTree self.now) × (result ≡ asked one.tree) }
-        ensures well_formed { AllByRecursion IsWellFormed result }
+        ensures { AsksInOrder self.now result }
     {
         self.parsed.predicates()
     }
 
-    /// The value of the condition if `ep` answers each predicate, as `Expression::eval` says.
+    /// Evaluates the condition over what `ep` answers, as `Expression::eval` does.
     ///
     /// # Errors
     ///
-    /// `AllocError`: `alloc` refused memory. `ep` is as it was, so nothing was asked.
+    /// `AllocError`: `alloc` refused memory. `ep` has not changed, so nothing was asked.
     pub fn eval<EP, T, A>(&self, alloc: A, ep: &mut EP) -> Result<T, AllocError>
     where
         EP: FnMut(&Predicate<'_>) -> T,
         T: Logic,
         A: SmallAllocator,
         requires { MayEvaluate EP.FnMut self.now ep.old }
-        ensures value { IfOk result (λ value.
-            Evaluates T.Logic EP.FnMut self.now ep.old value ep.new) }
-        // What follows of a closure that no call changes, as one without state.
-        ensures by { IfOk result (λ value. (answer_to : Question → T)
-            → AnswersBy EP.FnMut ep.old answer_to
-            → IsValueBy T.Logic self.now answer_to value) }
-        ensures refused { OnErr result (ep.new ≡ ep.old) }
-        ensures short { length self.now ≤ 32 → IsOk result }
+        ensures { EvaluatesTo T.Logic EP.FnMut self.now ep.old ep.new result }
     {
         evaluating::eval(alloc, &self.parsed, ep)
     }
 
-    /// Whether the answers decide the condition, as `Expression::decide` says.
-    ///
-    /// It consumes an earlier decision, or `Decision::Known(false)` if there is none. If the value
-    /// is unknown, the new fillings reuse the memory of the earlier ones.
+    /// Decides the condition as `Expression::decide` does, and replaces `decision`. New fillings
+    /// reuse the memory of those that it holds. `Decision::default()` holds none.
     ///
     /// # Errors
     ///
-    /// `AllocError`: `alloc` refused memory.
+    /// `AllocError`: `alloc` refused memory. `decision` is then of no use but to be replaced.
     pub fn decide<A: SmallAllocator>(
         &self,
         alloc: A,
         answers: &[Option<bool>],
-        earlier: Decision<A>,
-    ) -> Result<Decision<A>, AllocError>
+        decision: &mut Decision<A>,
+    ) -> Result<(), AllocError>
         requires { AreAnswersTo answers.now self.now }
-        // This holds of all answers to the text's one tree, also if the call is out of memory.
-        ensures exact { (one : HasOneTree self.now) × ((given : List (Option Bool))
-            → length given ≡ length (asked one.tree) → IsExact one.tree given) }
-        ensures decision { IfOk result (λ decision. (one : HasOneTree self.now)
-            × DecidesExactly one.tree answers.now decision) }
+        // This also holds if the call is out of memory.
+        ensures exact { IsExactOverAll self.now }
+        ensures decision { OnOk result (Decides self.now answers.now decision.new) }
     {
-        filling::decide(alloc, &self.parsed, answers, earlier)
+        filling::decide(alloc, &self.parsed, answers, decision)
+    }
+
+    /// Returns the two fillings of `decide`, as `Expression::polar_fillings` does.
+    ///
+    /// # Errors
+    ///
+    /// `AllocError`: `alloc` refused memory.
+    pub fn polar_fillings<A: SmallAllocator>(
+        &self,
+        alloc: A,
+        answers: &[Option<bool>],
+    ) -> Result<Option<(Vec<bool, A>, Vec<bool, A>)>, AllocError>
+        requires { AreAnswersTo answers.now self.now }
+        // This also holds if the call is out of memory.
+        ensures exact { IsExactOverAll self.now }
+        ensures fillings { IfOk result (AreFillings self.now answers.now) }
+    {
+        let mut decision = Decision::default();
+        self.decide(alloc, answers, &mut decision)?;
+        match decision {
+            Decision::Known(_) => Ok(None),
+            Decision::Unknown { if_true, if_false } => Ok(Some((if_true, if_false))),
+        }
+    }
+
+    /// Evaluates the condition in 64 lanes at once, as `Expression::eval_lanes` does.
+    ///
+    /// # Errors
+    ///
+    /// `AllocError`: `alloc` refused memory.
+    pub fn eval_lanes<A: SmallAllocator>(
+        &self,
+        alloc: A,
+        answers: &[Kleene64],
+    ) -> Result<Kleene64, AllocError>
+        requires { AreAnswersTo answers.now self.now }
+        // This also holds if the call is out of memory.
+        ensures lanes { IsByLaneOverAll self.now }
+        ensures value { IfOk result (IsValueInLanes self.now answers.now) }
+        ensures short { length self.now ≤ 32 → IsOk result }
+    {
+        prove!(are_disjoint(answers));
+        evaluating::eval_over_answers(alloc, &self.parsed, answers)
     }
 }
 
-/// Prints the stripped text as `Debug` prints a text, in parentheses.
+/// Writes the `Debug` form of the stripped text in parentheses.
 impl fmt::Debug for Condition<'_> {
     fn fmt<W: fmt::Write>(&self, f: &mut fmt::Formatter<W>) -> fmt::Result {
         write!(f, "Condition({:?})", self.original())
     }
 }
 
-/// Reads one condition after another and reuses its memory. Only the first text, one that needs
-/// more room than each before it, and a faulty one take memory.
+/// Reads one condition after another in the same memory. Only the first read, one that needs more
+/// room than any before, and a faulty text allocate.
 #[derive(Drop)]
 pub struct ConditionReader<'a, A: SmallAllocator = Global> {
     texts: TextReader<'a, A>,
 }
 
 impl<'a, A: SmallAllocator> ConditionReader<'a, A> {
-    /// A reader that has read nothing. It takes no memory.
+    /// Makes a reader. Takes no memory.
     pub fn new(alloc: A) -> Self {
         ConditionReader {
             texts: TextReader::new(alloc),
         }
     }
 
-    /// The condition of a text, which may stand in `cfg( )`. It lasts until the next one is read,
-    /// and borrows the text.
+    /// Reads a text, which may stand in `cfg( )`. The condition borrows the text, and lasts until
+    /// the next one is read.
     ///
-    /// The error is the first fault of the text, or that the allocator refused memory. Either way
-    /// the next text can be read.
+    /// # Errors
+    ///
+    /// `Failure::Parse`: the first fault of the text. `Failure::Memory`: the allocator refused
+    /// memory. After either, the next text can be read.
     #[inline(always)]
     pub fn read(&mut self, original: &'a str) -> Result<Condition<'_>, Failure<A>>
         ensures { Answers (strip original.now) result }
@@ -142,7 +173,7 @@ impl<'a, A: SmallAllocator> ConditionReader<'a, A> {
     }
 }
 
-/// Prints the name alone.
+/// Writes the name alone.
 impl<A: SmallAllocator> fmt::Debug for ConditionReader<'_, A> {
     fn fmt<W: fmt::Write>(&self, f: &mut fmt::Formatter<W>) -> fmt::Result {
         f.debug_struct("ConditionReader").finish_non_exhaustive()

@@ -1,5 +1,5 @@
-//! What holds of the values of all conditions: each function's clause is the law. Its body does
-//! nothing, and a caller that calls it knows the law.
+//! Laws on the values of all conditions, for proofs of callers. Each function does nothing, and its
+//! caller knows what it ensures.
 ghost use Rattle.std.specs.Prelude.{◌≡◌, ℕ, ◌<◌, Bool, List, length, map};
 ghost use Rattle.std.specs.List.{AllByRecursion};
 ghost use Rattle.cfgx_syntax.specs.Kleene.{lane};
@@ -11,32 +11,31 @@ ghost use Rattle.cfgx_grammar.specs.Tree.{ListFunction, Tree, Trees, arranged, a
 
 use super::Logic;
 
-/// The value of a list is `list_value` of the values of its members as they are arranged: `all`
-/// joins them from the last back by `and` to `top`, and `any` by `or` to `bottom`.
+/// The value of a list is the `list_value` of the values of its arranged members: `all` joins them
+/// from the last back by `and` to `top`, and `any` by `or` to `bottom`.
 pub fn lists_are_joined_as_arranged<T: Logic>()
     ensures { (function : ListFunction) (trees : Trees T)
         → tree_value T.Logic (Tree.list function trees)
         ≡ list_value T.Logic function (values_of T.Logic (arranged trees)) }
 {}
 
-/// A tree over which answers are dealt out asks for just these answers, in their order, if there is
-/// one for each predicate. So `tree_fold` is the value of the tree that asks for them.
+/// A tree with answers in place of its predicates asks these answers, in order, if there is one for
+/// each predicate. So `tree_fold` is the value of a tree that asks them.
 pub fn answered_trees_ask_their_answers<T: Logic>()
     ensures { (tree : Tree Question) (answers : List T) → length answers ≡ length (asked tree)
         → asked (answered T.Logic.top tree answers) ≡ answers }
 {}
 
-/// A map that takes each constant and each operation of one logic to that of another takes the
-/// value of a condition to its value over what the map makes of each answer. It has to do so for
-/// the values that pass a test, which are the answers and what the operations make of such values.
+/// A map that takes the constants and operations of one logic to those of another takes the value of
+/// a condition to its value over the mapped answers. The map needs to do so only for values that
+/// pass `test`, if the answers pass it, and the operations keep it.
 pub fn homomorphisms_keep_values<T: Logic, U: Logic>()
     ensures { (test : T → Bool) (to : T → U) → IsHomomorphism T.Logic U.Logic (Passes test) to
         → (tree : Tree Question) (answers : List T) → AllByRecursion (Passes test) answers
         → to (tree_fold T.Logic tree answers) ≡ tree_fold U.Logic tree (map to answers) }
 {}
 
-/// The answer of a lane is such a map, from sixty-four answers to one that may be unknown, if no
-/// lane is both true and false.
+/// `lane i` is a homomorphism, for values of which no lane is both true and false.
 pub fn lanes_are_homomorphisms()
     ensures { (i : ℕ) → i < 64
         → IsHomomorphism lane_valued three_valued (Passes is_disjoint) (lane i) }

@@ -1,4 +1,4 @@
-//! How predicates are written.
+//! Writes predicates.
 ghost use Rattle.std.specs.Prelude.{◌≡◌, ◌<◌, ◌++◌, codes, length, IfOk, IfErr};
 ghost use Rattle.std.specs.Io.KnownBytes.{Keeps};
 ghost use Rattle.std.specs.Fmt.{decimal};
@@ -16,7 +16,7 @@ use cfgx_targets::endian::Endian;
 use std::alloc::Allocator;
 use std::io::{self, ErrorKind, Write};
 
-/// One call of `write`. It answers what is left after the bytes that went out.
+/// Calls `write` once. Returns the bytes that are left.
 fn write_once<'a, W: Write>(writer: &mut W, bytes: &'a [u8]) -> io::Result<&'a [u8]>
     requires { 0 < length bytes.now }
     ensures taken { IfOk result (λ left.
@@ -31,7 +31,7 @@ fn write_once<'a, W: Write>(writer: &mut W, bytes: &'a [u8]) -> io::Result<&'a [
     }
 }
 
-/// Writes all the bytes, in as many calls as the writer needs. No failed call is tried again.
+/// Writes all bytes, in as many calls as the writer needs. Tries no failed call again.
 #[tactic(auto, using(crate::proofs::Parts::takes_more))]
 fn write_bytes<W: Write>(writer: &mut W, bytes: &[u8]) -> io::Result<()>
     ensures { Writes (W.contents writer.old) (W.contents writer.new) result bytes.now }
@@ -43,7 +43,7 @@ fn write_bytes<W: Write>(writer: &mut W, bytes: &[u8]) -> io::Result<()>
     Ok(())
 }
 
-/// Writes a number in decimal.
+/// Writes `number` in decimal.
 fn write_decimal<W: Write>(writer: &mut W, number: u16) -> io::Result<()>
     ensures { Writes (W.contents writer.old) (W.contents writer.new) result (decimal number) }
 {
@@ -54,7 +54,7 @@ fn write_decimal<W: Write>(writer: &mut W, number: u16) -> io::Result<()>
     write_bytes(writer, &[b'0' + (number % 10) as u8])
 }
 
-/// A value of a predicate: a text, or a number that is written in decimal.
+/// The value of a predicate: a text, or a number that is written in decimal.
 #[derive(Clone, Copy)]
 pub(crate) enum Value<'a> {
     Text(&'a str),
@@ -74,7 +74,7 @@ impl Value<'_> {
     }
 }
 
-/// Writes a value and the quote after it.
+/// Writes `value` and a quote.
 #[inline(always)]
 #[tactic(auto, using(crate::proofs::Parts::front_of_first, crate::proofs::Parts::writes_second))]
 fn write_to_quote<W: Write>(writer: &mut W, value: Value<'_>) -> io::Result<()>
@@ -85,18 +85,18 @@ fn write_to_quote<W: Write>(writer: &mut W, value: Value<'_>) -> io::Result<()>
     write_bytes(writer, b"\"")
 }
 
-/// Writes what stands in front of a value, the value, and the quote after it.
+/// Writes `prefix`, `value` and a quote.
 #[inline(always)]
 #[tactic(auto, using(crate::proofs::Parts::front_of_first, crate::proofs::Parts::writes_second))]
-fn write_quoted<W: Write>(writer: &mut W, front: &[u8], value: Value<'_>) -> io::Result<()>
+fn write_quoted<W: Write>(writer: &mut W, prefix: &[u8], value: Value<'_>) -> io::Result<()>
     ensures { Writes (W.contents writer.old) (W.contents writer.new) result
-        (front.now ++ (value_bytes value.entry ++ codes "\"")) }
+        (prefix.now ++ (value_bytes value.entry ++ codes "\"")) }
 {
-    write_bytes(writer, front)?;
+    write_bytes(writer, prefix)?;
     write_to_quote(writer, value)
 }
 
-/// Writes a key and its value, in quotes.
+/// Writes `key`, ` = ` and `value` in quotes.
 #[inline(always)]
 #[tactic(auto, using(crate::proofs::Parts::front_of_first, crate::proofs::Parts::writes_second))]
 fn write_value<W: Write>(writer: &mut W, key: &str, value: Value<'_>) -> io::Result<()>
@@ -107,7 +107,7 @@ fn write_value<W: Write>(writer: &mut W, key: &str, value: Value<'_>) -> io::Res
     write_quoted(writer, b" = \"", value)
 }
 
-/// The value that names the byte order.
+/// Returns the name of a byte order.
 fn endian_name(endian: Endian) -> &'static str
     ensures { result.now ≡ endian_text endian }
 {
@@ -117,7 +117,7 @@ fn endian_name(endian: Endian) -> &'static str
     }
 }
 
-/// The value of a predicate on the width of atomics.
+/// Returns the value of a predicate on the width of atomics.
 fn atomic_value(atomic: HasAtomic) -> Value<'static>
     ensures { value_bytes result ≡ atomic_text atomic }
 {
@@ -127,7 +127,7 @@ fn atomic_value(atomic: HasAtomic) -> Value<'static>
     }
 }
 
-/// The key and the value of a predicate on the target.
+/// Returns the key and the value of a predicate on the target.
 fn target_parts<'a, A: Allocator>(target: &'a TargetPredicate<'_, A>) -> (&'static str, Value<'a>)
     ensures { key_and_value result.0.now (value_bytes result.1)
         ≡ target_spelling (target_of target.now) }
@@ -149,7 +149,7 @@ fn target_parts<'a, A: Allocator>(target: &'a TargetPredicate<'_, A>) -> (&'stat
 }
 
 /// Writes a predicate on the target.
-fn spell_target<W: Write, A: Allocator>(
+fn write_target<W: Write, A: Allocator>(
     target: &TargetPredicate<'_, A>,
     writer: &mut W,
 ) -> io::Result<()>
@@ -169,7 +169,7 @@ fn write_predicate<W: Write, A: Allocator>(
         (spelling (question_of predicate.now)) }
 {
     match predicate {
-        Predicate::Target(target) => spell_target(target, writer),
+        Predicate::Target(target) => write_target(target, writer),
         Predicate::Test => write_bytes(writer, b"test"),
         Predicate::DebugAssertions => write_bytes(writer, b"debug_assertions"),
         Predicate::ProcMacro => write_bytes(writer, b"proc_macro"),
@@ -182,15 +182,19 @@ fn write_predicate<W: Write, A: Allocator>(
     }
 }
 
-/// Writes the predicate as it is spelled: its key, and with a value one space, `=`, one space and
-/// the value in quotes. It takes no memory.
+/// Writes the spelling of a predicate: its key, and for a value ` = ` and the value in quotes.
+/// `docs/RULES.md` has the table. Takes no memory.
 ///
-/// The bytes go out in as many calls of `write` as the writer needs, none of them of an empty
-/// slice, and no failed call is tried again. The error is the writer's, or `WriteZero` if it
-/// took no byte; then a beginning of the spelling was written. The table is in `docs/RULES.md`.
+/// Calls `write` as often as the writer needs, never with an empty slice, and tries no failed call
+/// again.
 ///
-/// The spelling of a predicate that can stand in a text, as each one of an expression can, is a
-/// text of this predicate alone: parsed, it asks just this one, and nothing is stripped from it.
+/// A predicate that can stand in a text, such as one of an expression, can be parsed from its
+/// spelling: nothing is stripped, and the expression asks this predicate alone.
+///
+/// # Errors
+///
+/// The error of the writer, or `WriteZero` if it takes no byte. A prefix of the spelling is written
+/// then.
 pub fn spell<W: Write, A: Allocator>(predicate: &Predicate<'_, A>, writer: &mut W) -> io::Result<()>
     ensures written { Writes (W.contents writer.old) (W.contents writer.new) result
         (spelling (question_of predicate.now)) }

@@ -1,7 +1,7 @@
-//! The sections that boards take, and the dependencies that they may need.
+//! The verdicts of boards on sections, and the dependencies that boards may need.
 use super::manifests::{may_need, verdicts_on};
 use super::matcher::Board;
-use super::shows;
+use super::value_prints;
 use cfg_expr::error::Failure;
 use cfg_expr::expr::TargetMatcher;
 use std::alloc::Global;
@@ -18,22 +18,24 @@ pub const LINUX: Board<'static> = Board {
     pointer_width: 64,
 };
 
-// Whether the board says this of the sections of a manifest.
-fn says<M: TargetMatcher>(
+// Whether the verdicts of `board` on `manifest` print `verdicts`.
+fn verdicts_are<M: TargetMatcher>(
     alloc: Global,
     board: &M,
     manifest: &[(&str, &str)],
     verdicts: &str,
 ) -> bool {
-    shows(alloc, verdicts_on(alloc, manifest, board), verdicts)
+    value_prints(alloc, verdicts_on(alloc, manifest, board), verdicts)
 }
 
-/// Whether `BARE` and `LINUX` say this of a section with this condition.
-pub fn both_say(alloc: Global, condition: &str, verdicts: &str) -> bool {
+/// Whether the verdicts of `BARE` and of `LINUX` on a section with `condition` print `verdicts`,
+/// which a space separates.
+pub fn verdicts_of_both_are(alloc: Global, condition: &str, verdicts: &str) -> bool {
     let manifest = [("", condition)];
     match verdicts.split_once(' ') {
         Some((one, other)) => {
-            says(alloc, &BARE, &manifest, one) && says(alloc, &LINUX, &manifest, other)
+            verdicts_are(alloc, &BARE, &manifest, one)
+                && verdicts_are(alloc, &LINUX, &manifest, other)
         }
         None => false,
     }
@@ -49,14 +51,14 @@ const MANIFEST: &[(&str, &str)] = &[
     ),
 ];
 
-fn is_fault<T: Drop>(answer: Result<T, Failure>) -> bool {
-    matches!(&answer, Err(Failure::Parse(_)))
+fn is_fault<T: Drop>(outcome: Result<T, Failure>) -> bool {
+    matches!(&outcome, Err(Failure::Parse(_)))
 }
 
 #[test]
 fn sections_are_picked_and_faults_refused(rt: HostRuntime) {
     let alloc = rt.alloc();
-    assert!(rt; says(alloc, &BARE, MANIFEST, "[Yes, No, Unknown, No]"));
+    assert!(rt; verdicts_are(alloc, &BARE, MANIFEST, "[Yes, No, Unknown, No]"));
     assert!(rt; is_fault(verdicts_on(alloc, &[("a", "b)")], &BARE)));
     assert!(rt; is_fault(may_need(alloc, &[("libc", "cfg(unix")], &BARE)));
 }
@@ -69,10 +71,11 @@ const DEPENDENCIES: &[(&str, &str)] = &[
     ("wide", "cfg(all(target_pointer_width = \"64\", not(loom)))"),
 ];
 
-/// Whether a build for a board of this system and these bits may need these.
-pub fn needs(alloc: Global, board: &str, names: &str) -> bool {
+/// Whether the dependencies that a build for `board` may need print `names`. `board` is a system and
+/// the number of bits of a pointer.
+pub fn needed_names_are(alloc: Global, board: &str, names: &str) -> bool {
     let (os, bits) = board.split_once(' ').unwrap_or((board, ""));
     let pointer_width = bits.parse().unwrap_or(0);
     let board = Board { os, pointer_width };
-    shows(alloc, may_need(alloc, DEPENDENCIES, &board), names)
+    value_prints(alloc, may_need(alloc, DEPENDENCIES, &board), names)
 }

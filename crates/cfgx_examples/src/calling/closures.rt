@@ -1,4 +1,4 @@
-//! What follows of the value, and closures of each kind.
+//! Closures of each kind, and a contract on the value.
 ghost use Rattle.std.specs.Prelude.{IfOk, true};
 ghost use Rattle.cfg_expr.specs.Evaluation.{IsValueBy};
 
@@ -28,7 +28,7 @@ pub fn with_features(
     )
 }
 
-/// How many predicates are asked.
+/// Counts the predicates that are asked.
 pub fn count_asked(alloc: Global, expression: &Expression) -> Result<usize, AllocError> {
     let mut count = 0usize;
     let _value: bool = expression.eval(

@@ -1,4 +1,4 @@
-//! What comparisons tell a caller. Each clause follows from the call alone, without a proof.
+//! What comparisons tell a caller. Each clause follows from the contract of the call alone.
 ghost use Rattle.std.specs.Prelude.{◌≡◌, ◌↔◌, IsPermutation, IsTrue, List, ℕ};
 ghost use Rattle.std.specs.Cmp.Lexicographic.{slice_cmp};
 ghost use Rattle.std.specs.Ordering.{nat_cmp};
@@ -49,7 +49,7 @@ pub fn are_equal_tokens(one: &Token<'_>, other: &Token<'_>) -> bool
     *one == *other
 }
 
-/// Whether both planes are the same.
+/// Whether both planes are equal.
 pub fn are_equal_lanes(one: Kleene64, other: Kleene64) -> bool
     ensures { IsTrue result ↔ (one ≡ other) }
 {
@@ -118,8 +118,8 @@ pub fn are_equal_width_failures<A: Allocator>(
     *one == *other
 }
 
-/// Whether two lists have the same members in the same places, which holds exactly if what one was
-/// made of is a rearrangement of what the other was made of.
+/// Whether two lists have the same members in the same places. They do exactly if the items of one
+/// are a permutation of the items of the other.
 pub fn are_equal_families<A: Allocator>(one: &Families<'_, A>, other: &Families<'_, A>) -> bool
     ensures same { IsTrue result ↔ (one.now ≡ other.now) }
     ensures rearranged { (items others : List (List ℕ)) →

@@ -7,7 +7,7 @@ use cfg_expr::expr::Func;
 use cfg_expr::{Predicate, TargetPredicate};
 use std::cmp::Ordering;
 
-/// Whether both are the same function, with as many members.
+/// Whether two functions have the same name and the same number of members.
 pub fn is_same_function(one: &Func, other: &Func) -> bool
     ensures { IsTrue result ↔ (one.now ≡ other.now) }
 {
@@ -21,14 +21,14 @@ pub fn order_of_functions(one: &Func, other: &Func) -> Ordering
     one.cmp(other)
 }
 
-/// Whether both ask the same of a target.
+/// Whether two predicates ask the same question of a target.
 pub fn asks_same_of_targets(one: &TargetPredicate<'_>, other: &TargetPredicate<'_>) -> bool
     ensures { IsTrue result ↔ (target_of one.now ≡ target_of other.now) }
 {
     *one == *other
 }
 
-/// Whether both ask the same.
+/// Whether two predicates ask the same question.
 pub fn asks_same(one: &Predicate<'_>, other: &Predicate<'_>) -> bool
     ensures { IsTrue result ↔ (question_of one.now ≡ question_of other.now) }
 {

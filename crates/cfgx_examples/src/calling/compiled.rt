@@ -1,17 +1,18 @@
-//! Whether targets that are not built in answer what the pages say.
-use super::is_written;
+//! Targets that are not built in: the values and the tables that the pages show.
 use super::lines::row_of;
 use super::manifests::{SECTIONS, VALUES};
 use super::others::{builtins_and, linux_row};
 use super::resolver::value_for;
+use super::run_writes;
 use cfg_expr::Expression;
 use cfg_expr::expr::TargetMatcher;
 use cfg_expr::targets::{TargetInfo, TargetTable, get_builtin_target_by_triple};
-use cfgx_testing::holding::holds;
+use cfgx_testing::checking::is_ok_true;
 use cfgx_testing::triples::IOS;
 use std::alloc::{AllocError, Global};
 
-// What `rustc --print cfg --target x86_64-pc-windows-msvc` of 1.95 prints, less most features.
+// The lines that `rustc --print cfg --target x86_64-pc-windows-msvc` of 1.95 prints, without most
+// features.
 const WINDOWS: &str = "debug_assertions\n\
     panic=\"unwind\"\n\
     target_abi=\"\"\n\
@@ -31,8 +32,7 @@ const WINDOWS: &str = "debug_assertions\n\
 
 const TRIPLE: &str = "x86_64-pc-windows-msvc";
 
-// The value with the feature `x`. The type of the target is not known here, which makes its drop
-// short to prove.
+// The value on `target` with the feature `x`.
 fn value_on<M: TargetMatcher + Drop>(
     alloc: Global,
     condition: &Expression,
@@ -41,7 +41,7 @@ fn value_on<M: TargetMatcher + Drop>(
     value_for(alloc, condition, &target?, &["x"])
 }
 
-/// The value on the row that the lines of a compiler make, or false if there is none.
+/// The value on the row that is made from the lines of a compiler, or false if they make no row.
 pub fn value_on_windows(alloc: Global, condition: &Expression) -> Result<bool, AllocError> {
     match row_of(alloc, TRIPLE, WINDOWS)? {
         Some(row) => value_on(alloc, condition, Ok(row)),
@@ -54,7 +54,7 @@ pub fn value_on_linux(alloc: Global, condition: &Expression) -> Result<bool, All
     value_on(alloc, condition, linux_row(alloc))
 }
 
-// What stands after the first tab.
+// The text after the first tab.
 fn after_tab(line: &str) -> &str {
     match line.split_once('\t') {
         Some((_, rest)) => rest,
@@ -62,49 +62,59 @@ fn after_tab(line: &str) -> &str {
     }
 }
 
-// Whether `eval` with the lines of the compiler as FLAGs writes the value of this section.
-fn is_evaluated(alloc: Global, section: &str, told: &str) -> Result<bool, AllocError> {
+// Whether `eval` with the lines of the compiler as FLAGs writes the value that `line` gives the
+// section.
+fn writes_value(alloc: Global, section: &str, line: &str) -> Result<bool, AllocError> {
     let condition = after_tab(section);
     let words = format!(in alloc; "eval\n{condition}\n{WINDOWS}?loom")?;
     let words: Vec<&str> = words.as_str().lines().collect(alloc)?;
-    Ok(is_written(alloc, words.as_slice(), "", after_tab(told)))
+    Ok(run_writes(alloc, words.as_slice(), "", after_tab(line)))
 }
 
 #[test]
 fn sections_are_evaluated_with_the_lines_of_a_compiler(
     rt: HostRuntime,
 ) -> Result<(), &'static str> {
-    for (section, told) in SECTIONS.lines().zip(VALUES.split_inclusive('\n')) {
-        if !holds(is_evaluated(rt.alloc(), section, told)) {
+    for (section, line) in SECTIONS.lines().zip(VALUES.split_inclusive('\n')) {
+        if !is_ok_true(writes_value(rt.alloc(), section, line)) {
             return Err(section);
         }
     }
     Ok(())
 }
 
-// Whether the built-in rows and this one make a table that has it, and one that is built in.
-fn makes_a_table(alloc: Global, row: TargetInfo<'static>) -> Result<bool, AllocError> {
+// Whether the built-in rows and `row` make a table in which `triple` and a built-in triple are found.
+fn makes_a_table(
+    alloc: Global,
+    row: TargetInfo<'static>,
+    triple: &str,
+) -> Result<bool, AllocError> {
     let Some(table) = builtins_and(alloc, row)? else {
         return Ok(false);
     };
-    Ok(has_triple(&table, TRIPLE) && has_triple(&table, IOS))
+    Ok(has_triple(&table, triple) && has_triple(&table, IOS))
 }
 
 fn has_triple(table: &TargetTable<'_>, triple: &str) -> bool {
     get_builtin_target_by_triple(table, triple).is_some()
 }
 
-// Whether the lines of the compiler make a row with this triple, which then makes such a table.
-fn is_added(alloc: Global, triple: &'static str, lines: &'static str) -> Result<bool, AllocError> {
+// Whether the lines of a compiler make a row with this triple, and that row makes such a table.
+fn is_row_added(
+    alloc: Global,
+    triple: &'static str,
+    lines: &'static str,
+) -> Result<bool, AllocError> {
     match row_of(alloc, triple, lines)? {
-        Some(row) => makes_a_table(alloc, row),
+        Some(row) => makes_a_table(alloc, row, triple),
         None => Ok(false),
     }
 }
 
 #[test]
-fn rows_make_a_table_in_order(rt: HostRuntime) {
-    assert!(rt; holds(is_added(rt.alloc(), TRIPLE, WINDOWS)));
-    assert!(rt; matches!(is_added(rt.alloc(), IOS, WINDOWS), Ok(false)));
-    assert!(rt; matches!(is_added(rt.alloc(), TRIPLE, ""), Ok(false)));
+fn a_row_is_added_unless_its_triple_is_built_in(rt: HostRuntime) {
+    assert!(rt; is_ok_true(is_row_added(rt.alloc(), TRIPLE, WINDOWS)));
+    assert!(rt; is_ok_true(is_row_added(rt.alloc(), "a", WINDOWS)));
+    assert!(rt; matches!(is_row_added(rt.alloc(), IOS, WINDOWS), Ok(false)));
+    assert!(rt; matches!(is_row_added(rt.alloc(), TRIPLE, ""), Ok(false)));
 }

@@ -1,9 +1,9 @@
-//! What is decided over answers, and the fillings that show why a value is unknown.
+//! The decision over answers, with the fillings that show why a value is unknown.
 use cfg_expr::{Decision, Expression};
 use std::alloc::{AllocError, Global};
 
-/// What is decided over these answers: `None` if there are not as many of them as predicates.
-pub fn decided_by(
+/// The decision over `answers`, or `None` unless there is one answer for each predicate.
+pub fn decision_over(
     alloc: Global,
     condition: &Expression,
     answers: &[Option<bool>],

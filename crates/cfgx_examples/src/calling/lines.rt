@@ -1,12 +1,12 @@
-//! The row of any target, from the lines of a compiler.
+//! The row of any target, made from the lines of a compiler.
 use cfg_expr::targets::{
     Abi, Arch, Env, Families, Family, HasAtomics, Os, Panic, TargetInfo, Triple, Vendor,
 };
 use cfgx_targets::reading::{read_endian, read_has_atomic, read_u8};
 use std::alloc::{AllocError, Global};
 
-/// The row of a target, made of the lines that `rustc --print cfg` prints of it: `None` if they
-/// give no pointer width or no byte order.
+/// Makes the row of a target from the lines that `rustc --print cfg` prints. Returns `None` if no
+/// line gives the pointer width, or none the byte order.
 pub fn row_of<'a>(
     alloc: Global,
     triple: &'a str,
@@ -55,7 +55,7 @@ fn widths_of(alloc: Global, lines: &str) -> Result<HasAtomics, AllocError> {
     HasAtomics::new(alloc, widths.into_iter())
 }
 
-// The value that the line gives the key, without its quotes.
+// The value of `key` on this line, without its quotes.
 fn value<'a>(line: &'a str, key: &str) -> Option<&'a str> {
     match line.split_once('=') {
         Some((name, quoted)) if name == key => Some(quoted.trim_matches('"')),
@@ -63,7 +63,7 @@ fn value<'a>(line: &'a str, key: &str) -> Option<&'a str> {
     }
 }
 
-// The first value of the key, and the empty text if no line gives one.
+// The first value of `key`, or the empty text if no line gives one.
 fn first<'a>(lines: &'a str, key: &str) -> &'a str {
     for line in lines.lines() {
         if let Some(value) = value(line, key) {

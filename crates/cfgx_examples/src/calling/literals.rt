@@ -1,8 +1,11 @@
-//! What literals decide.
+//! The value that literals decide.
 use cfg_expr::{Expression, Predicate};
 use std::alloc::{AllocError, Global};
 
 /// The value that literals and empty lists decide, whatever the predicates are.
-pub fn decided(alloc: Global, condition: &Expression) -> Result<Option<bool>, AllocError> {
+pub fn value_of_literals(
+    alloc: Global,
+    condition: &Expression,
+) -> Result<Option<bool>, AllocError> {
     condition.eval(alloc, &mut |_predicate: &Predicate<'_>| None)
 }

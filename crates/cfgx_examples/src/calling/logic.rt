@@ -1,7 +1,7 @@
 //! A logic of one's own.
 use cfg_expr::expr::Logic;
 
-/// What a condition costs at most: `all` takes the most of its members, and `any` the least.
+/// The cost of a condition: `all` costs as much as its dearest member, and `any` as its cheapest.
 #[derive(Clone, Copy)]
 pub struct Cost(pub u64);
 
@@ -19,7 +19,7 @@ impl Logic for Cost {
 
     ghost not = { λ one. one };
 
-    // It takes at most 2^32 bytes: this line is the same for every type.
+    // The size is at most 2^32 bytes. This line is the same for every type.
     ghost small = { (lit≤ tt, lit≤ tt) };
 
     fn top() -> Cost {

@@ -5,8 +5,8 @@ use cfg_expr::expr::TargetMatcher;
 use cfgx_engine::resolve::{Section, Verdict, pick};
 use std::alloc::Global;
 
-/// The names of the dependencies that a build for the target may need, each given with its
-/// condition: all but those that are left out whatever else holds.
+/// The names of the dependencies that a build for `target` may need: those whose verdict is not
+/// `No`. Each dependency is a name and a condition.
 pub fn may_need<'a, M: TargetMatcher>(
     alloc: Global,
     dependencies: &[(&'a str, &str)],
@@ -22,7 +22,7 @@ pub fn may_need<'a, M: TargetMatcher>(
     Ok(names)
 }
 
-/// The verdict of the target on each dependency.
+/// The verdict of `target` on each dependency.
 pub fn verdicts_on<M: TargetMatcher>(
     alloc: Global,
     dependencies: &[(&str, &str)],
@@ -41,14 +41,14 @@ fn section_of(alloc: Global, name: &str, condition: &str) -> Result<Section, Fai
     Ok(Section { name, condition })
 }
 
-/// The input that the page shows. `.ci/examples` compares its blocks of text with these texts.
+/// The input on the page. `.ci/pages` compares the blocks of text there with these constants.
 pub const SECTIONS: &str = "objc2\tcfg(all(target_vendor = \"apple\", not(loom)))\n\
     notify\tcfg(any(windows, target_os = \"macos\"))\n\
     loom\tcfg(loom)\n\
     libc\tcfg(unix)\n\
     signal-hook\tcfg(unix)\n";
 
-/// What is written of it for the simulator.
+/// The output of `pick` for `SECTIONS` on the simulator.
 pub const VERDICTS: &str = "objc2\tunknown\n\
     \ttrue with 01\n\
     \tfalse with 11\n\
@@ -59,13 +59,13 @@ pub const VERDICTS: &str = "objc2\tunknown\n\
     libc\tyes\n\
     signal-hook\tyes\n";
 
-/// The predicates of the condition that README parses.
+/// The predicates of the condition in README.
 pub const ORDER: &str = "b\na\nc\n";
 
-/// The predicates of one of its conditions.
+/// The predicates of the condition of `objc2`.
 pub const PREDICATES: &str = "loom\ntarget_vendor = \"apple\"\n";
 
-/// The value of each section on a target with Windows.
+/// The value of each section of `SECTIONS` on a target with Windows.
 pub const VALUES: &str = "objc2\tfalse\n\
     notify\ttrue\n\
     loom\tunknown\n\

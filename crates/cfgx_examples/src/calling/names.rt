@@ -1,7 +1,7 @@
 //! The texts of fields.
 use cfg_expr::targets::Os;
 
-/// Whether this is the name of Linux.
+/// Whether `name` is the name of Linux.
 pub fn is_linux(name: String) -> bool {
     let linux: Os<'_> = Os::linux();
     linux == Os::new(name)

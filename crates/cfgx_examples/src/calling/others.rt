@@ -1,4 +1,4 @@
-//! Targets that are not built in, written by hand.
+//! A target that is not built in, written by hand, and a table with one more row.
 use cfg_expr::targets::{
     Arch, Endian, Env, Families, HasAtomics, Os, Panic, TargetInfo, TargetTable, Triple, Vendor,
 };
@@ -23,12 +23,13 @@ pub fn linux_row(alloc: Global) -> Result<TargetInfo<'static>, AllocError> {
     })
 }
 
-/// The built-in rows and one more: `None` if its triple is not above theirs.
+/// The table of the built-in rows and one more, or `None` if a built-in row has its triple.
 pub fn builtins_and(
     alloc: Global,
     row: TargetInfo<'static>,
 ) -> Result<Option<TargetTable<'static>>, AllocError> {
-    let rows = and_one(builtin_rows(alloc), row)?;
+    let mut rows = with_one_more(builtin_rows(alloc), row)?;
+    rows.sort()?;
     Ok(TargetTable::from_rows(rows).ok())
 }
 
@@ -41,8 +42,8 @@ fn builtin_rows(alloc: Global) -> Result<Vec<TargetInfo<'static>>, AllocError> {
     Ok(rows)
 }
 
-/// The list with one more item, if there is a list.
-fn and_one<T: Drop>(list: Result<Vec<T>, AllocError>, item: T) -> Result<Vec<T>, AllocError> {
+// Pushes `item` to the list.
+fn with_one_more<T: Drop>(list: Result<Vec<T>, AllocError>, item: T) -> Result<Vec<T>, AllocError> {
     let mut list = list?;
     list.push(item)?;
     Ok(list)

@@ -1,9 +1,9 @@
-//! What a refusal says.
+//! The fault of a text.
 use cfg_expr::Expression;
 use cfg_expr::error::Failure;
 use std::io;
 
-/// Prints what a text is: a fault with its reason and its bytes in the stripped text.
+/// Prints the condition of `text`, or the reason of its fault and its span in the stripped text.
 pub fn report(rt: &HostRuntime, text: &str) -> io::Result<()> {
     match Expression::parse(rt.alloc(), text) {
         Err(Failure::Parse(fault)) => println!(rt; "{:?} at {:?}", fault.reason, fault.span),

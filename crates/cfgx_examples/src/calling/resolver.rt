@@ -1,4 +1,4 @@
-//! The value for one build: its target and its features are known.
+//! The value for one build, whose target and features are known.
 use super::others::linux_row;
 use cfg_expr::error::Failure;
 use cfg_expr::expr::TargetMatcher;
@@ -6,7 +6,7 @@ use cfg_expr::{Expression, Predicate};
 use std::alloc::{AllocError, Global};
 use std::io;
 
-/// The value of a condition on a target with these features, if all else is false.
+/// The value of a condition on a target with these features, if everything else is false.
 pub fn value_for<M: TargetMatcher>(
     alloc: Global,
     condition: &Expression,

@@ -5,9 +5,9 @@ use cfg_expr::targets::TargetInfo;
 use cfg_expr::{Expression, Predicate};
 use std::alloc::{AllocError, Global};
 
-/// The value on each of the rows, of which nothing else is known: lane `i` is that of row `i`. It
-/// is `None` if there are more than 64 rows.
-pub fn on_rows(
+/// The value on each row, if nothing else is known. Lane `i` is the value on row `i`. Returns `None`
+/// if there are more than 64 rows.
+pub fn eval_on_rows(
     alloc: Global,
     condition: &Expression,
     rows: &[TargetInfo],
@@ -31,12 +31,10 @@ fn answers_of(
     Ok(answers)
 }
 
-// The predicate is dropped by name, since a drop at the end of the scope takes long to prove.
+// The answers of at most 64 rows.
 fn lanes(predicate: Predicate<'_>, rows: &[TargetInfo]) -> Kleene64 {
-    let lanes = match &predicate {
+    match predicate {
         Predicate::Target(target) if rows.len() <= 64 => target.lanes(rows),
         _ => Kleene64::new(0, 0),
-    };
-    drop(predicate);
-    lanes
+    }
 }

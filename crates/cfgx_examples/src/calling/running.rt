@@ -1,7 +1,7 @@
 //! The program's engine over the streams of the process.
 use cfgx_engine::engine::{Counted, run};
 
-/// Runs `parse` and answers its status.
+/// Runs `parse` and returns its status.
 pub fn run_parse(rt: &HostRuntime, text: &str) -> u8 {
     let mut reader = Counted::new(rt.stdin());
     let mut writer = Counted::new(rt.stdout());

@@ -5,10 +5,10 @@ use cfgx_engine::engine::{Sink, Source};
 use std::io;
 use std::io::ErrorKind;
 
-/// Bytes that are read, which never fails.
+/// A source of bytes in memory. Its reads never fail.
 #[derive(Drop)]
 pub struct Left<'a> {
-    /// Those that are still to come
+    /// The bytes that were not read yet
     pub left: &'a [u8],
 }
 
@@ -19,19 +19,19 @@ impl Source for Left<'_> {
 
     fn read(&mut self, buffer: &mut [u8]) -> io::Result<usize> {
         let count = buffer.len().min(self.left.len());
-        let (front, rest) = self.left.split_at(count);
-        buffer[..count].copy_from_slice(front);
+        let (taken, rest) = self.left.split_at(count);
+        buffer[..count].copy_from_slice(taken);
         self.left = rest;
         Ok(count)
     }
 }
 
-/// What was written, kept in memory.
+/// A sink that keeps what was written in memory.
 #[derive(Drop)]
 pub struct Kept {
     /// The bytes
     pub bytes: Vec<u8>,
-    /// How many calls failed
+    /// The number of failed calls
     pub failures: u64,
 }
 

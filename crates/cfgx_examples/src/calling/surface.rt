@@ -1,6 +1,7 @@
-//! Calls as one writes them in Rust, without a type that Rust would not ask for: those that stand
-//! in no example of the pages.
+//! Calls that stand in no example of the pages, written as in Rust, without types that Rust would
+//! infer.
 use super::streams::Kept;
+use cfg_expr::Decision;
 use cfg_expr::error::{Failure, Reason};
 use cfg_expr::expr::Logic;
 use cfg_expr::expr::laws::{homomorphisms_keep_values, lanes_are_homomorphisms};
@@ -12,21 +13,22 @@ use cfgx_engine::engine::laws::{has_an_output, has_one_output};
 use cfgx_engine::engine::streams::write_whole;
 use cfgx_syntax::stripping::strip;
 use cfgx_targets::reading::{read_endian, read_has_atomic, read_u8, read_u16};
-use cfgx_testing::holding::{all_hold, gives, holds};
+use cfgx_testing::checking::{check_all, is_ok_true, value_equals};
 use std::alloc::{AllocError, Global};
 use std::str::FromStr;
 
-fn has_family(families: &Families<'_>, family: Family<'_>) -> bool {
+fn contains_family(families: &Families<'_>, family: Family<'_>) -> bool {
     let is_member = families.contains(&family);
     drop(family);
     is_member
 }
 
-fn has_families(alloc: Global) -> Result<bool, AllocError> {
+// Whether the list `unix_wasm` is sorted, and contains `unix` and not `windows`.
+fn unix_wasm_is_right(alloc: Global) -> Result<bool, AllocError> {
     let families = Families::unix_wasm(alloc)?;
     Ok(
-        has_family(&families, Family::unix())
-            && !has_family(&families, Family::new_const("windows"))
+        contains_family(&families, Family::unix())
+            && !contains_family(&families, Family::new_const("windows"))
             && Families::is_sorted(families.as_slice()),
     )
 }
@@ -35,7 +37,8 @@ fn is_sorted_with_wasm_first() -> bool {
     Families::is_sorted(&[<Family<'_>>::wasm(), Family::unix()])
 }
 
-fn has_widths(alloc: Global) -> Result<bool, AllocError> {
+// Whether the list `atomic_8_16_32_ptr` contains 8 and not 64.
+fn atomic_8_16_32_ptr_is_right(alloc: Global) -> Result<bool, AllocError> {
     let widths = HasAtomics::atomic_8_16_32_ptr(alloc)?;
     let has_eight = widths.contains(HasAtomic::IntegerSize(8));
     let has_more = widths.contains(HasAtomic::IntegerSize(64));
@@ -43,53 +46,58 @@ fn has_widths(alloc: Global) -> Result<bool, AllocError> {
     Ok(has_eight && !has_more)
 }
 
-// The type of the values is not known here, which makes their drops short to prove.
 fn are_equal<T: PartialEq + Drop>(one: T, other: T) -> bool {
     one == other
 }
 
-// Whether a text is read alike twice, and another text is read otherwise.
-fn are_compared(alloc: Global) -> bool {
+// Whether two reads of one text are equal, and a read of another text is not.
+fn reads_are_compared(alloc: Global) -> bool {
     are_equal(HasAtomic::read(alloc, "x"), HasAtomic::read(alloc, "x"))
         && !are_equal(HasAtomic::read(alloc, "x"), HasAtomic::read(alloc, "y"))
 }
 
-fn are_widths_read(alloc: Global) -> bool {
+// Whether `8` is a width, and the empty text is none.
+fn widths_are_read(alloc: Global) -> bool {
     let is_read = HasAtomic::read(alloc, "8") == Ok(HasAtomic::IntegerSize(8));
     let no_width = HasAtomic::read(alloc, "");
     is_read && matches!(no_width, Err(HasAtomicFailure::Parse(_)))
 }
 
-fn is_made(alloc: Global) -> bool {
+// Whether `Failure::of` makes a fault in the whole text.
+fn fault_is_made(alloc: Global) -> bool {
     match Failure::of(alloc, "a b", 2..3, Reason::MultipleRootPredicates) {
         Failure::Parse(fault) => fault.original.as_str() == "a b" && fault.span == (2..3),
         Failure::Memory(_) => false,
     }
 }
 
-// Whether the value is equal to one, and above the other. Their type is not known here either.
-fn is_between<T: PartialOrd + Drop>(value: &T, same: T, below: T) -> bool {
+// Whether `value` equals `same` and is above `below`.
+fn equals_and_exceeds<T: PartialOrd + Drop>(value: &T, same: T, below: T) -> bool {
     *value == same && *value > below
 }
 
 fn is_linux(os: &Os<'_>) -> bool {
-    is_between(os, Os::linux(), Os::new_const("ios")) && os.as_str() == "linux"
+    equals_and_exceeds(os, Os::linux(), Os::new_const("ios")) && os.as_str() == "linux"
 }
 
-fn is_stripped(alloc: Global) -> bool {
+fn text_is_stripped(alloc: Global) -> bool {
     let lexer = Lexer::new(alloc, "cfg(unix)");
     lexer.original() == "unix" && strip("cfg(unix)") == "unix" && strip("unix") == "unix"
 }
 
-fn is_copied(alloc: Global) -> Result<bool, AllocError> {
+fn system_is_copied(alloc: Global) -> Result<bool, AllocError> {
     let os = Os::new(String::from_str(alloc, "linux")?);
-    Ok(is_linux(&os) && holds(gives(os.try_clone(alloc), &os)))
+    Ok(is_linux(&os) && is_ok_true(value_equals(os.try_clone(alloc), &os)))
+}
+
+fn is_known_false(decision: &Decision) -> bool {
+    matches!(decision, Decision::Known(false))
 }
 
 #[test]
 fn values_are_read_and_made(rt: HostRuntime) -> Result<(), &'static str> {
     let alloc = rt.alloc();
-    all_hold(&[
+    check_all(&[
         ("255", read_u8("+255") == Some(255)),
         ("256", read_u8("256").is_none()),
         ("65535", read_u16("65535") == Some(65_535)),
@@ -98,27 +106,27 @@ fn values_are_read_and_made(rt: HostRuntime) -> Result<(), &'static str> {
         ("Big", read_endian("Big").is_none()),
         ("ptr", read_has_atomic("ptr") == Some(HasAtomic::Pointer)),
         ("little", Endian::from_str("little") == Ok(Endian::little)),
-        ("alike", are_compared(alloc)),
-        ("a width", are_widths_read(alloc)),
-        ("families", holds(has_families(alloc))),
+        ("compared reads", reads_are_compared(alloc)),
+        ("a width", widths_are_read(alloc)),
+        ("families", is_ok_true(unix_wasm_is_right(alloc))),
         ("not sorted", !is_sorted_with_wasm_first()),
-        ("widths", holds(has_widths(alloc))),
-        ("a copy", holds(is_copied(alloc))),
-        ("stripped", is_stripped(alloc)),
-        ("a fault", is_made(alloc)),
+        ("widths", is_ok_true(atomic_8_16_32_ptr_is_right(alloc))),
+        ("a copy", is_ok_true(system_is_copied(alloc))),
+        ("a stripped text", text_is_stripped(alloc)),
+        ("a fault", fault_is_made(alloc)),
+        ("a decision", is_known_false(&Decision::default())),
     ])
 }
 
-// Calls the laws. Only a proof has use for them.
+// Calls the laws, which return nothing. Only proofs use them.
 fn call_laws() {
     homomorphisms_keep_values::<bool, Option<bool>>();
     lanes_are_homomorphisms();
     has_an_output();
     has_one_output();
-    are_disjoint(&[Kleene64::new(1, 2)]);
 }
 
-// `Option` has an `and` and an `or` of its own, so these are named by the trait.
+// `Option` has methods `and` and `or` of its own, so the trait is named here.
 #[test]
 fn logics_are_joined(rt: HostRuntime) {
     call_laws();
@@ -126,6 +134,23 @@ fn logics_are_joined(rt: HostRuntime) {
     assert!(rt; Logic::and(None, Some(false)) == Some(false));
     assert!(rt; Logic::or(None, Some(false)).is_none());
     assert!(rt; Kleene64::top().not() == Kleene64::bottom());
+}
+
+#[test]
+fn lanes_are_joined_one_by_one() -> Result<(), &'static str> {
+    let three = Kleene64::new(0b001, 0b010);
+    check_all(&[
+        ("lane 0", three.lane(0) == Some(true)),
+        ("lane 1", three.lane(1) == Some(false)),
+        ("lane 2", three.lane(2).is_none()),
+        ("lane 63", three.lane(63).is_none()),
+        ("and", three.and(three.not()) == Kleene64::new(0, 0b011)),
+        ("or", three.or(three.not()) == Kleene64::new(0b011, 0)),
+        ("true lanes", three.is_true() == 0b001),
+        ("false lanes", three.is_false() == 0b010),
+        ("other lanes", three != Kleene64::new(1, 0)),
+        ("disjoint planes", are_disjoint(&[three])),
+    ])
 }
 
 #[test]

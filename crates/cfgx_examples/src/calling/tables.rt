@@ -4,7 +4,7 @@ use cfg_expr::expr::TargetMatcher;
 use cfgx_engine::resolve::{Verdict, audit};
 use std::alloc::{AllocError, Global};
 
-/// The verdicts on each condition: a row for each of them, with one verdict for each target.
+/// A row for each condition, with one verdict for each target.
 pub fn table_of<M: TargetMatcher>(
     alloc: Global,
     conditions: &[Expression],

@@ -1,14 +1,14 @@
-//! A logic that writes its terms down.
+//! A logic whose values are terms.
 ghost use Rattle.std.specs.Prelude.{◌≡◌, ◌≤◌, ◌++◌, ◌∷◌, [], codes, length, take};
 ghost use Rattle.cfgx_examples.specs.Terms.{cut, in_parens};
 
 use cfg_expr::expr::Logic;
 use std::marker::Model;
 
-/// How many bytes a term has at most. What follows them is cut off.
+/// The most bytes of a term. Bytes past them are cut off.
 const ROOM: usize = 64;
 
-/// A term: `T`, `F`, `(x&y)`, `(x|y)`, `!x`, or a caller's own bytes. Contracts see its bytes.
+/// A term: `T`, `F`, `(x&y)`, `(x|y)`, `!x`, or the bytes of a caller. Contracts see its bytes.
 #[derive(Debug, Drop)]
 pub struct Terms {
     bytes: [u8; ROOM],
@@ -26,7 +26,7 @@ impl Model for Terms {
 }
 
 impl Terms {
-    /// The term of these bytes.
+    /// Returns the term of `bytes`.
     pub fn new(bytes: &[u8]) -> Terms
         ensures { result ≡ cut bytes.now }
     {
@@ -38,14 +38,14 @@ impl Terms {
         terms
     }
 
-    /// Its bytes.
+    /// Returns the bytes of the term.
     pub fn as_bytes(&self) -> &[u8]
         ensures { result.now ≡ self.now }
     {
         &self.bytes[..self.length]
     }
 
-    /// Writes one byte after the others.
+    /// Pushes a byte.
     pub fn push(&mut self, byte: u8)
         ensures { self.new ≡ cut (self.old ++ byte ∷ []) }
     {
@@ -55,7 +55,7 @@ impl Terms {
         }
     }
 
-    /// Writes bytes after the others.
+    /// Pushes each of `bytes`.
     fn append(&mut self, bytes: &[u8])
         ensures { self.new ≡ cut (self.old ++ bytes.now) }
     {
@@ -65,7 +65,7 @@ impl Terms {
         }
     }
 
-    /// Both terms in parentheses, with the sign between them.
+    /// Returns both terms in parentheses, with `sign` between them.
     fn join(&self, sign: u8, other: &Terms) -> Terms
         ensures { result ≡ in_parens sign self.now other.now }
     {

@@ -1,30 +1,30 @@
-//! Values that are not equal hash apart, on examples, and equal ones alike.
+//! Equal values have equal hashes. The unequal values here have different ones.
 use cfg_expr::targets::{Endian, HasAtomic, TargetInfo};
-use cfgx_testing::holding::{hash_of, holds};
+use cfgx_testing::checking::{hash_of, is_ok_true};
 use cfgx_testing::targets::row_of;
 use std::alloc::{AllocError, Global};
 use std::hash::Hash;
 
-// The hash of what is made here.
-fn hash_of_made<T: Hash + Drop>(made: Result<T, AllocError>) -> Result<u64, AllocError> {
-    Ok(hash_of(&made?))
+// The hash of the value of `outcome`.
+fn hash_of_ok<T: Hash + Drop>(outcome: Result<T, AllocError>) -> Result<u64, AllocError> {
+    Ok(hash_of(&outcome?))
 }
 
-// Another value for each field of a bare row.
+// Each field, with a value that differs from that of a bare row.
 const FIELDS: &str = "triple=other os=ios abi=sim arch=arm env=gnu vendor=apple unix bits=32 \
     endian=big atomics panic=abort";
 
-// Whether a bare row hashes apart from one with this field.
-fn hashes_apart(alloc: Global, field: &'static str) -> Result<bool, AllocError> {
-    let hash = hash_of_made(row_of(alloc, "bare", ""))?;
-    Ok(hash_of_made(row_of(alloc, "bare", field))? != hash)
+// Whether the hash of a bare row changes with this field.
+fn changes_hash(alloc: Global, field: &'static str) -> Result<bool, AllocError> {
+    let hash = hash_of_ok(row_of(alloc, "bare", ""))?;
+    Ok(hash_of_ok(row_of(alloc, "bare", field))? != hash)
 }
 
 #[test]
-fn rows_with_one_other_field_hash_apart(rt: HostRuntime) -> Result<(), &'static str> {
+fn each_field_changes_the_hash_of_a_row(rt: HostRuntime) -> Result<(), &'static str> {
     let mut count = 0usize;
     for field in FIELDS.split(' ') {
-        if !holds(hashes_apart(rt.alloc(), field)) {
+        if !is_ok_true(changes_hash(rt.alloc(), field)) {
             return Err(field);
         }
         count = count.saturating_add(1);
@@ -32,29 +32,29 @@ fn rows_with_one_other_field_hash_apart(rt: HostRuntime) -> Result<(), &'static 
     if count == 11 { Ok(()) } else { Err("fields") }
 }
 
-// The row of iOS with these fields.
+// A row of iOS with these fields.
 fn ios(alloc: Global, fields: &'static str) -> Result<TargetInfo<'static>, AllocError> {
     row_of(alloc, "aarch64-apple-ios", fields)
 }
 
-// A copy of it.
-fn copied(alloc: Global, fields: &'static str) -> Result<TargetInfo<'static>, AllocError> {
+// A copy of a row of iOS with these fields.
+fn ios_copied(alloc: Global, fields: &'static str) -> Result<TargetInfo<'static>, AllocError> {
     let row = ios(alloc, fields)?;
     let copy = row.try_clone(alloc);
     drop(row);
     copy
 }
 
-// Whether a row that is made by hand and its copy hash alike, and a bare one does not.
-fn is_copy_alike(alloc: Global) -> Result<bool, AllocError> {
+// Whether a row and its copy have the same hash, and a bare row has another one.
+fn copy_keeps_hash(alloc: Global) -> Result<bool, AllocError> {
     let fields = "os=ios vendor=apple unix atomics";
-    let hash = hash_of_made(ios(alloc, fields))?;
-    let bare = hash_of_made(ios(alloc, ""))?;
-    Ok(hash_of_made(copied(alloc, fields))? == hash && bare != hash)
+    let hash = hash_of_ok(ios(alloc, fields))?;
+    let bare = hash_of_ok(ios(alloc, ""))?;
+    Ok(hash_of_ok(ios_copied(alloc, fields))? == hash && bare != hash)
 }
 
-// Whether two of the values hash alike exactly if they are the same.
-fn hash_as_they_are<T: Hash + Eq>(values: &[T]) -> bool {
+// Whether two of the values have the same hash exactly if they are equal.
+fn hashes_tell_equality<T: Hash + Eq>(values: &[T]) -> bool {
     for one in values {
         for other in values {
             if (hash_of(one) == hash_of(other)) != (one == other) {
@@ -75,8 +75,8 @@ const WIDTHS: &[HasAtomic] = &[
 ];
 
 #[test]
-fn equal_values_alone_hash_alike(rt: HostRuntime) {
-    assert!(rt; holds(is_copy_alike(rt.alloc())));
-    assert!(rt; hash_as_they_are(WIDTHS));
-    assert!(rt; hash_as_they_are(&[Endian::big, Endian::little, Endian::big]));
+fn only_equal_values_have_equal_hashes(rt: HostRuntime) {
+    assert!(rt; is_ok_true(copy_keeps_hash(rt.alloc())));
+    assert!(rt; hashes_tell_equality(WIDTHS));
+    assert!(rt; hashes_tell_equality(&[Endian::big, Endian::little, Endian::big]));
 }

@@ -1,16 +1,18 @@
-//! The verdicts of `pick` on any number of sections, with and without a name, on each target that
-//! is built in.
+//! The verdicts of `pick` on any number of sections, with and without names, on each target of
+//! `TRIPLES`.
 use cfg_expr::Expression;
 use cfg_expr::error::Failure;
 use cfg_expr::expr::TargetMatcher;
-use cfg_expr::targets::TargetTable;
+use cfg_expr::targets::TargetInfo;
 use cfgx_engine::resolve::{Section, Verdict, pick};
 use cfgx_testing::answers::answer_of;
-use cfgx_testing::holding::holds;
-use cfgx_testing::texts::repeated;
+use cfgx_testing::checking::is_ok_true;
+use cfgx_testing::rows::repeated;
+use cfgx_testing::targets::builtin_rows;
+use cfgx_testing::triples::TRIPLES;
 use std::alloc::Global;
 
-// Conditions, and a digit for the value on each target that is built in.
+// A row is a condition, and a digit for its value on each target of `TRIPLES`.
 const CONDITIONS: &str = r#"target_os = "macos" | 10000
 feature = "x" | ?????
 not(target_os = "macos") | 01111
@@ -18,7 +20,7 @@ all(target_abi = "sim", feature = "x") | 000?0
 any(target_os = "tvos", target_env = "macabi") | 00101
 "#;
 
-// Adds a section with this name and condition.
+// Pushes a section with this name and condition.
 fn push_section(
     alloc: Global,
     sections: &mut Vec<Section>,
@@ -31,21 +33,28 @@ fn push_section(
     Ok(())
 }
 
-// Rows, the place of a target's values in them, and whether the name of a section is its condition,
-// or nothing.
-type Told<'a> = (&'a str, usize, bool);
+// The rows for one target.
+#[derive(Clone, Copy)]
+struct Rows<'a> {
+    // The rows, one per line
+    lines: &'a str,
+    // The index of the digit of the target
+    digit: usize,
+    // Whether the name of a section is its condition. Otherwise it is empty.
+    are_named: bool,
+}
 
-// The name, the condition and the values of a row.
+// The name, the condition and the digits of a row.
 fn fields_of(row: &str, is_named: bool) -> (&str, &str, &str) {
-    let (condition, values) = row.split_once(" | ").unwrap_or((row, ""));
-    (if is_named { condition } else { "" }, condition, values)
+    let (condition, digits) = row.split_once(" | ").unwrap_or((row, ""));
+    (if is_named { condition } else { "" }, condition, digits)
 }
 
 // A section for each row.
-fn sections_of(alloc: Global, told: Told<'_>) -> Result<Vec<Section>, Failure> {
+fn sections_of(alloc: Global, rows: Rows<'_>) -> Result<Vec<Section>, Failure> {
     let mut sections = Vec::new(alloc);
-    for row in told.0.lines() {
-        let (name, condition, _values) = fields_of(row, told.2);
+    for row in rows.lines.lines() {
+        let (name, condition, _digits) = fields_of(row, rows.are_named);
         push_section(alloc, &mut sections, name, condition)?;
     }
     Ok(sections)
@@ -60,54 +69,63 @@ fn verdict_of(digit: Option<&u8>) -> Option<Verdict> {
     })
 }
 
-// Whether the section is that of the row, with the verdict of the target.
-fn is_section_of_row(section: &Section, verdict: Verdict, row: &str, told: Told<'_>) -> bool {
-    let (name, condition, values) = fields_of(row, told.2);
+// Whether the section is that of the row, and the verdict that of the row's digit.
+fn section_matches(section: &Section, verdict: Verdict, row: &str, rows: Rows<'_>) -> bool {
+    let (name, condition, digits) = fields_of(row, rows.are_named);
     section.name.as_str() == name
         && section.condition.original() == condition
-        && verdict_of(values.as_bytes().get(told.1)) == Some(verdict)
+        && verdict_of(digits.as_bytes().get(rows.digit)) == Some(verdict)
 }
 
-// Whether the sections are those of the rows, with the verdicts of the target.
-fn match_rows(sections: &[Section], verdicts: &[Verdict], told: Told<'_>) -> bool {
-    let mut rows = told.0.lines();
+// Whether the sections and the verdicts are those of the rows.
+fn sections_match(sections: &[Section], verdicts: &[Verdict], rows: Rows<'_>) -> bool {
+    let mut lines = rows.lines.lines();
     for (section, verdict) in sections.iter().zip(verdicts) {
-        if !is_section_of_row(section, *verdict, rows.next().unwrap_or(""), told) {
+        if !section_matches(section, *verdict, lines.next().unwrap_or(""), rows) {
             return false;
         }
     }
-    sections.len() == verdicts.len() && rows.next().is_none()
+    sections.len() == verdicts.len() && lines.next().is_none()
 }
 
-// Whether the target says of the sections what the rows say, twice, and leaves them as they were.
-fn is_picked<M: TargetMatcher>(alloc: Global, asked: &M, told: Told<'_>) -> Result<bool, Failure> {
-    let sections = sections_of(alloc, told)?;
-    let verdicts = pick(alloc, sections.as_slice(), asked)?;
-    let again = pick(alloc, sections.as_slice(), asked)?;
-    Ok(verdicts == again && match_rows(sections.as_slice(), verdicts.as_slice(), told))
+// Whether `pick` returns the verdicts of the rows twice, and leaves the sections as they were.
+fn pick_matches<M: TargetMatcher>(
+    alloc: Global,
+    target: &M,
+    rows: Rows<'_>,
+) -> Result<bool, Failure> {
+    let sections = sections_of(alloc, rows)?;
+    let verdicts = pick(alloc, sections.as_slice(), target)?;
+    let again = pick(alloc, sections.as_slice(), target)?;
+    Ok(verdicts == again && sections_match(sections.as_slice(), verdicts.as_slice(), rows))
 }
 
-// Whether each target that is built in says of the sections what the rows say.
-fn is_picked_on_each(alloc: Global, table: &TargetTable<'_>, rows: &str, is_named: bool) -> bool {
-    for (place, row) in table.rows().iter().enumerate() {
-        if !holds(is_picked(alloc, row, (rows, place, is_named))) {
+// Whether `pick` returns the verdicts of the lines on each target.
+fn picks_match(alloc: Global, targets: &[TargetInfo<'_>], lines: &str, are_named: bool) -> bool {
+    for (digit, target) in targets.iter().enumerate() {
+        let rows = Rows {
+            lines,
+            digit,
+            are_named,
+        };
+        if !is_ok_true(pick_matches(alloc, target, rows)) {
             return false;
         }
     }
-    table.rows().len() == 5
+    true
 }
 
-// The same of the sections of all conditions, which come `times` times.
-fn is_picked_times(alloc: Global, times: usize, is_named: bool) -> Result<bool, Failure> {
-    let table = TargetTable::builtins(alloc)?;
-    let rows = repeated(alloc, "", CONDITIONS, times, "")?;
-    Ok(is_picked_on_each(alloc, &table, rows.as_str(), is_named))
+// Whether `pick` returns the verdicts of `CONDITIONS`, repeated `times` times, on each target.
+fn picks_match_repeated(alloc: Global, times: usize, are_named: bool) -> Result<bool, Failure> {
+    let lines = repeated(alloc, "", CONDITIONS, times, "")?;
+    let targets = builtin_rows(alloc, TRIPLES)?;
+    Ok(picks_match(alloc, targets.as_slice(), lines.as_str(), are_named))
 }
 
 #[test]
-fn verdicts_on_any_number_of_sections_with_and_without_a_name(rt: HostRuntime) {
-    for (times, is_named) in [(0, true), (1, true), (4_000, true), (1, false)] {
-        let is_right = holds(is_picked_times(rt.alloc(), times, is_named));
-        assert!(rt; is_right, "{times} {is_named}");
+fn verdicts_on_any_number_of_sections_with_and_without_names(rt: HostRuntime) {
+    for (times, are_named) in [(0, true), (1, true), (4_000, true), (1, false)] {
+        let is_right = is_ok_true(picks_match_repeated(rt.alloc(), times, are_named));
+        assert!(rt; is_right, "{times} {are_named}");
     }
 }

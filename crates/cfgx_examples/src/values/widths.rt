@@ -1,7 +1,7 @@
-//! Widths and byte orders, and named values that are not spelled as their function.
+//! Widths, byte orders, and named values that are spelled otherwise than their functions.
 use cfg_expr::error::Reason;
 use cfg_expr::targets::{Abi, Endian, HasAtomic, HasAtomics, Os, rustc_version};
-use cfgx_testing::holding::{all_hold, prints};
+use cfgx_testing::checking::{check_all, prints};
 use std::alloc::Global;
 use std::fmt::Display;
 
@@ -9,29 +9,29 @@ const EIGHT: HasAtomic = HasAtomic::IntegerSize(8);
 
 const POINTER: HasAtomic = HasAtomic::Pointer;
 
-// As `prints`, of a value that is not needed again.
-fn is_printed<T: Display + Drop>(alloc: Global, value: T, text: &str) -> bool {
+// Whether `value` prints `text`.
+fn owned_prints<T: Display + Drop>(alloc: Global, value: T, text: &str) -> bool {
     prints(alloc, &value, text)
 }
 
 #[test]
-fn widths_are_sorted_and_names_known(rt: HostRuntime) -> Result<(), &'static str> {
+fn widths_are_sorted_and_names_are_read(rt: HostRuntime) -> Result<(), &'static str> {
     let alloc = rt.alloc();
     let both = Reason::Unexpected(&["big", "little"]);
-    all_hold(&[
-        ("falling", !HasAtomics::is_sorted(&[POINTER, EIGHT])),
-        ("level", HasAtomics::is_sorted(&[EIGHT, EIGHT])),
-        ("nothing", HasAtomics::is_sorted(&[])),
+    check_all(&[
+        ("falling widths", !HasAtomics::is_sorted(&[POINTER, EIGHT])),
+        ("equal widths", HasAtomics::is_sorted(&[EIGHT, EIGHT])),
+        ("no width", HasAtomics::is_sorted(&[])),
         ("big", "big".parse::<Endian>() == Ok(Endian::big)),
         ("little", "little".parse::<Endian>() == Ok(Endian::little)),
         ("Big", "Big".parse::<Endian>() == Err(both)),
         (
             "vec-extabi",
-            is_printed(alloc, Abi::<Global>::vec_extabi(), "vec-extabi"),
+            owned_prints(alloc, Abi::<Global>::vec_extabi(), "vec-extabi"),
         ),
         (
             "solid_asp3",
-            is_printed(alloc, Os::<Global>::solid_asp3(), "solid_asp3"),
+            owned_prints(alloc, Os::<Global>::solid_asp3(), "solid_asp3"),
         ),
         ("version", rustc_version() == "1.99.0"),
     ])

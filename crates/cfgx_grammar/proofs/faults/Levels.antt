@@ -11,20 +11,9 @@ use Rattle.cfgx_grammar.specs.{FollowSet.{Kind, kind_of, is_kind}, Depth.{member
 use Rattle.cfgx_grammar.specs.Depth.{count_below, last_below, begins_member, depth, depth_at}
 use Rattle.cfgx_grammar.specs.parsing.State.{Function, Open, name_of}
 use Rattle.cfgx_grammar.specs.parsing.Step.{over_top, with_parens}
+use Rattle.cfgx_grammar.proofs.ListLemmas.{slice_get-append, slice_get-append_seam}
 
 -- Counting and searching the places of a list that grows at its end.
-
-module _ {X : Type 0} where
-  pub slice_get_front : (xs ys : List X) (k : ℕ) → k < length xs
-      → slice_get (xs ++ ys) k ≡ slice_get xs k
-  slice_get_front [] ys k lt = absurd (omega (arith, lt))
-  slice_get_front (x ∷ xs) ys zero lt = refl
-  slice_get_front (x ∷ xs) ys (suc k) lt = slice_get_front xs ys k (omega (arith, lt))
-
-  pub slice_get_next : (xs : List X) (y : X) (ys : List X)
-      → slice_get (xs ++ y ∷ ys) (length xs) ≡ Some y
-  slice_get_next [] y ys = refl
-  slice_get_next (x ∷ xs) y ys = slice_get_next xs y ys
 
 last_below-none : (test : ℕ → Bool) (n : ℕ) → ((k : ℕ) → test k ≡ false)
     → last_below test n ≡ None
@@ -32,8 +21,8 @@ last_below-none test zero none = refl
 last_below-none test (suc n) none = rw (none n) (last_below-none test n none)
 
 -- no function is open
-pub innermost-none : (front : List Item) → depth front ≡ 0 → innermost front ≡ None
-innermost-none front level = grind (arith, last_below-none)
+pub innermost-none : (prefix : List Item) → depth prefix ≡ 0 → innermost prefix ≡ None
+innermost-none prefix level = grind (arith, last_below-none)
 
 pub last_below-found : (test : ℕ → Bool) (place n : ℕ) → place < n → test place ≡ true
     → ((k : ℕ) → place < k → k < n → test k ≡ false) → last_below test n ≡ Some place
@@ -63,55 +52,56 @@ members_at_end items level from past = count_below-none _ (length items) (λ k l
 
 -- The levels.
 
--- the name of an open function stands at the place, so many functions are open in front of it, and
--- more everywhere after it
-pub record IsOpenAt (front : List Item) (level : ℕ) (function : Function) (start end : ℕ)
+-- the name of an open function stands at the place, with `level` functions open before it, and more
+-- everywhere after it
+pub record IsOpenAt (prefix : List Item) (level : ℕ) (function : Function) (start end : ℕ)
     (place : ℕ) : Type 0 where
   pub name : Item
-  pub stands : slice_get front place ≡ Some name
+  pub stands : slice_get prefix place ≡ Some name
   pub named : name.token ≡ name_of function
   pub starts : name.start ≡ start
   pub ends : name.end ≡ end
-  pub before : depth_at front place ≡ level
-  pub inside : (k : ℕ) → place < k → k ≤ length front → level < depth_at front k
+  pub before : depth_at prefix place ≡ level
+  pub inside : (k : ℕ) → place < k → k ≤ length prefix → level < depth_at prefix k
 
--- the place is that of the last token, or of one in front of it
+-- the place is that of the last token, or that of a token before it
 abbrev pub IsLast : Bool → ℕ → List Item → Type 0
-IsLast true place front = place + 1 ≡ length front
-IsLast false place front = place + 1 < length front
+IsLast true place prefix = place + 1 ≡ length prefix
+IsLast false place prefix = place + 1 < length prefix
 
 abbrev pub start_of : Option Item → Option ℕ
 start_of item = option_map (λ (i : Item). i.start) item
 
 module _ {M : Type 0} where
-  -- an open function, by whether its name is the last token, and how many of its members go on
-  pub record IsLevel (front : List Item) (is_named : Bool) (level : ℕ) (top : Open M)
+  -- an open function; `is_named` says whether its name is the last token, and `going` is the number
+  -- of its members that have begun and not ended
+  pub record IsLevel (prefix : List Item) (is_named : Bool) (level : ℕ) (top : Open M)
       (going : ℕ) : Type 0 where
     pub place : ℕ
-    pub is_open : IsOpenAt front level top.function top.start top.end place
-    pub named_last : IsLast is_named place front
-    pub parens : start_of (slice_get front (place + 1)) ≡ top.parens
-    pub count_is : members_at front (level + 1) (place + 1) ≡ top.members + going
+    pub is_open : IsOpenAt prefix level top.function top.start top.end place
+    pub named_last : IsLast is_named place prefix
+    pub parens : start_of (slice_get prefix (place + 1)) ≡ top.parens
+    pub count_is : members_at prefix (level + 1) (place + 1) ≡ top.members + going
 
   abbrev pub Levels : List Item → ℕ → Bool → List (Open M) → ℕ → Type 0
-  Levels front roots is_named [] going = members_at front 0 0 ≡ roots + going
-  Levels front roots is_named (top ∷ rest) going =
-      IsLevel front is_named (length rest) top going × Levels front roots false rest 1
+  Levels prefix roots is_named [] going = members_at prefix 0 0 ≡ roots + going
+  Levels prefix roots is_named (top ∷ rest) going =
+      IsLevel prefix is_named (length rest) top going × Levels prefix roots false rest 1
 
 -- One more token at the end.
 
-module _ (front : List Item) (item : Item) where
+module _ (prefix : List Item) (item : Item) where
   abbrev more : List Item
-  more = front ++ item ∷ []
+  more = prefix ++ item ∷ []
 
-  pub length_more : length more ≡ suc (length front)
-  length_more = length_push front item ∙ omega arith
+  pub length_more : length more ≡ suc (length prefix)
+  length_more = length_push prefix item ∙ omega arith
 
-  pub depth_at_front : (k : ℕ) → k ≤ length front → depth_at more k ≡ depth_at front k
-  depth_at_front k le = ap depth (take-append-le k front (item ∷ []) le)
+  pub depth_at_front : (k : ℕ) → k ≤ length prefix → depth_at more k ≡ depth_at prefix k
+  depth_at_front k le = ap depth (take-append-le k prefix (item ∷ []) le)
 
-  pub depth_at_end : depth_at more (length front) ≡ depth front
-  depth_at_end = ap depth (take_at front (item ∷ []) (length front) refl)
+  pub depth_at_end : depth_at more (length prefix) ≡ depth prefix
+  depth_at_end = ap depth (take_at prefix (item ∷ []) (length prefix) refl)
 
   abbrev counts : List Item → ℕ → ℕ → ℕ → Bool
   counts items level from place = nat_le from place
@@ -119,49 +109,51 @@ module _ (front : List Item) (item : Item) where
 
   -- whether the token is counted
   abbrev is_counted : ℕ → ℕ → Bool
-  is_counted level from = nat_le from (length front)
-      && (depth front == level && is_kind Kind.name (kind_of item.token))
+  is_counted level from = nat_le from (length prefix)
+      && (depth prefix == level && is_kind Kind.name (kind_of item.token))
 
   pub members_at_more : (level from : ℕ) (counted : Bool) → is_counted level from ≡ counted
-      → members_at more level from ≡ (if counted then suc (members_at front level from)
-      else members_at front level from)
+      → members_at more level from ≡ (if counted then suc (members_at prefix level from)
+      else members_at prefix level from)
   members_at_more level from counted is =
-      let same = count_below-same (counts more level from) (counts front level from) (length front)
-      (λ k lt. rw (depth_at_front k (omega (arith, lt)), slice_get_front front (item ∷ []) k lt)
+      let same =
+      count_below-same (counts more level from) (counts prefix level from) (length prefix)
+      (λ k lt. rw (depth_at_front k (omega (arith, lt)), slice_get-append prefix (item ∷ []) k lt)
       refl) in
-      grind (arith, depth_at_end, slice_get_next, length_more)
+      grind (arith, depth_at_end, slice_get-append_seam, length_more)
 
   -- the token begins a member at the depth
-  pub members_at_name : (level from : ℕ) → from ≤ length front → depth front ≡ level
+  pub members_at_name : (level from : ℕ) → from ≤ length prefix → depth prefix ≡ level
       → is_kind Kind.name (kind_of item.token) ≡ true
-      → members_at more level from ≡ members_at front level from + 1
+      → members_at more level from ≡ members_at prefix level from + 1
   members_at_name level from le at begins =
       members_at_more level from true (grind arith) ∙ omega arith
 
   -- it begins none
   pub members_at_other : (level from : ℕ) → is_kind Kind.name (kind_of item.token) ≡ false
-      → members_at more level from ≡ members_at front level from
+      → members_at more level from ≡ members_at prefix level from
   members_at_other level from begins = members_at_more level from false (grind arith)
 
   IsOpenAt-more : (level : ℕ) (function : Function) (start end place : ℕ) → level < depth more
-      → IsOpenAt front level function start end place → IsOpenAt more level function start end place
+      → IsOpenAt prefix level function start end place
+      → IsOpenAt more level function start end place
   IsOpenAt-more level function start end place deep is =
-      grind (arith, slice_get_within, slice_get_front, depth_at_front, take_all, length_more)
+      grind (arith, slice_get_within, slice_get-append, depth_at_front, take_all, length_more)
 
-  -- the token changes the members of the level, and how many of its members go on
+  -- the token changes the members of the level, and the number of those that have not ended
   IsLevel-more : {M : Type 0} (level going goes : ℕ) (top : Open M) → level < depth more
-      → ((place : ℕ) → place < length front
-      → members_at front (level + 1) (place + 1) ≡ top.members + going
+      → ((place : ℕ) → place < length prefix
+      → members_at prefix (level + 1) (place + 1) ≡ top.members + going
       → members_at more (level + 1) (place + 1) ≡ top.members + goes)
-      → IsLevel front false level top going → IsLevel more false level top goes
+      → IsLevel prefix false level top going → IsLevel more false level top goes
   IsLevel-more level going goes top deep adds is =
-      grind (arith, IsOpenAt-more, length_more, slice_get_front)
+      grind (arith, IsOpenAt-more, length_more, slice_get-append)
 
   -- the token adds no member to any level
   pub Levels-same : {M : Type 0} (roots going : ℕ) (stack : List (Open M))
       → length stack ≤ depth more → ((level from : ℕ) → level ≤ length stack
-      → members_at more level from ≡ members_at front level from)
-      → Levels front roots false stack going → Levels more roots false stack going
+      → members_at more level from ≡ members_at prefix level from)
+      → Levels prefix roots false stack going → Levels more roots false stack going
   Levels-same roots going [] deep same levels = same 0 0 (omega arith) ∙ levels
   Levels-same roots going (top ∷ rest) deep same (l, levels) = (
     IsLevel-more (length rest) going going top (omega (arith, deep))
@@ -172,8 +164,8 @@ module _ (front : List Item) (item : Item) where
 
   -- the token begins a member of the innermost list
   pub Levels-member : {M : Type 0} (roots : ℕ) (stack : List (Open M)) → length stack ≤ depth more
-      → depth front ≡ length stack → is_kind Kind.name (kind_of item.token) ≡ true
-      → Levels front roots false stack 0 → Levels more roots false stack 1
+      → depth prefix ≡ length stack → is_kind Kind.name (kind_of item.token) ≡ true
+      → Levels prefix roots false stack 0 → Levels more roots false stack 1
   Levels-member roots [] deep at begins levels = grind (arith, members_at_name)
   Levels-member roots (top ∷ rest) deep at begins (l, levels) = (
     IsLevel-more (length rest) 0 1 top (omega (arith, deep))
@@ -181,13 +173,13 @@ module _ (front : List Item) (item : Item) where
         (omega (arith, lt)) (at ∙ omega arith) begins ∙ ap (λ n. n + 1) counted ∙ omega arith) l,
     Levels-same roots 1 rest (omega (arith, deep))
         (λ level from le. members_at_more level from false
-        (let deeper : level < depth front = omega (arith, at, le) in grind arith)) levels,
+        (let deeper : level < depth prefix = omega (arith, at, le) in grind arith)) levels,
   )
 
   -- the token is the `(` of the innermost function
   pub Levels-open : {M : Type 0} (roots going : ℕ) (stack : List (Open M))
       → length stack ≤ depth more → is_kind Kind.name (kind_of item.token) ≡ false
-      → Levels front roots true stack going
+      → Levels prefix roots true stack going
       → Levels more roots false (over_top (with_parens item.start) stack) going
   Levels-open roots going [] deep other levels = members_at_other 0 0 other ∙ levels
   Levels-open roots going (top ∷ rest) deep other (l, levels) = (
@@ -196,7 +188,7 @@ module _ (front : List Item) (item : Item) where
       is_open = IsOpenAt-more (length rest) _ _ _ l.place (omega (arith, deep)) l.is_open;
       named_last = omega (arith, l.named_last, length_more);
       parens = ap (λ k. start_of (slice_get more k)) l.named_last
-          ∙ ap start_of (slice_get_next front item []);
+          ∙ ap start_of (slice_get-append_seam prefix item []);
       count_is = members_at_other (length rest + 1) (l.place + 1) other ∙ l.count_is;
     },
     Levels-same roots 1 rest (omega (arith, deep))

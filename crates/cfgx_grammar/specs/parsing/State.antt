@@ -1,4 +1,4 @@
--- What the parser keeps between two tokens, and what it builds as it goes.
+-- What the parser keeps between two tokens, and what it builds.
 use Rattle.std.specs.Prelude.{ℕ, List, [], Option, None}
 use Rattle.cfgx_syntax.specs.Token.{Token}
 use Rattle.cfgx_grammar.specs.{Question.Leaf, Tree.ListFunction, Grammar.list_name}
@@ -13,23 +13,25 @@ abbrev pub name_of : Function → Token
 name_of (Function.list function) = list_name function
 name_of Function.not = Token.not
 
--- What the parser builds: any type with these changes. Which tokens it takes does not depend on it.
+-- How a parser builds: any type with these operations. The tokens that a parser accepts do not
+-- depend on it.
 pub record Builder (W M L : Type 0) : Type 0 where
-  -- at the start
+  -- at the start of the text
   pub nothing : W
-  -- what an open function keeps of what was there when its name came
+  -- what an open function keeps of what was built before its name
   pub mark_of : W → M
-  -- a predicate or a literal, by the places of its texts
+  -- a predicate or a literal, with the spans of its key and its value
   pub located : Pending → Leaf → L
   pub leaf : L → W → W
-  -- the name of a function was read
+  -- a function begins
   pub function : W → W
-  -- it was closed, with so many members
+  -- a function ends, with the number of its members
   pub function_ended : M → Function → ℕ → W → W
-  -- the text ended
+  -- the text ends
   pub root_ended : W → W
 
--- an open function: where its name stands, where its `(`, and how many of its members have ended
+-- an open function: the span of its name, the position of its `(`, and the number of its members
+-- that have ended
 pub record Open (M : Type 0) : Type 0 where
   pub function : Function
   pub start : ℕ
@@ -38,8 +40,9 @@ pub record Open (M : Type 0) : Type 0 where
   pub members : ℕ
   pub mark : M
 
--- The open functions, the innermost first; the predicate that has not ended; how many members at
--- the root have ended; what was written. The last token stands beside it.
+-- The open functions, the innermost first; the pending predicate, which has begun and not ended;
+-- the number of members at the root that have ended; what was written. The last token stands beside
+-- it.
 pub record State {W M L : Type 0} (builder : Builder W M L) : Type 0 where
   pub stack : List (Open M)
   pub pending : Option Pending

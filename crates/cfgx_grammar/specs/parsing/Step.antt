@@ -1,5 +1,5 @@
--- The parser: what one token does to the state, or the fault that it shows, and what the end of the
--- text shows.
+-- The parser as a function: the state after a token or the fault at it, and the same at the end of
+-- the text.
 use Rattle.std.specs.Prelude.{ℕ, ◌+◌, ◌-◌, ◌==◌, Bool, true, List, [], ◌∷◌, codes, length, Option}
 use Rattle.std.specs.Prelude.{Some, None, option_map, Result, Ok, Err, if◌then◌else◌}
 use Rattle.cfgx_syntax.specs.Token.{Token}
@@ -12,24 +12,25 @@ use Rattle.cfgx_grammar.specs.{FollowSet.next, FollowSet.expected, Tree.ListFunc
 use Rattle.cfgx_grammar.specs.LastPredicate.{word_of, with_value, part_of, class_of}
 use Rattle.cfgx_grammar.specs.parsing.State.{Function, Pending, Builder, Open, State}
 
--- the next step of what went well
+-- `Result::and_then`
 abbrev pub and_then : {A B E : Type 0} → (A → Result B E) → Result A E → Result B E
 and_then f (Ok a) = f a
 and_then f (Err e) = Err e
 
+-- `Result::map`
 abbrev pub result_map : {A B E : Type 0} → (A → B) → Result A E → Result B E
 result_map f (Ok a) = Ok (f a)
 result_map f (Err e) = Err e
 
 -- Open functions.
 
--- `not` has one member, and the other functions any number
-abbrev pub has_room : Function → ℕ → Bool
-has_room Function.not n = n == 1
-has_room (Function.list function) n = true
+-- whether the function may have `n` members: `not` has one, and the others any number
+abbrev pub allows_count : Function → ℕ → Bool
+allows_count Function.not n = n == 1
+allows_count (Function.list function) n = true
 
 module _ {M : Type 0} where
-  -- the innermost open function changed
+  -- the stack with its innermost function changed
   abbrev pub over_top : (Open M → Open M) → List (Open M) → List (Open M)
   over_top f [] = []
   over_top f (top ∷ rest) = f top ∷ rest
@@ -37,30 +38,31 @@ module _ {M : Type 0} where
   abbrev pub one_more : Open M → Open M
   one_more f = record f { members = f.members + 1 }
 
-  -- the `(` of the innermost function
+  -- the function with the position of its `(`
   abbrev pub with_parens : ℕ → Open M → Open M
   with_parens place f = record f { parens = Some place }
 
+  -- the number of roots after one more member of the innermost list
   abbrev pub root_more : List (Open M) → ℕ → ℕ
   root_more [] roots = roots + 1
   root_more (top ∷ rest) roots = roots
 
-  -- how many members the function has when it is closed
+  -- the number of members of a function that ends
   abbrev pub member_count : Open M → Option Pending → ℕ
   member_count f None = f.members
   member_count f (Some p) = f.members + 1
 
-  -- the fault of an open function, at the end of the text
+  -- the fault of a function that is open at the end of a text of `len` bytes
   abbrev pub unclosed : ℕ → Open M → Option ℕ → Fault
   unclosed len f (Some place) = fault_between unclosed_parens place len
   unclosed len f None = fault_between (unexpected (codes "(" ∷ [])) f.start f.end
 
 -- Predicates.
 
--- a predicate or a literal by its places, or its fault
+-- the located predicate or literal, or its fault
 abbrev pub located_class : {W M L : Type 0} → Builder W M L → Pending → Class → Result L Fault
 located_class builder p (Class.is leaf) = Ok (builder.located p leaf)
-located_class builder p (Class.refused cause part) = Err (fault_between cause (part_of p part).start
+located_class builder p (Class.faulty cause part) = Err (fault_between cause (part_of p part).start
     (part_of p part).end)
 
 module _ {W M L : Type 0} {builder : Builder W M L} where
@@ -68,7 +70,7 @@ module _ {W M L : Type 0} {builder : Builder W M L} where
   abbrev pub with_member : State builder → State builder
   with_member s = record s { stack = over_top one_more s.stack; roots = root_more s.stack s.roots }
 
-  -- the predicate has ended
+  -- the state after the leaf, which was pending
   abbrev pub leaf_ended : State builder → L → State builder
   leaf_ended s leaf =
       with_member (record s { pending = None; written = builder.leaf leaf s.written })
@@ -77,13 +79,13 @@ module _ {W M L : Type 0} {builder : Builder W M L} where
   ended_by s None = Ok s
   ended_by s (Some p) = result_map (leaf_ended s) (located_class builder p (class_of p))
 
-  -- the predicate has ended, if one has begun
+  -- the state after the pending predicate, if there is one
   abbrev pub predicate_ended : State builder → Result (State builder) Fault
   predicate_ended s = ended_by s s.pending
 
   -- Tokens.
 
-  -- a function whose name has been read
+  -- a function of which only the name is read
   abbrev pub new_open : State builder → Function → Item → Open M
   new_open s function name = record {
     function = function;
@@ -100,7 +102,7 @@ module _ {W M L : Type 0} {builder : Builder W M L} where
     written = builder.function s.written;
   }
 
-  -- the innermost function has ended, whose members all have
+  -- the state after the innermost function, whose members have all ended
   abbrev pub function_ended : List (Open M) → State builder → State builder
   function_ended [] s = s
   function_ended (top ∷ rest) s = with_member (record s {
@@ -111,11 +113,11 @@ module _ {W M L : Type 0} {builder : Builder W M L} where
   abbrev pub closed_by : State builder → Item → List (Open M) → Result (State builder) Fault
   closed_by s item [] = Err (fault_between unopened_parens item.start item.end)
   closed_by s item (top ∷ rest) =
-      if has_room top.function (member_count top s.pending) then result_map
+      if allows_count top.function (member_count top s.pending) then result_map
       (λ t. function_ended t.stack t) (predicate_ended s)
       else Err (fault_between (invalid_not (member_count top s.pending)) top.start item.end)
 
-  -- what a token does if it may stand there
+  -- the state after a token that may stand there, or the fault at it
   abbrev pub apply : State builder → Item → Token → Result (State builder) Fault
   apply s item (Token.key text) = Ok (record s {
     pending = Some (record { key = word_of text item.start item.end; value = None });
@@ -132,12 +134,12 @@ module _ {W M L : Type 0} {builder : Builder W M L} where
   apply s item Token.close_paren = closed_by s item s.stack
   apply s item Token.comma = predicate_ended s
 
-  -- one token after the last one, or at the start
+  -- the state after a token that follows the last one, or stands at the start; or the fault at it
   abbrev pub step : Option Token → State builder → Item → Result (State builder) Fault
   step last s item = if next last item.token then apply s item item.token
       else Err (fault_between (unexpected (expected last)) item.start item.end)
 
-  -- one token after another: what the last one is then, and the state
+  -- the last token and the state after all of these tokens, or the first fault at one of them
   abbrev pub step_each : Option Token → State builder → List Item
       → Result (Option Token × State builder) Fault
   step_each last s [] = Ok (last, s)
@@ -146,7 +148,7 @@ module _ {W M L : Type 0} {builder : Builder W M L} where
 
   -- The end.
 
-  -- one member stands at the root
+  -- the state at the end of a text of `len` bytes with exactly one root, or the fault
   abbrev pub one_root : ℕ → State builder → Result (State builder) Fault
   one_root len s =
       if s.roots == 0 then Err (fault_between empty 0 len)
@@ -157,19 +159,19 @@ module _ {W M L : Type 0} {builder : Builder W M L} where
   concluded_by len s (top ∷ rest) = Err (unclosed len top top.parens)
   concluded_by len s [] = and_then (one_root len) (predicate_ended s)
 
-  -- the end of a text of so many bytes after its last token
+  -- the state at the end of a text of `len` bytes, or the fault there
   abbrev pub conclude : Option Token → ℕ → State builder → Result (State builder) Fault
   conclude last len s = if lacks_value last
       then Err (fault_between (unexpected (codes "\"<value>\"" ∷ [])) len len)
       else concluded_by len s s.stack
 
-  -- the end of the tokens, by what stands there
+  -- the state at the end of the tokens, or the fault there; `None` if white space alone is left
   abbrev pub ended_as : List ℕ → Option Fault → Option Token × State builder
       → Result (State builder) Fault
   ended_as text None (last, s) = conclude last (length text) s
   ended_as text (Some fault) _ = Err fault
 
-  -- what the rest of a text's tokens answers, from the last token and a state on
+  -- the result for the rest of a text's tokens, from the last token and a state on
   abbrev pub answer_from : Option Token → State builder → List ℕ → List Item → Ending
       → Result (State builder) Fault
   answer_from last s text items ending =

@@ -1,13 +1,13 @@
-//! The values of a condition in each lane of one list of answers, however they are asked for.
+//! The value of a condition in each lane of one list of answers, by each call that computes it.
 use super::numbers::Numbers;
 use cfg_expr::Expression;
 use cfg_expr::expr::Logic;
 use cfg_expr::expr::logic::Kleene64;
-use cfgx_testing::answers::{Answer, agree, value_in_lanes, value_with};
+use cfgx_testing::answers::{Answer, each_call_finds, eval_in_lanes, eval_over_answers};
 use std::alloc::{AllocError, Global};
 
-// Answers of which some lanes are true, some false, and some unknown.
-fn answer(numbers: &mut Numbers) -> Kleene64 {
+// Returns an answer that is true in some lanes, false in some, and unknown in some.
+fn next_answer(numbers: &mut Numbers) -> Kleene64 {
     let (one, other) = (numbers.next(), numbers.next());
     let high = numbers.next() << 32;
     let is_true = Kleene64::new(one | high, 0);
@@ -20,16 +20,20 @@ fn answer(numbers: &mut Numbers) -> Kleene64 {
     }
 }
 
-fn answers(alloc: Global, numbers: &mut Numbers, n: usize) -> Result<Vec<Kleene64>, AllocError> {
-    let mut answers = Vec::with_capacity(alloc, n)?;
-    for _answer in 0..n {
-        answers.push(answer(numbers))?;
+fn next_answers(
+    alloc: Global,
+    numbers: &mut Numbers,
+    count: usize,
+) -> Result<Vec<Kleene64>, AllocError> {
+    let mut answers = Vec::with_capacity(alloc, count)?;
+    for _answer in 0..count {
+        answers.push(next_answer(numbers))?;
     }
     Ok(answers)
 }
 
-// What stands in this lane of each answer.
-fn in_lane(alloc: Global, answers: &[Kleene64], i: usize) -> Result<Vec<Answer>, AllocError> {
+// Returns lane `i` of each answer, or the last lane if there is no such lane.
+fn lane_of_each(alloc: Global, answers: &[Kleene64], i: usize) -> Result<Vec<Answer>, AllocError> {
     let mut lane = Vec::with_capacity(alloc, answers.len())?;
     for answer in answers {
         lane.push(answer.lane(i.min(63)))?;
@@ -37,32 +41,32 @@ fn in_lane(alloc: Global, answers: &[Kleene64], i: usize) -> Result<Vec<Answer>,
     Ok(lane)
 }
 
-// Whether this is the value by `eval` in all lanes at once, and in the first one, the last one and
-// two between them by themselves.
-fn is_value(
+// Returns whether `eval` finds `value` in all lanes at once, and each call finds it in the first lane,
+// in the last one, and in two between them.
+fn value_is(
     alloc: Global,
     expression: &Expression,
     answers: &[Kleene64],
     value: Kleene64,
 ) -> Result<bool, AllocError> {
     for i in [0usize, 21, 42, 63] {
-        let lane = in_lane(alloc, answers, i)?;
-        if !agree(alloc, expression, lane.as_slice(), value.lane(i.min(63))) {
+        let lane = lane_of_each(alloc, answers, i)?;
+        if !each_call_finds(alloc, expression, lane.as_slice(), value.lane(i.min(63))) {
             return Ok(false);
         }
     }
-    Ok(value_with(alloc, expression, answers) == Some(value))
+    Ok(eval_over_answers(alloc, expression, answers) == Some(value))
 }
 
-/// Whether `eval`, `eval_lanes` and `polar_fillings` agree over answers of these numbers.
-pub(super) fn agrees_in_each_lane(
+/// Returns whether `eval`, `eval_lanes` and `polar_fillings` agree over the next answers.
+pub(super) fn calls_agree_in_lanes(
     alloc: Global,
     numbers: &mut Numbers,
     expression: &Expression,
 ) -> Result<bool, AllocError> {
-    let answers = answers(alloc, numbers, expression.predicates().left())?;
-    match value_in_lanes(alloc, expression, answers.as_slice()) {
-        Some(value) => is_value(alloc, expression, answers.as_slice(), value),
+    let answers = next_answers(alloc, numbers, expression.predicates().left())?;
+    match eval_in_lanes(alloc, expression, answers.as_slice()) {
+        Some(value) => value_is(alloc, expression, answers.as_slice(), value),
         None => Ok(false),
     }
 }

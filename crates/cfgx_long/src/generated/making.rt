@@ -1,13 +1,13 @@
-//! Texts that numbers make.
+//! Texts that are made from pseudorandom numbers.
 use super::numbers::Numbers;
 use std::alloc::{AllocError, Global};
 use std::mem::replace;
 
-// What may stand in a text in any order, divided by `|` as all texts here.
+// Pieces of texts. Here and below `|` separates them.
 const TOKENS: &str = "a|_b1|unix|test|key|all|any|not|feature|target_os|=|(|)|,|\"v\"|\"\"|\"| |\
     \u{3000}|all(|any(|not(|)|)|,|cfg(|8|\u{e9}";
 
-// Conditions that are one predicate, or ask none.
+// Conditions with one predicate or none.
 const LEAVES: &str = "true|false|a|b|key|unix|windows|test|debug_assertions|proc_macro|\
     feature = \"\"|feature=\"x-y\"|key = \"\u{e9}\n\"|panic = \"abort\"|target_abi = \"sim\"|\
     target_arch = \"x86\"|target_endian = \"big\"|target_env = \"gnu\"|target_family = \"wasm\"|\
@@ -15,13 +15,15 @@ const LEAVES: &str = "true|false|a|b|key|unix|windows|test|debug_assertions|proc
     target_os = \"\"|target_pointer_width = \"064\"|target_vendor = \"apple\"|all()|any()|\
     not(all())";
 
-// What may stand before the first member of a function, and what after its last one.
-const FRONTS: &str = "| |\n\t|\u{a0}";
+// What stands before the first member of a function.
+const PREFIXES: &str = "| |\n\t|\u{a0}";
 
-const BACKS: &str = "||,| , ,";
+// What stands after its last member.
+const SUFFIXES: &str = "||,| , ,";
 
 const FUNCTIONS: &str = "all(|any(|all (|any\u{3000}(";
 
+// Pushes up to 11 tokens.
 fn push_tokens(numbers: &mut Numbers, text: &mut String) -> Result<(), AllocError> {
     for _token in 0..numbers.below(12) {
         text.push_str(numbers.one_of(TOKENS))?;
@@ -29,28 +31,28 @@ fn push_tokens(numbers: &mut Numbers, text: &mut String) -> Result<(), AllocErro
     Ok(())
 }
 
-// Writes so many members, each with a comma before or after it.
+// Pushes up to two members, each between `before` and `after`.
 fn push_leaves(
     numbers: &mut Numbers,
     text: &mut String,
     before: &str,
-    beyond: &str,
+    after: &str,
 ) -> Result<(), AllocError> {
     for _leaf in 0..numbers.below(3) {
         text.push_str(before)?;
         text.push_str(numbers.one_of(LEAVES))?;
-        text.push_str(beyond)?;
+        text.push_str(after)?;
     }
     Ok(())
 }
 
-// Writes a condition that stands first in a function.
+// Pushes the condition `inner` after a prefix.
 fn push_inner(numbers: &mut Numbers, text: &mut String, inner: &str) -> Result<(), AllocError> {
-    text.push_str(numbers.one_of(FRONTS))?;
+    text.push_str(numbers.one_of(PREFIXES))?;
     text.push_str(inner)
 }
 
-// Writes the condition and other members beside it.
+// Pushes `all(` or `any(`, the condition `inner`, and other members beside it.
 fn push_members(numbers: &mut Numbers, text: &mut String, inner: &str) -> Result<(), AllocError> {
     text.push_str(numbers.one_of(FUNCTIONS))?;
     push_leaves(numbers, text, "", ",")?;
@@ -58,7 +60,7 @@ fn push_members(numbers: &mut Numbers, text: &mut String, inner: &str) -> Result
     push_leaves(numbers, text, ", ", "")
 }
 
-// Writes a function round a condition, with other members beside it, but for `not`.
+// Pushes a function of the condition `inner`. An `all` or `any` gets other members beside it.
 fn push_function(numbers: &mut Numbers, text: &mut String, inner: &str) -> Result<(), AllocError> {
     if numbers.below(3) > 0 {
         push_members(numbers, text, inner)?;
@@ -66,12 +68,12 @@ fn push_function(numbers: &mut Numbers, text: &mut String, inner: &str) -> Resul
         text.push_str("not(")?;
         push_inner(numbers, text, inner)?;
     }
-    text.push_str(numbers.one_of(BACKS))?;
+    text.push_str(numbers.one_of(SUFFIXES))?;
     text.push_str(")")
 }
 
-// Writes functions round a condition, one in another.
-fn push_functions(
+// Replaces the condition `text` by functions of it, one around another.
+fn wrap_in_functions(
     alloc: Global,
     numbers: &mut Numbers,
     text: &mut String,
@@ -85,20 +87,20 @@ fn push_functions(
     Ok(())
 }
 
-// A condition with up to five functions, one in another.
-fn condition(alloc: Global, numbers: &mut Numbers) -> Result<String, AllocError> {
+// Returns a condition with up to five functions, one around another.
+fn make_condition(alloc: Global, numbers: &mut Numbers) -> Result<String, AllocError> {
     let mut text = String::from_str(alloc, numbers.one_of(LEAVES))?;
-    let pushed = push_functions(alloc, numbers, &mut text);
-    pushed.and(Ok(text))
+    let wrapped = wrap_in_functions(alloc, numbers, &mut text);
+    wrapped.and(Ok(text))
 }
 
-// A condition between `cfg(` and `)`.
-fn wrapped(alloc: Global, numbers: &mut Numbers) -> Result<String, AllocError> {
-    let inner = condition(alloc, numbers)?;
+// Returns a condition in `cfg( )`.
+fn make_attribute(alloc: Global, numbers: &mut Numbers) -> Result<String, AllocError> {
+    let inner = make_condition(alloc, numbers)?;
     format!(in alloc; "cfg({inner})")
 }
 
-// Writes the text, with the token instead of the characters between the two places.
+// Pushes `whole` with `token` in place of the characters from byte `start` up to byte `end`.
 fn push_damaged(
     text: &mut String,
     whole: &str,
@@ -107,20 +109,20 @@ fn push_damaged(
     token: &str,
 ) -> Result<(), AllocError> {
     let mut token = Some(token);
-    for (place, character) in whole.char_indices() {
-        if place >= start {
+    for (index, character) in whole.char_indices() {
+        if index >= start {
             text.push_str(token.take().unwrap_or(""))?;
         }
-        if place < start || place >= end {
+        if index < start || index >= end {
             text.push(character)?;
         }
     }
     Ok(())
 }
 
-// A condition with one token instead of some of its characters.
-fn damaged(alloc: Global, numbers: &mut Numbers) -> Result<String, AllocError> {
-    let whole = condition(alloc, numbers)?;
+// Returns a condition with a token in place of some of its characters.
+fn make_damaged(alloc: Global, numbers: &mut Numbers) -> Result<String, AllocError> {
+    let whole = make_condition(alloc, numbers)?;
     let start = numbers.below(whole.len());
     let end = start.saturating_add(numbers.below(4));
     let mut text = String::new(alloc);
@@ -129,8 +131,8 @@ fn damaged(alloc: Global, numbers: &mut Numbers) -> Result<String, AllocError> {
     pushed.and(Ok(text))
 }
 
-// A character of one to four bytes, most often of one byte. A surrogate is none.
-fn character(numbers: &mut Numbers) -> Option<char> {
+// Returns a character of one to four bytes, most often of one, or `None` for a surrogate.
+fn next_character(numbers: &mut Numbers) -> Option<char> {
     let bound = match numbers.below(8) {
         0 => 0x800,
         1 => 0x1_0000,
@@ -140,33 +142,37 @@ fn character(numbers: &mut Numbers) -> Option<char> {
     char::from_u32(u32::try_from(numbers.below(bound)).ok()?)
 }
 
+// Pushes up to nine characters.
 fn push_characters(numbers: &mut Numbers, text: &mut String) -> Result<(), AllocError> {
     for _character in 0..numbers.below(10) {
-        if let Some(character) = character(numbers) {
+        if let Some(character) = next_character(numbers) {
             text.push(character)?;
         }
     }
     Ok(())
 }
 
-// Tokens or characters in any order.
-fn shuffled(alloc: Global, numbers: &mut Numbers, are_tokens: bool) -> Result<String, AllocError> {
+// Returns tokens in any order.
+fn make_tokens(alloc: Global, numbers: &mut Numbers) -> Result<String, AllocError> {
     let mut text = String::new(alloc);
-    let pushed = if are_tokens {
-        push_tokens(numbers, &mut text)
-    } else {
-        push_characters(numbers, &mut text)
-    };
+    let pushed = push_tokens(numbers, &mut text);
     pushed.and(Ok(text))
 }
 
-/// The next text.
-pub(super) fn made(alloc: Global, numbers: &mut Numbers) -> Result<String, AllocError> {
+// Returns characters in any order.
+fn make_characters(alloc: Global, numbers: &mut Numbers) -> Result<String, AllocError> {
+    let mut text = String::new(alloc);
+    let pushed = push_characters(numbers, &mut text);
+    pushed.and(Ok(text))
+}
+
+/// Returns the next text.
+pub(super) fn make_text(alloc: Global, numbers: &mut Numbers) -> Result<String, AllocError> {
     match numbers.below(6) {
-        0 => shuffled(alloc, numbers, true),
-        1 => shuffled(alloc, numbers, false),
-        2 => condition(alloc, numbers),
-        3 => wrapped(alloc, numbers),
-        _ => damaged(alloc, numbers),
+        0 => make_tokens(alloc, numbers),
+        1 => make_characters(alloc, numbers),
+        2 => make_condition(alloc, numbers),
+        3 => make_attribute(alloc, numbers),
+        _ => make_damaged(alloc, numbers),
     }
 }

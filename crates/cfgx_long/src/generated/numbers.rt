@@ -1,17 +1,18 @@
-//! Numbers that look as if they came by chance, and are the same in each run.
+//! Pseudorandom numbers, which are the same in each run.
 
-/// A generator, which steps by a product and a sum that wrap.
+/// A linear congruential generator.
 #[derive(Drop)]
 pub(super) struct Numbers {
     state: u64,
 }
 
 impl Numbers {
+    /// Returns a generator with this seed.
     pub(super) fn new(seed: u64) -> Numbers {
         Numbers { state: seed }
     }
 
-    /// A number of 32 bits. The low bits of the state have short periods and are left out.
+    /// Returns a number of 32 bits. The low bits of the state have short periods and are left out.
     pub(super) fn next(&mut self) -> u64 {
         self.state = self
             .state
@@ -20,14 +21,14 @@ impl Numbers {
         self.state >> 32
     }
 
-    /// A number below this one, or 0.
+    /// Returns a number below `bound`, or 0 if `bound` is 0.
     pub(super) fn below(&mut self, bound: usize) -> usize {
         self.next() as usize % bound.max(1)
     }
 
-    /// One of the texts, which are divided by `|`.
+    /// Returns one of the texts, which `|` separates.
     pub(super) fn one_of(&mut self, texts: &'static str) -> &'static str {
-        let place = self.below(texts.split('|').count());
-        texts.split('|').nth(place).unwrap_or("")
+        let index = self.below(texts.split('|').count());
+        texts.split('|').nth(index).unwrap_or("")
     }
 }

@@ -1,20 +1,20 @@
 //! Values that are made and copied, and inputs that are read.
-use super::fields::{copies_field, copies_plain, copies_predicate};
-use super::inputs::{is_stopped, reads};
-use super::targets::{
-    copies_a_fault, copies_families, copies_from_the_table, copies_many, copies_widths,
-};
-use super::{Call, Finding, growths_of};
+use super::fields::{check_field, check_plain_predicate, check_predicate};
+use super::inputs::{check_input, stops_at_failed_read};
+use super::lists::{check_families, check_long_list, check_widths};
+use super::rows::check_builtin_row;
+use super::widths::check_width_error;
+use super::{Call, Outcome, refuse_each_growth};
 use cfg_expr::memory::SmallAllocator;
+use cfgx_testing::checking::is_ok_true;
 use cfgx_testing::heap::{empty_heap, has_every_block};
-use cfgx_testing::holding::holds;
 use std::alloc::Global;
 
-/// What is copied or read, of which name, how many growths that takes, and the texts of which it is
-/// made, or what it prints. Each of `some` growths is refused in turn too, and none if all is done
-/// `once`, which only gives back its memory.
+/// The kind of a value and its name, how many growths the call takes, and the texts from which the
+/// value is made, or what it prints. Growths are refused in turn, of which there are `some` if the
+/// row does not say how many. A call that is made `once` has none refused.
 pub(super) const CALLS: &str = r#"
-// Of a text that is owned and one that is borrowed, the first and its copy take a growth each.
+// The owned text and its copy take a growth each, and the borrowed text and its copy none.
 field triple | 2 | \u{e9} | a text of seventeen | ~v~100000~
 field abi | 2 | \u{e9} | a text of seventeen | ~v~100000~
 field arch | 2 | \u{e9} | a text of seventeen | ~v~100000~
@@ -46,62 +46,63 @@ widths 64 | some | {8, 16, 32, 64, ptr}
 widths 32 | some | {8, 16, 32, ptr}
 widths two | some | {8, ptr}
 many widths | some | \e
-fault | some | expected integer or "ptr", found PTR
+width error | some | expected integer or "ptr", found PTR
 row | some | \e
 input | 1 | \e | ----------
 input | 4 | ~-~300000~
-// What was read when a read fails is given back.
+// What was read before a failed read is freed.
 failed read | once | 1 | 2 | 3 | 4 | 5
 "#;
 
-/// What the call answers. What it prints is printed to the other allocator.
-pub(super) fn answer_to<A: SmallAllocator>(
-    out: Global,
+/// Makes the call, such as `field os`, with this text and checks its result.
+pub(super) fn check_call<A: SmallAllocator>(
+    global: Global,
     alloc: A,
     call: &str,
     text: &str,
-) -> Finding {
+) -> Outcome {
     let (kind, name) = call.split_once(' ').unwrap_or((call, ""));
     match kind {
-        "field" => copies_field(alloc, name, text),
-        "predicate" => copies_predicate(alloc, name, text),
-        "plain" => copies_plain(alloc, name),
-        "families" => copies_families(out, alloc, name, text),
-        "widths" => copies_widths(out, alloc, name, text),
-        "many" => copies_many(alloc, name, text),
-        "fault" => copies_a_fault(out, alloc, text),
-        "row" => copies_from_the_table(alloc),
-        "input" => reads(out, alloc, text.as_bytes()),
-        "failed" => Ok(is_stopped(alloc, text)),
+        "field" => check_field(alloc, name, text),
+        "predicate" => check_predicate(alloc, name, text),
+        "plain" => check_plain_predicate(alloc, name),
+        "families" => check_families(global, alloc, name, text),
+        "widths" => check_widths(global, alloc, name, text),
+        "many" => check_long_list(alloc, name, text),
+        "width" => check_width_error(global, alloc, text),
+        "row" => check_builtin_row(alloc),
+        "input" => check_input(global, alloc, text.as_bytes()),
+        "failed" => Ok(stops_at_failed_read(alloc, text)),
         _ => Ok(false),
     }
 }
 
-// Whether the call answers true, and gives back every block.
-fn is_done_once(alloc: Global, call: &str, text: &str) -> bool {
-    let heap = empty_heap(alloc);
-    holds(answer_to(alloc, &heap, call, text)) & has_every_block(heap)
+// Whether the call passes its check with no growth refused, and every block is freed.
+fn passes_once(global: Global, call: &str, text: &str) -> bool {
+    let heap = empty_heap(global);
+    is_ok_true(check_call(global, &heap, call, text)) & has_every_block(heap)
 }
 
-// Whether the call takes as many growths as is said, each of which is refused in turn.
-fn takes_growths(alloc: Global, call: &str, said: &str, text: &str) -> bool {
-    if said == "once" {
-        return is_done_once(alloc, call, text);
+// Whether the call passes its check with each growth refused in turn, and takes the growths that the
+// row says.
+fn passes(global: Global, call: &str, growths: &str, text: &str) -> bool {
+    if growths == "once" {
+        return passes_once(global, call, text);
     }
-    match growths_of(alloc, Call::Named(call, text)) {
-        Some(count) if said == "some" => count > 0,
-        Some(count) => said.parse() == Ok(count),
+    match refuse_each_growth(global, Call::Other(call, text)) {
+        Some(count) if growths == "some" => count > 0,
+        Some(count) => growths.parse() == Ok(count),
         None => false,
     }
 }
 
-/// Whether the row is what it says.
-pub(super) fn is_row(alloc: Global, fields: &[String]) -> bool {
-    let [call, said, texts @ ..] = fields else {
+/// Whether the call of the row passes its check with each text.
+pub(super) fn row_passes(global: Global, fields: &[String]) -> bool {
+    let [call, growths, texts @ ..] = fields else {
         return false;
     };
     for text in texts {
-        if !takes_growths(alloc, call.as_str(), said.as_str(), text.as_str()) {
+        if !passes(global, call.as_str(), growths.as_str(), text.as_str()) {
             return false;
         }
     }

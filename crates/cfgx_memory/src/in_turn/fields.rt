@@ -1,32 +1,31 @@
-//! Copies of fields and predicates: only an owned text takes memory, and one growth.
-use super::{Finding, Made, TryClone, gives_copy};
+//! Copies of fields and predicates. A copy of an owned text takes one growth, and any other none.
+use super::{AllocResult, Outcome, TryClone, check_copy};
 use cfg_expr::TargetPredicate;
 use cfg_expr::memory::SmallAllocator;
 use cfg_expr::targets::{Abi, Arch, Endian, Env, Family, HasAtomic, Os, Panic, Vendor};
 use cfgx_fields::{
     AbiKind, ArchKind, EnvKind, FamilyKind, Field, OsKind, PanicKind, TripleKind, VendorKind,
 };
-use cfgx_testing::holding::{gives, holds};
+use cfgx_testing::checking::{is_ok_true, value_equals};
 
-// Whether a borrowed value and an owned one of the same text are equal to each other's copies. The
-// copy of the borrowed one takes no memory. Their type is not known here, which makes their drops
-// short to prove.
-fn are_copied<T: PartialEq + Drop>(
-    copy_of_borrowed: Made<T>,
-    copy_of_owned: Made<T>,
+// Checks that a borrowed value and an owned one of the same text equal each other's copies. The copy
+// of the borrowed one takes no memory.
+fn check_copies<T: PartialEq + Drop>(
+    copy_of_borrowed: AllocResult<T>,
+    copy_of_owned: AllocResult<T>,
     borrowed: T,
     owned: T,
-) -> Finding {
-    let are_alike = owned == borrowed && holds(gives(copy_of_borrowed, &owned));
-    let is_copied = gives(copy_of_owned, &borrowed);
-    if are_alike { is_copied } else { Ok(false) }
+) -> Outcome {
+    let is_right = owned == borrowed && is_ok_true(value_equals(copy_of_borrowed, &owned));
+    let outcome = value_equals(copy_of_owned, &borrowed);
+    if is_right { outcome } else { Ok(false) }
 }
 
-// Fields of this kind.
-fn copies_kind<K: Drop, A: SmallAllocator>(alloc: A, text: &str) -> Finding {
+// Checks fields of the kind `K` with this text.
+fn check_field_of<K: Drop, A: SmallAllocator>(alloc: A, text: &str) -> Outcome {
     let owned: Field<'_, K, A> = Field::new(String::from_str(alloc, text)?);
     let borrowed = Field::new_const(text);
-    are_copied(
+    check_copies(
         borrowed.try_clone(alloc),
         owned.try_clone(alloc),
         borrowed,
@@ -34,37 +33,52 @@ fn copies_kind<K: Drop, A: SmallAllocator>(alloc: A, text: &str) -> Finding {
     )
 }
 
-// A predicate of this kind, whose field `made` makes of the text. There is none of other kinds.
+/// Checks fields of the kind with this name.
+pub(super) fn check_field<A: SmallAllocator>(alloc: A, kind: &str, text: &str) -> Outcome {
+    match kind {
+        "triple" => check_field_of::<TripleKind, A>(alloc, text),
+        "abi" => check_field_of::<AbiKind, A>(alloc, text),
+        "arch" => check_field_of::<ArchKind, A>(alloc, text),
+        "vendor" => check_field_of::<VendorKind, A>(alloc, text),
+        "os" => check_field_of::<OsKind, A>(alloc, text),
+        "family" => check_field_of::<FamilyKind, A>(alloc, text),
+        "env" => check_field_of::<EnvKind, A>(alloc, text),
+        "panic" => check_field_of::<PanicKind, A>(alloc, text),
+        _ => Ok(false),
+    }
+}
+
+// A predicate of this kind, whose field the function `new` makes from the text.
 macro_rules! predicate {
-    ($kind:ident $made:ident $text:ident) => {
+    ($kind:ident $new:ident $text:ident) => {
         match $kind {
-            "abi" => Some(TargetPredicate::Abi(Abi::$made($text))),
-            "arch" => Some(TargetPredicate::Arch(Arch::$made($text))),
-            "vendor" => Some(TargetPredicate::Vendor(Vendor::$made($text))),
-            "os" => Some(TargetPredicate::Os(Os::$made($text))),
-            "family" => Some(TargetPredicate::Family(Family::$made($text))),
-            "env" => Some(TargetPredicate::Env(Env::$made($text))),
-            "panic" => Some(TargetPredicate::Panic(Panic::$made($text))),
+            "abi" => Some(TargetPredicate::Abi(Abi::$new($text))),
+            "arch" => Some(TargetPredicate::Arch(Arch::$new($text))),
+            "vendor" => Some(TargetPredicate::Vendor(Vendor::$new($text))),
+            "os" => Some(TargetPredicate::Os(Os::$new($text))),
+            "family" => Some(TargetPredicate::Family(Family::$new($text))),
+            "env" => Some(TargetPredicate::Env(Env::$new($text))),
+            "panic" => Some(TargetPredicate::Panic(Panic::$new($text))),
             _ => None,
         }
     };
 }
 
-fn owned<'a, A: SmallAllocator>(kind: &str, text: String<A>) -> Option<TargetPredicate<'a, A>> {
+fn owned_predicate<'a, A: SmallAllocator>(kind: &str, text: String<A>) -> Option<TargetPredicate<'a, A>> {
     predicate!(kind new text)
 }
 
-fn borrowed<'a, A: SmallAllocator>(kind: &str, text: &'a str) -> Option<TargetPredicate<'a, A>> {
+fn borrowed_predicate<'a, A: SmallAllocator>(kind: &str, text: &'a str) -> Option<TargetPredicate<'a, A>> {
     predicate!(kind new_const text)
 }
 
-// These predicates of the same text.
-fn copies_both<'a, A: SmallAllocator>(
+// Checks a borrowed predicate and an owned one of the same text.
+fn check_predicate_copies<'a, A: SmallAllocator>(
     alloc: A,
     borrowed: TargetPredicate<'a, A>,
     owned: TargetPredicate<'a, A>,
-) -> Finding {
-    are_copied(
+) -> Outcome {
+    check_copies(
         borrowed.try_clone(alloc),
         owned.try_clone(alloc),
         borrowed,
@@ -72,23 +86,23 @@ fn copies_both<'a, A: SmallAllocator>(
     )
 }
 
-/// Predicates of this kind.
-pub(super) fn copies_predicate<A: SmallAllocator>(alloc: A, kind: &str, text: &str) -> Finding {
+/// Checks predicates of the kind with this name.
+pub(super) fn check_predicate<A: SmallAllocator>(alloc: A, kind: &str, text: &str) -> Outcome {
     let owned_text = String::from_str(alloc, text)?;
-    match (borrowed(kind, text), owned(kind, owned_text)) {
-        (Some(borrowed), Some(owned)) => copies_both(alloc, borrowed, owned),
+    match (borrowed_predicate(kind, text), owned_predicate(kind, owned_text)) {
+        (Some(borrowed), Some(owned)) => check_predicate_copies(alloc, borrowed, owned),
         _ => Ok(false),
     }
 }
 
 impl<'a, A: SmallAllocator> TryClone<A> for TargetPredicate<'a, A> {
-    fn copy(&self, alloc: A) -> Made<Self> {
+    fn copy(&self, alloc: A) -> AllocResult<Self> {
         self.try_clone(alloc)
     }
 }
 
-// The predicate of this name.
-fn plain<'a, A: SmallAllocator>(name: &str) -> Option<TargetPredicate<'a, A>> {
+// Returns the predicate without a text that has this name.
+fn plain_predicate<'a, A: SmallAllocator>(name: &str) -> Option<TargetPredicate<'a, A>> {
     match name {
         "big" => Some(TargetPredicate::Endian(Endian::big)),
         "ptr" => Some(TargetPredicate::HasAtomic(HasAtomic::Pointer)),
@@ -98,25 +112,10 @@ fn plain<'a, A: SmallAllocator>(name: &str) -> Option<TargetPredicate<'a, A>> {
     }
 }
 
-/// A predicate without a text.
-pub(super) fn copies_plain<A: SmallAllocator>(alloc: A, name: &str) -> Finding {
-    match plain(name) {
-        Some(predicate) => gives_copy(alloc, &predicate),
+/// Checks the predicate without a text that has this name.
+pub(super) fn check_plain_predicate<A: SmallAllocator>(alloc: A, name: &str) -> Outcome {
+    match plain_predicate(name) {
+        Some(predicate) => check_copy(alloc, &predicate),
         None => Ok(false),
-    }
-}
-
-/// Fields of the kind of this name.
-pub(super) fn copies_field<A: SmallAllocator>(alloc: A, kind: &str, text: &str) -> Finding {
-    match kind {
-        "triple" => copies_kind::<TripleKind, A>(alloc, text),
-        "abi" => copies_kind::<AbiKind, A>(alloc, text),
-        "arch" => copies_kind::<ArchKind, A>(alloc, text),
-        "vendor" => copies_kind::<VendorKind, A>(alloc, text),
-        "os" => copies_kind::<OsKind, A>(alloc, text),
-        "family" => copies_kind::<FamilyKind, A>(alloc, text),
-        "env" => copies_kind::<EnvKind, A>(alloc, text),
-        "panic" => copies_kind::<PanicKind, A>(alloc, text),
-        _ => Ok(false),
     }
 }

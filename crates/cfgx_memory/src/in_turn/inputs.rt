@@ -1,40 +1,40 @@
-//! An input that is read whole: the room doubles, from 64 KiB on, and every byte is given back.
-use super::Finding;
+//! Inputs that are read whole: the room doubles, from 64 KiB on, and every byte is freed.
+use super::Outcome;
 use cfgx_engine::engine::{Input, Stop, read_input};
-use cfgx_testing::holding::holds;
+use cfgx_testing::checking::is_ok_true;
 use cfgx_testing::streams::Pieces;
 use std::alloc::{AllocError, Allocator, Global};
 
-// Whether these bytes were read.
-fn is_read<A: Allocator>(answer: &Result<Input<A>, Stop>, bytes: &[u8]) -> Finding {
-    match answer {
+// Checks that the input consists of `bytes`.
+fn check_bytes<A: Allocator>(input: &Result<Input<A>, Stop>, bytes: &[u8]) -> Outcome {
+    match input {
         Ok(Input::Bytes(read)) => Ok(read.as_slice() == bytes),
         Err(Stop::Memory) => Err(AllocError),
         _ => Ok(false),
     }
 }
 
-/// Reads the bytes. Out of memory, no call of the source has failed, and what was read stays read:
-/// reading again gives what follows it.
-pub(super) fn reads<A: Allocator>(out: Global, alloc: A, bytes: &[u8]) -> Finding {
+/// Checks that `read_input` reads all bytes. Out of memory, no call of the source failed, and a
+/// second `read_input` returns the bytes that were not read yet.
+pub(super) fn check_input<A: Allocator>(global: Global, alloc: A, bytes: &[u8]) -> Outcome {
     let mut source = Pieces::new(bytes, 65_536, 0);
-    let answer = is_read(&read_input(alloc, &mut source), bytes);
+    let outcome = check_bytes(&read_input(alloc, &mut source), bytes);
     let left = source.left;
-    if let Ok(is_whole) = answer {
+    if let Ok(is_whole) = outcome {
         return Ok(is_whole && left.is_empty());
     }
     if source.failures > 0 || !bytes.ends_with(left) {
         return Ok(false);
     }
-    if holds(is_read(&read_input(out, &mut source), left)) {
+    if is_ok_true(check_bytes(&read_input(global, &mut source), left)) {
         Err(AllocError)
     } else {
         Ok(false)
     }
 }
 
-/// Whether the failed read of this number is answered.
-pub(super) fn is_stopped<A: Allocator>(alloc: A, failing_read: &str) -> bool {
+/// Whether `read_input` returns the failure of the read with this number.
+pub(super) fn stops_at_failed_read<A: Allocator>(alloc: A, failing_read: &str) -> bool {
     let Ok(failing_read) = failing_read.parse() else {
         return false;
     };

@@ -1,67 +1,69 @@
-//! Runs of the program, and wrong use, which takes no memory.
-use super::{Call, Finding, growths_of};
+//! Runs of the program.
+use super::{Call, Outcome, refuse_each_growth};
 use cfg_expr::memory::SmallAllocator;
+use cfg_expr::targets::{TargetInfo, TargetTable};
 use cfgx_engine::engine::run;
 use cfgx_testing::heap::{empty_heap, has_every_block};
 use cfgx_testing::refusing::EVERY;
-use cfgx_testing::streams::{ALL, Pieces, Recorder, USAGE, is_left_so, is_written};
+use cfgx_testing::streams::{ALL, Pieces, Recorder, USAGE, has_written, sink_matches};
 use cfgx_testing::triples::SIM;
 use cfgx_testing::words::words_of;
 use std::alloc::{AllocError, Global};
 
-/// An input, the status of a run over it, and what it writes.
-pub(super) type Wanted<'a> = (&'a str, u8, &'a [u8]);
+/// An input, the status of a run over it, and its output.
+pub(super) type Ending<'a> = (&'a str, u8, &'a [u8]);
 
-// How a run over the input ends: its status, what is left of the input, and what it wrote.
-fn ended<'i, A: SmallAllocator>(
-    out: Global,
+// Runs the program over the input. Returns the status, what is left of the input, and the output.
+fn run_over<'i, A: SmallAllocator>(
+    global: Global,
     alloc: A,
     words: &[&str],
     input: &'i str,
 ) -> (u8, Pieces<'i>, Recorder) {
     let mut source = Pieces::new(input.as_bytes(), ALL, 0);
-    let mut sink = Recorder::new(out);
+    let mut sink = Recorder::new(global);
     let status = run(alloc, words, &mut source, &mut sink);
     (status, source, sink)
 }
 
-// Whether it ended as it has to with memory, all its input read, or out of memory: what it read
-// then stays read, and its sink was not called.
-fn is_end(end: &(u8, Pieces<'_>, Recorder), wanted: &Wanted<'_>) -> Finding {
-    let (status, source, sink) = end;
+// Checks that the run has read all its input and has the wanted status and output. Out of memory,
+// what it read stays read, and its sink was not called.
+fn check_ending(ended: &(u8, Pieces<'_>, Recorder), wanted: &Ending<'_>) -> Outcome {
+    let (status, source, sink) = ended;
     if source.failures != 0 || !wanted.0.as_bytes().ends_with(source.left) {
         Ok(false)
-    } else if *status == 3 && is_left_so(sink, b"", (0, 0), 0) {
+    } else if *status == 3 && sink_matches(sink, b"", (0, 0), 0) {
         Err(AllocError)
     } else {
-        Ok(is_written(sink, wanted.2) && *status == wanted.1 && source.left.is_empty())
+        Ok(has_written(sink, wanted.2) && *status == wanted.1 && source.left.is_empty())
     }
 }
 
-/// Whether a run with these words ends so.
-pub(super) fn is_run<A: SmallAllocator>(
-    out: Global,
+/// Runs the program over the input of `ending`, and checks that it ends so.
+pub(super) fn check_run<A: SmallAllocator>(
+    global: Global,
     alloc: A,
     words: &[&str],
-    wanted: &Wanted<'_>,
-) -> Finding {
-    is_end(&ended(out, alloc, words, wanted.0), wanted)
+    ending: &Ending<'_>,
+) -> Outcome {
+    check_ending(&run_over(global, alloc, words, ending.0), ending)
 }
 
-// How many growths a run takes that ends so, each of which is refused in turn.
-fn growths_of_run(alloc: Global, words: &[&str], wanted: &Wanted<'_>) -> u64 {
-    growths_of(alloc, Call::Run(words, wanted)).unwrap_or(0)
+// Refuses each growth of the run in turn. Returns how many there are, or 0 if it ends otherwise.
+fn run_growths(global: Global, words: &[&str], ending: &Ending<'_>) -> u64 {
+    refuse_each_growth(global, Call::Run(words, ending)).unwrap_or(0)
 }
 
-/// Whether each growth of a run that ends with this status is refused in turn. It writes what a run
-/// with memory does.
-pub(super) fn is_run_in_turns(alloc: Global, words: &[&str], status: u8) -> bool {
-    let (ended, _source, sink) = ended(alloc, alloc, words, "");
-    ended == status && growths_of_run(alloc, words, &("", status, sink.bytes.as_slice())) > 0
+/// Whether a run without input takes memory, survives refusals, and ends with this status and the
+/// output of a run with memory.
+pub(super) fn survives_refused_run(global: Global, words: &[&str], status: u8) -> bool {
+    let (ended, _source, sink) = run_over(global, global, words, "");
+    ended == status && run_growths(global, words, &("", status, sink.bytes.as_slice())) > 0
 }
 
-/// How a run is made, its status, and its words. For `pick` on the simulator: the input of a run
-/// and what it writes. For `pick alike`: these of two runs that take as many growths.
+/// How growths are refused, the status, and the words. For `pick`, which runs on the simulator, the
+/// input and the output in place of words. For `pick alike`, those of two runs that take the same
+/// number of growths.
 pub(super) const RUNS: &str = r#"
 in turns | 1 | parse | \e
 in turns | 0 | eval | a
@@ -78,9 +80,9 @@ in turns | 2 | target | nowhere | key)
 // A wide run and a deep one.
 in turns | 0 | eval | any(~a,~100~) | ?any(~b,~100~)
 in turns | 0 | target | aarch64-apple-tvos | ~not(~40~a~)~40~
-// The table takes a block for its five rows, and each of them one for its families and one for its
-// widths. The text is not read. What is written comes in front of the words.
-in 11 turns | 2 | unknown triple\n | target | nowhere | any(~a,~100~)
+// The table of targets takes a block for its rows, and one for each of their lists that has members.
+// The text is not read. The output stands before the words.
+table alone | 2 | unknown triple\n | target | nowhere | any(~a,~100~)
 pick | 0 | SECTIONS | VERDICTS
 pick | 1 | x | line 1: no tab\n
 pick | 1 | a\tunix\n\nb\tkey)\n | line 3:\nkey)\n   ^ unopened parens\n
@@ -88,15 +90,15 @@ pick | 0 | m\tany(not(feature = "x"), target_os = "linux", test)\
  | m\tunknown\n\ttrue with 001\n\tfalse with 100\n
 pick | 0 | \u{e9}\ttrue\r\n\r\n | \u{e9}\tyes\n
 pick | 0 | \e | \e
-// A line takes no memory if one as long was read before and the output has room. The first name has
-// 20 bytes, so the block of the output has 20 and then 40, and all lines write 34.
+// A line takes no memory if one as long was read before it and the output has room. The first name
+// has 20 bytes, so the block of the output has 20 and then 40, and all lines write 34.
 pick alike | 0 | ~n~20~\tall(a, b, c, d, e, not(any(not(f))), windows)\n\
  | ~n~20~\tno\n\
  | ~n~20~\tall(a, b, c, d, e, not(any(not(f))), windows)\n\
 b\tall(a, b, c, d, e, not(any(not(f))), windows)\nc\twindows\n\
  | ~n~20~\tno\nb\tno\nc\tno\n
-// Unknown sections one behind the other are decided in the memory of the first. Its name has 400
-// bytes, so the block of the output has 400 and then 800, and all lines write fewer.
+// Unknown sections are decided in the memory of the first one. Its name has 400 bytes, so the block
+// of the output has 400 and then 800, and all lines write fewer.
 pick alike | 0 | ~n~400~\tany(a, not(a))\n\
  | ~n~400~\tunknown\n\ttrue with 01\n\tfalse with 10\n\
  | ~n~400~\tany(a, not(a))\nb\tall(c, d)\nc\tnot(test)\nd\tall(unix, e)\nf\tany(g, windows)\n\
@@ -116,63 +118,79 @@ without | 3 | target | nowhere | )
 "#;
 
 // Whether a run with no memory at all ends with this status: that of wrong use, which asks for no
-// growth and writes the usage, or that of want of memory.
-fn is_without(alloc: Global, words: &[&str], status: u8) -> bool {
-    let heap = empty_heap(alloc);
+// growth and writes the usage, or that of a run out of memory.
+fn ends_without_memory(global: Global, words: &[&str], status: u8) -> bool {
+    let heap = empty_heap(global);
     heap.refuse(EVERY);
-    let ended = is_run(alloc, &heap, words, &("", 2, USAGE.as_bytes()));
+    let outcome = check_run(global, &heap, words, &("", 2, USAGE.as_bytes()));
     let has_asked = heap.asked_growths() > 0;
-    let is_ended = match ended {
+    let is_right = match outcome {
         Ok(is_misused) => is_misused && status == 2 && !has_asked,
         Err(AllocError) => status == 3 && has_asked,
     };
-    is_ended && has_every_block(heap)
+    is_right && has_every_block(heap)
 }
 
-// How many growths a run with these words takes, in front of which stands what it writes.
-fn growths_after(alloc: Global, status: u8, words: &[&str]) -> u64 {
-    match words {
-        [written, words @ ..] => growths_of_run(alloc, words, &("", status, written.as_bytes())),
-        [] => 0,
+// Counts the blocks of a table with these rows, which are made as the built-in ones are.
+fn blocks_of_table(rows: &[TargetInfo<'_>]) -> u64 {
+    let mut blocks = 1u64;
+    for row in rows {
+        let families = u64::from(!row.families.as_slice().is_empty());
+        let widths = u64::from(!row.has_atomics.as_slice().is_empty());
+        blocks = blocks.saturating_add(families).saturating_add(widths);
+    }
+    blocks
+}
+
+// Whether a run takes as many growths as the table of built-in targets has blocks. Its output stands
+// before its words.
+fn takes_table_alone(global: Global, status: u8, fields: &[&str]) -> bool {
+    match (fields, TargetTable::builtins(global)) {
+        ([output, words @ ..], Ok(table)) => {
+            let growths = run_growths(global, words, &("", status, output.as_bytes()));
+            growths == blocks_of_table(table.rows())
+        }
+        _ => false,
     }
 }
 
-// How many growths a run of `pick` takes, of an input and what it writes of it.
-fn growths_of_pick(alloc: Global, status: u8, run: &[&str]) -> u64 {
-    match run {
-        [input, written] => {
-            growths_of_run(alloc, &["pick", SIM], &(*input, status, written.as_bytes()))
+// Refuses each growth of a run of `pick` in turn. Returns how many there are, or 0 if it ends
+// otherwise.
+fn pick_growths(global: Global, status: u8, fields: &[&str]) -> u64 {
+    match fields {
+        [input, output] => {
+            run_growths(global, &["pick", SIM], &(*input, status, output.as_bytes()))
         }
         _ => 0,
     }
 }
 
-// Whether two runs of `pick` take as many growths.
-fn are_alike(alloc: Global, status: u8, runs: &[&str]) -> bool {
-    let (one, other) = runs.split_at(runs.len().min(2));
-    let growths = growths_of_pick(alloc, status, one);
-    growths > 0 && growths_of_pick(alloc, status, other) == growths
+// Whether two runs of `pick` take the same number of growths.
+fn picks_take_same(global: Global, status: u8, fields: &[&str]) -> bool {
+    let (one, other) = fields.split_at(fields.len().min(2));
+    let growths = pick_growths(global, status, one);
+    growths > 0 && pick_growths(global, status, other) == growths
 }
 
-// Whether a run that is made so ends so.
-fn ends_as_told(alloc: Global, made: &str, status: u8, words: &[&str]) -> bool {
-    match made {
-        "in turns" => is_run_in_turns(alloc, words, status),
-        "in 11 turns" => growths_after(alloc, status, words) == 11,
-        "pick" => growths_of_pick(alloc, status, words) > 0,
-        "pick alike" => are_alike(alloc, status, words),
-        "without" => is_without(alloc, words, status),
+// Whether a run ends with this status, with growths refused as `kind` says.
+fn run_passes(global: Global, kind: &str, status: u8, fields: &[&str]) -> bool {
+    match kind {
+        "in turns" => survives_refused_run(global, fields, status),
+        "table alone" => takes_table_alone(global, status, fields),
+        "pick" => pick_growths(global, status, fields) > 0,
+        "pick alike" => picks_take_same(global, status, fields),
+        "without" => ends_without_memory(global, fields, status),
         _ => false,
     }
 }
 
-/// Whether the row is what it says.
-pub(super) fn is_row(alloc: Global, fields: &[String]) -> bool {
-    let [made, status, words @ ..] = fields else {
+/// Whether the run of the row ends as the row says.
+pub(super) fn row_passes(global: Global, row: &[String]) -> bool {
+    let [kind, status, fields @ ..] = row else {
         return false;
     };
-    match (status.parse::<u8>(), words_of(alloc, words)) {
-        (Ok(status), Ok(words)) => ends_as_told(alloc, made.as_str(), status, words.as_slice()),
+    match (status.parse::<u8>(), words_of(global, fields)) {
+        (Ok(status), Ok(fields)) => run_passes(global, kind.as_str(), status, fields.as_slice()),
         _ => false,
     }
 }

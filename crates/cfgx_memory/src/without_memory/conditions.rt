@@ -1,174 +1,194 @@
-//! Conditions that are asked, compared, printed, spelled and evaluated, and the logics.
-//!
-//! A function takes the heap that it has refuse, and as any allocator what it calls with. Both are
-//! the same, but a function of any allocator is shorter to prove than one of this heap.
-use super::targets::builtins;
-use crate::in_turn::conditions::{Nowhere, Read, ask_alike, called, parsed};
-use crate::in_turn::reading::reads;
-use crate::in_turn::{Made, is_none};
+//! Conditions that are compared, printed, spelled, read again and evaluated.
+use super::tables::rows_with_memory;
+use crate::in_turn::AllocResult;
+use crate::in_turn::expressions::check_expression_call;
+use crate::in_turn::reading::check_read;
+use crate::in_turn::texts::Parsed;
+use crate::in_turn::verdicts::Nowhere;
 use cfg_expr::expr::logic::Kleene64;
-use cfg_expr::expr::{ConditionReader, Logic, Predicates, spell};
+use cfg_expr::expr::{ConditionReader, Predicates, spell};
 use cfg_expr::memory::SmallAllocator;
-use cfg_expr::targets::{TargetInfo, TargetTable};
+use cfg_expr::targets::TargetInfo;
 use cfg_expr::{Expression, Predicate, TargetPredicate};
 use cfgx_engine::resolve::audit;
+use cfgx_testing::checking::{is_ok_true, prints};
 use cfgx_testing::heap::Heap;
-use cfgx_testing::holding::{holds, prints};
 use cfgx_testing::refusing::EVERY;
-use cfgx_testing::triples::SIM;
+use cfgx_testing::triples::{DARWIN, IOS, MACABI, SIM, TVOS};
 use std::alloc::Global;
 
-/// What parsing the text answers with memory. Every growth after it is refused.
-pub(super) fn read<A: SmallAllocator>(heap: Heap<'_>, alloc: A, text: &str) -> Read<A> {
+/// Parses the text with memory. Every growth after it is refused.
+pub(super) fn parse_with_memory<A: SmallAllocator>(
+    heap: Heap<'_>,
+    alloc: A,
+    text: &str,
+) -> Parsed<A> {
     heap.refuse(0);
-    let read = parsed(alloc, text);
+    let parsed = Expression::parse(alloc, text);
     heap.refuse(EVERY);
-    read
+    parsed
 }
 
-// Whether the comparisons of the expression with the other one, and of their predicates, answer
-// `wanted`.
-fn is_equal<A: SmallAllocator>(
-    asked: &Expression<A>,
-    other: &Read<A>,
+// Whether the expression equals `other` or not, and so do their predicates, as `wanted` says.
+fn equality_is<A: SmallAllocator>(
+    expression: &Expression<A>,
+    other: &Parsed<A>,
     wanted: (bool, bool),
 ) -> bool {
     match other {
         Ok(other) => {
-            (asked == other) == wanted.0
-                && ask_alike(asked.predicates(), other.predicates()) == wanted.1
+            (expression == other) == wanted.0
+                && expression.predicates().eq(other.predicates()) == wanted.1
         }
         Err(_) => false,
     }
 }
 
-// Whether the comparisons of the expression with that of `TEXT` answer `wanted`.
-fn compares<A: SmallAllocator>(
+// Whether the expression equals that of `TEXT` or not, and so do their predicates, as `wanted` says.
+fn equality_with_text_is<A: SmallAllocator>(
     heap: Heap<'_>,
     alloc: A,
-    asked: &Expression<A>,
+    expression: &Expression<A>,
     wanted: (bool, bool),
 ) -> bool {
-    is_equal(asked, &read(heap, alloc, TEXT), wanted)
+    equality_is(expression, &parse_with_memory(heap, alloc, TEXT), wanted)
 }
 
 // A text with more nodes than a reader makes room for at first.
 const LONG: &str = "all(a, b, c, d, e, not(any(not(f))))";
 
-// Whether the reader answers what parsing answers, which takes memory elsewhere.
-fn is_read_by<'t, A: SmallAllocator>(
-    out: Global,
+// Whether reading the text returns what parsing it in `global` returns.
+fn reads<'t, A: SmallAllocator>(
+    global: Global,
     reader: &mut ConditionReader<'t, A>,
     text: &'t str,
 ) -> bool {
-    holds(reads(reader, text, &parsed(out, text)))
+    is_ok_true(check_read(reader, text, &Expression::parse(global, text)))
 }
 
-// Whether the reader, once it has read `LONG`, reads the text, and then `LONG` again, with every
-// growth refused.
-fn reads_again<'t, A: SmallAllocator>(
-    out: Global,
+// Whether the reader reads `LONG` with memory, and then the text and `LONG` again with none.
+fn reads_after_long<'t, A: SmallAllocator>(
+    global: Global,
     heap: Heap<'_>,
     reader: &mut ConditionReader<'t, A>,
     text: &'t str,
 ) -> bool {
     heap.refuse(0);
-    let is_read = is_read_by(out, reader, LONG);
+    let is_read = reads(global, reader, LONG);
     heap.refuse(EVERY);
-    is_read && is_read_by(out, reader, text) && is_read_by(out, reader, LONG)
+    is_read && reads(global, reader, text) && reads(global, reader, LONG)
 }
 
-// Whether a new reader reads the text after `LONG`, and `LONG` again.
-fn is_read_again<A: SmallAllocator>(out: Global, heap: Heap<'_>, alloc: A, text: &str) -> bool {
+// Whether a new reader reads `LONG` with memory, and then the text and `LONG` again with none.
+fn is_read_after_long<A: SmallAllocator>(
+    global: Global,
+    heap: Heap<'_>,
+    alloc: A,
+    text: &str,
+) -> bool {
     let mut reader = ConditionReader::new(alloc);
-    reads_again(out, heap, &mut reader, text)
+    reads_after_long(global, heap, &mut reader, text)
 }
 
-// Adds the spelling of the next predicate.
-fn is_spelled(predicates: &mut Predicates<'_>, bytes: &mut Vec<u8>) -> bool {
+// Writes the spelling of the next predicate, if there is one. Returns whether it did.
+fn spell_next(predicates: &mut Predicates<'_>, spellings: &mut Vec<u8>) -> bool {
     let next = predicates.next();
     let is_spelled = match &next {
-        Some(predicate) => spell(predicate, bytes).is_ok(),
+        Some(predicate) => spell(predicate, spellings).is_ok(),
         None => false,
     };
     drop(next);
     is_spelled
 }
 
-// Adds the spellings of all predicates. Whether these numbers of them are left, one after another.
-fn spells(asked: &mut Predicates<'_>, left: &[usize], bytes: &mut Vec<u8>) -> bool {
-    for left in left {
-        if asked.left() != *left || !is_spelled(asked, bytes) {
+// Writes the spellings of all predicates. Returns whether `counts` are the numbers that were left
+// before each one.
+fn spell_all(
+    predicates: &mut Predicates<'_>,
+    counts: &[usize],
+    spellings: &mut Vec<u8>,
+) -> bool {
+    for count in counts {
+        if predicates.left() != *count || !spell_next(predicates, spellings) {
             return false;
         }
     }
-    asked.left() == 0 && is_none(asked.next())
+    predicates.left() == 0 && predicates.next().is_none()
 }
 
-// Whether these numbers of predicates are left, one after another, which are spelled so.
-fn are_spelled(out: Global, mut asked: Predicates<'_>, left: &[usize], told: &str) -> bool {
-    let mut bytes = Vec::new(out);
-    spells(&mut asked, left, &mut bytes) && bytes.as_slice() == told.as_bytes()
+// Whether the predicates have these spellings, and `counts` are the numbers that are left before
+// each one.
+fn are_spelled(
+    global: Global,
+    mut predicates: Predicates<'_>,
+    counts: &[usize],
+    spellings: &str,
+) -> bool {
+    let mut bytes = Vec::new(global);
+    spell_all(&mut predicates, counts, &mut bytes) && bytes.as_slice() == spellings.as_bytes()
 }
 
-// The answer in a lane, if there is that lane.
-fn lane_of(lanes: Kleene64, place: usize) -> Option<bool> {
-    if place < 64 { lanes.lane(place) } else { None }
+// Returns the value in a lane, or `None` if there is no such lane.
+fn value_in_lane(lanes: Kleene64, lane: usize) -> Option<bool> {
+    if lane < 64 { lanes.lane(lane) } else { None }
 }
 
-// Whether the predicate is true of the simulator's row alone, one by one and in lanes.
-fn is_of_simulator<A: SmallAllocator>(
-    target: &TargetPredicate<'_>,
+// Whether the row of the simulator is the only one that meets the predicate, one by one and in
+// lanes.
+fn only_simulator_meets<A: SmallAllocator>(
+    predicate: &TargetPredicate<'_>,
     rows: &[TargetInfo<'_, A>],
 ) -> bool {
-    if rows.len() != 5 {
-        return false;
-    }
-    let lanes = target.lanes(rows);
-    for (place, row) in rows.iter().enumerate() {
+    let lanes = predicate.lanes(rows);
+    for (lane, row) in rows.iter().enumerate() {
         let is_simulator = row.triple.as_str() == SIM;
-        if target.matches(row) != is_simulator || lane_of(lanes, place) != Some(is_simulator) {
+        if predicate.matches(row) != is_simulator
+            || value_in_lane(lanes, lane) != Some(is_simulator)
+        {
             return false;
         }
     }
-    (lanes.is_true() | lanes.is_false()) == 0b11111
+    rows.len() == TRIPLES.len() && (lanes.is_true() | lanes.is_false()) == 0b11111
 }
 
-// Whether this is a predicate that is true of the simulator's row alone.
-fn asks_for_simulator<A: SmallAllocator>(
-    asked: Option<Predicate<'_>>,
+// The triples of the rows that are asked.
+const TRIPLES: &[&str; 5] = &[DARWIN, IOS, MACABI, SIM, TVOS];
+
+// Whether this is a predicate on targets, and only the row of the simulator meets it.
+fn is_met_by_simulator<A: SmallAllocator>(
+    predicate: Option<Predicate<'_>>,
     rows: &[TargetInfo<'_, A>],
 ) -> bool {
-    let is_of_simulator = match &asked {
-        Some(Predicate::Target(target)) => is_of_simulator(target, rows),
+    let is_met = match &predicate {
+        Some(Predicate::Target(target)) => only_simulator_meets(target, rows),
         _ => false,
     };
-    drop(asked);
-    is_of_simulator
+    drop(predicate);
+    is_met
 }
 
-// Whether the first predicate is true of the simulator's row of the table alone.
-fn asks_first_for_simulator<A: SmallAllocator>(
-    asked: &Expression<A>,
-    table: &Made<TargetTable<'_, A>>,
+// Whether only the row of the simulator meets the first predicate.
+fn asks_for_simulator<A: SmallAllocator>(
+    expression: &Expression<A>,
+    rows: &AllocResult<Vec<TargetInfo<'_, A>, A>>,
 ) -> bool {
-    match table {
-        Ok(table) => asks_for_simulator(asked.predicates().next(), table.rows()),
+    match rows {
+        Ok(rows) => is_met_by_simulator(expression.predicates().next(), rows.as_slice()),
         Err(_) => false,
     }
 }
 
-// Whether `audit` on no target gives no verdict.
-fn audits_no_target<A: SmallAllocator>(alloc: A, condition: &Expression<A>) -> bool {
+// Whether `audit` on no target returns no verdict.
+fn audits_no_target<A: SmallAllocator>(alloc: A, expression: &Expression<A>) -> bool {
     let targets: &[Nowhere] = &[];
-    matches!(audit(alloc, condition, targets), Ok(verdicts) if verdicts.is_empty())
+    matches!(audit(alloc, expression, targets), Ok(verdicts) if verdicts.is_empty())
 }
 
 const TEXT: &str = "all(a, any(b), feature = \"a feature with a long name\")";
 
-/// Checks of expressions, and texts. The first five are compared with `TEXT`, what is read again is
-/// read after `LONG`, and what is evaluated has 31 or 32 bytes.
-pub(super) const ASKED: &str = r#"
+/// A check, and the text of its expression. The first five are compared with `TEXT`, what is read
+/// again is read after `LONG`, and what is evaluated has 31 or 32 bytes.
+pub(super) const CONDITIONS: &str = r#"
 text | all(a, any(b), feature = "a feature with a long name")
 predicates | all(a, any(b), feature = "a feature with a long name")
 equal | all(a, any(b), feature = "a feature with a long name")
@@ -186,55 +206,69 @@ eval | all(all(),all(),all(),all(),a,a)
 eval_lanes | any(a,a,a,a,a,a,a,a,a,a,a,a,a,a)
 eval_lanes | not(not(not(not(not(not(a))))))
 eval_lanes | all(all(),all(),all(),all(),a,a)
+Condition::eval | any(a,a,a,a,a,a,a,a,a,a,a,a,a,a)
+Condition::eval | not(not(not(not(not(not(a))))))
+Condition::eval | all(all(),all(),all(),all(),a,a)
+Condition::eval_lanes | any(a,a,a,a,a,a,a,a,a,a,a,a,a,a)
+Condition::eval_lanes | not(not(not(not(not(not(a))))))
+Condition::eval_lanes | all(all(),all(),all(),all(),a,a)
 "#;
 
 const SPELLINGS: &str = "bafeature = \"a feature with a long name\"";
 
+const WIDTH_SPELLING: &str = "target_has_atomic = \"128\"";
+
 // Whether this is the expression of `TEXT`.
-fn is_text<A: SmallAllocator>(out: Global, asked: &Expression<A>) -> bool {
-    asked.original() == TEXT && asked.condition().original() == TEXT && prints(out, asked, TEXT)
+fn has_text<A: SmallAllocator>(global: Global, expression: &Expression<A>) -> bool {
+    expression.original() == TEXT
+        && expression.condition().original() == TEXT
+        && prints(global, expression, TEXT)
 }
 
-// Whether the check holds of the expression.
-fn answers<A: SmallAllocator>(
-    out: Global,
+// Whether the expression passes the check.
+fn expression_passes<A: SmallAllocator>(
+    global: Global,
     heap: Heap<'_>,
     alloc: A,
     check: &str,
-    asked: &Expression<A>,
+    expression: &Expression<A>,
 ) -> bool {
     match check {
-        "text" => is_text(out, asked),
-        "predicates" => are_spelled(out, asked.predicates(), &[3, 2, 1], SPELLINGS),
-        "spelling" => are_spelled(out, asked.predicates(), &[1], "target_has_atomic = \"128\""),
-        "equal" => compares(heap, alloc, asked, (true, true)),
-        "one comma more" => compares(heap, alloc, asked, (false, true)),
-        "other predicates" => compares(heap, alloc, asked, (false, false)),
-        "simulator alone" => asks_first_for_simulator(asked, &builtins(heap, alloc)),
-        "no target" => audits_no_target(alloc, asked),
-        "eval" | "eval_lanes" => holds(called(alloc, check, asked)),
+        "text" => has_text(global, expression),
+        "predicates" => are_spelled(global, expression.predicates(), &[3, 2, 1], SPELLINGS),
+        "spelling" => are_spelled(global, expression.predicates(), &[1], WIDTH_SPELLING),
+        "equal" => equality_with_text_is(heap, alloc, expression, (true, true)),
+        "one comma more" => equality_with_text_is(heap, alloc, expression, (false, true)),
+        "other predicates" => equality_with_text_is(heap, alloc, expression, (false, false)),
+        "simulator alone" => {
+            asks_for_simulator(expression, &rows_with_memory(heap, alloc, TRIPLES))
+        }
+        "no target" => audits_no_target(alloc, expression),
+        "eval" | "eval_lanes" | "Condition::eval" | "Condition::eval_lanes" => {
+            is_ok_true(check_expression_call(alloc, check, expression))
+        }
         _ => false,
     }
 }
 
-// Whether the check holds of the text, of which this was read.
-fn check_holds<A: SmallAllocator>(
-    out: Global,
+// Whether the text passes the check. Parsing it returned `parsed`.
+fn passes<A: SmallAllocator>(
+    global: Global,
     heap: Heap<'_>,
     alloc: A,
     (check, text): (&str, &str),
-    read: &Read<A>,
+    parsed: &Parsed<A>,
 ) -> bool {
-    match read {
-        Ok(_) if check == "read again" => is_read_again(out, heap, alloc, text),
-        Ok(asked) => answers(out, heap, alloc, check, asked),
+    match parsed {
+        Ok(_) if check == "read again" => is_read_after_long(global, heap, alloc, text),
+        Ok(expression) => expression_passes(global, heap, alloc, check, expression),
         Err(_) => false,
     }
 }
 
-/// Whether the row is what it says, with every growth refused.
-pub(super) fn is_row<A: SmallAllocator>(
-    out: Global,
+/// Whether the text of the row passes the check of the row, with every growth refused.
+pub(super) fn row_passes<A: SmallAllocator>(
+    global: Global,
     heap: Heap<'_>,
     alloc: A,
     row: &[String],
@@ -243,29 +277,6 @@ pub(super) fn is_row<A: SmallAllocator>(
         return false;
     };
     let row = (check.as_str(), text.as_str());
-    check_holds(out, heap, alloc, row, &read(heap, alloc, text.as_str()))
-}
-
-// Whether the operations of a logic are what they are in Rust.
-fn is_logic<T: Logic + Copy + PartialEq>() -> bool {
-    let (yes, no) = (T::top(), T::bottom());
-    let found = [yes.and(yes), yes.and(no), no.or(no), no.or(yes)];
-    yes.not() == no && no.not() == yes && found.as_slice() == [yes, no, no, yes].as_slice()
-}
-
-// Whether the operations of a logic with an unknown answer are what they are in Rust.
-fn has_unknown<T: Logic + Copy + PartialEq>(it: T) -> bool {
-    let (yes, no) = (T::top(), T::bottom());
-    let found = [it.not(), it.and(yes), it.and(no), it.or(yes), it.or(no)];
-    is_logic::<T>() && found.as_slice() == [it, it, no, yes, it].as_slice()
-}
-
-/// Whether the logic of this name is what it is in Rust.
-pub(super) fn is_named_logic(name: &str) -> bool {
-    match name {
-        "bool" => is_logic::<bool>(),
-        "option" => has_unknown::<Option<bool>>(None),
-        "lanes" => has_unknown(Kleene64::new(0, 0)),
-        _ => false,
-    }
+    let parsed = parse_with_memory(heap, alloc, text.as_str());
+    passes(global, heap, alloc, row, &parsed)
 }

@@ -1,9 +1,9 @@
 //! Functions, byte orders, widths, reasons, tokens, verdicts, logics, streams, the version, and
 //! named values.
-use super::are_ordered;
-use super::conditions::is_named_logic;
-use super::faults::{compares_no_widths, gives_tokens, prints_no_width};
-use super::named::are_named_values;
+use super::faults::{compares_width_errors, lexes, prints_width_error};
+use super::is_ordered;
+use super::logics::logic_is_right;
+use super::named::named_values_are_right;
 use cfg_expr::TargetPredicate;
 use cfg_expr::error::Reason;
 use cfg_expr::expr::Func;
@@ -12,8 +12,8 @@ use cfg_expr::memory::SmallAllocator;
 use cfg_expr::targets::{Abi, Endian, HasAtomic, Os, rustc_version};
 use cfgx_engine::engine::Counted;
 use cfgx_engine::resolve::Verdict;
+use cfgx_testing::checking::{is_ok_true, prints, value_equals};
 use cfgx_testing::heap::Heap;
-use cfgx_testing::holding::{gives, holds, prints};
 use cfgx_testing::refusing::EVERY;
 use cfgx_testing::streams::{ALL, Pieces};
 use std::alloc::Global;
@@ -22,7 +22,7 @@ use std::str::FromStr;
 /// The width of eight bits.
 pub(super) const EIGHT: HasAtomic = HasAtomic::IntegerSize(8);
 
-// Functions in their order: `not`, and then `all` and `any`, each by the number of its members.
+// Functions in order: `not`, and then `all` and `any`, each by the number of its members.
 const FUNCTIONS: [Func; 6] = [
     Func::Not,
     Func::All(0),
@@ -32,10 +32,10 @@ const FUNCTIONS: [Func; 6] = [
     Func::Any(1),
 ];
 
-// Whether the value compares with each of the values as their places do.
-fn compares_by_place<T: Ord>(values: &[T], place: usize, value: &T) -> bool {
-    for (other_place, other) in values.iter().enumerate() {
-        let order = place.cmp(&other_place);
+// Whether `value` compares with each of the values as `index` does with the index of that value.
+fn compares_by_index<T: Ord>(values: &[T], index: usize, value: &T) -> bool {
+    for (other_index, other) in values.iter().enumerate() {
+        let order = index.cmp(&other_index);
         let is_equal = value == other;
         if is_equal != order.is_eq()
             || value.cmp(other) != order
@@ -47,17 +47,17 @@ fn compares_by_place<T: Ord>(values: &[T], place: usize, value: &T) -> bool {
     true
 }
 
-// Whether the values stand in their order, and each is equal to itself alone.
-fn are_rising<T: Ord>(values: &[T]) -> bool {
-    for (place, value) in values.iter().enumerate() {
-        if !compares_by_place(values, place, value) {
+// Whether the values are in strictly increasing order.
+fn are_increasing<T: Ord>(values: &[T]) -> bool {
+    for (index, value) in values.iter().enumerate() {
+        if !compares_by_index(values, index, value) {
             return false;
         }
     }
     true
 }
 
-// Whether the names of both byte orders are read, and no other text is.
+// Whether byte orders are read from their names, and from no other text.
 fn reads_byte_orders() -> bool {
     let other = Err(Reason::Unexpected(&["big", "little"]));
     Endian::from_str("big") == Ok(Endian::big)
@@ -68,51 +68,51 @@ fn reads_byte_orders() -> bool {
 
 // Whether the text is read as this width.
 fn reads_width<A: SmallAllocator>(alloc: A, text: &str, width: HasAtomic) -> bool {
-    holds(gives(HasAtomic::read(alloc, text), &width))
+    is_ok_true(value_equals(HasAtomic::read(alloc, text), &width))
 }
 
-fn prints_widths(out: Global) -> bool {
-    prints(out, &EIGHT, "8") && prints(out, &HasAtomic::Pointer, "ptr")
+fn prints_widths(global: Global) -> bool {
+    prints(global, &EIGHT, "8") && prints(global, &HasAtomic::Pointer, "ptr")
 }
 
-// Whether reasons are equal if they are the same, and print what is wrong.
-fn compares_reasons(out: Global) -> bool {
+// Whether reasons are equal if they are the same, and print their message.
+fn compares_reasons(global: Global) -> bool {
     let reason = Reason::InvalidNot(2);
     reason == Reason::InvalidNot(2)
         && reason != Reason::InvalidNot(3)
         && reason != Reason::Empty
         && Reason::Unexpected(&["="]) != Reason::Unexpected(&["(", "="])
-        && prints(out, &reason, "not() takes 1 predicate, found 2")
+        && prints(global, &reason, "not() takes 1 predicate, found 2")
 }
 
 // Whether tokens are equal if they are the same, and print their variant.
-fn compares_tokens(out: Global) -> bool {
+fn compares_tokens(global: Global) -> bool {
     Token::Key("a") == Token::Key("a")
         && Token::Key("a") != Token::Value("a")
         && Token::Any != Token::All
-        && prints(out, &Token::OpenParen, "OpenParen")
+        && prints(global, &Token::OpenParen, "OpenParen")
 }
 
-// Whether predicates are equal if they are of one kind and one text.
+// Whether predicates are equal if they have the same kind and the same text.
 fn compares_predicates<A: SmallAllocator>() -> bool {
     let abi = TargetPredicate::<A>::Abi(Abi::sim());
     let same = TargetPredicate::Abi(Abi::new_const("sim"));
-    let system = TargetPredicate::Os(Os::new_const("sim"));
-    (abi == same) & (abi != system) & (same != TargetPredicate::PointerWidth(64))
+    let os = TargetPredicate::Os(Os::new_const("sim"));
+    (abi == same) & (abi != os) & (same != TargetPredicate::PointerWidth(64))
 }
 
 fn compares_verdicts() -> bool {
     Verdict::Yes == Verdict::Yes && Verdict::Yes != Verdict::No && Verdict::No != Verdict::Unknown
 }
 
-// Whether a stream is counted from its first failed call on.
+// Whether a stream has no failed call at first.
 fn counts_from_zero() -> bool {
     let counted = Counted::new(Pieces::new(b"ab", ALL, 0));
     counted.failures() == 0 && counted.get_ref().left == b"ab".as_slice()
 }
 
-/// What is checked.
-pub(super) const CHECKS: &str = r#"
+/// The names of checks.
+pub(super) const VALUES: &str = r#"
 order of functions
 order of byte orders
 order of widths
@@ -125,8 +125,8 @@ tokens
 tokens of a lexer
 predicates on a target
 verdicts
-fault of a width
-faults of widths
+error of a width
+errors of widths
 version
 counted stream
 named abis
@@ -141,19 +141,19 @@ logic option
 logic lanes
 "#;
 
-// Whether the check of the value of this name holds.
-fn check_holds<A: SmallAllocator>(out: Global, alloc: A, name: &str) -> bool {
-    match name {
-        "order of functions" => are_rising(&FUNCTIONS),
-        "order of byte orders" => are_ordered(&Endian::big, &Endian::big, &Endian::little),
-        "order of widths" => are_ordered(&EIGHT, &EIGHT, &HasAtomic::Pointer),
+// Whether the check with this name passes. It takes no memory at all.
+fn passes_alone<A: SmallAllocator>(global: Global, alloc: A, check: &str) -> bool {
+    match check {
+        "order of functions" => are_increasing(&FUNCTIONS),
+        "order of byte orders" => is_ordered(&Endian::big, &Endian::big, &Endian::little),
+        "order of widths" => is_ordered(&EIGHT, &EIGHT, &HasAtomic::Pointer),
         "a byte order is read" => reads_byte_orders(),
         "a number is read" => reads_width(alloc, "+08", EIGHT),
         "ptr is read" => reads_width(alloc, "ptr", HasAtomic::Pointer),
-        "widths are printed" => prints_widths(out),
-        "reasons" => compares_reasons(out),
-        "tokens" => compares_tokens(out),
-        "tokens of a lexer" => gives_tokens(alloc),
+        "widths are printed" => prints_widths(global),
+        "reasons" => compares_reasons(global),
+        "tokens" => compares_tokens(global),
+        "tokens of a lexer" => lexes(alloc),
         "predicates on a target" => compares_predicates::<A>(),
         "verdicts" => compares_verdicts(),
         "version" => rustc_version() == "1.99.0",
@@ -162,34 +162,27 @@ fn check_holds<A: SmallAllocator>(out: Global, alloc: A, name: &str) -> bool {
     }
 }
 
-// Whether the check of this name holds, in which faults are made with memory first.
-fn check_of_faults_holds<A: SmallAllocator>(
-    out: Global,
-    heap: Heap<'_>,
-    alloc: A,
-    name: &str,
-) -> bool {
-    match name {
-        "fault of a width" => prints_no_width(out, heap, alloc),
-        "faults of widths" => compares_no_widths(heap, alloc),
-        name => check_holds(out, alloc, name),
+// Whether the check with this name passes. Errors are made with memory.
+fn passes<A: SmallAllocator>(global: Global, heap: Heap<'_>, alloc: A, check: &str) -> bool {
+    match check.split_once(' ') {
+        Some(("named", name)) => named_values_are_right::<A>(name),
+        Some(("logic", name)) => logic_is_right(name),
+        Some(("error", "of a width")) => prints_width_error(global, heap, alloc),
+        Some(("errors", "of widths")) => compares_width_errors(heap, alloc),
+        _ => passes_alone(global, alloc, check),
     }
 }
 
-/// Whether the check of the row holds, with every growth refused.
-pub(super) fn is_row<A: SmallAllocator>(
-    out: Global,
+/// Whether the check of the row passes, with every growth refused.
+pub(super) fn row_passes<A: SmallAllocator>(
+    global: Global,
     heap: Heap<'_>,
     alloc: A,
     row: &[String],
 ) -> bool {
-    let [name] = row else {
+    let [check] = row else {
         return false;
     };
     heap.refuse(EVERY);
-    match name.split_once(' ') {
-        Some(("named", values)) => are_named_values::<A>(values),
-        Some(("logic", logic)) => is_named_logic(logic),
-        _ => check_of_faults_holds(out, heap, alloc, name.as_str()),
-    }
+    passes(global, heap, alloc, check.as_str())
 }

@@ -1,11 +1,11 @@
--- The nodes of a tree are written for its items: the laws of the builder of nodes.
+-- The laws of the builder of nodes: for the items of a tree its nodes are written.
 use Rattle.std.proofs.Common.{◌≡◌, ℕ, ◌+◌, true, false, List, [], ◌++◌, length, Option}
 use Rattle.std.proofs.Common.{option_map, rules, arith, Some, None, refl, ap, subst}
 use Rattle.std.{specs.Prelude.if◌then◌else◌, proofs.lemmas.List.{append-nil, length_push}}
 use Rattle.cfgx_syntax.specs.Items.{Item}
 use Rattle.cfgx_grammar.{specs.Question.Leaf, specs.Question.Question, specs.Classification.Class}
-use Rattle.cfgx_grammar.{specs.Classification.class, proofs.alone.all_of_first}
-use Rattle.cfgx_grammar.{proofs.alone.all_of_second, proofs.spelled.Calls, proofs.spelled.Laws}
+use Rattle.cfgx_grammar.{specs.Classification.class, proofs.spelled.Calls, proofs.spelled.Laws}
+use Rattle.cfgx_grammar.proofs.ListLemmas.{all_of_first, all_of_second}
 use Rattle.cfgx_grammar.specs.Tree.{Tree, Trees, is_function, is_leaf, count}
 use Rattle.cfgx_grammar.{specs.parsing.State.Function, proofs.accepted.leaf_tree}
 use Rattle.cfgx_parser.specs.nodes.Located.{located, at, IsSpan, ValueHasCut}
@@ -13,34 +13,34 @@ use Rattle.cfgx_parser.specs.{nodes.Node.{Written, with_leaf}, declared.nodes.Sp
 use Rattle.cfgx_parser.specs.nodes.Prefix.{Node, headed, prefix, prefix_each, places, places_by}
 use Rattle.cfgx_parser.{specs.nodes.Prefix.with_places, proofs.spelled.WritingLemmas.length-nodes}
 use Rattle.cfgx_parser.specs.nodes.WritesNodes.{IsPlaced, ArePlaced, WritesNodes}
-use Rattle.cfgx_parser.specs.parsing.NodeState.{counted, node_builder}
+use Rattle.cfgx_parser.specs.parsing.NodeState.{func_of, node_builder}
 use Rattle.cfgx_parser.specs.declared.nodes.ExprNode.TheVariants as node
 use Rattle.cfgx_parser.proofs.spelled.LocatedClasses.{NamesClass, NamesClass-class}
 use Rattle.cfgx_parser.proofs.spelled.WritingLemmas.{WritesNodes-none, WritesNodes-then}
 use Rattle.cfgx_parser.proofs.spelled.WritingLemmas.{WritesNodes-leaf, WritesNodes-function}
 
--- the places of what is asked with its list, and of what is asked before
+-- the places of the predicates that the tree asks with its list, and of those that it asks before
 abbrev pub own : ℕ → Tree Question → List ℕ
 own place tree = if is_leaf (with_places place tree) then places place tree else []
 
 abbrev pub inner : ℕ → Tree Question → List ℕ
 inner place tree = if is_function (with_places place tree) then places place tree else []
 
--- a function's tree, by its kind and its members
+-- the tree is a call of the function with these members
 record Called (function : Function) (tree : Tree Question) (trees : Trees Question) : Type 0 where
-  pub prefix_is : prefix tree ≡ headed (counted function (count trees)) (prefix_each trees)
+  pub prefix_is : prefix tree ≡ headed (func_of function (count trees)) (prefix_each trees)
   pub places_are : (place : ℕ) → places place tree ≡ places_by is_function (place + 1) trees
       ++ places_by is_leaf (place + 1) trees
   pub is_no_leaf : (place : ℕ) → is_leaf (with_places place tree) ≡ false
   pub is_one : (place : ℕ) → is_function (with_places place tree) ≡ true
 
--- the two ways of writing the one member of a `not`
+-- the places of the one member of a `not`, as a tree and as a list
 places_one : (place : ℕ) (tree : Tree Question) → let one = Trees.more tree Trees.none in
     places place tree ≡ places_by is_function place one ++ places_by is_leaf place one
 places_one place tree = grind (arith, append-nil)
 
 module _ (text : List ℕ) where
-  -- for a tree whose items stand at their places, and for a list
+  -- what is written for a tree, and for a list, whose items stand in the text
   abbrev pub MemberWrites : List Item → Written → Written → Tree Question → Type 0
   MemberWrites items w v tree = ArePlaced text items
       → WritesNodes text w v (prefix tree) (own (length w.nodes) tree)

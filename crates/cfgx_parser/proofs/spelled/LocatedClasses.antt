@@ -1,4 +1,4 @@
--- A predicate that is read from its key and value is the one that its node names in the text.
+-- The predicate of a key and a value is the question of the node that is written for it.
 use Rattle.std.proofs.Common.{◌≡◌, ℕ, List, [], ◌∷◌, Option, Some, None, option_map}
 use Rattle.std.{proofs.Common.{arith, rules, refl}, specs.List.AllByRecursion}
 use Rattle.cfgx_parser.specs.{declared.nodes.Span.Span, nodes.Located.ValueHasCut}
@@ -10,18 +10,18 @@ use Rattle.cfgx_grammar.specs.Classification.{if_read, target_feature, target_cl
 use Rattle.cfgx_parser.specs.nodes.Located.{predicate_located, question_at, at, IsSpan, HasCut}
 
 module _ (text : List ℕ) (key_span : Span) where
-  -- the predicate of these places is the question, and can be cut out of the text
+  -- the node of the question names it in the text, which can be cut at the node's spans
   abbrev pub Names : Option Span → Question → Type 0
   Names value_span question =
       (question_at text (predicate_located key_span value_span question) ≡ question)
       × HasCut text (predicate_located key_span value_span question)
 
-  -- what is read is named; a literal has no parts
+  -- the node of a predicate of this class names it; a literal has no parts
   abbrev pub NamesClass : Option Span → Class → Type 0
   NamesClass value_span (Class.is (Leaf.predicate question)) = Names value_span question
   NamesClass value_span _ = Unit {0}
 
-  -- a table names what each of its rules names
+  -- a fact of each rule of a table is a fact of the table
   by_rules : {V : Type 0} (span : Option Span) (name : List ℕ) (value : V) (otherwise : Class)
       (rules : List (Rule V))
       → AllByRecursion (λ rule. name ≡ rule.name → NamesClass span (rule.read value)) rules

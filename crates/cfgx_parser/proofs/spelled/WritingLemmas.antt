@@ -2,7 +2,7 @@
 use Rattle.std.proofs.{Common.{◌≡◌, ℕ, ◌+◌, List, [], ◌∷◌, ◌++◌, length}, lemmas.List.drop_at}
 use Rattle.std.proofs.Common.{refl, arith, append_assoc, length-append}
 use Rattle.std.proofs.lemmas.List.{append-nil, map-append, length-map, length_push, set_at, take_at}
-use Rattle.cfgx_grammar.{specs.Question.Question, proofs.alone.all_of_both}
+use Rattle.cfgx_grammar.{specs.Question.Question, proofs.ListLemmas.all_of_both}
 use Rattle.cfgx_parser.specs.nodes.Node.{Written, mark_of, asked_at, with_leaf}
 use Rattle.cfgx_parser.specs.nodes.Node.{with_function, with_function_ended}
 use Rattle.cfgx_parser.specs.nodes.Prefix.{Node, node_at, headed}
@@ -12,7 +12,7 @@ use Rattle.cfgx_parser.{specs.declared.function.Func.Func, specs.declared.nodes.
 pub WritesNodes-none : (text : List ℕ) (w : Written) → WritesNodes text w w [] [] []
 WritesNodes-none text w = grind (arith, append-nil)
 
--- one thing after another
+-- two parts, one after the other
 pub WritesNodes-then : {text : List ℕ} {old mid new : Written} {shown more : List (Node Question)}
     {own own_more inner inner_more : List ℕ}
     → WritesNodes text old mid shown own inner → WritesNodes text mid new more own_more inner_more

@@ -1,5 +1,5 @@
 -- What a `Parsed` or a `ParsedRef` keeps of its text: the nodes of its tree, and the places of the
--- predicates as they are asked.
+-- predicates in the order in which they are asked.
 use Rattle.std.specs.Prelude.{◌≡◌, ℕ, List, map, Option, Some, None, option_map, option_and_then}
 use Rattle.std.specs.List.{AllByRecursion, slice_get, filter_map}
 use Rattle.cfgx_grammar.specs.Question.{Question}
@@ -13,36 +13,37 @@ use Rattle.cfgx_parser.specs.declared.nodes.ExprNode.{ExprNode}
 use Rattle.cfgx_parser.specs.declared.nodes.ExprNode.TheVariants as node
 
 -- the nodes and the places are those of the tree, and the text can be cut at their spans
-pub record KeepsTree (text : List ℕ) (nodes : List ExprNode) (index : List ℕ)
+pub record KeepsTree (text : List ℕ) (nodes : List ExprNode) (kept_places : List ℕ)
     (tree : Tree Question) : Type 0 where
   pub nodes_are : map (node_at text) nodes ≡ prefix tree
   pub cuts : AllByRecursion (NodeHasCut text) nodes
-  pub index_are : index ≡ places 0 tree
+  pub places_are : kept_places ≡ places 0 tree
 
--- they are those of the text's one tree
-pub record KeepsOneTree (text : List ℕ) (nodes : List ExprNode) (index : List ℕ) : Type 0 where
-  pub one : HasOneTree text
-  pub keeps : KeepsTree text nodes index one.tree
+-- the nodes and the places are those of the text's one tree
+pub record KeepsOneTree (text : List ℕ) (nodes : List ExprNode) (kept_places : List ℕ) : Type 0
+  where
+    pub one : HasOneTree text
+    pub keeps : KeepsTree text nodes kept_places one.tree
 
 abbrev pub predicate_of : ExprNode → Option InnerPredicate
 predicate_of (node.Fn func len) = None
 predicate_of (node.Predicate predicate) = Some predicate
 predicate_of (node.Literal truth) = None
 
--- the predicate at a place
+-- the predicate at the place
 abbrev pub predicate_at : List ExprNode → ℕ → Option InnerPredicate
 predicate_at nodes place = option_and_then predicate_of (slice_get nodes place)
 
 -- the questions of the predicates at the places
 abbrev pub questions_at : List ℕ → List ExprNode → List ℕ → List Question
-questions_at text nodes index = filter_map (λ place. option_map (question_at text)
-    (predicate_at nodes place)) index
+questions_at text nodes kept_places = filter_map (λ place. option_map (question_at text)
+    (predicate_at nodes place)) kept_places
 
--- a predicate stands at the place, and its parts can be cut out of the text
+-- a predicate stands at the place, and the text can be cut at its spans
 pub record NamesPredicate (text : List ℕ) (nodes : List ExprNode) (place : ℕ) : Type 0 where
   pub predicate : InnerPredicate
   pub stands : slice_get nodes place ≡ Some (node.Predicate predicate)
   pub cut : HasCut text predicate
 
 abbrev pub NamePredicates : List ℕ → List ExprNode → List ℕ → Type 0
-NamePredicates text nodes index = AllByRecursion (NamesPredicate text nodes) index
+NamePredicates text nodes kept_places = AllByRecursion (NamesPredicate text nodes) kept_places

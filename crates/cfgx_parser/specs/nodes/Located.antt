@@ -1,4 +1,4 @@
--- A leaf by where its parts stand in the text.
+-- A leaf as a node, which has the spans of its parts and not their bytes.
 use Rattle.std.specs.Prelude.{ℕ, List, slice_range, Option, Some, None, unwrap_or}
 use Rattle.cfgx_parser.specs.declared.nodes.Span.{Span}
 use Rattle.cfgx_syntax.specs.Cut.{IsCut}
@@ -10,7 +10,7 @@ use Rattle.cfgx_parser.specs.declared.nodes.InnerPredicate.TheVariants as inner
 use Rattle.cfgx_parser.specs.declared.nodes.ExprNode.{ExprNode}
 use Rattle.cfgx_parser.specs.declared.nodes.ExprNode.TheVariants as node
 
--- the target predicate whose text, if it has one, stands at the span
+-- the predicate on the target as a node has it; its text, if it has one, stands at the span
 abbrev pub target_at : Span → TargetQuestion → InnerTarget
 target_at span (TargetQuestion.abi text) = target.Abi span
 target_at span (TargetQuestion.arch text) = target.Arch span
@@ -23,7 +23,7 @@ target_at span (TargetQuestion.panic text) = target.Panic span
 target_at span (TargetQuestion.pointer_width width) = target.PointerWidth width
 target_at span (TargetQuestion.vendor text) = target.Vendor span
 
--- the predicate whose key and value stand there
+-- the predicate as a node has it; `key` and `value` are the spans of its parts
 abbrev pub predicate_located : Span → Option Span → Question → InnerPredicate
 predicate_located key value (Question.target question) = inner.Target
     (target_at (unwrap_or value key) question)
@@ -36,7 +36,7 @@ predicate_located key value (Question.target_feature text) =
 predicate_located key value (Question.flag text) = inner.Other key None
 predicate_located key value (Question.key_value text other) = inner.Other key value
 
--- the node of the leaf whose key and value stand there
+-- the node of a leaf
 abbrev pub located : Span → Option Span → Leaf → ExprNode
 located key value (Leaf.predicate question) =
     node.Predicate (predicate_located key value question)
@@ -62,7 +62,7 @@ abbrev pub other_at : List ℕ → Span → Option Span → Question
 other_at text key None = Question.flag (at text key)
 other_at text key (Some value) = Question.key_value (at text key) (at text value)
 
--- the predicate that a node names in the text
+-- the question of a node's predicate, whose spans are those of the text
 abbrev pub question_at : List ℕ → InnerPredicate → Question
 question_at text (inner.Target question) = Question.target (target_question_at text question)
 question_at text inner.Test = Question.test
@@ -72,7 +72,7 @@ question_at text (inner.Feature span) = Question.feature (at text span)
 question_at text (inner.TargetFeature span) = Question.target_feature (at text span)
 question_at text (inner.Other key value) = other_at text key value
 
--- the bytes at the span can be cut out of the text
+-- the text can be cut at both ends of the span
 abbrev pub IsSpan : List ℕ → Span → Type 0
 IsSpan text span = IsCut text span.start span.end
 

@@ -1,4 +1,4 @@
--- A tree as nodes in source order, and where its predicates stand among them.
+-- A tree as nodes in prefix notation, and the places of its predicates among them.
 use Rattle.std.specs.Prelude.{ℕ, ◌+◌, Bool, List, [], ◌∷◌, ◌++◌, length}
 use Rattle.cfgx_grammar.specs.Question.{Question}
 use Rattle.cfgx_grammar.specs.Tree.{ListFunction, Tree, Trees, asked, asked_by, count}
@@ -19,12 +19,12 @@ node_at text (node.Fn func len) = Node.function func len
 node_at text (node.Predicate predicate) = Node.leaf (question_at text predicate)
 node_at text (node.Literal truth) = Node.literal truth
 
--- a list of so many members, as the code has it
+-- the `Func` of `all` or `any` with `n` members
 abbrev pub list_func : ListFunction → ℕ → Func
 list_func ListFunction.all n = All n
 list_func ListFunction.any n = Any n
 
--- a function, and then the nodes of its members: it holds how many nodes these are with itself
+-- the node of a function, and then those of its members; it has the number of all these nodes
 abbrev pub headed : {X : Type 0} → Func → List (Node X) → List (Node X)
 headed func members = Node.function func (length members + 1) ∷ members
 
@@ -40,8 +40,7 @@ abbrev mutual
   prefix_each (Trees.more tree trees) = prefix tree ++ prefix_each trees
 
 abbrev mutual
-  -- the tree with the place of each predicate's node in its stead, when the tree itself stands at
-  -- the place
+  -- the tree with each predicate replaced by the place of its node; the tree begins at `place`
   pub with_places : {X : Type 0} → ℕ → Tree X → Tree ℕ
   with_places place (Tree.leaf x) = Tree.leaf place
   with_places place (Tree.literal truth) = Tree.literal truth
@@ -53,10 +52,11 @@ abbrev mutual
   with_places_each place (Trees.more tree trees) = Trees.more (with_places place tree)
       (with_places_each (place + length (prefix tree)) trees)
 
--- where the predicates of a tree stand, in the order in which they are asked
+-- the places of the predicates of a tree, in the order in which they are asked; the tree begins at
+-- `place`
 abbrev pub places : {X : Type 0} → ℕ → Tree X → List ℕ
 places place tree = asked (with_places place tree)
 
--- and those of the trees of a list that pass the test
+-- the places of the predicates of those trees of a list that pass the test
 abbrev pub places_by : {X : Type 0} → (Tree ℕ → Bool) → ℕ → Trees X → List ℕ
 places_by test place trees = asked_by test (with_places_each place trees)

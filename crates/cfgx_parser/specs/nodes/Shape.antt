@@ -1,4 +1,4 @@
--- What a node is, whatever its predicate says.
+-- The shape of a node: what it is, except for what its predicate says.
 use Rattle.std.specs.Prelude.{Bool}
 use Rattle.cfgx_parser.specs.nodes.Prefix.{Node}
 use Rattle.cfgx_parser.specs.declared.function.Func.{Func}
@@ -15,7 +15,7 @@ shape (node.Fn func len) = Shape.function func
 shape (node.Predicate inner) = Shape.predicate
 shape (node.Literal truth) = Shape.literal truth
 
--- of a node of a tree
+-- the shape of a node of a tree
 abbrev pub shape_of : {X : Type 0} → Node X → Shape
 shape_of (Node.function func len) = Shape.function func
 shape_of (Node.leaf x) = Shape.predicate

@@ -1,12 +1,12 @@
--- What the writer of nodes keeps.
+-- What a `Writer` has written.
 use Rattle.std.specs.Prelude.{◌<◌, ◌≤◌, ◌^◌, length}
 use Rattle.cfgx_parser.specs.nodes.Node.{Written}
 use Rattle.cfgx_parser.specs.declared.nodes.Writer.{Writer}
 
 abbrev pub written_of : {A : Type 0} → Writer A → Written
-written_of w = record { nodes = w.nodes.items; leaves = w.leaves.items; index = w.index.items }
+written_of w = record { nodes = w.nodes.items; leaves = w.leaves.items; places = w.places.items }
 
--- no node is lost, and if a number could count the nodes, one still can
+-- no node is lost, and if the number of nodes did fit in a `usize`, it still does
 abbrev pub KeepsNodes : Written → Written → Type 0
 KeepsNodes old new = (length old.nodes ≤ length new.nodes)
     × (length old.nodes < 2 ^ 64 → length new.nodes < 2 ^ 64)

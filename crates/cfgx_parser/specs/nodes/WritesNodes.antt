@@ -16,15 +16,15 @@ NodeHasCut text (node.Fn func len) = Unit {0}
 NodeHasCut text (node.Predicate predicate) = HasCut text predicate
 NodeHasCut text (node.Literal truth) = Unit {0}
 
--- a word stands at its span, and can be cut out of the text there
-abbrev pub Holds : List ℕ → Span → List ℕ → Type 0
-Holds text span word = (at text span ≡ word) × IsSpan text span
+-- the word stands at the span, at which the text can be cut
+abbrev pub StandsAt : List ℕ → Span → List ℕ → Type 0
+StandsAt text span word = (at text span ≡ word) × IsSpan text span
 
--- the text of a key or of a value stands at its place
+-- the word of a key or of a value stands where its item says
 abbrev pub IsPlaced : List ℕ → Item → Token → Type 0
-IsPlaced text item (Token.key word) = Holds text (record { start = item.start; end = item.end })
+IsPlaced text item (Token.key word) = StandsAt text (record { start = item.start; end = item.end })
     word
-IsPlaced text item (Token.value word) = Holds text (record {
+IsPlaced text item (Token.value word) = StandsAt text (record {
   start = item.start + 1;
   end =
       item.end - 1;
@@ -34,7 +34,8 @@ IsPlaced text item _ = Unit {0}
 abbrev pub ArePlaced : List ℕ → List Item → Type 0
 ArePlaced text items = AllByRecursion (λ item. IsPlaced text item item.token) items
 
--- these nodes were written, these places of predicates wait, and those are asked
+-- Nodes were written that show these. Of their predicates, those at the places `own` belong to a
+-- list that is still open, and those at the places `inner` to lists that have ended.
 pub record WritesNodes (text : List ℕ) (old new : Written) (shown : List (Node Question))
     (own inner : List ℕ) : Type 0 where
   pub added : List ExprNode
@@ -42,4 +43,4 @@ pub record WritesNodes (text : List ℕ) (old new : Written) (shown : List (Node
   pub shown_are : map (node_at text) added ≡ shown
   pub cuts : AllByRecursion (NodeHasCut text) added
   pub leaves_are : new.leaves ≡ old.leaves ++ own
-  pub index_are : new.index ≡ old.index ++ inner
+  pub places_are : new.places ≡ old.places ++ inner

@@ -1,9 +1,8 @@
--- The state that the parser's fields keep.
+-- The types of the parser's code as those of the definitions.
 use Rattle.std.specs.Prelude.{ℕ, ◌+◌, List, [], ◌∷◌, Option, Some, None}
 use Rattle.std.specs.Prelude.{option_map, Result, Ok, Err}
 use Rattle.cfgx_parser.specs.declared.nodes.Span.{Span}
 use Rattle.cfgx_syntax.specs.Error.{Fault, unexpected, cause_of}
-use Rattle.cfgx_syntax.specs.declared.error.Reason.{Reason}
 use Rattle.cfgx_grammar.specs.Classification.{target_class, other_class}
 use Rattle.cfgx_grammar.specs.Tree.{ListFunction}
 use Rattle.cfgx_grammar.specs.parsing.State.{Function, Word, Pending}
@@ -13,9 +12,9 @@ use Rattle.cfgx_parser.specs.declared.function.FuncKind.{FuncKind}
 use Rattle.cfgx_parser.specs.declared.function.FuncKind.TheVariants as kind
 use Rattle.cfgx_parser.specs.declared.classification.Word as code_word
 use Rattle.cfgx_parser.specs.declared.classification.Pending as code_pending
+use Rattle.cfgx_parser.specs.declared.classification.Fault.{Fault as CodeFault}
 use Rattle.cfgx_parser.specs.declared.nodes.ExprNode.{ExprNode}
-use Rattle.cfgx_parser.specs.declared.parser.Fault.{Fault as ParserFault}
-use Rattle.cfgx_parser.specs.declared.parser.FuncAndSpan.{FuncAndSpan}
+use Rattle.cfgx_parser.specs.declared.parser.OpenFunc.{OpenFunc}
 use Rattle.cfgx_parser.specs.declared.parser.OpenList.{OpenList}
 use Rattle.cfgx_parser.specs.declared.parser.LastToken.{LastToken}
 use Rattle.cfgx_parser.specs.declared.parser.LastToken.TheVariants as last
@@ -27,27 +26,27 @@ word_of word = record { text = word.text.now; start = word.span.start; end = wor
 abbrev pub pending_of : code_pending.Pending → Pending
 pending_of p = record { key = word_of p.key; value = option_map word_of p.value }
 
--- what is wrong, and where
-abbrev pub refused : Reason × Span → Fault
-refused r = fault_between (cause_of r.0) r.1.start r.1.end
+-- a fault of the code, without addresses
+abbrev pub plain_fault : CodeFault → Fault
+plain_fault fault = fault_between (cause_of fault.reason) fault.span.start fault.span.end
 
-abbrev pub class_result : Result ExprNode (Reason × Span) → Result ExprNode Fault
+abbrev pub class_result : Result ExprNode CodeFault → Result ExprNode Fault
 class_result (Ok leaf) = Ok leaf
-class_result (Err r) = Err (refused r)
+class_result (Err fault) = Err (plain_fault fault)
 
--- of a key that stands without a value
-abbrev pub bare_answer : ExprNode → Option Word → Result ExprNode Fault
-bare_answer leaf None = Ok leaf
-bare_answer leaf (Some value) = Err (fault_between (unexpected []) value.start value.end)
+-- the leaf of a key that takes no value, or the fault of the value
+abbrev pub located_bare : ExprNode → Option Word → Result ExprNode Fault
+located_bare leaf None = Ok leaf
+located_bare leaf (Some value) = Err (fault_between (unexpected []) value.start value.end)
 
--- of a key that begins with `target_`, by what follows, and the value
-abbrev pub target_answer : List ℕ → Word → Word → Result ExprNode Fault
-target_answer name key value =
+-- the leaf of a key that is `target_` and the name, or the fault
+abbrev pub located_target : List ℕ → Word → Word → Result ExprNode Fault
+located_target name key value =
     located_class (record { key = key; value = Some value }) (target_class name value.text)
 
--- of a key that has no rule of its own
-abbrev pub other_answer : Word → Option Word → Result ExprNode Fault
-other_answer key value =
+-- the leaf of a key that has no rule, or the fault
+abbrev pub located_other : Word → Option Word → Result ExprNode Fault
+located_other key value =
     located_class (record { key = key; value = value })
     (other_class key.text (option_map (λ v. v.text) value))
 
@@ -57,37 +56,33 @@ function_of kind.All = Function.list ListFunction.all
 function_of kind.Any = Function.list ListFunction.any
 
 abbrev pub empty_list : OpenList
-empty_list = record { members = 0; parens_index = None }
+empty_list = record { members = 0; parens_position = None }
 
--- an open function and its list, as the parser keeps them
-abbrev pub open_of : FuncAndSpan → OpenList → OpenFunction
+-- an open function, with the list of its members
+abbrev pub open_of : OpenFunc → OpenList → OpenFunction
 open_of f list = record {
   function = function_of f.kind;
   start = f.span.start;
   end = f.span.end;
-  parens = list.parens_index;
+  parens = list.parens_position;
   members = list.members;
   mark = f.mark;
 }
 
--- the open functions, by the innermost list and the functions, the innermost first
-abbrev pub opens_in : OpenList → List FuncAndSpan → List OpenFunction
+-- the open functions, the innermost first; `list` is the innermost open list
+abbrev pub opens_in : OpenList → List OpenFunc → List OpenFunction
 opens_in list [] = []
 opens_in list (top ∷ rest) = open_of top list ∷ opens_in top.around rest
 
--- how many members at the root have ended
-abbrev pub roots_in : OpenList → List FuncAndSpan → ℕ
+-- the number of members at the root that have ended
+abbrev pub roots_in : OpenList → List OpenFunc → ℕ
 roots_in list [] = list.members
 roots_in list (top ∷ rest) = roots_in top.around rest
 
--- how many functions are open, and how many members have ended in the lists in which they stand
-abbrev pub counted_around : List FuncAndSpan → ℕ
+-- the number of open functions, plus that of the members that have ended in the lists around them
+abbrev pub counted_around : List OpenFunc → ℕ
 counted_around [] = 0
 counted_around (top ∷ rest) = top.around.members + 1 + counted_around rest
-
--- a fault that was noted, as the steps show it
-abbrev pub shown : ParserFault → Fault
-shown fault = fault_between (cause_of fault.reason) fault.span.start fault.span.end
 
 -- what the parser keeps of the last token
 abbrev pub last_of : Option spelled.Token → LastToken
@@ -102,7 +97,7 @@ last_of (Some spelled.Token.open_paren) = last.OpenParen
 last_of (Some spelled.Token.close_paren) = last.CloseParen
 last_of (Some spelled.Token.comma) = last.Comma
 
--- a token of which it keeps that
+-- a token of which the parser keeps this
 abbrev pub token_like : LastToken → Option spelled.Token
 token_like last.Start = None
 token_like last.Key = Some (spelled.Token.key [])

@@ -15,15 +15,15 @@ use Rattle.cfgx_parser.specs.declared.function.Func.{Func}
 use Rattle.cfgx_parser.specs.declared.function.Func.TheVariants as func
 use Rattle.cfgx_parser.specs.declared.nodes.ExprNode.{ExprNode}
 
--- a function with so many members
-abbrev pub counted : Function → ℕ → Func
-counted Function.not n = func.Not
-counted (Function.list function) n = list_func function n
+-- the `Func` of a function with `n` members
+abbrev pub func_of : Function → ℕ → Func
+func_of Function.not n = func.Not
+func_of (Function.list function) n = list_func function n
 
 abbrev pub span_of : Word → Span
 span_of word = record { start = word.start; end = word.end }
 
--- what the parser's steps do to the nodes
+-- the builder that writes nodes
 abbrev pub node_builder : Builder Written Mark ExprNode
 node_builder = record {
   nothing = nothing;
@@ -31,7 +31,7 @@ node_builder = record {
   located = λ p leaf. located (span_of p.key) (option_map span_of p.value) leaf;
   leaf = with_leaf;
   function = with_function;
-  function_ended = λ mark function members. with_function_ended mark (counted function members);
+  function_ended = λ mark function members. with_function_ended mark (func_of function members);
   root_ended = with_list_ended 0;
 }
 
@@ -41,7 +41,7 @@ OpenFunction = parser.Open Mark
 abbrev pub ParserState : Type 0
 ParserState = parser.State node_builder
 
--- a predicate or a literal by its places, or its fault
+-- the node of a predicate or literal, or the fault
 abbrev pub located_class : Pending → Class → Result ExprNode Fault
 located_class = steps.located_class node_builder
 

@@ -1,4 +1,4 @@
--- What the parser's functions say: they compute the steps.
+-- The clauses of the parser's functions: they compute the steps.
 use Rattle.std.specs.Prelude.{◌≡◌, ℕ, ◌+◌, ◌-◌, ◌≤◌, List, length, reverse, option_map}
 use Rattle.std.specs.Prelude.{Option, Some, None, Result, Ok, Err}
 use Rattle.std.specs.declared.ops.Range.{Range}
@@ -7,7 +7,7 @@ use Rattle.cfgx_syntax.specs.Token as spelled
 use Rattle.cfgx_syntax.specs.Items.{Item, Ending, ItemsFrom}
 use Rattle.cfgx_syntax.specs.LexerState.{LexerState}
 use Rattle.cfgx_syntax.specs.Error.{Fault, fault_in, fault_of}
-use Rattle.cfgx_parser.specs.declared.parser.Fault.{Fault as ParserFault}
+use Rattle.cfgx_parser.specs.declared.classification.Fault.{Fault as CodeFault}
 use Rattle.cfgx_parser.specs.declared.parser.Halt.{Halt}
 use Rattle.cfgx_parser.specs.declared.parser.Halt.TheVariants as halt
 use Rattle.cfgx_syntax.specs.declared.error.Failure.{Failure}
@@ -22,10 +22,10 @@ use Rattle.cfgx_parser.specs.parsing.NodeState.{ParserState, classified}
 use Rattle.cfgx_grammar.specs.parsing.Step.{opened, closed_by, concluded_by, result_map}
 use Rattle.cfgx_grammar.specs.parsing.Step.{answer_from, over_top, with_parens}
 use Rattle.cfgx_grammar.specs.LastPredicate.{with_value, word_of}
-use Rattle.cfgx_parser.specs.parsing.Fields.{opens_in, roots_in, pending_of, shown}
+use Rattle.cfgx_parser.specs.parsing.Fields.{opens_in, roots_in, pending_of, plain_fault}
 use Rattle.cfgx_parser.specs.declared.parser.Parser.{Parser}
 
--- what the parser's fields keep
+-- the state that the parser's fields keep
 abbrev pub state_of : {A : Type 0} → Parser A → ParserState
 state_of p = record {
   stack = opens_in p.list (reverse p.func_stack.items);
@@ -34,24 +34,24 @@ state_of p = record {
   written = written_of p.writer;
 }
 
--- a parser that halts at a fault has noted the one that the steps show
+-- a parser that halts at a fault has noted the fault of the steps
 abbrev pub HaltsAs : {A : Type 0} → Halt → Parser A → Result ParserState Fault → Type 0
-HaltsAs halt.Fault parser answer = (fault : ParserFault) × (parser.fault ≡ Some fault)
-    × (answer ≡ Err (shown fault))
+HaltsAs halt.Fault parser answer = (fault : CodeFault) × (parser.fault ≡ Some fault)
+    × (answer ≡ Err (plain_fault fault))
 HaltsAs halt.Memory parser answer = Unit {0}
 
--- a fault of the text is the one that the steps show
+-- a failure that has a fault has that of the steps
 abbrev pub FailsAs : {A : Type 0} → List ℕ → Failure A → Result ParserState Fault → Type 0
 FailsAs text (failure.Parse error) answer = (fault : Fault) × (answer ≡ Err fault)
     × (fault_of error ≡ fault_in text fault)
 FailsAs text (failure.Memory error) answer = Unit {0}
 
--- what a failure says of a halt
-abbrev pub Says : {A : Type 0} → List ℕ → Halt → Parser A → Failure A → Type 0
-Says {A} text h parser failure = (answer : Result ParserState Fault)
+-- the failure of a parser that has halted
+abbrev pub FailsAsHalted : {A : Type 0} → List ℕ → Halt → Parser A → Failure A → Type 0
+FailsAsHalted {A} text h parser failure = (answer : Result ParserState Fault)
     → HaltsAs {A = A} h parser answer → FailsAs text failure answer
 
--- the answer of a function that goes one step
+-- the result of a function that computes a step
 abbrev pub Gives : {A : Type 0} → Result (Unit {0}) Halt → Parser A → Result ParserState Fault
     → Type 0
 Gives {A} (Ok done) new answer = answer ≡ Ok (state_of {A = A} new)
@@ -64,22 +64,22 @@ abbrev pub Opens : {A : Type 0} → Parser A → Parser A → Function → Span 
 Opens {A} old new function span =
     state_of {A = A} new ≡ opened (state_of {A = A} old) function (item_at span)
 
--- the state without its predicate, and with what was written
+-- the state without its pending predicate, and with what was written
 abbrev pub settled : ParserState → Written → ParserState
 settled s written = record s { pending = None; written = written }
 
--- the predicate that has begun, if one has, is written, but not counted
+-- the pending predicate, if there is one, is written, but not counted
 abbrev pub pending_written : Option Pending → ParserState → Result ParserState Fault
 pending_written None s = Ok (settled s s.written)
 pending_written (Some p) s = result_map (λ leaf. settled s (with_leaf leaf s.written))
     (classified p)
 
--- how many predicates have begun
+-- the number of pending predicates
 abbrev pub pending_count : {X : Type 0} → Option X → ℕ
 pending_count None = 0
 pending_count (Some p) = 1
 
--- it is written, and no more changes
+-- the pending predicate is written, and nothing else changes
 pub record Wrote {A : Type 0} (old new : Parser A) : Type 0 where
   pub written : pending_written (state_of {A = A} old).pending (state_of {A = A} old)
       ≡ Ok (settled (state_of {A = A} old) (written_of new.writer))
@@ -100,7 +100,7 @@ parens_opened s place = record s { stack = over_top (with_parens place) s.stack 
 abbrev pub closed_at : ParserState → Span → Result ParserState Fault
 closed_at s span = closed_by s (item_at span) s.stack
 
--- the end of a text of so many bytes in which no value is missing
+-- the end of a text of `len` bytes in which no value is missing
 abbrev pub concluded : ParserState → ℕ → Result ParserState Fault
 concluded s len = concluded_by len s s.stack
 
@@ -110,7 +110,7 @@ value_added s text span = record s {
       (with_value (word_of text (span.start + 1) (span.end - 1))) s.pending;
 }
 
--- a value's span has room for its quotes
+-- the span of a value includes its opening quote
 abbrev pub IsQuotedAt : Token → Range ℕ → Type 0
 IsQuotedAt (given.Value text) span = span.start + 1 ≤ span.end
 IsQuotedAt _ span = Unit {0}
@@ -118,7 +118,7 @@ IsQuotedAt _ span = Unit {0}
 abbrev pub IsQuoted : LexerToken → Type 0
 IsQuoted lexed = IsQuotedAt lexed.token lexed.span
 
--- the answer of a parser that reads a text to its end
+-- the result of a parser that has read a text to its end
 abbrev pub Ends : {A : Type 0} → Result (Unit {0}) (Failure A) → List ℕ → Parser A
     → Result ParserState Fault → Type 0
 Ends {A} (Ok done) text new answer = answer ≡ Ok (state_of {A = A} new)

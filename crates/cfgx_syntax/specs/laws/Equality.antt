@@ -1,4 +1,4 @@
--- The tests of causes and of faults are equivalences, since those of their parts are.
+-- The tests of causes and of faults are equivalences, since the tests of their parts are.
 use Rattle.std.specs.Cmp.{IsEquivalence, and_equiv, nat_eq_equiv, on_equiv}
 use Rattle.std.specs.Cmp.Lexicographic.{lists_equiv, nat_list_eq_equiv, on_texts_equal}
 use Rattle.cfgx_syntax.specs.Error.{cause_eq, cause_number, cause_place, cause_terms, fault_eq}

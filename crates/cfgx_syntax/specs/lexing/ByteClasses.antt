@@ -8,11 +8,11 @@ use Rattle.cfgx_syntax.specs.declared.lexer.bytes.Class.TheVariants as class
 use Rattle.cfgx_syntax.specs.declared.lexer.bytes.Run.TheVariants as run
 use Rattle.cfgx_syntax.specs.{Items.starts_token, Token.{continues_word, is_quote, starts_word}}
 
--- a byte that is ASCII white space
+-- whether `byte` is ASCII white space
 abbrev pub is_blank : ℕ → Bool
 is_blank byte = is_ascii byte && is_whitespace byte
 
--- a byte of the class; `Other` is for a byte of no other class
+-- whether `byte` is of the class; `Other` is for a byte of no other class
 abbrev pub is_of : Class → ℕ → Bool
 is_of class.Letter byte = starts_word byte
 is_of class.Digit byte = is_ascii_digit byte
@@ -24,24 +24,24 @@ is_of class.Quote byte = is_quote byte
 is_of class.Blank byte = is_blank byte
 is_of class.Other byte = not (starts_token byte || continues_word byte || is_blank byte)
 
--- a character of white space may begin with a byte of the class
+-- whether a white space character may begin with a byte of the class
 abbrev pub may_be_white : Class → Bool
 may_be_white class.Blank = true
 may_be_white class.Other = true
 may_be_white _ = false
 
--- a text begins with a byte of the class, or is empty
+-- `text` begins with a byte of the class, or is empty and has no class
 abbrev pub BeginsWithClass : List ℕ → Option Class → Type 0
 BeginsWithClass text None = length text ≡ 0
 BeginsWithClass text (Some first) = (0 < length text) × (is_of first (slice_index text 0) ≡ true)
 
--- a byte that may stand in the run
+-- whether `byte` may stand in the run
 abbrev pub in_run : Run → ℕ → Bool
 in_run run.Blanks = is_blank
 in_run run.Word = continues_word
 in_run run.Value = λ byte. not (is_quote byte)
 
--- the first quote among the bytes stands at the place, or there is none
+-- `found` is the index of the first quote, or `None` if there is no quote
 abbrev pub FindsQuote : List ℕ → Option ℕ → Type 0
 FindsQuote bytes found = MatchOption found
     ((i : ℕ) → i < length bytes → slice_index bytes i ≢ slice_index (codes "\"") 0)

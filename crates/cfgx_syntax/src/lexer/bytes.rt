@@ -1,4 +1,4 @@
-//! Classes of bytes, and runs of them.
+//! Classes of bytes, and runs of bytes.
 ghost use Rattle.std.specs.Prelude.{◌≡◌, ◌≤◌, length, true};
 ghost use Rattle.std.specs.List.{prefix_len};
 ghost use Rattle.cfgx_syntax.specs.lexing.ByteClasses.{in_run, is_of, may_be_white};
@@ -6,31 +6,31 @@ ghost use Rattle.cfgx_syntax.specs.lexing.ByteClasses.{BeginsWithClass, FindsQuo
 
 use Class::*;
 
-/// What a byte is to the lexer.
+/// What a byte means to the lexer.
 #[derive(Clone, Copy)]
 pub(super) enum Class {
-    /// An ASCII letter or `_`, which begins a word
+    /// An ASCII letter or `_`, which starts a word.
     Letter,
-    /// An ASCII digit, which goes on with one
+    /// An ASCII digit, which continues a word.
     Digit,
-    /// `=`
+    /// `=`.
     Equals,
-    /// `(`
+    /// `(`.
     OpenParen,
-    /// `)`
+    /// `)`.
     CloseParen,
-    /// `,`
+    /// `,`.
     Comma,
-    /// `"`
+    /// `"`.
     Quote,
-    /// ASCII white space
+    /// ASCII white space.
     Blank,
-    /// Any other byte
+    /// Any other byte.
     Other,
 }
 
 impl Class {
-    /// Whether a character of white space may begin with a byte of the class.
+    /// Returns whether a white space character may start with a byte of this class.
     pub(super) fn may_be_white(self) -> bool
         ensures { result ≡ may_be_white self }
     {
@@ -38,14 +38,14 @@ impl Class {
     }
 }
 
-/// The class of a byte. It is asked of most bytes of a text, so it is looked up in a table.
+/// Returns the class of `byte`. This is called for most bytes of a text, so it reads a table.
 fn class_of(byte: u8) -> Class
     ensures { is_of result byte ≡ true }
 {
     CLASSES[usize::from(byte)]
 }
 
-/// The class of the byte that a text begins with, if it has any.
+/// Returns the class of the first byte of `text`, or `None` if `text` is empty.
 pub(super) fn first_class(text: &str) -> Option<Class>
     ensures { BeginsWithClass text.now result }
 {
@@ -55,20 +55,20 @@ pub(super) fn first_class(text: &str) -> Option<Class>
     }
 }
 
-/// Bytes that stand side by side.
+/// A run: bytes side by side that all pass one test.
 #[derive(Clone, Copy)]
 pub(super) enum Run {
-    /// ASCII white space
+    /// ASCII white space.
     Blanks,
-    /// What may stand in a word: ASCII letters, ASCII digits and `_`
+    /// The bytes of a word: ASCII letters, ASCII digits and `_`.
     Word,
-    /// What may stand in a value: any byte but `"`
+    /// The bytes of a value: any byte but `"`.
     Value,
 }
 
 impl Run {
-    /// Whether the byte may stand in the run.
-    fn has(self, byte: u8) -> bool
+    /// Returns whether `byte` may stand in the run.
+    fn allows(self, byte: u8) -> bool
         ensures { result ≡ in_run self byte }
     {
         match self {
@@ -78,15 +78,15 @@ impl Run {
         }
     }
 
-    /// How many bytes of the run the bytes begin with, looked at one by one.
+    /// Returns the length of the run that `bytes` starts with, and tests one byte a turn.
     fn count(self, bytes: &[u8]) -> usize
         ensures { result ≡ prefix_len (in_run self) bytes.now }
     {
-        bytes.iter().take_while(|byte| self.has(**byte)).count()
+        bytes.iter().take_while(|byte| self.allows(**byte)).count()
     }
 
-    /// How many bytes of the run the bytes begin with. Each turn looks at four of them, which takes
-    /// two thirds of the steps.
+    /// Returns the length of the run that `bytes` starts with. It tests four bytes a turn, which
+    /// takes two thirds of the instructions of `count`.
     #[inline(always)]
     #[tactic(auto, using(crate::proofs::Classes::counted))]
     pub(super) fn len(self, bytes: &[u8]) -> usize
@@ -95,16 +95,16 @@ impl Run {
     {
         let mut len = 0;
         while bytes.len() - len >= 4 {
-            if !self.has(bytes[len]) {
+            if !self.allows(bytes[len]) {
                 return len;
             }
-            if !self.has(bytes[len + 1]) {
+            if !self.allows(bytes[len + 1]) {
                 return len + 1;
             }
-            if !self.has(bytes[len + 2]) {
+            if !self.allows(bytes[len + 2]) {
                 return len + 2;
             }
-            if !self.has(bytes[len + 3]) {
+            if !self.allows(bytes[len + 3]) {
                 return len + 3;
             }
             len += 4;
@@ -113,22 +113,22 @@ impl Run {
     }
 }
 
-/// Where the first quote stands. Most values are short: for these it takes fewer steps to look at
-/// one byte after another than to prepare the search of `find`.
+/// Returns the index of the first quote. Most values are short, and for these a test of each byte
+/// takes fewer instructions than the preparation of `find`.
 #[inline(never)]
 pub(super) fn quote_in(text: &str) -> Option<usize>
     ensures { FindsQuote text.now result }
 {
     let bytes = text.as_bytes();
-    let front = &bytes[..bytes.len().min(SHORT_VALUE)];
-    let len = Run::Value.len(front);
-    if len < front.len() {
+    let prefix = &bytes[..bytes.len().min(SHORT_VALUE)];
+    let len = Run::Value.len(prefix);
+    if len < prefix.len() {
         return Some(len);
     }
     text.find('"')
 }
 
-/// How many bytes `quote_in` looks at one after another.
+/// The number of bytes that `quote_in` tests before it calls `find`.
 const SHORT_VALUE: usize = 16;
 
 /// The class of each byte.

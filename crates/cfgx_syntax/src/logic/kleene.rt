@@ -1,7 +1,7 @@
 //! Sixty-four answers that may be unknown, joined all at once.
 #![tactic(auto, using(crate::proofs::LaneLemmas::lanes))]
 
-ghost use Rattle.std.specs.Prelude.{◌≡◌, ℕ, ◌<◌, Some, true, false};
+ghost use Rattle.std.specs.Prelude.{◌≡◌, ℕ, ◌<◌, Some, true, false, IsTrue};
 ghost use Rattle.cfgx_syntax.specs.Kleene.{AreDisjoint, EachLane, IsDisjoint, lane};
 ghost use Rattle.cfgx_syntax.specs.Kleene.{planes_and, planes_bottom, planes_not, planes_or};
 ghost use Rattle.cfgx_syntax.specs.Kleene.{planes_top};
@@ -31,7 +31,7 @@ impl Model for Kleene64 {
 }
 
 impl PartialEq for Kleene64 {
-    ghost use Rattle.std.specs.Prelude.{◌↔◌, IsTrue};
+    ghost use Rattle.std.specs.Prelude.{◌↔◌};
     ghost use Rattle.std.proofs.Common.{rules};
     ghost use Rattle.std.specs.Cmp.Rules.{comparing};
     ghost use Rattle.cfgx_syntax.specs.Kleene.{planes_eq};
@@ -79,11 +79,12 @@ impl Kleene64 {
         self.is_false
     }
 
-    // No lane is both: so much of a value is not seen from outside.
-    pub(super) fn is_disjoint(&self)
-        ensures { IsDisjoint self.now }
+    /// Whether no lane is both true and false, which is so of every value.
+    pub(super) fn is_disjoint(&self) -> bool
+        ensures holds { IsTrue result }
+        ensures disjoint { IsDisjoint self.now }
     {
-        let _ = &self.is_true;
+        (self.is_true & self.is_false) == 0
     }
 
     /// The answer in lane `i`, which is below 64: `None` if it is unknown.

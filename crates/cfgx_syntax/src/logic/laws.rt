@@ -1,17 +1,14 @@
-//! What holds of answers in 64 lanes: the function's clause is the law, and a caller that calls it
-//! knows the law.
+//! What holds of all answers in 64 lanes: a caller of a function knows what it ensures.
+ghost use Rattle.std.specs.Prelude.{IsTrue};
 ghost use Rattle.std.specs.List.{AllByRecursion};
 ghost use Rattle.cfgx_syntax.specs.Kleene.{IsDisjoint};
 
 use super::Kleene64;
 
-/// No lane of any of the answers is both true and false.
-pub fn are_disjoint(answers: &[Kleene64])
-    ensures { AllByRecursion IsDisjoint answers.now }
+/// Whether no lane of any of the answers is both true and false, which is so of all answers.
+pub fn are_disjoint(answers: &[Kleene64]) -> bool
+    ensures holds { IsTrue result }
+    ensures disjoint { AllByRecursion IsDisjoint answers.now }
 {
-    let mut left = answers;
-    while let Some((answer, others)) = left.split_first() {
-        answer.is_disjoint();
-        left = others;
-    }
+    answers.iter().all(Kleene64::is_disjoint)
 }

@@ -1,7 +1,7 @@
--- The orders of byte orders and of widths.
-use Rattle.std.proofs.Common.{◌≡◌, refl, sym, ap, ◌∙◌, true, false}
-use Rattle.std.specs.{Ordering.eq_by_cmp, Ordering.ordering_reverse, Ordering.is_lt, Ordering.is_eq}
-use Rattle.std.specs.Cmp.{IsTotalOrder, nat_cmp_total, on_total, unsigned_ties, unsigned_Decides}
+-- The orders of byte orders and of widths are total, and agree with their equalities.
+use Rattle.std.proofs.Common.{◌≡◌, refl}
+use Rattle.std.specs.Ordering.{eq_by_cmp, ordering_reverse}
+use Rattle.std.specs.Cmp.{IsTotalOrder, nat_cmp_total, on_total, unsigned_ties}
 use Rattle.std.specs.declared.cmp.Ordering.TheVariants.{Less, Equal}
 use Rattle.cfgx_targets.specs.{declared.endian.Endian.Endian, declared.atomic.HasAtomic.HasAtomic}
 use Rattle.cfgx_targets.specs.declared.endian.Endian.TheVariants.{big, little}

@@ -1,4 +1,4 @@
--- That targets are the same exactly if their fields are.
+-- Targets are the same exactly if their fields are the same.
 use Rattle.std.proofs.Common.{arith, ◌≡◌, Bool, true, ◌&&◌}
 use Rattle.std.specs.{Prelude.Option, Bool.Decides, Option.option_eq}
 use Rattle.std.specs.Cmp.{IsEquivalence, decided, unsigned_Decides}
@@ -14,12 +14,12 @@ endians-decide one other = grind arith
 widths-decide : (one other : HasAtomic) → Decides ((atomic_eq.ghosts).eq one other) (one ≡ other)
 widths-decide one other = grind arith
 
--- values that may be missing, if the test of two values decides whether they are the same
+-- the test of optional values decides, if the test of values does
 options-decide : {X : Type 0} {E : X → X → Bool} → ((x y : X) → Decides (E x y) (x ≡ y))
     → (one other : Option X) → Decides (option_eq E one other) (one ≡ other)
 options-decide d y one = grind arith
 
--- and so of targets, if the tests of their fields do
+-- the test of targets decides, if the tests of their fields do
 targets-decide : {A : Type 0} (one other : TargetInfo A)
     → {triple os abi arch env vendor families width endian atomics panic : Bool}
     → Decides triple (one.triple ≡ other.triple) → Decides os (one.os ≡ other.os)

@@ -1,11 +1,11 @@
--- The order of targets.
+-- The order of targets is total, and agrees with their equality.
 use Rattle.std.proofs.Common.{◌≡◌, refl, Bool}
 use Rattle.std.specs.{Prelude.Option, Prelude.Some, Prelude.None, declared.cmp.Ordering.Ordering}
 use Rattle.std.specs.{Option.option_cmp, Option.option_eq, Ordering.eq_by_cmp}
 use Rattle.std.specs.Cmp.{IsTotalOrder, both_tied, nat_cmp_total}
 use Rattle.std.specs.Cmp.{on_total, then_total, unsigned_ties}
 use Rattle.std.specs.Cmp.Lexicographic.{lists_ties, lists_total, nat_list_cmp_total, options_total}
-use Rattle.std.specs.Cmp.Lexicographic.{slice_cmp, texts_ties}
+use Rattle.std.specs.Cmp.Lexicographic.{texts_ties}
 use Rattle.cfgx_targets.specs.declared.info.TargetInfo.{TargetInfo}
 use Rattle.cfgx_targets.specs.TargetInfo.{info_cmp, info_eq, text_cmp}
 use Rattle.cfgx_targets.specs.HasAtomic.{atomic_cmp}
@@ -14,7 +14,7 @@ use Rattle.cfgx_targets.specs.contracts.atomic.HasAtomicPartialEq.TheImpl as ato
 use Rattle.cfgx_targets.specs.laws.Orders.{atomic_cmp-total, atomic_eq-ties}
 use Rattle.cfgx_targets.specs.laws.Orders.{endian_cmp-total, endian_eq-ties}
 
--- values that may be missing
+-- the order of optional values agrees with their equality, if that of values does
 options_ties : {X : Type 0} {E : X → X → Bool} (R : X → X → Ordering)
     → ((x y : X) → E x y ≡ eq_by_cmp R x y)
     → (one other : Option X) → option_eq E one other ≡ eq_by_cmp (option_cmp R) one other

@@ -1,10 +1,9 @@
-//! A counted stream makes one call of the stream inside for each of its own, and counts those that
-//! fail.
+//! A `Counted` makes one call of its inner stream for each call, and counts the failed ones.
 use cfgx_engine::engine::streams::{Counted, Sink, Source, write_whole};
 use cfgx_testing::streams::{Pieces, interrupted};
 use std::io;
 
-// What a read answers, and how many calls have failed by then.
+// The number of bytes that a read returns, if it succeeds, and the number of failed calls after it.
 fn read<S: io::Read>(source: &mut Counted<S>, buffer: &mut [u8]) -> (Option<usize>, u64) {
     if source.failures() == u64::MAX {
         return (None, u64::MAX);
@@ -12,7 +11,7 @@ fn read<S: io::Read>(source: &mut Counted<S>, buffer: &mut [u8]) -> (Option<usiz
     (Source::read(source, buffer).ok(), source.failures())
 }
 
-// What reads of at most three bytes answer, of which the second one fails, and the bytes.
+// The results of reads of at most three bytes, of which the second one fails, and their bytes.
 const READS: &[(Option<usize>, u64, &[u8])] = &[
     (Some(3), 0, b"abc"),
     (None, 1, b""),
@@ -21,12 +20,12 @@ const READS: &[(Option<usize>, u64, &[u8])] = &[
     (Some(0), 1, b""),
 ];
 
-// The first of these reads that is not answered so.
+// The index of the first read with another result than in `READS`.
 fn first_wrong_read<S: io::Read>(source: &mut Counted<S>) -> Option<usize> {
     let mut buffer = [0u8; 8];
-    for (place, (count, failures, bytes)) in READS.iter().enumerate() {
+    for (i, (count, failures, bytes)) in READS.iter().enumerate() {
         if read(source, &mut buffer) != (*count, *failures) || !buffer.starts_with(bytes) {
-            return Some(place);
+            return Some(i);
         }
     }
     None
@@ -37,11 +36,11 @@ fn counts_reads() -> bool {
     first_wrong_read(&mut source).is_none()
 }
 
-/// A call, its bytes, how many of them it takes if it succeeds, and how many calls have failed by
-/// then.
+/// A call, its bytes, the number of bytes that it takes if it succeeds, and the number of failed calls
+/// after it.
 type Step = (&'static str, &'static [u8], Option<usize>, u64);
 
-// How many bytes the call takes, if it succeeds.
+// The number of bytes that the call takes, if it succeeds.
 fn taken<S: io::Write>(sink: &mut Counted<S>, call: &str, bytes: &[u8]) -> Option<usize> {
     if sink.failures() == u64::MAX {
         return None;
@@ -54,17 +53,17 @@ fn taken<S: io::Write>(sink: &mut Counted<S>, call: &str, bytes: &[u8]) -> Optio
     if is_done { Some(bytes.len()) } else { None }
 }
 
-// The first of the steps that is not answered so.
-fn first_wrong<S: io::Write>(sink: &mut Counted<S>, steps: &[Step]) -> Option<usize> {
-    for (place, (call, bytes, wanted, failures)) in steps.iter().enumerate() {
+// The index of the first step with another result.
+fn first_wrong_step<S: io::Write>(sink: &mut Counted<S>, steps: &[Step]) -> Option<usize> {
+    for (i, (call, bytes, wanted, failures)) in steps.iter().enumerate() {
         if taken(sink, call, bytes) != *wanted || sink.failures() != *failures {
-            return Some(place);
+            return Some(i);
         }
     }
     None
 }
 
-// A writer in memory takes no byte once it is full: a failed write.
+// A full writer in memory takes no byte. That is a failed write.
 fn counts_writes() -> bool {
     let mut room = [0u8; 4];
     let mut sink = Counted::new(&mut room[..]);
@@ -75,10 +74,10 @@ fn counts_writes() -> bool {
         ("write", b"e", Some(0), 1),
         ("flush", b"", Some(0), 1),
     ];
-    first_wrong(&mut sink, steps).is_none()
+    first_wrong_step(&mut sink, steps).is_none()
 }
 
-// A counted writer in memory gets the whole output.
+// `write_whole` writes the whole output to a writer in memory.
 fn writes_whole() -> bool {
     let mut room = [0u8; 6];
     let mut sink = Counted::new(&mut room[..]);
@@ -86,11 +85,11 @@ fn writes_whole() -> bool {
         ("whole", b"hello\n", Some(6), 0),
         ("whole", b"more", None, 1),
     ];
-    first_wrong(&mut sink, steps).is_none() && room == *b"hello\n"
+    first_wrong_step(&mut sink, steps).is_none() && room == *b"hello\n"
 }
 
-// A stream whose first `failing` calls of each kind fail and whose later ones do not. It counts its
-// calls. A write fails by an error, or by taking no byte.
+// A stream that counts its calls. The first `failing` calls of each kind fail. If `is_empty`, a
+// failed write takes no byte, and otherwise it returns an error.
 #[derive(Drop)]
 struct FirstFail {
     failing: u64,
@@ -110,7 +109,7 @@ fn first_fail(failing: u64, is_empty: bool) -> Counted<FirstFail> {
     })
 }
 
-// How many calls of each kind the stream inside had.
+// The numbers of reads, writes and flushes of the inner stream.
 fn calls(counted: &Counted<FirstFail>) -> (u64, u64, u64) {
     let stream = counted.get_ref();
     (stream.reads, stream.writes, stream.flushes)
@@ -155,7 +154,7 @@ fn counts_errors() -> bool {
         ("whole", b"a", None, 3),
         ("whole", b"", None, 4),
     ];
-    first_wrong(&mut sink, steps).is_none()
+    first_wrong_step(&mut sink, steps).is_none()
 }
 
 fn makes_failed_call_once() -> bool {
@@ -164,10 +163,10 @@ fn makes_failed_call_once() -> bool {
     let failing: &[Step] = &[("write", b"ab", None, 2), ("flush", b"", None, 3)];
     let going: &[Step] = &[("write", b"ab", Some(2), 3), ("flush", b"", Some(0), 3)];
     read(&mut stream, &mut bytes) == (None, 1)
-        && first_wrong(&mut stream, failing).is_none()
+        && first_wrong_step(&mut stream, failing).is_none()
         && calls(&stream) == (1, 1, 1)
         && read(&mut stream, &mut bytes) == (Some(0), 3)
-        && first_wrong(&mut stream, going).is_none()
+        && first_wrong_step(&mut stream, going).is_none()
         && calls(&stream) == (2, 2, 2)
 }
 
@@ -177,13 +176,13 @@ fn makes_empty_write_once() -> bool {
         &[("write", b"ab", Some(0), 1)],
         &[("write", b"ab", Some(2), 1)],
     );
-    first_wrong(&mut sink, failing).is_none()
+    first_wrong_step(&mut sink, failing).is_none()
         && calls(&sink) == (0, 1, 0)
-        && first_wrong(&mut sink, going).is_none()
+        && first_wrong_step(&mut sink, going).is_none()
         && calls(&sink) == (0, 2, 0)
 }
 
-/// Whether what the name says of a counted stream holds, if it has a check.
+/// Whether the property with this name holds, or `None` if no property has it.
 pub(super) fn property(name: &str) -> Option<bool> {
     Some(match name {
         "each read is counted if it fails" => counts_reads(),

@@ -1,14 +1,14 @@
 //! The first failed call of a stream is the last call of both streams.
 use cfgx_engine::engine::run;
-use cfgx_testing::rows::{Finding, compare_pair, found};
-use cfgx_testing::streams::{ALL, Pieces, Recorder, is_left_so};
+use cfgx_testing::rows::{Finding, compare_pair, fail};
+use cfgx_testing::streams::{ALL, Pieces, Recorder, sink_matches};
 use cfgx_testing::triples::SIM;
 use cfgx_testing::words::words_of;
 use std::alloc::{AllocError, Global};
 use std::str;
 
-// Sets the sink, as by `each=7`, if it is to take at most seven bytes a call.
-fn set(sink: &mut Recorder, setting: &str) -> Option<()> {
+// Applies a setting such as `each=7`, by which the sink takes at most seven bytes per call.
+fn apply(sink: &mut Recorder, setting: &str) -> Option<()> {
     let (name, number) = setting.split_once('=')?;
     let number = number.parse::<usize>().ok()?;
     match name {
@@ -22,19 +22,17 @@ fn set(sink: &mut Recorder, setting: &str) -> Option<()> {
     Some(())
 }
 
-// Whether the sink is set by each of the settings.
-fn is_set(sink: &mut Recorder, settings: &str) -> bool {
+// Applies each of the settings.
+fn apply_all(sink: &mut Recorder, settings: &str) -> Option<()> {
     for setting in settings.split_whitespace() {
-        if set(sink, setting).is_none() {
-            return false;
-        }
+        apply(sink, setting)?;
     }
-    true
+    Some(())
 }
 
-// What a run over the input left: its status, what was written, and the numbers of writes and
-// flushes. Only the sink fails.
-fn left_text(
+// The status and the output of a run over `input`, and the numbers of writes and flushes. Only calls
+// of the sink fail.
+fn ended_text(
     alloc: Global,
     words: &[&str],
     input: &str,
@@ -54,8 +52,8 @@ fn left_text(
     format!(in alloc; "{status} | {written} | {writes} {flushes} | with a wrong call of a stream")
 }
 
-// Compares what a run with these words leaves with the row.
-fn compare_left(
+// Compares a run with the row, whose settings apply to the sink.
+fn compare_ended(
     alloc: Global,
     settings: &str,
     ended: (&str, &str, &str),
@@ -63,18 +61,18 @@ fn compare_left(
     words: &[&str],
 ) -> Finding {
     let mut sink = Recorder::new(alloc);
-    if !is_set(&mut sink, settings) {
-        return found(alloc, "no such sink");
+    if apply_all(&mut sink, settings).is_none() {
+        return fail(alloc, "no such sink");
     }
     let (status, written, calls) = ended;
-    let told = left_text(alloc, words, input, sink);
+    let actual = ended_text(alloc, words, input, sink);
     match format!(in alloc; "{written} | {calls}") {
-        Ok(wanted) => compare_pair(alloc, told, (status, wanted.as_str())),
-        Err(_) => found(alloc, "out of memory"),
+        Ok(wanted) => compare_pair(alloc, actual, (status, wanted.as_str())),
+        Err(_) => fail(alloc, "out of memory"),
     }
 }
 
-/// Compares what a run with the words of the row leaves in the sink with the row.
+/// Compares a run with the words of the row with the row.
 pub(super) fn finding(alloc: Global, row: &[String]) -> Option<Finding> {
     let [settings, status, written, calls, input, words @ ..] = row else {
         return None;
@@ -82,7 +80,7 @@ pub(super) fn finding(alloc: Global, row: &[String]) -> Option<Finding> {
     let ended = (status.as_str(), written.as_str(), calls.as_str());
     Some(match words_of(alloc, words) {
         Ok(words) => {
-            compare_left(
+            compare_ended(
                 alloc,
                 settings.as_str(),
                 ended,
@@ -90,23 +88,23 @@ pub(super) fn finding(alloc: Global, row: &[String]) -> Option<Finding> {
                 words.as_slice(),
             )
         }
-        Err(_) => found(alloc, "out of memory"),
+        Err(_) => fail(alloc, "out of memory"),
     })
 }
 
-// Whether a run over the input whose write of this number fails, with writes of one byte each, ends
-// with status 3, writes the bytes before that one, and makes no call after it.
+// Whether a run ends with status 3 if write number `failing` fails. Each write takes one byte. The
+// run must have written `output` before that write, and must make no call after it.
 fn ends_at_write(alloc: Global, words: &[&str], input: &str, output: &[u8], failing: u64) -> bool {
     let mut source = Pieces::new(input.as_bytes(), ALL, 0);
     let mut sink = Recorder::new(alloc);
     sink.each = 1;
     sink.failing_write = failing;
     let status = run(alloc, words, &mut source, &mut sink);
-    is_left_so(&sink, output, (failing, 0), 1) && status == 3 && source.is_read_whole()
+    sink_matches(&sink, output, (failing, 0), 1) && status == 3 && source.is_read_whole()
 }
 
-/// Whether each write of this output that fails ends the run with status 3: what went out, a byte a
-/// call, has to be the bytes before it, and nothing may be written after them, nor flushed.
+/// Whether each failed write ends the run with status 3. The run must have written the bytes before
+/// that write, one per call, and must make no call after it.
 pub(super) fn ends_at_each_write(
     alloc: Global,
     words: &[&str],
@@ -122,8 +120,8 @@ pub(super) fn ends_at_each_write(
     true
 }
 
-// Whether a run over the input whose read of this number fails ends with status 3, reads no more,
-// and calls a sink that would fail too not once.
+// Whether a run ends with status 3 if read number `failing` fails, reads no more, and makes no call
+// of its sink, whose calls would fail too.
 fn ends_at_read(alloc: Global, input: &[u8], failing: u64, left: &[u8]) -> bool {
     let mut source = Pieces::new(input, 3, failing);
     let mut sink = Recorder::new(alloc);
@@ -131,11 +129,13 @@ fn ends_at_read(alloc: Global, input: &[u8], failing: u64, left: &[u8]) -> bool 
     sink.is_flush_failing = true;
     let status = run(alloc, &["pick", SIM], &mut source, &mut sink);
     let calls = (source.reads, source.failures);
-    is_left_so(&sink, b"", (0, 0), 0) && status == 3 && calls == (failing, 1) && source.left == left
+    sink_matches(&sink, b"", (0, 0), 0)
+        && status == 3
+        && calls == (failing, 1)
+        && source.left == left
 }
 
-// Whether each read of the input that fails ends the run. Each has three bytes, and the last one
-// meets the end.
+// Whether each failed read ends the run. Each read has three bytes, and the last one meets the end.
 fn ends_at_each_read(alloc: Global, input: &[u8]) -> bool {
     let mut left = input;
     for failing in 1..u64::MAX {
@@ -150,7 +150,7 @@ fn ends_at_each_read(alloc: Global, input: &[u8]) -> bool {
     false
 }
 
-/// Whether each write and each read of a run of `pick` that fails is its last call.
+/// Whether each failed write and each failed read is the last call of a run of `pick`.
 pub(super) fn ends_at_each_call(alloc: Global, input: &str, written: &str) -> bool {
     ends_at_each_write(alloc, &["pick", SIM], input, written.as_bytes())
         && ends_at_each_read(alloc, input.as_bytes())

@@ -1,13 +1,13 @@
-//! An input is read whole, up to its limit.
+//! `read_input` reads a whole input, up to its limit.
 use cfgx_engine::engine::{Input, Stop, read_input};
-use cfgx_testing::rows::{Finding, compare, found};
+use cfgx_testing::rows::{Finding, compare, fail};
 use cfgx_testing::streams::{Counting, Pieces};
 use std::alloc::{AllocError, Global};
 use std::str;
 
 const TEN: &[u8] = b"0123456789";
 
-// Why the input was not read, if it was not.
+// The error of `read_input`, if it returned one.
 fn stop_of(read: Result<Input, Stop>) -> Option<Stop> {
     match read {
         Ok(_) => None,
@@ -15,27 +15,27 @@ fn stop_of(read: Result<Input, Stop>) -> Option<Stop> {
     }
 }
 
-// The bytes that are still to come after the failed read, if that was the last one.
-fn left_text(alloc: Global, failing_read: u64) -> Result<String, AllocError> {
+// The bytes that were not read before the failed read, if that was the last read.
+fn unread_text(alloc: Global, failing_read: u64) -> Result<String, AllocError> {
     let mut source = Pieces::new(TEN, 3, failing_read);
     let stop = stop_of(read_input(alloc, &mut source));
-    let left = str::from_utf8(source.left).unwrap_or("not UTF-8");
+    let unread = str::from_utf8(source.left).unwrap_or("not UTF-8");
     let (reads, failures) = (source.reads, source.failures);
     if stop == Some(Stop::Device) && (reads, failures) == (failing_read, 1) {
-        return String::from_str(alloc, left);
+        return String::from_str(alloc, unread);
     }
-    format!(in alloc; "{left}, {stop:?}, {reads} reads, {failures} of them failed")
+    format!(in alloc; "{unread}, {stop:?}, {reads} reads, {failures} of them failed")
 }
 
-/// Compares the bytes that are still to come after a failed read with those of a row.
-pub(super) fn finding_of_failed_read(alloc: Global, failing_read: &str, left: &str) -> Finding {
+/// Compares the bytes that were not read before a failed read with those of a row.
+pub(super) fn finding_of_failed_read(alloc: Global, failing_read: &str, unread: &str) -> Finding {
     match failing_read.parse() {
-        Ok(failing_read) => compare(alloc, left_text(alloc, failing_read), left),
-        Err(_) => found(alloc, "no number of a read"),
+        Ok(failing_read) => compare(alloc, unread_text(alloc, failing_read), unread),
+        Err(_) => fail(alloc, "no number of a read"),
     }
 }
 
-// Whether these bytes were read.
+// Whether `read_input` returned `bytes`.
 fn is_read(read: &Result<Input, Stop>, bytes: &[u8]) -> bool {
     match read {
         Ok(Input::Bytes(read)) => read.as_slice() == bytes,
@@ -43,7 +43,7 @@ fn is_read(read: &Result<Input, Stop>, bytes: &[u8]) -> bool {
     }
 }
 
-// The number of reads after which the bytes were read to their end.
+// The number of reads by which the bytes are read to their end.
 fn reads_text(alloc: Global, bytes: &[u8], each: usize) -> Result<String, AllocError> {
     let mut source = Pieces::new(bytes, each, 0);
     let is_read = is_read(&read_input(alloc, &mut source), bytes);
@@ -58,11 +58,11 @@ fn reads_text(alloc: Global, bytes: &[u8], each: usize) -> Result<String, AllocE
 pub(super) fn finding_of_whole(alloc: Global, input: &str, each: &str, reads: &str) -> Finding {
     match each.parse() {
         Ok(each) => compare(alloc, reads_text(alloc, input.as_bytes(), each), reads),
-        Err(_) => found(alloc, "no number of bytes"),
+        Err(_) => fail(alloc, "no number of bytes"),
     }
 }
 
-// How many bytes were read, if they were not too many.
+// The number of bytes that `read_input` returned, if it returned any.
 fn length_of(read: &Result<Input, Stop>) -> Option<usize> {
     match read {
         Ok(Input::Bytes(bytes)) => Some(bytes.len()),
@@ -70,7 +70,7 @@ fn length_of(read: &Result<Input, Stop>) -> Option<usize> {
     }
 }
 
-// How many bytes are read of a source with this number of them, and how many are left.
+// The number of bytes that are read from a source of `count` bytes, if it is `count`.
 fn length_text(alloc: Global, count: usize, each: usize) -> Result<String, AllocError> {
     let mut source = Counting { left: count, each };
     let length = length_of(&read_input(alloc, &mut source));
@@ -81,10 +81,10 @@ fn length_text(alloc: Global, count: usize, each: usize) -> Result<String, Alloc
     format!(in alloc; "{length:?}, with {left} left")
 }
 
-/// Compares the number of bytes that are read of a source with that of a row.
+/// Compares the number of bytes that are read from a source with that of a row.
 pub(super) fn finding_of_length(alloc: Global, count: &str, each: &str) -> Finding {
     match (count.parse(), each.parse()) {
         (Ok(length), Ok(each)) => compare(alloc, length_text(alloc, length, each), count),
-        _ => found(alloc, "no number of bytes"),
+        _ => fail(alloc, "no number of bytes"),
     }
 }

@@ -1,33 +1,32 @@
-//! Only `pick` reads, to the end of its input and no further. No write is of an empty slice.
+//! Only `pick` reads, to the end of its input and no further. No write has an empty slice.
 use cfgx_engine::engine::run;
-use cfgx_testing::rows::{Finding, compare, found};
-use cfgx_testing::streams::{ALL, Pieces, Recorder, SECTIONS, is_written};
+use cfgx_testing::rows::{Finding, compare, fail};
+use cfgx_testing::streams::{ALL, Pieces, Recorder, SECTIONS, has_written};
 use cfgx_testing::triples::SIM;
 use std::alloc::{AllocError, Global};
 
-// Whether the run reads nothing of an input, whose first read would fail, and writes one byte a
-// call.
-fn is_unread(alloc: Global, words: &[&str], input: &[u8], ended: (&str, &str)) -> bool {
+// Whether a run reads nothing of `input` and ends as `ended` says. A read would fail, and each write
+// takes one byte.
+fn leaves_unread(alloc: Global, words: &[&str], input: &[u8], ended: (&str, &str)) -> bool {
     let (status, written) = ended;
     let mut source = Pieces::new(input, ALL, 1);
     let mut sink = Recorder::new(alloc);
     sink.each = 1;
-    let found = run(alloc, words, &mut source, &mut sink);
+    let actual = run(alloc, words, &mut source, &mut sink);
     let calls = (source.reads, sink.writes);
-    let is_ended = status.parse() == Ok(found) && is_written(&sink, written.as_bytes());
+    let is_ended = status.parse() == Ok(actual) && has_written(&sink, written.as_bytes());
     is_ended && calls == (0, written.len() as u64)
 }
 
-/// Whether the run reads nothing of an input of any kind, and ends with this status and writes
-/// this.
+/// Whether a run reads nothing of any input, and has the status and the output of `ended`.
 pub(super) fn reads_nothing(alloc: Global, words: &[&str], ended: (&str, &str)) -> bool {
-    is_unread(alloc, words, SECTIONS.as_bytes(), ended)
-        && is_unread(alloc, words, b"", ended)
-        && is_unread(alloc, words, b"\xff", ended)
-        && is_unread(alloc, words, b"x", ended)
+    leaves_unread(alloc, words, SECTIONS.as_bytes(), ended)
+        && leaves_unread(alloc, words, b"", ended)
+        && leaves_unread(alloc, words, b"\xff", ended)
+        && leaves_unread(alloc, words, b"x", ended)
 }
 
-// The number of reads of a run of `pick` over the input, or how it ended.
+// The number of reads of a run of `pick`, and what is wrong with the run, if anything is.
 fn reads_text(alloc: Global, each: usize, input: &str) -> Result<String, AllocError> {
     let mut source = Pieces::new(input.as_bytes(), each, 0);
     let mut sink = Recorder::new(alloc);
@@ -39,11 +38,10 @@ fn reads_text(alloc: Global, each: usize, input: &str) -> Result<String, AllocEr
     format!(in alloc; "{reads} and status {status}, or a wrong call of the source")
 }
 
-/// Compares the number of reads of a run of `pick` over the input, none of them after the end, with
-/// that of a row.
+/// Compares the number of reads of a run of `pick` with that of a row. No read may follow the end.
 pub(super) fn finding_of_reads(alloc: Global, each: &str, input: &str, reads: &str) -> Finding {
     match each.parse() {
         Ok(each) => compare(alloc, reads_text(alloc, each, input), reads),
-        Err(_) => found(alloc, "no number of bytes"),
+        Err(_) => fail(alloc, "no number of bytes"),
     }
 }

@@ -1,4 +1,4 @@
-//! The definitions of tokens, computed on texts whose answers are known from outside.
+//! The definitions of tokens, on texts whose tokens are known from outside.
 ghost use Rattle.std.specs.Prelude.{◌≡◌, [], ◌∷◌, Some, None, codes};
 ghost use Rattle.cfgx_syntax.specs.Error.{Cause};
 ghost use Rattle.cfgx_syntax.specs.Items.{AreItems, Ending, EndsAs, Stands, lexical, expects_token};
@@ -14,8 +14,8 @@ pub(crate) fn stripped()
     ensures half { strip (codes "cfg(key") ≡ codes "cfg(key" }
 {}
 
-// Texts with their token lists. In `a 8 b` one token stands before the place where none can start.
-// U+00A0, of the bytes c2 a0, is white space.
+// The token lists of texts. In `a 8 b` one token stands before the `8`, where no token starts. U+00A0,
+// whose bytes are c2 a0, is white space.
 pub(crate) fn listed()
     ensures stuck { AreItems (codes "a 8 b")
         (record { token = spelled.Token.key (codes "a"); start = 0; end = 1 } ∷ [])
@@ -32,7 +32,7 @@ pub(crate) fn listed()
         Ending.blank }
 {}
 
-// What is refused with which cause and where.
+// The lexical faults of texts, with their spans.
 pub(crate) fn refused()
     ensures stuck { lexical (codes "a 8 b") (Ending.no_token 2)
         ≡ Some (record { cause = expects_token; start = 2; end = 3 }) }
@@ -41,10 +41,9 @@ pub(crate) fn refused()
     ensures blank { lexical (codes "a") Ending.blank ≡ None }
 {}
 
-// What is no item and no ending: a word cut short, a word that is a function taken for a key, a
-// value that lacks its last quote, one that runs past a quote, and one without its quotes; a token
-// taken for the place where none can start, a value taken for an unclosed quote, and white space
-// with a token after it.
+// Wrong items: a part of a word, the name of a function as a key, a value without its last quote, a
+// value with a quote inside, and a value without its quotes. Wrong endings: a token where none may
+// start, a value as an unclosed quote, and white space before a token.
 pub(crate) fn excluded()
     ensures short { Stands (codes "ab") 0
         (record { token = spelled.Token.key (codes "a"); start = 0; end = 1 }) → ⊥ }

@@ -1,4 +1,4 @@
-//! The order of the predicates: those inside nested functions first, and of each list in turn.
+//! The order of the predicates, and the nodes of the parser.
 use cfg_expr::error::Failure;
 use cfg_expr::expr::Predicates;
 use cfg_expr::{Expression, Predicate};
@@ -14,8 +14,8 @@ fn name_of<'a>(predicate: &Option<Predicate<'a>>) -> &'a str {
     }
 }
 
-// How many predicates are left before the next call, and what it gives.
-fn call(alloc: Global, predicates: &mut Predicates<'_>) -> Result<String, AllocError> {
+// The number of predicates before the next call, and the name that the call returns.
+fn call_text(alloc: Global, predicates: &mut Predicates<'_>) -> Result<String, AllocError> {
     let left = predicates.left();
     let next = predicates.next();
     let name = name_of(&next);
@@ -23,67 +23,67 @@ fn call(alloc: Global, predicates: &mut Predicates<'_>) -> Result<String, AllocE
     format!(in alloc; "{left}{name}")
 }
 
-// What the calls give, with a space between them, until the end came twice.
-fn calls(alloc: Global, mut predicates: Predicates<'_>) -> Result<String, AllocError> {
+// The texts of all calls, until two of them returned `None`. Spaces separate the texts.
+fn texts_of_calls(alloc: Global, mut predicates: Predicates<'_>) -> Result<String, AllocError> {
     let mut text = String::new(alloc);
-    for place in 0..predicates.left().saturating_add(2) {
-        text.push_str(if place == 0 { "" } else { " " })?;
-        text.push_str(call(alloc, &mut predicates)?.as_str())?;
+    for number in 0..predicates.left().saturating_add(2) {
+        text.push_str(if number == 0 { "" } else { " " })?;
+        text.push_str(call_text(alloc, &mut predicates)?.as_str())?;
     }
     Ok(text)
 }
 
-/// What each call for the next predicate of the text gives.
+/// What each call of `next` of the predicates of `text` returns.
 pub(super) fn calls_text(alloc: Global, text: &str) -> Result<String, Failure> {
     let expression = Expression::parse(alloc, text)?;
-    Ok(calls(alloc, expression.predicates())?)
+    Ok(texts_of_calls(alloc, expression.predicates())?)
 }
 
-// The number of nodes of the tree whose first node it is.
-fn length_of(node: &ExprNode) -> usize {
+// The number of nodes of the tree that begins with `node`.
+fn tree_length(node: &ExprNode) -> usize {
     match node {
         ExprNode::Fn { len, .. } => *len,
         ExprNode::Predicate(_) | ExprNode::Literal(_) => 1,
     }
 }
 
-// Writes a number, and a space before it unless it is the first.
-fn push(alloc: Global, text: &mut String, number: usize) -> Result<(), AllocError> {
+// Pushes a number, with a space before it unless it is the first.
+fn push_number(alloc: Global, text: &mut String, number: usize) -> Result<(), AllocError> {
     if !text.is_empty() {
         text.push_str(" ")?;
     }
     text.push_str(format!(in alloc; "{number}")?.as_str())
 }
 
-// Writes the lengths and the places, with a semicolon between them.
-fn push_all(
+// Pushes the lengths of the trees and the places of the predicates, which a semicolon separates.
+fn push_numbers(
     alloc: Global,
     text: &mut String,
     nodes: &[ExprNode],
     places: &[usize],
 ) -> Result<(), AllocError> {
     for node in nodes {
-        push(alloc, text, length_of(node))?;
+        push_number(alloc, text, tree_length(node))?;
     }
     text.push_str(";")?;
     for place in places {
-        push(alloc, text, *place)?;
+        push_number(alloc, text, *place)?;
     }
     Ok(())
 }
 
-// The lengths and the places.
+// The lengths of the trees and the places of the predicates.
 fn lengths_and_places(
     alloc: Global,
     nodes: &[ExprNode],
     places: &[usize],
 ) -> Result<String, AllocError> {
     let mut text = String::new(alloc);
-    push_all(alloc, &mut text, nodes, places)?;
+    push_numbers(alloc, &mut text, nodes, places)?;
     Ok(text)
 }
 
-/// What the parser leaves for the text.
+/// The nodes of `text`: the length of the tree at each node, and the places of the predicates.
 pub(super) fn nodes_text(alloc: Global, text: &str) -> Result<String, Failure> {
     let parsed = parse(alloc, text)?;
     let borrowed = parsed.as_ref();

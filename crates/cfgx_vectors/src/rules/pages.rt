@@ -1,47 +1,47 @@
-//! Tables of `docs/RULES.md`, word for word, which `.ci/examples` compares with the page.
+//! Tables of `docs/RULES.md`, word for word. `.ci/pages` compares them with the page.
 use super::predicates::predicate_text;
 use super::{compare_fault, compare_predicates};
-use cfgx_testing::rows::{Finding, compare, compare_pair, found};
+use cfgx_testing::rows::{Finding, compare, compare_pair, fail};
 use cfgx_testing::streams::{ALL, run_text};
 use cfgx_testing::triples::SIM;
 use std::alloc::{AllocError, Global};
 
-// What stands between the first two back quotes of a cell, or nothing if it has none.
+// The text between the first two back quotes of a cell, or an empty text if it has none.
 fn quoted(cell: &str) -> &str {
     cell.split('`').nth(1).unwrap_or("")
 }
 
-// The fault of a cell as rows write it, with no back quotes around its name and no comment.
+// The fault of a cell as rows write it: without back quotes around its name, and without a comment.
 fn fault_in_cell(alloc: Global, cell: &str) -> Result<String, AllocError> {
     let fault = cell.split(';').next().unwrap_or(cell);
     fault.trim_start_matches('`').replace(alloc, "` at", " at")
 }
 
-/// Compares the fault of the text of a row with that of the row.
+/// Compares the fault of the text of a row with the fault of the row.
 pub(super) fn finding_of_fault(alloc: Global, text: &str, fault: &str) -> Finding {
     let text = quoted(text);
     match fault_in_cell(alloc, fault) {
         Ok(fault) => compare_fault(alloc, text, fault.as_str(), text),
-        Err(_) => found(alloc, "out of memory"),
+        Err(_) => fail(alloc, "out of memory"),
     }
 }
 
-/// Compares the predicate of the spelling of a row, and its spelling, with those of the row.
+/// Compares the predicate that a spelling asks, and the spelling of that predicate, with a row.
 pub(super) fn finding_of_spelling(alloc: Global, predicate: &str, spelling: &str) -> Finding {
     let text = quoted(spelling);
     compare_predicates(alloc, text, text)?;
     compare(alloc, predicate_text(alloc, text), quoted(predicate))
 }
 
-// Compares what `pick` prints for the input, and its status, with this output and its status.
+// Compares the output and the status of `pick` for `input` with `printed` and its status.
 fn compare_picked(alloc: Global, input: &[u8], printed: &str) -> Finding {
     let is_faulty = printed.starts_with("line ") || printed.starts_with("input ");
     let status = if is_faulty { "1" } else { "0" };
-    let told = run_text(alloc, &["pick", SIM], ALL, input);
-    compare_pair(alloc, told, (status, printed))
+    let actual = run_text(alloc, &["pick", SIM], ALL, input);
+    compare_pair(alloc, actual, (status, printed))
 }
 
-// The input with the byte ff after it.
+// The bytes of `input`, and the byte ff after them.
 fn with_ff(alloc: Global, input: &str) -> Result<Vec<u8>, AllocError> {
     let mut bytes = Vec::new(alloc);
     bytes.extend_from_slice(input.as_bytes())?;
@@ -49,16 +49,16 @@ fn with_ff(alloc: Global, input: &str) -> Result<Vec<u8>, AllocError> {
     Ok(bytes)
 }
 
-// The same of an input with the byte ff after it.
+// Compares the output and the status of `pick` for `input` and the byte ff with a row.
 fn compare_picked_with_ff(alloc: Global, input: &str, printed: &str) -> Finding {
     match with_ff(alloc, input) {
         Ok(bytes) => compare_picked(alloc, bytes.as_slice(), printed),
-        Err(_) => found(alloc, "out of memory"),
+        Err(_) => fail(alloc, "out of memory"),
     }
 }
 
-/// Compares what `pick` prints for the input of a row with the row. A row without an input is about
-/// the empty input and about line feeds alone.
+/// Compares the output of `pick` for the input of a row with the row. A row without an input stands
+/// for the empty input and for line feeds alone.
 pub(super) fn finding_of_pick(alloc: Global, cell: &str, printed: &str) -> Finding {
     let (input, printed) = (quoted(cell), quoted(printed));
     if cell.ends_with(" and the one byte ff") {

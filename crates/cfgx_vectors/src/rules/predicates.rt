@@ -1,33 +1,33 @@
-//! Predicates and literals: what a key means alone and with a value.
+//! Predicates: what a key means alone and with a value.
 use cfg_expr::error::Failure;
 use cfg_expr::expr::Predicates;
 use cfg_expr::{Expression, Predicate};
 use std::alloc::{AllocError, Global};
 
-// A predicate as pages write it: as `Debug` prints it, without quotes.
+// A predicate as pages write it: the text of `Debug` without quotes.
 fn page_text(alloc: Global, predicate: &Predicate<'_>) -> Result<String, AllocError> {
     format!(in alloc; "{predicate:?}")?
         .as_str()
         .replace(alloc, "\"", "")
 }
 
-// The predicate as pages write it, which is dropped by name.
-fn text_of_taken(alloc: Global, predicate: Predicate<'_>) -> Result<String, AllocError> {
+// An owned predicate as pages write it.
+fn owned_page_text(alloc: Global, predicate: Predicate<'_>) -> Result<String, AllocError> {
     let text = page_text(alloc, &predicate);
     drop(predicate);
     text
 }
 
-// The one predicate as pages write it, or how many there are.
+// The only predicate as pages write it, or the number of predicates.
 fn only_text(alloc: Global, mut predicates: Predicates<'_>) -> Result<String, AllocError> {
     let count = predicates.left();
     match predicates.next() {
-        Some(predicate) if count == 1 => text_of_taken(alloc, predicate),
+        Some(predicate) if count == 1 => owned_page_text(alloc, predicate),
         _ => format!(in alloc; "{count} predicates"),
     }
 }
 
-/// The one predicate that the text asks, as pages write it.
+/// The only predicate that `text` asks, as pages write it.
 pub(super) fn predicate_text(alloc: Global, text: &str) -> Result<String, Failure> {
     let expression = Expression::parse(alloc, text)?;
     Ok(only_text(alloc, expression.predicates())?)

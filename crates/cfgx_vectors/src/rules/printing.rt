@@ -1,12 +1,12 @@
-//! What a fault prints, written out by hand from the rules of the format.
+//! What faults print. The rows were written by hand from the rules of the format.
 use cfg_expr::error::{Failure, ParseError, Reason};
-use cfgx_testing::faults::{fault_text, is_fault};
-use cfgx_testing::holding::gives;
-use cfgx_testing::rows::{Finding, compare, found};
+use cfgx_testing::checking::value_equals;
+use cfgx_testing::faults::{fault_matches, fault_text};
+use cfgx_testing::rows::{Finding, compare, fail};
 use std::alloc::{AllocError, Global};
 use std::ops::Range;
 
-// The reasons without a number, and how rows write them.
+// The reasons without a number, as rows write them.
 const REASONS: &[(&str, Reason)] = &[
     ("InvalidCharacters", Reason::InvalidCharacters),
     ("UnclosedParens", Reason::UnclosedParens),
@@ -32,23 +32,23 @@ const REASONS: &[(&str, Reason)] = &[
     ("UnknownBuiltin", Reason::UnknownBuiltin),
 ];
 
-// The reason with a number that rows write so.
-fn invalid_not(told: &str) -> Option<Reason> {
-    let number = told.strip_prefix("InvalidNot(")?.strip_suffix(')')?;
+// The reason that rows write as `InvalidNot(2)`.
+fn invalid_not(name: &str) -> Option<Reason> {
+    let number = name.strip_prefix("InvalidNot(")?.strip_suffix(')')?;
     Some(Reason::InvalidNot(number.parse().ok()?))
 }
 
-// The reason that rows write so.
-fn reason_of(told: &str) -> Option<Reason> {
+// The reason that rows write as `wanted`.
+fn reason_of(wanted: &str) -> Option<Reason> {
     for (name, reason) in REASONS {
-        if *name == told {
+        if *name == wanted {
             return Some(*reason);
         }
     }
-    invalid_not(told)
+    invalid_not(wanted)
 }
 
-// The fault in this text with the reason of this name.
+// A fault in `text` with this span. Rows write its reason as `name`.
 fn error_of(alloc: Global, text: &str, span: Range<usize>, name: &str) -> Option<ParseError> {
     let reason = reason_of(name)?;
     let original = String::from_str(alloc, text).ok()?;
@@ -59,13 +59,13 @@ fn error_of(alloc: Global, text: &str, span: Range<usize>, name: &str) -> Option
     })
 }
 
-// What the reason of the fault prints, and what the fault says of itself.
+// What the reason of the fault prints, and the description of the fault.
 fn texts_of(alloc: Global, error: &ParseError) -> Result<String, AllocError> {
     let (reason, description) = (error.reason, error.description());
     format!(in alloc; "{reason} | {description}")
 }
 
-/// What the reason that rows write so prints, and what a fault with it says of itself.
+/// What the reason `name` of a row prints, and the description of a fault with that reason.
 pub(super) fn reason_texts(alloc: Global, name: &str) -> Result<String, AllocError> {
     match error_of(alloc, "", 0..0, name) {
         Some(error) => texts_of(alloc, &error),
@@ -73,33 +73,33 @@ pub(super) fn reason_texts(alloc: Global, name: &str) -> Result<String, AllocErr
     }
 }
 
-// The span that rows write so.
-fn span_as_told(span: &str) -> Option<Range<usize>> {
+// The span that rows write as `span`.
+fn span_of(span: &str) -> Option<Range<usize>> {
     let (start, end) = span.split_once("..")?;
     Some(start.parse().ok()?..end.parse().ok()?)
 }
 
-// The fault that rows write so, in this text.
-fn error_as_told(alloc: Global, text: &str, fault: &str) -> Option<ParseError> {
+// The fault in `text` that rows write as `fault`.
+fn error_of_row(alloc: Global, text: &str, fault: &str) -> Option<ParseError> {
     let (name, span) = fault.split_once(" at ")?;
-    error_of(alloc, text, span_as_told(span)?, name)
+    error_of(alloc, text, span_of(span)?, name)
 }
 
-// Compares what the fault prints with this, and what rows write of it with what this one writes.
+// Compares the fault as rows write it with `fault`, and what it prints with `printed`.
 fn compare_printed(alloc: Global, error: &ParseError, fault: &str, printed: &str) -> Finding {
     compare(alloc, fault_text(alloc, error), fault)?;
     compare(alloc, format!(in alloc; "{error}"), printed)
 }
 
-/// Compares what the fault that rows write so prints with this.
+/// Compares what the fault of a row prints with the row.
 pub(super) fn finding(alloc: Global, text: &str, fault: &str, printed: &str) -> Finding {
-    match error_as_told(alloc, text, fault) {
+    match error_of_row(alloc, text, fault) {
         Some(error) => compare_printed(alloc, &error, fault, printed),
-        None => found(alloc, "no such fault"),
+        None => fail(alloc, "no such fault"),
     }
 }
 
-/// Whether equality of reasons is that of their parts.
+/// Whether reasons are equal exactly if their parts are.
 pub(super) fn compares_reasons() -> bool {
     let terms = Reason::Unexpected(&["big", "little"]);
     terms == Reason::Unexpected(&["big", "little"])
@@ -113,32 +113,32 @@ fn unopened(alloc: Global, text: &str, span: Range<usize>) -> Result<ParseError,
     error_of(alloc, text, span, "UnopenedParens").ok_or(AllocError)
 }
 
-// Whether faults at these places of one text are equal.
+// Whether faults with these spans in one text are equal.
 fn are_equal(alloc: Global, one: Range<usize>, other: Range<usize>) -> Result<bool, AllocError> {
     let one = unopened(alloc, "a)", one)?;
-    gives(unopened(alloc, "a)", other), &one)
+    value_equals(unopened(alloc, "a)", other), &one)
 }
 
-/// Whether equality of faults is that of their parts.
+/// Whether faults are equal exactly if their parts are.
 pub(super) fn compares_faults(alloc: Global) -> bool {
     are_equal(alloc, 1..2, 1..2) == Ok(true) && are_equal(alloc, 1..2, 1..3) == Ok(false)
 }
 
-// Returns a failure of a fault, which `?` makes.
+// Returns a fault as a failure, which `?` makes.
 fn parse_failure(alloc: Global) -> Result<(), Failure> {
     Err(unopened(alloc, ")", 0..1)?)?;
     Ok(())
 }
 
-// Whether the failure is that fault.
+// Whether the failure is the fault of a `)` that closes nothing.
 fn is_unopened(alloc: Global, failure: &Result<(), Failure>) -> bool {
     match failure {
-        Err(Failure::Parse(error)) => is_fault(alloc, error, ")", "UnopenedParens at 0..1"),
+        Err(Failure::Parse(error)) => fault_matches(alloc, error, ")", "UnopenedParens at 0..1"),
         _ => false,
     }
 }
 
-/// Whether `?` makes a failure of a fault and of out of memory.
+/// Whether faults and `AllocError` become failures.
 pub(super) fn makes_failures(alloc: Global) -> bool {
     let failure: Failure = Failure::from(AllocError);
     failure == Failure::Memory(AllocError) && is_unopened(alloc, &parse_failure(alloc))

@@ -1,24 +1,23 @@
-//! How a predicate is spelled, by a writer that takes all or little a call, or that fails.
+//! The spelling of predicates, by writers that take few bytes per call, or that fail.
 use cfg_expr::error::Failure;
 use cfg_expr::expr::{Predicates, spell};
 use cfg_expr::{Expression, Predicate};
 use cfgx_engine::engine::Sink;
-use cfgx_testing::holding::holds;
-use cfgx_testing::rows::{Finding, compare, found, require};
+use cfgx_testing::checking::is_ok_true;
+use cfgx_testing::rows::{Finding, compare, fail, repeated, require};
 use cfgx_testing::streams::{ALL, Recorder};
-use cfgx_testing::texts::repeated;
 use std::alloc::{AllocError, Global};
 use std::io::{self, ErrorKind, Write};
 use std::str;
 
-// A writer in memory, whose failed calls have an error of this kind.
+// A writer in memory. The error of a failed call has this kind.
 #[derive(Drop)]
 struct Slow {
     sink: Recorder,
     kind: ErrorKind,
 }
 
-// A writer that takes at most `each` bytes a call, and never fails.
+// Returns a writer that takes at most `each` bytes per call and never fails.
 fn slow_writer(alloc: Global, each: usize) -> Slow {
     let mut sink = Recorder::new(alloc);
     sink.each = each;
@@ -44,16 +43,17 @@ impl Write for Slow {
     }
 }
 
-// Spells the predicates that were read. The error is the kind of the one that ended this.
-fn spell_read(read: &Result<Expression, Failure>, writer: &mut Slow) -> Result<(), ErrorKind> {
+// Spells the predicates of a parsed expression. The error is the kind of the failed call.
+fn spell_parsed(read: &Result<Expression, Failure>, writer: &mut Slow) -> Result<(), ErrorKind> {
     match read {
         Ok(expression) => spell_all(expression.predicates(), writer),
         Err(_) => Err(ErrorKind::InvalidInput),
     }
 }
 
-fn spell_each(alloc: Global, text: &str, writer: &mut Slow) -> Result<(), ErrorKind> {
-    spell_read(&Expression::parse(alloc, text), writer)
+// Spells the predicates of `text`.
+fn spell_text(alloc: Global, text: &str, writer: &mut Slow) -> Result<(), ErrorKind> {
+    spell_parsed(&Expression::parse(alloc, text), writer)
 }
 
 fn spell_all(predicates: Predicates<'_>, writer: &mut Slow) -> Result<(), ErrorKind> {
@@ -72,7 +72,8 @@ fn spell_one(predicate: Predicate<'_>, writer: &mut Slow) -> io::Result<()> {
     spelled
 }
 
-// Whether the writer has the spelling, no call was of an empty slice, and each took what it could.
+// Whether the writer has the spelling, no call had an empty slice, and each call took as many bytes
+// as it may.
 fn has_spelling(writer: &Slow, spelled: &str) -> bool {
     let sink = &writer.sink;
     !sink.is_misused
@@ -80,10 +81,10 @@ fn has_spelling(writer: &Slow, spelled: &str) -> bool {
         && (sink.each > 1 || sink.writes == spelled.len() as u64)
 }
 
-// What is written, or how it failed, by calls that take at most `each` bytes.
+// The spelling by calls that take at most `each` bytes, and what is wrong with it, if anything is.
 fn spelled_text(alloc: Global, text: &str, each: usize) -> Result<String, AllocError> {
     let mut writer = slow_writer(alloc, each);
-    let ended = spell_each(alloc, text, &mut writer);
+    let ended = spell_text(alloc, text, &mut writer);
     let written = str::from_utf8(writer.sink.bytes.as_slice()).unwrap_or("not UTF-8");
     if ended.is_ok() && has_spelling(&writer, written) {
         return String::from_str(alloc, written);
@@ -91,45 +92,44 @@ fn spelled_text(alloc: Global, text: &str, each: usize) -> Result<String, AllocE
     format!(in alloc; "{written} and an error or a wrong call at {each} bytes a call")
 }
 
-// Compares the spelling with this one if the writer takes all, or a few bytes, or one a call.
+// Compares the spelling with `spelled` if each call takes all bytes, three bytes, or one byte.
 fn compare_spelling(alloc: Global, text: &str, spelled: &str) -> Finding {
     compare(alloc, spelled_text(alloc, text, ALL), spelled)?;
     compare(alloc, spelled_text(alloc, text, 3), spelled)?;
     compare(alloc, spelled_text(alloc, text, 1), spelled)
 }
 
-/// Compares the spelling of the predicate with its text, in which 5,000 bytes stand between these
-/// two.
-pub(super) fn finding_of_long(alloc: Global, front: &str, back: &str) -> Finding {
-    match repeated(alloc, front, "x", 5_000, back) {
+/// Compares the spelling of a predicate with its text, which has 5,000 bytes between `prefix` and
+/// `suffix`.
+pub(super) fn finding_of_long(alloc: Global, prefix: &str, suffix: &str) -> Finding {
+    match repeated(alloc, prefix, "x", 5_000, suffix) {
         Ok(text) => compare_spelling(alloc, text.as_str(), text.as_str()),
-        Err(_) => found(alloc, "out of memory"),
+        Err(_) => fail(alloc, "out of memory"),
     }
 }
 
-/// Whether a flag that is read as a literal is spelled. Only a caller can make it, since no text
-/// asks it.
+/// Whether the flag `true` is spelled as it is. No text asks this flag, since `true` is a literal.
 pub(super) fn spells_true(alloc: Global) -> bool {
     let mut writer = slow_writer(alloc, 1);
     spell_one(Predicate::Flag("true"), &mut writer).is_ok() & has_spelling(&writer, "true")
 }
 
-// Whether the writer has this beginning of the spelling, and no call came after a failed one.
-fn has_front(writer: &Slow, spelled: &str, length: usize) -> bool {
+// Whether the writer has the first `length` bytes of the spelling, and no call followed a failed one.
+fn has_prefix(writer: &Slow, spelled: &str, length: usize) -> bool {
     writer.sink.bytes.len() == length
         && spelled.as_bytes().starts_with(writer.sink.bytes.as_slice())
         && !writer.sink.is_misused
 }
 
-// Whether a beginning of the spelling of `room` bytes was written if no more have room.
+// Whether the spelling stops after `room` bytes if the writer takes no more.
 fn stops_after(alloc: Global, text: &str, spelled: &str, room: usize) -> bool {
     let mut writer = slow_writer(alloc, 4);
     writer.sink.room = room;
-    let ended = spell_each(alloc, text, &mut writer);
-    (ended == Err(ErrorKind::WriteZero)) & has_front(&writer, spelled, room)
+    let ended = spell_text(alloc, text, &mut writer);
+    (ended == Err(ErrorKind::WriteZero)) & has_prefix(&writer, spelled, room)
 }
 
-// Whether it stops so at each place.
+// Whether the spelling stops where the writer is full, for each number of bytes.
 fn stops_at_each(alloc: Global, text: &str, spelled: &str) -> bool {
     for room in 0..spelled.len() {
         if !stops_after(alloc, text, spelled, room) {
@@ -145,19 +145,19 @@ const KINDS: [ErrorKind; 3] = [
     ErrorKind::WouldBlock,
 ];
 
-// Whether a spelling whose call of this number fails, of calls that take one byte, ends with the
-// writer's own error at that call, after the bytes of the calls before it.
+// Whether the spelling ends with the error of the writer if call number `failing` fails. Each call
+// takes one byte. The bytes before the failed call must be written.
 fn fails_at(alloc: Global, (text, spelled): (&str, &str), failing: usize, kind: ErrorKind) -> bool {
     let mut writer = slow_writer(alloc, 1);
     writer.sink.failing_write = failing as u64;
     writer.kind = kind;
-    let is_last = spell_each(alloc, text, &mut writer) == Err(kind);
-    is_last
+    let has_error = spell_text(alloc, text, &mut writer) == Err(kind);
+    has_error
         & (writer.sink.writes == failing as u64)
-        & has_front(&writer, spelled, failing.saturating_sub(1))
+        & has_prefix(&writer, spelled, failing.saturating_sub(1))
 }
 
-// Whether each call that fails, with each of the kinds, ends the spelling so.
+// Whether the spelling ends with the error of the writer, for each failed call and each kind.
 fn fails_at_each(alloc: Global, text: &str, spelled: &str) -> bool {
     for failing in 1..=spelled.len() {
         for kind in KINDS {
@@ -176,19 +176,19 @@ fn asks(alloc: Global, text: &str, predicates: Predicates<'_>) -> Result<bool, F
 }
 
 // Whether both texts ask the same predicates.
-fn ask_the_same(alloc: Global, text: &str, other: &str) -> Result<bool, Failure> {
+fn ask_same_predicates(alloc: Global, text: &str, other: &str) -> Result<bool, Failure> {
     let expression = Expression::parse(alloc, text)?;
-    Ok(holds(asks(alloc, other, expression.predicates())))
+    Ok(is_ok_true(asks(alloc, other, expression.predicates())))
 }
 
-// Whether the spelling asks the predicate that the text asks, if it is one.
-fn is_read_again(alloc: Global, text: &str, spelled: &str) -> bool {
+// Whether the spelling asks the predicate that the text asks. True if the text asks several.
+fn asks_its_predicate(alloc: Global, text: &str, spelled: &str) -> bool {
     let has_several = text.starts_with("all(") || text.starts_with("any(");
-    has_several || holds(ask_the_same(alloc, text, spelled))
+    has_several || is_ok_true(ask_same_predicates(alloc, text, spelled))
 }
 
-/// Compares the spelling of the text with this one. It also has to stop where a writer takes
-/// nothing or fails, and to be read again as its predicate.
+/// Compares the spelling of the predicates of `text` with `spelled`. The spelling must stop where a
+/// writer is full or fails. The spelling of a predicate must ask that predicate.
 pub(super) fn finding(alloc: Global, text: &str, spelled: &str) -> Finding {
     compare_spelling(alloc, text, spelled)?;
     require(
@@ -203,7 +203,7 @@ pub(super) fn finding(alloc: Global, text: &str, spelled: &str) -> Finding {
     )?;
     require(
         alloc,
-        is_read_again(alloc, text, spelled),
+        asks_its_predicate(alloc, text, spelled),
         "it is read as something else",
     )
 }

@@ -1,42 +1,42 @@
-//! Stripping: the outer `cfg( )` is taken off once, and spans count the bytes of what is left.
+//! Stripping removes the outer `cfg( )` once. Spans count the bytes of the stripped text.
 use cfg_expr::Expression;
 use cfg_expr::error::Failure;
-use cfgx_testing::holding::holds;
+use cfgx_testing::checking::is_ok_true;
 use std::alloc::{AllocError, Global};
 use std::fmt::Debug;
 
-// What the expression prints, and the text that it keeps.
-fn printed_and_kept(alloc: Global, expression: &Expression) -> Result<String, AllocError> {
+// What the expression prints, and its stripped text.
+fn printed_and_original(alloc: Global, expression: &Expression) -> Result<String, AllocError> {
     let original = expression.original();
     format!(in alloc; "{expression} | {original}")
 }
 
-/// What the expression of the text prints, and the text that it keeps.
+/// What the expression of `text` prints, and its stripped text.
 pub(super) fn stripped(alloc: Global, text: &str) -> Result<String, Failure> {
     let expression = Expression::parse(alloc, text)?;
-    Ok(printed_and_kept(alloc, &expression)?)
+    Ok(printed_and_original(alloc, &expression)?)
 }
 
-// Whether the text has an expression that is equal to this one.
+// Whether the expression equals that of `text`.
 fn is_equal(alloc: Global, expression: &Expression, text: &str) -> Result<bool, Failure> {
     let other = Expression::parse(alloc, text)?;
     Ok(*expression == other)
 }
 
-// Whether both texts have expressions that are equal.
+// Whether the expressions of both texts are equal.
 fn are_equal(alloc: Global, one: &str, other: &str) -> Result<bool, Failure> {
     let expression = Expression::parse(alloc, one)?;
     is_equal(alloc, &expression, other)
 }
 
-/// Whether the expressions of both texts are equal, as rows say it.
+/// `equal` or `different`: whether the expressions of both texts are equal.
 pub(super) fn equality(alloc: Global, one: &str, other: &str) -> Result<String, Failure> {
     let is_equal = are_equal(alloc, one, other)?;
-    let told = if is_equal { "equal" } else { "different" };
-    Ok(String::from_str(alloc, told)?)
+    let text = if is_equal { "equal" } else { "different" };
+    Ok(String::from_str(alloc, text)?)
 }
 
-// Whether `Debug` shows the value so.
+// Whether `Debug` of the value prints `wanted`.
 fn shows<T: Debug>(alloc: Global, value: &T, wanted: &str) -> bool {
     match format!(in alloc; "{value:?}") {
         Ok(shown) => shown.as_str() == wanted,
@@ -44,13 +44,13 @@ fn shows<T: Debug>(alloc: Global, value: &T, wanted: &str) -> bool {
     }
 }
 
-// Whether `Debug` shows the expression of a text so.
-fn is_shown(alloc: Global, text: &str, wanted: &str) -> Result<bool, Failure> {
+// Whether `Debug` of the expression of `text` prints `wanted`.
+fn expression_shows(alloc: Global, text: &str, wanted: &str) -> Result<bool, Failure> {
     let expression = Expression::parse(alloc, text)?;
     Ok(shows(alloc, &expression, wanted))
 }
 
-/// Whether `Debug` shows the stripped text.
+/// Whether `Debug` of an expression prints its stripped text.
 pub(super) fn shows_stripped(alloc: Global) -> bool {
-    holds(is_shown(alloc, "cfg(all(a))", "Expression(\"all(a)\")"))
+    is_ok_true(expression_shows(alloc, "cfg(all(a))", "Expression(\"all(a)\")"))
 }

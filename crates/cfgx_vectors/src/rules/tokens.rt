@@ -1,11 +1,11 @@
-//! Tokens: the items of a text, the white space between them, and lexical faults.
+//! The tokens of a text, and lexical faults.
 use cfg_expr::error::{Failure, ParseError};
 use cfg_expr::expr::lexer::{Lexer, LexerToken};
 use cfgx_testing::faults::fault_text;
-use cfgx_testing::rows::{Finding, compare, found};
+use cfgx_testing::rows::{Finding, compare, fail};
 use std::alloc::{AllocError, Global};
 
-// The item, if it is equal to its copy.
+// The token and its span, if they equal those of a copy.
 fn item_text(alloc: Global, item: &LexerToken<'_>) -> Result<String, AllocError> {
     let copy = item.clone()?;
     if copy.token != item.token || copy.span != item.span {
@@ -15,14 +15,14 @@ fn item_text(alloc: Global, item: &LexerToken<'_>) -> Result<String, AllocError>
     format!(in alloc; "{token} at {start}..{end}, ")
 }
 
-// The fault, and the text in which it is.
+// The fault and its text.
 fn fault_item_text(alloc: Global, error: &ParseError) -> Result<String, AllocError> {
     let fault = fault_text(alloc, error)?;
     let original = error.original.as_str();
     format!(in alloc; "{fault} in {original}, ")
 }
 
-// What the next call gives, or nothing at the end.
+// What the next call returns, or an empty text at the end.
 fn next_text(alloc: Global, lexer: &mut Lexer<'_>) -> Result<String, AllocError> {
     match lexer.next() {
         Some(Ok(item)) => item_text(alloc, &item),
@@ -32,7 +32,7 @@ fn next_text(alloc: Global, lexer: &mut Lexer<'_>) -> Result<String, AllocError>
     }
 }
 
-// The item, and how many bytes are left after it.
+// The item, and the number of bytes that are left after it.
 fn with_left(
     alloc: Global,
     item: Result<String, AllocError>,
@@ -42,17 +42,17 @@ fn with_left(
     format!(in alloc; "{item}{left} left")
 }
 
-// Compares the next items with these.
+// Compares the next items with `items`.
 fn compare_items(alloc: Global, lexer: &mut Lexer<'_>, items: &[String]) -> Finding {
     for wanted in items {
         let item = next_text(alloc, lexer);
-        let told = with_left(alloc, item, lexer.items_left_bound());
-        compare(alloc, told, wanted.as_str())?;
+        let actual = with_left(alloc, item, lexer.items_left_bound());
+        compare(alloc, actual, wanted.as_str())?;
     }
     Ok(())
 }
 
-// Whether no item is to come, however often it is asked.
+// Whether three more calls return `None`.
 fn has_ended(lexer: &mut Lexer<'_>) -> bool {
     for _call in 0..3 {
         if lexer.next().is_some() || lexer.items_left_bound() != 0 {
@@ -62,22 +62,22 @@ fn has_ended(lexer: &mut Lexer<'_>) -> bool {
     true
 }
 
-// Compares the items of the lexer with all of these.
+// Compares all items of the lexer with `items`, and the bytes before them with `before`.
 fn compare_all(alloc: Global, lexer: &mut Lexer<'_>, before: &str, items: &[String]) -> Finding {
-    let told = with_left(alloc, Ok(String::new(alloc)), lexer.items_left_bound());
-    compare(alloc, told, before)?;
+    let actual = with_left(alloc, Ok(String::new(alloc)), lexer.items_left_bound());
+    compare(alloc, actual, before)?;
     compare_items(alloc, lexer, items)?;
     if has_ended(lexer) {
         Ok(())
     } else {
-        found(alloc, "one more item")
+        fail(alloc, "one more item")
     }
 }
 
-/// Compares the items of the text of a row with those of the row.
+/// Compares the items of the text of a row with the items of the row.
 pub(super) fn finding(alloc: Global, row: &[String]) -> Finding {
     let [text, before, items @ ..] = row else {
-        return found(alloc, "no text and no number");
+        return fail(alloc, "no text and no number");
     };
     let mut lexer = Lexer::new(alloc, text.as_str());
     compare_all(alloc, &mut lexer, before.as_str(), items)

@@ -1,8 +1,8 @@
-//! The value of a condition over answers, or the two fillings that show that it is unknown.
+//! Decisions over answers: a known value, or two fillings.
 use cfg_expr::error::Failure;
 use cfg_expr::{Decision, Expression};
 use cfgx_testing::answers::Answer;
-use cfgx_testing::fillings::{answers_of, is_told};
+use cfgx_testing::fillings::{answers_of, each_call_decides};
 use cfgx_testing::rows::{Finding, compare, require};
 use std::alloc::{AllocError, Global};
 
@@ -15,7 +15,7 @@ fn digits_of(alloc: Global, filling: &[bool]) -> Result<String, AllocError> {
     Ok(digits)
 }
 
-// Both fillings, with a space between them.
+// Both fillings, which a space separates.
 fn fillings_text(alloc: Global, one: &[bool], other: &[bool]) -> Result<String, AllocError> {
     let one = digits_of(alloc, one)?;
     let other = digits_of(alloc, other)?;
@@ -32,7 +32,7 @@ fn decision_text(alloc: Global, decision: &Decision) -> Result<String, AllocErro
     }
 }
 
-// What `decide` answers over these answers, of which there has to be one for each predicate.
+// The decision over `answers`, as rows write it.
 fn decided_text(
     alloc: Global,
     expression: &Expression,
@@ -44,20 +44,19 @@ fn decided_text(
     decision_text(alloc, &expression.decide(alloc, answers)?)
 }
 
-// What `decide` of the text answers over the answers of these digits.
-fn decided_of(alloc: Global, text: &str, digits: &str) -> Result<String, Failure> {
+// The decision of `text` over the answers of `digits`, as rows write it.
+fn decision_of(alloc: Global, text: &str, digits: &str) -> Result<String, Failure> {
     let answers = answers_of(alloc, digits)?;
     let expression = Expression::parse(alloc, text)?;
     Ok(decided_text(alloc, &expression, answers.as_slice())?)
 }
 
-/// Compares what `decide` answers with what a row says, and requires the same of each other call.
-pub(super) fn finding(alloc: Global, text: &str, digits: &str, told: &str) -> Finding {
-    compare(alloc, decided_of(alloc, text, digits), told)?;
-    let agrees = is_told(alloc, text, digits, told) == Some(true);
+/// Compares the decision of `Expression::decide` with that of a row. Every other call must agree.
+pub(super) fn finding(alloc: Global, text: &str, digits: &str, decision: &str) -> Finding {
+    compare(alloc, decision_of(alloc, text, digits), decision)?;
     require(
         alloc,
-        agrees,
-        "another call than `decide` answers otherwise",
+        each_call_decides(alloc, text, digits, decision) == Some(true),
+        "another call than `decide` disagrees",
     )
 }

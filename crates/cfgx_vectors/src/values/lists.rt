@@ -1,4 +1,4 @@
-//! Lists of families and of widths, the reader of widths, and what these and fields print.
+//! What lists of families and of widths, single widths, and fields print.
 use cfg_expr::targets::{
     Abi, Arch, Env, Families, Family, HasAtomic, HasAtomicFailure, HasAtomics, Os, Panic, Triple,
     Vendor,
@@ -15,14 +15,14 @@ fn families_of<'a>(alloc: Global, names: &'a str) -> Result<Vec<Family<'a>>, All
     Ok(families)
 }
 
-/// What the list of these families prints.
+/// What the list of the families with these names prints.
 pub(super) fn families_text(alloc: Global, names: &str) -> Result<String, AllocError> {
     let families = families_of(alloc, names)?;
     let list = Families::new(alloc, families.into_iter())?;
     format!(in alloc; "{list}")
 }
 
-// The width that a text is, or out of memory.
+// The width of `text`. Returns the error also if `text` is no width.
 fn width_of(alloc: Global, text: &str) -> Result<HasAtomic, AllocError> {
     HasAtomic::read(alloc, text).ok().ok_or(AllocError)
 }
@@ -42,7 +42,7 @@ pub(super) fn widths_text(alloc: Global, texts: &str) -> Result<String, AllocErr
     format!(in alloc; "{list}")
 }
 
-/// What the width that the text is prints, or the fault if it is none.
+/// What the width of `text` prints, or the fault of a text that is no width.
 pub(super) fn width_text(alloc: Global, text: &str) -> Result<String, AllocError> {
     match HasAtomic::read(alloc, text) {
         Ok(width) => format!(in alloc; "{width}"),
@@ -51,14 +51,14 @@ pub(super) fn width_text(alloc: Global, text: &str) -> Result<String, AllocError
     }
 }
 
-// What the field prints, which is dropped by name.
+// What the field prints.
 fn printed<T: Display + Drop>(alloc: Global, field: T) -> Result<String, AllocError> {
     let text = format!(in alloc; "{field}");
     drop(field);
     text
 }
 
-/// Compares what a field of each type with this text prints with the text.
+/// Compares what a field of each type prints with its text.
 pub(super) fn finding_of_field(alloc: Global, text: &str) -> Finding {
     compare(
         alloc,

@@ -1,17 +1,18 @@
-//! Conditions on targets, by `eval` on each, in lanes, and by `pick`.
+//! Values of conditions on targets, by `eval`, in lanes and by `pick`.
 use cfg_expr::error::Failure;
 use cfg_expr::expr::logic::Kleene64;
 use cfg_expr::expr::{Predicates, TargetMatcher};
-use cfg_expr::targets::{TargetInfo, TargetTable};
+use cfg_expr::targets::TargetInfo;
 use cfg_expr::{Expression, Predicate};
 use cfgx_engine::resolve::{Section, Verdict, pick};
-use cfgx_testing::answers::{Answer, are_lanes, in_each, value_in_lanes};
-use cfgx_testing::holding::holds;
-use cfgx_testing::rows::{Finding, compare, found, require};
-use cfgx_testing::targets::push_rows;
+use cfgx_testing::answers::{Answer, eval_in_lanes, in_each_lane, lanes_match_digits};
+use cfgx_testing::checking::is_ok_true;
+use cfgx_testing::rows::{Finding, compare, fail, require};
+use cfgx_testing::targets::{builtin_rows, push_rows};
+use cfgx_testing::triples::TRIPLES;
 use std::alloc::{AllocError, Global};
 
-// The targets that are made by hand: a bare one, iOS, Windows of two vendors, and macOS.
+// The targets that are made by hand: a bare one, iOS, Windows with two vendors, and macOS.
 const BY_HAND: &str = "bare
 aarch64-apple-ios os=ios vendor=apple unix atomics
 by-hand os=windows arch=x86 env=msvc vendor=pc windows bits=32
@@ -19,10 +20,10 @@ by-hand os=windows arch=x86 env=msvc vendor=uwp windows bits=32
 aarch64-apple-darwin os=macos vendor=apple unix atomics
 ";
 
-// Targets, and what is answered if no target is asked.
+// Targets, and the answer to predicates that are not on the target.
 type Asked<'a> = (&'a [TargetInfo<'a>], Answer);
 
-// What a target answers.
+// The answer of a target.
 fn answer_on<T: TargetMatcher>(predicate: &Predicate<'_>, target: &T, otherwise: Answer) -> Answer {
     match predicate {
         Predicate::Target(asked) => Some(asked.matches(target)),
@@ -30,22 +31,22 @@ fn answer_on<T: TargetMatcher>(predicate: &Predicate<'_>, target: &T, otherwise:
     }
 }
 
-// What at most 64 targets answer.
+// The answers of at most 64 targets.
 fn lanes_on(predicate: &Predicate<'_>, (rows, otherwise): Asked<'_>) -> Kleene64 {
     match predicate {
         Predicate::Target(asked) if rows.len() <= 64 => asked.lanes(rows),
-        _ => in_each(otherwise),
+        _ => in_each_lane(otherwise),
     }
 }
 
-// What at most 64 targets answer to a predicate, which is dropped by name.
-fn lanes_on_taken(predicate: Predicate<'_>, asked: Asked<'_>) -> Kleene64 {
+// The answers of at most 64 targets to an owned predicate.
+fn lanes_on_owned(predicate: Predicate<'_>, asked: Asked<'_>) -> Kleene64 {
     let lanes = lanes_on(&predicate, asked);
     drop(predicate);
     lanes
 }
 
-// The answers to all predicates.
+// The answers of at most 64 targets to each predicate.
 fn answers_on(
     alloc: Global,
     predicates: Predicates<'_>,
@@ -53,7 +54,7 @@ fn answers_on(
 ) -> Result<Vec<Kleene64>, AllocError> {
     let mut answers = Vec::new(alloc);
     for predicate in predicates {
-        answers.push(lanes_on_taken(predicate, asked))?;
+        answers.push(lanes_on_owned(predicate, asked))?;
     }
     Ok(answers)
 }
@@ -67,7 +68,7 @@ fn digit_of(value: Answer) -> char {
     }
 }
 
-// A digit for the value on each target, by `eval`.
+// The digits of the values on the targets, by `eval`.
 fn values_text(
     alloc: Global,
     expression: &Expression,
@@ -81,8 +82,8 @@ fn values_text(
     Ok(digits)
 }
 
-// Whether the digits stand for the values in lanes, by `eval` and by `eval_lanes`.
-fn has_lanes(
+// Whether the values in lanes, by `eval` and by `eval_lanes`, match the digits.
+fn lanes_match(
     alloc: Global,
     expression: &Expression,
     asked: Asked<'_>,
@@ -91,11 +92,11 @@ fn has_lanes(
     let mut answer = |predicate: &Predicate<'_>| lanes_on(predicate, asked);
     let value = expression.eval(alloc, &mut answer)?;
     let answers = answers_on(alloc, expression.predicates(), asked)?;
-    let in_lanes = value_in_lanes(alloc, expression, answers.as_slice());
-    Ok(in_lanes == Some(value) && are_lanes(value, digits))
+    let in_lanes = eval_in_lanes(alloc, expression, answers.as_slice());
+    Ok(in_lanes == Some(value) && lanes_match_digits(value, digits))
 }
 
-// Compares the values of the condition on each target, and in the lanes past them, with the digits.
+// Compares the values on the targets, and in the lanes past them, with the digits.
 fn compare_values(
     alloc: Global,
     expression: &Expression,
@@ -105,15 +106,15 @@ fn compare_values(
     let each = digits.get(..asked.0.len()).unwrap_or("");
     compare(alloc, values_text(alloc, expression, asked), each)?;
     let is_right = digits.len() == asked.0.len().saturating_add(1)
-        && holds(has_lanes(alloc, expression, asked, digits.as_bytes()));
+        && is_ok_true(lanes_match(alloc, expression, asked, digits.as_bytes()));
     require(alloc, is_right, "other values in lanes")
 }
 
-// Compares the values of the text with the digits.
+// Compares the values of `text` with the digits.
 fn finding_on(alloc: Global, asked: Asked<'_>, text: &str, digits: &str) -> Finding {
     match Expression::parse(alloc, text) {
         Ok(expression) => compare_values(alloc, &expression, asked, digits),
-        Err(_) => found(alloc, "a fault"),
+        Err(_) => fail(alloc, "a fault"),
     }
 }
 
@@ -124,7 +125,7 @@ fn section_of(alloc: Global, text: &str) -> Result<Section, Failure> {
     Ok(Section { name, condition })
 }
 
-// The digit of the first verdict.
+// The digit of the only verdict.
 fn digit_of_verdict(verdicts: &[Verdict]) -> char {
     match verdicts {
         [verdict] => digit_of(match verdict {
@@ -136,7 +137,7 @@ fn digit_of_verdict(verdicts: &[Verdict]) -> char {
     }
 }
 
-// A digit for the verdict on the section on each target, by `pick`.
+// The digits of the verdicts of the targets on the only section, by `pick`.
 fn verdicts_text(
     alloc: Global,
     sections: &[Section],
@@ -150,7 +151,7 @@ fn verdicts_text(
     Ok(digits)
 }
 
-// A digit for the verdict on a section with the condition on each target.
+// The digits of the verdicts of the targets on a section with the condition `text`.
 fn verdicts_of(alloc: Global, rows: &[TargetInfo<'_>], text: &str) -> Result<String, Failure> {
     let section = section_of(alloc, text)?;
     let mut sections = Vec::new(alloc);
@@ -158,7 +159,7 @@ fn verdicts_of(alloc: Global, rows: &[TargetInfo<'_>], text: &str) -> Result<Str
     Ok(verdicts_text(alloc, sections.as_slice(), rows)?)
 }
 
-// Compares the values and the verdicts on these targets with the digits.
+// Compares the values and the verdicts on the targets with the digits.
 fn compare_on(alloc: Global, rows: &[TargetInfo<'_>], text: &str, digits: &str) -> Finding {
     finding_on(alloc, (rows, None), text, digits)?;
     compare(
@@ -168,12 +169,12 @@ fn compare_on(alloc: Global, rows: &[TargetInfo<'_>], text: &str, digits: &str) 
     )
 }
 
-/// Compares the values and the verdicts on the targets that are built in with those of a row. What
-/// no target is asked is unknown.
+/// Compares the values and the verdicts on the targets of `TRIPLES` with those of a row. Predicates
+/// that are not on the target are unknown.
 pub(super) fn finding_on_built_in(alloc: Global, text: &str, digits: &str) -> Finding {
-    match TargetTable::builtins(alloc) {
-        Ok(table) => compare_on(alloc, table.rows(), text, digits),
-        Err(_) => found(alloc, "out of memory"),
+    match builtin_rows(alloc, TRIPLES) {
+        Ok(rows) => compare_on(alloc, rows.as_slice(), text, digits),
+        Err(_) => fail(alloc, "out of memory"),
     }
 }
 
@@ -183,16 +184,16 @@ fn rows_by_hand(alloc: Global) -> Result<Vec<TargetInfo<'static>>, AllocError> {
     pushed.and(Ok(rows))
 }
 
-/// Compares the values on the targets that are made by hand with those of a row. What no target is
-/// asked is true.
+/// Compares the values on the targets that are made by hand with those of a row. Predicates that are
+/// not on the target are true.
 pub(super) fn finding_by_hand(alloc: Global, text: &str, digits: &str) -> Finding {
     match rows_by_hand(alloc) {
         Ok(rows) => finding_on(alloc, (rows.as_slice(), Some(true)), text, digits),
-        Err(_) => found(alloc, "out of memory"),
+        Err(_) => fail(alloc, "out of memory"),
     }
 }
 
-/// Compares the values in lanes without a target with those of a row.
+/// Compares the values in lanes with those of a row, if there is no target.
 pub(super) fn finding_on_none(alloc: Global, text: &str, digits: &str) -> Finding {
     finding_on(alloc, (&[], None), text, digits)
 }

@@ -1,13 +1,13 @@
-//! Tables of targets with increasing triples, and the targets that are found in them.
+//! Tables of targets with increasing triples, and lookup in the built-in table.
 use cfg_expr::targets::{TableError, TargetInfo, TargetTable, get_builtin_target_by_triple};
-use cfgx_testing::holding::push;
+use cfgx_testing::checking::push_ok;
 use cfgx_testing::targets::bare;
 use std::alloc::{AllocError, Global};
 
-// Adds a row for each of these triples.
+// Pushes a row for each of these triples.
 fn push_rows<'a>(rows: &mut Vec<TargetInfo<'a>>, triples: &'a str) -> Result<(), AllocError> {
     for triple in triples.split_whitespace() {
-        push(rows, Ok(bare(triple)))?;
+        push_ok(rows, Ok(bare(triple)))?;
     }
     Ok(())
 }
@@ -30,8 +30,8 @@ fn have_triples(rows: &[TargetInfo<'_>], triples: &str) -> bool {
     left.next().is_none()
 }
 
-// Whether a table was made of just these triples, or at which place they were refused, all of them
-// given back.
+// `table`, or the index at which the rows are refused, if the table or the error has the rows with
+// these triples.
 fn made_text(
     alloc: Global,
     made: &Result<TargetTable<'_>, TableError<'_>>,
@@ -47,7 +47,7 @@ fn made_text(
     }
 }
 
-/// `table` if rows with these triples are a table, or the place at which they are refused.
+/// `table` if rows with these triples are a table, or the index at which they are refused.
 pub(super) fn table_text(alloc: Global, triples: &str) -> Result<String, AllocError> {
     let made = TargetTable::from_rows(rows_with(alloc, triples)?);
     let text = made_text(alloc, &made, triples);
@@ -55,30 +55,35 @@ pub(super) fn table_text(alloc: Global, triples: &str) -> Result<String, AllocEr
     text
 }
 
-// The place of the row with the triple, and whether the table finds that row.
-fn found_text(alloc: Global, table: &TargetTable<'_>, triple: &str) -> Result<String, AllocError> {
-    let found = match get_builtin_target_by_triple(table, triple) {
-        Some(row) => row.triple.as_str(),
-        None => "nowhere",
-    };
-    if found != triple {
-        return String::from_str(alloc, found);
+// Pushes the triples of the rows, which spaces separate.
+fn push_triples(text: &mut String, rows: &[TargetInfo<'_>]) -> Result<(), AllocError> {
+    for row in rows {
+        text.push_str(if text.is_empty() { "" } else { " " })?;
+        text.push_str(row.triple.as_str())?;
     }
-    let mut place = 0usize;
-    for row in table.rows() {
-        if row.triple.as_str() == triple {
-            break;
-        }
-        place = place.saturating_add(1);
-    }
-    let count = table.rows().len();
-    format!(in alloc; "{place} of {count}")
+    Ok(())
 }
 
-/// The place of the built-in target with the triple, and how many there are, or `nowhere`.
-pub(super) fn place_text(alloc: Global, triple: &str) -> Result<String, AllocError> {
+/// The triples of all built-in targets, in the order of the table. Spaces separate them.
+pub(super) fn builtin_triples(alloc: Global) -> Result<String, AllocError> {
     let table = TargetTable::builtins(alloc)?;
-    let text = found_text(alloc, &table, triple);
+    let mut text = String::new(alloc);
+    push_triples(&mut text, table.rows())?;
+    Ok(text)
+}
+
+// The triple of the row that is found, or `nowhere`.
+fn found_in(alloc: Global, table: &TargetTable<'_>, triple: &str) -> Result<String, AllocError> {
+    match get_builtin_target_by_triple(table, triple) {
+        Some(row) => String::from_str(alloc, row.triple.as_str()),
+        None => String::from_str(alloc, "nowhere"),
+    }
+}
+
+/// The triple of the built-in row that is found by `triple`, or `nowhere`.
+pub(super) fn found_triple(alloc: Global, triple: &str) -> Result<String, AllocError> {
+    let table = TargetTable::builtins(alloc)?;
+    let text = found_in(alloc, &table, triple);
     drop(table);
     text
 }

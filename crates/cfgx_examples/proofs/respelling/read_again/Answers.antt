@@ -1,4 +1,4 @@
--- What was written is the spelling.
+-- The bytes that were written are the spelling.
 use Rattle.std.proofs.Common.{◌++◌, ◌∙◌, ap, subst, sym}
 use Rattle.cfgx_grammar.specs.{WellFormed.IsAlone, Spelling.spelling}
 use Rattle.cfgx_parser.specs.Predicate.{question_of}

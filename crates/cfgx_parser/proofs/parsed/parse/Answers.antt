@@ -26,7 +26,7 @@ invariant_of-result g c =
     let begun = begins g (goal.at.invariant_of-result g c).After-read_all in
     let same = c.in_ok-original.ensures.ok ∙ c.original-text.ensures
     ∙ ap (λ l. l.text) begun.lexer_is in
-    rw (same, c.into_parts-nodes.ensures.nodes, c.into_parts-nodes.ensures.index)
+    rw (same, c.into_parts-nodes.ensures.nodes, c.into_parts-nodes.ensures.places)
     (Accepted c.read_all.new.self begun c.in_ok-read_all.ensures).0
 
 pub returns : goal.returns

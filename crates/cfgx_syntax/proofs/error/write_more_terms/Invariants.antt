@@ -2,7 +2,7 @@ use Rattle.std.{proofs.Common.{map, take}, specs.Fmt.{HasWritten, IsPlainFormatt
 use Rattle.cfgx_syntax.specs.Error.{more_terms_text}
 use Rattle.cfgx_syntax.proofs.error.write_more_terms.Given as goal
 
--- the terms in front of the index have been written
+-- the terms before the index have been written
 abbrev pub invariant-loop-term : goal.invariant-loop-term
 invariant-loop-term g l = IsPlainFormatter l.fn.f
     → HasWritten g.W.Write.write_str_gives l.fn.f

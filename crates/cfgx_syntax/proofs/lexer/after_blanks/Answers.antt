@@ -1,4 +1,4 @@
--- White space goes on after ASCII white space only if a longer character is next.
+-- After ASCII white space comes more white space only if the next character is beyond ASCII.
 use Rattle.std.proofs.{Common.arith, Common.rules, lemmas.Grind.common_steps}
 use Rattle.cfgx_syntax.proofs.Blanks.{blank-ascii, trim_after, trim_blanks}
 use Rattle.cfgx_syntax.proofs.WordLemmas.{IsCharBoundary-after}

@@ -1,7 +1,7 @@
--- One byte is a token by itself, and a word runs as far as it can.
+-- A token is one byte, or a word that is as long as it can be.
 use Rattle.std.proofs.Common.{◌≡◌, get_or, arith, rules}
 use Rattle.std.proofs.{lemmas.Grind.common_steps, Math.Nat.sub-zero}
-use Rattle.cfgx_syntax.proofs.WordLemmas.{BeginsWith-byte, BeginsWith-word, word_front}
+use Rattle.cfgx_syntax.proofs.WordLemmas.{BeginsWith-byte, BeginsWith-word, word_prefix}
 use Rattle.cfgx_syntax.proofs.WordLemmas.{IsCharBoundary-after, continues_word-ascii}
 use Rattle.cfgx_syntax.proofs.lexer.first_token.Goals as goal
 
@@ -26,7 +26,7 @@ range-requires-clause-end_boundary c =
     grind (arith, common_steps, IsCharBoundary-after, continues_word-ascii)
 
 pub word_token-requires : goal.word_token-requires
-word_token-requires c = grind (arith, common_steps, sub-zero, word_front)
+word_token-requires c = grind (arith, common_steps, sub-zero, word_prefix)
 
 pub returns-in-Letter : goal.returns-in-Letter
 returns-in-Letter c = grind (arith, common_steps, BeginsWith-word, sub-zero)

@@ -1,4 +1,4 @@
--- A value runs to the first quote after the one in front, and without such a quote it is unclosed.
+-- A value ends at the next quote. Without one it is unclosed.
 use Rattle.std.proofs.Common.{◌≡◌, ℕ, ◌<◌, List, ◌∷◌, length, drop, get_or, refl, inr, arith}
 use Rattle.std.proofs.lemmas.{List.drop_more, Str.IsCharBoundary-after_ascii}
 use Rattle.std.proofs.{lemmas.Str.IsCharBoundary-before_ascii, Math.Nat.sub-zero}

@@ -1,4 +1,4 @@
--- The prefix and the suffix are found exactly if the text is wrapped.
+-- The prefix and the suffix are both found exactly if the text is wrapped.
 use Rattle.cfgx_syntax.proofs.Wrapping.{strip-bare, strip-wrapped, strip-prefixed}
 use Rattle.cfgx_syntax.proofs.stripping.strip.Goals as goal
 

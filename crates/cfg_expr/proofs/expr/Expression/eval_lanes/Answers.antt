@@ -1,21 +1,8 @@
--- The text has one tree, whose value is kept by each lane.
-use Rattle.std.proofs.{Common.◌∙◌, Common.ap, Common.sym, lemmas.Result.IfOk-weaker}
-use Rattle.cfgx_syntax.specs.Kleene.{lane}
-use Rattle.cfgx_grammar.proofs.MappedValues.{IsByLane-fold}
+-- The borrowed condition is seen as the expression is.
 use Rattle.cfg_expr.proofs.expr.Expression.eval_lanes.Goals as goal
 
 pub returns-clause-lanes : goal.returns-clause-lanes
-returns-clause-lanes g c =
-    let one = rw (c.as_ref.ensures, c.self.view_is) at c.eval_over_answers.ensures.one in
-    (one, λ given disjoint many. IsByLane-fold one.tree given disjoint)
+returns-clause-lanes g c = rw c.condition.ensures at c.eval_lanes.ensures.lanes
 
 pub returns-clause-value : goal.returns-clause-value
-returns-clause-value g c =
-    rw (sym c.self.view_is, ← c.as_ref.ensures) (IfOk-weaker c.eval_over_answers.result _ _
-    (λ value found. (
-      found.0,
-      found.1,
-      λ i below. ap (lane i) found.1
-          ∙ IsByLane-fold found.0.tree c.args.answers.now c.are_disjoint.ensures i below,
-    ))
-    c.eval_over_answers.ensures.value)
+returns-clause-value g c = rw c.condition.ensures at c.eval_lanes.ensures.value

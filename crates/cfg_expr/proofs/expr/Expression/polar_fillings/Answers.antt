@@ -1,11 +1,8 @@
--- What was decided says which fillings there are.
+-- The borrowed condition is seen as the expression is.
 use Rattle.cfg_expr.proofs.expr.Expression.polar_fillings.Goals as goal
 
-pub returns-in-Known-clause-fillings : goal.returns-in-Known-clause-fillings
-returns-in-Known-clause-fillings g c =
-    let decided = rw c.in-Known.is at c.in_ok-decide.ensures.decision in
-    (decided.0, (_, decided.1.is))
+pub returns-clause-exact : goal.returns-clause-exact
+returns-clause-exact g c = rw c.condition.ensures at c.polar_fillings.ensures.exact
 
-pub returns-in-Unknown-clause-fillings : goal.returns-in-Unknown-clause-fillings
-returns-in-Unknown-clause-fillings g c =
-    let decided = rw c.in-Unknown.is at c.in_ok-decide.ensures.decision in (decided.0, decided.1.is)
+pub returns-clause-fillings : goal.returns-clause-fillings
+returns-clause-fillings g c = rw c.condition.ensures at c.polar_fillings.ensures.fillings

@@ -1,5 +1,5 @@
 -- The borrowed condition is seen as the expression is.
 use Rattle.cfg_expr.proofs.expr.Expression.predicates.Goals as goal
 
-pub returns-clause-asked : goal.returns-clause-asked
-returns-clause-asked g c = rw c.condition.ensures at c.predicates.ensures.asked
+pub returns : goal.returns
+returns g c = rw c.condition.ensures at c.predicates.ensures

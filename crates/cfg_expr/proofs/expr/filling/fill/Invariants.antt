@@ -7,7 +7,7 @@ abbrev pub invariant-loop-place : goal.invariant-loop-place
 invariant-loop-place g l =
     let places = l.place-iterator.a.rest.now in let answers = l.place-iterator.b.rest.now in
     (length places ≡ length answers)
-    × (l.with_true.items ++ filled_at l.odds places answers true
+    × (l.if_true.items ++ filled_at l.odds places answers true
     ≡ filled_at l.odds l.places l.answers true)
-    × (l.with_false.items ++ filled_at l.odds places answers false
+    × (l.if_false.items ++ filled_at l.odds places answers false
     ≡ filled_at l.odds l.places l.answers false)

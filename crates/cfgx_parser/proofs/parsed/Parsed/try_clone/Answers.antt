@@ -7,8 +7,8 @@ pub invariant_of-result : goal.invariant_of-result
 invariant_of-result g c =
     let text = c.in_ok-from_str.ensures.ok ∙ c.as_str.ensures.value in
     let nodes = c.in_ok-from_slice.ensures.ok ∙ c.as_slice.ensures in
-    let index = c.in_ok-from_slice-2.ensures.ok ∙ c.as_slice-2.ensures in
-    rw (text, nodes, index) c.self.invariant
+    let places = c.in_ok-from_slice-2.ensures.ok ∙ c.as_slice-2.ensures in
+    rw (text, nodes, places) c.self.invariant
 
 pub from_slice-requires-2 : goal.from_slice-requires-2
 from_slice-requires-2 g c = room _ _ _ g.met.A.SmallAllocator.small (omega arith)

@@ -3,4 +3,4 @@ use Rattle.cfgx_parser.proofs.parsed.ParsedRef.places.Goals as goal
 
 pub returns : goal.returns
 returns c =
-    let keeps = rw c.self.view_is at c.self.invariant in (keeps.one, keeps.keeps.index_are)
+    let keeps = rw c.self.view_is at c.self.invariant in (keeps.one, keeps.keeps.places_are)

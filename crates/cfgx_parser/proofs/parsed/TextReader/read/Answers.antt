@@ -25,7 +25,7 @@ pub invariant_of-result : goal.invariant_of-result
 invariant_of-result g c =
     let begun = begins g (goal.at.invariant_of-result g c).After-read_all in
     let same = c.original-text.ensures ∙ ap (λ l. l.text) begun.lexer_is in
-    rw (same, c.nodes.ensures, c.index.ensures)
+    rw (same, c.nodes.ensures, c.places.ensures)
     (Accepted c.read_all.new.self begun c.in_ok-read_all.ensures).0
 
 pub returns : goal.returns

@@ -11,8 +11,8 @@ invariant_of-self g c = grind (arith, common_steps)
 pub overflow_add-members : goal.overflow_add-members
 overflow_add-members g c = grind (arith, common_steps)
 
-pub returns-then-not-has_room : goal.returns-then-not-has_room
-returns-then-not-has_room g c = grind (arith, common_steps)
+pub returns-then-not-allows_count : goal.returns-then-not-allows_count
+returns-then-not-allows_count g c = grind (arith, common_steps)
 
 pub returns-in_err-write_pending : goal.returns-in_err-write_pending
 returns-in_err-write_pending g c = grind (arith, common_steps)

@@ -9,8 +9,8 @@ pub returns : goal.returns
 returns g c =
     let now = c.args.self.now in
     let functions = reverse now.func_stack.items in
-    let noted : OpenList = record now.list { parens_index = Some c.args.place } in
+    let noted : OpenList = record now.list { parens_position = Some c.args.position } in
     rw (
-      opens-changed now.list noted (with_parens c.args.place) (λ top. refl) functions,
+      opens-changed now.list noted (with_parens c.args.position) (λ top. refl) functions,
       roots-same now.list noted refl functions,
     ) refl

@@ -1,4 +1,4 @@
--- Each token that the lexer gives is the next one, and the parser takes the step of it.
+-- Each token of the lexer is the next one of the text, and the parser computes its step.
 use Rattle.std.{proofs.Common.Ok, proofs.Common.Err, proofs.lemmas.Result.err_from_is_err_and}
 use Rattle.cfgx_parser.proofs.ReadTokens.{LeadsTo-read, ReadsAll-read, ReadsAll-fault, ReadsAll-end}
 use Rattle.cfgx_parser.proofs.parser.Parser.read_all.Goals as goal

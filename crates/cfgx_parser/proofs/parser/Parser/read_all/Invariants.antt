@@ -1,4 +1,4 @@
--- What the rest of the text answers, the whole answers.
+-- The result for the rest of the text is that for the whole.
 use Rattle.cfgx_parser.proofs.ReadTokens.{LeadsTo}
 use Rattle.cfgx_parser.proofs.parser.Parser.read_all.Given as goal
 

@@ -5,6 +5,6 @@ use Rattle.cfgx_parser.proofs.predicates.Predicates.left.Goals as goal
 
 pub returns : goal.returns
 returns c =
-    sym (length-questions_at c.self.inside.text.now c.self.inside.nodes.now c.self.inside.index.now
+    sym (length-questions_at c.self.inside.text.now c.self.inside.nodes.now c.self.inside.places.now
     c.self.invariant)
     ∙ ap length c.self.view_is

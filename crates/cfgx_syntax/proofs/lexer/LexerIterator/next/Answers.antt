@@ -1,4 +1,4 @@
--- What follows the white space stands in the whole text.
+-- What is found after the white space has the same place in the whole text.
 use Rattle.std.proofs.{Common.{arith, rules}, Math.Nat.sub-zero, lemmas.Grind.common_steps}
 use Rattle.cfgx_syntax.{specs.Error.cause_of, specs.Lexer.token_of, proofs.Scanning.state_at}
 use Rattle.cfgx_syntax.proofs.Scanning.{IsAfter-trimmed, Stands-found, CanBeCut-found, Ending-found}

@@ -1,4 +1,4 @@
--- Each is refused by the first field of it that is false.
+-- Each wrong item or ending has a field that is false.
 use Rattle.std.proofs.{Common.{lit<, arith}, lemmas.Str.{char_from_byte, NoCharPasses-byte}}
 use Rattle.std.specs.{Prelude.codes, Char.is_not_whitespace}
 use Rattle.cfgx_vectors.proofs.rules.definitions.excluded.Goals as goal

@@ -1,4 +1,4 @@
--- Each item with the white space in front of it.
+-- Each item, with the white space before it.
 use Rattle.std.proofs.Common.{◌≡◌, [], ◌∷◌, ◌++◌, refl, sym, ap, lit<, arith, rules}
 use Rattle.std.{proofs.lemmas.Str.encode_ascii, specs.Prelude.codes, specs.Char.encode_utf8}
 use Rattle.cfgx_syntax.specs.Items.{IsBlank}

@@ -1,5 +1,5 @@
--- The text has one tree, whose three values are exact.
-use Rattle.std.proofs.{Common.◌∙◌, Common.ap, Common.length, lemmas.Result.IfOk-weaker}
+-- The text has one tree, which is exact over its answers.
+use Rattle.std.proofs.{Common.◌∙◌, Common.ap, Common.length, lemmas.Result.on_ok_weaker}
 use Rattle.cfgx_grammar.{specs.Tree.asked, proofs.{Answering.only_tree, Exactness.IsExact-fold}}
 use Rattle.cfg_expr.proofs.expr.condition.Condition.decide.Goals as goal
 
@@ -10,7 +10,7 @@ returns-clause-exact g c =
 pub returns-clause-decision : goal.returns-clause-decision
 returns-clause-decision g c =
     let given = c.requires in
-    IfOk-weaker c.decide.result _ _ (λ decision decided.
+    on_ok_weaker c.decide.result (λ decided.
     let same = only_tree decided.0 given.0 given.1 in (
       decided.0,
       record {

@@ -3,7 +3,12 @@ use Rattle.std.proofs.{Common.sym, lemmas.Result.IfOk-weaker}
 use Rattle.cfg_expr.proofs.Chains.{Evaluates-by}
 use Rattle.cfg_expr.proofs.expr.condition.Condition.eval.Goals as goal
 
-pub returns-clause-by : goal.returns-clause-by
-returns-clause-by g c =
-    rw (sym c.self.view_is) (IfOk-weaker c.eval.result _ _
-    (λ value evaluates answer_to by. Evaluates-by evaluates answer_to by) c.eval.ensures.value)
+pub returns : goal.returns
+returns g c = rw (sym c.self.view_is) record {
+  value = c.eval.ensures.value;
+  by = IfOk-weaker c.eval.result _ _
+      (λ value evaluates answer_to by. Evaluates-by evaluates answer_to by)
+      c.eval.ensures.value;
+  refused = c.eval.ensures.refused;
+  short = c.eval.ensures.short;
+}

@@ -1,4 +1,4 @@
--- The bytes that were passed are all of the run.
+-- The bytes before `len` are all of the run.
 use Rattle.std.{proofs.Common.{◌≡◌, ◌+◌, ◌-◌, ◌≤◌, length, drop}, specs.List.prefix_len}
 use Rattle.cfgx_syntax.specs.lexing.ByteClasses.{in_run}
 use Rattle.cfgx_syntax.proofs.lexer.bytes.Run.len.Given as goal

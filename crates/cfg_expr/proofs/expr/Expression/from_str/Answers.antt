@@ -1,5 +1,0 @@
-use Rattle.std.proofs.Common.{rules}
-use Rattle.cfg_expr.proofs.expr.Expression.from_str.Goals as goal
-
-pub returns : goal.returns
-returns g c = search rules

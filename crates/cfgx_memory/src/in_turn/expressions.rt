@@ -1,0 +1,199 @@
+//! Calls on an expression and on its condition.
+//!
+//! All predicates get the same answer, and the value has to be that answer.
+use super::texts::is_same_condition;
+use super::verdicts::{check_audit, check_decide_on, check_pick};
+use super::{AllocResult, Outcome};
+use cfg_expr::expr::Condition;
+use cfg_expr::expr::logic::Kleene64;
+use cfg_expr::memory::SmallAllocator;
+use cfg_expr::{Decision, Expression, Predicate};
+use cfgx_testing::checking::value_equals;
+use std::alloc::{AllocError, Global};
+
+// The most predicates of an expression here.
+const MOST_PREDICATES: usize = 100;
+
+/// Makes the call with this name on the expression, or on its condition, and checks its result.
+pub(crate) fn check_expression_call<A: SmallAllocator>(
+    alloc: A,
+    call: &str,
+    expression: &Expression<A>,
+) -> Outcome {
+    match call {
+        "parse" | "from_str" => Ok(true),
+        "try_clone" => check_clone(alloc, expression),
+        "eval" => check_eval(alloc, expression),
+        "eval_lanes" => check_eval_lanes(alloc, expression),
+        "polar_fillings" => check_polar_fillings(alloc, expression),
+        "decide" => check_decide(alloc, expression),
+        "decide_on" => check_decide_on(alloc, expression),
+        "audit" => check_audit(alloc, expression),
+        "pick" => check_pick(alloc, expression.original()),
+        call => check_condition_call(alloc, call, &expression.condition()),
+    }
+}
+
+// Makes the call with this name on the condition, and checks its result.
+fn check_condition_call<A: SmallAllocator>(
+    alloc: A,
+    call: &str,
+    condition: &Condition<'_>,
+) -> Outcome {
+    match call {
+        "Condition::eval" => check_condition_eval(alloc, condition),
+        "Condition::eval_lanes" => check_condition_eval_lanes(alloc, condition),
+        "Condition::polar_fillings" => check_condition_polar_fillings(alloc, condition),
+        "Condition::decide" => check_condition_decide(alloc, condition),
+        _ => Ok(false),
+    }
+}
+
+fn check_clone<A: SmallAllocator>(alloc: A, expression: &Expression<A>) -> Outcome {
+    let copy = expression.try_clone(alloc)?;
+    let is_same = is_same_condition(&copy.condition(), &expression.condition());
+    Ok(copy == *expression && is_same)
+}
+
+// Checks that the value is true and that `asked` of `count` predicates were asked: all, or none if
+// the call was out of memory.
+fn check_value(value: AllocResult<bool>, asked: usize, count: usize) -> Outcome {
+    let wanted = if value.is_ok() { count } else { 0 };
+    if asked == wanted { value } else { Ok(false) }
+}
+
+fn check_eval<A: SmallAllocator>(alloc: A, expression: &Expression<A>) -> Outcome {
+    let mut asked = 0usize;
+    let value = expression.eval(
+        alloc,
+        &mut |_predicate: &Predicate<'_>| {
+            asked = asked.saturating_add(1);
+            true
+        },
+    );
+    check_value(value, asked, expression.predicates().left())
+}
+
+fn check_condition_eval<A: SmallAllocator>(alloc: A, condition: &Condition<'_>) -> Outcome {
+    let mut asked = 0usize;
+    let value = condition.eval(
+        alloc,
+        &mut |_predicate: &Predicate<'_>| {
+            asked = asked.saturating_add(1);
+            true
+        },
+    );
+    check_value(value, asked, condition.predicates().left())
+}
+
+// Returns an answer that is true in one lane, false in another, and unknown in all others.
+fn lanes() -> Kleene64 {
+    Kleene64::new(0b001, 0b010)
+}
+
+fn check_eval_lanes<A: SmallAllocator>(alloc: A, expression: &Expression<A>) -> Outcome {
+    match [lanes(); MOST_PREDICATES].get(..expression.predicates().left()) {
+        Some(answers) => value_equals(expression.eval_lanes(alloc, answers), &lanes()),
+        None => Ok(false),
+    }
+}
+
+fn check_condition_eval_lanes<A: SmallAllocator>(alloc: A, condition: &Condition<'_>) -> Outcome {
+    match [lanes(); MOST_PREDICATES].get(..condition.predicates().left()) {
+        Some(answers) => value_equals(condition.eval_lanes(alloc, answers), &lanes()),
+        None => Ok(false),
+    }
+}
+
+// Whether `filling` consists of `value`, `count` times.
+fn repeats(filling: &[bool], value: bool, count: usize) -> bool {
+    filling.len() == count && !filling.contains(&!value)
+}
+
+// Whether the first filling is all true, and the other one all false.
+fn are_polar(if_true: &[bool], if_false: &[bool], count: usize) -> bool {
+    repeats(if_true, true, count) && repeats(if_false, false, count)
+}
+
+const UNKNOWN: &[Option<bool>] = &[None; MOST_PREDICATES];
+
+// What `polar_fillings` returns.
+type Fillings<A> = AllocResult<Option<(Vec<bool, A>, Vec<bool, A>)>>;
+
+// Checks the fillings of `count` unknown answers: all true, and all false.
+fn check_fillings<A: SmallAllocator>(fillings: &Fillings<A>, count: usize) -> Outcome {
+    match fillings {
+        Ok(Some((if_true, if_false))) => {
+            Ok(are_polar(if_true.as_slice(), if_false.as_slice(), count))
+        }
+        Ok(None) => Ok(false),
+        Err(_) => Err(AllocError),
+    }
+}
+
+fn check_polar_fillings<A: SmallAllocator>(alloc: A, expression: &Expression<A>) -> Outcome {
+    let count = expression.predicates().left();
+    match UNKNOWN.get(..count) {
+        Some(answers) => check_fillings(&expression.polar_fillings(alloc, answers), count),
+        None => Ok(false),
+    }
+}
+
+fn check_condition_polar_fillings<A: SmallAllocator>(
+    alloc: A,
+    condition: &Condition<'_>,
+) -> Outcome {
+    let count = condition.predicates().left();
+    match UNKNOWN.get(..count) {
+        Some(answers) => check_fillings(&condition.polar_fillings(alloc, answers), count),
+        None => Ok(false),
+    }
+}
+
+// Whether the decision over `count` unknown answers is unknown, with the fillings all true and all
+// false.
+fn is_polar<A: SmallAllocator>(decision: &Decision<A>, count: usize) -> bool {
+    match decision {
+        Decision::Unknown { if_true, if_false } => {
+            are_polar(if_true.as_slice(), if_false.as_slice(), count)
+        }
+        Decision::Known(_) => false,
+    }
+}
+
+/// Checks a decision over `count` unknown answers.
+pub(super) fn check_decision<A: SmallAllocator>(
+    decision: &AllocResult<Decision<A>>,
+    count: usize,
+) -> Outcome {
+    match decision {
+        Ok(decision) => Ok(is_polar(decision, count)),
+        Err(_) => Err(AllocError),
+    }
+}
+
+fn check_decide<A: SmallAllocator>(alloc: A, expression: &Expression<A>) -> Outcome {
+    let count = expression.predicates().left();
+    match UNKNOWN.get(..count) {
+        Some(answers) => check_decision(&expression.decide(alloc, answers), count),
+        None => Ok(false),
+    }
+}
+
+// Out of memory, a second call with the same decision must succeed.
+fn check_condition_decide<A: SmallAllocator>(alloc: A, condition: &Condition<'_>) -> Outcome {
+    let count = condition.predicates().left();
+    let Some(answers) = UNKNOWN.get(..count) else {
+        return Ok(false);
+    };
+    let mut decision = Decision::default();
+    let first = condition.decide(alloc, answers, &mut decision);
+    if first.is_err() && condition.decide(alloc, answers, &mut decision).is_err() {
+        return Ok(false);
+    }
+    if is_polar(&decision, count) {
+        first.and(Ok(true))
+    } else {
+        Ok(false)
+    }
+}

@@ -1,0 +1,177 @@
+//! Lists of widths and of families.
+use super::is_made_and_ordered;
+use super::values::EIGHT;
+use crate::in_turn::AllocResult;
+use crate::in_turn::lists::{SORTED, UNSORTED, list_of};
+use cfg_expr::memory::SmallAllocator;
+use cfg_expr::targets::{Families, Family, HasAtomic, HasAtomics};
+use cfgx_targets::list::{Member, SortedList};
+use cfgx_testing::checking::{is_ok_true, prints, value_equals};
+use cfgx_testing::heap::Heap;
+use cfgx_testing::refusing::EVERY;
+use std::alloc::Global;
+
+const POINTER: &[HasAtomic] = &[HasAtomic::Pointer];
+
+// Whether this is the list of `SORTED`.
+fn is_sorted_list<A: SmallAllocator>(global: Global, list: &AllocResult<HasAtomics<A>>) -> bool {
+    match list {
+        Ok(list) => {
+            let is_equal = HasAtomics::<A>::new_const(SORTED) == *list;
+            is_equal
+                && list.as_slice() == SORTED
+                && list.contains(EIGHT)
+                && !list.contains(HasAtomic::IntegerSize(16))
+                && prints(global, list, "{8, ptr}")
+        }
+        Err(_) => false,
+    }
+}
+
+// Whether a list of widths is made right.
+fn makes_widths<A: SmallAllocator>(global: Global, heap: Heap<'_>, alloc: A) -> bool {
+    heap.refuse(0);
+    let list = list_of(alloc, SORTED);
+    heap.refuse(EVERY);
+    is_sorted_list(global, &list)
+}
+
+// Whether two lists of the same widths, one of which were out of order, are equal, and below a third
+// list.
+fn compares_widths<A: SmallAllocator>(heap: Heap<'_>, alloc: A) -> bool {
+    heap.refuse(0);
+    let list = list_of(alloc, SORTED);
+    let same = list_of(alloc, UNSORTED);
+    let above = Ok(HasAtomics::new_const(POINTER));
+    heap.refuse(EVERY);
+    is_made_and_ordered(&list, &same, &above)
+}
+
+// Whether the list contains the family with this name.
+fn contains_named<A: SmallAllocator>(list: &Families<'_, A>, name: &str) -> bool {
+    let family: Family<'_> = match name {
+        "unix" => Family::unix(),
+        "wasm" => Family::wasm(),
+        _ => Family::windows(),
+    };
+    let is_member = list.contains(&family);
+    drop(family);
+    is_member
+}
+
+// Whether a list that borrows the members of `list` equals its copy.
+fn equals_copy_of_borrowed<A: SmallAllocator>(alloc: A, list: &Families<'_, A>) -> bool {
+    let borrowed = Families::new_const(list.as_slice());
+    is_ok_true(value_equals(borrowed.try_clone(alloc), &borrowed))
+}
+
+// Whether this is the list of `unix` and `wasm`.
+fn is_unix_wasm<A: SmallAllocator>(
+    global: Global,
+    alloc: A,
+    list: &AllocResult<Families<'_, A>>,
+) -> bool {
+    match list {
+        Ok(list) => {
+            list.as_slice().len() == 2
+                && equals_copy_of_borrowed(alloc, list)
+                && contains_named(list, "unix")
+                && contains_named(list, "wasm")
+                && !contains_named(list, "windows")
+                && prints(global, list, "{unix, wasm}")
+        }
+        Err(_) => false,
+    }
+}
+
+// Whether a list of families is made right.
+fn makes_families<A: SmallAllocator>(global: Global, heap: Heap<'_>, alloc: A) -> bool {
+    heap.refuse(0);
+    let list = Families::unix_wasm(alloc);
+    heap.refuse(EVERY);
+    is_unix_wasm(global, alloc, &list)
+}
+
+// Whether two lists of the same families are equal, and below a third list.
+fn compares_families<A: SmallAllocator>(heap: Heap<'_>, alloc: A) -> bool {
+    heap.refuse(0);
+    let list = Families::unix_wasm(alloc);
+    let same = Families::unix_wasm(alloc);
+    let above = Families::wasm(alloc);
+    heap.refuse(EVERY);
+    is_made_and_ordered(&list, &same, &above)
+}
+
+// Whether a list that borrows no families is empty.
+fn borrows_no_families() -> bool {
+    let list: Families<'_> = Families::new_const(&[]);
+    list.as_slice().is_empty()
+}
+
+// Whether the list was made and is empty.
+fn is_empty<T: Member, A: SmallAllocator>(list: &AllocResult<SortedList<'_, T, A>>) -> bool {
+    matches!(list, Ok(list) if list.as_slice().is_empty())
+}
+
+// Whether a list of no families is empty.
+fn makes_no_families<A: SmallAllocator>(alloc: A) -> bool {
+    let none: Vec<Family<'_, A>, A> = Vec::new(alloc);
+    is_empty(&Families::new(alloc, none.into_iter()))
+}
+
+// Whether the families are in order.
+fn are_sorted(families: [Family<'_>; 2]) -> bool {
+    let are_sorted = Families::<Global>::is_sorted(&families);
+    drop(families);
+    are_sorted
+}
+
+// Whether widths in order are told from widths out of order.
+fn tells_sorted_widths() -> bool {
+    HasAtomics::<Global>::is_sorted(SORTED) && !HasAtomics::<Global>::is_sorted(UNSORTED)
+}
+
+/// The names of checks.
+pub(super) const LISTS: &str = r#"
+rising families
+falling families
+order of a slice of widths
+list of widths
+lists of widths
+list of no widths
+list of families
+lists of families
+list of no families
+borrowed list of no families
+"#;
+
+// Whether the check with this name passes.
+fn passes<A: SmallAllocator>(global: Global, heap: Heap<'_>, alloc: A, check: &str) -> bool {
+    match check {
+        "rising families" => are_sorted([Family::unix(), Family::wasm()]),
+        "falling families" => !are_sorted([Family::wasm(), Family::unix()]),
+        "order of a slice of widths" => tells_sorted_widths(),
+        "list of widths" => makes_widths(global, heap, alloc),
+        "lists of widths" => compares_widths(heap, alloc),
+        "list of no widths" => is_empty(&list_of(alloc, &[])),
+        "list of families" => makes_families(global, heap, alloc),
+        "lists of families" => compares_families(heap, alloc),
+        "list of no families" => makes_no_families(alloc),
+        "borrowed list of no families" => borrows_no_families(),
+        _ => false,
+    }
+}
+
+/// Whether the check of the row passes, with every growth refused.
+pub(super) fn row_passes<A: SmallAllocator>(
+    global: Global,
+    heap: Heap<'_>,
+    alloc: A,
+    row: &[String],
+) -> bool {
+    let [check] = row else {
+        return false;
+    };
+    heap.refuse(EVERY);
+    passes(global, heap, alloc, check.as_str())
+}

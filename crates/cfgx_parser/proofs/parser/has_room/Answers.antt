@@ -1,5 +1,0 @@
-use Rattle.std.proofs.Common.{rules}
-use Rattle.cfgx_parser.proofs.parser.has_room.Goals as goal
-
-pub returns-in-All : goal.returns-in-All
-returns-in-All c = search rules

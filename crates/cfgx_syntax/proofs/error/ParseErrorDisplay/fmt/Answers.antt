@@ -1,5 +1,0 @@
-use Rattle.std.{proofs.Common.arith, proofs.lemmas.Grind.common_steps}
-use Rattle.cfgx_syntax.proofs.error.ParseErrorDisplay.fmt.Goals as goal
-
-pub returns-clause-writes : goal.returns-clause-writes
-returns-clause-writes g c = grind (arith, common_steps)
