@@ -88,8 +88,7 @@ fn both_find_lanes(
     let value = eval_over_answers(alloc, expression, answers);
     match value {
         Some(lanes) => {
-            lanes_match_digits(lanes, digits)
-                && eval_in_lanes(alloc, expression, answers) == value
+            lanes_match_digits(lanes, digits) && eval_in_lanes(alloc, expression, answers) == value
         }
         None => false,
     }

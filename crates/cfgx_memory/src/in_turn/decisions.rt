@@ -66,7 +66,13 @@ fn decides<A: SmallAllocator>(
 // Whether the condition of the text is decided as wanted, and every block is freed.
 fn decides_text(global: Global, text: &str, answers: &[Answer], wanted: Wanted<'_>) -> bool {
     let heap = empty_heap(global);
-    let is_right = decides(&heap, &heap, &Expression::parse(&heap, text), answers, wanted);
+    let is_right = decides(
+        &heap,
+        &heap,
+        &Expression::parse(&heap, text),
+        answers,
+        wanted,
+    );
     is_right && has_every_block(heap)
 }
 

@@ -64,11 +64,17 @@ macro_rules! predicate {
     };
 }
 
-fn owned_predicate<'a, A: SmallAllocator>(kind: &str, text: String<A>) -> Option<TargetPredicate<'a, A>> {
+fn owned_predicate<'a, A: SmallAllocator>(
+    kind: &str,
+    text: String<A>,
+) -> Option<TargetPredicate<'a, A>> {
     predicate!(kind new text)
 }
 
-fn borrowed_predicate<'a, A: SmallAllocator>(kind: &str, text: &'a str) -> Option<TargetPredicate<'a, A>> {
+fn borrowed_predicate<'a, A: SmallAllocator>(
+    kind: &str,
+    text: &'a str,
+) -> Option<TargetPredicate<'a, A>> {
     predicate!(kind new_const text)
 }
 
@@ -89,7 +95,10 @@ fn check_predicate_copies<'a, A: SmallAllocator>(
 /// Checks predicates of the kind with this name.
 pub(super) fn check_predicate<A: SmallAllocator>(alloc: A, kind: &str, text: &str) -> Outcome {
     let owned_text = String::from_str(alloc, text)?;
-    match (borrowed_predicate(kind, text), owned_predicate(kind, owned_text)) {
+    match (
+        borrowed_predicate(kind, text),
+        owned_predicate(kind, owned_text),
+    ) {
         (Some(borrowed), Some(owned)) => check_predicate_copies(alloc, borrowed, owned),
         _ => Ok(false),
     }

@@ -15,9 +15,7 @@ fn check_condition<A: SmallAllocator>(
     expected: &Parsed,
 ) -> Outcome {
     match (read, expected) {
-        (Ok(condition), Ok(expected)) => {
-            Ok(is_same_condition(condition, &expected.condition()))
-        }
+        (Ok(condition), Ok(expected)) => { Ok(is_same_condition(condition, &expected.condition())) }
         (Err(Failure::Parse(error)), Err(Failure::Parse(expected))) => {
             Ok(is_same_fault(error, expected))
         }

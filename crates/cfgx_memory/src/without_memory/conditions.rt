@@ -103,11 +103,7 @@ fn spell_next(predicates: &mut Predicates<'_>, spellings: &mut Vec<u8>) -> bool 
 
 // Writes the spellings of all predicates. Returns whether `counts` are the numbers that were left
 // before each one.
-fn spell_all(
-    predicates: &mut Predicates<'_>,
-    counts: &[usize],
-    spellings: &mut Vec<u8>,
-) -> bool {
+fn spell_all(predicates: &mut Predicates<'_>, counts: &[usize], spellings: &mut Vec<u8>) -> bool {
     for count in counts {
         if predicates.left() != *count || !spell_next(predicates, spellings) {
             return false;
