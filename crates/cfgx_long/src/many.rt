@@ -6,8 +6,8 @@ use cfgx_testing::answers::eval_in_lanes;
 use cfgx_testing::fillings::each_call_decides;
 use std::alloc::Global;
 
-/// A text, the answers in the order of the questions, and the decision: the value if it is known, or
-/// else the two fillings with which it is true and false.
+/// A text, the answers in the order of the questions, and the decision: the value if it is known,
+/// or else the two fillings with which it is true and false.
 pub(crate) const LARGE: &str = r#"
 any(~a,~100000~) | ~?~100000~ | ~1~100000~ ~0~100000~
 any(~a,~100000~true) | ~?~100000~ | true
@@ -57,8 +57,8 @@ fn values_are(alloc: Global, text: &str, answers: &[Kleene64], wanted: Kleene64)
     )
 }
 
-// Whether the value of `any` is its first member, which is true in lane 1 and false in lane 0, if all
-// others are false in both lanes.
+// Whether the value of `any` is its first member, which is true in lane 1 and false in lane 0, if
+// all others are false in both lanes.
 fn any_is_first_member(alloc: Global, text: &str) -> Option<bool> {
     let first = Kleene64::new(0b10, 0b01);
     let mut answers = vec![in alloc; Kleene64::new(0, 0b11); 100_000].ok()?;

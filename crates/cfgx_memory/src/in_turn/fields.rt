@@ -1,4 +1,5 @@
-//! Copies of fields and predicates. A copy of an owned text takes one growth, and any other none.
+//! Copies of fields and predicates. A copy of an owned text takes one growth. Other copies take
+//! none.
 use super::{AllocResult, Outcome, TryClone, check_copy};
 use cfg_expr::TargetPredicate;
 use cfg_expr::memory::SmallAllocator;
@@ -8,8 +9,8 @@ use cfgx_fields::{
 };
 use cfgx_testing::checking::{is_ok_true, value_equals};
 
-// Checks that a borrowed value and an owned one of the same text equal each other's copies. The copy
-// of the borrowed one takes no memory.
+// Checks that a borrowed value and an owned one of the same text equal each other's copies. The
+// copy of the borrowed one takes no memory.
 fn check_copies<T: PartialEq + Drop>(
     copy_of_borrowed: AllocResult<T>,
     copy_of_owned: AllocResult<T>,

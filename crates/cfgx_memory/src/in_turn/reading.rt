@@ -24,7 +24,7 @@ fn check_condition<A: SmallAllocator>(
     }
 }
 
-/// Checks that reading the text returns `expected`. Out of memory, a second read must.
+/// Checks that reading the text returns `expected`. Out of memory, a second read must return it.
 pub(crate) fn check_read<'t, A: SmallAllocator>(
     reader: &mut ConditionReader<'t, A>,
     text: &'t str,
