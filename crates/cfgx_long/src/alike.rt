@@ -7,7 +7,8 @@ use cfgx_testing::answers::{
 use cfgx_testing::checking::is_ok_true;
 use std::alloc::{AllocError, Global};
 
-/// A text, the number of its predicates, and its values if all answers are true, false, and unknown.
+/// A text, the number of its predicates, and its values if all answers are true, false, and
+/// unknown.
 pub(crate) const ALIKE: &str = r#"
 all() | 0 | 111
 any() | 0 | 000
@@ -62,7 +63,7 @@ fn bool_value_is(
 }
 
 // Whether each call finds the value of the digit, if each of `count` answers is `answer`. A known
-// answer is also a `bool`.
+// answer is also tried as a `bool`.
 fn value_is(
     alloc: Global,
     expression: &Expression,
@@ -88,8 +89,7 @@ fn both_find_lanes(
     let value = eval_over_answers(alloc, expression, answers);
     match value {
         Some(lanes) => {
-            lanes_match_digits(lanes, digits)
-                && eval_in_lanes(alloc, expression, answers) == value
+            lanes_match_digits(lanes, digits) && eval_in_lanes(alloc, expression, answers) == value
         }
         None => false,
     }
@@ -117,8 +117,8 @@ fn values_are(alloc: Global, expression: &Expression, digits: &[u8], count: usiz
     digits.len() == 3 && is_ok_true(lanes_are(alloc, expression, digits, count))
 }
 
-// Whether the values of the text are those of the digits. Returns `None` if the text or the count is
-// faulty.
+// Whether the values of the text are those of the digits. Returns `None` if the text or the count
+// is faulty.
 fn text_has_values(alloc: Global, text: &str, count: &str, digits: &str) -> Option<bool> {
     let count = count.parse::<usize>().ok()?;
     let expression = Expression::parse(alloc, text).ok()?;

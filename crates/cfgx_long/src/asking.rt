@@ -1,5 +1,5 @@
-//! How often each call asks a target: once for each occurrence of a predicate on the target, whatever
-//! the target answers.
+//! How often each call asks a target: once for each occurrence of a predicate on the target,
+//! whatever the target answers.
 use cfg_expr::error::Failure;
 use cfg_expr::expr::TargetMatcher;
 use cfg_expr::targets::{Os, TargetInfo};
@@ -93,7 +93,7 @@ nothing | any(a, feature = "x", key = "unix") | Unknown | 0
 nothing | any(~unix,~100000~) | No | 100000
 nothing | all(~unix,~100000~test) | No | 100000
 nothing | any(~unix,~100000~test) | Unknown | 100000
-// A target that meets every second predicate.
+// The row meets every second predicate of the longer conditions.
 here | target_os = "here" | Yes | 1
 here | target_os = "there" | No | 1
 here | all(target_os = "here", target_os = "there") | No | 2

@@ -73,8 +73,7 @@ any(~a,~100000~) | 100000 | ~not(~100000~a~)~100000~ | 1 | a | 1
 fn is_condition(read: &Result<Condition<'_>, Failure>, text: &str, count: &str) -> bool {
     match read {
         Ok(condition) => {
-            condition.original() == text
-                && yields_count(condition.predicates(), count.parse().ok())
+            condition.original() == text && yields_count(condition.predicates(), count.parse().ok())
         }
         Err(_) => false,
     }

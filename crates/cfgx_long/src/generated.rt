@@ -1,6 +1,7 @@
 //! Ten thousand texts that a generator makes from fixed seeds: tokens in any order, conditions,
 //! damaged conditions, and characters in any order. The print and the spellings of an accepted text
-//! are parsed again, and its values compared. The fault of a refused text lies in the text.
+//! are parsed again, and its values by each call are compared. The fault of a refused text lies in
+//! the text.
 mod agreeing;
 mod making;
 mod numbers;
@@ -67,8 +68,8 @@ fn fault_passes(alloc: Global, error: &ParseError, text: &str) -> Result<bool, A
     Ok(is_inside && printed.as_str().starts_with(original))
 }
 
-// Checks what parsing the text returned. Returns 1 or 0 for an accepted text, and 1 or 0 for one with
-// at least two predicates, or `None` if the check fails.
+// Checks what parsing the text returned. Returns 1 or 0 for an accepted text, and 1 or 0 for one
+// with at least two predicates, or `None` if the check fails.
 fn count_parsed(
     alloc: Global,
     numbers: &mut Numbers,

@@ -38,8 +38,8 @@ fn an_input_has_at_most_sixteen_mebibytes(rt: HostRuntime) {
     }
 }
 
-// The number of line feeds in an input, the byte that replaces the first one, and the output and the
-// status. The length is checked before UTF-8.
+// The number of line feeds in an input, the byte that replaces the first one, and the output and
+// the status. The length is checked before UTF-8.
 const RUNS: &[(usize, u8, (&str, u8))] = &[
     (16_777_217, b'\n', ("input too long\n", 1)),
     (16_777_217, b'\xff', ("input too long\n", 1)),

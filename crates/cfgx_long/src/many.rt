@@ -6,8 +6,8 @@ use cfgx_testing::answers::eval_in_lanes;
 use cfgx_testing::fillings::each_call_decides;
 use std::alloc::Global;
 
-/// A text, the answers in the order of the questions, and the decision: the value if it is known, or
-/// else the two fillings with which it is true and false.
+/// A text, the answers in the order of the questions, and the decision: the value if it is known,
+/// or else the two fillings with which it is true and false.
 pub(crate) const LARGE: &str = r#"
 any(~a,~100000~) | ~?~100000~ | ~1~100000~ ~0~100000~
 any(~a,~100000~true) | ~?~100000~ | true
@@ -48,12 +48,7 @@ fn eval_condition_in_lanes(
 
 // Whether the expression of the text and its condition have this value in lanes. Returns `None` if
 // the text is faulty.
-fn values_are(
-    alloc: Global,
-    text: &str,
-    answers: &[Kleene64],
-    wanted: Kleene64,
-) -> Option<bool> {
+fn values_are(alloc: Global, text: &str, answers: &[Kleene64], wanted: Kleene64) -> Option<bool> {
     let expression = Expression::parse(alloc, text).ok()?;
     let condition = expression.condition();
     Some(
@@ -62,8 +57,8 @@ fn values_are(
     )
 }
 
-// Whether the value of `any` is its first member, which is true in lane 1 and false in lane 0, if all
-// others are false in both lanes.
+// Whether the value of `any` is its first member, which is true in lane 1 and false in lane 0, if
+// all others are false in both lanes.
 fn any_is_first_member(alloc: Global, text: &str) -> Option<bool> {
     let first = Kleene64::new(0b10, 0b01);
     let mut answers = vec![in alloc; Kleene64::new(0, 0b11); 100_000].ok()?;

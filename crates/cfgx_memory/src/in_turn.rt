@@ -36,11 +36,11 @@ type Outcome = AllocResult<bool>;
 enum Call<'a> {
     /// The lexer reads this text.
     Lex(&'a str),
-    /// A reader reads this text. Parsing it elsewhere returned this.
+    /// A reader reads this text, for which parsing elsewhere returned this.
     Read(&'a str, &'a Parsed),
-    /// The call with this name gets this text. Parsing it elsewhere returned this.
+    /// The call with this name gets this text, for which parsing elsewhere returned this.
     Text(&'a str, &'a str, &'a Parsed),
-    /// The program runs with these words and ends so.
+    /// The program runs with these words and has this ending.
     Run(&'a [&'a str], &'a Ending<'a>),
     /// The call with this name, one of the table `CALLS`, gets this text.
     Other(&'a str, &'a str),

@@ -1,8 +1,8 @@
 //! Calls that take no memory, with every growth refused: each returns its usual result and asks for
 //! no growth.
 //!
-//! What a call gets is made with memory first. A check takes the allocator twice: as `heap`, which it
-//! has refuse, and as `alloc`, in which it makes the call.
+//! What a call gets is made with memory first. A check takes the allocator twice: as `heap`, to set
+//! which growths it refuses, and as `alloc`, to make the call.
 mod conditions;
 mod faults;
 mod lists;

@@ -41,8 +41,8 @@ fn lane_of_each(alloc: Global, answers: &[Kleene64], i: usize) -> Result<Vec<Ans
     Ok(lane)
 }
 
-// Returns whether `eval` finds `value` in all lanes at once, and each call finds it in the first lane,
-// in the last one, and in two between them.
+// Returns whether `eval` finds `value` in all lanes at once, and each call finds it in the first
+// lane, in the last one, and in two between them.
 fn value_is(
     alloc: Global,
     expression: &Expression,

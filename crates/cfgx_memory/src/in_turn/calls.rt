@@ -10,9 +10,9 @@ use cfgx_testing::checking::is_ok_true;
 use cfgx_testing::heap::{empty_heap, has_every_block};
 use std::alloc::Global;
 
-/// The kind of a value and its name, how many growths the call takes, and the texts from which the
-/// value is made, or what it prints. Growths are refused in turn, of which there are `some` if the
-/// row does not say how many. A call that is made `once` has none refused.
+/// The kind of a value and its name, the number of growths, and the texts from which the value is
+/// made, or what it prints. Each growth is refused in turn. The number can be `some`, for at least
+/// one, or `once`: then the call is made once, with no growth refused.
 pub(super) const CALLS: &str = r#"
 // The owned text and its copy take a growth each, and the borrowed text and its copy none.
 field triple | 2 | \u{e9} | a text of seventeen | ~v~100000~
@@ -83,8 +83,8 @@ fn passes_once(global: Global, call: &str, text: &str) -> bool {
     is_ok_true(check_call(global, &heap, call, text)) & has_every_block(heap)
 }
 
-// Whether the call passes its check with each growth refused in turn, and takes the growths that the
-// row says.
+// Whether the call passes its check with each growth refused in turn, and takes the growths that
+// the row says.
 fn passes(global: Global, call: &str, growths: &str, text: &str) -> bool {
     if growths == "once" {
         return passes_once(global, call, text);

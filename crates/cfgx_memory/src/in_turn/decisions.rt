@@ -10,8 +10,8 @@ use cfgx_testing::fillings::{answers_of, decision_matches};
 use cfgx_testing::heap::{Heap, empty_heap, has_every_block};
 use std::alloc::Global;
 
-/// A text, answers, the decision over them, and how many growths it takes: one for each filling, and
-/// none besides for up to 33 nodes. Deciding the same into this decision takes none.
+/// A text, answers, the decision over them, and its number of growths: one for each filling, and no
+/// other for up to 33 nodes. Deciding the same again in its memory takes none.
 pub(super) const DECISIONS: &str = r#"
 a | 1 | true | 0
 a | ? | 1 0 | 2
@@ -26,8 +26,8 @@ any(a, not(a)) | ?? | 01 10 | 2
 /// The decision of a row, as the row writes it, and its growths.
 type Wanted<'a> = (&'a str, u64);
 
-// Checks a decision that takes `growths` growths, and then the same one into its memory, which takes
-// no more. Both have to match `row`.
+// Checks that deciding takes `growths` growths, and that deciding again in the memory of this
+// decision takes none. Both decisions have to match `row`.
 fn check_decide_twice<A: SmallAllocator>(
     heap: Heap<'_>,
     alloc: A,
@@ -66,7 +66,13 @@ fn decides<A: SmallAllocator>(
 // Whether the condition of the text is decided as wanted, and every block is freed.
 fn decides_text(global: Global, text: &str, answers: &[Answer], wanted: Wanted<'_>) -> bool {
     let heap = empty_heap(global);
-    let is_right = decides(&heap, &heap, &Expression::parse(&heap, text), answers, wanted);
+    let is_right = decides(
+        &heap,
+        &heap,
+        &Expression::parse(&heap, text),
+        answers,
+        wanted,
+    );
     is_right && has_every_block(heap)
 }
 

@@ -1,4 +1,5 @@
-//! Copies of fields and predicates. A copy of an owned text takes one growth, and any other none.
+//! Copies of fields and predicates. A copy of an owned text takes one growth. Other copies take
+//! none.
 use super::{AllocResult, Outcome, TryClone, check_copy};
 use cfg_expr::TargetPredicate;
 use cfg_expr::memory::SmallAllocator;
@@ -8,8 +9,8 @@ use cfgx_fields::{
 };
 use cfgx_testing::checking::{is_ok_true, value_equals};
 
-// Checks that a borrowed value and an owned one of the same text equal each other's copies. The copy
-// of the borrowed one takes no memory.
+// Checks that a borrowed value and an owned one of the same text equal each other's copies. The
+// copy of the borrowed one takes no memory.
 fn check_copies<T: PartialEq + Drop>(
     copy_of_borrowed: AllocResult<T>,
     copy_of_owned: AllocResult<T>,
@@ -64,11 +65,17 @@ macro_rules! predicate {
     };
 }
 
-fn owned_predicate<'a, A: SmallAllocator>(kind: &str, text: String<A>) -> Option<TargetPredicate<'a, A>> {
+fn owned_predicate<'a, A: SmallAllocator>(
+    kind: &str,
+    text: String<A>,
+) -> Option<TargetPredicate<'a, A>> {
     predicate!(kind new text)
 }
 
-fn borrowed_predicate<'a, A: SmallAllocator>(kind: &str, text: &'a str) -> Option<TargetPredicate<'a, A>> {
+fn borrowed_predicate<'a, A: SmallAllocator>(
+    kind: &str,
+    text: &'a str,
+) -> Option<TargetPredicate<'a, A>> {
     predicate!(kind new_const text)
 }
 
@@ -89,7 +96,10 @@ fn check_predicate_copies<'a, A: SmallAllocator>(
 /// Checks predicates of the kind with this name.
 pub(super) fn check_predicate<A: SmallAllocator>(alloc: A, kind: &str, text: &str) -> Outcome {
     let owned_text = String::from_str(alloc, text)?;
-    match (borrowed_predicate(kind, text), owned_predicate(kind, owned_text)) {
+    match (
+        borrowed_predicate(kind, text),
+        owned_predicate(kind, owned_text),
+    ) {
         (Some(borrowed), Some(owned)) => check_predicate_copies(alloc, borrowed, owned),
         _ => Ok(false),
     }

@@ -43,8 +43,8 @@ pub(super) fn widths_below<A: SmallAllocator>(alloc: A, end: u16) -> AllocResult
     HasAtomics::new(alloc, (0..end).map(HasAtomic::IntegerSize))
 }
 
-// Does what `check_copy` does, which cannot be called: the borrow checker takes no `'static` list as
-// an argument of a function of any type.
+// Does what `check_copy` does, which cannot be called: the borrow checker takes no `'static` list
+// as an argument of a function of any type.
 fn check_copy_of_widths<A: SmallAllocator>(alloc: A, list: &HasAtomics<A>) -> Outcome {
     let outcome = value_equals(list.try_clone(alloc), list);
     if outcome.is_ok() || is_ok_true(value_equals(list.try_clone(alloc), list)) {

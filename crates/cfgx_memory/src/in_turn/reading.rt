@@ -15,9 +15,7 @@ fn check_condition<A: SmallAllocator>(
     expected: &Parsed,
 ) -> Outcome {
     match (read, expected) {
-        (Ok(condition), Ok(expected)) => {
-            Ok(is_same_condition(condition, &expected.condition()))
-        }
+        (Ok(condition), Ok(expected)) => { Ok(is_same_condition(condition, &expected.condition())) }
         (Err(Failure::Parse(error)), Err(Failure::Parse(expected))) => {
             Ok(is_same_fault(error, expected))
         }
@@ -26,7 +24,7 @@ fn check_condition<A: SmallAllocator>(
     }
 }
 
-/// Checks that reading the text returns `expected`. Out of memory, a second read must.
+/// Checks that reading the text returns `expected`. Out of memory, a second read must return it.
 pub(crate) fn check_read<'t, A: SmallAllocator>(
     reader: &mut ConditionReader<'t, A>,
     text: &'t str,

@@ -37,10 +37,7 @@ fn own_optional_field<'a, K: Drop, A: SmallAllocator>(
 }
 
 // Makes the row own all its texts and lists. If one is refused, the others are still replaced.
-fn own_row<'a, A: SmallAllocator + 'a>(
-    alloc: A,
-    row: &mut TargetInfo<'a, A>,
-) -> AllocResult<()> {
+fn own_row<'a, A: SmallAllocator + 'a>(alloc: A, row: &mut TargetInfo<'a, A>) -> AllocResult<()> {
     let parts = [
         own_field(alloc, &mut row.triple),
         own_field(alloc, &mut row.arch),
@@ -60,10 +57,7 @@ fn own_row<'a, A: SmallAllocator + 'a>(
 }
 
 // Makes the row own all, and checks its copy.
-fn check_owned_row<'a, A: SmallAllocator + 'a>(
-    alloc: A,
-    row: &mut TargetInfo<'a, A>,
-) -> Outcome {
+fn check_owned_row<'a, A: SmallAllocator + 'a>(alloc: A, row: &mut TargetInfo<'a, A>) -> Outcome {
     own_row(alloc, row)?;
     check_copy(alloc, row)
 }
@@ -84,7 +78,11 @@ where
 // Checks the copy of the row, and the copy of this copy once it owns all.
 fn check_row<'a, A: SmallAllocator + 'a>(alloc: A, row: &TargetInfo<'a, A>) -> Outcome {
     let borrowed = check_copy(alloc, row);
-    let owned = check_copied(row, row.try_clone(alloc), |copy| check_owned_row(alloc, copy));
+    let owned = check_copied(
+        row,
+        row.try_clone(alloc),
+        |copy| check_owned_row(alloc, copy),
+    );
     combine(&[borrowed, owned])
 }
 

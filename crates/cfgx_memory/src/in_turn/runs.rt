@@ -49,7 +49,8 @@ pub(super) fn check_run<A: SmallAllocator>(
     check_ending(&run_over(global, alloc, words, ending.0), ending)
 }
 
-// Refuses each growth of the run in turn. Returns how many there are, or 0 if it ends otherwise.
+// Refuses each growth of the run in turn. Returns how many there are, or 0 if a run does not end as
+// `ending` says.
 fn run_growths(global: Global, words: &[&str], ending: &Ending<'_>) -> u64 {
     refuse_each_growth(global, Call::Run(words, ending)).unwrap_or(0)
 }
@@ -80,8 +81,8 @@ in turns | 2 | target | nowhere | key)
 // A wide run and a deep one.
 in turns | 0 | eval | any(~a,~100~) | ?any(~b,~100~)
 in turns | 0 | target | aarch64-apple-tvos | ~not(~40~a~)~40~
-// The table of targets takes a block for its rows, and one for each of their lists that has members.
-// The text is not read. The output stands before the words.
+// The table of targets takes a block for its rows, and one for each of their lists that has
+// members. The text is not read. The output stands before the words.
 table alone | 2 | unknown triple\n | target | nowhere | any(~a,~100~)
 pick | 0 | SECTIONS | VERDICTS
 pick | 1 | x | line 1: no tab\n
@@ -131,7 +132,8 @@ fn ends_without_memory(global: Global, words: &[&str], status: u8) -> bool {
     is_right && has_every_block(heap)
 }
 
-// Counts the blocks of a table with these rows, which are made as the built-in ones are.
+// Counts the blocks of a table with these rows: one for the rows, and one for each list that has
+// members.
 fn blocks_of_table(rows: &[TargetInfo<'_>]) -> u64 {
     let mut blocks = 1u64;
     for row in rows {
@@ -142,8 +144,8 @@ fn blocks_of_table(rows: &[TargetInfo<'_>]) -> u64 {
     blocks
 }
 
-// Whether a run takes as many growths as the table of built-in targets has blocks. Its output stands
-// before its words.
+// Whether a run takes as many growths as the table of built-in targets has blocks. Its output
+// stands before its words.
 fn takes_table_alone(global: Global, status: u8, fields: &[&str]) -> bool {
     match (fields, TargetTable::builtins(global)) {
         ([output, words @ ..], Ok(table)) => {
@@ -154,8 +156,8 @@ fn takes_table_alone(global: Global, status: u8, fields: &[&str]) -> bool {
     }
 }
 
-// Refuses each growth of a run of `pick` in turn. Returns how many there are, or 0 if it ends
-// otherwise.
+// Refuses each growth of a run of `pick` in turn. Returns how many there are, or 0 if a run does
+// not end with this status and the output of the row.
 fn pick_growths(global: Global, status: u8, fields: &[&str]) -> u64 {
     match fields {
         [input, output] => {

@@ -29,7 +29,8 @@ pub(super) fn parse_with_memory<A: SmallAllocator>(
     parsed
 }
 
-// Whether the expression equals `other` or not, and so do their predicates, as `wanted` says.
+// Compares the expression with `other`, and their predicates. Returns whether the two results are
+// `wanted`.
 fn equality_is<A: SmallAllocator>(
     expression: &Expression<A>,
     other: &Parsed<A>,
@@ -44,7 +45,8 @@ fn equality_is<A: SmallAllocator>(
     }
 }
 
-// Whether the expression equals that of `TEXT` or not, and so do their predicates, as `wanted` says.
+// Compares the expression with that of `TEXT`, and their predicates. Returns whether the two
+// results are `wanted`.
 fn equality_with_text_is<A: SmallAllocator>(
     heap: Heap<'_>,
     alloc: A,
@@ -103,11 +105,7 @@ fn spell_next(predicates: &mut Predicates<'_>, spellings: &mut Vec<u8>) -> bool 
 
 // Writes the spellings of all predicates. Returns whether `counts` are the numbers that were left
 // before each one.
-fn spell_all(
-    predicates: &mut Predicates<'_>,
-    counts: &[usize],
-    spellings: &mut Vec<u8>,
-) -> bool {
+fn spell_all(predicates: &mut Predicates<'_>, counts: &[usize], spellings: &mut Vec<u8>) -> bool {
     for count in counts {
         if predicates.left() != *count || !spell_next(predicates, spellings) {
             return false;
@@ -133,8 +131,8 @@ fn value_in_lane(lanes: Kleene64, lane: usize) -> Option<bool> {
     if lane < 64 { lanes.lane(lane) } else { None }
 }
 
-// Whether the row of the simulator is the only one that meets the predicate, one by one and in
-// lanes.
+// Whether the row of the simulator is the only one that meets the predicate, by `matches` and by
+// `lanes`.
 fn only_simulator_meets<A: SmallAllocator>(
     predicate: &TargetPredicate<'_>,
     rows: &[TargetInfo<'_, A>],

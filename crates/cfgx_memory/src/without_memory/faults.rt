@@ -27,7 +27,8 @@ fn is_token<A: Allocator>(item: &Item<'_, A>, token: Token<'_>, span: &Range<usi
     }
 }
 
-// Whether the next item of the lexer is this token with this span, and at most `bound` items follow.
+// Whether the next item of the lexer is this token with this span, and at most `bound` items
+// follow.
 fn next_is<A: Allocator>(
     lexer: &mut Lexer<'_, A>,
     token: Token<'_>,

@@ -36,8 +36,7 @@ fn makes_widths<A: SmallAllocator>(global: Global, heap: Heap<'_>, alloc: A) -> 
     is_sorted_list(global, &list)
 }
 
-// Whether two lists of the same widths, one of which were out of order, are equal, and below a third
-// list.
+// Whether the lists of `SORTED` and `UNSORTED` are equal, and below a third list.
 fn compares_widths<A: SmallAllocator>(heap: Heap<'_>, alloc: A) -> bool {
     heap.refuse(0);
     let list = list_of(alloc, SORTED);
@@ -126,7 +125,7 @@ fn are_sorted(families: [Family<'_>; 2]) -> bool {
     are_sorted
 }
 
-// Whether widths in order are told from widths out of order.
+// Whether `is_sorted` tells widths in order from widths out of order.
 fn tells_sorted_widths() -> bool {
     HasAtomics::<Global>::is_sorted(SORTED) && !HasAtomics::<Global>::is_sorted(UNSORTED)
 }

@@ -36,8 +36,8 @@ fn copy_builtin_rows<'a, A: SmallAllocator + 'a>(alloc: A, triples: &[&str]) -> 
     copy_rows(alloc, &table, triples)
 }
 
-/// Copies the built-in rows with these triples, in this order, with memory. Every growth after it is
-/// refused.
+/// Copies the built-in rows with these triples, in this order, with memory. Every growth after it
+/// is refused.
 pub(super) fn rows_with_memory<'a, A: SmallAllocator + 'a>(
     heap: Heap<'_>,
     alloc: A,
@@ -63,8 +63,8 @@ fn are_ordered_rows<A: SmallAllocator>(rows: &[TargetInfo<'_, A>]) -> bool {
     matches!(rows, [one, same, above] if is_ordered(one, same, above))
 }
 
-// Whether a table of the rows with these three triples is refused at `index`, or made if that is
-// `None`, and the rows are ordered or not, as `are_ordered` says.
+// Makes a table of the rows with these three triples. Returns whether it is refused at `index`, or
+// made if `index` is `None`, and whether `are_ordered_rows` returns `are_ordered` for the rows.
 fn table_is<A: SmallAllocator>(
     heap: Heap<'_>,
     alloc: A,
@@ -86,7 +86,7 @@ fn has_triple<A: SmallAllocator>(table: &TargetTable<'_, A>, triple: &str) -> bo
     }
 }
 
-// Whether rows of the table are found by their triples, and no row by the beginning of one.
+// Whether rows of the table are found by their triples, and no row by a prefix of its triple.
 fn finds_rows<A: SmallAllocator>(table: &AllocResult<TargetTable<'_, A>>) -> bool {
     match table {
         Ok(table) => {
