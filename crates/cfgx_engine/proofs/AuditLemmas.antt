@@ -6,7 +6,7 @@ use Rattle.std.proofs.lemmas.Option.{slice_get_cases, slice_get_within}
 use Rattle.cfgx_syntax.specs.Kleene.{EachLane, Planes, lane}
 use Rattle.cfgx_grammar.specs.{Answer.HasOneTree, Tree.asked, Filling.three_valued, Fold.tree_fold}
 use Rattle.cfgx_grammar.{specs.Question.{Question, TargetQuestion}, proofs.Answering.only_tree}
-use Rattle.cfgx_engine.specs.answering.InLanes.{InLanes, lane_verdicts}
+use Rattle.cfgx_engine.specs.internal.InLanes.{InLanes, lane_verdicts}
 use Rattle.cfgx_engine.specs.Verdicts.{IsVerdict, answer_by, verdict_of}
 use Rattle.cfgx_engine.{specs.declared.resolve.Verdict.Verdict, proofs.VerdictLemmas.IsVerdict-by}
 

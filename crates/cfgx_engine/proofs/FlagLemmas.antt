@@ -8,8 +8,8 @@ use Rattle.std.proofs.{lemmas.List.Elements.recursion_from_All, lemmas.Slice.Eq.
 use Rattle.cfgx_syntax.specs.Stripping.{strip}
 use Rattle.cfgx_syntax.specs.{Error.TextFault, Error.failure_of, declared.error.Failure.Failure}
 use Rattle.cfgx_grammar.specs.{Question.Question, Tree.Tree, Answer.HasOneTree}
-use Rattle.cfgx_engine.specs.answering.ReadsFlags.{AddsFlag, AreFlags}
-use Rattle.cfgx_engine.specs.answering.Shows.{Fails}
+use Rattle.cfgx_engine.specs.internal.ReadsFlags.{AddsFlag, AreFlags}
+use Rattle.cfgx_engine.specs.internal.Shows.{Fails}
 use Rattle.cfgx_engine.specs.{Flags.{flag_text, unknown_text}, Readings.{GivesAll, ParsesAs}}
 use Rattle.cfgx_engine.proofs.ReadingLemmas.{first_fails, later_fails}
 use Rattle.cfgx_engine.specs.{Request.texts, declared.engine.flags.Flags.Flags}

@@ -5,7 +5,7 @@ use Rattle.cfgx_syntax.specs.Stripping.{strip}
 use Rattle.cfgx_syntax.specs.{Error.TextFault, Error.failure_of, declared.error.Failure.Failure}
 use Rattle.cfgx_syntax.specs.declared.error.Failure.TheVariants as failure
 use Rattle.cfgx_grammar.specs.Answer.{Answers}
-use Rattle.cfgx_engine.specs.answering.Shows.{Fails, FitsResult, ShowsResult}
+use Rattle.cfgx_engine.specs.internal.Shows.{Fails, FitsResult, ShowsResult}
 use Rattle.cfgx_engine.specs.{Output.Output, Output.result_output, Readings.ParsesAs}
 
 -- a failure of parsing is what the text is read as

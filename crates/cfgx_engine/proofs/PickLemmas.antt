@@ -3,7 +3,7 @@ use Rattle.std.proofs.Common.{sym, ◌≡◌, ◌++◌, ℕ, Bool, List, [], ref
 use Rattle.std.proofs.Common.{None, Ok, arith, length, length-append, append-nil, ◌<◌}
 use Rattle.std.specs.Io.KnownBytes.{Consumes, IsAtEnd, Keeps}
 use Rattle.cfgx_grammar.specs.Question.{Question}
-use Rattle.cfgx_engine.specs.{answering.ReadsMore.PicksFrom, Output.Output}
+use Rattle.cfgx_engine.specs.{internal.ReadsMore.PicksFrom, Output.Output}
 use Rattle.cfgx_engine.specs.declared.engine.reading.Input.{Input}
 use Rattle.cfgx_engine.specs.declared.engine.reading.Input.TheVariants as input
 use Rattle.cfgx_engine.specs.Input.{ReadsInput, input_limit}

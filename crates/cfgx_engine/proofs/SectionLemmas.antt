@@ -7,7 +7,7 @@ use Rattle.std.specs.{Prelude.string_bytes, Str.Iter.split_steps, Str.Lines.stri
 use Rattle.cfgx_grammar.specs.{Question.Question, Tree.Tree}
 use Rattle.cfg_expr.specs.{Deciding.IsDecision, declared.expr.Decision.Decision}
 use Rattle.cfg_expr.specs.declared.expr.Decision.TheVariants as decision
-use Rattle.cfgx_engine.specs.answering.AddsLine.{Tells, decision_text}
+use Rattle.cfgx_engine.specs.internal.AddsLine.{IfMessage, decision_text}
 use Rattle.cfgx_engine.specs.{declared.engine.sections.LineError.LineError, Input.input_limit}
 use Rattle.cfgx_engine.specs.{Output.Output, Output.faulty_output, Readings.GivesAll}
 use Rattle.cfgx_engine.proofs.ReadingLemmas.{first_fails, later_fails}
@@ -39,15 +39,15 @@ module _ (answer : Question → Option Bool) (number : ℕ) (line : Line) {piece
   PrintsRest-more shown prints (Ok printed, rest, is) =
       let one = rw is_line at prints in
       rw are (Ok (text ∷ printed), (one, rest), rw append_assoc at is)
-  PrintsRest-more shown prints (Err told, rest, is) =
+  PrintsRest-more shown prints (Err message, rest, is) =
       let one = rw is_line at prints in
-      rw are (Err told, later_fails (PrintsLine answer) _ text _ told one rest, is)
+      rw are (Err message, later_fails (PrintsLine answer) _ text _ message one rest, is)
 
   -- the line is faulty
-  pub PrintsRest-told : (shown : Output) → PrintsLine answer (number, line) (Err text)
+  pub PrintsRest-fault : (shown : Output) → PrintsLine answer (number, line) (Err text)
       → shown ≡ faulty_output text
       → PrintsRest answer number (map line_of (map strip_carriage_return pieces)) front shown
-  PrintsRest-told shown prints is =
+  PrintsRest-fault shown prints is =
       let one = rw is_line at prints in
       rw are (Err text, first_fails (PrintsLine answer) _ _ text one, is)
 
@@ -94,8 +94,8 @@ verdict_lines-decision tree answers (decision.Unknown if_true if_false) is =
     rw (is.0, is.1, is.2) refl
 
 -- a message of which more is known
-pub Tells-weaker : {A : Type 0} (This That : List ℕ → Type 0) (failed : LineError A)
-    → ((text : List ℕ) → This text → That text) → Tells {A = A} This failed
-    → Tells {A = A} That failed
-Tells-weaker This That (line_error.Faulty text) weaker tells = weaker (string_bytes text) tells
-Tells-weaker This That (line_error.Memory error) weaker tells = tt
+pub IfMessage-weaker : {A : Type 0} (This That : List ℕ → Type 0) (failed : LineError A)
+    → ((text : List ℕ) → This text → That text) → IfMessage {A = A} This failed
+    → IfMessage {A = A} That failed
+IfMessage-weaker This That (line_error.Faulty text) weaker tells = weaker (string_bytes text) tells
+IfMessage-weaker This That (line_error.Memory error) weaker tells = tt

@@ -14,4 +14,4 @@ invariant-loop-filled g l = record {
 }
 
 abbrev pub decreases-loop-filled : goal.decreases-loop-filled
-decreases-loop-filled g l = 16777216 + 1 - l.filled
+decreases-loop-filled g l = input_limit + 1 - l.filled

@@ -10,6 +10,6 @@ added_in_steps old text one two between after new first second third =
 pub returns-in_ok-push_filling-in-Unknown-2 : goal.returns-in_ok-push_filling-in-Unknown-2
 returns-in_ok-push_filling-in-Unknown-2 g c =
     rw (c.in-Unknown.is, ← c.as_slice.ensures.value, ← c.as_slice-in-Unknown.ensures.value)
-    (added_in_steps c.args.written.now.items (codes "\tunknown\n") _ _ _ _ _
+    (added_in_steps c.args.printed.now.items (codes "\tunknown\n") _ _ _ _ _
     c.in_ok-extend_from_slice-in-Unknown.ensures.items c.in_ok-push_filling-in-Unknown.ensures
     c.in_ok-push_filling-in-Unknown-2.ensures)

@@ -1,5 +1,5 @@
 use Rattle.std.proofs.Common.{take}
-use Rattle.cfgx_engine.specs.{answering.ReadsFlags.AreFlags, Request.texts}
+use Rattle.cfgx_engine.specs.{internal.ReadsFlags.AreFlags, Request.texts}
 use Rattle.cfgx_engine.proofs.engine.flags.Flags.parse.Given as goal
 
 -- the flags of the words that were passed
