@@ -64,7 +64,7 @@ fn ask_each<A: SmallAllocator, M: TargetMatcher>(
 }
 
 /// Replaces `answers` by the answers of `matcher` to the predicates of the condition, and
-/// `decision` by what they decide. Both keep their memory.
+/// `decision` by what they decide. The memory of both is reused.
 pub(crate) fn decide_into<A: SmallAllocator, M: TargetMatcher>(
     alloc: A,
     condition: &Condition<'_>,

@@ -6,13 +6,13 @@ use Rattle.cfgx_grammar.specs.Question.{Question, TargetQuestion}
 use Rattle.cfgx_engine.specs.Verdicts.{answer_by, verdict_of}
 use Rattle.cfgx_engine.specs.declared.resolve.Verdict.{Verdict}
 
--- the lane of each target has its answer to the question
+-- the lane of each target holds its answer to the question
 abbrev pub InLanes : {M : Type 0} → (M → TargetQuestion → Bool) → List M → Question → Planes
     → Type 0
 InLanes {M = M} answer targets question planes = (i : ℕ) (target : M)
     → slice_get targets i ≡ Some target → lane i planes ≡ answer_by (answer target) question
 
--- the verdicts in the first lanes, as many as the number says
+-- the verdicts in the first `n` lanes
 abbrev pub lane_verdicts : ℕ → Planes → List Verdict
 lane_verdicts zero planes = []
 lane_verdicts (suc n) planes = lane_verdicts n planes ++ verdict_of (lane n planes) ∷ []

@@ -21,7 +21,7 @@ command_request command.WrongUse = Request.wrong_use
 abbrev pub output_view : {A : Type 0} → CodeOutput A → Output
 output_view output = record { bytes = cow_slice_items output.bytes; status = output.status }
 
--- the output of a fault. A failure without a fault, which is out of memory, has no output
+-- the output of a failure. Out of memory it has none
 abbrev pub ShowsFailure : {A : Type 0} → Failure A → Output → Type 0
 ShowsFailure failed output = IsSomeAnd (failure_of failed) (λ fault. output ≡ fault_output fault)
 
