@@ -66,18 +66,30 @@ impl<A: SmallAllocator> Flags<A> {
     }
 }
 
-/// Whether one of `flags` names `predicate`.
+/// Whether one of `flags` names `predicate`. Inlined, since it is called twice for each predicate,
+/// usually with at most one flag.
+#[inline(always)]
 fn is_named<A: SmallAllocator>(flags: &[Expression<A>], predicate: &Predicate<'_>) -> bool
     ensures { IsTrue result ↔ IsNamed flags.now (question_of predicate.now) }
 {
-    flags.iter().any(|flag| names(flag, predicate))
+    for flag in flags {
+        if names(flag, predicate) {
+            return true;
+        }
+    }
+    false
 }
 
 /// Whether `flag` names `predicate`.
 fn names<A: SmallAllocator>(flag: &Expression<A>, predicate: &Predicate<'_>) -> bool
     ensures { IsTrue result ↔ Names flag.now (question_of predicate.now) }
 {
-    flag.predicates().any(|named| named == *predicate)
+    for named in flag.predicates() {
+        if named == *predicate {
+            return true;
+        }
+    }
+    false
 }
 
 /// Evaluates `text` with the flags in `words`. The text is parsed before the flags.

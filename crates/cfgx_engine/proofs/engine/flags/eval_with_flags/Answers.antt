@@ -1,4 +1,4 @@
--- Each call answers as the flags do, and leaves them.
+-- Each call returns the answer of the flags, and leaves them.
 use Rattle.std.proofs.Common.{◌≡◌, ◌∷◌, ap, refl, rules, Ok, Err}
 use Rattle.std.proofs.{lemmas.Option.IfSome_then, lemmas.Result.err_from_is_err_and}
 use Rattle.cfg_expr.proofs.Chains.{Calls-AllZip}
