@@ -6,7 +6,7 @@ use Rattle.cfgx_grammar.specs.Question.{Question}
 use Rattle.cfgx_engine.specs.{internal.ReadsMore.PicksFrom, Output.Output}
 use Rattle.cfgx_engine.specs.declared.engine.reading.Input.{Input}
 use Rattle.cfgx_engine.specs.declared.engine.reading.Input.TheVariants as input
-use Rattle.cfgx_engine.specs.Input.{ReadsInput, input_limit}
+use Rattle.cfgx_engine.specs.Input.{ReadsFront, ReadsInput, input_limit}
 use Rattle.cfgx_engine.specs.{Prints.PicksInput, Prints.Prints, Prints.PrintsInput, Request.Request}
 
 -- what was read is a front of what a source holds, if it tells its bytes, and all of it at the end
@@ -15,6 +15,13 @@ source_held : (old new : Option (List ℕ)) (front : List ℕ) → Consumes old 
 source_held None new front consumed = ([], tt, λ ended. refl)
 source_held (Some all) None front consumed = absurd consumed
 source_held (Some all) (Some left) front consumed = (left, sym consumed, λ ended. ended)
+
+-- of an input that was read, a prefix was read
+pub ReadsFront-read : {A : Type 0} (old new : Option (List ℕ)) (given : Input A)
+    → ReadsInput {A = A} old new (Ok given) → ReadsFront old new
+ReadsFront-read old new (input.Bytes bytes) reads =
+    (bytes.items, omega (arith, reads.0), reads.1)
+ReadsFront-read old new input.TooLong reads = (reads.0, omega (arith, reads.1), reads.2)
 
 -- what is written of an input that was read is what is written of what the source source_held
 pub PicksInput-read : {A : Type 0} (answer : Question → Option Bool) (old new : Option (List ℕ))

@@ -18,12 +18,21 @@ use std::alloc::{AllocError, Global};
 
 /// A section of a manifest, which counts if its condition is true.
 #[derive_where(Debug)]
-#[derive(Drop)]
 pub struct Section<A: SmallAllocator = Global> {
     /// The name
     pub name: String<A>,
     /// The condition
     pub condition: Expression<A>,
+}
+
+// A derived `Drop` would have to hold for any allocator, and that of an expression is small.
+impl<A: SmallAllocator> Drop for Section<A> {
+    fn drop(self) {
+        let Section {
+            name: _name,
+            condition: _condition,
+        } = self;
+    }
 }
 
 /// Whether a section counts on a target.

@@ -1,8 +1,12 @@
 // The value of a text with the flags of `eval`, which name true and unknown predicates.
+//
+// `is_same` takes a predicate by value: with the drop in the loop of `names`, the proof would go over
+// all kinds of predicates.
 
 ghost use Rattle.std.specs.Prelude.{◌≡◌, ◌↔◌, Err, IfErr, IsTrue, OnOk};
 ghost use Rattle.cfgx_grammar.specs.Answer.{Answers};
 ghost use Rattle.cfgx_parser.specs.Predicate.{question_of};
+ghost use Rattle.cfgx_syntax.specs.Stripping.{strip};
 ghost use Rattle.cfgx_engine.specs.Flags.{flag_text, IsAnswer, IsNamed, Names};
 ghost use Rattle.cfgx_engine.specs.internal.ReadsFlags.{AddsFlag, ReadsFlags};
 ghost use Rattle.cfgx_engine.specs.internal.Shows.{Fails, FitsResult};
@@ -14,14 +18,81 @@ use cfg_expr::error::Failure;
 use cfg_expr::expr::ConditionReader;
 use cfg_expr::memory::SmallAllocator;
 use cfg_expr::{Expression, Predicate};
+use std::marker::Model;
 
-/// The flags, parsed.
+/// A parsed flag, which names the predicates of its text. Contracts see the text.
+struct Flag<A: SmallAllocator> {
+    expression: Expression<A>,
+}
+
+// A derived `Drop` would have to hold for any allocator, and that of an expression is small.
+impl<A: SmallAllocator> Drop for Flag<A> {
+    fn drop(self) {
+        let Flag {
+            expression: _expression,
+        } = self;
+    }
+}
+
+impl<A: SmallAllocator> Model for Flag<A> {
+    ghost use Rattle.std.specs.Prelude.{List, ℕ};
+
+    ghost Value = { List ℕ };
+
+    ghost view = { λ flag. flag.expression };
+}
+
+impl<A: SmallAllocator> Flag<A> {
+    /// Parses the text of a flag.
+    fn parse(alloc: A, text: &str) -> Result<Flag<A>, Failure<A>>
+        ensures { Answers (strip text.now) result }
+    {
+        Ok(Flag {
+            expression: Expression::parse(alloc, text)?,
+        })
+    }
+
+    /// Whether this flag names `predicate`.
+    fn names(&self, predicate: &Predicate<'_>) -> bool
+        ensures { IsTrue result ↔ Names self.now (question_of predicate.now) }
+    {
+        for named in self.expression.predicates() {
+            if is_same(named, predicate) {
+                return true;
+            }
+        }
+        false
+    }
+}
+
+/// Whether a flag names `asked` by `named`.
+fn is_same(named: Predicate<'_>, asked: &Predicate<'_>) -> bool
+    ensures { IsTrue result ↔ (question_of named.entry ≡ question_of asked.now) }
+{
+    named == *asked
+}
+
+/// Whether one of `flags` names `predicate`. Inlined, since it is called twice for each predicate,
+/// usually with at most one flag.
+#[inline(always)]
+fn is_named<A: SmallAllocator>(flags: &[Flag<A>], predicate: &Predicate<'_>) -> bool
+    ensures { IsTrue result ↔ IsNamed flags.now (question_of predicate.now) }
+{
+    for flag in flags {
+        if flag.names(predicate) {
+            return true;
+        }
+    }
+    false
+}
+
+/// The flags of `eval`, parsed.
 #[derive(Drop)]
 struct Flags<A: SmallAllocator> {
-    /// Those that name true predicates
-    known: Vec<Expression<A>, A>,
-    /// Those that name unknown predicates
-    unknown: Vec<Expression<A>, A>,
+    /// The flags that name true predicates
+    known: Vec<Flag<A>, A>,
+    /// The flags that name unknown predicates
+    unknown: Vec<Flag<A>, A>,
 }
 
 impl<A: SmallAllocator> Flags<A> {
@@ -45,8 +116,8 @@ impl<A: SmallAllocator> Flags<A> {
         ensures err { IfErr result (Fails (λ fault. ParsesAs (flag_text word.now) (Err fault))) }
     {
         match word.strip_prefix('?') {
-            Some(text) => self.unknown.push(Expression::parse(alloc, text)?)?,
-            None => self.known.push(Expression::parse(alloc, word)?)?,
+            Some(text) => self.unknown.push(Flag::parse(alloc, text)?)?,
+            None => self.known.push(Flag::parse(alloc, word)?)?,
         }
         Ok(())
     }
@@ -64,32 +135,6 @@ impl<A: SmallAllocator> Flags<A> {
             Some(false)
         }
     }
-}
-
-/// Whether one of `flags` names `predicate`. Inlined, since it is called twice for each predicate,
-/// usually with at most one flag.
-#[inline(always)]
-fn is_named<A: SmallAllocator>(flags: &[Expression<A>], predicate: &Predicate<'_>) -> bool
-    ensures { IsTrue result ↔ IsNamed flags.now (question_of predicate.now) }
-{
-    for flag in flags {
-        if names(flag, predicate) {
-            return true;
-        }
-    }
-    false
-}
-
-/// Whether `flag` names `predicate`.
-fn names<A: SmallAllocator>(flag: &Expression<A>, predicate: &Predicate<'_>) -> bool
-    ensures { IsTrue result ↔ Names flag.now (question_of predicate.now) }
-{
-    for named in flag.predicates() {
-        if named == *predicate {
-            return true;
-        }
-    }
-    false
 }
 
 /// Evaluates `text` with the flags in `words`. The text is parsed before the flags.

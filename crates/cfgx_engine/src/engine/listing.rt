@@ -19,20 +19,20 @@ pub(super) fn lines<A: SmallAllocator>(
 {
     let mut printed = Vec::new(alloc);
     for predicate in predicates {
-        push_line(&predicate, &mut printed)?;
+        push_line(predicate, &mut printed)?;
     }
     Ok(printed)
 }
 
 /// Pushes the line of a predicate. `spell` fails only if the vector is refused memory.
 fn push_line<A: Allocator>(
-    predicate: &Predicate<'_>,
+    predicate: Predicate<'_>,
     printed: &mut Vec<u8, A>,
 ) -> Result<(), AllocError>
     ensures { OnOk result (printed.new.items
-        ≡ printed.old.items ++ text_line (spelling (question_of predicate.now))) }
+        ≡ printed.old.items ++ text_line (spelling (question_of predicate.entry))) }
 {
-    spell(predicate, printed).map_err(|_| AllocError)?;
+    spell(&predicate, printed).map_err(|_| AllocError)?;
     printed.push(b'\n')?;
     Ok(())
 }

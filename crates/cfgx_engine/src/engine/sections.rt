@@ -109,7 +109,10 @@ fn print_lines<'a, A: SmallAllocator>(
 fn without_return(line: &str) -> &str
     ensures { result.now ≡ strip_carriage_return line.now }
 {
-    line.strip_suffix("\r").unwrap_or(line)
+    match line.strip_suffix("\r") {
+        Some(line) => line,
+        None => line,
+    }
 }
 
 /// Cuts a line at its first tab.

@@ -1,4 +1,7 @@
 // The verdicts on a condition for at most 64 targets, by one evaluation in 64 lanes.
+//
+// `ask_in_lanes` takes a predicate by value: with the drop in the loop of `ask_all`, the proof would
+// go over all kinds of predicates.
 ghost use Rattle.std.specs.Prelude.{◌≡◌, ◌++◌, ◌≤◌, List, length, IfOk, OnOk};
 ghost use Rattle.std.specs.List.{AllZip};
 ghost use Rattle.cfgx_grammar.specs.Answer.{HasOneTree};
@@ -45,17 +48,17 @@ fn ask_all<A: SmallAllocator, M: TargetMatcher>(
     let predicates = condition.predicates();
     let mut answers = Vec::with_capacity(alloc, predicates.left())?;
     for predicate in predicates {
-        answers.push(ask_in_lanes(targets, &predicate))?;
+        answers.push(ask_in_lanes(targets, predicate))?;
     }
     Ok(answers)
 }
 
 /// Asks the targets a predicate. They do not know predicates that are not on the target.
-fn ask_in_lanes<M: TargetMatcher>(targets: &[M], predicate: &Predicate<'_>) -> Kleene64
+fn ask_in_lanes<M: TargetMatcher>(targets: &[M], predicate: Predicate<'_>) -> Kleene64
     requires { length targets.now ≤ 64 }
-    ensures { InLanes M.answer targets.now (question_of predicate.now) result }
+    ensures { InLanes M.answer targets.now (question_of predicate.entry) result }
 {
-    match predicate {
+    match &predicate {
         Predicate::Target(target) => target.lanes(targets),
         _ => Kleene64::new(0, 0),
     }

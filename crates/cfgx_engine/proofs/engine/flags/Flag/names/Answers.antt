@@ -1,7 +1,7 @@
 use Rattle.std.proofs.Common.{◌≡◌, zero, suc, List, [], ◌∷◌, Contains, arith}
 use Rattle.std.proofs.lemmas.List.Elements.{Contains-append_right}
 use Rattle.cfgx_parser.specs.Predicate.{question_of}
-use Rattle.cfgx_engine.proofs.engine.flags.names.Goals as goal
+use Rattle.cfgx_engine.proofs.engine.flags.Flag.names.Goals as goal
 use Rattle.cfgx_grammar.proofs.Answering.{only_tree}
 
 -- what stands in a list, and is not its first item, stands after it
@@ -16,7 +16,7 @@ loop-named-preserved g c =
     let question = question_of c.args.predicate.now in
     let next = question_of c.in-Some.named in
     let among = rw c.in-Some.ensures.steps at c.loop-named.invariant in (
-      λ all. other_item next question _ (λ is. absurd (cc (c.eq.ensures.same.1 is))) (among.0 all),
+      λ all. other_item next question _ (λ is. absurd (cc (c.is_same.ensures.1 is))) (among.0 all),
       λ rest. among.1 (Contains-append_right (next ∷ []) _ question rest),
     )
 
@@ -27,7 +27,7 @@ returns g c =
     let none = rw c.in-None.ensures.steps.0 at c.loop-named.invariant in (
       λ is. absurd cc,
       λ names.
-          let tree = only_tree asks.0 names.0 (rw c.flag.view_is names.1) in
+          let tree = only_tree asks.0 names.0 (rw c.self.view_is names.1) in
           let among = rw (tree, ← asks.1, ← c.into_iter-named-iterator.ensures.into_iter_gives)
           at names.2 in absurd (omega (arith, (none.0 among).1)),
     )
