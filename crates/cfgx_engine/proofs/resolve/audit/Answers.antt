@@ -1,4 +1,4 @@
--- A piece more.
+-- The next piece is added.
 use Rattle.std.proofs.Common.{◌++◌, append_assoc}
 use Rattle.cfgx_engine.proofs.resolve.audit.Goals as goal
 

@@ -1,4 +1,4 @@
--- One verdict for each target that was passed.
+-- Each target so far has a verdict.
 use Rattle.std.{proofs.Common.{◌≡◌, ◌++◌, List, length}, specs.List.AllZip}
 use Rattle.cfgx_engine.specs.Verdicts.{IsVerdict}
 use Rattle.cfgx_engine.proofs.resolve.audit.Given as goal

@@ -1,4 +1,4 @@
--- The borrowed condition is seen as the expression is.
+-- Contracts see the borrowed condition as the expression.
 use Rattle.cfgx_engine.proofs.resolve.decide_on.Goals as goal
 
 pub returns-in-Ok-clause-decision : goal.returns-in-Ok-clause-decision

@@ -1,7 +1,7 @@
 use Rattle.std.proofs.lemmas.Result.{IfOk-weaker}
 use Rattle.cfgx_engine.proofs.engine.output.input_output.Goals as goal
 
--- the bytes are those of the text
+-- the text has the bytes of the input
 pub returns-in-Ok : goal.returns-in-Ok
 returns-in-Ok g c =
     let cases = c.in-Ok.ensures.cases in

@@ -3,7 +3,7 @@ use Rattle.cfgx_syntax.specs.Error.{failure_of}
 use Rattle.cfgx_engine.proofs.OutputLemmas.{Fails-parse, shown_fault}
 use Rattle.cfgx_engine.proofs.engine.output.parse_output.Goals as goal
 
--- the tree whose predicates are written is the one tree
+-- the predicates that are listed are those of the one tree
 pub returns-in_ok-lines-in-Ok : goal.returns-in_ok-lines-in-Ok
 returns-in_ok-lines-in-Ok g c =
     let asks = rw c.in-Ok.ensures.0 at c.predicates.ensures.asked in

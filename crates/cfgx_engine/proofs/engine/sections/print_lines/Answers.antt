@@ -7,7 +7,7 @@ use Rattle.cfgx_engine.proofs.SectionLemmas.{IfMessage-weaker, yields-none, yiel
 use Rattle.cfgx_engine.proofs.engine.sections.print_lines.Goals as goal
 use Rattle.cfgx_engine.specs.{Sections.line_of, Output.faulty_output}
 
--- nothing was passed
+-- all lines are still to come
 pub loop-line-init : goal.loop-line-init
 loop-line-init g c =
     let text = c.args.text.now in
@@ -32,7 +32,7 @@ returns-in_err-push_line-clause-err g c =
     (c.split_line-line.ensures ∙ ap line_of c.without_return.ensures) _ message _ prints refl))
     c.in_err-push_line.ensures.err)
 
--- one line more was printed
+-- the next line is printed
 pub loop-line-preserved : goal.loop-line-preserved
 loop-line-preserved g c =
     let left = c.loop-line.invariant in
@@ -48,7 +48,7 @@ loop-line-preserved g c =
           (rw adds.2 at rest));
     }
 
--- all lines were passed
+-- no line is left
 pub returns-clause-ok : goal.returns-clause-ok
 returns-clause-ok g c =
     let left = c.loop-line.invariant in

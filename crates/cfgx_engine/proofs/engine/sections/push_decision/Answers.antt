@@ -1,7 +1,7 @@
 use Rattle.std.proofs.Common.{◌≡◌, ◌++◌, ℕ, List, append_assoc, codes}
 use Rattle.cfgx_engine.proofs.engine.sections.push_decision.Goals as goal
 
--- what is added in three steps is added at once
+-- three texts, added one after another
 added_in_steps : (old text one two between after new : List ℕ) → between ≡ old ++ text
     → after ≡ between ++ one → new ≡ after ++ two → new ≡ old ++ (text ++ one ++ two)
 added_in_steps old text one two between after new first second third =

@@ -1,4 +1,4 @@
--- The first tab is where the line is cut.
+-- The line is cut at its first tab.
 use Rattle.std.proofs.Common.{◌≡◌, ◌<◌, ◌==◌, ℕ, List, arith, length, refl, Some, None}
 use Rattle.std.specs.List.{after_first, before_first, position_or_len}
 use Rattle.std.proofs.lemmas.Str.Pattern.{split_once_first}

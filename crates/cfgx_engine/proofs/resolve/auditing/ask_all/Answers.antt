@@ -1,4 +1,4 @@
--- Each question is answered in its turn; in the end none is left.
+-- The next question is answered. In the end none is left.
 use Rattle.std.proofs.Common.{◌∙◌, ◌++◌, ◌∷◌, [], append_assoc, append-nil}
 use Rattle.std.proofs.lemmas.Slice.Zip.{all_zipped_more}
 use Rattle.cfgx_parser.specs.Predicate.{question_of}

@@ -1,4 +1,4 @@
--- One lane more.
+-- The verdict in the next lane is added.
 use Rattle.std.proofs.Common.{◌≡◌, ◌∙◌, ◌+◌, ◌++◌, ◌∷◌, [], ap, append_assoc, arith, rules, suc}
 use Rattle.cfgx_syntax.specs.Kleene.{lane}
 use Rattle.cfgx_engine.specs.{internal.InLanes.lane_verdicts, Verdicts.verdict_of}
