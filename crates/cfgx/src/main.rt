@@ -1,4 +1,4 @@
-//! The program `cfgx`, which shows what is in conditions as `cfg(all(unix, target_arch =
+//! The program `cfgx`, which shows what is in conditions such as `cfg(all(unix, target_arch =
 //! "x86_64"))`.
 #![tactic(auto)]
 
@@ -6,13 +6,12 @@ use cfgx_engine::engine::{Counted, run};
 use std::process::ExitCode;
 use std::{env, io};
 
-/// The status if the words could not be had: it is out of memory, or one is not UTF-8. Nothing was
-/// written then.
+/// The status if the arguments cannot be read: out of memory, or not UTF-8. Nothing is written then.
 const REFUSED: u8 = 3;
 
-/// Hands the words after the program's name to the engine, and answers its status.
+/// Runs the command in the arguments after the program's name, and returns the exit status.
 fn status(rt: &HostRuntime) -> io::Result<u8> {
-    // `collect` would ask for less room if its first request was refused.
+    // If its first request is refused, `collect` asks for less room.
     let mut owned = Vec::new(rt.alloc());
     for word in env::args(rt)?.skip(1) {
         owned.push(word)?;

@@ -1,11 +1,11 @@
--- Answers that are taken one after another from bytes are those that the bytes stand for.
+-- The answers in bytes, taken one after another.
 use Rattle.std.proofs.Common.{◌≡◌, ℕ, Bool, List, [], ◌∷◌, Option, arith, drop, length, map, refl}
 use Rattle.cfgx_grammar.specs.Question.{Question}
 use Rattle.cfg_expr.specs.Asking.{Asker, Asks, Calls}
 use Rattle.cfgx_c.specs.Value.{answer_of, first_answer}
 
 module _ {F : Type 0} (asker : Asker F (Option Bool)) (left : F → List ℕ) where
-  -- each call takes the first of the bytes that are left, and answers what it stands for
+  -- each call takes the first of the bytes that are left, and returns the answer in it
   abbrev pub TakesFirst : Type 0
   TakesFirst = (before : F) (question : Question) (given : Option Bool) (after : F)
       → Asks asker before question given after

@@ -1,4 +1,4 @@
--- What a call of `cfgx_run` gives.
+-- What `cfgx_run` returns and writes.
 -- Source: include/cfgx.h for the call; docs/RULES.md for the output that a request has.
 use Rattle.std.specs.Prelude.{◌≡◌, ◌==◌, ℕ, List, ◌++◌, drop, length, nat_le, if◌then◌else◌}
 use Rattle.std.specs.List.{slice_split}
@@ -7,16 +7,16 @@ use Rattle.cfgx_engine.specs.Output.{Output}
 use Rattle.cfgx_engine.specs.Prints.{Prints}
 use Rattle.cfgx_engine.specs.Request.{Request, request_of}
 
--- the words that stand in these bytes, with a zero byte between each two
+-- the words in these bytes, with a zero byte between each two
 abbrev pub words_in : List ℕ → List (List ℕ)
 words_in bytes = slice_split (λ byte. byte == 0) bytes
 
--- what the words ask for; words that are not UTF-8 are wrong use
+-- the request of the words; words that are not UTF-8 are wrong use
 abbrev pub request_in : List ℕ → Request
 request_in bytes = if is_utf8 bytes then request_of (words_in bytes) else Request.wrong_use
 
--- the buffer begins with these bytes if it has room for all of them, and else stays as it was; how
--- many they are is told either way
+-- the buffer begins with these bytes if they all fit, and else stays as it was; `needed` is their
+-- number either way
 abbrev pub Fills : List ℕ → List ℕ → List ℕ → ℕ → Type 0
 Fills bytes old new needed = (needed ≡ length bytes)
     × (new ≡ (if nat_le needed (length old) then bytes ++ drop needed old else old))

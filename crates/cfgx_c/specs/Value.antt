@@ -7,25 +7,25 @@ use Rattle.cfgx_grammar.specs.Filling.{three_valued}
 use Rattle.cfgx_grammar.specs.Fold.{tree_fold}
 use Rattle.cfgx_grammar.specs.Tree.{asked}
 
--- the answer that a byte stands for: 0 is false, 1 is true, and any other is unknown
+-- the answer in a byte: 0 is false, 1 is true, and any other is unknown
 abbrev pub answer_of : ℕ → Option Bool
 answer_of byte =
     if byte == 0 then Some false else (if byte == 1 then Some true else None)
 
--- the byte that stands for a value
+-- the byte of a value
 abbrev pub byte_of_value : Option Bool → ℕ
 byte_of_value (Some false) = 0
 byte_of_value (Some true) = 1
 byte_of_value None = 2
 
 -- the value of the text's one tree over these answers, one for each predicate in the order in which
--- it asks them
+-- they are asked
 pub record HasValueOver (text answers : List ℕ) (value : ℕ) : Type 0 where
   pub one : HasOneTree text
   pub count : length answers ≡ length (asked one.tree)
   pub value_is : value ≡ byte_of_value (tree_fold three_valued one.tree (map answer_of answers))
 
--- the first of these answers, and unknown if there is none
+-- the answer in the first byte, and unknown if there is none
 abbrev pub first_answer : List ℕ → Option Bool
 first_answer [] = None
 first_answer (byte ∷ bytes) = answer_of byte

@@ -11,7 +11,7 @@ ghost use Rattle.cfgx_c.specs.Value.{answer_of, byte_of_value, first_answer};
 use cfg_expr::{Expression, Predicate};
 use std::alloc::{AllocError, Global};
 
-/// The byte that stands for a value.
+/// Returns the byte of a value.
 pub(crate) fn byte_of_value(value: Option<bool>) -> u8
     ensures { result ≡ byte_of_value value }
 {
@@ -22,7 +22,7 @@ pub(crate) fn byte_of_value(value: Option<bool>) -> u8
     }
 }
 
-/// The answer that a byte stands for.
+/// Returns the answer in a byte.
 fn answer_of(byte: u8) -> Option<bool>
     ensures { result ≡ answer_of byte }
 {
@@ -33,7 +33,8 @@ fn answer_of(byte: u8) -> Option<bool>
     }
 }
 
-/// The first of the answers that are left, which is taken off them, and unknown if none is left.
+/// Takes the first of the bytes that are left, and returns the answer in it. It is unknown if none
+/// is left.
 fn take_answer(left: &mut &[u8]) -> Option<bool>
     ensures answer { result ≡ first_answer left.old.now }
     ensures rest { left.new.now ≡ drop 1 left.old.now }
@@ -45,8 +46,8 @@ fn take_answer(left: &mut &[u8]) -> Option<bool>
     answer_of(*first)
 }
 
-/// The value of a condition over these answers.
-pub(crate) fn value_over(
+/// Evaluates a condition over `answers`, which are in the order of its predicates.
+pub(crate) fn eval_over_bytes(
     alloc: Global,
     condition: &Expression,
     answers: &[u8],

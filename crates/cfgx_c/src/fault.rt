@@ -1,31 +1,31 @@
-// A fault as numbers.
+// Faults as C sees them.
 
 ghost use Rattle.std.specs.Prelude.{◌≡◌};
 ghost use Rattle.cfgx_syntax.specs.Error.{cause_of};
-ghost use Rattle.cfgx_c.specs.Check.{offset_of, member_count_of, number_of, told_of};
+ghost use Rattle.cfgx_c.specs.Check.{c_fault, member_count, reason_number, strip_offset};
 
 use cfg_expr::error::{ParseError, Reason};
 use cfgx_syntax::stripping::strip;
 
-/// What is wrong with a text, and where. Places and lengths are in bytes.
+/// The fault of a text. Offsets are in bytes.
 #[repr(C)]
 #[derive(Clone, Copy, Debug)]
 pub struct CfgxFault {
-    /// Where in the text the stripped text begins: 4 if an outer `cfg( )` is taken off, and else 0
+    /// The offset of the stripped text in the text: 4 if an outer `cfg( )` was stripped, else 0
     pub offset: usize,
-    /// Where in the stripped text the span at fault begins
+    /// The start of the span, in the stripped text
     pub start: usize,
-    /// Where it ends
+    /// The end of the span, in the stripped text
     pub end: usize,
-    /// How many members `not` has if that is at fault, and else 0
+    /// The number of members, if a `not` has too few or too many of them, else 0
     pub members: usize,
     /// The number of the reason
     pub reason: u32,
 }
 
-/// The number of a reason.
-fn number_of(reason: Reason) -> u32
-    ensures { result ≡ number_of (cause_of reason) }
+/// Returns the number of a reason.
+fn reason_number(reason: Reason) -> u32
+    ensures { result ≡ reason_number (cause_of reason) }
 {
     match reason {
         Reason::InvalidNot(_) => 1,
@@ -43,9 +43,9 @@ fn number_of(reason: Reason) -> u32
     }
 }
 
-/// How many members `not` has if that is the reason.
-fn member_count_of(reason: Reason) -> usize
-    ensures { result ≡ member_count_of (cause_of reason) }
+/// Returns the number of members of `not` if that is the reason, else 0.
+fn member_count(reason: Reason) -> usize
+    ensures { result ≡ member_count (cause_of reason) }
 {
     match reason {
         Reason::InvalidNot(members) => members,
@@ -53,9 +53,9 @@ fn member_count_of(reason: Reason) -> usize
     }
 }
 
-/// Where in a text the stripped text begins.
-fn offset_of(text: &str) -> usize
-    ensures { result ≡ offset_of text.now }
+/// Returns the offset of the stripped text in `text`.
+fn strip_offset(text: &str) -> usize
+    ensures { result ≡ strip_offset text.now }
 {
     if strip(text).len() == text.len() {
         0
@@ -64,19 +64,19 @@ fn offset_of(text: &str) -> usize
     }
 }
 
-/// What is told of the fault of a text.
-pub(crate) fn told_of(text: &str, error: &ParseError) -> CfgxFault
-    ensures { result ≡ told_of text.now (record {
+/// Returns the fault of `text` as C sees it.
+pub(crate) fn c_fault(text: &str, error: &ParseError) -> CfgxFault
+    ensures { result ≡ c_fault text.now (record {
       cause = cause_of error.now.reason;
       start = error.now.span.start;
       end = error.now.span.end;
     }) }
 {
     CfgxFault {
-        offset: offset_of(text),
+        offset: strip_offset(text),
         start: error.span.start,
         end: error.span.end,
-        members: member_count_of(error.reason),
-        reason: number_of(error.reason),
+        members: member_count(error.reason),
+        reason: reason_number(error.reason),
     }
 }

@@ -1,4 +1,4 @@
-// An input in memory, an output in memory, and the buffer of a caller.
+// A source and a sink in memory, and the buffer of a caller.
 
 ghost use Rattle.std.specs.Prelude.{◌≡◌, [], Some};
 ghost use Rattle.cfgx_c.specs.Run.{Fills};
@@ -8,14 +8,14 @@ use std::alloc::Global;
 use std::io;
 use std::io::ErrorKind;
 
-/// Bytes that are read. No call fails.
+/// A source over a slice. No call fails.
 #[derive(Drop)]
-pub(crate) struct Left<'a> {
-    /// Those that are still to come
+pub(crate) struct SliceSource<'a> {
+    /// The bytes that are still to come
     pub(crate) left: &'a [u8],
 }
 
-impl Source for Left<'_> {
+impl Source for SliceSource<'_> {
     ghost failures = { λ _. 0 };
 
     ghost unread = { λ source. Some source.left.now };
@@ -29,28 +29,28 @@ impl Source for Left<'_> {
     }
 }
 
-/// What was written, kept in memory. A call fails if it is out of memory.
+/// A sink into a vector. A call fails if it is refused memory.
 #[derive(Drop)]
-pub(crate) struct Kept {
-    /// The bytes
+pub(crate) struct VecSink {
+    /// The bytes that were written
     pub(crate) bytes: Vec<u8>,
-    /// How many calls failed
+    /// The number of calls that failed
     pub(crate) failures: u64,
 }
 
-impl Kept {
-    /// Nothing was written.
-    pub(crate) fn new(alloc: Global) -> Kept
+impl VecSink {
+    /// Returns an empty sink. It takes no memory.
+    pub(crate) fn new(alloc: Global) -> VecSink
         ensures { (result.bytes.items ≡ []) × (result.failures ≡ 0) }
     {
-        Kept {
+        VecSink {
             bytes: Vec::new(alloc),
             failures: 0,
         }
     }
 }
 
-impl Sink for Kept {
+impl Sink for VecSink {
     ghost failures = { λ sink. sink.failures };
 
     ghost written = { λ sink. Some sink.bytes.items };
@@ -68,8 +68,7 @@ impl Sink for Kept {
     }
 }
 
-/// Puts the bytes at the front of the buffer if it has room for all of them, and answers how many
-/// they are.
+/// Copies `bytes` to the start of `buffer` if they all fit. Returns their number.
 pub(crate) fn fill(buffer: &mut [u8], bytes: &[u8]) -> usize
     ensures { Fills bytes.now buffer.old buffer.new result }
 {

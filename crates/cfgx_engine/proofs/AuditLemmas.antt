@@ -1,4 +1,4 @@
--- Sixty-four targets at once get the verdicts that each of them gets alone.
+-- At most 64 targets at once get the verdicts that each of them gets alone.
 use Rattle.std.proofs.Common.{◌≡◌, ◌∙◌, ◌≤◌, ℕ, zero, suc, Bool, List, [], ◌∷◌, Some, ap, arith}
 use Rattle.std.{proofs.Common.{length, map, refl, take, ⊎_elim}, specs.List.{AllZip, slice_get}}
 use Rattle.std.proofs.{Math.Seq.take-suc, lemmas.List.take_all, lemmas.Slice.Zip.all_zipped_more}
@@ -6,12 +6,12 @@ use Rattle.std.proofs.lemmas.Option.{slice_get_cases, slice_get_within}
 use Rattle.cfgx_syntax.specs.Kleene.{EachLane, Planes, lane}
 use Rattle.cfgx_grammar.specs.{Answer.HasOneTree, Tree.asked, Filling.three_valued, Fold.tree_fold}
 use Rattle.cfgx_grammar.{specs.Question.{Question, TargetQuestion}, proofs.Answering.only_tree}
-use Rattle.cfgx_engine.specs.answering.InLanes.{InLanes, lane_verdicts}
+use Rattle.cfgx_engine.specs.internal.InLanes.{InLanes, lane_verdicts}
 use Rattle.cfgx_engine.specs.Verdicts.{IsVerdict, answer_by, verdict_of}
 use Rattle.cfgx_engine.{specs.declared.resolve.Verdict.Verdict, proofs.VerdictLemmas.IsVerdict-by}
 
 module _ {M : Type 0} (targets : List M) where
-  -- what holds of each target and of the verdict in its lane holds of them one after another
+  -- a relation of each target and the verdict in its lane relates the targets and the verdicts
   lanes-zipped : (R : M → Verdict → Type 0) (value : Planes) → ((i : ℕ) (target : M)
       → slice_get targets i ≡ Some target → R target (verdict_of (lane i value)))
       → (n : ℕ) → n ≤ length targets → AllZip R (take n targets) (lane_verdicts n value)
@@ -23,7 +23,7 @@ module _ {M : Type 0} (targets : List M) where
       absurd (omega (arith, past.0, within))) (slice_get_cases targets n).1
 
   module _ (answer : M → TargetQuestion → Bool) where
-    -- the lane of a target has what it answers
+    -- the lanes of a target hold its answers
     lane-answers : (i : ℕ) (target : M) → slice_get targets i ≡ Some target
         → (questions : List Question) (answers : List Planes)
         → AllZip (InLanes answer targets) questions answers
@@ -33,7 +33,7 @@ module _ {M : Type 0} (targets : List M) where
         grind (arith, lane-answers i target is questions answers zipped.1)
     lane-answers i target is _ _ zipped = absurd zipped
 
-    -- so the lane of a target has its verdict
+    -- so the lane of a target holds its verdict
     pub lane_verdicts-zipped : {text : List ℕ} (answers given : List Planes) (value : Planes)
         → length targets ≤ 64 → given ≡ answers
         → (one : HasOneTree text) × AllZip (InLanes answer targets) (asked one.tree) answers

@@ -1,4 +1,4 @@
--- The flags of words, one word after another.
+-- Flags that are parsed one after another.
 use Rattle.std.proofs.Common.{◌≡◌, ◌≢◌, ℕ, List, [], ◌∷◌, ◌++◌, None, Ok, Err, codes, map, refl, ap}
 use Rattle.std.proofs.Common.{◌<◌, ◌+◌, zero, suc, Bor, bytes_eq, length, get_or, take, arith}
 use Rattle.std.{proofs.lemmas.Bool.false_from_ne_true, specs.List.AllByRecursion}
@@ -8,13 +8,13 @@ use Rattle.std.proofs.{lemmas.List.Elements.recursion_from_All, lemmas.Slice.Eq.
 use Rattle.cfgx_syntax.specs.Stripping.{strip}
 use Rattle.cfgx_syntax.specs.{Error.TextFault, Error.failure_of, declared.error.Failure.Failure}
 use Rattle.cfgx_grammar.specs.{Question.Question, Tree.Tree, Answer.HasOneTree}
-use Rattle.cfgx_engine.specs.answering.ReadsFlags.{AddsFlag, AreFlags}
-use Rattle.cfgx_engine.specs.answering.Shows.{Fails}
+use Rattle.cfgx_engine.specs.internal.ReadsFlags.{AddsFlag, AreFlags}
+use Rattle.cfgx_engine.specs.internal.Shows.{Fails}
 use Rattle.cfgx_engine.specs.{Flags.{flag_text, unknown_text}, Readings.{GivesAll, ParsesAs}}
 use Rattle.cfgx_engine.proofs.ReadingLemmas.{first_fails, later_fails}
 use Rattle.cfgx_engine.specs.{Request.texts, declared.engine.flags.Flags.Flags}
 
--- a word that begins with no `?` names true predicates
+-- a word without a `?` in front names true predicates
 pub unknown_text-unmarked : (word : List ℕ) → ((rest : List ℕ) → word ≢ 63 ∷ rest)
     → unknown_text word ≡ None
 unknown_text-unmarked [] lacks = refl
@@ -22,7 +22,7 @@ unknown_text-unmarked (byte ∷ rest) lacks =
     rw (false_from_ne_true (bytes_eq (byte ∷ []) (codes "?")) (λ is.
     lacks rest (ap (λ xs. xs ++ rest) ((bytes_eq-Decides (byte ∷ []) (codes "?")).0 is))))
 
--- each flag that has one tree is read as it
+-- each flag that has one tree is parsed as this tree
 pub trees_of : (flags : List (List ℕ))
     → AllByRecursion (λ flag. HasOneTree (strip (flag_text flag))) flags
     → (trees : List (Tree Question)) × GivesAll ParsesAs (map flag_text flags) (Ok trees)
@@ -31,7 +31,7 @@ trees_of (flag ∷ flags) each =
     let others = trees_of flags each.1 in
     (each.0.tree ∷ others.0, (each.0.reads, others.1))
 
--- the fault of a word is the first, if the words in front of it have a tree each
+-- the fault of a word is the first if each word before it has a tree
 GivesAll-later : (words : List (Bor (List ℕ))) (i : ℕ) (d : Bor (List ℕ)) (fault : TextFault)
     → i < length words
     → AllByRecursion (λ flag. HasOneTree (strip (flag_text flag))) (texts (take i words))
@@ -44,7 +44,7 @@ GivesAll-later (word ∷ words) (suc i) d fault below each reads =
     later_fails ParsesAs _ each.0.tree _ fault each.0.reads rest
 
 module _ {A : Type 0} where
-  -- one word more
+  -- the flags of one word more
   pub AreFlags-more : (words : List (Bor (List ℕ))) (i : ℕ) (d : Bor (List ℕ)) (old new : Flags A)
       → i < length words → AreFlags (texts (take i words)) old
       → AddsFlag (get_or words i d).now old new → AreFlags (texts (take (i + 1) words)) new
@@ -59,7 +59,7 @@ module _ {A : Type 0} where
         unknown_are = rw (filter_map-append, map-append, ← are.unknown_are) adds.unknown_are;
       })
 
-  -- a word fails after words that have a tree each
+  -- a word has the first fault if each word before it has a tree
   pub Fails-later : (words : List (Bor (List ℕ))) (i : ℕ) (d : Bor (List ℕ)) (failed : Failure A)
       → i < length words
       → AllByRecursion (λ flag. HasOneTree (strip (flag_text flag))) (texts (take i words))

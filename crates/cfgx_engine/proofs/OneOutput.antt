@@ -1,5 +1,5 @@
--- That a request has one output at most, whose status is not that of a refused run, and that it has
--- one if its words are UTF-8.
+-- A request has at most one output, whose status is not that of a refused run. It has one if its
+-- words are UTF-8.
 use Rattle.std.proofs.Common.{◌≡◌, ℕ, ◌<◌, ◌+◌, ◌-◌, Bool, true, false, List, [], ◌∷◌, ◌++◌}
 use Rattle.std.proofs.Common.{Option, Some, None, Result, Ok, Err, MatchOption, ◌⊎◌, inl}
 use Rattle.std.proofs.Common.{◌≤◌, inr, ⊎_elim, refl, ap, sym, ◌∙◌, subst, arith, rules, map, take}
@@ -43,17 +43,17 @@ single-made make single one other this that =
 abbrev pub IsDecided : (Output → Type 0) → Type 0
 IsDecided Holds = (one other : Output) → Holds one → Holds other → (one ≡ other) × (one.status < 3)
 
--- an output that is written out
+-- an output that is given
 decided : (shown : Output) → shown.status < 3 → IsDecided (λ output. output ≡ shown)
 decided shown low one other this that =
     (this ∙ sym that, omega (arith, ap (λ (o : Output). o.status) this))
 
--- one that is made of the one thing that fits
+-- an output that is made of the one thing that fits
 decided-made : {X : Type 0} {Holds : X → Type 0} (make : X → Output) → IsSingle Holds
     → ((x : X) → (make x).status < 3) → IsDecided (λ output. (x : X) × Holds x × (output ≡ make x))
 decided-made make single low one other this that = grind (arith, single-made)
 
--- what is said of both outputs is said of the one that is chosen by a target's row
+-- what holds of both outputs holds of the one that the row of a target chooses
 by_row : {On : TargetInfo Global → Output → Type 0} (Says : (Output → Type 0) → Type 0)
     (triple : List ℕ) → Says (λ output. output ≡ unknown_triple)
     → ((row : TargetInfo Global) → Says (On row))
@@ -71,7 +71,7 @@ AllZip-single each (x ∷ xs) (y ∷ ys) (z ∷ zs) this that =
     cc (each x y z this.0 that.0, AllZip-single each xs ys zs this.1 that.1)
 AllZip-single each _ _ _ this that = absurd (search rules)
 
--- and values of which one is given for each item, or the first error
+-- the values of all items, or the first error
 GivesEach-single : {X T E : Type 0} {Gives : X → Result T E → Type 0}
     → ((x : X) → IsSingle (Gives x)) → (xs : List X) → IsSingle (GivesEach Gives xs)
 GivesEach-single each [] one other this that = this ∙ sym that
@@ -82,7 +82,7 @@ GivesAll-single : {X T E : Type 0} {Gives : X → Result T E → Type 0}
 GivesAll-single {Gives = Gives} each xs one other this that = GivesEach-single each xs one other
     (GivesEach-all Gives xs one this) (GivesEach-all Gives xs other that)
 
--- a text is read one way
+-- a text has one reading
 ParsesAs-single : (text : List ℕ) → IsSingle (ParsesAs text)
 ParsesAs-single text (Ok tree) (Ok other) this that = cc (that.only (Ok tree) this.has)
 ParsesAs-single text (Err fault) (Err other) this that =
@@ -90,7 +90,7 @@ ParsesAs-single text (Err fault) (Err other) this that =
 ParsesAs-single text (Ok tree) (Err _) this that = absurd (cc (that.1.only (Ok tree) this.has))
 ParsesAs-single text (Err _) (Ok other) this that = absurd (cc (this.1.only (Ok other) that.has))
 
--- a value by the answers of the flags
+-- the value over the answers of the flags
 IsAnswer-single : (known unknown : List (List ℕ)) (question : Question)
     → IsSingle (IsAnswer known unknown question)
 IsAnswer-single known unknown question one other this that = grind arith
@@ -103,12 +103,12 @@ HasValue-single : (text : List ℕ) (flags : List (List ℕ)) → IsSingle (HasV
 HasValue-single text flags one other this that =
     grind (arith, GivesAll-single, ParsesAs-single, ValueBy-single)
 
--- what the lines of sections print
+-- the output of lines
 PrintsLine-single : (answer : Question → Option Bool) (numbered : ℕ × Line)
     → IsSingle (PrintsLine answer numbered)
 PrintsLine-single answer numbered one other this that = grind (arith, single-made, ParsesAs-single)
 
--- an input is too long or not, and UTF-8 or not
+-- the output of `pick` on an input that is too long, that is not UTF-8, or that is a text
 is_long : (input : List ℕ) → (input_limit < length input) ⊎ (length input ≤ input_limit)
 is_long input = cases_lt input_limit (length input)
 
@@ -151,7 +151,7 @@ some_made : {X Y : Type 0} {Holds : X → Type 0} (make : X → Y) → HasSome H
     → HasSome (λ y. (x : X) × Holds x × (y ≡ make x))
 some_made make one = (make one.0, (one.0, one.1, refl))
 
--- It is known of a list whether an item fits, if it is known of each item whether it does.
+-- Whether an item of a list fits can be decided if it can be decided of each item.
 module _ {X : Type 0} {Q P : X → Type 0} (each : (x : X) → Q x → P x ⊎ ¬ P x) where
   none_more : (x : X) (xs : List X) → ¬ P x → ¬ Any P xs → ¬ Any P (x ∷ xs)
   none_more x xs first others (zero, y, below, is, fits) = first (subst P (sym is) fits)
@@ -173,7 +173,7 @@ same-known question well_formed other too =
     (λ differ. inr (λ same. absurd (cc (tells.1 (ap spelling same)))))
     (cases_Bool (bytes_eq (spelling other) (spelling question)))
 
--- values of which one is given for each item, or the first error
+-- the values of all items, or the first error
 GivesAll-some : {X T E : Type 0} (Gives : X → Result T E → Type 0) (xs : List X)
     → AllByRecursion (λ x. HasSome (Gives x)) xs → HasSome (GivesAll Gives xs)
 GivesAll-some Gives [] all = (Ok [], tt)
@@ -186,8 +186,8 @@ GivesAll-some {X} {T} {E} Gives (x ∷ xs) ((Ok value, gives), all) =
     more (Ok values, others) = (Ok (value ∷ values), (gives, others))
     more (Err error, found) = (Err error, later_fails Gives x value xs error gives found)
 
--- What is known of UTF-8 texts: a test tells them, what stands before an ASCII byte of one is one,
--- and so is what stands after it, and each reads as something.
+-- What is assumed of UTF-8 texts: a test decides them, the part before an ASCII byte is one, and so
+-- is the part behind it, and each has a reading.
 module _ (Q : List ℕ → Type 0) (tested : (text : List ℕ) → is_utf8 text ≡ true → Q text)
     (cut : (text : List ℕ) (i : ℕ) → Q text → i < length text → get_or text i 0 < 128
     → Q (take i text) × Q (drop (i + 1) text))
@@ -259,7 +259,7 @@ module _ (Q : List ℕ → Type 0) (tested : (text : List ℕ) → is_utf8 text 
           let all = answers-some _ _ known unknown _ (well_formed_tree _ tree read.has) in
           (Ok (tree_fold three_valued tree all.0), (Ok (tree ∷ trees), gives, (all.0, all.1, refl)))
 
-  -- what is so of each line is so of those of an input
+  -- what holds of each line holds of the lines of an input
   module _ (P : ℕ × Line → Type 0) (empty : (number : ℕ) → P (number, Line.empty))
       (undivided : (number : ℕ) → P (number, Line.undivided))
       (section : (number : _) (name text : _) → Q text → P (number, Line.section name text)) where
@@ -281,7 +281,7 @@ module _ (Q : List ℕ → Type 0) (tested : (text : List ℕ) → is_utf8 text 
           lines-are (number + 1) (next ∷ parts) (rw after at both.1),
         )
 
-  -- what is so of each request is so of the one that words ask for
+  -- what holds of each request holds of the request in the words
   module _ (P : Request → Type 0) (parse : (text : List ℕ) → Q text → P (Request.parse text))
       (eval : (text : List ℕ) (flags : List (List ℕ)) → Q text → AllByRecursion Q flags
       → P (Request.eval text flags))

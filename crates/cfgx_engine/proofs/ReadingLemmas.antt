@@ -1,10 +1,10 @@
--- What a list of items gives, item by item.
+-- `GivesAll` item by item.
 use Rattle.std.proofs.Common.{◌≡◌, List, [], ◌∷◌, ◌++◌, Result, Ok, Err, MatchResult, refl, ap}
 use Rattle.std.specs.List.{AllZip}
 use Rattle.cfgx_engine.specs.Readings.{FirstFails, GivesAll}
 
 module _ {X T E : Type 0} (Gives : X → Result T E → Type 0) where
-  -- the first item fails
+  -- the first item of a list fails
   pub first_fails : (item : X) (others : List X) (error : E) → Gives item (Err error)
       → FirstFails Gives (item ∷ others) error
   first_fails item others error fails = record {
@@ -17,7 +17,7 @@ module _ {X T E : Type 0} (Gives : X → Result T E → Type 0) where
     fails = fails;
   }
 
-  -- a later item is the first that fails
+  -- the first item that fails is a later one
   pub later_fails : (item : X) (value : T) (others : List X) (error : E) → Gives item (Ok value)
       → FirstFails Gives others error → FirstFails Gives (item ∷ others) error
   later_fails item value others error gives found = record {
@@ -30,12 +30,12 @@ module _ {X T E : Type 0} (Gives : X → Result T E → Type 0) where
     fails = found.fails;
   }
 
-  -- a value in front of others, or the error in their place
+  -- a value before others, or the error of the others
   abbrev pub value_then : T → Result (List T) E → Result (List T) E
   value_then value (Ok values) = Ok (value ∷ values)
   value_then value (Err error) = Err error
 
-  -- the same item by item
+  -- `GivesAll`, by recursion on the items
   abbrev pub GivesEach : List X → Result (List T) E → Type 0
   GivesEach [] result = result ≡ Ok []
   GivesEach (item ∷ others) result = (first : Result T E) × Gives item first

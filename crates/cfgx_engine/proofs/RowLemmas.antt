@@ -1,4 +1,4 @@
--- Rows of targets, whatever allocator their texts would be owned in.
+-- Rows of targets over any allocator.
 use Rattle.std.proofs.Common.{◌≡◌, arith, ℕ, Bool, List, [], ◌∷◌, Option, map, find, option_map}
 use Rattle.std.proofs.Common.{bytes_eq, refl, ap, sym, ◌∙◌}
 use Rattle.std.{proofs.Math.Path.fun_ext, specs.declared.alloc.Global.Global}
@@ -7,7 +7,7 @@ use Rattle.cfgx_targets.specs.{Table.row_with, declared.info.TargetInfo.TargetIn
 use Rattle.cfgx_grammar.specs.{Question.TargetQuestion, Matching.meets}
 use Rattle.cfgx_engine.specs.{Output.answer_on, Verdicts.answer_by}
 
--- the same target as one whose texts would be owned in `Global`
+-- the same target over `Global`
 abbrev pub same_row : {A : Type 0} → TargetInfo A → TargetInfo Global
 same_row row = record {
   triple = row.triple;
@@ -23,13 +23,13 @@ same_row row = record {
   panic = row.panic;
 }
 
--- what is found in a mapped list
+-- `find` in a mapped list
 find-map : {X Y : Type 0} (f : X → Y) (test : Y → Bool) (xs : List X)
     → find test (map f xs) ≡ option_map f (find (λ x. test (f x)) xs)
 find-map f test [] = refl
 find-map f test (x ∷ xs) = let rest = find-map f test xs in grind arith
 
--- it is found by the same triple among the built-in rows, whose texts no allocator owns
+-- the row that is found is the built-in one with this triple, over `Global`
 pub builtin-same : {A : Type 0} (triple : List ℕ) (found : Option (TargetInfo A))
     {rows : List (TargetInfo A)} → rows ≡ builtin_rows → found ≡ row_with triple rows
     → row_with {A = Global} triple builtin_rows ≡ option_map (same_row {A = A}) found
@@ -37,7 +37,7 @@ builtin-same {A} triple found are is =
     find-map (same_row {A = A}) (λ row. bytes_eq row.triple triple) builtin_rows
     ∙ ap (option_map (same_row {A = A})) (sym (is ∙ ap (row_with triple) are))
 
--- it answers the same
+-- a row answers as the same row over `Global`
 meets-same : {A : Type 0} (row : TargetInfo A) (question : TargetQuestion)
     → meets row question ≡ meets (same_row {A = A} row) question
 meets-same row (TargetQuestion.abi text) = refl

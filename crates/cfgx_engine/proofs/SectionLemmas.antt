@@ -1,4 +1,4 @@
--- What the lines of sections print, one after another.
+-- The output of lines, line by line.
 use Rattle.std.proofs.Common.{◌≡◌, ◌≤◌, ℕ, ◌+◌, Bool, true, false, List, [], ◌∷◌, ◌++◌, length, map}
 use Rattle.std.proofs.Common.{refl, ap, sym, Option, Some, None, Result, Ok, Err, append_assoc}
 use Rattle.std.{proofs.lemmas.Iterator.YieldsList, specs.List.concat, specs.List.enumerate_from}
@@ -7,14 +7,14 @@ use Rattle.std.specs.{Prelude.string_bytes, Str.Iter.split_steps, Str.Lines.stri
 use Rattle.cfgx_grammar.specs.{Question.Question, Tree.Tree}
 use Rattle.cfg_expr.specs.{Deciding.IsDecision, declared.expr.Decision.Decision}
 use Rattle.cfg_expr.specs.declared.expr.Decision.TheVariants as decision
-use Rattle.cfgx_engine.specs.answering.AddsLine.{Tells, decision_text}
+use Rattle.cfgx_engine.specs.internal.AddsLine.{IfMessage, decision_text}
 use Rattle.cfgx_engine.specs.{declared.engine.sections.LineError.LineError, Input.input_limit}
 use Rattle.cfgx_engine.specs.{Output.Output, Output.faulty_output, Readings.GivesAll}
 use Rattle.cfgx_engine.proofs.ReadingLemmas.{first_fails, later_fails}
 use Rattle.cfgx_engine.specs.Sections.{Line, PrintsLine, PrintsLines, line_of, verdict_lines}
 use Rattle.cfgx_engine.specs.declared.engine.sections.LineError.TheVariants as line_error
 
--- what the lines from a number on print, after what the front has written
+-- the output if the lines so far have printed `front`
 abbrev pub rest_output : List ℕ → Result (List (List ℕ)) (List ℕ) → Output
 rest_output front (Ok printed) = record { bytes = front ++ concat printed; status = 0 }
 rest_output front (Err text) = faulty_output text
@@ -24,14 +24,14 @@ PrintsRest answer number lines front shown = (printed : Result (List (List ℕ))
     × GivesAll (PrintsLine answer) (enumerate_from number lines) printed
     × (shown ≡ rest_output front printed)
 
--- the line of a piece
+-- the line in a piece between line feeds
 abbrev pub piece_line : List ℕ → Line
 piece_line piece = line_of (strip_carriage_return piece)
 
 module _ (answer : Question → Option Bool) (number : ℕ) (line : Line) {pieces : List (List ℕ)}
     (piece : List ℕ) (others : List (List ℕ)) (are : pieces ≡ piece ∷ others)
     (is_line : line ≡ piece_line piece) (front text : List ℕ) where
-  -- one line more was written
+  -- the next line prints a text
   pub PrintsRest-more : (shown : Output) → PrintsLine answer (number, line) (Ok text)
       → PrintsRest answer (number + 1) (map line_of (map strip_carriage_return others))
       (front ++ text) shown
@@ -39,26 +39,25 @@ module _ (answer : Question → Option Bool) (number : ℕ) (line : Line) {piece
   PrintsRest-more shown prints (Ok printed, rest, is) =
       let one = rw is_line at prints in
       rw are (Ok (text ∷ printed), (one, rest), rw append_assoc at is)
-  PrintsRest-more shown prints (Err told, rest, is) =
+  PrintsRest-more shown prints (Err message, rest, is) =
       let one = rw is_line at prints in
-      rw are (Err told, later_fails (PrintsLine answer) _ text _ told one rest, is)
+      rw are (Err message, later_fails (PrintsLine answer) _ text _ message one rest, is)
 
-  -- the line is faulty
-  pub PrintsRest-told : (shown : Output) → PrintsLine answer (number, line) (Err text)
+  -- the next line is faulty
+  pub PrintsRest-fault : (shown : Output) → PrintsLine answer (number, line) (Err text)
       → shown ≡ faulty_output text
       → PrintsRest answer number (map line_of (map strip_carriage_return pieces)) front shown
-  PrintsRest-told shown prints is =
+  PrintsRest-fault shown prints is =
       let one = rw is_line at prints in
       rw are (Err text, first_fails (PrintsLine answer) _ _ text one, is)
 
--- all lines print what is left after nothing
+-- the output of all lines is that of the rest if no line was printed
 pub PrintsLines-rest : (answer : Question → Option Bool) (lines : List Line) (shown : Output)
     → PrintsRest answer 1 lines [] shown → PrintsLines answer lines shown
 PrintsLines-rest answer lines shown (Ok printed, rest, is) = (Ok printed, rest, is)
 PrintsLines-rest answer lines shown (Err text, rest, is) = (Err text, rest, is)
 
--- the pieces of a text that are still to come, of which there are few enough to count, and what is
--- left to print
+-- the pieces that are still to come, few enough to count, and the output if these are printed
 pub record Left (answer : Question → Option Bool) (all : List (List ℕ)) (state : Split ℕ)
     (number : ℕ) (front : List ℕ) : Type 0 where
   pub pieces : List (List ℕ)
@@ -69,7 +68,7 @@ pub record Left (answer : Question → Option Bool) (all : List (List ℕ)) (sta
       (map line_of (map strip_carriage_return pieces)) front shown
       → PrintsLines answer (map line_of all) shown
 
--- a call that gives an item gives the first of those to come, and leaves the others
+-- a call that yields an item yields the first of those to come, and leaves the others
 module _ {S A B : Type 0} {steps : S → Option A → S → Type 0} {seen : A → B} {state : S} where
   pub yields-some : (items : List B) → YieldsList steps seen state items → (item : A) (next : S)
       → steps state (Some item) next
@@ -84,7 +83,7 @@ module _ {S A B : Type 0} {steps : S → Option A → S → Type 0} {seen : A �
   yields-none [] yields next step = refl
   yields-none (first ∷ others) yields next step = absurd (yields.runs.0 next step)
 
--- what stands after a name is what was decided
+-- what is printed behind a name is the decision
 pub verdict_lines-decision : {X A : Type 0} (tree : Tree X) (answers : List (Option Bool))
     (given : Decision A) → IsDecision {A = A} tree answers given
     → decision_text {A = A} given ≡ verdict_lines tree answers
@@ -93,9 +92,9 @@ verdict_lines-decision tree answers (decision.Known false) is = rw is refl
 verdict_lines-decision tree answers (decision.Unknown if_true if_false) is =
     rw (is.0, is.1, is.2) refl
 
--- a message of which more is known
-pub Tells-weaker : {A : Type 0} (This That : List ℕ → Type 0) (failed : LineError A)
-    → ((text : List ℕ) → This text → That text) → Tells {A = A} This failed
-    → Tells {A = A} That failed
-Tells-weaker This That (line_error.Faulty text) weaker tells = weaker (string_bytes text) tells
-Tells-weaker This That (line_error.Memory error) weaker tells = tt
+-- `IfMessage` of a weaker fact
+pub IfMessage-weaker : {A : Type 0} (This That : List ℕ → Type 0) (failed : LineError A)
+    → ((text : List ℕ) → This text → That text) → IfMessage {A = A} This failed
+    → IfMessage {A = A} That failed
+IfMessage-weaker This That (line_error.Faulty text) weaker tells = weaker (string_bytes text) tells
+IfMessage-weaker This That (line_error.Memory error) weaker tells = tt

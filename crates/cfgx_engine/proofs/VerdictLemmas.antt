@@ -1,4 +1,4 @@
--- Verdicts by their values.
+-- The verdict of a value.
 use Rattle.std.proofs.Common.{ℕ, Bool, true, false, List, Option, map, ap, arith, sym, ◌∙◌}
 use Rattle.std.proofs.lemmas.List.{length-map}
 use Rattle.cfgx_grammar.specs.{Question.TargetQuestion, Tree.asked, Filling.three_valued}
@@ -6,7 +6,7 @@ use Rattle.cfgx_grammar.proofs.Exactness.{IsExact-fold}
 use Rattle.cfg_expr.specs.Evaluation.{IsValueBy}
 use Rattle.cfgx_engine.specs.Verdicts.{answer_by, verdict_of, IsVerdict}
 
--- the verdict of the value over what is answered
+-- the verdict of the condition's value over the answers
 pub IsVerdict-by : (answer : TargetQuestion → Bool) (condition : List ℕ) (value : Option Bool)
     → IsValueBy three_valued condition (answer_by answer) value
     → IsVerdict answer condition (verdict_of value)

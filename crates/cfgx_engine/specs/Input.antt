@@ -1,4 +1,4 @@
--- What reading an input whole answers.
+-- The results of reading an input to its end.
 -- Source of the rules for one call: the documentation of `std::io::Read::read`. Source of the
 -- limit: docs/RULES.md.
 use Rattle.std.specs.Prelude.{◌≡◌, ◌≤◌, ℕ, ◌+◌, ◌^◌, List, length}
@@ -13,24 +13,24 @@ use Rattle.cfgx_engine.specs.declared.engine.reading.Stop.TheVariants as stop
 abbrev pub input_limit : ℕ
 input_limit = 2 ^ 24
 
--- how many calls of the source failed if the reading ended with this answer
+-- the number of calls of the source that failed if reading ended with this result
 abbrev pub stop_failures : {T : Type 0} → Result T Stop → ℕ
-stop_failures (Ok answer) = 0
+stop_failures (Ok _) = 0
 stop_failures (Err stop.Memory) = 0
 stop_failures (Err stop.Device) = 1
 
--- The bytes of an input are all that the source gave, to its end. An input is too long if one
--- byte more than the limit was read. Otherwise a beginning of the input was read.
+-- The bytes are all that the source gave, to its end. An input is too long if one byte more than
+-- the limit was read. With an error a prefix of the input was read.
 abbrev pub ReadsInput : {A : Type 0} → Option (List ℕ) → Option (List ℕ) → Result (Input A) Stop
     → Type 0
 ReadsInput old new (Ok (input.Bytes bytes)) = (length bytes.items ≤ input_limit)
     × Consumes old new bytes.items × IsAtEnd new
 ReadsInput old new (Ok input.TooLong) = (front : List ℕ) × (length front ≡ input_limit + 1)
     × Consumes old new front
-ReadsInput old new (Err stopped) = (front : List ℕ) × (length front ≤ input_limit)
+ReadsInput old new (Err _) = (front : List ℕ) × (length front ≤ input_limit)
     × Consumes old new front
 
--- a beginning of the input was read, and stays read: at most one byte more than the limit
+-- a prefix of the input was read, and stays read: at most one byte more than the limit
 abbrev pub ReadsFront : Option (List ℕ) → Option (List ℕ) → Type 0
 ReadsFront old new =
     (front : List ℕ) × (length front ≤ input_limit + 1) × Consumes old new front

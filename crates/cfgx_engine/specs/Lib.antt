@@ -7,4 +7,4 @@ pub mod Request
 pub mod Sections
 pub mod Streams
 pub mod Verdicts
-pub mod answering
+pub mod internal

@@ -1,4 +1,4 @@
--- What the commands on texts write, and the status that the program then ends with.
+-- The outputs of the commands on texts.
 -- Source of the rules: docs/RULES.md; of what a predicate, a value and a fault are, the crate
 -- cfg-expr.
 use Rattle.std.specs.Prelude.{◌≡◌, ℕ, Bool, true, false, List, [], ◌∷◌, ◌++◌, codes, map}
@@ -16,7 +16,7 @@ use Rattle.cfgx_engine.specs.Flags.{IsAnswer, flag_text, known_texts, unknown_te
 use Rattle.cfgx_engine.specs.Readings.{GivesAll, ParsesAs}
 use Rattle.cfgx_engine.specs.Verdicts.{answer_by}
 
--- what a run writes if memory is found and no call fails, and the status that it then ends with
+-- what a run writes, and its exit status, if memory is found and no call fails
 pub record Output : Type 0 where
   pub bytes : List ℕ
   pub status : ℕ
@@ -25,7 +25,7 @@ pub record Output : Type 0 where
 abbrev pub text_line : List ℕ → List ℕ
 text_line text = text ++ codes "\n"
 
--- one line for each predicate, in order
+-- a line for each question, in order
 abbrev pub lines : List Question → List ℕ
 lines questions = flat_map (λ question. text_line (spelling question)) questions
 
@@ -34,7 +34,7 @@ value_text (Some true) = codes "true"
 value_text (Some false) = codes "false"
 value_text None = codes "unknown"
 
--- what is written on wrong use
+-- the text on wrong use
 abbrev pub usage_line : List ℕ
 usage_line = codes "usage: cfgx parse TEXT | eval TEXT FLAG.. | target TRIPLE TEXT | pick TRIPLE\n"
 
@@ -54,7 +54,7 @@ faulty_output text = record { bytes = text; status = 1 }
 abbrev pub fault_output : TextFault → Output
 fault_output fault = faulty_output (text_line (error_text fault))
 
--- for a tree a line for each predicate that it asks; for a fault what it prints
+-- the output of `parse`: a line for each question that the tree asks, or the fault
 abbrev pub tree_output : Result (Tree Question) TextFault → Output
 tree_output (Ok tree) = record { bytes = lines (asked tree); status = 0 }
 tree_output (Err fault) = fault_output fault
@@ -64,8 +64,8 @@ abbrev pub result_output : Result (Option Bool) TextFault → Output
 result_output (Ok value) = value_output value
 result_output (Err fault) = fault_output fault
 
--- What was read holds the text's tree and then those of the flags. The value is that of the text's
--- tree, whose predicates the flags answer; or it is the fault.
+-- The reading holds the tree of the text and then those of the flags, or a fault. The value is that
+-- of the text's tree over the answers of the flags, or the fault.
 abbrev pub ValueBy : List (List ℕ) → Result (List (Tree Question)) TextFault
     → Result (Option Bool) TextFault → Type 0
 ValueBy flags (Ok []) value = ⊥
@@ -74,14 +74,13 @@ ValueBy flags (Ok (tree ∷ _)) value = (answers : List (Option Bool))
     × (value ≡ Ok (tree_fold three_valued tree answers))
 ValueBy flags (Err fault) value = value ≡ Err fault
 
--- the value of the text, whose predicates the flags answer; or the first fault, if the text is read
--- first and then each flag
+-- the value of the text over the answers of the flags, or the first fault. The text is read before
+-- the flags
 abbrev pub HasValue : List ℕ → List (List ℕ) → Result (Option Bool) TextFault → Type 0
 HasValue text flags value = (reading : Result (List (Tree Question)) TextFault)
     × GivesAll ParsesAs (text ∷ map flag_text flags) reading × ValueBy flags reading value
 
--- what a target answers to a question: whether it meets it, if it is on the target; every other
--- question is unknown
+-- the answer of a target to a question. A question that is not on the target is unknown
 abbrev pub answer_on : {A : Type 0} → TargetInfo A → Question → Option Bool
 answer_on row = answer_by (meets row)
 

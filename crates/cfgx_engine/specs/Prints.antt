@@ -1,4 +1,4 @@
--- What a run writes, by what the words ask for and what the input holds.
+-- The output of each request on an input.
 -- Source of the rules: docs/RULES.md; of what a predicate, a value and a fault are, the crate
 -- cfg-expr.
 use Rattle.std.specs.Prelude.{◌≡◌, ◌<◌, ◌≤◌, ℕ, Bool, List, codes, length, map}
@@ -25,20 +25,20 @@ too_long = faulty_output (text_line (codes "input too long"))
 abbrev pub not_utf8 : Output
 not_utf8 = faulty_output (text_line (codes "input is not UTF-8"))
 
--- this is what `pick` writes of the input, with these answers
+-- the output of `pick` on the input, with these answers
 pub record Picks (answer : Question → Option Bool) (input : List ℕ) (output : Output) : Type 0 where
   pub of_long : input_limit < length input → output ≡ too_long
   pub of_other_bytes : length input ≤ input_limit → ¬ IsUtf8 input → output ≡ not_utf8
   pub of_text : length input ≤ input_limit → IsUtf8 input
       → PrintsLines answer (map line_of (lines_of input)) output
 
--- this is what `pick` writes of the input that a source holds, or of some input if the source does
--- not tell its bytes
+-- the output of `pick` on the input that a source holds, or on some input if the source does not
+-- tell its bytes
 abbrev pub PicksInput : (Question → Option Bool) → Option (List ℕ) → Output → Type 0
 PicksInput answer held output =
     (input : List ℕ) × Keeps held (Some input) × Picks answer input output
 
--- this is the output of the request on the input
+-- the output of the request on the input
 abbrev pub Prints : Request → List ℕ → Output → Type 0
 Prints (Request.parse text) input output =
     (reading : Result (Tree Question) TextFault) × ParsesAs text reading
@@ -59,8 +59,8 @@ abbrev pub TakesInput : Request → Type 0
 TakesInput (Request.pick triple) = IsSome (row_with {A = Global} triple builtin_rows)
 TakesInput request = ⊥
 
--- this is the output of the request on the input that a source holds, or on some input if the
--- source does not tell its bytes
+-- the output of the request on the input that a source holds, or on some input if the source does
+-- not tell its bytes
 abbrev pub PrintsInput : Request → Option (List ℕ) → Output → Type 0
 PrintsInput request held output =
     (input : List ℕ) × Keeps held (Some input) × Prints request input output
@@ -71,7 +71,7 @@ abbrev pub WritesWhole : Request → Option (List ℕ) → ℕ → Option (List 
 WritesWhole request held status old new = (output : Output) × PrintsInput request held output
     × (output.status ≡ status) × Appends old new output.bytes
 
--- the sink has taken a beginning of the output of the request, perhaps all or nothing of it
+-- the sink has taken a prefix of the output of the request, which may be empty or all of it
 abbrev pub WritesFront : Request → Option (List ℕ) → Option (List ℕ) → Option (List ℕ) → Type 0
 WritesFront request held old new = (output : Output) × PrintsInput request held output
     × TakesFront old new output.bytes

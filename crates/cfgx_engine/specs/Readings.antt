@@ -1,4 +1,4 @@
--- What a text reads as after its outer `cfg( )` is taken off, and what a list of items gives.
+-- What a text reads as without its outer `cfg( )`, and what a list of items gives.
 -- Source of the rules: docs/RULES.md.
 use Rattle.std.specs.Prelude.{◌≡◌, ℕ, List, ◌∷◌, ◌++◌, Result, Ok, Err}
 use Rattle.std.specs.List.{AllZip}

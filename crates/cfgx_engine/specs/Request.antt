@@ -1,18 +1,18 @@
--- What the words after the program's name ask for.
+-- The requests in the words after the program's name.
 -- Source of the rules: docs/RULES.md.
 use Rattle.std.specs.Prelude.{ℕ, List, [], ◌∷◌, codes, map, if◌then◌else◌}
 use Rattle.std.specs.Borrow.{Bor}
 use Rattle.std.specs.Str.{bytes_eq}
 
--- what the words after the program's name ask for
+-- the request in the words after the program's name
 pub data Request : Type 0 where
   -- the predicates of a text
   parse : List ℕ → Request
-  -- the value of a text, if flags say which predicates are true and which are unknown
+  -- the value of a text with flags, which name true and unknown predicates
   eval : List ℕ → List (List ℕ) → Request
   -- the value of a text on the target with a triple
   target : List ℕ → List ℕ → Request
-  -- the verdicts, by the target with a triple, on the sections of the input
+  -- the verdicts of the target with a triple on the sections of the input
   pick : List ℕ → Request
   -- no word, a first word that is no command, or another number of words than the command has
   wrong_use : Request

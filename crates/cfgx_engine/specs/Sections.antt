@@ -1,4 +1,4 @@
--- The input of `pick`, which has a section on each line, and what is printed of it.
+-- The input of `pick`, which has a section on each line, and what is printed for it.
 -- Source of the rules: docs/RULES.md.
 use Rattle.std.specs.Prelude.{◌≡◌, ◌==◌, ℕ, Bool, true, false, List, [], ◌++◌}
 use Rattle.std.specs.Prelude.{codes, length, map, nat_lt, Option, Some, None, Result, Ok, Err}
@@ -15,11 +15,11 @@ use Rattle.cfgx_grammar.specs.Fold.{tree_fold}
 use Rattle.cfgx_engine.specs.Output.{Output, faulty_output}
 use Rattle.cfgx_engine.specs.Readings.{GivesAll, ParsesAs}
 
--- the lines of an input: what stands between its line feeds, less one carriage return at the end
+-- the pieces of an input between line feeds, each without one carriage return at its end
 abbrev pub lines_of : List ℕ → List (List ℕ)
 lines_of input = map strip_carriage_return (slice_split (λ byte. byte == 10) input)
 
--- what a line says
+-- a line, cut at its first tab
 pub data Line : Type 0 where
   empty : Line
   -- there is no tab in it
@@ -37,16 +37,16 @@ line_of text =
     then Line.section (before_first is_tab text) (after_first is_tab text)
     else Line.undivided
 
--- a filling as it is printed: `1` for true, `0` for false
+-- a filling in digits: `1` for true, `0` for false
 abbrev pub digits : List Bool → List ℕ
 digits filling = flat_map (λ filled. if filled then codes "1" else codes "0") filling
 
--- a filling after a text, in a line of its own
+-- a filling behind a text, as a line of their own
 abbrev pub filling_line : List ℕ → List Bool → List ℕ
 filling_line text filling = text ++ digits filling ++ codes "\n"
 
--- what stands after a section's name: the verdict, and if it is unknown the two fillings that show
--- why
+-- what is printed behind a section's name: the verdict and, if it is unknown, two fillings that
+-- show why
 abbrev pub verdict_text : Option Bool → List Bool → List Bool → List ℕ
 verdict_text (Some true) with_true with_false = codes "\tyes\n"
 verdict_text (Some false) with_true with_false = codes "\tno\n"
@@ -54,29 +54,29 @@ verdict_text None with_true with_false = codes "\tunknown\n"
     ++ filling_line (codes "\ttrue with ") with_true
     ++ filling_line (codes "\tfalse with ") with_false
 
--- what stands there if this is the tree and these are the answers
+-- what is printed behind the name for a tree with these answers
 abbrev pub verdict_lines : {X : Type 0} → Tree X → List (Option Bool) → List ℕ
 verdict_lines tree answers = verdict_text (tree_fold three_valued tree answers)
     (polar tree answers true) (polar tree answers false)
 
--- the message for the line with this number, which has no tab
+-- the message for a line without a tab
 abbrev pub no_tab : ℕ → List ℕ
 no_tab number = codes "line " ++ decimal number ++ codes ": no tab\n"
 
--- the message for the line with this number, whose condition has this fault
+-- the message for a line whose condition has a fault
 abbrev pub line_fault : ℕ → TextFault → List ℕ
 line_fault number fault =
     codes "line " ++ decimal number ++ codes ":\n" ++ error_text fault ++ codes "\n"
 
--- what the section on the line with this number prints, by what its condition reads as and by the
--- answers; the error is the message of its fault
+-- what is printed for a section, by the reading of its condition and the answers. The error is the
+-- message of the fault
 abbrev pub section_text : (Question → Option Bool) → ℕ → List ℕ → Result (Tree Question) TextFault
     → Result (List ℕ) (List ℕ)
 section_text answer number name (Ok tree) =
     Ok (name ++ verdict_lines tree (map answer (asked tree)))
 section_text answer number name (Err fault) = Err (line_fault number fault)
 
--- what the line with this number prints with these answers; the error is the message of its fault
+-- what is printed for a line with these answers. The error is the message of its fault
 abbrev pub PrintsLine : (Question → Option Bool) → ℕ × Line → Result (List ℕ) (List ℕ) → Type 0
 PrintsLine answer (number, Line.empty) printed = printed ≡ Ok []
 PrintsLine answer (number, Line.undivided) printed = printed ≡ Err (no_tab number)
@@ -84,12 +84,12 @@ PrintsLine answer (number, Line.section name condition) printed =
     (reading : Result (Tree Question) TextFault) × ParsesAs condition reading
     × (printed ≡ section_text answer number name reading)
 
--- what the lines print, one after another, or the message of the first faulty one
+-- the output of all lines: what is printed for each, or the message of the first faulty one
 abbrev pub lines_output : Result (List (List ℕ)) (List ℕ) → Output
 lines_output (Ok printed) = record { bytes = concat printed; status = 0 }
 lines_output (Err text) = faulty_output text
 
--- this is what is written of these lines, which are numbered from 1
+-- the output of these lines, which are numbered from 1
 abbrev pub PrintsLines : (Question → Option Bool) → List Line → Output → Type 0
 PrintsLines answer lines output = (printed : Result (List (List ℕ)) (List ℕ))
     × GivesAll (PrintsLine answer) (enumerate_from 1 lines) printed

@@ -1,6 +1,6 @@
--- What a target says of a condition. It knows the predicates on the target and no others.
--- Source: Kleene's strong logic, in which a value is known if every way to fill what is unknown
--- leads to it.
+-- The verdict of a target on a condition. A target knows the predicates on the target and no
+-- others. Source: Kleene's strong logic, in which a value is known if every way to fill what is
+-- unknown leads to it.
 use Rattle.std.specs.Prelude.{◌≡◌, ◌↔◌, ℕ, Bool, true, false, List, Option, Some, None, map}
 use Rattle.cfgx_grammar.specs.Question.{Question, TargetQuestion}
 use Rattle.cfgx_grammar.specs.Tree.{asked}
@@ -21,11 +21,11 @@ verdict_of (Some true) = verdict.Yes
 verdict_of (Some false) = verdict.No
 verdict_of None = verdict.Unknown
 
--- the verdict on a condition if these are the answers on the target
+-- the verdict on a condition with these answers on the target
 pub record IsVerdict (answer : TargetQuestion → Bool) (condition : List ℕ) (given : Verdict)
     : Type 0 where
   pub one : HasOneTree condition
-  -- it is that of the tree's value
+  -- it is the verdict of the tree's value
   pub value_is : given ≡ verdict_of (tree_fold three_valued one.tree
       (map (answer_by answer) (asked one.tree)))
   -- it is `Yes` exactly if every filling of the answers makes the tree true

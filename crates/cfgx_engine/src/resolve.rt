@@ -14,19 +14,18 @@ mod auditing;
 use cfg_expr::expr::{Condition, Predicates, TargetMatcher};
 use cfg_expr::memory::SmallAllocator;
 use cfg_expr::{Decision, Expression, Predicate};
-use std::alloc::{AllocError, Allocator, Global};
+use std::alloc::{AllocError, Global};
 
 /// A section of a manifest, which counts if its condition is true.
 #[derive_where(Debug)]
 pub struct Section<A: SmallAllocator = Global> {
-    /// Its name
+    /// The name
     pub name: String<A>,
-    /// Its condition
+    /// The condition
     pub condition: Expression<A>,
 }
 
-// In place of a derive, as for the flags of `eval`: an expression may be dropped only if its
-// allocator is known to be small.
+// A derived `Drop` would have to hold for any allocator, and that of an expression is small.
 impl<A: SmallAllocator> Drop for Section<A> {
     fn drop(self) {
         let Section {
@@ -36,40 +35,29 @@ impl<A: SmallAllocator> Drop for Section<A> {
     }
 }
 
-/// Whether a section is taken.
+/// Whether a section counts on a target.
 #[derive(Clone, Copy, PartialEq, Eq, Debug)]
 pub enum Verdict {
-    /// It is, whatever else holds
+    /// It counts, whatever the unknown answers are
     Yes,
-    /// It is not, whatever else holds
+    /// It does not count, whatever the unknown answers are
     No,
-    /// This depends on predicates that are not on the target
+    /// The unknown answers decide
     Unknown,
 }
 
-/// What a matcher answers to a predicate. Of predicates that are not on the target it knows
-/// nothing.
-fn answer_by<M: TargetMatcher, A: Allocator>(
-    matcher: &M,
-    predicate: &Predicate<'_, A>,
-) -> Option<bool>
+/// Asks `matcher` a predicate. It does not know predicates that are not on the target.
+fn ask<M: TargetMatcher>(matcher: &M, predicate: &Predicate<'_>) -> Option<bool>
     ensures { result ≡ answer_by (M.answer matcher.now) (question_of predicate.now) }
 {
     match predicate {
-        Predicate::Target(target) => Some(target.matches(matcher)),
+        Predicate::Target(target) => Some(matcher.matches(target)),
         _ => None,
     }
 }
 
-/// What a matcher answers to a predicate, which is dropped.
-fn taken_answer<M: TargetMatcher>(matcher: &M, predicate: Predicate<'_>) -> Option<bool>
-    ensures { result ≡ answer_by (M.answer matcher.now) (question_of predicate.entry) }
-{
-    answer_by(matcher, &predicate)
-}
-
-/// Replaces `answers` by what the matcher answers to each predicate, in order.
-fn answer_each<A: SmallAllocator, M: TargetMatcher>(
+/// Replaces `answers` by the answer of `matcher` to each predicate, in order.
+fn ask_each<A: SmallAllocator, M: TargetMatcher>(
     matcher: &M,
     predicates: Predicates<'_>,
     answers: &mut Vec<Option<bool>, A>,
@@ -79,34 +67,36 @@ fn answer_each<A: SmallAllocator, M: TargetMatcher>(
 {
     answers.clear();
     for predicate in predicates {
-        answers.push(taken_answer(matcher, predicate))?;
+        answers.push(ask(matcher, &predicate))?;
     }
     Ok(())
 }
 
-/// `decide_on` for a borrowed condition, which may reuse the memory of an earlier decision.
-pub(crate) fn decide_borrowed<A: SmallAllocator, M: TargetMatcher>(
+/// Replaces `answers` by the answers of `matcher` to the predicates of the condition, and
+/// `decision` by what they decide. The memory of both is reused.
+pub(crate) fn decide_into<A: SmallAllocator, M: TargetMatcher>(
     alloc: A,
     condition: &Condition<'_>,
     matcher: &M,
     answers: &mut Vec<Option<bool>, A>,
-    earlier: Decision<A>,
-) -> Result<Decision<A>, AllocError>
-    ensures decision { IfOk result (λ decision. (one : HasOneTree condition.now)
+    decision: &mut Decision<A>,
+) -> Result<(), AllocError>
+    ensures decision { OnOk result ((one : HasOneTree condition.now)
         × DecidesExactly one.tree
-        (map (answer_by (M.answer matcher.now)) (asked one.tree)) decision) }
+        (map (answer_by (M.answer matcher.now)) (asked one.tree)) decision.new) }
     ensures answers { OnOk result ((one : HasOneTree condition.now)
         × (answers.new.items ≡ map (answer_by (M.answer matcher.now)) (asked one.tree))) }
 {
-    answer_each(matcher, condition.predicates(), answers)?;
-    condition.decide(alloc, answers.as_slice(), earlier)
+    ask_each(matcher, condition.predicates(), answers)?;
+    condition.decide(alloc, answers.as_slice(), decision)
 }
 
-/// What `decide` of a condition answers over the answers of a matcher. The matcher is asked once
-/// for each predicate on the target; every other predicate is unknown.
+/// Asks `matcher` the predicates of a condition, and returns what `Expression::decide` returns for
+/// these answers. The matcher is asked once for each predicate on the target. Every other predicate
+/// is unknown.
 ///
-/// The call replaces what `answers` held by these answers, one for each predicate in order. So one
-/// vector does for many conditions.
+/// The answers replace the contents of `answers`, one for each predicate in order. So one vector
+/// serves for many conditions.
 ///
 /// # Errors
 ///
@@ -124,15 +114,23 @@ pub fn decide_on<A: SmallAllocator, M: TargetMatcher>(
         × (answers.new.items ≡ map (answer_by (M.answer matcher.now)) (asked one.tree))) }
     ensures failed { OnErr result (answers.new.items ≡ []) }
 {
-    let none = Decision::Known(false);
-    let decision = decide_borrowed(alloc, &condition.condition(), matcher, answers, none);
-    if decision.is_err() {
-        answers.clear();
+    let mut decision = Decision::default();
+    match decide_into(
+        alloc,
+        &condition.condition(),
+        matcher,
+        answers,
+        &mut decision,
+    ) {
+        Ok(()) => Ok(decision),
+        Err(error) => {
+            answers.clear();
+            Err(error)
+        }
     }
-    decision
 }
 
-/// The verdict of a value.
+/// Returns the verdict of a value.
 fn verdict_of(value: Option<bool>) -> Verdict
     ensures { result ≡ verdict_of value }
 {
@@ -143,8 +141,8 @@ fn verdict_of(value: Option<bool>) -> Verdict
     }
 }
 
-/// The value of a condition over what the matcher answers.
-pub(crate) fn value_by<A: SmallAllocator, M: TargetMatcher>(
+/// Evaluates a condition over the answers of `matcher`.
+pub(crate) fn eval_on_target<A: SmallAllocator, M: TargetMatcher>(
     alloc: A,
     condition: &Expression<A>,
     matcher: &M,
@@ -154,28 +152,19 @@ pub(crate) fn value_by<A: SmallAllocator, M: TargetMatcher>(
 {
     condition.eval(
         alloc,
-        &mut |predicate: &Predicate<'_>| answer_by(matcher, predicate),
+        &mut |predicate: &Predicate<'_>| ask(matcher, predicate),
     )
 }
 
-/// The verdict on a condition: that of `pick` on a section with it.
-fn verdict_on<A: SmallAllocator, M: TargetMatcher>(
-    alloc: A,
-    condition: &Expression<A>,
-    matcher: &M,
-) -> Result<Verdict, AllocError>
-    ensures { IfOk result (IsVerdict (M.answer matcher.now) condition.now) }
-{
-    let value = value_by(alloc, condition, matcher)?;
-    Ok(verdict_of(value))
-}
-
-/// One verdict for each section, in order: what the matcher answers decides, and predicates that
-/// are not on the target are unknown.
+/// Returns a verdict for each section, in order. `matcher` answers the predicates on the target,
+/// and all others are unknown.
 ///
 /// A verdict is `Yes` exactly if every way to fill the unknown answers makes the section's
-/// condition true, and `No` exactly if every way makes it false. The error is that `alloc`
-/// refused memory. The sections stay as they were.
+/// condition true, and `No` exactly if every way makes it false.
+///
+/// # Errors
+///
+/// `AllocError`: `alloc` refused memory.
 pub fn pick<A: SmallAllocator, M: TargetMatcher>(
     alloc: A,
     sections: &[Section<A>],
@@ -186,16 +175,17 @@ pub fn pick<A: SmallAllocator, M: TargetMatcher>(
 {
     let mut verdicts = Vec::with_capacity(alloc, sections.len())?;
     for section in sections {
-        verdicts.push(verdict_on(alloc, &section.condition, matcher)?)?;
+        let value = eval_on_target(alloc, &section.condition, matcher)?;
+        verdicts.push(verdict_of(value))?;
     }
     Ok(verdicts)
 }
 
-/// The verdict on a condition for each target, in order: what `pick` says of a section with this
-/// condition on that target.
+/// Returns the verdict on a condition for each target, in order. It is the verdict of `pick` on a
+/// section with this condition.
 ///
-/// Targets are taken in pieces of 64. Each predicate is asked once of each of them, and the
-/// condition is then evaluated once for all of the piece. The condition stays as it was.
+/// Targets are taken in pieces of 64. Each predicate is asked once of each target, and the
+/// condition is evaluated once for each piece.
 ///
 /// # Errors
 ///
@@ -208,12 +198,12 @@ pub fn audit<A: SmallAllocator, M: TargetMatcher>(
     ensures { IfOk result (λ verdicts. AllZip (λ target verdict.
         IsVerdict (M.answer target) condition.now verdict) targets.now verdicts.items) }
 {
-    let mut found = Vec::with_capacity(alloc, targets.len())?;
+    let mut verdicts = Vec::with_capacity(alloc, targets.len())?;
     let mut left = targets;
     while !left.is_empty() {
         let (piece, others) = left.split_at(left.len().min(64));
-        auditing::push_piece(alloc, condition, piece, &mut found)?;
+        auditing::audit_piece(alloc, condition, piece, &mut verdicts)?;
         left = others;
     }
-    Ok(found)
+    Ok(verdicts)
 }

@@ -16,7 +16,7 @@ returns-then-left-answers-clause-miscounted c is =
 pub returns-clause-done : goal.returns-clause-done
 returns-clause-done c is =
     let asks = c.predicates.ensures.asked in
-    let value = c.in-Ok-value_over.ensures in
+    let value = c.in-Ok-eval_over_bytes.ensures in
     rw (← c.in-Ok.ensures.cases.0, ← c.in-Ok-parse.ensures.0) record {
       one = value.0;
       count = rw (only_tree asks.0 value.0.tree value.0.reads.has)

@@ -1,11 +1,11 @@
-// What the words after the program's name ask for.
+// The command line.
 
 ghost use Rattle.std.specs.Prelude.{◌≡◌};
-ghost use Rattle.cfgx_engine.specs.answering.Shows.{command_request};
+ghost use Rattle.cfgx_engine.specs.internal.Shows.{command_request};
 ghost use Rattle.cfgx_engine.specs.Request.{eval_request, parse_request, pick_request};
 ghost use Rattle.cfgx_engine.specs.Request.{request_of, target_request, texts};
 
-/// What the words ask for.
+/// A command with its arguments.
 #[derive(Clone, Copy)]
 pub(super) enum Command<'a> {
     Parse(&'a str),
@@ -15,7 +15,7 @@ pub(super) enum Command<'a> {
     WrongUse,
 }
 
-/// The command of the words.
+/// Returns the command in `words`, the arguments after the program's name.
 pub(super) fn command_of<'a>(words: &'a [&'a str]) -> Command<'a>
     ensures { command_request result ≡ request_of (texts words.now) }
 {
@@ -31,7 +31,7 @@ pub(super) fn command_of<'a>(words: &'a [&'a str]) -> Command<'a>
     }
 }
 
-/// The command of the words after `parse`.
+/// Returns the command of `parse` and `words`.
 fn parse_command<'a>(words: &'a [&'a str]) -> Command<'a>
     ensures { command_request result ≡ parse_request (texts words.now) }
 {
@@ -41,7 +41,7 @@ fn parse_command<'a>(words: &'a [&'a str]) -> Command<'a>
     }
 }
 
-/// The command of the words after `eval`.
+/// Returns the command of `eval` and `words`.
 fn eval_command<'a>(words: &'a [&'a str]) -> Command<'a>
     ensures { command_request result ≡ eval_request (texts words.now) }
 {
@@ -51,7 +51,7 @@ fn eval_command<'a>(words: &'a [&'a str]) -> Command<'a>
     }
 }
 
-/// The command of the words after `target`.
+/// Returns the command of `target` and `words`.
 fn target_command<'a>(words: &'a [&'a str]) -> Command<'a>
     ensures { command_request result ≡ target_request (texts words.now) }
 {
@@ -61,7 +61,7 @@ fn target_command<'a>(words: &'a [&'a str]) -> Command<'a>
     }
 }
 
-/// The command of the words after `pick`.
+/// Returns the command of `pick` and `words`.
 fn pick_command<'a>(words: &'a [&'a str]) -> Command<'a>
     ensures { command_request result ≡ pick_request (texts words.now) }
 {

@@ -1,15 +1,18 @@
-// The value of a text if flags say which predicates are true and which are unknown.
+// The value of a text with the flags of `eval`, which name true and unknown predicates.
+//
+// `is_same` takes a predicate by value: with the drop in the loop of `names`, the proof would go over
+// all kinds of predicates.
 
 ghost use Rattle.std.specs.Prelude.{◌≡◌, ◌↔◌, Err, IfErr, IsTrue, OnOk};
 ghost use Rattle.cfgx_grammar.specs.Answer.{Answers};
 ghost use Rattle.cfgx_parser.specs.Predicate.{question_of};
 ghost use Rattle.cfgx_syntax.specs.Stripping.{strip};
-ghost use Rattle.cfgx_engine.specs.answering.ReadsFlags.{AddsFlag, ReadsFlags};
-ghost use Rattle.cfgx_engine.specs.answering.Shows.{Fails, FitsResult};
 ghost use Rattle.cfgx_engine.specs.Flags.{flag_text, IsAnswer, IsNamed, Names};
-ghost use Rattle.cfgx_engine.specs.Request.{texts};
+ghost use Rattle.cfgx_engine.specs.internal.ReadsFlags.{AddsFlag, ReadsFlags};
+ghost use Rattle.cfgx_engine.specs.internal.Shows.{Fails, FitsResult};
 ghost use Rattle.cfgx_engine.specs.Output.{HasValue};
 ghost use Rattle.cfgx_engine.specs.Readings.{ParsesAs};
+ghost use Rattle.cfgx_engine.specs.Request.{texts};
 
 use cfg_expr::error::Failure;
 use cfg_expr::expr::ConditionReader;
@@ -17,13 +20,12 @@ use cfg_expr::memory::SmallAllocator;
 use cfg_expr::{Expression, Predicate};
 use std::marker::Model;
 
-/// A text that names the predicates that its tree asks. Contracts see the text.
+/// A parsed flag, which names the predicates of its text. Contracts see the text.
 struct Flag<A: SmallAllocator> {
     expression: Expression<A>,
 }
 
-// In place of a derive, which drops its fields for any allocator: an expression may be dropped only
-// if its allocator is known to be small.
+// A derived `Drop` would have to hold for any allocator, and that of an expression is small.
 impl<A: SmallAllocator> Drop for Flag<A> {
     fn drop(self) {
         let Flag {
@@ -41,7 +43,7 @@ impl<A: SmallAllocator> Model for Flag<A> {
 }
 
 impl<A: SmallAllocator> Flag<A> {
-    /// The flag of a text.
+    /// Parses the text of a flag.
     fn parse(alloc: A, text: &str) -> Result<Flag<A>, Failure<A>>
         ensures { Answers (strip text.now) result }
     {
@@ -50,12 +52,12 @@ impl<A: SmallAllocator> Flag<A> {
         })
     }
 
-    /// Whether it names the predicate.
+    /// Whether this flag names `predicate`.
     fn names(&self, predicate: &Predicate<'_>) -> bool
         ensures { IsTrue result ↔ Names self.now (question_of predicate.now) }
     {
         for named in self.expression.predicates() {
-            if is_asked(named, predicate) {
+            if is_same(named, predicate) {
                 return true;
             }
         }
@@ -63,18 +65,15 @@ impl<A: SmallAllocator> Flag<A> {
     }
 }
 
-/// Whether a predicate that a flag names is the one that is asked. It is dropped here, since the
-/// proof of a loop that drops it would go by its kinds.
-fn is_asked(named: Predicate<'_>, asked: &Predicate<'_>) -> bool
+/// Whether a flag names `asked` by `named`.
+fn is_same(named: Predicate<'_>, asked: &Predicate<'_>) -> bool
     ensures { IsTrue result ↔ (question_of named.entry ≡ question_of asked.now) }
 {
-    let is_asked = named == *asked;
-    drop(named);
-    is_asked
+    named == *asked
 }
 
-/// Whether one of the flags names the predicate. It is asked twice for each predicate, mostly of no
-/// flags or of one, and so stands in its caller.
+/// Whether one of `flags` names `predicate`. Inlined, since it is called twice for each predicate,
+/// usually with at most one flag.
 #[inline(always)]
 fn is_named<A: SmallAllocator>(flags: &[Flag<A>], predicate: &Predicate<'_>) -> bool
     ensures { IsTrue result ↔ IsNamed flags.now (question_of predicate.now) }
@@ -87,15 +86,17 @@ fn is_named<A: SmallAllocator>(flags: &[Flag<A>], predicate: &Predicate<'_>) -> 
     false
 }
 
-/// The flags whose predicates are true, and those whose predicates are unknown.
+/// The flags of `eval`, parsed.
 #[derive(Drop)]
 struct Flags<A: SmallAllocator> {
+    /// The flags that name true predicates
     known: Vec<Flag<A>, A>,
+    /// The flags that name unknown predicates
     unknown: Vec<Flag<A>, A>,
 }
 
 impl<A: SmallAllocator> Flags<A> {
-    /// The flags of the words.
+    /// Parses the flags in the order of `words`.
     fn parse(alloc: A, words: &[&str]) -> Result<Flags<A>, Failure<A>>
         ensures { ReadsFlags (texts words.now) result }
     {
@@ -109,7 +110,7 @@ impl<A: SmallAllocator> Flags<A> {
         Ok(flags)
     }
 
-    /// Adds the flag of a word. After a `?` stands a text whose predicates are unknown.
+    /// Parses one flag and adds it. A flag that begins with `?` names unknown predicates.
     fn add(&mut self, alloc: A, word: &str) -> Result<(), Failure<A>>
         ensures ok { OnOk result (AddsFlag word.now self.old self.new) }
         ensures err { IfErr result (Fails (λ fault. ParsesAs (flag_text word.now) (Err fault))) }
@@ -121,7 +122,7 @@ impl<A: SmallAllocator> Flags<A> {
         Ok(())
     }
 
-    /// The answer to a predicate. If flags of both kinds name it, it is true.
+    /// Returns the answer to `predicate`. If flags of both kinds name it, it is true.
     fn answer(&self, predicate: &Predicate<'_>) -> Option<bool>
         ensures { IsAnswer self.now.known.items self.now.unknown.items
             (question_of predicate.now) result }
@@ -136,28 +137,16 @@ impl<A: SmallAllocator> Flags<A> {
     }
 }
 
-/// The value of the text. The text is read first, and then each flag in the order of the words.
-pub(super) fn value_under<A: SmallAllocator>(
-    alloc: A,
-    text: &str,
-    words: &[&str],
-) -> Result<Option<bool>, Failure<A>>
-    ensures { FitsResult (HasValue text.now (texts words.now)) result }
-{
-    let mut conditions = ConditionReader::new(alloc);
-    value_read(alloc, text, words, &mut conditions)
-}
-
-/// The value, by a reader that the caller owns. At a `?` the proof goes over all that is owned.
-fn value_read<'a, A: SmallAllocator>(
+/// Evaluates `text` with the flags in `words`. The text is parsed before the flags.
+pub(super) fn eval_with_flags<'a, A: SmallAllocator>(
     alloc: A,
     text: &'a str,
     words: &[&str],
-    conditions: &mut ConditionReader<'a, A>,
+    reader: &mut ConditionReader<'a, A>,
 ) -> Result<Option<bool>, Failure<A>>
     ensures { FitsResult (HasValue text.now (texts words.now)) result }
 {
-    let condition = conditions.read(text)?;
+    let condition = reader.read(text)?;
     let flags = Flags::parse(alloc, words)?;
     let mut answer = |predicate: &Predicate<'_>| flags.answer(predicate);
     Ok(condition.eval(alloc, &mut answer)?)

@@ -1,5 +1,5 @@
-//! What the output of a request is: a function's clause is the law. Its body does nothing, and a
-//! caller that calls it knows the law.
+//! Laws on the output of a request, for the proofs of callers. Each function has the law as its
+//! clause and does nothing.
 ghost use Rattle.std.specs.List.{AllByRecursion};
 ghost use Rattle.std.specs.Prelude.{◌≡◌, List, ℕ};
 ghost use Rattle.std.specs.Str.{IsUtf8};
@@ -7,7 +7,7 @@ ghost use Rattle.cfgx_engine.specs.Output.{Output};
 ghost use Rattle.cfgx_engine.specs.Prints.{Prints};
 ghost use Rattle.cfgx_engine.specs.Request.{Request, request_of};
 
-/// A request has one output at most on an input: the words and the input alone decide what is
+/// A request has at most one output on an input. So the words and the input alone decide what is
 /// written.
 pub fn has_one_output()
     ensures { (request : Request) (input : List ℕ) (one other : Output)

@@ -1,4 +1,4 @@
-// The predicates of a condition, one a line.
+// The output of `parse`: the predicates of a condition, one on each line.
 
 ghost use Rattle.std.specs.Prelude.{◌≡◌, ◌++◌, IfOk, OnOk};
 ghost use Rattle.cfgx_engine.specs.Output.{text_line, lines};
@@ -10,40 +10,29 @@ use cfg_expr::expr::{Predicates, spell};
 use cfg_expr::memory::SmallAllocator;
 use std::alloc::{AllocError, Allocator};
 
-/// One line for each predicate.
+/// Returns a line for each predicate.
 pub(super) fn lines<A: SmallAllocator>(
     alloc: A,
     predicates: Predicates<'_>,
 ) -> Result<Vec<u8, A>, AllocError>
-    ensures { IfOk result (λ written. written.items ≡ lines predicates.entry) }
+    ensures { IfOk result (λ printed. printed.items ≡ lines predicates.entry) }
 {
-    let mut written = Vec::new(alloc);
+    let mut printed = Vec::new(alloc);
     for predicate in predicates {
-        push_next(&mut written, predicate)?;
+        push_line(predicate, &mut printed)?;
     }
-    Ok(written)
+    Ok(printed)
 }
 
-/// Adds a predicate's line, and drops the predicate.
-fn push_next<A: Allocator>(
-    written: &mut Vec<u8, A>,
-    predicate: Predicate<'_>,
-) -> Result<(), AllocError>
-    ensures { OnOk result (written.new.items
-        ≡ written.old.items ++ text_line (spelling (question_of predicate.entry))) }
-{
-    push_line(written, &predicate)
-}
-
-/// Adds a predicate's line. A vector refuses bytes only if it is out of memory.
+/// Pushes the line of a predicate. `spell` fails only if the vector is refused memory.
 fn push_line<A: Allocator>(
-    written: &mut Vec<u8, A>,
-    predicate: &Predicate<'_>,
+    predicate: Predicate<'_>,
+    printed: &mut Vec<u8, A>,
 ) -> Result<(), AllocError>
-    ensures { OnOk result (written.new.items
-        ≡ written.old.items ++ text_line (spelling (question_of predicate.now))) }
+    ensures { OnOk result (printed.new.items
+        ≡ printed.old.items ++ text_line (spelling (question_of predicate.entry))) }
 {
-    spell(predicate, written).map_err(|_| AllocError)?;
-    written.push(b'\n')?;
+    spell(&predicate, printed).map_err(|_| AllocError)?;
+    printed.push(b'\n')?;
     Ok(())
 }

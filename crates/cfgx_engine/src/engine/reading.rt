@@ -1,10 +1,9 @@
-//! An input that is read whole, or not at all.
+//! An input that is read to its end, up to a limit.
 ghost use Rattle.std.specs.Prelude.{◌≡◌, ◌+◌, ◌<◌, ◌≤◌, length, take, is_some};
 ghost use Rattle.std.specs.Prelude.{IfSome, IfNone, IsTrue, if◌then◌else◌};
 ghost use Rattle.std.specs.Io.KnownBytes.{Keeps};
-ghost use Rattle.cfgx_engine.specs.Input.{ReadsInput};
-ghost use Rattle.cfgx_engine.specs.answering.ReadsMore.{IsRoom, ReadsMore};
-ghost use Rattle.cfgx_engine.specs.Input.{input_limit, stop_failures};
+ghost use Rattle.cfgx_engine.specs.Input.{input_limit, ReadsInput, stop_failures};
+ghost use Rattle.cfgx_engine.specs.internal.ReadsMore.{IsRoom, ReadsMore};
 
 use super::streams::Source;
 use std::alloc::{AllocError, Allocator, Global};
@@ -12,23 +11,24 @@ use std::alloc::{AllocError, Allocator, Global};
 /// The most bytes that an input may have: 16 MiB.
 const LIMIT: usize = 16_777_216;
 
-/// How much room is made at once. It is cleared, so it is no more than a pipe gives in one read.
-const ROOM: usize = 65_536;
+/// The number of bytes by which the buffer grows. It is no more than a pipe gives in one read,
+/// since the new bytes are zeroed first.
+const CHUNK: usize = 65_536;
 
-/// An input that was read to its end, or is too long.
+/// The result of reading an input to its end.
 #[derive(Drop)]
 #[derive_where(Debug)]
 pub enum Input<A: Allocator = Global> {
     /// All its bytes, at most 16,777,216
     Bytes(Vec<u8, A>),
-    /// It has more bytes than that
+    /// The input has more bytes than that
     TooLong,
 }
 
 /// Why an input was not read to its end.
 #[derive(Clone, Copy, PartialEq, Eq, Debug)]
 pub enum Stop {
-    /// It is out of memory
+    /// The allocator refused memory
     Memory,
     /// A call of the source failed
     Device,
@@ -44,7 +44,8 @@ impl From<AllocError> for Stop {
     }
 }
 
-/// Makes room after the bytes that were read, if none is left. It answers whether memory was found.
+/// Makes room behind the first `filled` bytes if there is none. Returns `false` if it is refused
+/// memory.
 fn make_room<A: Allocator>(bytes: &mut Vec<u8, A>, filled: usize) -> bool
     requires { IsRoom bytes.old.items filled }
     ensures { IsTrue result → (filled < length bytes.new.items)
@@ -54,11 +55,11 @@ fn make_room<A: Allocator>(bytes: &mut Vec<u8, A>, filled: usize) -> bool
     if filled < bytes.len() {
         return true;
     }
-    let len = (bytes.len() + ROOM).min(LIMIT + 1);
+    let len = (bytes.len() + CHUNK).min(LIMIT + 1);
     bytes.resize(len, 0).is_ok()
 }
 
-/// Reads once, into the room after the bytes that were read. It answers how many bytes came, or
+/// Reads once, behind the first `filled` bytes. Returns the number of bytes that were read, or
 /// `None` if the call failed.
 fn read_once<R: Source>(reader: &mut R, bytes: &mut [u8], filled: usize) -> Option<usize>
     requires failures { R.failures reader.old < u64.MAX }
@@ -75,13 +76,13 @@ fn read_once<R: Source>(reader: &mut R, bytes: &mut [u8], filled: usize) -> Opti
 
 /// Reads a source to its end.
 ///
-/// Returns all the bytes, or that the input is too long, once it has read one byte more than
-/// 16,777,216. What was read stays read in every case. The source must count fewer than `u64::MAX`
-/// failed calls.
+/// Returns `TooLong` once it has read one byte more than 16,777,216. What was read stays read in
+/// every case. The source must count fewer than `u64::MAX` failed calls.
 ///
 /// # Errors
 ///
-/// `Memory`: out of memory. `Device`: a call of the source failed, and none was made after it.
+/// - `Memory`: `alloc` refused memory.
+/// - `Device`: a call of the source failed, and none was made after it.
 pub fn read_input<A: Allocator, R: Source>(alloc: A, reader: &mut R) -> Result<Input<A>, Stop>
     requires { R.failures reader.old < u64.MAX }
     ensures count { R.failures reader.new ≡ R.failures reader.old + stop_failures result }

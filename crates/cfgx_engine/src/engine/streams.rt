@@ -12,20 +12,20 @@ use std::marker::Model;
 
 /// Where bytes are read from.
 ///
-/// Contracts see how many of its calls failed and, if it tells them, the bytes that are still to
+/// Contracts see the number of its failed calls and, if it tells them, the bytes that are still to
 /// come.
 pub trait Source {
-    // How many calls failed so far.
+    // The number of calls that failed so far.
     ghost failures: { Self → ℕ };
 
     // The bytes that are still to come, in order, or `None` if the source does not tell them.
     ghost unread: { Self → Option (List ℕ) };
 
-    /// Reads into the front of the buffer and answers how many bytes it read: as many as it has
-    /// room for, or fewer. It answers 0 only at the end, or if the buffer is empty.
+    /// Reads bytes into a prefix of `buffer` and returns the length of this prefix. It returns 0
+    /// only at the end of the source, or if `buffer` is empty.
     ///
-    /// An error counts as a failed call, and takes no bytes from the source; what the buffer then
-    /// holds is not said.
+    /// An error counts as a failed call and takes no bytes from the source. The contents of
+    /// `buffer` are then not specified.
     fn read(&mut self, buffer: &mut [u8]) -> io::Result<usize>
         requires { failures self.old < u64.MAX }
         ensures count { failures self.new ≡ failures self.old + failures_of result }
@@ -35,26 +35,25 @@ pub trait Source {
 
 /// Where bytes are written to.
 ///
-/// Contracts see how many of its calls failed and, if it tells them, the bytes that were
-/// written.
+/// Contracts see the number of its failed calls and, if it tells them, the bytes that were written.
 pub trait Sink {
-    // How many calls failed so far.
+    // The number of calls that failed so far.
     ghost failures: { Self → ℕ };
 
     // The bytes that were written, in order, or `None` if the sink does not tell them.
     ghost written: { Self → Option (List ℕ) };
 
-    /// Writes a beginning of the bytes and answers its length.
+    /// Writes a prefix of `bytes` and returns its length.
     ///
-    /// An error counts as a failed call, and so does an answer of 0 if there is a byte to write.
-    /// Neither writes any.
+    /// An error counts as a failed call. So does the length 0 if `bytes` is not empty. A failed
+    /// call writes no bytes.
     fn write(&mut self, bytes: &[u8]) -> io::Result<usize>
         requires { failures self.old < u64.MAX }
         ensures count { failures self.new ≡ failures self.old + write_failures result bytes.now }
         ensures bound { WritesAtMost result bytes.now }
         ensures bytes { WriteAppends (written self.old) (written self.new) result bytes.now };
 
-    /// Passes on what the sink has buffered. An error counts as a failed call. The bytes written so
+    /// Flushes what the sink has buffered. An error counts as a failed call. The bytes written so
     /// far stay the same.
     fn flush(&mut self) -> io::Result<()>
         requires { failures self.old < u64.MAX }
@@ -64,8 +63,8 @@ pub trait Sink {
 
 /// A reader or a writer of the standard library with a count of its failed calls.
 ///
-/// Contracts see the stream and the count. As a source and as a sink it tells no bytes, since
-/// nobody can know those of a terminal or a pipe.
+/// Contracts see the stream and the count. It tells no bytes as a source or a sink, since nobody
+/// can know those of a terminal or a pipe.
 #[derive(Drop)]
 pub struct Counted<S> {
     stream: S,
@@ -81,7 +80,7 @@ impl<S> Model for Counted<S> {
 }
 
 impl<S> Counted<S> {
-    /// Counts the failed calls of the stream from here on. It takes no memory.
+    /// Wraps a stream, of which no failed call is counted yet. It takes no memory.
     pub fn new(stream: S) -> Counted<S>
         ensures { result ≡ record { stream = stream; failures = 0 } }
     {
@@ -91,14 +90,14 @@ impl<S> Counted<S> {
         }
     }
 
-    /// How many of its calls failed so far.
+    /// Returns the number of calls that failed so far.
     pub fn failures(&self) -> u64
         ensures { result ≡ self.now.failures }
     {
         self.failures
     }
 
-    /// The stream inside.
+    /// Returns the stream inside.
     pub fn get_ref(&self) -> &S
         ensures { result.now ≡ self.now.stream }
     {
@@ -111,7 +110,7 @@ impl<S: io::Read> Source for Counted<S> {
 
     ghost unread = { λ _. None };
 
-    // Beside what each source does, the bytes are those that the stream gave.
+    // In addition to the contract of the trait, the bytes are those that the stream gave.
     fn read(&mut self, buffer: &mut [u8]) -> io::Result<usize>
         requires { self.old.failures < u64.MAX }
         ensures count { self.new.failures ≡ self.old.failures + failures_of result }
@@ -119,11 +118,11 @@ impl<S: io::Read> Source for Counted<S> {
         ensures stream { ReadConsumes (S.remaining self.old.stream)
             (S.remaining self.new.stream) result buffer.new }
     {
-        let answer = self.stream.read(buffer);
-        if answer.is_err() {
+        let outcome = self.stream.read(buffer);
+        if outcome.is_err() {
             self.failures += 1;
         }
-        answer
+        outcome
     }
 }
 
@@ -132,7 +131,7 @@ impl<S: io::Write> Sink for Counted<S> {
 
     ghost written = { λ _. None };
 
-    // Beside what each sink does, the bytes are those that the stream took.
+    // In addition to the contract of the trait, the bytes are those that the stream took.
     fn write(&mut self, bytes: &[u8]) -> io::Result<usize>
         requires { self.old.failures < u64.MAX }
         ensures count { self.new.failures ≡ self.old.failures + write_failures result bytes.now }
@@ -140,15 +139,15 @@ impl<S: io::Write> Sink for Counted<S> {
         ensures stream { WriteAppends (S.contents self.old.stream)
             (S.contents self.new.stream) result bytes.now }
     {
-        let answer = self.stream.write(bytes);
-        let is_failed = match &answer {
+        let outcome = self.stream.write(bytes);
+        let is_failed = match &outcome {
             Ok(taken) => *taken == 0 && !bytes.is_empty(),
             Err(_) => true,
         };
         if is_failed {
             self.failures += 1;
         }
-        answer
+        outcome
     }
 
     fn flush(&mut self) -> io::Result<()>
@@ -156,20 +155,20 @@ impl<S: io::Write> Sink for Counted<S> {
         ensures count { self.new.failures ≡ self.old.failures + failures_of result }
         ensures stream { Keeps (S.contents self.old.stream) (S.contents self.new.stream) }
     {
-        let answer = self.stream.flush();
-        if answer.is_err() {
+        let outcome = self.stream.flush();
+        if outcome.is_err() {
             self.failures += 1;
         }
-        answer
+        outcome
     }
 }
 
-/// Writes all the bytes, in as many calls of `write` as the sink needs, and then flushes once.
+/// Writes all of `bytes`, in as many calls of `write` as the sink needs, and then flushes once.
 /// Returns whether no call failed.
 ///
-/// If there is nothing to write, it only flushes. The first failed call ends it, also one that was
-/// only interrupted; a beginning of the bytes was written then. The sink must count fewer than
-/// `u64::MAX` failed calls.
+/// If `bytes` is empty, it only flushes. It stops at the first failed call, even one that was only
+/// interrupted. A prefix of `bytes` was written then. The sink must count fewer than `u64::MAX`
+/// failed calls.
 pub fn write_whole<W: Sink>(sink: &mut W, bytes: &[u8]) -> bool
     requires { W.failures sink.old < u64.MAX }
     ensures count { W.failures sink.new ≡ W.failures sink.old + (if result then 0 else 1) }
@@ -179,7 +178,7 @@ pub fn write_whole<W: Sink>(sink: &mut W, bytes: &[u8]) -> bool
     write_in_turns(sink, bytes) && sink.flush().is_ok()
 }
 
-// Writes until nothing is left, or a call fails. It answers whether nothing is left.
+// Writes `bytes` until all are written or a call fails. Returns whether no call failed.
 fn write_in_turns<W: Sink>(sink: &mut W, bytes: &[u8]) -> bool
     requires { W.failures sink.old < u64.MAX }
     ensures count { W.failures sink.new ≡ W.failures sink.old + (if result then 0 else 1) }
@@ -188,16 +187,15 @@ fn write_in_turns<W: Sink>(sink: &mut W, bytes: &[u8]) -> bool
 {
     let mut left = bytes;
     while !left.is_empty() {
-        let Some(beyond) = write_once(sink, left) else {
+        let Some(rest) = write_once(sink, left) else {
             return false;
         };
-        left = beyond;
+        left = rest;
     }
     true
 }
 
-// One call of `write`. It answers what is left after the bytes that went out, or `None` if the
-// call failed.
+// Calls `write` once. Returns the bytes that are left to write, or `None` if the call failed.
 fn write_once<'a, W: Sink>(sink: &mut W, bytes: &'a [u8]) -> Option<&'a [u8]>
     requires room { W.failures sink.old < u64.MAX }
     requires some { 0 < length bytes.now }

@@ -1,10 +1,10 @@
--- The borrowed condition is seen as the expression is.
+-- Contracts see the borrowed condition as the expression.
 use Rattle.cfgx_engine.proofs.resolve.decide_on.Goals as goal
 
-pub returns-else-is_err-clause-decision : goal.returns-else-is_err-clause-decision
-returns-else-is_err-clause-decision g c =
-    rw c.condition.ensures at c.decide_borrowed-decision.ensures.decision
+pub returns-in-Ok-clause-decision : goal.returns-in-Ok-clause-decision
+returns-in-Ok-clause-decision g c =
+    rw c.condition.ensures at c.in-Ok.ensures.decision
 
-pub returns-else-is_err-clause-answers : goal.returns-else-is_err-clause-answers
-returns-else-is_err-clause-answers g c =
-    rw c.condition.ensures at c.decide_borrowed-decision.ensures.answers
+pub returns-in-Ok-clause-answers : goal.returns-in-Ok-clause-answers
+returns-in-Ok-clause-answers g c =
+    rw c.condition.ensures at c.in-Ok.ensures.answers

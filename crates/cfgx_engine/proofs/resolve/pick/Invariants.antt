@@ -2,7 +2,7 @@ use Rattle.std.{proofs.Common.take, specs.List.AllZip}
 use Rattle.cfgx_engine.specs.Verdicts.{IsVerdict}
 use Rattle.cfgx_engine.proofs.resolve.pick.Given as goal
 
--- one verdict for each section that was passed
+-- each section so far has a verdict
 abbrev pub invariant-loop-section : goal.invariant-loop-section
 invariant-loop-section g l = AllZip (λ section given.
     IsVerdict (g.M.TargetMatcher.answer l.matcher) section.condition given)

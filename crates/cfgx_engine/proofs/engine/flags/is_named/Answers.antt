@@ -15,7 +15,7 @@ loop-flag-preserved g c =
     c.loop-flag.flag-index c.flag-item.result c.loop-flag-test.true c.loop-flag.invariant
     (rw (← c.flag-item.is) (λ names. absurd (cc (c.names.ensures.1 names))))
 
--- all the flags were passed
+-- no flag is left
 pub returns : goal.returns
 returns g c =
     let none = rw (take_all _ _ c.loop-flag-test.false) at c.loop-flag.invariant in

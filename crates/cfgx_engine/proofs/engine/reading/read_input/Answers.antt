@@ -1,10 +1,10 @@
--- What was read is what the source gave.
+-- The bytes that were read are those that the source gave.
 use Rattle.std.proofs.Common.{◌≡◌, ℕ, List, ◌++◌, Option, Some, None, append_assoc, arith, refl}
 use Rattle.std.proofs.Common.{rules, ◌∙◌, ap, length, take_at}
 use Rattle.std.{proofs.Math.Seq.take-add, specs.Io.KnownBytes.Consumes}
 use Rattle.cfgx_engine.proofs.engine.reading.read_input.Goals as goal
 
--- what two reads took is what both took, one after the other
+-- two reads consume the bytes of the first and then those of the second
 consumes-more : (old between new : Option (List ℕ)) (first second : List ℕ)
     → Consumes old between first → Consumes between new second → Consumes old new (first ++ second)
 consumes-more None between new first second one two = tt

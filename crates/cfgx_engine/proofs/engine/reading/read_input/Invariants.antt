@@ -1,5 +1,5 @@
--- No call has failed, and the bytes in front of `filled` were read; there is room for one byte more
--- than the limit at most.
+-- No call has failed, and the first `filled` bytes were read. The buffer has at most one byte more
+-- than the limit.
 use Rattle.std.{proofs.Common.{◌+◌, ◌-◌, ◌≡◌, ◌≤◌, length, take}, specs.Io.KnownBytes.Consumes}
 use Rattle.cfgx_engine.specs.Input.{input_limit}
 use Rattle.cfgx_engine.proofs.engine.reading.read_input.Given as goal
@@ -14,4 +14,4 @@ invariant-loop-filled g l = record {
 }
 
 abbrev pub decreases-loop-filled : goal.decreases-loop-filled
-decreases-loop-filled g l = 16777216 + 1 - l.filled
+decreases-loop-filled g l = input_limit + 1 - l.filled

@@ -1,5 +1,5 @@
--- A failed read that is taken for the end is refused at the count, and at what came. `search` does
--- not close the last two.
+-- An edit that takes a failed read for the end is refused at the first two. `search` does not close
+-- the last two.
 use Rattle.std.proofs.{Common.{arith, rules}, lemmas.Grind.common_steps}
 use Rattle.cfgx_engine.proofs.engine.reading.read_once.Goals as goal
 

@@ -1,4 +1,4 @@
-use Rattle.std.proofs.Common.{◌∙◌, ap, refl, rules, append_assoc, Err, Ok}
+use Rattle.std.proofs.Common.{◌∙◌, ap, refl, append_assoc, Err, Ok}
 use Rattle.cfgx_syntax.specs.Error.{failure_of}
 use Rattle.cfgx_engine.proofs.OutputLemmas.{Fails-parse, shown_fault}
 use Rattle.cfgx_engine.proofs.engine.sections.push_line.Goals as goal
@@ -10,15 +10,13 @@ returns-in_ok-push_section-in-Ok-clause-ok g c =
     rw c.in-Section.is (
       _,
       (Ok read.0.tree, read.0.reads, refl),
-      read.1 ∙ append_assoc c.args.written.now.items c.in-Section.name.now _,
+      read.1 ∙ append_assoc c.args.printed.now.items c.in-Section.name.now _,
     )
 
-pub returns-in_ok-told_failure-in-Err-clause-err : goal.returns-in_ok-told_failure-in-Err-clause-err
-returns-in_ok-told_failure-in-Err-clause-err g c =
+pub returns-in_ok-fault_message-in-Err-clause-err
+    : goal.returns-in_ok-fault_message-in-Err-clause-err
+returns-in_ok-fault_message-in-Err-clause-err g c =
     let fails = Fails-parse {A = g.row.A.Denot} c.in-Section.condition.now _ c.in-Err.ensures in
     let one = shown_fault (failure_of {A = g.row.A.Denot} c.in-Err.failure) fails
-    c.in_ok-told_failure-in-Err.ensures in
+    c.in_ok-fault_message-in-Err.ensures in
     rw c.in-Section.is (Err one.0, one.1, ap Err one.2)
-
-pub returns-in_ok-told-in-Undivided-clause-err : goal.returns-in_ok-told-in-Undivided-clause-err
-returns-in_ok-told-in-Undivided-clause-err g c = search rules

@@ -4,7 +4,7 @@ use Rattle.std.{proofs.lemmas.Bool.false_from_ne_true, specs.Str.Lines.strip_car
 use Rattle.std.proofs.lemmas.List.{take_all, take_more}
 use Rattle.cfgx_engine.proofs.engine.sections.without_return.Goals as goal
 
--- only a carriage return at the end is taken off
+-- a text without a carriage return at its end stays the same
 keep-return : (text : List ℕ) → ((front : List ℕ) → text ≢ front ++ 13 ∷ [])
     → strip_carriage_return text ≡ text
 keep-return [] lacks = refl
@@ -16,4 +16,4 @@ keep-return (byte ∷ rest) lacks =
     ∙ ap (λ (b : ℕ). take last text ++ b ∷ []) (eqb-true _ _ is))))
 
 pub returns-in-None : goal.returns-in-None
-returns-in-None c = sym (keep-return c.args.text.now c.in-None.ensures.cases)
+returns-in-None c = sym (keep-return c.args.line.now c.in-None.ensures.cases)

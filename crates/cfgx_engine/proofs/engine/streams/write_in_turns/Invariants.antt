@@ -2,7 +2,7 @@ use Rattle.std.proofs.Common.{◌≡◌, length}
 use Rattle.cfgx_engine.specs.Streams.{Takes}
 use Rattle.cfgx_engine.proofs.engine.streams.write_in_turns.Given as goal
 
--- no call has failed, and the bytes in front of `left` were taken
+-- no call has failed, and the bytes before `left` were taken
 abbrev pub invariant-loop-left : goal.invariant-loop-left
 invariant-loop-left g l = record {
   count : g.W.Sink.failures l.sink ≡ g.W.Sink.failures l.fn.sink;

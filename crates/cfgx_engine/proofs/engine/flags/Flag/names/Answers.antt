@@ -4,23 +4,23 @@ use Rattle.cfgx_parser.specs.Predicate.{question_of}
 use Rattle.cfgx_engine.proofs.engine.flags.Flag.names.Goals as goal
 use Rattle.cfgx_grammar.proofs.Answering.{only_tree}
 
--- what stands in a list, and is not its first item, stands after it
+-- an item of a list that is not the first is one of the others
 other_item : {X : Type 0} (x y : X) (xs : List X) → (x ≡ y → ⊥) → Contains (x ∷ xs) y
     → Contains xs y
 other_item x y xs differs (zero, below, is) = absurd (differs is)
 other_item x y xs differs (suc k, below, is) = (k, omega arith, is)
 
--- the predicate that is next is another one
+-- the next predicate is another one
 pub loop-named-preserved : goal.loop-named-preserved
 loop-named-preserved g c =
     let question = question_of c.args.predicate.now in
     let next = question_of c.in-Some.named in
     let among = rw c.in-Some.ensures.steps at c.loop-named.invariant in (
-      λ all. other_item next question _ (λ is. absurd (cc (c.is_asked.ensures.1 is))) (among.0 all),
+      λ all. other_item next question _ (λ is. absurd (cc (c.is_same.ensures.1 is))) (among.0 all),
       λ rest. among.1 (Contains-append_right (next ∷ []) _ question rest),
     )
 
--- none is left, and the text's tree is the one whose predicates were passed
+-- no predicate is left, and they were those of the text's one tree
 pub returns : goal.returns
 returns g c =
     let asks = c.predicates-named-items.ensures.asked in

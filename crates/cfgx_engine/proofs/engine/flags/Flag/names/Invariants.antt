@@ -2,7 +2,7 @@ use Rattle.std.{proofs.Common.◌↔◌, specs.List.Contains}
 use Rattle.cfgx_parser.specs.Predicate.{question_of}
 use Rattle.cfgx_engine.proofs.engine.flags.Flag.names.Given as goal
 
--- the predicate is among those still to come if it is among all
+-- the predicate is among those to come exactly if it is among all
 abbrev pub invariant-loop-named : goal.invariant-loop-named
 invariant-loop-named g l =
     Contains l.initial.named-iterator (question_of l.predicate)

@@ -3,7 +3,7 @@ use Rattle.std.proofs.{lemmas.Result.err_from_is_err_and, lemmas.Str.Pattern.str
 use Rattle.cfgx_engine.proofs.{FlagLemmas.unknown_text-unmarked, OutputLemmas.Fails-parse}
 use Rattle.cfgx_engine.proofs.engine.flags.Flags.add.Goals as goal
 
--- the text after a `?` is the flag's
+-- the text behind a `?` is that of the flag
 pub returns-in_err-parse-in-Some-clause-err : goal.returns-in_err-parse-in-Some-clause-err
 returns-in_err-parse-in-Some-clause-err g c =
     let p = err_from_is_err_and c.from_residual.result c.from_residual.ensures.1 in

@@ -1,0 +1,46 @@
+-- Each call returns the answer of the flags, and leaves them.
+use Rattle.std.proofs.Common.{◌≡◌, ◌∷◌, ap, refl, rules, Ok, Err}
+use Rattle.std.proofs.{lemmas.Option.IfSome_then, lemmas.Result.err_from_is_err_and}
+use Rattle.cfg_expr.proofs.Chains.{Calls-AllZip}
+use Rattle.cfgx_parser.specs.Predicate.{question_of}
+use Rattle.cfgx_engine.specs.Flags.{IsAnswer, known_texts, unknown_texts}
+use Rattle.cfgx_engine.specs.{Output.HasValue, Readings.ParsesAs, Request.texts}
+use Rattle.cfgx_engine.proofs.ReadingLemmas.{first_fails, later_fails}
+use Rattle.cfgx_engine.proofs.{FlagLemmas.trees_of, OutputLemmas.Fails-parse}
+use Rattle.cfgx_engine.proofs.engine.flags.eval_with_flags.Goals as goal
+
+pub returns-in_err-condition : goal.returns-in_err-condition
+returns-in_err-condition g c =
+    let p = err_from_is_err_and c.from_residual.result c.from_residual.ensures.1 in
+    let Valued = HasValue c.args.text.now (texts c.args.words.now) in
+    rw (p.1, p.2) (IfSome_then _ {Q = λ fault. Valued (Err fault)}
+    (Fails-parse {A = g.row.A.Denot} c.args.text.now _ c.in_err-condition.ensures)
+    (λ fault reads. (Err fault, first_fails ParsesAs _ _ fault reads, refl)))
+
+pub returns-in_err-flags : goal.returns-in_err-flags
+returns-in_err-flags g c =
+    let p = err_from_is_err_and c.from_residual-in_err-flags.result
+    c.from_residual-in_err-flags.ensures.1 in
+    let one = c.in_ok-condition.ensures.2 in
+    let Valued = HasValue c.args.text.now (texts c.args.words.now) in
+    rw (p.1, p.2) (IfSome_then _ {Q = λ fault. Valued (Err fault)} c.in_err-flags.ensures
+    (λ fault gives. (Err fault, later_fails ParsesAs _ one.tree _ fault one.reads gives, refl)))
+
+pub returns : goal.returns
+returns g c =
+    let evaluates = rw c.in_ok-condition.ensures.0 at c.in_ok-eval.ensures.value in
+    let are = c.in_ok-flags.ensures in
+    let words = texts c.args.words.now in
+    let trees = trees_of words are.each in
+    let answered = Calls-AllZip _ (λ closure. closure.0.now ≡ c.in_ok-flags.flags)
+    (IsAnswer (known_texts words) (unknown_texts words))
+    (λ before question given after holds asks.
+    let met = asks.called.met in
+    let answers : IsAnswer before.0.now.known.items before.0.now.unknown.items
+    (question_of asks.shown.now) given = search rules in
+    (rw (← are.known_are, ← are.unknown_are, ← holds, ← asks.shows) answers, search rules))
+    _ _ _ _ (refl {a = c.in_ok-flags.flags}) evaluates.calls in (
+      Ok (evaluates.one.tree ∷ trees.0),
+      (evaluates.one.reads, trees.1),
+      (evaluates.answers, answered, ap Ok evaluates.value_is),
+    )

@@ -1,8 +1,0 @@
-use Rattle.std.proofs.Common.{◌≡◌, ◌++◌, map}
-use Rattle.cfgx_engine.specs.Verdicts.{answer_by}
-use Rattle.cfgx_engine.proofs.resolve.answer_each.Given as goal
-
--- the answers, and then those to the predicates still to come, are all
-abbrev pub invariant-loop-predicate : goal.invariant-loop-predicate
-invariant-loop-predicate g l = let answer_to = answer_by (g.M.TargetMatcher.answer l.matcher) in
-    l.answers.items ++ map answer_to l.predicate-iterator ≡ map answer_to l.fn.predicates

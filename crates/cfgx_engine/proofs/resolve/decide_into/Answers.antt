@@ -1,0 +1,19 @@
+-- The predicates that were asked are those of the one tree.
+use Rattle.std.proofs.lemmas.Result.{on_ok_weaker}
+use Rattle.cfgx_grammar.proofs.Answering.{only_tree}
+use Rattle.cfgx_engine.proofs.resolve.decide_into.Goals as goal
+
+pub returns-clause-decision : goal.returns-clause-decision
+returns-clause-decision g c =
+    let asks = c.predicates.ensures.asked in
+    on_ok_weaker c.decide.result (λ decided.
+    let same = only_tree decided.0 asks.0.tree asks.0.reads.has in (
+      decided.0,
+      rw (c.as_slice.ensures.value, c.in_ok-ask_each.ensures, asks.1, same) at decided.1,
+    )) c.decide.ensures.decision
+
+pub returns-clause-answers : goal.returns-clause-answers
+returns-clause-answers g c =
+    let asks = c.predicates.ensures.asked in
+    on_ok_weaker c.decide.result (λ decided.
+    (asks.0, rw asks.1 at c.in_ok-ask_each.ensures)) c.decide.ensures.decision
