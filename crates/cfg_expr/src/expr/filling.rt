@@ -92,9 +92,9 @@ fn push_odds<A: SmallAllocator>(
     Ok(())
 }
 
-/// Replaces the items of `if_true` and `if_false` by the two fillings of `answers`. `places` has the
-/// place of the predicate of each answer among the nodes. `odds` says of each node whether it is a
-/// predicate below an odd number of `not`.
+/// Replaces the items of `if_true` and `if_false` by the two fillings of `answers`. `places` has
+/// the place of the predicate of each answer among the nodes. `odds` says of each node whether it
+/// is a predicate below an odd number of `not`.
 fn fill<A: SmallAllocator>(
     if_true: &mut Vec<bool, A>,
     if_false: &mut Vec<bool, A>,
