@@ -1,8 +1,8 @@
 // Evaluates a text for the command `eval`. Each flag is a text, and names all predicates in it: as
 // unknown if the flag begins with `?`, and as true if not. All other predicates are false.
 //
-// `is_same` takes a predicate by value, and drops it. If the loop of `names` dropped it, the proof of
-// the loop would have a case for each kind of predicate.
+// `is_same` takes a predicate by value, and drops it. If the loop of `names` dropped it, the proof
+// of the loop would have a case for each kind of predicate.
 
 ghost use Rattle.std.specs.Prelude.{◌≡◌, ◌↔◌, Err, IfErr, IsTrue, OnOk};
 ghost use Rattle.cfgx_grammar.specs.Answer.{Answers};
@@ -124,8 +124,8 @@ impl<A: SmallAllocator> Flags<A> {
         Ok(())
     }
 
-    /// Returns the answer to `predicate`: true if a flag of `known` names it, otherwise unknown if a
-    /// flag of `unknown` names it, and otherwise false.
+    /// Returns the answer to `predicate`: true if a flag of `known` names it, otherwise unknown if
+    /// a flag of `unknown` names it, and otherwise false.
     fn answer(&self, predicate: &Predicate<'_>) -> Option<bool>
         ensures { IsAnswer self.now.known.items self.now.unknown.items
             (question_of predicate.now) result }
