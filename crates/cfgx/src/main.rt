@@ -6,7 +6,8 @@ use cfgx_engine::engine::{Counted, run};
 use std::process::ExitCode;
 use std::{env, io};
 
-/// The status if the arguments cannot be read: out of memory, or not UTF-8. Nothing is written then.
+/// The status if the arguments cannot be read: out of memory, or not UTF-8. Nothing is written
+/// then.
 const REFUSED: u8 = 3;
 
 /// Runs the command in the arguments after the program's name, and returns the exit status.

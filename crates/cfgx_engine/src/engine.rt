@@ -34,8 +34,8 @@ const REFUSED: u8 = 3;
 /// - 2: wrong use, or a triple that is not built in.
 /// - 3: out of memory, or a call of the reader or the writer failed.
 ///
-/// The output is complete in memory before the first `write`; that of wrong use takes no memory. The
-/// first failed call ends the run. Both streams must count fewer than `u64::MAX` failed calls.
+/// The output is complete in memory before the first `write`; that of wrong use takes no memory.
+/// The first failed call ends the run. Both streams must count fewer than `u64::MAX` failed calls.
 pub fn run<A: SmallAllocator, R: Source, W: Sink>(
     alloc: A,
     words: &[&str],

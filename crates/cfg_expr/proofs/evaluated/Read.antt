@@ -63,7 +63,8 @@ module _ {T : Type 0} (logic : Operations T) where
   joined-entries connective trees rest =
       let many = length-entries trees in
       let values = values-entries trees in
-      let all : min (count trees) (length (all_entries trees ++ rest)) ≡ length (all_entries trees) =
+      let all : min (count trees) (length (all_entries trees ++ rest))
+      ≡ length (all_entries trees) =
       omega (arith, length-append (all_entries trees) rest) in
       rw (all, take-append_seam (all_entries trees) rest, drop-append_seam (all_entries trees) rest)
       (rw (values.0, values.1) refl)

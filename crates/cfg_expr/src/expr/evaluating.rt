@@ -1,8 +1,10 @@
-//! Evaluation of a condition. Each answer goes into the slot of its node. The nodes are then read
-//! backwards over one stack: a leaf is pushed, and a function replaces its members by their joined
-//! value. The value of the whole condition is left.
+//! Evaluation of a condition. Each answer goes into the slot of its node. Then the nodes are read
+//! from the last to the first, with one stack: a leaf is pushed, and a function replaces its
+//! members by their joined value. The last entry is the value of the condition.
 //!
-//! Unread answers occupy the front of the slots, the stack the back; they never overlap.
+//! Unread answers occupy the front of the slots, and the stack occupies the back. They never
+//! overlap, since each node pushes at most one entry. The nodes are in the order of the text, which
+//! is not the order in which predicates are asked.
 ghost use Rattle.std.specs.Prelude.{◌≡◌, ◌<◌, ◌≤◌, ◌+◌, ◌∷◌, ℕ, List, IfOk, OnErr, IsOk};
 ghost use Rattle.std.specs.Prelude.{length, map, set, get_or, take, drop};
 ghost use Rattle.cfgx_grammar.specs.Answer.{HasOneTree};
@@ -31,12 +33,13 @@ use smallvec::SmallVec;
 use std::alloc::{AllocError, Allocator};
 use std::mem;
 
-/// An unread answer, or an entry of the stack: the value of a subtree.
+/// An unread answer, or an entry of the stack, which is the value of a subtree.
 #[derive(Default, Drop)]
 pub(crate) enum Slot<T> {
     #[default]
     Empty,
     Leaf(T),
+    /// The value of a function
     Function(T),
 }
 
@@ -49,7 +52,7 @@ pub(crate) enum Kind {
 }
 
 impl<T: Logic> Slot<T> {
-    /// Takes the value if the slot has one of this `kind`.
+    /// Takes the value out of the slot and returns it, if it is of the given `kind`.
     fn take_if(&mut self, kind: Kind) -> Option<T>
         ensures value { result ≡ value_in kind self.old }
         ensures left { self.new ≡ without kind self.old }
@@ -83,7 +86,7 @@ pub(crate) enum Connective {
 }
 
 impl Connective {
-    /// Returns the value of no members.
+    /// Returns the value of a function without members.
     fn identity<T: Logic>(self) -> T
         ensures { result ≡ identity_of T.Logic self }
     {
@@ -103,7 +106,8 @@ impl Connective {
         }
     }
 
-    /// Joins the members of this `kind` to `value`, from the last back, and takes them out.
+    /// Takes the members of the given `kind` out, from the last to the first, and joins each of
+    /// them to `value`. The members are in the order of the text.
     fn join_kind<T: Logic>(self, kind: Kind, value: T, members: &mut [Slot<T>]) -> T
         ensures value { result
             ≡ from_last (join_of T.Logic self) value (values_in kind members.old) }
@@ -118,7 +122,8 @@ impl Connective {
         value
     }
 
-    /// Joins the members from the last back, first the leaves and then the functions.
+    /// Joins first the leaves and then the functions, each from the last to the first. This is the
+    /// order of `cfg-expr`, which matters to a `Logic` whose operations do not commute.
     fn join_all<T: Logic>(self, members: &mut [Slot<T>]) -> T
         ensures { result ≡ joined T.Logic self members.old }
     {
@@ -135,7 +140,8 @@ fn literal_value<T: Logic>(truth: bool) -> T
 }
 
 /// The stack of the subtrees that no function has joined yet. It occupies the slots from `begin`
-/// on, and its top is the first of them.
+/// on, and its top entry is the first of them. Before the node at `place` is read, `begin` is above
+/// `place`.
 #[derive(Drop)]
 pub(crate) struct Stack<'a, T> {
     slots: &'a mut [Slot<T>],
@@ -156,7 +162,7 @@ impl<T: Logic> Stack<'_, T> {
         self.slots[self.begin] = entry;
     }
 
-    /// Pops the value on top, or returns `top` if the stack is empty.
+    /// Pops the top entry, and returns its value. Returns `T::top()` if there is no entry.
     fn pop(&mut self) -> T
         requires { self.old.begin ≤ length self.old.slots.now }
         ensures value { result ≡ top_value T.Logic (entries self.old) }
@@ -190,7 +196,7 @@ impl<T: Logic> Stack<'_, T> {
         self.push(Slot::Function(value));
     }
 
-    /// Reads `node`, whose slot is at `place`.
+    /// Reads `node`, whose slot is at `place`: pops its members, and pushes its value.
     fn read(&mut self, node: &ExprNode, place: usize)
         requires { (place < self.old.begin) × (self.old.begin ≤ length self.old.slots.now) }
         ensures entries { entries self.new
@@ -234,7 +240,7 @@ fn eval_nodes<T: Logic>(nodes: &[ExprNode], slots: &mut [Slot<T>]) -> T
     stack.pop()
 }
 
-/// Returns an empty slot for each of `count` nodes.
+/// Returns `count` empty slots. Up to 33 take no memory: enough for a text of 32 bytes.
 fn empty_slots<T: Logic, A: Allocator>(
     alloc: &A,
     count: usize,
@@ -249,7 +255,7 @@ fn empty_slots<T: Logic, A: Allocator>(
     Ok(slots)
 }
 
-/// Puts `answer` into the slot at `place`, if there is one.
+/// Puts `answer` into the slot at `place`. Does nothing if there is no such slot.
 fn put_answer<T: Logic>(answer: T, place: usize, slots: &mut [Slot<T>])
     ensures { slots.new ≡ set slots.old place (slot.Leaf answer) }
 {
@@ -292,9 +298,9 @@ fn put_each<T: Logic + Copy>(places: &[usize], answers: &[T], slots: &mut [Slot<
     }
 }
 
-/// Returns the value of the condition if `ep` answers each predicate.
+/// Returns the value of the condition, and asks `ep` for the answer to each predicate.
 ///
-/// The error is that `alloc` refused memory for the answers.
+/// Returns an error if `alloc` refuses memory for the slots. Nothing is asked then.
 pub(crate) fn eval<EP, T, A>(alloc: A, parsed: &ParsedRef<'_>, ep: &mut EP) -> Result<T, AllocError>
 where
     EP: FnMut(&Predicate<'_>) -> T,
@@ -313,9 +319,9 @@ where
     Ok(eval_nodes(nodes, slots))
 }
 
-/// Returns the value of the condition over `answers` in the order of its predicates.
+/// Returns the value of the condition over `answers`, one for each predicate in order.
 ///
-/// The error is that `alloc` refused memory for the answers.
+/// Returns an error if `alloc` refuses memory for the slots.
 pub(crate) fn eval_over_answers<T, A>(
     alloc: A,
     parsed: &ParsedRef<'_>,

@@ -1,14 +1,15 @@
-//! Decides a condition over answers of which some may be unknown: its value, or two fillings of
-//! the unknown answers, one with which the condition is true and one with which it is false.
+//! Decides a condition of which some answers may be unknown. The decision is the value of the
+//! condition or, if that is unknown, two fillings: a filling has a truth value for each answer, and
+//! the condition is true with the first filling and false with the second.
 //!
-//! Both fillings take known answers as they are. The first one takes true for an unknown answer
-//! below an even number of `not` and false below an odd number, and the second one the opposite.
+//! Both fillings keep the known answers. In place of an unknown answer, the first filling has true
+//! below an even number of `not`, and false below an odd number. The second filling has the
+//! opposite value.
 //!
-//! One pass over the nodes finds the predicates below an odd number of `not`. Its stack `ahead`
-//! has an entry for each tree that is still to come, the next one on top: whether it stands below
-//! an odd number. The pass pops the entry of each node and pushes one for each of its members.
-//! Every tree has a node, so there are never more entries than nodes. Neither the stack nor the
-//! result takes memory for up to 33 nodes.
+//! One pass over the nodes finds the predicates below an odd number of `not`. The stack `ahead` has
+//! an entry for each subtree that the pass has not reached, with the next one on top. An entry is
+//! true if its subtree is below an odd number of `not`. Each subtree has a node, so there are never
+//! more entries than nodes, and neither `ahead` nor `odds` takes memory for up to 33 nodes.
 ghost use Rattle.std.specs.Prelude.{◌≡◌, ◌++◌, ◌∷◌, true, false, length, map};
 ghost use Rattle.std.specs.Prelude.{replicate, reverse, List, OnOk};
 ghost use Rattle.cfgx_grammar.specs.Given.{AreAnswersTo};
@@ -34,7 +35,7 @@ fn arity(func: &Func) -> usize
     }
 }
 
-/// Pushes `odd` `count` times.
+/// Pushes `odd` to `ahead` `count` times.
 fn push_repeated<A: SmallAllocator>(
     odd: bool,
     count: usize,
@@ -91,8 +92,9 @@ fn push_odds<A: SmallAllocator>(
     Ok(())
 }
 
-/// Replaces the items of `if_true` and `if_false` by the two fillings of `answers`, whose
-/// predicates are the nodes at `places`.
+/// Replaces the items of `if_true` and `if_false` by the two fillings of `answers`. `places` has
+/// the place of the predicate of each answer among the nodes. `odds` says of each node whether it
+/// is a predicate below an odd number of `not`.
 fn fill<A: SmallAllocator>(
     if_true: &mut Vec<bool, A>,
     if_false: &mut Vec<bool, A>,
@@ -118,7 +120,8 @@ fn fill<A: SmallAllocator>(
     Ok(())
 }
 
-/// Replaces `decision` by the two fillings, in the memory of those that it holds.
+/// Replaces `decision` by the two fillings of `answers`. Reuses the memory of the fillings that it
+/// has. If it is out of memory, nothing is known of `decision`.
 fn set_unknown<A: SmallAllocator>(
     alloc: A,
     decision: &mut Decision<A>,
@@ -137,6 +140,7 @@ fn set_unknown<A: SmallAllocator>(
             if_false: Vec::new(alloc),
         };
     }
+    // `decision` is unknown by now.
     if let Decision::Unknown { if_true, if_false } = decision {
         fill(if_true, if_false, odds, places, answers)?;
     }

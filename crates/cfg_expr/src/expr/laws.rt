@@ -26,8 +26,8 @@ pub fn answered_trees_ask_their_answers<T: Logic>()
         → asked (answered T.Logic.top tree answers) ≡ answers }
 {}
 
-/// A map that takes the constants and operations of one logic to those of another takes the value of
-/// a condition to its value over the mapped answers. The map needs to do so only for values that
+/// A map that takes the constants and operations of one logic to those of another takes the value
+/// of a condition to its value over the mapped answers. The map needs to do so only for values that
 /// pass `test`, if the answers pass it, and the operations keep it.
 pub fn homomorphisms_keep_values<T: Logic, U: Logic>()
     ensures { (test : T → Bool) (to : T → U) → IsHomomorphism T.Logic U.Logic (Passes test) to

@@ -1,7 +1,8 @@
-// The value of a text with the flags of `eval`, which name true and unknown predicates.
+// Evaluates a text for the command `eval`. Each flag is a text, and names all predicates in it: as
+// unknown if the flag begins with `?`, and as true if not. All other predicates are false.
 //
-// `is_same` takes a predicate by value: with the drop in the loop of `names`, the proof would go over
-// all kinds of predicates.
+// `is_same` takes a predicate by value, and drops it. If the loop of `names` dropped it, the proof
+// of the loop would have a case for each kind of predicate.
 
 ghost use Rattle.std.specs.Prelude.{◌≡◌, ◌↔◌, Err, IfErr, IsTrue, OnOk};
 ghost use Rattle.cfgx_grammar.specs.Answer.{Answers};
@@ -20,12 +21,13 @@ use cfg_expr::memory::SmallAllocator;
 use cfg_expr::{Expression, Predicate};
 use std::marker::Model;
 
-/// A parsed flag, which names the predicates of its text. Contracts see the text.
+/// A parsed flag, which names the predicates of its text. In contracts, a flag is its text.
 struct Flag<A: SmallAllocator> {
     expression: Expression<A>,
 }
 
-// A derived `Drop` would have to hold for any allocator, and that of an expression is small.
+// A derived `Drop` would be for each `A: Allocator`, and an `Expression` may be dropped only if its
+// allocator is a `SmallAllocator`.
 impl<A: SmallAllocator> Drop for Flag<A> {
     fn drop(self) {
         let Flag {
@@ -65,15 +67,15 @@ impl<A: SmallAllocator> Flag<A> {
     }
 }
 
-/// Whether a flag names `asked` by `named`.
+/// Whether `named` and `asked` are the same predicate.
 fn is_same(named: Predicate<'_>, asked: &Predicate<'_>) -> bool
     ensures { IsTrue result ↔ (question_of named.entry ≡ question_of asked.now) }
 {
     named == *asked
 }
 
-/// Whether one of `flags` names `predicate`. Inlined, since it is called twice for each predicate,
-/// usually with at most one flag.
+/// Whether one of `flags` names `predicate`. This function is inlined, since it is called twice for
+/// each predicate, usually with at most one flag.
 #[inline(always)]
 fn is_named<A: SmallAllocator>(flags: &[Flag<A>], predicate: &Predicate<'_>) -> bool
     ensures { IsTrue result ↔ IsNamed flags.now (question_of predicate.now) }
@@ -96,7 +98,7 @@ struct Flags<A: SmallAllocator> {
 }
 
 impl<A: SmallAllocator> Flags<A> {
-    /// Parses the flags in the order of `words`.
+    /// Parses each of `words` as a flag, in order.
     fn parse(alloc: A, words: &[&str]) -> Result<Flags<A>, Failure<A>>
         ensures { ReadsFlags (texts words.now) result }
     {
@@ -122,7 +124,8 @@ impl<A: SmallAllocator> Flags<A> {
         Ok(())
     }
 
-    /// Returns the answer to `predicate`. If flags of both kinds name it, it is true.
+    /// Returns the answer to `predicate`: true if a flag of `known` names it, otherwise unknown if
+    /// a flag of `unknown` names it, and otherwise false.
     fn answer(&self, predicate: &Predicate<'_>) -> Option<bool>
         ensures { IsAnswer self.now.known.items self.now.unknown.items
             (question_of predicate.now) result }
@@ -137,7 +140,8 @@ impl<A: SmallAllocator> Flags<A> {
     }
 }
 
-/// Evaluates `text` with the flags in `words`. The text is parsed before the flags.
+/// Evaluates `text` with the flags in `words`. The text is parsed before the flags, so the error is
+/// that of the text if both are faulty.
 pub(super) fn eval_with_flags<'a, A: SmallAllocator>(
     alloc: A,
     text: &'a str,

@@ -1,4 +1,4 @@
-// The lines of an input of `pick`, and what is printed for each.
+// Reads the input of the command `pick` line by line, and makes the output.
 
 ghost use Rattle.std.specs.Prelude.{◌≡◌, ◌≤◌, ◌++◌, Err, IfErr, IfOk, OnErr, OnOk, length, map};
 ghost use Rattle.std.specs.Prelude.{IsSomeAnd, string_bytes};
@@ -21,7 +21,7 @@ use cfg_expr::memory::SmallAllocator;
 use cfg_expr::targets::TargetInfo;
 use std::alloc::{AllocError, Allocator};
 
-/// Why nothing is printed for a line.
+/// The error of a line. No output of the lines before it is kept.
 #[derive(Drop)]
 enum LineError<A: Allocator> {
     /// The line is faulty, and this is the message
@@ -58,8 +58,8 @@ struct Buffers<A: Allocator> {
     decision: Decision<A>,
 }
 
-/// Prints the verdicts of the target on the sections in `text`, or the message of the first faulty
-/// line.
+/// Returns the output for `text`: the verdict of the target `row` on each section. If a line is
+/// faulty, the output is the message of the first such line alone.
 pub(super) fn sections_output<A: SmallAllocator>(
     alloc: A,
     row: &TargetInfo<'_, A>,
@@ -81,7 +81,7 @@ pub(super) fn sections_output<A: SmallAllocator>(
     }
 }
 
-/// Returns what is printed for the lines of `text`, one after another.
+/// Returns the output of the lines of `text`, one after another.
 fn print_lines<'a, A: SmallAllocator>(
     alloc: A,
     row: &TargetInfo<'_, A>,
@@ -128,7 +128,7 @@ fn split_line(line: &str) -> Line<'_>
     }
 }
 
-/// Pushes what is printed for the line with this number.
+/// Pushes the output of `line` to `printed`. `number` is the number of the line.
 fn push_line<'a, A: SmallAllocator>(
     alloc: A,
     row: &TargetInfo<'_, A>,
@@ -156,7 +156,8 @@ fn push_line<'a, A: SmallAllocator>(
     }
 }
 
-/// Returns the message for the line with this number, whose condition cannot be parsed.
+/// Returns the message of the line `number`, whose condition cannot be parsed. Returns an error if
+/// the parser is out of memory.
 fn fault_message<A: Allocator>(
     alloc: A,
     number: usize,
@@ -189,7 +190,7 @@ fn push_section<A: SmallAllocator>(
     push_decision(decision, printed)
 }
 
-/// Pushes a verdict and, if it is unknown, two fillings that show why.
+/// Pushes `decision` as a verdict. If the value is unknown, also pushes the two fillings.
 fn push_decision<A: Allocator>(
     decision: &Decision<A>,
     printed: &mut Vec<u8, A>,

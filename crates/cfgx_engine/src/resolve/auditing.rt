@@ -1,7 +1,7 @@
 // The verdicts on a condition for at most 64 targets, by one evaluation in 64 lanes.
 //
-// `ask_in_lanes` takes a predicate by value: with the drop in the loop of `ask_all`, the proof would
-// go over all kinds of predicates.
+// `ask_in_lanes` takes a predicate by value: with the drop in the loop of `ask_all`, the proof
+// would go over all kinds of predicates.
 ghost use Rattle.std.specs.Prelude.{◌≡◌, ◌++◌, ◌≤◌, List, length, IfOk, OnOk};
 ghost use Rattle.std.specs.List.{AllZip};
 ghost use Rattle.cfgx_grammar.specs.Answer.{HasOneTree};

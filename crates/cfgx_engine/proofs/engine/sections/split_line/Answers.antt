@@ -1,5 +1,5 @@
 -- The line is cut at its first tab.
-use Rattle.std.proofs.Common.{◌≡◌, ◌<◌, ◌==◌, ℕ, List, arith, length, refl, Some, None}
+use Rattle.std.proofs.Common.{◌≡◌, ◌<◌, ℕ, List, arith, length, refl, Some, None}
 use Rattle.std.specs.List.{after_first, before_first, position_or_len}
 use Rattle.std.proofs.lemmas.Str.Pattern.{split_once_first}
 use Rattle.cfgx_engine.specs.Sections.{Line, is_tab, line_of}
