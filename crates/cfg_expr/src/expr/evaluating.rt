@@ -283,8 +283,13 @@ where
     ensures { (one : HasOneTree parsed.now)
         × AnswersPut EP.FnMut one.tree ep.old slots.old ep.new slots.new }
 {
-    for (predicate, place) in parsed.predicates().zip(parsed.places().iter()) {
+    let mut places = parsed.places().iter();
+    for predicate in parsed.predicates() {
         let answer = ask(predicate, ep);
+        // There are as many places as predicates.
+        let Some(place) = places.next() else {
+            unreachable!()
+        };
         put_answer(answer, *place, slots);
     }
 }
