@@ -1,5 +1,5 @@
 -- No place or no answer is left.
-use Rattle.std.proofs.Common.{◌≡◌, ◌∙◌, ⊎_elim, ◌⊎◌, ◌∷◌, ℕ, List, [], refl, sym}
+use Rattle.std.proofs.Common.{◌≡◌, ◌∙◌, ⊎_elim, ◌⊎◌, ◌∷◌, ℕ, List, [], refl}
 use Rattle.std.proofs.lemmas.Slice.Zip.{either_empty_from_Zip}
 use Rattle.cfg_expr.specs.nodes.{AnswerSlots.with_answers, Reading.Slot}
 use Rattle.cfg_expr.proofs.expr.evaluating.put_each.Goals as goal
