@@ -155,8 +155,8 @@ fn parse_and_eval<A: SmallAllocator>(
     Ok(eval_on_target(alloc, &condition, row)?)
 }
 
-/// Returns the output of `pick`: the verdicts of the built-in target with `triple` on the sections of
-/// the input. The input is read only if there is such a target.
+/// Returns the output of `pick`: the verdicts of the built-in target with `triple` on the sections
+/// of the input. The input is read only if there is such a target.
 fn pick_output<A: SmallAllocator, R: Source>(
     alloc: A,
     triple: &str,
