@@ -31,7 +31,7 @@ abbrev pub AddsVerdict : {A : Type 0} → TargetInfo A → List ℕ → List ℕ
 AddsVerdict row condition old new = (one : HasOneTree condition)
     × (new ≡ old ++ verdict_lines one.tree (map (answer_on row) (asked one.tree)))
 
--- what is printed for the line with this number is added
+-- what is printed for line `number` is added
 abbrev pub AddsLine : (Question → Option Bool) → ℕ → Line → List ℕ → List ℕ → Type 0
 AddsLine answer number line old new =
     (printed : List ℕ) × PrintsLine answer (number, line) (Ok printed) × (new ≡ old ++ printed)

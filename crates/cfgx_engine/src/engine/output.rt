@@ -103,7 +103,7 @@ pub(super) fn output_of<A: SmallAllocator, R: Source>(
     }
 }
 
-/// Lists the predicates of `text`, or reports its fault.
+/// Returns the output of `parse`: the predicates of `text`, or its fault.
 fn parse_output<A: SmallAllocator>(alloc: A, text: &str) -> Result<Output<A>, AllocError>
     ensures { IfOk result (λ output. Prints (Request.parse text.now) [] (output_view output)) }
 {
@@ -113,7 +113,7 @@ fn parse_output<A: SmallAllocator>(alloc: A, text: &str) -> Result<Output<A>, Al
     }
 }
 
-/// Evaluates `text` with `flags`, or reports the first fault.
+/// Returns the output of `eval`: the value of `text` with `flags`, or the first fault.
 fn eval_output<A: SmallAllocator>(
     alloc: A,
     text: &str,
@@ -126,8 +126,8 @@ fn eval_output<A: SmallAllocator>(
     result_output(alloc, eval_with_flags(alloc, text, flags, &mut reader))
 }
 
-/// Evaluates `text` on the built-in target with `triple`, or reports a fault. The triple is looked
-/// up before the text is parsed.
+/// Returns the output of `target`: the value of `text` on the built-in target with `triple`, or its
+/// fault. The triple is looked up before the text is parsed.
 fn target_output<A: SmallAllocator>(
     alloc: A,
     triple: &str,
@@ -143,7 +143,7 @@ fn target_output<A: SmallAllocator>(
     }
 }
 
-/// Parses `text` and evaluates it on the target.
+/// Parses `text` and evaluates it on the target in `row`.
 fn parse_and_eval<A: SmallAllocator>(
     alloc: A,
     row: &TargetInfo<'_, A>,
@@ -155,8 +155,8 @@ fn parse_and_eval<A: SmallAllocator>(
     Ok(eval_on_target(alloc, &condition, row)?)
 }
 
-/// Prints the verdicts on the sections of the input for the built-in target with `triple`. The
-/// input is read only if there is such a target.
+/// Returns the output of `pick`: the verdicts of the built-in target with `triple` on the sections
+/// of the input. The input is read only if there is such a target.
 fn pick_output<A: SmallAllocator, R: Source>(
     alloc: A,
     triple: &str,
@@ -177,7 +177,7 @@ fn pick_output<A: SmallAllocator, R: Source>(
     Ok(input_output(alloc, row, input)?)
 }
 
-/// Prints the verdicts on the sections of an input that was read.
+/// Returns the output of `pick` for an input that was read.
 fn input_output<A: SmallAllocator>(
     alloc: A,
     row: &TargetInfo<'_, A>,
@@ -195,7 +195,7 @@ fn input_output<A: SmallAllocator>(
     }
 }
 
-/// Prints a value, or reports the fault in its place.
+/// Returns the output of a value, or of the fault in its place.
 fn result_output<A: Allocator>(
     alloc: A,
     value: Result<Option<bool>, Failure<A>>,
@@ -219,7 +219,7 @@ fn value_line(value: Option<bool>) -> &'static str
     }
 }
 
-/// Reports a fault.
+/// Returns the output of a fault.
 fn fault_output<A: Allocator>(alloc: A, failure: Failure<A>) -> Result<Output<A>, AllocError>
     ensures { IfOk result (λ output. ShowsFailure failure (output_view output)) }
 {

@@ -2,6 +2,7 @@
 
 ghost use Rattle.std.specs.Prelude.{◌≡◌, ◌≤◌, ◌++◌, Err, IfErr, IfOk, OnErr, OnOk, length, map};
 ghost use Rattle.std.specs.Prelude.{IsSomeAnd, string_bytes};
+ghost use Rattle.std.specs.List.{position_or_len};
 ghost use Rattle.std.specs.Str.Lines.{strip_carriage_return};
 ghost use Rattle.cfgx_syntax.specs.Error.{failure_of};
 ghost use Rattle.cfgx_engine.specs.Input.{input_limit};
@@ -10,7 +11,7 @@ ghost use Rattle.cfgx_engine.specs.internal.AddsLine.{IfMessage, line_view};
 ghost use Rattle.cfgx_engine.specs.internal.Shows.{output_view};
 ghost use Rattle.cfgx_engine.specs.Output.{answer_on, faulty_output};
 ghost use Rattle.cfgx_engine.specs.Sections.{PrintsLine, PrintsLines, digits, filling_line};
-ghost use Rattle.cfgx_engine.specs.Sections.{line_fault, line_of, lines_of};
+ghost use Rattle.cfgx_engine.specs.Sections.{is_tab, line_fault, line_of, lines_of};
 
 use super::output::Output;
 use crate::resolve::decide_into;
@@ -122,10 +123,28 @@ fn split_line(line: &str) -> Line<'_>
     if line.is_empty() {
         return Line::Empty;
     }
-    match line.split_once('\t') {
-        Some((name, condition)) => Line::Section { name, condition },
-        None => Line::Undivided,
+    let len = name_len(line.as_bytes());
+    if len == line.len() {
+        return Line::Undivided;
     }
+    Line::Section {
+        name: &line[..len],
+        condition: &line[len + 1..],
+    }
+}
+
+/// Returns the number of bytes before the first tab. Names are short, so this loop is faster than
+/// `split_once`.
+#[tactic(auto, using(cfgx_syntax::proofs::Classes::counted))]
+fn name_len(bytes: &[u8]) -> usize
+    ensures len { result ≡ position_or_len is_tab bytes.now }
+    ensures few { result ≤ length bytes.now }
+{
+    let mut len = 0;
+    while len < bytes.len() && bytes[len] != b'\t' {
+        len += 1;
+    }
+    len
 }
 
 /// Pushes the output of `line` to `printed`. `number` is the number of the line.

@@ -1,21 +1,43 @@
--- The line is cut at its first tab.
-use Rattle.std.proofs.Common.{◌≡◌, ◌<◌, ℕ, List, arith, length, refl, Some, None}
-use Rattle.std.specs.List.{after_first, before_first, position_or_len}
-use Rattle.std.proofs.lemmas.Str.Pattern.{split_once_first}
-use Rattle.cfgx_engine.specs.Sections.{Line, is_tab, line_of}
+-- A tab is one byte, so a text can be cut before and after it.
+use Rattle.std.proofs.Common.{◌≡◌, ◌≢◌, ◌<◌, ◌≤◌, ℕ, List, arith, false, get_or, length, not}
+use Rattle.std.{proofs.lemmas.List.Sums.prefix_len_stops, specs.List.position_or_len}
+use Rattle.std.proofs.lemmas.Str.{IsCharBoundary-after_ascii, IsCharBoundary-before_ascii}
+use Rattle.cfgx_engine.specs.Sections.{is_tab}
 use Rattle.cfgx_engine.proofs.engine.sections.split_line.Goals as goal
 
-line_of-divided : (text : List ℕ) → position_or_len is_tab text < length text
-    → line_of text ≡ Line.section (before_first is_tab text) (after_first is_tab text)
-line_of-divided text inside = grind (arith, inside)
+tab_at : (text : List ℕ) → position_or_len is_tab text < length text
+    → get_or text (position_or_len is_tab text) 0 ≡ 9
+tab_at text inside =
+    let stops : not (is_tab (get_or text (position_or_len is_tab text) 0)) ≡ false =
+    prefix_len_stops (λ byte. not (is_tab byte)) text 0 inside in
+    grind (arith, stops)
 
-pub returns-in-Some : goal.returns-in-Some
-returns-in-Some c =
-    let cut = split_once_first 9 c.args.line.now (Some (c.in-Some.name, c.in-Some.condition))
-    c.in-Some.ensures.cases (omega arith) in
-    rw (line_of-divided c.args.line.now cut.0, cut.1, cut.2) refl
+module _ (text bytes : List ℕ) (len : ℕ) (same : bytes ≡ text)
+    (is : len ≡ position_or_len is_tab bytes) (few : len ≤ length bytes) (more : len ≢ length text)
+  where
+    inside : len < length text
+    inside = omega (arith, rw same at few)
 
-pub returns-in-None : goal.returns-in-None
-returns-in-None c =
-    let lacks = split_once_first 9 c.args.line.now None c.in-None.ensures.cases (omega arith) in
-    grind (arith, lacks)
+    tab : get_or text len 0 ≡ 9
+    tab =
+        let at : len ≡ position_or_len is_tab text = rw same at is in
+        rw at (tab_at text (rw at at inside))
+
+pub range-requires-clause-end_boundary : goal.range-requires-clause-end_boundary
+range-requires-clause-end_boundary c =
+    let name = c.name_len-len.ensures in
+    let at = inside c.args.line.now _ _ c.as_bytes.ensures.value name.len name.few
+    c.if-len-line.false in
+    let is = tab c.args.line.now _ _ c.as_bytes.ensures.value name.len name.few
+    c.if-len-line.false in
+    IsCharBoundary-before_ascii c.args.line.now c.name_len-len.result at (omega (arith, is))
+
+pub range_from-requires : goal.range_from-requires
+range_from-requires c =
+    let name = c.name_len-len.ensures in
+    let at = inside c.args.line.now _ _ c.as_bytes.ensures.value name.len name.few
+    c.if-len-line.false in
+    let is = tab c.args.line.now _ _ c.as_bytes.ensures.value name.len name.few
+    c.if-len-line.false in
+    λ _. IsCharBoundary-after_ascii c.args.line.now c.name_len-len.result c.utf8.line at
+    (omega (arith, is))
