@@ -12,24 +12,12 @@ use Rattle.cfgx_examples.specs.Terms.{cut}
 -- whether a predicate is one of `flags`; a flag is a bare key without another meaning
 abbrev pub is_among : List (Bor (List ℕ)) → Question → Bool
 is_among flags (Question.flag name) = list_any (λ flag. bytes_eq flag.now name) flags
-is_among flags (Question.target question) = false
-is_among flags Question.test = false
-is_among flags Question.debug_assertions = false
-is_among flags Question.proc_macro = false
-is_among flags (Question.feature text) = false
-is_among flags (Question.target_feature text) = false
-is_among flags (Question.key_value key value) = false
+is_among flags question = false
 
 -- the term of a predicate: its name if it is a flag, and otherwise `?`
 abbrev pub term_of : Question → List ℕ
 term_of (Question.flag name) = cut name
-term_of (Question.target question) = codes "?"
-term_of Question.test = codes "?"
-term_of Question.debug_assertions = codes "?"
-term_of Question.proc_macro = codes "?"
-term_of (Question.feature text) = codes "?"
-term_of (Question.target_feature text) = codes "?"
-term_of (Question.key_value key value) = codes "?"
+term_of question = codes "?"
 
 -- the call returned an expression that asks this predicate alone, or it ran out of memory
 abbrev pub IsReadAlone : {A : Type 0} → Question → Result (List ℕ) (Failure A) → Type 0
