@@ -1,5 +1,4 @@
-//! Conditions on many targets at once, in lanes and by audits. The value on each target is that of
-//! `eval` on this target.
+//! Tests that a condition has the same value on a target by `eval`, in a lane and by `audit`.
 use crate::calling::rows::eval_on_rows;
 use cfg_expr::expr::logic::Kleene64;
 use cfg_expr::targets::{TargetInfo, Triple};
@@ -11,8 +10,9 @@ use cfgx_testing::targets::builtin_rows;
 use cfgx_testing::triples::TRIPLES;
 use std::alloc::{AllocError, Global};
 
-/// A row is a text, and a digit for its value on each target of `TRIPLES`: `1` for true, `0` for
-/// false and `?` for unknown.
+/// A row is a condition, and its value on each target of `TRIPLES` as a digit: `1` for true, `0` for
+/// false and `?`, which counts as a digit here, for unknown. The targets are macOS, iOS, Mac Catalyst,
+/// the simulator of iOS, and tvOS, in this order.
 pub const AUDITED: &str = r#"
 target_abi = "sim" | 00010
 any(target_abi = "sim", target_os = "macos") | 10010
@@ -22,130 +22,137 @@ any(target_env = "macabi", all(unix, not(test))) | ??1??
 all() | 11111
 "#;
 
-// The number of rows.
-const MOST_ROWS: usize = 600;
+// The number of targets.
+const TARGET_COUNT: usize = 600;
 
-// The triple `row-0` for 0, and so on.
+// Returns the triple `target-<number>`.
 fn numbered_triple<'a>(alloc: Global, number: usize) -> Result<Triple<'a>, AllocError> {
-    let text = format!(in alloc; "row-{number}")?;
+    let text = format!(in alloc; "target-{number}")?;
     Ok(Triple::new(text))
 }
 
-// Sets the triple of the last row to that with this number.
+// Sets the triple of the last target to `target-<number>`.
 fn number_last(
     alloc: Global,
-    rows: &mut [TargetInfo<'_>],
+    targets: &mut [TargetInfo<'_>],
     number: usize,
 ) -> Result<(), AllocError> {
-    match rows.last_mut() {
-        Some(row) => assign_ok(&mut row.triple, numbered_triple(alloc, number)),
+    match targets.last_mut() {
+        Some(target) => assign_ok(&mut target.triple, numbered_triple(alloc, number)),
         None => Ok(()),
     }
 }
 
-// Pushes a row for each number, with the triple of this number. The other fields are those of the
-// rows of `models` in turn.
+// Pushes targets with the triples `target-0`, `target-1` and so on. Their other fields are those of
+// `models` in turn.
 fn push_numbered<'a>(
     alloc: Global,
     models: &[TargetInfo<'a>],
-    rows: &mut Vec<TargetInfo<'a>>,
+    targets: &mut Vec<TargetInfo<'a>>,
 ) -> Result<(), AllocError> {
-    for number in 0..MOST_ROWS {
-        if let Some(row) = models.get(number % TRIPLES.len()) {
-            push_ok(rows, row.try_clone(alloc))?;
-            number_last(alloc, rows.as_mut_slice(), number)?;
+    for number in 0..TARGET_COUNT {
+        if let Some(model) = models.get(number % TRIPLES.len()) {
+            push_ok(targets, model.try_clone(alloc))?;
+            number_last(alloc, targets.as_mut_slice(), number)?;
         }
     }
     Ok(())
 }
 
-// Rows `row-0`, `row-1` and so on, with the other fields of the targets of `TRIPLES` in turn.
-fn numbered_rows(alloc: Global) -> Result<Vec<TargetInfo<'static>>, AllocError> {
+// Returns targets with the triples `target-0`, `target-1` and so on. Their other fields are those of
+// the targets of `TRIPLES` in turn.
+fn numbered_targets(alloc: Global) -> Result<Vec<TargetInfo<'static>>, AllocError> {
     let models = builtin_rows(alloc, TRIPLES)?;
-    let mut rows = Vec::new(alloc);
-    push_numbered(alloc, models.as_slice(), &mut rows)?;
-    Ok(rows)
+    let mut targets = Vec::new(alloc);
+    push_numbered(alloc, models.as_slice(), &mut targets)?;
+    Ok(targets)
 }
 
-// Whether the triples of the rows are numbered.
-fn are_numbered(rows: &[TargetInfo<'_>]) -> bool {
-    let triple_at = |index: usize| rows.get(index).map(|row| row.triple.as_str());
-    triple_at(0) == Some("row-0")
-        && triple_at(129) == Some("row-129")
-        && triple_at(599) == Some("row-599")
-        && rows.len() == MOST_ROWS
+// Returns whether there are `TARGET_COUNT` targets, and targets 0, 129 and 599 have the right triples.
+// Target 129 is the last of those that are tested in lanes.
+fn are_numbered(targets: &[TargetInfo<'_>]) -> bool {
+    let triple_at = |index: usize| targets.get(index).map(|target| target.triple.as_str());
+    triple_at(0) == Some("target-0")
+        && triple_at(129) == Some("target-129")
+        && triple_at(599) == Some("target-599")
+        && targets.len() == TARGET_COUNT
 }
 
-// The answer of a row to a predicate.
-fn answer_on(predicate: &Predicate<'_>, row: &TargetInfo<'_>) -> Answer {
+// Returns the answer of `target` to `predicate`. Predicates that are not about targets are unknown.
+fn answer_on(predicate: &Predicate<'_>, target: &TargetInfo<'_>) -> Answer {
     match predicate {
-        Predicate::Target(target) => Some(target.matches(row)),
+        Predicate::Target(asked) => Some(asked.matches(target)),
         _ => None,
     }
 }
 
-// The value on one row.
+// Returns the value of `expression` on `target`.
 fn value_on(
     alloc: Global,
-    condition: &Expression,
-    row: &TargetInfo<'_>,
+    expression: &Expression,
+    target: &TargetInfo<'_>,
 ) -> Result<Answer, AllocError> {
-    condition.eval(
+    expression.eval(
         alloc,
-        &mut |predicate: &Predicate<'_>| answer_on(predicate, row),
+        &mut |predicate: &Predicate<'_>| answer_on(predicate, target),
     )
 }
 
-// Whether `value` is the value on the row. True if there is no row.
+// Returns whether `value` is the value of `expression` on `target`, or true if there is no target.
 fn is_value_on(
     alloc: Global,
-    condition: &Expression,
-    row: Option<&TargetInfo<'_>>,
+    expression: &Expression,
+    target: Option<&TargetInfo<'_>>,
     value: Answer,
 ) -> bool {
-    match row {
-        Some(row) => value_on(alloc, condition, row) == Ok(value),
+    match target {
+        Some(target) => value_on(alloc, expression, target) == Ok(value),
         None => true,
     }
 }
 
-// Whether each lane is the value on the row with its index.
+// Returns whether each lane of `lanes` is the value of `expression` on the target with its index.
 fn lanes_are_values(
     alloc: Global,
-    condition: &Expression,
-    rows: &[TargetInfo<'_>],
+    expression: &Expression,
+    targets: &[TargetInfo<'_>],
     lanes: Kleene64,
 ) -> bool {
     for i in 0..64 {
-        if !is_value_on(alloc, condition, rows.get(i), lanes.lane(i)) {
+        if !is_value_on(alloc, expression, targets.get(i), lanes.lane(i)) {
             return false;
         }
     }
     true
 }
 
-// Whether the condition has, in lanes, the value on each of at most 64 rows.
-fn lanes_agree(alloc: Global, condition: &Expression, rows: &[TargetInfo<'_>]) -> bool {
-    match eval_on_rows(alloc, condition, rows) {
-        Ok(Some(lanes)) => lanes_are_values(alloc, condition, rows, lanes),
+// Returns whether the lanes of `expression` on at most 64 `targets` are its values by `eval`.
+fn lanes_agree(alloc: Global, expression: &Expression, targets: &[TargetInfo<'_>]) -> bool {
+    match eval_on_rows(alloc, expression, targets) {
+        Ok(Some(lanes)) => lanes_are_values(alloc, expression, targets, lanes),
         _ => false,
     }
 }
 
-// Whether the lanes agree on the first 130 rows, in chunks of 64, 64 and 2.
-fn lanes_agree_in_chunks(alloc: Global, condition: &Expression, rows: &[TargetInfo<'_>]) -> bool {
-    let Some(first) = rows.get(..130) else {
+// Returns whether the lanes of `expression` on the first 130 targets, in chunks of 64, 64 and 2, are
+// its values by `eval`.
+fn lanes_agree_in_chunks(
+    alloc: Global,
+    expression: &Expression,
+    targets: &[TargetInfo<'_>],
+) -> bool {
+    let Some(first) = targets.get(..130) else {
         return false;
     };
     for chunk in first.chunks(64) {
-        if !lanes_agree(alloc, condition, chunk) {
+        if !lanes_agree(alloc, expression, chunk) {
             return false;
         }
     }
     true
 }
 
-// The verdict for a value.
+// Returns the verdict for `value`.
 fn verdict_of(value: Answer) -> Verdict {
     match value {
         Some(true) => Verdict::Yes,
@@ -154,85 +161,98 @@ fn verdict_of(value: Answer) -> Verdict {
     }
 }
 
-// Whether `verdict` is that of the digit, and that of the value on the row.
+// Returns whether `verdict` is the verdict for `digit`, and for the value of `expression` on `target`.
 fn verdict_agrees(
     alloc: Global,
-    condition: &Expression,
-    row: &TargetInfo<'_>,
+    expression: &Expression,
+    target: &TargetInfo<'_>,
     verdict: Verdict,
     digit: Option<u8>,
 ) -> bool {
     digit.map(|digit| verdict_of(answer_of(digit))) == Some(verdict)
-        && value_on(alloc, condition, row).map(verdict_of) == Ok(verdict)
+        && value_on(alloc, expression, target).map(verdict_of) == Ok(verdict)
 }
 
-// Whether there is one verdict for each row, and each is that of the row's digit and value.
+// Returns whether there is one verdict for each target, and each is the verdict for the digit of its
+// target and for the value on it. The digits repeat, as the targets do.
 fn verdicts_agree(
     alloc: Global,
-    condition: &Expression,
-    rows: &[TargetInfo<'_>],
+    expression: &Expression,
+    targets: &[TargetInfo<'_>],
     verdicts: &[Verdict],
     digits: &[u8],
 ) -> bool {
-    for (number, row) in rows.iter().enumerate() {
+    for (number, target) in targets.iter().enumerate() {
         let digit = digits.get(number % TRIPLES.len()).copied();
         let Some(verdict) = verdicts.get(number) else {
             return false;
         };
-        if !verdict_agrees(alloc, condition, row, *verdict, digit) {
+        if !verdict_agrees(alloc, expression, target, *verdict, digit) {
             return false;
         }
     }
-    verdicts.len() == rows.len()
+    verdicts.len() == targets.len()
 }
 
-// Whether an audit of the rows returns the verdicts of the digits.
+// Returns whether an audit of `targets` agrees with `eval` and with `digits`.
 fn audit_agrees(
     alloc: Global,
-    condition: &Expression,
-    rows: &[TargetInfo<'_>],
+    expression: &Expression,
+    targets: &[TargetInfo<'_>],
     digits: &[u8],
 ) -> bool {
-    match audit(alloc, condition, rows) {
-        Ok(verdicts) => verdicts_agree(alloc, condition, rows, verdicts.as_slice(), digits),
+    match audit(alloc, expression, targets) {
+        Ok(verdicts) => verdicts_agree(alloc, expression, targets, verdicts.as_slice(), digits),
         Err(_) => false,
     }
 }
 
-// Whether audits of some numbers of the rows return the verdicts of the digits.
+// Returns whether audits of the first 0, 1, 64, 65 and 130 targets, and of all, agree with `eval` and
+// with `digits`.
 fn audits_agree(
     alloc: Global,
-    condition: &Expression,
-    rows: &[TargetInfo<'_>],
+    expression: &Expression,
+    targets: &[TargetInfo<'_>],
     digits: &[u8],
 ) -> bool {
-    for count in [0, 1, 64, 65, 130, MOST_ROWS] {
-        match rows.get(..count) {
-            Some(first) if audit_agrees(alloc, condition, first, digits) => {}
-            _ => return false,
+    for count in [0, 1, 64, 65, 130, TARGET_COUNT] {
+        let Some(first) = targets.get(..count) else {
+            return false;
+        };
+        if !audit_agrees(alloc, expression, first, digits) {
+            return false;
         }
     }
     true
 }
 
-// Whether the condition has the values of the digits on the rows, in lanes and by audits.
-fn agrees(alloc: Global, condition: &Expression, digits: &[u8]) -> Result<bool, AllocError> {
-    let rows = numbered_rows(alloc)?;
-    let rows = rows.as_slice();
+// Returns whether the lanes of `expression` agree with `eval`, and its audits with `eval` and with
+// `digits`.
+fn agrees_with_digits(
+    alloc: Global,
+    expression: &Expression,
+    digits: &[u8],
+) -> Result<bool, AllocError> {
+    let targets = numbered_targets(alloc)?;
+    let targets = targets.as_slice();
     Ok(
-        are_numbered(rows)
-            && lanes_agree_in_chunks(alloc, condition, rows)
-            && audits_agree(alloc, condition, rows, digits),
+        are_numbered(targets)
+            && lanes_agree_in_chunks(alloc, expression, targets)
+            && audits_agree(alloc, expression, targets, digits),
     )
 }
 
-/// Whether the text of `row` has the values of its digits.
+/// Returns whether the condition of `row` has the values of its digits, and there is one digit for each
+/// target of `TRIPLES`.
 pub fn row_is_right(alloc: Global, row: &[String]) -> bool {
-    let [text, digits] = row else {
+    let [condition, digits] = row else {
         return false;
     };
-    match Expression::parse(alloc, text.as_str()) {
-        Ok(condition) => is_ok_true(agrees(alloc, &condition, digits.as_bytes())),
+    if digits.len() != TRIPLES.len() {
+        return false;
+    }
+    match Expression::parse(alloc, condition.as_str()) {
+        Ok(expression) => is_ok_true(agrees_with_digits(alloc, &expression, digits.as_bytes())),
         Err(_) => false,
     }
 }

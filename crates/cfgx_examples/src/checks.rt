@@ -5,11 +5,11 @@ use crate::auditing::AUDITED;
 use crate::calling::ANSWERS;
 use crate::evaluating::{BY_FLAGS, TERMS};
 use crate::{auditing, calling, evaluating};
-use cfgx_testing::rows::{Checked, Finding, check_tables};
+use cfgx_testing::rows::{Finding, TableToCheck, check_tables};
 use std::alloc::Global;
 
 /// The name of a check, its table, and the number of rows.
-const TABLES: &[Checked<'static>] = &[
+const TABLES: &[TableToCheck<'static>] = &[
     ("examples", ANSWERS, 64),
     ("verdicts on many targets", AUDITED, 6),
     ("values with flags", BY_FLAGS, 5),

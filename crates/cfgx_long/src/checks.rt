@@ -3,11 +3,11 @@ use crate::alike::{ALIKE, has_values};
 use crate::asking::{ASKED, asks_target};
 use crate::deep::{ACCEPTED, FAR, FAULTS, READ, has_fault, has_predicates, reads_texts};
 use crate::many::{LARGE, MEMBERS, decides, first_member_decides};
-use cfgx_testing::rows::{Checked, check_tables};
+use cfgx_testing::rows::{TableToCheck, check_tables};
 use cfgx_testing::words::run_matches_row;
 use std::alloc::Global;
 
-const TABLES: &[Checked<'static>] = &[
+const TABLES: &[TableToCheck<'static>] = &[
     ("fault", FAULTS, 14),
     ("predicates", ACCEPTED, 7),
     ("read", READ, 1),

@@ -20,7 +20,7 @@ pub(crate) mod widths;
 use cfg_expr::memory::SmallAllocator;
 use cfgx_testing::checking::{is_ok_true, value_equals};
 use cfgx_testing::heap::count_growths;
-use cfgx_testing::rows::{Checked, check_tables};
+use cfgx_testing::rows::{TableToCheck, check_tables};
 use runs::Ending;
 use std::alloc::{AllocError, Global};
 use texts::Parsed;
@@ -96,7 +96,7 @@ fn combine(outcomes: &[Outcome]) -> Outcome {
     Ok(true)
 }
 
-const TABLES: &[Checked<'_>] = &[
+const TABLES: &[TableToCheck<'_>] = &[
     ("each growth of a call on a text", texts::TEXTS, 47),
     ("each growth of each run", runs::RUNS, 31),
     ("each growth of each other call", calls::CALLS, 36),

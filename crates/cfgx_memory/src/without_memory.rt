@@ -14,7 +14,7 @@ mod values;
 use crate::in_turn::AllocResult;
 use cfgx_testing::checking::hash_of;
 use cfgx_testing::heap::{Heap, empty_heap, has_every_block};
-use cfgx_testing::rows::{Checked, check_tables};
+use cfgx_testing::rows::{TableToCheck, check_tables};
 use std::alloc::Global;
 use std::hash::Hash;
 
@@ -39,7 +39,7 @@ fn is_made_and_ordered<T: Ord + Hash>(
     }
 }
 
-const TABLES: &[Checked<'_>] = &[
+const TABLES: &[TableToCheck<'_>] = &[
     ("conditions take no memory", conditions::CONDITIONS, 23),
     ("faults take no memory", faults::FAULTS, 3),
     ("lists take no memory", lists::LISTS, 10),

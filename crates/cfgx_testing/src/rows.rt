@@ -1,18 +1,20 @@
 //! Tables of rows as text, one row per line, and the findings of their checks.
 //!
-//! An empty line and a line that begins with `// ` or `# ` are no rows. A backslash at the end of a
-//! line continues the row on the next line. ` | ` separates the fields of a row.
+//! Empty lines and lines that begin with `// ` or `# ` are skipped, unless they continue a row. A
+//! backslash at the end of a line continues the row on the next line. ` | ` separates the fields of
+//! a row.
 //!
-//! In a field `\n`, `\t`, `\r`, `\0` and `\\` are the escapes of Rust, `\u{a0}` is the character with
-//! that number, and `\e` is the empty text. `~piece~3~` repeats the piece three times. A field that
-//! is `USAGE`, `SECTIONS` or `VERDICTS` stands for the text with that name.
+//! In a field, `\n`, `\t`, `\r`, `\0` and `\\` are the escapes of Rust, `\u{a0}` is the character
+//! U+00A0, and `\e` is the empty text. `~piece~3~` is three copies of `piece`. A field that is
+//! `USAGE`, `SECTIONS` or `VERDICTS` stands for the text with that name.
 use crate::streams::{SECTIONS, USAGE, VERDICTS};
 use std::alloc::{AllocError, Global};
 use std::fmt::Debug;
 use std::mem;
 use std::str::Split;
 
-// Pushes the text of `piece`, which follows a backslash. Returns `None` if it begins with no escape.
+// Pushes the text of `piece`, which follows a backslash. Returns `None` if `piece` does not begin
+// with an escape, or if memory runs out.
 fn push_unescaped(text: &mut String, piece: &str) -> Option<()> {
     if let Some(rest) = piece.strip_prefix("u{") {
         let (number, rest) = rest.split_once('}')?;
@@ -20,8 +22,8 @@ fn push_unescaped(text: &mut String, piece: &str) -> Option<()> {
         text.push(char::from_u32(number)?).ok()?;
         return text.push_str(rest).ok();
     }
-    let mut letters = piece.chars();
-    let character = match letters.next()? {
+    let mut characters = piece.chars();
+    let replacement = match characters.next()? {
         'n' => "\n",
         't' => "\t",
         'r' => "\r",
@@ -29,16 +31,18 @@ fn push_unescaped(text: &mut String, piece: &str) -> Option<()> {
         'e' => "",
         _ => return None,
     };
-    text.push_str(character).ok()?;
-    text.push_str(letters.as_str()).ok()
+    text.push_str(replacement).ok()?;
+    text.push_str(characters.as_str()).ok()
 }
 
-/// Replaces the escapes of `field`. Returns `None` if one has no meaning.
+/// Returns `field` with its escapes replaced, or `None` if an escape has no meaning or memory runs
+/// out.
 pub fn unescaped(alloc: Global, field: &str) -> Option<String> {
     let mut pieces = field.split('\\');
     let mut text = String::from_str(alloc, pieces.next()?).ok()?;
     while let Some(piece) = pieces.next() {
         if piece.is_empty() {
+            // The escape `\\` leaves an empty piece, and the piece after it is plain text.
             text.push('\\').ok()?;
             text.push_str(pieces.next()?).ok()?;
         } else {
@@ -48,23 +52,23 @@ pub fn unescaped(alloc: Global, field: &str) -> Option<String> {
     Some(text)
 }
 
-/// Escapes the characters of `text` that a line cannot show.
+/// Returns `text` with its backslashes, line breaks, tabs and NULs replaced by their escapes.
 pub fn escaped(alloc: Global, text: &str) -> Result<String, AllocError> {
     let mut field = String::new(alloc);
-    for letter in text.chars() {
-        match letter {
+    for character in text.chars() {
+        match character {
             '\\' => field.push_str("\\\\")?,
             '\n' => field.push_str("\\n")?,
             '\t' => field.push_str("\\t")?,
             '\r' => field.push_str("\\r")?,
             '\0' => field.push_str("\\0")?,
-            _ => field.push(letter)?,
+            _ => field.push(character)?,
         }
     }
     Ok(field)
 }
 
-// Pushes `piece` repeatedly, as often as the number `times` says.
+// Pushes `piece` `times` times. Returns `None` if `times` is not a number, or if memory runs out.
 fn push_times(text: &mut String, piece: &str, times: &str) -> Option<()> {
     for _time in 0..times.parse::<usize>().ok()? {
         text.push_str(piece).ok()?;
@@ -72,7 +76,8 @@ fn push_times(text: &mut String, piece: &str, times: &str) -> Option<()> {
     Some(())
 }
 
-// Pushes the parts, of which each three are a piece, its number of times, and the text after it.
+// Pushes the text of `parts`. They come in threes: a piece, the number of its copies, and the text
+// after them. Returns `None` if a part is missing or not a number, or if memory runs out.
 fn push_parts(text: &mut String, mut parts: Split<'_, char>) -> Option<()> {
     while let Some(piece) = parts.next() {
         push_times(text, piece, parts.next()?)?;
@@ -81,7 +86,8 @@ fn push_parts(text: &mut String, mut parts: Split<'_, char>) -> Option<()> {
     Some(())
 }
 
-// Repeats the pieces of `field`. Returns `None` if one has no number.
+// Returns `field` with each `~piece~3~` replaced by the copies of `piece`. Returns `None` if a number
+// of copies is missing or not a number, or if memory runs out.
 fn expanded(alloc: Global, field: &str) -> Option<String> {
     let mut parts = field.split('~');
     let mut text = String::from_str(alloc, parts.next()?).ok()?;
@@ -89,7 +95,9 @@ fn expanded(alloc: Global, field: &str) -> Option<String> {
     Some(text)
 }
 
-// The text that `field` stands for, or `None` if it has no meaning.
+// Returns the text that `field` stands for, or `None` if `field` has no meaning or memory runs out.
+// The text never contains `~`: the escapes are replaced first, so that an escaped `~` also separates
+// parts.
 fn text_of(alloc: Global, field: &str) -> Option<String> {
     let field = match field {
         "USAGE" => USAGE,
@@ -100,7 +108,8 @@ fn text_of(alloc: Global, field: &str) -> Option<String> {
     String::from_str(alloc, field).ok()
 }
 
-/// The texts that the fields of `row` stand for, or `None` if one has no meaning.
+/// Returns the texts that the fields of `row` stand for, or `None` if a field has no meaning or memory
+/// runs out.
 pub fn fields_of(alloc: Global, row: &str) -> Option<Vec<String>> {
     let mut fields = Vec::new(alloc);
     for field in row.split(" | ") {
@@ -109,7 +118,8 @@ pub fn fields_of(alloc: Global, row: &str) -> Option<Vec<String>> {
     Some(fields)
 }
 
-// Pushes `line` to `row`, and `row` to `rows` unless the next line continues it.
+// Pushes `line` to `row`, and then `row` to `rows`, unless `line` ends with a backslash, which is not
+// pushed.
 fn push_line(
     alloc: Global,
     rows: &mut Vec<String>,
@@ -124,13 +134,13 @@ fn push_line(
     Ok(())
 }
 
-/// The rows of `table`.
+/// Returns the rows of `table`.
 pub fn rows_of(alloc: Global, table: &str) -> Result<Vec<String>, AllocError> {
     let mut rows = Vec::new(alloc);
     let mut row = String::new(alloc);
     for line in table.lines() {
-        let is_remark = line.is_empty() || line.starts_with("// ") || line.starts_with("# ");
-        if !is_remark || !row.is_empty() {
+        let is_skippable = line.is_empty() || line.starts_with("// ") || line.starts_with("# ");
+        if !is_skippable || !row.is_empty() {
             push_line(alloc, &mut rows, &mut row, line)?;
         }
     }
@@ -140,15 +150,16 @@ pub fn rows_of(alloc: Global, table: &str) -> Result<Vec<String>, AllocError> {
     Ok(rows)
 }
 
-/// The finding of a check. The error says what is wrong with a row, or what the row should say.
+/// The result of a check. The error is a message, or the actual text, which the row should have had.
 pub type Finding = Result<(), String>;
 
-/// Returns the error that says `wrong`.
-pub fn fail(alloc: Global, wrong: &str) -> Finding {
-    Err(String::from_str(alloc, wrong).unwrap_or(String::new(alloc)))
+/// Returns `message` as an error.
+pub fn fail(alloc: Global, message: &str) -> Finding {
+    Err(String::from_str(alloc, message).unwrap_or(String::new(alloc)))
 }
 
-/// Compares the text of `actual` with `wanted`.
+/// Compares the text of `actual` with `wanted`. The error is the actual text, or the error of `actual`
+/// as `Debug` writes it.
 pub fn compare<E: Debug + Drop>(alloc: Global, actual: Result<String, E>, wanted: &str) -> Finding {
     match actual {
         Ok(actual) => {
@@ -164,7 +175,7 @@ pub fn compare<E: Debug + Drop>(alloc: Global, actual: Result<String, E>, wanted
     }
 }
 
-/// Compares the text of `actual` with two fields of a row, which ` | ` separates.
+/// Compares the text of `actual` with `one` and `other`, joined with ` | `.
 pub fn compare_pair<E: Debug + Drop>(
     alloc: Global,
     actual: Result<String, E>,
@@ -176,41 +187,52 @@ pub fn compare_pair<E: Debug + Drop>(
     }
 }
 
-/// Returns the error that says `wrong`, unless `is_right`.
-pub fn require(alloc: Global, is_right: bool, wrong: &str) -> Finding {
-    if is_right { Ok(()) } else { fail(alloc, wrong) }
+/// Returns `message` as an error, unless `is_right`.
+pub fn require(alloc: Global, is_right: bool, message: &str) -> Finding {
+    if is_right {
+        Ok(())
+    } else {
+        fail(alloc, message)
+    }
 }
 
-// Pushes a wrong row as it is written, and what its check found.
-fn push_wrong(alloc: Global, wrong: &mut String, row: &str, found: &str) -> Result<(), AllocError> {
+// Pushes to `report` the wrong `row` as it is written, and what its check found.
+fn push_wrong(
+    alloc: Global,
+    report: &mut String,
+    row: &str,
+    found: &str,
+) -> Result<(), AllocError> {
     let found = escaped(alloc, found)?;
-    wrong.push_str(format!(in alloc; "wrong: {row}\nfound: {found}\n")?.as_str())
+    report.push_str(format!(in alloc; "wrong: {row}\nfound: {found}\n")?.as_str())
 }
 
-/// The rows that do not pass `check`, as they are written, each with what `check` found.
+/// Returns a report of the rows that do not pass `check`: each as it is written, with what `check`
+/// found. The report is empty if all rows pass.
 pub fn wrong_rows<F>(alloc: Global, rows: &[String], check: F) -> Result<String, AllocError>
 where
     F: Fn(&str) -> Finding,
     requires { F.IsAlwaysCallable check }
 {
-    let mut wrong = String::new(alloc);
+    let mut report = String::new(alloc);
     for row in rows {
         if let Err(found) = check(row.as_str()) {
-            push_wrong(alloc, &mut wrong, row.as_str(), found.as_str())?;
+            push_wrong(alloc, &mut report, row.as_str(), found.as_str())?;
         }
     }
-    Ok(wrong)
+    Ok(report)
 }
 
-// The finding of a check that returns whether a row is right, or `None` if it has no such name.
+// Returns the finding for `is_right`, the result of a check. `None` means that no check has the given
+// name.
 fn finding_of(alloc: Global, is_right: Option<bool>) -> Finding {
     match is_right {
         Some(is_right) => require(alloc, is_right, "something else"),
-        None => fail(alloc, "no check of this name"),
+        None => fail(alloc, "no check with this name"),
     }
 }
 
-// Checks the fields of `row`.
+// Checks the fields of `row`. One `check` serves all tables: it gets the name of the check too.
 fn check_row<F>(alloc: Global, row: &str, name: &str, check: &F) -> Finding
 where
     F: Fn(&str, &[String]) -> Option<bool>,
@@ -218,22 +240,26 @@ where
 {
     match fields_of(alloc, row) {
         Some(fields) => finding_of(alloc, check(name, fields.as_slice())),
-        None => fail(alloc, "a field without a meaning"),
+        None => fail(alloc, "a field without a meaning, or out of memory"),
     }
 }
 
 /// The name of a check, a table for it, and the number of the rows of that table.
-pub type Checked<'a> = (&'a str, &'a str, usize);
+pub type TableToCheck<'a> = (&'a str, &'a str, usize);
 
-// Describes what is wrong with a table: its wrong rows, or its number of rows.
-fn wrong_in_table<F>(alloc: Global, checked: Checked<'_>, check: &F) -> Result<String, AllocError>
+// Returns a report of the wrong rows of a table and of a wrong number of rows. The report is empty if
+// nothing is wrong.
+fn report_of<F>(
+    alloc: Global,
+    (name, text, count): TableToCheck<'_>,
+    check: &F,
+) -> Result<String, AllocError>
 where
     F: Fn(&str, &[String]) -> Option<bool>,
     requires { F.IsAlwaysCallable check.now }
 {
-    let (name, table, count) = checked;
-    let rows = rows_of(alloc, table)?;
-    let mut wrong = wrong_rows(
+    let rows = rows_of(alloc, text)?;
+    let mut report = wrong_rows(
         alloc,
         rows.as_slice(),
         |row| check_row(alloc, row, name, check),
@@ -241,52 +267,53 @@ where
     let found = rows.len();
     if found != count {
         let line = format!(in alloc; "{found} rows in place of {count}")?;
-        wrong.push_str(line.as_str())?;
+        report.push_str(line.as_str())?;
     }
-    Ok(wrong)
+    Ok(report)
 }
 
-// Checks a table. The error begins with the name of the check.
-fn check_table<F>(alloc: Global, checked: Checked<'_>, check: &F) -> Finding
+// Checks the rows of a table. The error is the name of the check and the report.
+fn check_table<F>(alloc: Global, table: TableToCheck<'_>, check: &F) -> Finding
 where
     F: Fn(&str, &[String]) -> Option<bool>,
     requires { F.IsAlwaysCallable check.now }
 {
-    match wrong_in_table(alloc, checked, check) {
-        Ok(wrong) => {
-            if wrong.is_empty() {
+    match report_of(alloc, table, check) {
+        Ok(report) => {
+            if report.is_empty() {
                 return Ok(());
             }
-            Err(named(alloc, checked.0, wrong))
+            Err(named(alloc, table.0, report))
         }
         Err(_) => fail(alloc, "out of memory"),
     }
 }
 
-// Puts the name of a check before what is wrong.
-fn named(alloc: Global, name: &str, wrong: String) -> String {
-    match format!(in alloc; "{name}: {wrong}") {
+// Returns `report` with `name` before it, or `report` alone if memory runs out.
+fn named(alloc: Global, name: &str, report: String) -> String {
+    match format!(in alloc; "{name}: {report}") {
         Ok(text) => text,
-        Err(_) => wrong,
+        Err(_) => report,
     }
 }
 
 /// Checks the rows of each table. `check` gets the name of the check and the fields of a row, and
 /// returns whether the row is right, or `None` if no check has this name.
 ///
-/// The error describes the first table with a wrong row, or with another number of rows.
-pub fn check_tables<F>(alloc: Global, tables: &[Checked<'_>], check: F) -> Finding
+/// The error describes the first table with a wrong row, or whose number of rows is not the given
+/// one.
+pub fn check_tables<F>(alloc: Global, tables: &[TableToCheck<'_>], check: F) -> Finding
 where
     F: Fn(&str, &[String]) -> Option<bool>,
     requires { F.IsAlwaysCallable check }
 {
-    for checked in tables {
-        check_table(alloc, *checked, &check)?;
+    for table in tables {
+        check_table(alloc, *table, &check)?;
     }
     Ok(())
 }
 
-/// `piece` repeated `times` times, between `prefix` and `suffix`.
+/// Returns `prefix`, `times` copies of `piece`, and `suffix`.
 pub fn repeated(
     alloc: Global,
     prefix: &str,

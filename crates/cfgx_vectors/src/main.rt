@@ -24,7 +24,7 @@ fn finding(alloc: Global, check: &str, row: &[String]) -> Finding {
     }
     match values::finding(alloc, check, row) {
         Some(finding) => finding,
-        None => fail(alloc, "no check of this name and this number of fields"),
+        None => fail(alloc, "no check with this name and number of fields"),
     }
 }
 

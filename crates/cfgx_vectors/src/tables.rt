@@ -47,7 +47,7 @@ fn finding_of_fields(alloc: Global, table: &Table<'_>, fields: &[String]) -> Fin
 fn finding_of_row(alloc: Global, table: &Table<'_>, row: &str) -> Finding {
     match fields_of(alloc, row) {
         Some(fields) => finding_of_fields(alloc, table, fields.as_slice()),
-        None => fail(alloc, "a field without a meaning"),
+        None => fail(alloc, "a field without a meaning, or out of memory"),
     }
 }
 

@@ -1,4 +1,5 @@
-//! Values of conditions on targets, by `eval`, in lanes and by `pick`.
+//! Values of conditions on targets, by `eval`, in lanes and by `pick`. In digits, `1` is true, `0` is
+//! false, and `?`, which counts as a digit here, is unknown.
 use cfg_expr::error::Failure;
 use cfg_expr::expr::logic::Kleene64;
 use cfg_expr::expr::{Predicates, TargetMatcher};
@@ -12,7 +13,8 @@ use cfgx_testing::targets::{builtin_rows, push_rows};
 use cfgx_testing::triples::TRIPLES;
 use std::alloc::{AllocError, Global};
 
-// The targets that are made by hand: a bare one, iOS, Windows with two vendors, and macOS.
+// The targets that are made by hand: a bare one, iOS, two Windows targets with different vendors, and
+// macOS.
 const BY_HAND: &str = "bare
 aarch64-apple-ios os=ios vendor=apple unix atomics
 by-hand os=windows arch=x86 env=msvc vendor=pc windows bits=32
@@ -20,10 +22,14 @@ by-hand os=windows arch=x86 env=msvc vendor=uwp windows bits=32
 aarch64-apple-darwin os=macos vendor=apple unix atomics
 ";
 
-// Targets, and the answer to predicates that are not on the target.
-type Asked<'a> = (&'a [TargetInfo<'a>], Answer);
+#[derive(Clone, Copy)]
+struct Targets<'a> {
+    rows: &'a [TargetInfo<'a>],
+    // The answer of each target to predicates that are not about targets
+    otherwise: Answer,
+}
 
-// The answer of a target.
+// Returns the answer of `target` to `predicate`, or `otherwise` if `predicate` is not about targets.
 fn answer_on<T: TargetMatcher>(predicate: &Predicate<'_>, target: &T, otherwise: Answer) -> Answer {
     match predicate {
         Predicate::Target(asked) => Some(asked.matches(target)),
@@ -31,35 +37,35 @@ fn answer_on<T: TargetMatcher>(predicate: &Predicate<'_>, target: &T, otherwise:
     }
 }
 
-// The answers of at most 64 targets.
-fn lanes_on(predicate: &Predicate<'_>, (rows, otherwise): Asked<'_>) -> Kleene64 {
+// Returns the answers of at most 64 targets to `predicate`, in lanes.
+fn lanes_on(predicate: &Predicate<'_>, targets: Targets<'_>) -> Kleene64 {
     match predicate {
-        Predicate::Target(asked) if rows.len() <= 64 => asked.lanes(rows),
-        _ => in_each_lane(otherwise),
+        Predicate::Target(asked) if targets.rows.len() <= 64 => asked.lanes(targets.rows),
+        _ => in_each_lane(targets.otherwise),
     }
 }
 
-// The answers of at most 64 targets to an owned predicate.
-fn lanes_on_owned(predicate: Predicate<'_>, asked: Asked<'_>) -> Kleene64 {
-    let lanes = lanes_on(&predicate, asked);
+// Returns the answers of at most 64 targets to an owned `predicate`, and drops it.
+fn lanes_on_owned(predicate: Predicate<'_>, targets: Targets<'_>) -> Kleene64 {
+    let lanes = lanes_on(&predicate, targets);
     drop(predicate);
     lanes
 }
 
-// The answers of at most 64 targets to each predicate.
+// Returns the answers of at most 64 targets to each of `predicates`, in lanes.
 fn answers_on(
     alloc: Global,
     predicates: Predicates<'_>,
-    asked: Asked<'_>,
+    targets: Targets<'_>,
 ) -> Result<Vec<Kleene64>, AllocError> {
     let mut answers = Vec::new(alloc);
     for predicate in predicates {
-        answers.push(lanes_on_owned(predicate, asked))?;
+        answers.push(lanes_on_owned(predicate, targets))?;
     }
     Ok(answers)
 }
 
-// The digit of a value.
+// Returns the digit of `value`.
 fn digit_of(value: Answer) -> char {
     match value {
         Some(true) => '1',
@@ -68,12 +74,13 @@ fn digit_of(value: Answer) -> char {
     }
 }
 
-// The digits of the values on the targets, by `eval`.
-fn values_text(
+// Returns the digits of the values of `expression` on the targets, by `eval`.
+fn eval_digits(
     alloc: Global,
     expression: &Expression,
-    (rows, otherwise): Asked<'_>,
+    targets: Targets<'_>,
 ) -> Result<String, AllocError> {
+    let Targets { rows, otherwise } = targets;
     let mut digits = String::new(alloc);
     for row in rows {
         let mut answer = |predicate: &Predicate<'_>| answer_on(predicate, row, otherwise);
@@ -82,50 +89,53 @@ fn values_text(
     Ok(digits)
 }
 
-// Whether the values in lanes, by `eval` and by `eval_lanes`, match the digits.
+// Returns whether the values of `expression` in lanes, by `eval` over lanes and by `eval_lanes`, match
+// `digits`.
 fn lanes_match(
     alloc: Global,
     expression: &Expression,
-    asked: Asked<'_>,
+    targets: Targets<'_>,
     digits: &[u8],
 ) -> Result<bool, AllocError> {
-    let mut answer = |predicate: &Predicate<'_>| lanes_on(predicate, asked);
+    let mut answer = |predicate: &Predicate<'_>| lanes_on(predicate, targets);
     let value = expression.eval(alloc, &mut answer)?;
-    let answers = answers_on(alloc, expression.predicates(), asked)?;
+    let answers = answers_on(alloc, expression.predicates(), targets)?;
     let in_lanes = eval_in_lanes(alloc, expression, answers.as_slice());
     Ok(in_lanes == Some(value) && lanes_match_digits(value, digits))
 }
 
-// Compares the values on the targets, and in the lanes past them, with the digits.
+// Compares the values of `expression` with `digits`, which has one digit for each target and one more
+// for all unused lanes.
 fn compare_values(
     alloc: Global,
     expression: &Expression,
-    asked: Asked<'_>,
+    targets: Targets<'_>,
     digits: &str,
 ) -> Finding {
-    let each = digits.get(..asked.0.len()).unwrap_or("");
-    compare(alloc, values_text(alloc, expression, asked), each)?;
-    let is_right = digits.len() == asked.0.len().saturating_add(1)
-        && is_ok_true(lanes_match(alloc, expression, asked, digits.as_bytes()));
+    let count = targets.rows.len();
+    let on_targets = digits.get(..count).unwrap_or("");
+    compare(alloc, eval_digits(alloc, expression, targets), on_targets)?;
+    let is_right = digits.len() == count.saturating_add(1)
+        && is_ok_true(lanes_match(alloc, expression, targets, digits.as_bytes()));
     require(alloc, is_right, "other values in lanes")
 }
 
-// Compares the values of `text` with the digits.
-fn finding_on(alloc: Global, asked: Asked<'_>, text: &str, digits: &str) -> Finding {
+// Compares the values of the condition `text` with `digits`.
+fn compare_text(alloc: Global, targets: Targets<'_>, text: &str, digits: &str) -> Finding {
     match Expression::parse(alloc, text) {
-        Ok(expression) => compare_values(alloc, &expression, asked, digits),
-        Err(_) => fail(alloc, "a fault"),
+        Ok(expression) => compare_values(alloc, &expression, targets, digits),
+        Err(_) => fail(alloc, "a fault, or out of memory"),
     }
 }
 
-// A section with this condition.
+// Returns a section whose name and condition are `text`.
 fn section_of(alloc: Global, text: &str) -> Result<Section, Failure> {
     let name = String::from_str(alloc, text)?;
     let condition = Expression::parse(alloc, text)?;
     Ok(Section { name, condition })
 }
 
-// The digit of the only verdict.
+// Returns the digit of the single verdict in `verdicts`, or `x` if there is not one verdict.
 fn digit_of_verdict(verdicts: &[Verdict]) -> char {
     match verdicts {
         [verdict] => digit_of(match verdict {
@@ -137,8 +147,8 @@ fn digit_of_verdict(verdicts: &[Verdict]) -> char {
     }
 }
 
-// The digits of the verdicts of the targets on the only section, by `pick`.
-fn verdicts_text(
+// Returns the digit of the verdict of each target on the single section in `sections`, by `pick`.
+fn pick_digits(
     alloc: Global,
     sections: &[Section],
     rows: &[TargetInfo<'_>],
@@ -151,49 +161,74 @@ fn verdicts_text(
     Ok(digits)
 }
 
-// The digits of the verdicts of the targets on a section with the condition `text`.
-fn verdicts_of(alloc: Global, rows: &[TargetInfo<'_>], text: &str) -> Result<String, Failure> {
+// Returns the digit of the verdict of each target on a section with the condition `text`.
+fn parse_and_pick_digits(
+    alloc: Global,
+    rows: &[TargetInfo<'_>],
+    text: &str,
+) -> Result<String, Failure> {
     let section = section_of(alloc, text)?;
     let mut sections = Vec::new(alloc);
     sections.push(section)?;
-    Ok(verdicts_text(alloc, sections.as_slice(), rows)?)
+    Ok(pick_digits(alloc, sections.as_slice(), rows)?)
 }
 
-// Compares the values and the verdicts on the targets with the digits.
-fn compare_on(alloc: Global, rows: &[TargetInfo<'_>], text: &str, digits: &str) -> Finding {
-    finding_on(alloc, (rows, None), text, digits)?;
+// Compares the values of the condition `text` with `digits`, and the verdicts on it with those of the
+// targets.
+fn compare_text_and_verdicts(
+    alloc: Global,
+    rows: &[TargetInfo<'_>],
+    text: &str,
+    digits: &str,
+) -> Finding {
+    let targets = Targets {
+        rows,
+        otherwise: None,
+    };
+    compare_text(alloc, targets, text, digits)?;
     compare(
         alloc,
-        verdicts_of(alloc, rows, text),
+        parse_and_pick_digits(alloc, rows, text),
         digits.get(..rows.len()).unwrap_or(""),
     )
 }
 
-/// Compares the values and the verdicts on the targets of `TRIPLES` with those of a row. Predicates
-/// that are not on the target are unknown.
+/// Compares the values of `text` and the verdicts on it, both on the targets of `TRIPLES`, with
+/// `digits`. Predicates that are not about targets are unknown.
 pub(super) fn finding_on_built_in(alloc: Global, text: &str, digits: &str) -> Finding {
     match builtin_rows(alloc, TRIPLES) {
-        Ok(rows) => compare_on(alloc, rows.as_slice(), text, digits),
+        Ok(rows) => compare_text_and_verdicts(alloc, rows.as_slice(), text, digits),
         Err(_) => fail(alloc, "out of memory"),
     }
 }
 
+// Returns the targets that are made by hand.
 fn rows_by_hand(alloc: Global) -> Result<Vec<TargetInfo<'static>>, AllocError> {
     let mut rows: Vec<TargetInfo<'static>> = Vec::new(alloc);
     let pushed = push_rows(alloc, &mut rows, BY_HAND);
     pushed.and(Ok(rows))
 }
 
-/// Compares the values on the targets that are made by hand with those of a row. Predicates that are
-/// not on the target are true.
+/// Compares the values of `text` on the targets that are made by hand with `digits`. Predicates that
+/// are not about targets are true.
 pub(super) fn finding_by_hand(alloc: Global, text: &str, digits: &str) -> Finding {
     match rows_by_hand(alloc) {
-        Ok(rows) => finding_on(alloc, (rows.as_slice(), Some(true)), text, digits),
+        Ok(rows) => {
+            let targets = Targets {
+                rows: rows.as_slice(),
+                otherwise: Some(true),
+            };
+            compare_text(alloc, targets, text, digits)
+        }
         Err(_) => fail(alloc, "out of memory"),
     }
 }
 
-/// Compares the values in lanes with those of a row, if there is no target.
+/// Compares the value of `text` without any target, which is that of all unused lanes, with `digits`.
 pub(super) fn finding_on_none(alloc: Global, text: &str, digits: &str) -> Finding {
-    finding_on(alloc, (&[], None), text, digits)
+    let targets = Targets {
+        rows: &[],
+        otherwise: None,
+    };
+    compare_text(alloc, targets, text, digits)
 }
