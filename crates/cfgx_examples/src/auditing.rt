@@ -10,9 +10,9 @@ use cfgx_testing::targets::builtin_rows;
 use cfgx_testing::triples::TRIPLES;
 use std::alloc::{AllocError, Global};
 
-/// A row is a condition, and its value on each target of `TRIPLES` as a digit: `1` for true, `0` for
-/// false and `?`, which counts as a digit here, for unknown. The targets are macOS, iOS, Mac Catalyst,
-/// the simulator of iOS, and tvOS, in this order.
+/// A row is a condition, and its value on each target of `TRIPLES` as a digit: `1` for true, `0`
+/// for false and `?`, which counts as a digit here, for unknown. The targets are macOS, iOS, Mac
+/// Catalyst, the simulator of iOS, and tvOS, in this order.
 pub const AUDITED: &str = r#"
 target_abi = "sim" | 00010
 any(target_abi = "sim", target_os = "macos") | 10010
@@ -59,8 +59,8 @@ fn push_numbered<'a>(
     Ok(())
 }
 
-// Returns targets with the triples `target-0`, `target-1` and so on. Their other fields are those of
-// the targets of `TRIPLES` in turn.
+// Returns targets with the triples `target-0`, `target-1` and so on. Their other fields are those
+// of the targets of `TRIPLES` in turn.
 fn numbered_targets(alloc: Global) -> Result<Vec<TargetInfo<'static>>, AllocError> {
     let models = builtin_rows(alloc, TRIPLES)?;
     let mut targets = Vec::new(alloc);
@@ -68,8 +68,8 @@ fn numbered_targets(alloc: Global) -> Result<Vec<TargetInfo<'static>>, AllocErro
     Ok(targets)
 }
 
-// Returns whether there are `TARGET_COUNT` targets, and targets 0, 129 and 599 have the right triples.
-// Target 129 is the last of those that are tested in lanes.
+// Returns whether there are `TARGET_COUNT` targets, and targets 0, 129 and 599 have the right
+// triples. Target 129 is the last of those that are tested in lanes.
 fn are_numbered(targets: &[TargetInfo<'_>]) -> bool {
     let triple_at = |index: usize| targets.get(index).map(|target| target.triple.as_str());
     triple_at(0) == Some("target-0")
@@ -134,8 +134,8 @@ fn lanes_agree(alloc: Global, expression: &Expression, targets: &[TargetInfo<'_>
     }
 }
 
-// Returns whether the lanes of `expression` on the first 130 targets, in chunks of 64, 64 and 2, are
-// its values by `eval`.
+// Returns whether the lanes of `expression` on the first 130 targets, in chunks of 64, 64 and 2,
+// are its values by `eval`.
 fn lanes_agree_in_chunks(
     alloc: Global,
     expression: &Expression,
@@ -161,7 +161,8 @@ fn verdict_of(value: Answer) -> Verdict {
     }
 }
 
-// Returns whether `verdict` is the verdict for `digit`, and for the value of `expression` on `target`.
+// Returns whether `verdict` is the verdict for `digit`, and for the value of `expression` on
+// `target`.
 fn verdict_agrees(
     alloc: Global,
     expression: &Expression,
@@ -173,8 +174,8 @@ fn verdict_agrees(
         && value_on(alloc, expression, target).map(verdict_of) == Ok(verdict)
 }
 
-// Returns whether there is one verdict for each target, and each is the verdict for the digit of its
-// target and for the value on it. The digits repeat, as the targets do.
+// Returns whether there is one verdict for each target, and each is the verdict for the digit of
+// its target and for the value on it. The digits repeat, as the targets do.
 fn verdicts_agree(
     alloc: Global,
     expression: &Expression,
@@ -207,8 +208,8 @@ fn audit_agrees(
     }
 }
 
-// Returns whether audits of the first 0, 1, 64, 65 and 130 targets, and of all, agree with `eval` and
-// with `digits`.
+// Returns whether audits of the first 0, 1, 64, 65 and 130 targets, and of all, agree with `eval`
+// and with `digits`.
 fn audits_agree(
     alloc: Global,
     expression: &Expression,
@@ -242,8 +243,8 @@ fn agrees_with_digits(
     )
 }
 
-/// Returns whether the condition of `row` has the values of its digits, and there is one digit for each
-/// target of `TRIPLES`.
+/// Returns whether the condition of `row` has the values of its digits, and there is one digit for
+/// each target of `TRIPLES`.
 pub fn row_is_right(alloc: Global, row: &[String]) -> bool {
     let [condition, digits] = row else {
         return false;

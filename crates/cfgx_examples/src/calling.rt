@@ -117,7 +117,8 @@ tables | target_os = "none" | [[Yes, No]]
 tables | all(target_os = "linux", feature = "x") | [[No, Unknown]]
 // The number of conditions that a board decides. Semicolons separate the conditions.
 many | target_os = "none";any(a, unix);all(a, b, not(test), c, unix);test;not(unix);true | 4
-// The dependencies that a board may need. Boards meet no family and no vendor, and flags are unknown.
+// The dependencies that a board may need. Boards meet no family and no vendor, and flags are
+// unknown.
 manifests | macos 64 | ["notify", "loom", "wide"]
 manifests | macos 32 | ["notify", "loom"]
 manifests | none 16 | ["loom"]
@@ -132,7 +133,7 @@ linux | all(unix, feature = "x", not(any(feature = "y", test))) | true
 linux | any(windows, target_has_atomic = "128", target_abi = "x32") | false
 "#;
 
-// Whether `Debug` of `value` prints `text`.
+// Returns whether `Debug` of `value` prints `text`.
 fn prints<T: std::fmt::Debug>(alloc: Global, value: &T, text: &str) -> bool {
     match format!(in alloc; "{value:?}") {
         Ok(shown) => shown.as_str() == text,
@@ -140,7 +141,7 @@ fn prints<T: std::fmt::Debug>(alloc: Global, value: &T, text: &str) -> bool {
     }
 }
 
-// Whether `Debug` of the value of `outcome` prints `text`.
+// Returns whether `Debug` of the value of `outcome` prints `text`.
 fn value_prints<T: std::fmt::Debug + Drop, E: Drop>(
     alloc: Global,
     outcome: Result<T, E>,
@@ -152,8 +153,8 @@ fn value_prints<T: std::fmt::Debug + Drop, E: Drop>(
     }
 }
 
-// Whether an example that returns a `bool` returns `wanted`, or `None` if no such example has this
-// name.
+// Returns whether an example that returns a `bool` returns `wanted`, or `None` if no such example
+// has this name.
 fn bool_is(alloc: Global, example: &str, condition: &Expression, wanted: &str) -> Option<bool> {
     let value = match example {
         "asks_for_tests" => Ok(asks_for_tests(condition)),
@@ -167,8 +168,8 @@ fn bool_is(alloc: Global, example: &str, condition: &Expression, wanted: &str) -
     Some(value_prints(alloc, value, wanted))
 }
 
-// Whether an example that returns an `Option<bool>` returns `wanted`, or `None` if no such example
-// has this name.
+// Returns whether an example that returns an `Option<bool>` returns `wanted`, or `None` if no such
+// example has this name.
 fn option_is(alloc: Global, example: &str, condition: &Expression, wanted: &str) -> Option<bool> {
     let value = match example {
         "unknown" => outside_tests(alloc, condition),
@@ -186,7 +187,7 @@ fn first_flag_is(condition: &Expression, name: &str) -> bool {
     is_found
 }
 
-// Whether the condition costs `wanted` if its first predicate costs 7 and its second one 3.
+// Returns whether the condition costs `wanted` if its first predicate costs 7 and its second one 3.
 fn cost_is(alloc: Global, condition: &Expression, wanted: &str) -> bool {
     let count = condition.predicates().left();
     match [Cost(7), Cost(3)].get(..count) {
@@ -198,7 +199,7 @@ fn cost_is(alloc: Global, condition: &Expression, wanted: &str) -> bool {
     }
 }
 
-// Whether the lanes of macOS and iOS match the digits.
+// Returns whether the lanes of macOS and iOS match the digits.
 fn lanes_match(alloc: Global, condition: &Expression, digits: &str) -> Result<bool, AllocError> {
     let rows = builtin_rows(alloc, &[DARWIN, IOS])?;
     match rows::eval_on_rows(alloc, condition, rows.as_slice())? {
@@ -207,8 +208,8 @@ fn lanes_match(alloc: Global, condition: &Expression, digits: &str) -> Result<bo
     }
 }
 
-// Whether an example that takes a condition returns `wanted`, or `None` if no such example has this
-// name.
+// Returns whether an example that takes a condition returns `wanted`, or `None` if no such example
+// has this name.
 fn value_is(alloc: Global, example: &str, condition: &Expression, wanted: &str) -> Option<bool> {
     Some(match example {
         "first_flag" => first_flag_is(condition, wanted),
@@ -247,7 +248,7 @@ fn count_decided(alloc: Global, conditions: &str) -> Result<usize, Failure> {
     many::count_decided(alloc, texts.as_slice(), &BARE)
 }
 
-// Whether an example returns `wanted`, or `None` if no example has this name.
+// Returns whether an example returns `wanted`, or `None` if no example has this name.
 fn example_returns(alloc: Global, example: &str, text: &str, wanted: &str) -> Option<bool> {
     Some(match example {
         "names" => value_prints(alloc, is_name_of_linux(alloc, text), wanted),
@@ -260,7 +261,8 @@ fn example_returns(alloc: Global, example: &str, text: &str, wanted: &str) -> Op
     })
 }
 
-/// Whether the example of `row` returns what `row` says, or `None` if no example has its name.
+/// Returns whether the example of `row` returns what `row` says, or `None` if no example has its
+/// name.
 pub fn row_is_right(alloc: Global, row: &[String]) -> Option<bool> {
     match row {
         [example, text, wanted] => {
@@ -276,7 +278,8 @@ fn examples_print(rt: HostRuntime) {
     assert!(rt; running::run_parse(&rt, "all(a, any(b), c)") == 0);
 }
 
-// Whether a run with `words` reads `input` to its end, writes `output` and returns the status 0.
+// Returns whether a run with `words` reads `input` to its end, writes `output` and returns the
+// status 0.
 fn run_writes(alloc: Global, words: &[&str], input: &str, output: &str) -> bool {
     let left = input.as_bytes();
     let mut source = streams::Left { left };

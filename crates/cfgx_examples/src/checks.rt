@@ -16,7 +16,7 @@ const TABLES: &[TableToCheck<'static>] = &[
     ("terms and questions", TERMS, 12),
 ];
 
-// Whether the row passes the check, or `None` if no check has this name.
+// Returns whether the row passes the check, or `None` if no check has this name.
 fn row_is_right(alloc: Global, check: &str, row: &[String]) -> Option<bool> {
     match check {
         "examples" => calling::row_is_right(alloc, row),

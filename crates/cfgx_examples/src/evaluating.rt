@@ -13,7 +13,7 @@ use cfgx_testing::checking::is_ok_true;
 use std::alloc::{AllocError, Global};
 use terms::Terms;
 
-/// Whether a predicate is one of `flags`. A flag is a bare key without another meaning.
+/// Returns whether a predicate is one of `flags`. A flag is a bare key without another meaning.
 fn is_among(flags: &[&str], predicate: &Predicate<'_>) -> bool
     ensures { result ≡ is_among flags.now (question_of predicate.now) }
 {
@@ -23,7 +23,7 @@ fn is_among(flags: &[&str], predicate: &Predicate<'_>) -> bool
     }
 }
 
-/// The value of a condition if `flags` are true and everything else is false.
+/// Returns the value of a condition if `flags` are true and everything else is false.
 pub fn eval_with_flags(
     alloc: Global,
     expression: &Expression,
@@ -36,7 +36,7 @@ pub fn eval_with_flags(
     expression.eval(alloc, &mut answer)
 }
 
-/// The term of a predicate: its name if it is a flag, and otherwise `?`.
+/// Returns the term of a predicate: its name if it is a flag, and otherwise `?`.
 fn term_of(predicate: &Predicate<'_>) -> Terms
     ensures { result ≡ term_of (question_of predicate.now) }
 {
@@ -46,7 +46,7 @@ fn term_of(predicate: &Predicate<'_>) -> Terms
     }
 }
 
-/// The term by which a condition joins the terms of its predicates.
+/// Returns the term by which a condition joins the terms of its predicates.
 pub fn joined_terms(alloc: Global, expression: &Expression) -> Result<Terms, AllocError>
     ensures { IfOk result (IsValueBy ⟦<Terms as Logic>⟧ expression.now term_of) }
 {
@@ -117,15 +117,15 @@ any(a, feature = "b") | b feature | false
 all(a, b) | a | false
 "#;
 
-// The value if the flags of a row are true, of which there are at most two.
+// Returns the value if the flags of a row are true, of which there are at most two.
 fn eval_with_flags_of_row(alloc: Global, expression: &Expression, flags: &str) -> Option<bool> {
     let (one, other) = flags.split_once(' ').unwrap_or((flags, ""));
     eval_with_flags(alloc, expression, &[one, other]).ok()
 }
 
 /// A row is a text, the number of its questions, and two terms: one of the names of the predicates,
-/// and one of these names with the numbers of the questions. The last member that is asked is joined
-/// first.
+/// and one of these names with the numbers of the questions. The last member that is asked is
+/// joined first.
 pub const TERMS: &str = r#"
 all(a, any(b), c) | 3 | (((T&c)&a)&(F|b)) | (((T&c3)&a2)&(F|b1))
 not(any(x)) | 1 | !(F|x) | !(F|x1)
@@ -142,8 +142,8 @@ all() | 0 | T | T
 ~not(~100~a~)~100~ | 1 | ~!~64~ | ~!~64~
 "#;
 
-// The term of the names of the predicates with the numbers of the questions, and the number of
-// questions. No text here asks more than nine.
+// Returns the term of the names of the predicates with the numbers of the questions, and the number
+// of questions. No text here asks more than nine.
 fn numbered_term(alloc: Global, expression: &Expression) -> Result<(Terms, usize), AllocError> {
     let mut count = 0u8;
     let mut answer = |predicate: &Predicate<'_>| {
@@ -156,7 +156,7 @@ fn numbered_term(alloc: Global, expression: &Expression) -> Result<(Terms, usize
     Ok((term, usize::from(count)))
 }
 
-// Whether the expression asks this number of questions and has these two terms.
+// Returns whether the expression asks this number of questions and has these two terms.
 fn terms_are(
     alloc: Global,
     expression: &Expression,
@@ -170,7 +170,7 @@ fn terms_are(
     Ok(is_counted && is_named && term.as_bytes() == numbered.as_bytes())
 }
 
-/// Whether the text of `row` has its value if the flags of `row` are true.
+/// Returns whether the text of `row` has its value if the flags of `row` are true.
 pub fn value_is_right(alloc: Global, row: &[String]) -> bool {
     let [text, flags, value] = row else {
         return false;
@@ -184,7 +184,7 @@ pub fn value_is_right(alloc: Global, row: &[String]) -> bool {
     }
 }
 
-/// Whether the text of `row` asks its number of questions and has its terms.
+/// Returns whether the text of `row` asks its number of questions and has its terms.
 pub fn terms_are_right(alloc: Global, row: &[String]) -> bool {
     let [text, questions, named, numbered] = row else {
         return false;
@@ -196,7 +196,8 @@ pub fn terms_are_right(alloc: Global, row: &[String]) -> bool {
     }
 }
 
-// The value of `text` over these answers to its questions in turn, and the number of questions.
+// Returns the value of `text` over these answers to its questions in turn, and the number of
+// questions.
 fn eval_and_count(alloc: Global, text: &str, answers: &[Lawless]) -> Option<(Lawless, usize)> {
     let expression = Expression::parse(alloc, text).ok()?;
     let value = eval_over_answers(alloc, &expression, answers);

@@ -35,7 +35,7 @@ pub fn read_again(alloc: Global, predicate: &Predicate<'_>) -> Option<Result<Exp
     Some(read_alone(alloc, predicate, text))
 }
 
-// Whether the predicate is spelled as `text`, and `text` asks one predicate.
+// Returns whether the predicate is spelled as `text`, and `text` asks one predicate.
 fn is_spelled_as(alloc: Global, predicate: &Predicate<'_>, text: &str) -> bool
     requires { IsWellFormed (question_of predicate.now) }
 {
@@ -45,7 +45,7 @@ fn is_spelled_as(alloc: Global, predicate: &Predicate<'_>, text: &str) -> bool
     }
 }
 
-// Whether the first predicate of the expression is spelled as `text`.
+// Returns whether the first predicate of the expression is spelled as `text`.
 fn is_first_spelled_as(alloc: Global, expression: &Expression, text: &str) -> bool {
     let first = expression.predicates().next();
     let is_spelled = match &first {

@@ -21,7 +21,7 @@ const WIDTHS: &[HasAtomic] = &[
     HasAtomic::Pointer,
 ];
 
-// A row of Windows for x86, with this triple and vendor.
+// Returns a row of Windows for x86, with this triple and vendor.
 fn windows(
     alloc: Global,
     triple: &'static str,
@@ -43,7 +43,7 @@ fn windows(
     })
 }
 
-// A row of macOS.
+// Returns a row of macOS.
 fn darwin(alloc: Global) -> Result<TargetInfo<'static>, AllocError> {
     let families = Families::unix(alloc)?;
     let has_atomics = HasAtomics::atomic_8_16_32_64_128_ptr(alloc)?;
@@ -62,7 +62,7 @@ fn darwin(alloc: Global) -> Result<TargetInfo<'static>, AllocError> {
     })
 }
 
-// The value of the condition on the row. Predicates that are not on the target are true.
+// Returns the value of the condition on the row. Predicates that are not on the target are true.
 fn value_on(
     alloc: Global,
     condition: &Expression,
@@ -77,7 +77,7 @@ fn value_on(
     )
 }
 
-// The value of `CONDITION` on the row, or `None` if memory ran out.
+// Returns the value of `CONDITION` on the row, or `None` if memory ran out.
 fn value_of_condition(alloc: Global, row: Result<TargetInfo<'_>, AllocError>) -> Option<bool> {
     match (Expression::parse(alloc, CONDITION), &row) {
         (Ok(condition), Ok(row)) => value_on(alloc, &condition, row).ok(),

@@ -8,7 +8,7 @@ use std::alloc::{AllocError, Global};
 /// True, false, or unknown.
 pub type Answer = Option<bool>;
 
-/// The answer of a digit: true for `1`, false for `0`, and unknown for any other byte.
+/// Returns the answer of a digit: true for `1`, false for `0`, and unknown for any other byte.
 pub fn answer_of(digit: u8) -> Answer {
     match digit {
         b'1' => Some(true),
@@ -17,7 +17,7 @@ pub fn answer_of(digit: u8) -> Answer {
     }
 }
 
-/// The lanes that all hold `answer`.
+/// Returns the lanes that all hold `answer`.
 pub fn in_each_lane(answer: Answer) -> Kleene64 {
     match answer {
         Some(true) => Kleene64::top(),
@@ -26,7 +26,8 @@ pub fn in_each_lane(answer: Answer) -> Kleene64 {
     }
 }
 
-/// Whether each lane holds the answer of its digit. The last digit stands for all lanes past it.
+/// Returns whether each lane holds the answer of its digit. The last digit stands for all lanes
+/// past it.
 pub fn lanes_match_digits(lanes: Kleene64, digits: &[u8]) -> bool {
     for i in 0..64 {
         let digit = digits.get(i).or(digits.last());
@@ -67,7 +68,7 @@ pub fn eval_in_lanes(
     }
 }
 
-// Whether `filling` keeps each known answer.
+// Returns whether `filling` keeps each known answer.
 fn fills(filling: &[bool], answers: &[Answer]) -> bool {
     for (value, answer) in filling.iter().zip(answers) {
         if answer.unwrap_or(*value) != *value {
@@ -77,7 +78,7 @@ fn fills(filling: &[bool], answers: &[Answer]) -> bool {
     filling.len() == answers.len()
 }
 
-// Whether `filling` fills `answers` and makes the condition `value`.
+// Returns whether `filling` fills `answers` and makes the condition `value`.
 fn leads_to(
     alloc: Global,
     expression: &Expression,
@@ -88,7 +89,8 @@ fn leads_to(
     eval_over_answers(alloc, expression, filling) == Some(value) && fills(filling, answers)
 }
 
-// Whether `polar_fillings` returns two fillings exactly if `value` is unknown, one for each value.
+// Returns whether `polar_fillings` returns two fillings exactly if `value` is unknown, one for each
+// value.
 fn polar_fillings_show(
     alloc: Global,
     expression: &Expression,
@@ -109,7 +111,7 @@ fn polar_fillings_show(
     })
 }
 
-/// The answers, each in all lanes.
+/// Returns the answers, each in all lanes.
 pub fn lanes_of(alloc: Global, answers: &[Answer]) -> Result<Vec<Kleene64>, AllocError> {
     let mut lanes = Vec::with_capacity(alloc, answers.len())?;
     for answer in answers {
@@ -118,7 +120,7 @@ pub fn lanes_of(alloc: Global, answers: &[Answer]) -> Result<Vec<Kleene64>, Allo
     Ok(lanes)
 }
 
-// Whether `eval_lanes` returns `value` in each lane if each answer stands in all lanes.
+// Returns whether `eval_lanes` returns `value` in each lane if each answer stands in all lanes.
 fn lanes_return(
     alloc: Global,
     expression: &Expression,
@@ -129,7 +131,7 @@ fn lanes_return(
     Ok(eval_in_lanes(alloc, expression, lanes.as_slice()) == Some(in_each_lane(value)))
 }
 
-/// Whether `eval`, `eval_lanes` and `polar_fillings` all find `value` over `answers`.
+/// Returns whether `eval`, `eval_lanes` and `polar_fillings` all find `value` over `answers`.
 pub fn each_call_finds(
     alloc: Global,
     expression: &Expression,

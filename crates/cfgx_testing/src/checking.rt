@@ -3,7 +3,7 @@ use std::alloc::{AllocError, Allocator, Global};
 use std::fmt::Display;
 use std::hash::{DefaultHasher, Hash, Hasher};
 
-/// Whether `outcome` is `Ok(true)`.
+/// Returns whether `outcome` is `Ok(true)`.
 pub fn is_ok_true<E: Drop>(outcome: Result<bool, E>) -> bool {
     match outcome {
         Ok(value) => value,
@@ -11,7 +11,7 @@ pub fn is_ok_true<E: Drop>(outcome: Result<bool, E>) -> bool {
     }
 }
 
-/// Whether the value of `outcome` equals `wanted`.
+/// Returns whether the value of `outcome` equals `wanted`.
 pub fn value_equals<T: PartialEq + Drop, E: Drop>(
     outcome: Result<T, E>,
     wanted: &T,
@@ -44,14 +44,14 @@ pub fn check_all<'a>(checks: &[(&'a str, bool)]) -> Result<(), &'a str> {
     Ok(())
 }
 
-/// The hash of `value`.
+/// Returns the hash of `value`.
 pub fn hash_of<T: Hash>(value: &T) -> u64 {
     let mut state = DefaultHasher::new();
     value.hash(&mut state);
     state.finish()
 }
 
-/// Whether `value` prints `text`.
+/// Returns whether `value` prints `text`.
 pub fn prints<T: Display>(alloc: Global, value: &T, text: &str) -> bool {
     match format!(in alloc; "{value}") {
         Ok(printed) => printed.as_str() == text,

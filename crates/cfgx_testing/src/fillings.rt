@@ -6,7 +6,7 @@ use cfg_expr::expr::{Condition, ConditionReader};
 use cfg_expr::{Decision, Expression};
 use std::alloc::{AllocError, Allocator, Global};
 
-/// The answers of `digits`.
+/// Returns the answers of `digits`.
 pub fn answers_of(alloc: Global, digits: &str) -> Result<Vec<Answer>, AllocError> {
     let mut answers = Vec::with_capacity(alloc, digits.len())?;
     for digit in digits.as_bytes() {
@@ -15,7 +15,7 @@ pub fn answers_of(alloc: Global, digits: &str) -> Result<Vec<Answer>, AllocError
     Ok(answers)
 }
 
-// Whether `filling` is the filling of `digits`.
+// Returns whether `filling` is the filling of `digits`.
 fn filling_matches(filling: &[bool], digits: &str) -> bool {
     for (value, digit) in filling.iter().zip(digits.as_bytes()) {
         if answer_of(*digit) != Some(*value) {
@@ -25,7 +25,7 @@ fn filling_matches(filling: &[bool], digits: &str) -> bool {
     filling.len() == digits.len()
 }
 
-// Whether the two fillings are those of `row`, which a space separates.
+// Returns whether the two fillings are those of `row`, which a space separates.
 fn both_fillings_match(if_true: &[bool], if_false: &[bool], row: &str) -> bool {
     match row.split_once(' ') {
         Some((one, other)) => filling_matches(if_true, one) && filling_matches(if_false, other),
@@ -33,7 +33,7 @@ fn both_fillings_match(if_true: &[bool], if_false: &[bool], row: &str) -> bool {
     }
 }
 
-/// Whether `decision` is that of `row`: a known value, or two fillings.
+/// Returns whether `decision` is that of `row`: a known value, or two fillings.
 pub fn decision_matches<A: Allocator>(decision: &Decision<A>, row: &str) -> bool {
     match decision {
         Decision::Known(value) => row == if *value { "true" } else { "false" },
@@ -43,7 +43,7 @@ pub fn decision_matches<A: Allocator>(decision: &Decision<A>, row: &str) -> bool
     }
 }
 
-// Whether `fillings` are those of `row`. A row with a known value has none.
+// Returns whether `fillings` are those of `row`. A row with a known value has none.
 fn fillings_match(fillings: &Option<(Vec<bool>, Vec<bool>)>, row: &str) -> bool {
     match fillings {
         Some((one, other)) => both_fillings_match(one.as_slice(), other.as_slice(), row),
@@ -51,7 +51,7 @@ fn fillings_match(fillings: &Option<(Vec<bool>, Vec<bool>)>, row: &str) -> bool 
     }
 }
 
-// Whether `polar_fillings` and `decide` of an expression return what `row` says.
+// Returns whether `polar_fillings` and `decide` of an expression return what `row` says.
 fn expression_matches(
     alloc: Global,
     expression: &Expression,
@@ -67,7 +67,8 @@ fn expression_matches(
     )
 }
 
-// Whether `polar_fillings` and `eval_lanes` of a condition return what those of the expression do.
+// Returns whether `polar_fillings` and `eval_lanes` of a condition return what those of the
+// expression do.
 fn condition_agrees(
     alloc: Global,
     condition: &Condition<'_>,
@@ -87,8 +88,8 @@ fn condition_agrees(
     )
 }
 
-// Whether `decide` of a condition finds the decision of `row`, also in the memory of an earlier
-// decision.
+// Returns whether `decide` of a condition finds the decision of `row`, also in the memory of an
+// earlier decision.
 fn condition_decides(
     alloc: Global,
     condition: &Condition<'_>,
@@ -119,7 +120,8 @@ fn reader_decides<'a>(
     )
 }
 
-// Whether a new reader reads the text of `row` as a condition whose calls return what `row` says.
+// Returns whether a new reader reads the text of `row` as a condition whose calls return what `row`
+// says.
 fn new_reader_decides(
     alloc: Global,
     expression: &Expression,
@@ -129,8 +131,8 @@ fn new_reader_decides(
     is_ok_true(reader_decides(alloc, &mut reader, expression, row))
 }
 
-/// Whether each call of an expression and of a condition with this text returns, over the answers
-/// of `digits`, what `row` says. Returns `None` if the text is faulty or memory runs out.
+/// Returns whether each call of an expression and of a condition with this text returns, over the
+/// answers of `digits`, what `row` says. Returns `None` if the text is faulty or memory runs out.
 pub fn each_call_decides(alloc: Global, text: &str, digits: &str, row: &str) -> Option<bool> {
     let answers = answers_of(alloc, digits).ok()?;
     let expression = Expression::parse(alloc, text).ok()?;

@@ -1,5 +1,5 @@
-//! An allocator that counts its blocks and refuses on demand, and calls whose growths it refuses one
-//! after another.
+//! An allocator that counts its blocks and refuses on demand, and calls whose growths it refuses
+//! one after another.
 use crate::checking::is_ok_true;
 use crate::refusing::Refusing;
 use bumpalo::Bump;
@@ -13,7 +13,7 @@ pub fn empty_heap(alloc: Global) -> Refusing<Bump> {
     Refusing::new(Bump::new(alloc))
 }
 
-/// Whether every block was freed. An arena refuses to be reset while a block is in use.
+/// Returns whether every block was freed. An arena refuses to be reset while a block is in use.
 pub fn has_every_block(heap: Refusing<Bump>) -> bool {
     heap.into_inner().reset().is_ok()
 }

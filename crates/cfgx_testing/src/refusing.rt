@@ -39,8 +39,8 @@ impl<B: Allocator> Refusing<B> {
         }
     }
 
-    /// Refuses the `n`th growth from now on and no other: the next one if `n` is 1, none if `n` is 0,
-    /// and each one if `n` is `EVERY`.
+    /// Refuses the `n`th growth from now on and no other: the next one if `n` is 1, none if `n` is
+    /// 0, and each one if `n` is `EVERY`.
     pub fn refuse(&self, n: u64) {
         let mut countdown = self.countdown.get();
         countdown.ahead = n;
@@ -54,17 +54,17 @@ impl<B: Allocator> Refusing<B> {
         self.inner
     }
 
-    /// Whether the growth that `refuse` named was refused. True if it named none.
+    /// Returns whether the growth that `refuse` named was refused. Returns true if it named none.
     pub fn has_refused(&self) -> bool {
         self.countdown.get().ahead == 0
     }
 
-    /// The number of growths that were asked for, also those that were refused.
+    /// Returns the number of growths that were asked for, also those that were refused.
     pub fn asked_growths(&self) -> u64 {
         self.countdown.get().asked
     }
 
-    /// The number of growths that were refused.
+    /// Returns the number of growths that were refused.
     pub fn refused_growths(&self) -> u64 {
         self.countdown.get().refused
     }

@@ -86,8 +86,8 @@ fn push_parts(text: &mut String, mut parts: Split<'_, char>) -> Option<()> {
     Some(())
 }
 
-// Returns `field` with each `~piece~3~` replaced by the copies of `piece`. Returns `None` if a number
-// of copies is missing or not a number, or if memory runs out.
+// Returns `field` with each `~piece~3~` replaced by the copies of `piece`. Returns `None` if a
+// number of copies is missing or not a number, or if memory runs out.
 fn expanded(alloc: Global, field: &str) -> Option<String> {
     let mut parts = field.split('~');
     let mut text = String::from_str(alloc, parts.next()?).ok()?;
@@ -96,8 +96,8 @@ fn expanded(alloc: Global, field: &str) -> Option<String> {
 }
 
 // Returns the text that `field` stands for, or `None` if `field` has no meaning or memory runs out.
-// The text never contains `~`: the escapes are replaced first, so that an escaped `~` also separates
-// parts.
+// The text never contains `~`: the escapes are replaced first, so that an escaped `~` also
+// separates parts.
 fn text_of(alloc: Global, field: &str) -> Option<String> {
     let field = match field {
         "USAGE" => USAGE,
@@ -108,8 +108,8 @@ fn text_of(alloc: Global, field: &str) -> Option<String> {
     String::from_str(alloc, field).ok()
 }
 
-/// Returns the texts that the fields of `row` stand for, or `None` if a field has no meaning or memory
-/// runs out.
+/// Returns the texts that the fields of `row` stand for, or `None` if a field has no meaning or
+/// memory runs out.
 pub fn fields_of(alloc: Global, row: &str) -> Option<Vec<String>> {
     let mut fields = Vec::new(alloc);
     for field in row.split(" | ") {
@@ -118,8 +118,8 @@ pub fn fields_of(alloc: Global, row: &str) -> Option<Vec<String>> {
     Some(fields)
 }
 
-// Pushes `line` to `row`, and then `row` to `rows`, unless `line` ends with a backslash, which is not
-// pushed.
+// Pushes `line` to `row`, and then `row` to `rows`, unless `line` ends with a backslash, which is
+// not pushed.
 fn push_line(
     alloc: Global,
     rows: &mut Vec<String>,
@@ -150,7 +150,8 @@ pub fn rows_of(alloc: Global, table: &str) -> Result<Vec<String>, AllocError> {
     Ok(rows)
 }
 
-/// The result of a check. The error is a message, or the actual text, which the row should have had.
+/// The result of a check. The error is a message, or the actual text, which the row should have
+/// had.
 pub type Finding = Result<(), String>;
 
 /// Returns `message` as an error.
@@ -158,8 +159,8 @@ pub fn fail(alloc: Global, message: &str) -> Finding {
     Err(String::from_str(alloc, message).unwrap_or(String::new(alloc)))
 }
 
-/// Compares the text of `actual` with `wanted`. The error is the actual text, or the error of `actual`
-/// as `Debug` writes it.
+/// Compares the text of `actual` with `wanted`. The error is the actual text, or the error of
+/// `actual` as `Debug` writes it.
 pub fn compare<E: Debug + Drop>(alloc: Global, actual: Result<String, E>, wanted: &str) -> Finding {
     match actual {
         Ok(actual) => {
@@ -223,8 +224,8 @@ where
     Ok(report)
 }
 
-// Returns the finding for `is_right`, the result of a check. `None` means that no check has the given
-// name.
+// Returns the finding for `is_right`, the result of a check. `None` means that no check has the
+// given name.
 fn finding_of(alloc: Global, is_right: Option<bool>) -> Finding {
     match is_right {
         Some(is_right) => require(alloc, is_right, "something else"),
@@ -247,8 +248,8 @@ where
 /// The name of a check, a table for it, and the number of the rows of that table.
 pub type TableToCheck<'a> = (&'a str, &'a str, usize);
 
-// Returns a report of the wrong rows of a table and of a wrong number of rows. The report is empty if
-// nothing is wrong.
+// Returns a report of the wrong rows of a table and of a wrong number of rows. The report is empty
+// if nothing is wrong.
 fn report_of<F>(
     alloc: Global,
     (name, text, count): TableToCheck<'_>,

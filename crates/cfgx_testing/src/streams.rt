@@ -12,7 +12,8 @@ use std::{io, str};
 pub const USAGE: &str =
     "usage: cfgx parse TEXT | eval TEXT FLAG.. | target TRIPLE TEXT | pick TRIPLE\n";
 
-/// Sections of which the simulator takes the first, may take the second and does not take the third.
+/// Sections of which the simulator takes the first, may take the second and does not take the
+/// third.
 pub const SECTIONS: &str = "a\tcfg(target_abi = \"sim\")\n\
     b\tany(windows, feature = \"x\")\n\
     c\tall(windows, feature = \"x\")\n";
@@ -23,7 +24,7 @@ pub const VERDICTS: &str = "a\tyes\nb\tunknown\n\ttrue with 01\n\tfalse with 00\
 /// The number of bytes per call that is no limit.
 pub const ALL: usize = usize::MAX;
 
-/// The error of an interrupted call. Such a call is not tried again either.
+/// Returns the error of an interrupted call. Such a call is not tried again either.
 pub fn interrupted() -> io::Error {
     io::Error::from(ErrorKind::Interrupted)
 }
@@ -75,7 +76,7 @@ impl Pieces<'_> {
         }
     }
 
-    /// Whether all bytes were read and no call was wrong or failed.
+    /// Returns whether all bytes were read and no call was wrong or failed.
     pub fn is_read_whole(&self) -> bool {
         self.left.is_empty() && self.failures == 0 && !self.is_misused
     }
@@ -143,8 +144,9 @@ impl Source for Counting {
     }
 }
 
-/// A sink that takes at most `each` bytes per call and `room` bytes in all. Its write with the number
-/// `failing_write` fails, and that with the number `empty_write` takes no byte, both counted from 1.
+/// A sink that takes at most `each` bytes per call and `room` bytes in all. Its write with the
+/// number `failing_write` fails, and that with the number `empty_write` takes no byte, both counted
+/// from 1.
 #[derive(Drop)]
 pub struct Recorder {
     /// The bytes that were written
@@ -228,13 +230,13 @@ impl Sink for Recorder {
     }
 }
 
-/// Whether `output` was written with one flush and no failed call.
+/// Returns whether `output` was written with one flush and no failed call.
 pub fn has_written(sink: &Recorder, output: &[u8]) -> bool {
     sink_matches(sink, output, (sink.writes, 1), 0)
 }
 
-/// Whether `output` was written by these numbers of writes and flushes, of which `failures` failed.
-/// No write had an empty slice, and no call followed a failed one.
+/// Returns whether `output` was written by these numbers of writes and flushes, of which `failures`
+/// failed. No write had an empty slice, and no call followed a failed one.
 pub fn sink_matches(sink: &Recorder, output: &[u8], calls: (u64, u64), failures: u64) -> bool {
     sink.bytes.as_slice() == output
         && (sink.writes, sink.flushes) == calls
@@ -242,8 +244,9 @@ pub fn sink_matches(sink: &Recorder, output: &[u8], calls: (u64, u64), failures:
         && !sink.is_misused
 }
 
-/// Whether a run with `words` reads `input` to its end, writes the output of `ended` with one flush
-/// and no failed call, and returns the status of `ended`. Each call moves at most `each` bytes.
+/// Returns whether a run with `words` reads `input` to its end, writes the output of `ended` with
+/// one flush and no failed call, and returns the status of `ended`. Each call moves at most `each`
+/// bytes.
 pub fn run_ends_with(
     alloc: Global,
     words: &[&str],
@@ -258,7 +261,8 @@ pub fn run_ends_with(
     has_written(&sink, ended.0.as_bytes()) && status == ended.1 && source.is_read_whole()
 }
 
-// The status and the output, as rows write them. The text says so if a call of a stream was wrong.
+// Returns the status and the output, as rows write them. The text says so if a call of a stream was
+// wrong.
 fn ended_text(
     alloc: Global,
     status: u8,
@@ -274,8 +278,8 @@ fn ended_text(
     format!(in alloc; "{status} | {text} | with a wrong call of a stream")
 }
 
-/// The status and the output of a run with `words` over `input`, as rows write them, such as
-/// `0 | yes`. Each call moves at most `each` bytes.
+/// Returns the status and the output of a run with `words` over `input`, as rows write them, such
+/// as `0 | yes`. Each call moves at most `each` bytes.
 pub fn run_text(
     alloc: Global,
     words: &[&str],

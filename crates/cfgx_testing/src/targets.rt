@@ -7,7 +7,7 @@ use cfg_expr::targets::{
 use cfgx_targets::reading::{read_endian, read_u8};
 use std::alloc::{AllocError, Global};
 
-/// A row with this triple, in which everything is missing that may be.
+/// Returns a row with this triple, in which everything is missing that may be.
 pub fn bare(triple: &str) -> TargetInfo<'_> {
     TargetInfo {
         triple: Triple::new_const(triple),
@@ -74,8 +74,8 @@ fn set_fields(
     Ok(())
 }
 
-/// A bare row with this triple and these fields. Spaces separate the fields: `os=ios` and so on, or
-/// `unix`, `windows` or `atomics` for a list.
+/// Returns a bare row with this triple and these fields. Spaces separate the fields: `os=ios` and
+/// so on, or `unix`, `windows` or `atomics` for a list.
 pub fn row_of(
     alloc: Global,
     triple: &'static str,

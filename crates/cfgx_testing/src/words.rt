@@ -2,7 +2,7 @@
 use crate::streams::{ALL, run_ends_with};
 use std::alloc::{AllocError, Global};
 
-/// The words of `texts`.
+/// Returns the words of `texts`.
 pub fn words_of(alloc: Global, texts: &[String]) -> Result<Vec<&str>, AllocError> {
     let mut words = Vec::new(alloc);
     for text in texts {
@@ -13,7 +13,7 @@ pub fn words_of(alloc: Global, texts: &[String]) -> Result<Vec<&str>, AllocError
     Ok(words)
 }
 
-/// Whether a run with the words of `row` has the status and the output of `row`.
+/// Returns whether a run with the words of `row` has the status and the output of `row`.
 pub fn run_matches_row(alloc: Global, row: &[String]) -> bool {
     let [status, output, words @ ..] = row else {
         return false;

@@ -14,7 +14,7 @@ use cfgx_testing::rows::{Finding, fail};
 use std::alloc::{AllocError, Global};
 use std::{env, fs, io};
 
-// The finding of the check with this name in a row.
+// Returns the finding of the check with this name in a row.
 fn finding(alloc: Global, check: &str, row: &[String]) -> Finding {
     if let Some(finding) = rules::finding(alloc, check, row) {
         return finding;
@@ -28,7 +28,7 @@ fn finding(alloc: Global, check: &str, row: &[String]) -> Finding {
     }
 }
 
-// What is wrong in the file, and the number of its rows.
+// Returns what is wrong in the file, and the number of its rows.
 fn report(alloc: Global, name: &str, text: &str) -> Result<String, AllocError> {
     if name.ends_with(".tsv") {
         rust_crate::report(alloc, name, text)

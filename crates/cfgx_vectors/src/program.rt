@@ -15,7 +15,7 @@ fn compare_run(alloc: Global, words: &[&str], input: &[u8], ended: (&str, &str))
     compare_pair(alloc, run_text(alloc, words, ALL, input), ended)
 }
 
-// The status and the output of a row, and the words after them.
+// Returns the status and the output of a row, and the words after them.
 fn run_of(row: &[String]) -> Option<((&str, &str), &[String])> {
     match row {
         [status, written, words @ ..] => Some(((status.as_str(), written.as_str()), words)),
@@ -32,7 +32,8 @@ fn finding_of_long_run(alloc: Global, row: &[String]) -> Option<Finding> {
     })
 }
 
-// Compares a run with these words with the row. The run may not read, and must end at a failed write.
+// Compares a run with these words with the row. The run may not read, and must end at a failed
+// write.
 fn compare_without_reads(alloc: Global, words: &[&str], ended: (&str, &str)) -> Finding {
     compare_run(alloc, words, &[], ended)?;
     let (status, written) = ended;
@@ -68,7 +69,8 @@ fn compare_in_pieces(alloc: Global, each: usize, input: &str, ended: (&str, &str
     )
 }
 
-// Compares a run of `pick` with streams that move few bytes per call, or all, and fail at each call.
+// Compares a run of `pick` with streams that move few bytes per call, or all, and fail at each
+// call.
 fn compare_by_streams(alloc: Global, input: &str, ended: (&str, &str)) -> Finding {
     for each in &[1, 2, 3, 7, ALL] {
         compare_in_pieces(alloc, *each, input, ended)?;
@@ -88,7 +90,7 @@ fn compare_on_each_target(alloc: Global, written: &str, text: &str) -> Finding {
     Ok(())
 }
 
-// The bytes whose hexadecimal numbers the row lists, or `None` if it lists something else.
+// Returns the bytes whose hexadecimal numbers the row lists, or `None` if it lists something else.
 fn bytes_of(alloc: Global, row: &str) -> Option<Vec<u8>> {
     let mut bytes = Vec::new(alloc);
     for number in row.split(' ') {
@@ -112,7 +114,7 @@ fn finding_of_bytes(alloc: Global, row: &str) -> Finding {
     }
 }
 
-// The finding of a check in a row of one field.
+// Returns the finding of a check in a row of one field.
 fn finding_of_one(alloc: Global, check: &str, field: &str) -> Option<Finding> {
     Some(match check {
         "counted stream" => require(alloc, counted::property(field)?, "it does not hold"),
@@ -121,7 +123,7 @@ fn finding_of_one(alloc: Global, check: &str, field: &str) -> Option<Finding> {
     })
 }
 
-// The finding of a check in a row of two fields.
+// Returns the finding of a check in a row of two fields.
 fn finding_of_two(alloc: Global, check: &str, one: &str, other: &str) -> Option<Finding> {
     Some(match check {
         "run on each target" => compare_on_each_target(alloc, one, other),
@@ -131,7 +133,7 @@ fn finding_of_two(alloc: Global, check: &str, one: &str, other: &str) -> Option<
     })
 }
 
-// The finding of a check in a row of three fields.
+// Returns the finding of a check in a row of three fields.
 fn finding_of_three(
     alloc: Global,
     check: &str,
@@ -148,7 +150,7 @@ fn finding_of_three(
     })
 }
 
-// The finding of the check with this name in the row, by the number of its fields.
+// Returns the finding of the check with this name in the row, by the number of its fields.
 fn finding_by_number(alloc: Global, check: &str, row: &[String]) -> Option<Finding> {
     match row {
         [one] => finding_of_one(alloc, check, one.as_str()),
@@ -164,8 +166,8 @@ fn finding_by_number(alloc: Global, check: &str, row: &[String]) -> Option<Findi
     }
 }
 
-/// The finding of the check with this name in the row, or `None` if no such check takes this number
-/// of fields.
+/// Returns the finding of the check with this name in the row, or `None` if no such check takes
+/// this number of fields.
 pub(crate) fn finding(alloc: Global, check: &str, row: &[String]) -> Option<Finding> {
     match check {
         "run" => finding_of_run(alloc, row),

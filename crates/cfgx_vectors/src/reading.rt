@@ -6,13 +6,13 @@ use cfg_expr::{Expression, Predicate};
 use cfgx_testing::rows::escaped;
 use std::alloc::{AllocError, Global};
 
-// The value of a condition if each predicate is true, or `None` if memory ran out.
+// Returns the value of a condition if each predicate is true, or `None` if memory ran out.
 fn value_of(alloc: Global, condition: &Condition<'_>) -> Option<bool> {
     let mut yes = |_asked: &Predicate<'_>| true;
     condition.eval(alloc, &mut yes).ok()
 }
 
-// Whether both have the same predicates, stripped text and value.
+// Returns whether both have the same predicates, stripped text and value.
 fn conditions_agree(alloc: Global, condition: &Condition<'_>, expression: &Expression) -> bool {
     let value = value_of(alloc, condition);
     value.is_some()
@@ -21,7 +21,7 @@ fn conditions_agree(alloc: Global, condition: &Condition<'_>, expression: &Expre
         && condition.predicates().eq(expression.predicates())
 }
 
-// Whether reading and parsing returned the same condition, or the same fault.
+// Returns whether reading and parsing returned the same condition, or the same fault.
 fn results_agree(
     alloc: Global,
     read: &Result<Condition<'_>, Failure>,
@@ -34,12 +34,12 @@ fn results_agree(
     }
 }
 
-// Whether the reader reads the text as `parse` does.
+// Returns whether the reader reads the text as `parse` does.
 fn reads_as_parsed<'a>(alloc: Global, reader: &mut ConditionReader<'a>, text: &'a str) -> bool {
     results_agree(alloc, &reader.read(text), &Expression::parse(alloc, text))
 }
 
-// The first text that the reader does not read as `parse` does.
+// Returns the first text that the reader does not read as `parse` does.
 fn first_misread<'a>(
     alloc: Global,
     reader: &mut ConditionReader<'a>,
@@ -53,14 +53,14 @@ fn first_misread<'a>(
     None
 }
 
-// A line that names the misread text.
+// Returns a line that names the misread text.
 fn misread_line(alloc: Global, text: &str) -> Result<String, AllocError> {
     let text = escaped(alloc, text)?;
     format!(in alloc; "wrong: a reader does not read this as `parse` does: {text}\n")
 }
 
-/// A line that names the first of the texts that one reader does not read as `parse` does, or an
-/// empty text.
+/// Returns a line that names the first of the texts that one reader does not read as `parse` does,
+/// or an empty text.
 pub(crate) fn first_misread_line(alloc: Global, texts: &[String]) -> Result<String, AllocError> {
     let mut reader = ConditionReader::new(alloc);
     match first_misread(alloc, &mut reader, texts) {

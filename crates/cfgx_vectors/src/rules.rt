@@ -30,7 +30,7 @@ fn compare_fault(alloc: Global, text: &str, fault: &str, stripped: &str) -> Find
     compare_pair(alloc, fault_of(alloc, text), (fault, stripped))
 }
 
-// Whether the property with this name holds, or `None` if no property has it.
+// Returns whether the property with this name holds, or `None` if no property has it.
 fn property(alloc: Global, name: &str) -> Option<bool> {
     Some(match name {
         "equal reasons have equal parts" => printing::compares_reasons(),
@@ -42,7 +42,7 @@ fn property(alloc: Global, name: &str) -> Option<bool> {
     })
 }
 
-// The finding of a check in a row of one field.
+// Returns the finding of a check in a row of one field.
 fn finding_of_one(alloc: Global, check: &str, name: &str) -> Option<Finding> {
     if check != "property" {
         return None;
@@ -50,7 +50,7 @@ fn finding_of_one(alloc: Global, check: &str, name: &str) -> Option<Finding> {
     Some(require(alloc, property(alloc, name)?, "it does not hold"))
 }
 
-// The finding of a check in a row of two fields.
+// Returns the finding of a check in a row of two fields.
 fn finding_of_two(alloc: Global, check: &str, one: &str, other: &str) -> Option<Finding> {
     Some(match check {
         "fault" => compare_fault(alloc, one, other, one),
@@ -67,7 +67,7 @@ fn finding_of_two(alloc: Global, check: &str, one: &str, other: &str) -> Option<
     })
 }
 
-// The finding of a check in a row of three fields.
+// Returns the finding of a check in a row of three fields.
 fn finding_of_three(
     alloc: Global,
     check: &str,
@@ -85,8 +85,8 @@ fn finding_of_three(
     })
 }
 
-/// The finding of the check with this name in the row, or `None` if no such check takes this number
-/// of fields.
+/// Returns the finding of the check with this name in the row, or `None` if no such check takes
+/// this number of fields.
 pub(crate) fn finding(alloc: Global, check: &str, row: &[String]) -> Option<Finding> {
     if check == "items" {
         return Some(tokens::finding(alloc, row));

@@ -5,14 +5,14 @@ use cfgx_testing::rows::{Finding, compare_pair, fail, rows_of, unescaped, wrong_
 use cfgx_testing::streams::{ALL, run_text};
 use std::alloc::{AllocError, Global};
 
-// The text, the status and the output of a row, which tabs separate.
+// Returns the text, the status and the output of a row, which tabs separate.
 fn fields_of(row: &str) -> Option<(&str, &str, &str)> {
     let (text, result) = row.split_once('\t')?;
     let (status, output) = result.split_once('\t')?;
     Some((text, status, output))
 }
 
-// The text and the output without their escapes, and the status.
+// Returns the text and the output without their escapes, and the status.
 fn unescaped_fields(alloc: Global, row: &str) -> Option<(String, String, &str)> {
     let (text, status, output) = fields_of(row)?;
     Some((unescaped(alloc, text)?, unescaped(alloc, output)?, status))
@@ -38,7 +38,7 @@ fn push_texts(alloc: Global, texts: &mut Vec<String>, row: &str) -> Result<(), A
     Ok(())
 }
 
-// The texts and the outputs of the rows.
+// Returns the texts and the outputs of the rows.
 fn texts_of(alloc: Global, rows: &[String]) -> Result<Vec<String>, AllocError> {
     let mut texts = Vec::new(alloc);
     for row in rows {
@@ -47,13 +47,13 @@ fn texts_of(alloc: Global, rows: &[String]) -> Result<Vec<String>, AllocError> {
     Ok(texts)
 }
 
-// A line that names the first text or output that one reader does not read as `parse` does.
+// Returns a line that names the first text or output that one reader does not read as `parse` does.
 fn misread(alloc: Global, rows: &[String]) -> Result<String, AllocError> {
     let texts = texts_of(alloc, rows)?;
     first_misread_line(alloc, texts.as_slice())
 }
 
-/// The wrong rows of the file, and the number of its rows.
+/// Returns the wrong rows of the file, and the number of its rows.
 pub(crate) fn report(alloc: Global, name: &str, text: &str) -> Result<String, AllocError> {
     let rows = rows_of(alloc, text)?;
     let count = rows.len();

@@ -1,5 +1,5 @@
-//! Files of tables. A table begins with a line `[check: 12 rows]` and a line that names its columns.
-//! A last column such as `word ..` stands for any number of fields.
+//! Files of tables. A table begins with a line `[check: 12 rows]` and a line that names its
+//! columns. A last column such as `word ..` stands for any number of fields.
 use crate::finding;
 use crate::reading::first_misread_line;
 use cfgx_testing::rows::{Finding, fail, fields_of, rows_of, wrong_rows};
@@ -14,7 +14,7 @@ struct Table<'a> {
     rows: &'a str,
 }
 
-// The parts of a table, whose text lacks the first bracket.
+// Returns the parts of a table, whose text lacks the first bracket.
 fn table_of(text: &str) -> Option<Table<'_>> {
     let (head, text) = text.split_once("]\n")?;
     let (check, count) = head.split_once(": ")?;
@@ -28,13 +28,13 @@ fn table_of(text: &str) -> Option<Table<'_>> {
     })
 }
 
-// Whether there is a field for each column.
+// Returns whether there is a field for each column.
 fn has_columns(fields: usize, columns: &str) -> bool {
     let names = columns.split(" | ").count();
     fields == names || (columns.ends_with(" ..") && fields.saturating_add(1) >= names)
 }
 
-// The finding of the check of the table in the fields of a row.
+// Returns the finding of the check of the table in the fields of a row.
 fn finding_of_fields(alloc: Global, table: &Table<'_>, fields: &[String]) -> Finding {
     if has_columns(fields.len(), table.columns) {
         finding(alloc, table.check, fields)
@@ -43,7 +43,7 @@ fn finding_of_fields(alloc: Global, table: &Table<'_>, fields: &[String]) -> Fin
     }
 }
 
-// The finding of the check of the table in a row.
+// Returns the finding of the check of the table in a row.
 fn finding_of_row(alloc: Global, table: &Table<'_>, row: &str) -> Finding {
     match fields_of(alloc, row) {
         Some(fields) => finding_of_fields(alloc, table, fields.as_slice()),
@@ -139,7 +139,7 @@ impl File {
     }
 }
 
-/// The wrong rows of the file, and the number of its rows.
+/// Returns the wrong rows of the file, and the number of its rows.
 pub(crate) fn report(alloc: Global, name: &str, text: &str) -> Result<String, AllocError> {
     let mut file = File {
         wrong: String::new(alloc),

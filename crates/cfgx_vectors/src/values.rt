@@ -7,7 +7,7 @@ mod triples;
 use cfgx_testing::rows::{Finding, compare};
 use std::alloc::Global;
 
-// The finding of a check in a row of two fields.
+// Returns the finding of a check in a row of two fields.
 fn finding_of_two(alloc: Global, check: &str, one: &str, other: &str) -> Option<Finding> {
     Some(match check {
         "values on built-in targets" => matching::finding_on_built_in(alloc, one, other),
@@ -22,8 +22,8 @@ fn finding_of_two(alloc: Global, check: &str, one: &str, other: &str) -> Option<
     })
 }
 
-/// The finding of the check with this name in the row, or `None` if no such check takes this number
-/// of fields.
+/// Returns the finding of the check with this name in the row, or `None` if no such check takes
+/// this number of fields.
 pub(crate) fn finding(alloc: Global, check: &str, row: &[String]) -> Option<Finding> {
     match row {
         [text] if check == "field" => Some(lists::finding_of_field(alloc, text.as_str())),

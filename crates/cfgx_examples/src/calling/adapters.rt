@@ -5,12 +5,12 @@ fn is_test(predicate: Predicate<'_>) -> bool {
     matches!(predicate, Predicate::Test)
 }
 
-/// Whether a condition asks for a test.
+/// Returns whether a condition asks for a test.
 pub fn asks_for_tests(expression: &Expression) -> bool {
     expression.predicates().any(is_test)
 }
 
-/// The first flag that a condition asks for.
+/// Returns the first flag that a condition asks for.
 pub fn first_flag(expression: &Expression) -> Option<Predicate<'_>> {
     expression
         .predicates()

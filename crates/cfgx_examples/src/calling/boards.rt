@@ -18,7 +18,7 @@ pub const LINUX: Board<'static> = Board {
     pointer_width: 64,
 };
 
-// Whether the verdicts of `board` on `manifest` print `verdicts`.
+// Returns whether the verdicts of `board` on `manifest` print `verdicts`.
 fn verdicts_are<M: TargetMatcher>(
     alloc: Global,
     board: &M,
@@ -28,8 +28,8 @@ fn verdicts_are<M: TargetMatcher>(
     value_prints(alloc, verdicts_on(alloc, manifest, board), verdicts)
 }
 
-/// Whether the verdicts of `BARE` and of `LINUX` on a section with `condition` print `verdicts`,
-/// which a space separates.
+/// Returns whether the verdicts of `BARE` and of `LINUX` on a section with `condition` print
+/// `verdicts`, which a space separates.
 pub fn verdicts_of_both_are(alloc: Global, condition: &str, verdicts: &str) -> bool {
     let manifest = [("", condition)];
     match verdicts.split_once(' ') {
@@ -71,8 +71,8 @@ const DEPENDENCIES: &[(&str, &str)] = &[
     ("wide", "cfg(all(target_pointer_width = \"64\", not(loom)))"),
 ];
 
-/// Whether the dependencies that a build for `board` may need print `names`. `board` is a system and
-/// the number of bits of a pointer.
+/// Returns whether the dependencies that a build for `board` may need print `names`. `board` is a
+/// system and the number of bits of a pointer.
 pub fn needed_names_are(alloc: Global, board: &str, names: &str) -> bool {
     let (os, bits) = board.split_once(' ').unwrap_or((board, ""));
     let pointer_width = bits.parse().unwrap_or(0);

@@ -6,14 +6,14 @@ use cfg_expr::expr::Logic;
 use cfg_expr::{Expression, Predicate};
 use std::alloc::{AllocError, Global};
 
-/// The value if every predicate is true.
+/// Returns the value if every predicate is true.
 pub fn if_all_true(alloc: Global, expression: &Expression) -> Result<bool, AllocError>
     ensures { IfOk result (IsValueBy ⟦<bool as Logic>⟧ expression.now (λ _. true)) }
 {
     expression.eval(alloc, &mut |_predicate: &Predicate<'_>| true)
 }
 
-/// The value if these features are on, and nothing else is.
+/// Returns the value if these features are on, and nothing else is.
 pub fn with_features(
     alloc: Global,
     expression: &Expression,

@@ -32,7 +32,7 @@ const WINDOWS: &str = "debug_assertions\n\
 
 const TRIPLE: &str = "x86_64-pc-windows-msvc";
 
-// The value on `target` with the feature `x`.
+// Returns the value on `target` with the feature `x`.
 fn value_on<M: TargetMatcher + Drop>(
     alloc: Global,
     condition: &Expression,
@@ -41,7 +41,8 @@ fn value_on<M: TargetMatcher + Drop>(
     value_for(alloc, condition, &target?, &["x"])
 }
 
-/// The value on the row that is made from the lines of a compiler, or false if they make no row.
+/// Returns the value on the row that is made from the lines of a compiler, or false if they make no
+/// row.
 pub fn value_on_windows(alloc: Global, condition: &Expression) -> Result<bool, AllocError> {
     match row_of(alloc, TRIPLE, WINDOWS)? {
         Some(row) => value_on(alloc, condition, Ok(row)),
@@ -49,12 +50,12 @@ pub fn value_on_windows(alloc: Global, condition: &Expression) -> Result<bool, A
     }
 }
 
-/// The value on the row that is written by hand.
+/// Returns the value on the row that is written by hand.
 pub fn value_on_linux(alloc: Global, condition: &Expression) -> Result<bool, AllocError> {
     value_on(alloc, condition, linux_row(alloc))
 }
 
-// The text after the first tab.
+// Returns the text after the first tab.
 fn after_tab(line: &str) -> &str {
     match line.split_once('\t') {
         Some((_, rest)) => rest,
@@ -62,8 +63,8 @@ fn after_tab(line: &str) -> &str {
     }
 }
 
-// Whether `eval` with the lines of the compiler as FLAGs writes the value that `line` gives the
-// section.
+// Returns whether `eval` with the lines of the compiler as FLAGs writes the value that `line` gives
+// the section.
 fn writes_value(alloc: Global, section: &str, line: &str) -> Result<bool, AllocError> {
     let condition = after_tab(section);
     let words = format!(in alloc; "eval\n{condition}\n{WINDOWS}?loom")?;
@@ -83,7 +84,8 @@ fn sections_are_evaluated_with_the_lines_of_a_compiler(
     Ok(())
 }
 
-// Whether the built-in rows and `row` make a table in which `triple` and a built-in triple are found.
+// Returns whether the built-in rows and `row` make a table in which `triple` and a built-in triple
+// are found.
 fn makes_a_table(
     alloc: Global,
     row: TargetInfo<'static>,
@@ -99,7 +101,8 @@ fn has_triple(table: &TargetTable<'_>, triple: &str) -> bool {
     get_builtin_target_by_triple(table, triple).is_some()
 }
 
-// Whether the lines of a compiler make a row with this triple, and that row makes such a table.
+// Returns whether the lines of a compiler make a row with this triple, and that row makes such a
+// table.
 fn is_row_added(
     alloc: Global,
     triple: &'static str,

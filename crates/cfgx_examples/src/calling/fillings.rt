@@ -2,7 +2,7 @@
 use cfg_expr::{Decision, Expression};
 use std::alloc::{AllocError, Global};
 
-/// The decision over `answers`, or `None` unless there is one answer for each predicate.
+/// Returns the decision over `answers`, or `None` unless there is one answer for each predicate.
 pub fn decision_over(
     alloc: Global,
     condition: &Expression,

@@ -55,7 +55,7 @@ fn widths_of(alloc: Global, lines: &str) -> Result<HasAtomics, AllocError> {
     HasAtomics::new(alloc, widths.into_iter())
 }
 
-// The value of `key` on this line, without its quotes.
+// Returns the value of `key` on this line, without its quotes.
 fn value<'a>(line: &'a str, key: &str) -> Option<&'a str> {
     match line.split_once('=') {
         Some((name, quoted)) if name == key => Some(quoted.trim_matches('"')),
@@ -63,7 +63,7 @@ fn value<'a>(line: &'a str, key: &str) -> Option<&'a str> {
     }
 }
 
-// The first value of `key`, or the empty text if no line gives one.
+// Returns the first value of `key`, or the empty text if no line gives one.
 fn first<'a>(lines: &'a str, key: &str) -> &'a str {
     for line in lines.lines() {
         if let Some(value) = value(line, key) {

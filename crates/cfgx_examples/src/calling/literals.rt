@@ -2,7 +2,7 @@
 use cfg_expr::{Expression, Predicate};
 use std::alloc::{AllocError, Global};
 
-/// The value that literals and empty lists decide, whatever the predicates are.
+/// Returns the value that literals and empty lists decide, whatever the predicates are.
 pub fn value_of_literals(
     alloc: Global,
     condition: &Expression,

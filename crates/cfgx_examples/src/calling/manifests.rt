@@ -5,8 +5,8 @@ use cfg_expr::expr::TargetMatcher;
 use cfgx_engine::resolve::{Section, Verdict, pick};
 use std::alloc::Global;
 
-/// The names of the dependencies that a build for `target` may need: those whose verdict is not
-/// `No`. Each dependency is a name and a condition.
+/// Returns the names of the dependencies that a build for `target` may need: those whose verdict is
+/// not `No`. Each dependency is a name and a condition.
 pub fn may_need<'a, M: TargetMatcher>(
     alloc: Global,
     dependencies: &[(&'a str, &str)],
@@ -22,7 +22,7 @@ pub fn may_need<'a, M: TargetMatcher>(
     Ok(names)
 }
 
-/// The verdict of `target` on each dependency.
+/// Returns the verdict of `target` on each dependency.
 pub fn verdicts_on<M: TargetMatcher>(
     alloc: Global,
     dependencies: &[(&str, &str)],

@@ -33,7 +33,8 @@ fn count_with_reader<'a, M: TargetMatcher>(
     Ok(count)
 }
 
-// Whether `target` decides the condition. Each condition reuses the memory of the one before it.
+// Returns whether `target` decides the condition. Each condition reuses the memory of the one
+// before it.
 fn is_decided<M: TargetMatcher>(
     alloc: Global,
     condition: &Condition<'_>,

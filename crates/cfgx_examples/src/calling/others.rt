@@ -4,7 +4,7 @@ use cfg_expr::targets::{
 };
 use std::alloc::{AllocError, Global};
 
-/// The row of a target that is not built in.
+/// Returns the row of a target that is not built in.
 pub fn linux_row(alloc: Global) -> Result<TargetInfo<'static>, AllocError> {
     let families = Families::unix(alloc)?;
     let has_atomics = HasAtomics::atomic_8_16_32_64_ptr(alloc)?;
@@ -23,7 +23,7 @@ pub fn linux_row(alloc: Global) -> Result<TargetInfo<'static>, AllocError> {
     })
 }
 
-/// The table of the built-in rows and one more, or `None` if a built-in row has its triple.
+/// Returns the table of the built-in rows and one more, or `None` if a built-in row has its triple.
 pub fn builtins_and(
     alloc: Global,
     row: TargetInfo<'static>,

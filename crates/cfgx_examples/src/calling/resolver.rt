@@ -6,7 +6,7 @@ use cfg_expr::{Expression, Predicate};
 use std::alloc::{AllocError, Global};
 use std::io;
 
-/// The value of a condition on a target with these features, if everything else is false.
+/// Returns the value of a condition on a target with these features, if everything else is false.
 pub fn value_for<M: TargetMatcher>(
     alloc: Global,
     condition: &Expression,

@@ -5,8 +5,8 @@ use cfg_expr::targets::TargetInfo;
 use cfg_expr::{Expression, Predicate};
 use std::alloc::{AllocError, Global};
 
-/// The value on each row, if nothing else is known. Lane `i` is the value on row `i`. Returns `None`
-/// if there are more than 64 rows.
+/// Returns the value on each row, if nothing else is known. Lane `i` is the value on row `i`.
+/// Returns `None` if there are more than 64 rows.
 pub fn eval_on_rows(
     alloc: Global,
     condition: &Expression,
@@ -31,7 +31,7 @@ fn answers_of(
     Ok(answers)
 }
 
-// The answers of at most 64 rows.
+// Returns the answers of at most 64 rows.
 fn lanes(predicate: Predicate<'_>, rows: &[TargetInfo]) -> Kleene64 {
     match predicate {
         Predicate::Target(target) if rows.len() <= 64 => target.lanes(rows),

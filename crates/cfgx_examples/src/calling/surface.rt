@@ -23,7 +23,7 @@ fn contains_family(families: &Families<'_>, family: Family<'_>) -> bool {
     is_member
 }
 
-// Whether the list `unix_wasm` is sorted, and contains `unix` and not `windows`.
+// Returns whether the list `unix_wasm` is sorted, and contains `unix` and not `windows`.
 fn unix_wasm_is_right(alloc: Global) -> Result<bool, AllocError> {
     let families = Families::unix_wasm(alloc)?;
     Ok(
@@ -37,7 +37,7 @@ fn is_sorted_with_wasm_first() -> bool {
     Families::is_sorted(&[<Family<'_>>::wasm(), Family::unix()])
 }
 
-// Whether the list `atomic_8_16_32_ptr` contains 8 and not 64.
+// Returns whether the list `atomic_8_16_32_ptr` contains 8 and not 64.
 fn atomic_8_16_32_ptr_is_right(alloc: Global) -> Result<bool, AllocError> {
     let widths = HasAtomics::atomic_8_16_32_ptr(alloc)?;
     let has_eight = widths.contains(HasAtomic::IntegerSize(8));
@@ -50,20 +50,20 @@ fn are_equal<T: PartialEq + Drop>(one: T, other: T) -> bool {
     one == other
 }
 
-// Whether two reads of one text are equal, and a read of another text is not.
+// Returns whether two reads of one text are equal, and a read of another text is not.
 fn reads_are_compared(alloc: Global) -> bool {
     are_equal(HasAtomic::read(alloc, "x"), HasAtomic::read(alloc, "x"))
         && !are_equal(HasAtomic::read(alloc, "x"), HasAtomic::read(alloc, "y"))
 }
 
-// Whether `8` is a width, and the empty text is none.
+// Returns whether `8` is a width, and the empty text is none.
 fn widths_are_read(alloc: Global) -> bool {
     let is_read = HasAtomic::read(alloc, "8") == Ok(HasAtomic::IntegerSize(8));
     let no_width = HasAtomic::read(alloc, "");
     is_read && matches!(no_width, Err(HasAtomicFailure::Parse(_)))
 }
 
-// Whether `Failure::of` makes a fault in the whole text.
+// Returns whether `Failure::of` makes a fault in the whole text.
 fn fault_is_made(alloc: Global) -> bool {
     match Failure::of(alloc, "a b", 2..3, Reason::MultipleRootPredicates) {
         Failure::Parse(fault) => fault.original.as_str() == "a b" && fault.span == (2..3),
@@ -71,7 +71,7 @@ fn fault_is_made(alloc: Global) -> bool {
     }
 }
 
-// Whether `value` equals `same` and is above `below`.
+// Returns whether `value` equals `same` and is above `below`.
 fn equals_and_exceeds<T: PartialOrd + Drop>(value: &T, same: T, below: T) -> bool {
     *value == same && *value > below
 }

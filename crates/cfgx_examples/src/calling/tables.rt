@@ -4,7 +4,7 @@ use cfg_expr::expr::TargetMatcher;
 use cfgx_engine::resolve::{Verdict, audit};
 use std::alloc::{AllocError, Global};
 
-/// A row for each condition, with one verdict for each target.
+/// Returns a row for each condition, with one verdict for each target.
 pub fn table_of<M: TargetMatcher>(
     alloc: Global,
     conditions: &[Expression],

@@ -3,8 +3,8 @@ use cfg_expr::targets::{TargetTable, get_builtin_target_by_triple};
 use cfg_expr::{Expression, Predicate};
 use std::alloc::{AllocError, Global};
 
-/// The value on the built-in target with this triple. Returns `None` if the value is unknown, or if
-/// no built-in target has the triple.
+/// Returns the value on the built-in target with this triple. Returns `None` if the value is
+/// unknown, or if no built-in target has the triple.
 pub fn value_on(
     alloc: Global,
     condition: &Expression,

@@ -2,7 +2,7 @@
 use cfg_expr::{Expression, Predicate};
 use std::alloc::{AllocError, Global};
 
-/// The value outside of tests, if nothing else is known.
+/// Returns the value outside of tests, if nothing else is known.
 pub fn outside_tests(alloc: Global, condition: &Expression) -> Result<Option<bool>, AllocError> {
     condition.eval(
         alloc,

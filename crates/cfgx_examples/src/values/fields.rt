@@ -9,12 +9,12 @@ use std::alloc::{AllocError, Allocator, Global};
 use std::fmt::Display;
 use std::hash::Hash;
 
-/// Texts in the order of their bytes. The longer `aa` is below `b`, and letters past ASCII are above
-/// all others.
+/// Texts in the order of their bytes. The longer `aa` is below `b`, and letters past ASCII are
+/// above all others.
 const RISING: &str = "|Z|a|a text of a field that is not a short one|\
     a text of a field that stands behind it|aa|b|é|日本";
 
-// Whether the field prints like the text.
+// Returns whether the field prints like the text.
 fn prints_like<T: Display>(alloc: Global, field: &T, text: &str) -> Result<bool, AllocError> {
     let wanted = format!(in alloc; "{text}|{text:>3}|")?;
     value_equals(format!(in alloc; "{field}|{field:>3}|"), &wanted)
@@ -23,7 +23,7 @@ fn prints_like<T: Display>(alloc: Global, field: &T, text: &str) -> Result<bool,
 /// Two texts of `RISING`, each after its index.
 type TwoTexts<'a> = ((usize, &'a str), (usize, &'a str));
 
-// Whether the fields of two texts compare, hash and print like the texts.
+// Returns whether the fields of two texts compare, hash and print like the texts.
 fn behave_like_texts<T: Ord + Hash + Display>(
     alloc: Global,
     fields: (&T, &T),
@@ -48,7 +48,7 @@ fn owned_text<'h>(heap: Heap<'h>, text: &str) -> Result<String<Heap<'h>>, AllocE
 /// Two fields of one kind.
 type TwoFields<'f, 'a, K, A> = (&'f Field<'a, K, A>, &'f Field<'a, K, A>);
 
-// Whether the fields have the texts, and behave like them.
+// Returns whether the fields have the texts, and behave like them.
 fn fields_match_texts<K, A: Allocator>(
     alloc: Global,
     fields: TwoFields<'_, '_, K, A>,
@@ -59,7 +59,8 @@ fn fields_match_texts<K, A: Allocator>(
     have_texts && behave_like_texts(alloc, fields, texts)
 }
 
-// Whether a borrowed field of the first text and an owned field of the second one match the texts.
+// Returns whether a borrowed field of the first text and an owned field of the second one match the
+// texts.
 fn borrowed_and_owned_match<K: Drop, A: Allocator>(
     alloc: Global,
     owned: Result<String<A>, AllocError>,
@@ -70,13 +71,13 @@ fn borrowed_and_owned_match<K: Drop, A: Allocator>(
     Ok(fields_match_texts(alloc, (&borrowed, &owned), texts))
 }
 
-// Whether two fields of this kind match the texts. The owned field is in the heap.
+// Returns whether two fields of this kind match the texts. The owned field is in the heap.
 fn kind_matches<K: Drop>(alloc: Global, heap: Heap<'_>, texts: TwoTexts<'_>) -> bool {
     let owned = owned_text(heap, texts.1.1);
     is_ok_true(borrowed_and_owned_match::<K, _>(alloc, owned, texts))
 }
 
-// Whether two fields of each kind match the texts.
+// Returns whether two fields of each kind match the texts.
 fn each_kind_matches(alloc: Global, heap: Heap<'_>, texts: TwoTexts<'_>) -> bool {
     kind_matches::<TripleKind>(alloc, heap, texts)
         && kind_matches::<AbiKind>(alloc, heap, texts)

@@ -5,7 +5,7 @@ use cfgx_testing::targets::row_of;
 use std::alloc::{AllocError, Global};
 use std::hash::Hash;
 
-// The hash of the value of `outcome`.
+// Returns the hash of the value of `outcome`.
 fn hash_of_ok<T: Hash + Drop>(outcome: Result<T, AllocError>) -> Result<u64, AllocError> {
     Ok(hash_of(&outcome?))
 }
@@ -14,7 +14,7 @@ fn hash_of_ok<T: Hash + Drop>(outcome: Result<T, AllocError>) -> Result<u64, All
 const FIELDS: &str = "triple=other os=ios abi=sim arch=arm env=gnu vendor=apple unix bits=32 \
     endian=big atomics panic=abort";
 
-// Whether the hash of a bare row changes with this field.
+// Returns whether the hash of a bare row changes with this field.
 fn changes_hash(alloc: Global, field: &'static str) -> Result<bool, AllocError> {
     let hash = hash_of_ok(row_of(alloc, "bare", ""))?;
     Ok(hash_of_ok(row_of(alloc, "bare", field))? != hash)
@@ -32,12 +32,12 @@ fn each_field_changes_the_hash_of_a_row(rt: HostRuntime) -> Result<(), &'static 
     if count == 11 { Ok(()) } else { Err("fields") }
 }
 
-// A row of iOS with these fields.
+// Returns a row of iOS with these fields.
 fn ios(alloc: Global, fields: &'static str) -> Result<TargetInfo<'static>, AllocError> {
     row_of(alloc, "aarch64-apple-ios", fields)
 }
 
-// A copy of a row of iOS with these fields.
+// Returns a copy of a row of iOS with these fields.
 fn ios_copied(alloc: Global, fields: &'static str) -> Result<TargetInfo<'static>, AllocError> {
     let row = ios(alloc, fields)?;
     let copy = row.try_clone(alloc);
@@ -45,7 +45,7 @@ fn ios_copied(alloc: Global, fields: &'static str) -> Result<TargetInfo<'static>
     copy
 }
 
-// Whether a row and its copy have the same hash, and a bare row has another one.
+// Returns whether a row and its copy have the same hash, and a bare row has another one.
 fn copy_keeps_hash(alloc: Global) -> Result<bool, AllocError> {
     let fields = "os=ios vendor=apple unix atomics";
     let hash = hash_of_ok(ios(alloc, fields))?;
@@ -53,7 +53,7 @@ fn copy_keeps_hash(alloc: Global) -> Result<bool, AllocError> {
     Ok(hash_of_ok(ios_copied(alloc, fields))? == hash && bare != hash)
 }
 
-// Whether two of the values have the same hash exactly if they are equal.
+// Returns whether two of the values have the same hash exactly if they are equal.
 fn hashes_tell_equality<T: Hash + Eq>(values: &[T]) -> bool {
     for one in values {
         for other in values {

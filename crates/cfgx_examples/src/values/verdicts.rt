@@ -44,13 +44,13 @@ struct Rows<'a> {
     are_named: bool,
 }
 
-// The name, the condition and the digits of a row.
+// Returns the name, the condition and the digits of a row.
 fn fields_of(row: &str, is_named: bool) -> (&str, &str, &str) {
     let (condition, digits) = row.split_once(" | ").unwrap_or((row, ""));
     (if is_named { condition } else { "" }, condition, digits)
 }
 
-// A section for each row.
+// Returns a section for each row.
 fn sections_of(alloc: Global, rows: Rows<'_>) -> Result<Vec<Section>, Failure> {
     let mut sections = Vec::new(alloc);
     for row in rows.lines.lines() {
@@ -60,7 +60,7 @@ fn sections_of(alloc: Global, rows: Rows<'_>) -> Result<Vec<Section>, Failure> {
     Ok(sections)
 }
 
-// The verdict of a digit, if there is one.
+// Returns the verdict of a digit, if there is one.
 fn verdict_of(digit: Option<&u8>) -> Option<Verdict> {
     Some(match answer_of(*digit?) {
         Some(true) => Verdict::Yes,
@@ -69,7 +69,7 @@ fn verdict_of(digit: Option<&u8>) -> Option<Verdict> {
     })
 }
 
-// Whether the section is that of the row, and the verdict that of the row's digit.
+// Returns whether the section is that of the row, and the verdict that of the row's digit.
 fn section_matches(section: &Section, verdict: Verdict, row: &str, rows: Rows<'_>) -> bool {
     let (name, condition, digits) = fields_of(row, rows.are_named);
     section.name.as_str() == name
@@ -77,7 +77,7 @@ fn section_matches(section: &Section, verdict: Verdict, row: &str, rows: Rows<'_
         && verdict_of(digits.as_bytes().get(rows.digit)) == Some(verdict)
 }
 
-// Whether the sections and the verdicts are those of the rows.
+// Returns whether the sections and the verdicts are those of the rows.
 fn sections_match(sections: &[Section], verdicts: &[Verdict], rows: Rows<'_>) -> bool {
     let mut lines = rows.lines.lines();
     for (section, verdict) in sections.iter().zip(verdicts) {
@@ -88,7 +88,8 @@ fn sections_match(sections: &[Section], verdicts: &[Verdict], rows: Rows<'_>) ->
     sections.len() == verdicts.len() && lines.next().is_none()
 }
 
-// Whether `pick` returns the verdicts of the rows twice, and leaves the sections as they were.
+// Returns whether `pick` returns the verdicts of the rows twice, and leaves the sections as they
+// were.
 fn pick_matches<M: TargetMatcher>(
     alloc: Global,
     target: &M,
@@ -100,7 +101,7 @@ fn pick_matches<M: TargetMatcher>(
     Ok(verdicts == again && sections_match(sections.as_slice(), verdicts.as_slice(), rows))
 }
 
-// Whether `pick` returns the verdicts of the lines on each target.
+// Returns whether `pick` returns the verdicts of the lines on each target.
 fn picks_match(alloc: Global, targets: &[TargetInfo<'_>], lines: &str, are_named: bool) -> bool {
     for (digit, target) in targets.iter().enumerate() {
         let rows = Rows {
@@ -115,7 +116,8 @@ fn picks_match(alloc: Global, targets: &[TargetInfo<'_>], lines: &str, are_named
     true
 }
 
-// Whether `pick` returns the verdicts of `CONDITIONS`, repeated `times` times, on each target.
+// Returns whether `pick` returns the verdicts of `CONDITIONS`, repeated `times` times, on each
+// target.
 fn picks_match_repeated(alloc: Global, times: usize, are_named: bool) -> Result<bool, Failure> {
     let lines = repeated(alloc, "", CONDITIONS, times, "")?;
     let targets = builtin_rows(alloc, TRIPLES)?;

@@ -9,7 +9,7 @@ const EIGHT: HasAtomic = HasAtomic::IntegerSize(8);
 
 const POINTER: HasAtomic = HasAtomic::Pointer;
 
-// Whether `value` prints `text`.
+// Returns whether `value` prints `text`.
 fn owned_prints<T: Display + Drop>(alloc: Global, value: T, text: &str) -> bool {
     prints(alloc, &value, text)
 }

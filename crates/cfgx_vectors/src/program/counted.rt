@@ -3,7 +3,8 @@ use cfgx_engine::engine::streams::{Counted, Sink, Source, write_whole};
 use cfgx_testing::streams::{Pieces, interrupted};
 use std::io;
 
-// The number of bytes that a read returns, if it succeeds, and the number of failed calls after it.
+// Returns the number of bytes that a read returns, if it succeeds, and the number of failed calls
+// after it.
 fn read<S: io::Read>(source: &mut Counted<S>, buffer: &mut [u8]) -> (Option<usize>, u64) {
     if source.failures() == u64::MAX {
         return (None, u64::MAX);
@@ -20,7 +21,7 @@ const READS: &[(Option<usize>, u64, &[u8])] = &[
     (Some(0), 1, b""),
 ];
 
-// The index of the first read with another result than in `READS`.
+// Returns the index of the first read with another result than in `READS`.
 fn first_wrong_read<S: io::Read>(source: &mut Counted<S>) -> Option<usize> {
     let mut buffer = [0u8; 8];
     for (i, (count, failures, bytes)) in READS.iter().enumerate() {
@@ -36,11 +37,11 @@ fn counts_reads() -> bool {
     first_wrong_read(&mut source).is_none()
 }
 
-/// A call, its bytes, the number of bytes that it takes if it succeeds, and the number of failed calls
-/// after it.
+/// A call, its bytes, the number of bytes that it takes if it succeeds, and the number of failed
+/// calls after it.
 type Step = (&'static str, &'static [u8], Option<usize>, u64);
 
-// The number of bytes that the call takes, if it succeeds.
+// Returns the number of bytes that the call takes, if it succeeds.
 fn taken<S: io::Write>(sink: &mut Counted<S>, call: &str, bytes: &[u8]) -> Option<usize> {
     if sink.failures() == u64::MAX {
         return None;
@@ -53,7 +54,7 @@ fn taken<S: io::Write>(sink: &mut Counted<S>, call: &str, bytes: &[u8]) -> Optio
     if is_done { Some(bytes.len()) } else { None }
 }
 
-// The index of the first step with another result.
+// Returns the index of the first step with another result.
 fn first_wrong_step<S: io::Write>(sink: &mut Counted<S>, steps: &[Step]) -> Option<usize> {
     for (i, (call, bytes, wanted, failures)) in steps.iter().enumerate() {
         if taken(sink, call, bytes) != *wanted || sink.failures() != *failures {
@@ -109,7 +110,7 @@ fn first_fail(failing: u64, is_empty: bool) -> Counted<FirstFail> {
     })
 }
 
-// The numbers of reads, writes and flushes of the inner stream.
+// Returns the numbers of reads, writes and flushes of the inner stream.
 fn calls(counted: &Counted<FirstFail>) -> (u64, u64, u64) {
     let stream = counted.get_ref();
     (stream.reads, stream.writes, stream.flushes)
@@ -182,7 +183,7 @@ fn makes_empty_write_once() -> bool {
         && calls(&sink) == (0, 2, 0)
 }
 
-/// Whether the property with this name holds, or `None` if no property has it.
+/// Returns whether the property with this name holds, or `None` if no property has it.
 pub(super) fn property(name: &str) -> Option<bool> {
     Some(match name {
         "each read is counted if it fails" => counts_reads(),

@@ -30,8 +30,8 @@ fn apply_all(sink: &mut Recorder, settings: &str) -> Option<()> {
     Some(())
 }
 
-// The status and the output of a run over `input`, and the numbers of writes and flushes. Only calls
-// of the sink fail.
+// Returns the status and the output of a run over `input`, and the numbers of writes and flushes.
+// Only calls of the sink fail.
 fn ended_text(
     alloc: Global,
     words: &[&str],
@@ -92,8 +92,8 @@ pub(super) fn finding(alloc: Global, row: &[String]) -> Option<Finding> {
     })
 }
 
-// Whether a run ends with status 3 if write number `failing` fails. Each write takes one byte. The
-// run must have written `output` before that write, and must make no call after it.
+// Returns whether a run ends with status 3 if write number `failing` fails. Each write takes one
+// byte. The run must have written `output` before that write, and must make no call after it.
 fn ends_at_write(alloc: Global, words: &[&str], input: &str, output: &[u8], failing: u64) -> bool {
     let mut source = Pieces::new(input.as_bytes(), ALL, 0);
     let mut sink = Recorder::new(alloc);
@@ -103,8 +103,8 @@ fn ends_at_write(alloc: Global, words: &[&str], input: &str, output: &[u8], fail
     sink_matches(&sink, output, (failing, 0), 1) && status == 3 && source.is_read_whole()
 }
 
-/// Whether each failed write ends the run with status 3. The run must have written the bytes before
-/// that write, one per call, and must make no call after it.
+/// Returns whether each failed write ends the run with status 3. The run must have written the
+/// bytes before that write, one per call, and must make no call after it.
 pub(super) fn ends_at_each_write(
     alloc: Global,
     words: &[&str],
@@ -120,8 +120,8 @@ pub(super) fn ends_at_each_write(
     true
 }
 
-// Whether a run ends with status 3 if read number `failing` fails, reads no more, and makes no call
-// of its sink, whose calls would fail too.
+// Returns whether a run ends with status 3 if read number `failing` fails, reads no more, and makes
+// no call of its sink, whose calls would fail too.
 fn ends_at_read(alloc: Global, input: &[u8], failing: u64, left: &[u8]) -> bool {
     let mut source = Pieces::new(input, 3, failing);
     let mut sink = Recorder::new(alloc);
@@ -135,7 +135,8 @@ fn ends_at_read(alloc: Global, input: &[u8], failing: u64, left: &[u8]) -> bool 
         && source.left == left
 }
 
-// Whether each failed read ends the run. Each read has three bytes, and the last one meets the end.
+// Returns whether each failed read ends the run. Each read has three bytes, and the last one meets
+// the end.
 fn ends_at_each_read(alloc: Global, input: &[u8]) -> bool {
     let mut left = input;
     for failing in 1..u64::MAX {
@@ -150,7 +151,7 @@ fn ends_at_each_read(alloc: Global, input: &[u8]) -> bool {
     false
 }
 
-/// Whether each failed write and each failed read is the last call of a run of `pick`.
+/// Returns whether each failed write and each failed read is the last call of a run of `pick`.
 pub(super) fn ends_at_each_call(alloc: Global, input: &str, written: &str) -> bool {
     ends_at_each_write(alloc, &["pick", SIM], input, written.as_bytes())
         && ends_at_each_read(alloc, input.as_bytes())

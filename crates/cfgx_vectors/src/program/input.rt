@@ -7,7 +7,7 @@ use std::str;
 
 const TEN: &[u8] = b"0123456789";
 
-// The error of `read_input`, if it returned one.
+// Returns the error of `read_input`, if it returned one.
 fn stop_of(read: Result<Input, Stop>) -> Option<Stop> {
     match read {
         Ok(_) => None,
@@ -15,7 +15,7 @@ fn stop_of(read: Result<Input, Stop>) -> Option<Stop> {
     }
 }
 
-// The bytes that were not read before the failed read, if that was the last read.
+// Returns the bytes that were not read before the failed read, if that was the last read.
 fn unread_text(alloc: Global, failing_read: u64) -> Result<String, AllocError> {
     let mut source = Pieces::new(TEN, 3, failing_read);
     let stop = stop_of(read_input(alloc, &mut source));
@@ -35,7 +35,7 @@ pub(super) fn finding_of_failed_read(alloc: Global, failing_read: &str, unread: 
     }
 }
 
-// Whether `read_input` returned `bytes`.
+// Returns whether `read_input` returned `bytes`.
 fn is_read(read: &Result<Input, Stop>, bytes: &[u8]) -> bool {
     match read {
         Ok(Input::Bytes(read)) => read.as_slice() == bytes,
@@ -43,7 +43,7 @@ fn is_read(read: &Result<Input, Stop>, bytes: &[u8]) -> bool {
     }
 }
 
-// The number of reads by which the bytes are read to their end.
+// Returns the number of reads by which the bytes are read to their end.
 fn reads_text(alloc: Global, bytes: &[u8], each: usize) -> Result<String, AllocError> {
     let mut source = Pieces::new(bytes, each, 0);
     let is_read = is_read(&read_input(alloc, &mut source), bytes);
@@ -62,7 +62,7 @@ pub(super) fn finding_of_whole(alloc: Global, input: &str, each: &str, reads: &s
     }
 }
 
-// The number of bytes that `read_input` returned, if it returned any.
+// Returns the number of bytes that `read_input` returned, if it returned any.
 fn length_of(read: &Result<Input, Stop>) -> Option<usize> {
     match read {
         Ok(Input::Bytes(bytes)) => Some(bytes.len()),
@@ -70,7 +70,7 @@ fn length_of(read: &Result<Input, Stop>) -> Option<usize> {
     }
 }
 
-// The number of bytes that are read from a source of `count` bytes, if it is `count`.
+// Returns the number of bytes that are read from a source of `count` bytes, if it is `count`.
 fn length_text(alloc: Global, count: usize, each: usize) -> Result<String, AllocError> {
     let mut source = Counting { left: count, each };
     let length = length_of(&read_input(alloc, &mut source));

@@ -5,8 +5,8 @@ use cfgx_testing::streams::{ALL, Pieces, Recorder, SECTIONS, has_written};
 use cfgx_testing::triples::SIM;
 use std::alloc::{AllocError, Global};
 
-// Whether a run reads nothing of `input` and ends as `ended` says. A read would fail, and each write
-// takes one byte.
+// Returns whether a run reads nothing of `input` and ends as `ended` says. A read would fail, and
+// each write takes one byte.
 fn leaves_unread(alloc: Global, words: &[&str], input: &[u8], ended: (&str, &str)) -> bool {
     let (status, written) = ended;
     let mut source = Pieces::new(input, ALL, 1);
@@ -18,7 +18,7 @@ fn leaves_unread(alloc: Global, words: &[&str], input: &[u8], ended: (&str, &str
     is_ended && calls == (0, written.len() as u64)
 }
 
-/// Whether a run reads nothing of any input, and has the status and the output of `ended`.
+/// Returns whether a run reads nothing of any input, and has the status and the output of `ended`.
 pub(super) fn reads_nothing(alloc: Global, words: &[&str], ended: (&str, &str)) -> bool {
     leaves_unread(alloc, words, SECTIONS.as_bytes(), ended)
         && leaves_unread(alloc, words, b"", ended)
@@ -26,7 +26,7 @@ pub(super) fn reads_nothing(alloc: Global, words: &[&str], ended: (&str, &str)) 
         && leaves_unread(alloc, words, b"x", ended)
 }
 
-// The number of reads of a run of `pick`, and what is wrong with the run, if anything is.
+// Returns the number of reads of a run of `pick`, and what is wrong with the run, if anything is.
 fn reads_text(alloc: Global, each: usize, input: &str) -> Result<String, AllocError> {
     let mut source = Pieces::new(input.as_bytes(), each, 0);
     let mut sink = Recorder::new(alloc);

@@ -14,8 +14,8 @@ pub(crate) fn stripped()
     ensures half { strip (codes "cfg(key") ≡ codes "cfg(key" }
 {}
 
-// The token lists of texts. In `a 8 b` one token stands before the `8`, where no token starts. U+00A0,
-// whose bytes are c2 a0, is white space.
+// The token lists of texts. In `a 8 b` one token stands before the `8`, where no token starts.
+// U+00A0, whose bytes are c2 a0, is white space.
 pub(crate) fn listed()
     ensures stuck { AreItems (codes "a 8 b")
         (record { token = spelled.Token.key (codes "a"); start = 0; end = 1 } ∷ [])

@@ -6,7 +6,7 @@ use cfgx_parser::nodes::ExprNode;
 use cfgx_parser::parsed::parse;
 use std::alloc::{AllocError, Global};
 
-// The name of a flag, or nothing for another predicate.
+// Returns the name of a flag, or nothing for another predicate.
 fn name_of<'a>(predicate: &Option<Predicate<'a>>) -> &'a str {
     match predicate {
         Some(Predicate::Flag(name)) => name,
@@ -14,7 +14,7 @@ fn name_of<'a>(predicate: &Option<Predicate<'a>>) -> &'a str {
     }
 }
 
-// The number of predicates before the next call, and the name that the call returns.
+// Returns the number of predicates before the next call, and the name that the call returns.
 fn call_text(alloc: Global, predicates: &mut Predicates<'_>) -> Result<String, AllocError> {
     let left = predicates.left();
     let next = predicates.next();
@@ -23,7 +23,7 @@ fn call_text(alloc: Global, predicates: &mut Predicates<'_>) -> Result<String, A
     format!(in alloc; "{left}{name}")
 }
 
-// The texts of all calls, until two of them returned `None`. Spaces separate the texts.
+// Returns the texts of all calls, until two of them returned `None`. Spaces separate the texts.
 fn texts_of_calls(alloc: Global, mut predicates: Predicates<'_>) -> Result<String, AllocError> {
     let mut text = String::new(alloc);
     for number in 0..predicates.left().saturating_add(2) {
@@ -33,13 +33,13 @@ fn texts_of_calls(alloc: Global, mut predicates: Predicates<'_>) -> Result<Strin
     Ok(text)
 }
 
-/// What each call of `next` of the predicates of `text` returns.
+/// Returns what each call of `next` of the predicates of `text` returns.
 pub(super) fn calls_text(alloc: Global, text: &str) -> Result<String, Failure> {
     let expression = Expression::parse(alloc, text)?;
     Ok(texts_of_calls(alloc, expression.predicates())?)
 }
 
-// The number of nodes of the tree that begins with `node`.
+// Returns the number of nodes of the tree that begins with `node`.
 fn tree_length(node: &ExprNode) -> usize {
     match node {
         ExprNode::Fn { len, .. } => *len,
@@ -72,7 +72,7 @@ fn push_numbers(
     Ok(())
 }
 
-// The lengths of the trees and the places of the predicates.
+// Returns the lengths of the trees and the places of the predicates.
 fn lengths_and_places(
     alloc: Global,
     nodes: &[ExprNode],
@@ -83,7 +83,8 @@ fn lengths_and_places(
     Ok(text)
 }
 
-/// The nodes of `text`: the length of the tree at each node, and the places of the predicates.
+/// Returns the nodes of `text`: the length of the tree at each node, and the places of the
+/// predicates.
 pub(super) fn nodes_text(alloc: Global, text: &str) -> Result<String, Failure> {
     let parsed = parse(alloc, text)?;
     let borrowed = parsed.as_ref();

@@ -6,12 +6,13 @@ use cfgx_testing::streams::{ALL, run_text};
 use cfgx_testing::triples::SIM;
 use std::alloc::{AllocError, Global};
 
-// The text between the first two back quotes of a cell, or an empty text if it has none.
+// Returns the text between the first two back quotes of a cell, or an empty text if it has none.
 fn quoted(cell: &str) -> &str {
     cell.split('`').nth(1).unwrap_or("")
 }
 
-// The fault of a cell as rows write it: without back quotes around its name, and without a comment.
+// Returns the fault of a cell as rows write it: without back quotes around its name, and without a
+// comment.
 fn fault_in_cell(alloc: Global, cell: &str) -> Result<String, AllocError> {
     let fault = cell.split(';').next().unwrap_or(cell);
     fault.trim_start_matches('`').replace(alloc, "` at", " at")
@@ -41,7 +42,7 @@ fn compare_picked(alloc: Global, input: &[u8], printed: &str) -> Finding {
     compare_pair(alloc, actual, (status, printed))
 }
 
-// The bytes of `input`, and the byte ff after them.
+// Returns the bytes of `input`, and the byte ff after them.
 fn with_ff(alloc: Global, input: &str) -> Result<Vec<u8>, AllocError> {
     let mut bytes = Vec::new(alloc);
     bytes.extend_from_slice(input.as_bytes())?;

@@ -32,13 +32,13 @@ const REASONS: &[(&str, Reason)] = &[
     ("UnknownBuiltin", Reason::UnknownBuiltin),
 ];
 
-// The reason that rows write as `InvalidNot(2)`.
+// Returns the reason that rows write as `InvalidNot(2)`.
 fn invalid_not(name: &str) -> Option<Reason> {
     let number = name.strip_prefix("InvalidNot(")?.strip_suffix(')')?;
     Some(Reason::InvalidNot(number.parse().ok()?))
 }
 
-// The reason that rows write as `wanted`.
+// Returns the reason that rows write as `wanted`.
 fn reason_of(wanted: &str) -> Option<Reason> {
     for (name, reason) in REASONS {
         if *name == wanted {
@@ -48,7 +48,7 @@ fn reason_of(wanted: &str) -> Option<Reason> {
     invalid_not(wanted)
 }
 
-// A fault in `text` with this span. Rows write its reason as `name`.
+// Returns a fault in `text` with this span. Rows write its reason as `name`.
 fn error_of(alloc: Global, text: &str, span: Range<usize>, name: &str) -> Option<ParseError> {
     let reason = reason_of(name)?;
     let original = String::from_str(alloc, text).ok()?;
@@ -59,13 +59,13 @@ fn error_of(alloc: Global, text: &str, span: Range<usize>, name: &str) -> Option
     })
 }
 
-// What the reason of the fault prints, and the description of the fault.
+// Returns what the reason of the fault prints, and the description of the fault.
 fn texts_of(alloc: Global, error: &ParseError) -> Result<String, AllocError> {
     let (reason, description) = (error.reason, error.description());
     format!(in alloc; "{reason} | {description}")
 }
 
-/// What the reason `name` of a row prints, and the description of a fault with that reason.
+/// Returns what the reason `name` of a row prints, and the description of a fault with that reason.
 pub(super) fn reason_texts(alloc: Global, name: &str) -> Result<String, AllocError> {
     match error_of(alloc, "", 0..0, name) {
         Some(error) => texts_of(alloc, &error),
@@ -73,13 +73,13 @@ pub(super) fn reason_texts(alloc: Global, name: &str) -> Result<String, AllocErr
     }
 }
 
-// The span that rows write as `span`.
+// Returns the span that rows write as `span`.
 fn span_of(span: &str) -> Option<Range<usize>> {
     let (start, end) = span.split_once("..")?;
     Some(start.parse().ok()?..end.parse().ok()?)
 }
 
-// The fault in `text` that rows write as `fault`.
+// Returns the fault in `text` that rows write as `fault`.
 fn error_of_row(alloc: Global, text: &str, fault: &str) -> Option<ParseError> {
     let (name, span) = fault.split_once(" at ")?;
     error_of(alloc, text, span_of(span)?, name)
@@ -99,7 +99,7 @@ pub(super) fn finding(alloc: Global, text: &str, fault: &str, printed: &str) -> 
     }
 }
 
-/// Whether reasons are equal exactly if their parts are.
+/// Returns whether reasons are equal exactly if their parts are.
 pub(super) fn compares_reasons() -> bool {
     let terms = Reason::Unexpected(&["big", "little"]);
     terms == Reason::Unexpected(&["big", "little"])
@@ -108,18 +108,18 @@ pub(super) fn compares_reasons() -> bool {
         && Reason::Empty != Reason::UnclosedParens
 }
 
-// The fault of a `)` that closes nothing.
+// Returns the fault of a `)` that closes nothing.
 fn unopened(alloc: Global, text: &str, span: Range<usize>) -> Result<ParseError, AllocError> {
     error_of(alloc, text, span, "UnopenedParens").ok_or(AllocError)
 }
 
-// Whether faults with these spans in one text are equal.
+// Returns whether faults with these spans in one text are equal.
 fn are_equal(alloc: Global, one: Range<usize>, other: Range<usize>) -> Result<bool, AllocError> {
     let one = unopened(alloc, "a)", one)?;
     value_equals(unopened(alloc, "a)", other), &one)
 }
 
-/// Whether faults are equal exactly if their parts are.
+/// Returns whether faults are equal exactly if their parts are.
 pub(super) fn compares_faults(alloc: Global) -> bool {
     are_equal(alloc, 1..2, 1..2) == Ok(true) && are_equal(alloc, 1..2, 1..3) == Ok(false)
 }
@@ -130,7 +130,7 @@ fn parse_failure(alloc: Global) -> Result<(), Failure> {
     Ok(())
 }
 
-// Whether the failure is the fault of a `)` that closes nothing.
+// Returns whether the failure is the fault of a `)` that closes nothing.
 fn is_unopened(alloc: Global, failure: &Result<(), Failure>) -> bool {
     match failure {
         Err(Failure::Parse(error)) => fault_matches(alloc, error, ")", "UnopenedParens at 0..1"),
@@ -138,7 +138,7 @@ fn is_unopened(alloc: Global, failure: &Result<(), Failure>) -> bool {
     }
 }
 
-/// Whether faults and `AllocError` become failures.
+/// Returns whether faults and `AllocError` become failures.
 pub(super) fn makes_failures(alloc: Global) -> bool {
     let failure: Failure = Failure::from(AllocError);
     failure == Failure::Memory(AllocError) && is_unopened(alloc, &parse_failure(alloc))

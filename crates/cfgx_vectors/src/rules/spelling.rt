@@ -72,8 +72,8 @@ fn spell_one(predicate: Predicate<'_>, writer: &mut Slow) -> io::Result<()> {
     spelled
 }
 
-// Whether the writer has the spelling, no call had an empty slice, and each call took as many bytes
-// as it may.
+// Returns whether the writer has the spelling, no call had an empty slice, and each call took as
+// many bytes as it may.
 fn has_spelling(writer: &Slow, spelled: &str) -> bool {
     let sink = &writer.sink;
     !sink.is_misused
@@ -81,7 +81,8 @@ fn has_spelling(writer: &Slow, spelled: &str) -> bool {
         && (sink.each > 1 || sink.writes == spelled.len() as u64)
 }
 
-// The spelling by calls that take at most `each` bytes, and what is wrong with it, if anything is.
+// Returns the spelling by calls that take at most `each` bytes, and what is wrong with it, if
+// anything is.
 fn spelled_text(alloc: Global, text: &str, each: usize) -> Result<String, AllocError> {
     let mut writer = slow_writer(alloc, each);
     let ended = spell_text(alloc, text, &mut writer);
@@ -108,20 +109,22 @@ pub(super) fn finding_of_long(alloc: Global, prefix: &str, suffix: &str) -> Find
     }
 }
 
-/// Whether the flag `true` is spelled as it is. No text asks this flag, since `true` is a literal.
+/// Returns whether the flag `true` is spelled as it is. No text asks this flag, since `true` is a
+/// literal.
 pub(super) fn spells_true(alloc: Global) -> bool {
     let mut writer = slow_writer(alloc, 1);
     spell_one(Predicate::Flag("true"), &mut writer).is_ok() & has_spelling(&writer, "true")
 }
 
-// Whether the writer has the first `length` bytes of the spelling, and no call followed a failed one.
+// Returns whether the writer has the first `length` bytes of the spelling, and no call followed a
+// failed one.
 fn has_prefix(writer: &Slow, spelled: &str, length: usize) -> bool {
     writer.sink.bytes.len() == length
         && spelled.as_bytes().starts_with(writer.sink.bytes.as_slice())
         && !writer.sink.is_misused
 }
 
-// Whether the spelling stops after `room` bytes if the writer takes no more.
+// Returns whether the spelling stops after `room` bytes if the writer takes no more.
 fn stops_after(alloc: Global, text: &str, spelled: &str, room: usize) -> bool {
     let mut writer = slow_writer(alloc, 4);
     writer.sink.room = room;
@@ -129,7 +132,7 @@ fn stops_after(alloc: Global, text: &str, spelled: &str, room: usize) -> bool {
     (ended == Err(ErrorKind::WriteZero)) & has_prefix(&writer, spelled, room)
 }
 
-// Whether the spelling stops where the writer is full, for each number of bytes.
+// Returns whether the spelling stops where the writer is full, for each number of bytes.
 fn stops_at_each(alloc: Global, text: &str, spelled: &str) -> bool {
     for room in 0..spelled.len() {
         if !stops_after(alloc, text, spelled, room) {
@@ -145,8 +148,8 @@ const KINDS: [ErrorKind; 3] = [
     ErrorKind::WouldBlock,
 ];
 
-// Whether the spelling ends with the error of the writer if call number `failing` fails. Each call
-// takes one byte. The bytes before the failed call must be written.
+// Returns whether the spelling ends with the error of the writer if call number `failing` fails.
+// Each call takes one byte. The bytes before the failed call must be written.
 fn fails_at(alloc: Global, (text, spelled): (&str, &str), failing: usize, kind: ErrorKind) -> bool {
     let mut writer = slow_writer(alloc, 1);
     writer.sink.failing_write = failing as u64;
@@ -157,7 +160,8 @@ fn fails_at(alloc: Global, (text, spelled): (&str, &str), failing: usize, kind: 
         & has_prefix(&writer, spelled, failing.saturating_sub(1))
 }
 
-// Whether the spelling ends with the error of the writer, for each failed call and each kind.
+// Returns whether the spelling ends with the error of the writer, for each failed call and each
+// kind.
 fn fails_at_each(alloc: Global, text: &str, spelled: &str) -> bool {
     for failing in 1..=spelled.len() {
         for kind in KINDS {
@@ -169,19 +173,20 @@ fn fails_at_each(alloc: Global, text: &str, spelled: &str) -> bool {
     true
 }
 
-// Whether the text asks these predicates.
+// Returns whether the text asks these predicates.
 fn asks(alloc: Global, text: &str, predicates: Predicates<'_>) -> Result<bool, Failure> {
     let expression = Expression::parse(alloc, text)?;
     Ok(predicates.eq(expression.predicates()))
 }
 
-// Whether both texts ask the same predicates.
+// Returns whether both texts ask the same predicates.
 fn ask_same_predicates(alloc: Global, text: &str, other: &str) -> Result<bool, Failure> {
     let expression = Expression::parse(alloc, text)?;
     Ok(is_ok_true(asks(alloc, other, expression.predicates())))
 }
 
-// Whether the spelling asks the predicate that the text asks. True if the text asks several.
+// Returns whether the spelling asks the predicate that the text asks. Returns true if the text asks
+// several.
 fn asks_its_predicate(alloc: Global, text: &str, spelled: &str) -> bool {
     let has_several = text.starts_with("all(") || text.starts_with("any(");
     has_several || is_ok_true(ask_same_predicates(alloc, text, spelled))

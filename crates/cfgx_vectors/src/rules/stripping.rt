@@ -5,25 +5,25 @@ use cfgx_testing::checking::is_ok_true;
 use std::alloc::{AllocError, Global};
 use std::fmt::Debug;
 
-// What the expression prints, and its stripped text.
+// Returns what the expression prints, and its stripped text.
 fn printed_and_original(alloc: Global, expression: &Expression) -> Result<String, AllocError> {
     let original = expression.original();
     format!(in alloc; "{expression} | {original}")
 }
 
-/// What the expression of `text` prints, and its stripped text.
+/// Returns what the expression of `text` prints, and its stripped text.
 pub(super) fn stripped(alloc: Global, text: &str) -> Result<String, Failure> {
     let expression = Expression::parse(alloc, text)?;
     Ok(printed_and_original(alloc, &expression)?)
 }
 
-// Whether the expression equals that of `text`.
+// Returns whether the expression equals that of `text`.
 fn is_equal(alloc: Global, expression: &Expression, text: &str) -> Result<bool, Failure> {
     let other = Expression::parse(alloc, text)?;
     Ok(*expression == other)
 }
 
-// Whether the expressions of both texts are equal.
+// Returns whether the expressions of both texts are equal.
 fn are_equal(alloc: Global, one: &str, other: &str) -> Result<bool, Failure> {
     let expression = Expression::parse(alloc, one)?;
     is_equal(alloc, &expression, other)
@@ -36,7 +36,7 @@ pub(super) fn equality(alloc: Global, one: &str, other: &str) -> Result<String, 
     Ok(String::from_str(alloc, text)?)
 }
 
-// Whether `Debug` of the value prints `wanted`.
+// Returns whether `Debug` of the value prints `wanted`.
 fn shows<T: Debug>(alloc: Global, value: &T, wanted: &str) -> bool {
     match format!(in alloc; "{value:?}") {
         Ok(shown) => shown.as_str() == wanted,
@@ -44,13 +44,13 @@ fn shows<T: Debug>(alloc: Global, value: &T, wanted: &str) -> bool {
     }
 }
 
-// Whether `Debug` of the expression of `text` prints `wanted`.
+// Returns whether `Debug` of the expression of `text` prints `wanted`.
 fn expression_shows(alloc: Global, text: &str, wanted: &str) -> Result<bool, Failure> {
     let expression = Expression::parse(alloc, text)?;
     Ok(shows(alloc, &expression, wanted))
 }
 
-/// Whether `Debug` of an expression prints its stripped text.
+/// Returns whether `Debug` of an expression prints its stripped text.
 pub(super) fn shows_stripped(alloc: Global) -> bool {
     is_ok_true(expression_shows(alloc, "cfg(all(a))", "Expression(\"all(a)\")"))
 }

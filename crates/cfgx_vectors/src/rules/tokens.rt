@@ -5,7 +5,7 @@ use cfgx_testing::faults::fault_text;
 use cfgx_testing::rows::{Finding, compare, fail};
 use std::alloc::{AllocError, Global};
 
-// The token and its span, if they equal those of a copy.
+// Returns the token and its span, if they equal those of a copy.
 fn item_text(alloc: Global, item: &LexerToken<'_>) -> Result<String, AllocError> {
     let copy = item.clone()?;
     if copy.token != item.token || copy.span != item.span {
@@ -15,14 +15,14 @@ fn item_text(alloc: Global, item: &LexerToken<'_>) -> Result<String, AllocError>
     format!(in alloc; "{token} at {start}..{end}, ")
 }
 
-// The fault and its text.
+// Returns the fault and its text.
 fn fault_item_text(alloc: Global, error: &ParseError) -> Result<String, AllocError> {
     let fault = fault_text(alloc, error)?;
     let original = error.original.as_str();
     format!(in alloc; "{fault} in {original}, ")
 }
 
-// What the next call returns, or an empty text at the end.
+// Returns what the next call returns, or an empty text at the end.
 fn next_text(alloc: Global, lexer: &mut Lexer<'_>) -> Result<String, AllocError> {
     match lexer.next() {
         Some(Ok(item)) => item_text(alloc, &item),
@@ -32,7 +32,7 @@ fn next_text(alloc: Global, lexer: &mut Lexer<'_>) -> Result<String, AllocError>
     }
 }
 
-// The item, and the number of bytes that are left after it.
+// Returns the item, and the number of bytes that are left after it.
 fn with_left(
     alloc: Global,
     item: Result<String, AllocError>,
@@ -52,7 +52,7 @@ fn compare_items(alloc: Global, lexer: &mut Lexer<'_>, items: &[String]) -> Find
     Ok(())
 }
 
-// Whether three more calls return `None`.
+// Returns whether three more calls return `None`.
 fn has_ended(lexer: &mut Lexer<'_>) -> bool {
     for _call in 0..3 {
         if lexer.next().is_some() || lexer.items_left_bound() != 0 {

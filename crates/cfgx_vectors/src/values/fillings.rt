@@ -6,7 +6,7 @@ use cfgx_testing::fillings::{answers_of, each_call_decides};
 use cfgx_testing::rows::{Finding, compare, require};
 use std::alloc::{AllocError, Global};
 
-// A digit for each value.
+// Returns a digit for each value.
 fn digits_of(alloc: Global, filling: &[bool]) -> Result<String, AllocError> {
     let mut digits = String::new(alloc);
     for value in filling {
@@ -22,7 +22,7 @@ fn fillings_text(alloc: Global, one: &[bool], other: &[bool]) -> Result<String, 
     format!(in alloc; "{one} {other}")
 }
 
-// The decision as rows write it.
+// Returns the decision as rows write it.
 fn decision_text(alloc: Global, decision: &Decision) -> Result<String, AllocError> {
     match decision {
         Decision::Known(value) => format!(in alloc; "{value}"),
@@ -32,7 +32,7 @@ fn decision_text(alloc: Global, decision: &Decision) -> Result<String, AllocErro
     }
 }
 
-// The decision over `answers`, as rows write it.
+// Returns the decision over `answers`, as rows write it.
 fn decided_text(
     alloc: Global,
     expression: &Expression,
@@ -44,7 +44,7 @@ fn decided_text(
     decision_text(alloc, &expression.decide(alloc, answers)?)
 }
 
-// The decision of `text` over the answers of `digits`, as rows write it.
+// Returns the decision of `text` over the answers of `digits`, as rows write it.
 fn decision_of(alloc: Global, text: &str, digits: &str) -> Result<String, Failure> {
     let answers = answers_of(alloc, digits)?;
     let expression = Expression::parse(alloc, text)?;

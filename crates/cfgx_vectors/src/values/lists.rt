@@ -15,14 +15,14 @@ fn families_of<'a>(alloc: Global, names: &'a str) -> Result<Vec<Family<'a>>, All
     Ok(families)
 }
 
-/// What the list of the families with these names prints.
+/// Returns what the list of the families with these names prints.
 pub(super) fn families_text(alloc: Global, names: &str) -> Result<String, AllocError> {
     let families = families_of(alloc, names)?;
     let list = Families::new(alloc, families.into_iter())?;
     format!(in alloc; "{list}")
 }
 
-// The width of `text`. Returns the error also if `text` is no width.
+// Returns the width of `text`, or the error if `text` is no width or memory runs out.
 fn width_of(alloc: Global, text: &str) -> Result<HasAtomic, AllocError> {
     HasAtomic::read(alloc, text).ok().ok_or(AllocError)
 }
@@ -35,14 +35,14 @@ fn widths_of(alloc: Global, texts: &str) -> Result<Vec<HasAtomic>, AllocError> {
     Ok(widths)
 }
 
-/// What the list of these widths prints.
+/// Returns what the list of these widths prints.
 pub(super) fn widths_text(alloc: Global, texts: &str) -> Result<String, AllocError> {
     let widths = widths_of(alloc, texts)?;
     let list = HasAtomics::new(alloc, widths.into_iter())?;
     format!(in alloc; "{list}")
 }
 
-/// What the width of `text` prints, or the fault of a text that is no width.
+/// Returns what the width of `text` prints, or the fault of a text that is no width.
 pub(super) fn width_text(alloc: Global, text: &str) -> Result<String, AllocError> {
     match HasAtomic::read(alloc, text) {
         Ok(width) => format!(in alloc; "{width}"),
@@ -51,7 +51,7 @@ pub(super) fn width_text(alloc: Global, text: &str) -> Result<String, AllocError
     }
 }
 
-// What the field prints.
+// Returns what the field prints.
 fn printed<T: Display + Drop>(alloc: Global, field: T) -> Result<String, AllocError> {
     let text = format!(in alloc; "{field}");
     drop(field);

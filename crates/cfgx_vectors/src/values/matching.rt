@@ -1,5 +1,5 @@
-//! Values of conditions on targets, by `eval`, in lanes and by `pick`. In digits, `1` is true, `0` is
-//! false, and `?`, which counts as a digit here, is unknown.
+//! Values of conditions on targets, by `eval`, in lanes and by `pick`. In digits, `1` is true, `0`
+//! is false, and `?`, which counts as a digit here, is unknown.
 use cfg_expr::error::Failure;
 use cfg_expr::expr::logic::Kleene64;
 use cfg_expr::expr::{Predicates, TargetMatcher};
@@ -13,8 +13,8 @@ use cfgx_testing::targets::{builtin_rows, push_rows};
 use cfgx_testing::triples::TRIPLES;
 use std::alloc::{AllocError, Global};
 
-// The targets that are made by hand: a bare one, iOS, two Windows targets with different vendors, and
-// macOS.
+// The targets that are made by hand: a bare one, iOS, two Windows targets with different vendors,
+// and macOS.
 const BY_HAND: &str = "bare
 aarch64-apple-ios os=ios vendor=apple unix atomics
 by-hand os=windows arch=x86 env=msvc vendor=pc windows bits=32
@@ -29,7 +29,8 @@ struct Targets<'a> {
     otherwise: Answer,
 }
 
-// Returns the answer of `target` to `predicate`, or `otherwise` if `predicate` is not about targets.
+// Returns the answer of `target` to `predicate`, or `otherwise` if `predicate` is not about
+// targets.
 fn answer_on<T: TargetMatcher>(predicate: &Predicate<'_>, target: &T, otherwise: Answer) -> Answer {
     match predicate {
         Predicate::Target(asked) => Some(asked.matches(target)),
@@ -89,8 +90,8 @@ fn eval_digits(
     Ok(digits)
 }
 
-// Returns whether the values of `expression` in lanes, by `eval` over lanes and by `eval_lanes`, match
-// `digits`.
+// Returns whether the values of `expression` in lanes, by `eval` over lanes and by `eval_lanes`,
+// match `digits`.
 fn lanes_match(
     alloc: Global,
     expression: &Expression,
@@ -104,8 +105,8 @@ fn lanes_match(
     Ok(in_lanes == Some(value) && lanes_match_digits(value, digits))
 }
 
-// Compares the values of `expression` with `digits`, which has one digit for each target and one more
-// for all unused lanes.
+// Compares the values of `expression` with `digits`, which has one digit for each target and one
+// more for all unused lanes.
 fn compare_values(
     alloc: Global,
     expression: &Expression,
@@ -173,8 +174,8 @@ fn parse_and_pick_digits(
     Ok(pick_digits(alloc, sections.as_slice(), rows)?)
 }
 
-// Compares the values of the condition `text` with `digits`, and the verdicts on it with those of the
-// targets.
+// Compares the values of the condition `text` with `digits`, and the verdicts on it with those of
+// the targets.
 fn compare_text_and_verdicts(
     alloc: Global,
     rows: &[TargetInfo<'_>],
@@ -209,8 +210,8 @@ fn rows_by_hand(alloc: Global) -> Result<Vec<TargetInfo<'static>>, AllocError> {
     pushed.and(Ok(rows))
 }
 
-/// Compares the values of `text` on the targets that are made by hand with `digits`. Predicates that
-/// are not about targets are true.
+/// Compares the values of `text` on the targets that are made by hand with `digits`. Predicates
+/// that are not about targets are true.
 pub(super) fn finding_by_hand(alloc: Global, text: &str, digits: &str) -> Finding {
     match rows_by_hand(alloc) {
         Ok(rows) => {
@@ -224,7 +225,8 @@ pub(super) fn finding_by_hand(alloc: Global, text: &str, digits: &str) -> Findin
     }
 }
 
-/// Compares the value of `text` without any target, which is that of all unused lanes, with `digits`.
+/// Compares the value of `text` without any target, which is that of all unused lanes, with
+/// `digits`.
 pub(super) fn finding_on_none(alloc: Global, text: &str, digits: &str) -> Finding {
     let targets = Targets {
         rows: &[],

@@ -19,7 +19,7 @@ fn rows_with<'a>(alloc: Global, triples: &'a str) -> Result<Vec<TargetInfo<'a>>,
     pushed.and(Ok(rows))
 }
 
-// Whether the rows have these triples.
+// Returns whether the rows have these triples.
 fn have_triples(rows: &[TargetInfo<'_>], triples: &str) -> bool {
     let mut left = triples.split_whitespace();
     for row in rows {
@@ -64,7 +64,7 @@ fn push_triples(text: &mut String, rows: &[TargetInfo<'_>]) -> Result<(), AllocE
     Ok(())
 }
 
-/// The triples of all built-in targets, in the order of the table. Spaces separate them.
+/// Returns the triples of all built-in targets, in the order of the table. Spaces separate them.
 pub(super) fn builtin_triples(alloc: Global) -> Result<String, AllocError> {
     let table = TargetTable::builtins(alloc)?;
     let mut text = String::new(alloc);
@@ -72,7 +72,7 @@ pub(super) fn builtin_triples(alloc: Global) -> Result<String, AllocError> {
     Ok(text)
 }
 
-// The triple of the row that is found, or `nowhere`.
+// Returns the triple of the row that is found, or `nowhere`.
 fn found_in(alloc: Global, table: &TargetTable<'_>, triple: &str) -> Result<String, AllocError> {
     match get_builtin_target_by_triple(table, triple) {
         Some(row) => String::from_str(alloc, row.triple.as_str()),
@@ -80,7 +80,7 @@ fn found_in(alloc: Global, table: &TargetTable<'_>, triple: &str) -> Result<Stri
     }
 }
 
-/// The triple of the built-in row that is found by `triple`, or `nowhere`.
+/// Returns the triple of the built-in row that is found by `triple`, or `nowhere`.
 pub(super) fn found_triple(alloc: Global, triple: &str) -> Result<String, AllocError> {
     let table = TargetTable::builtins(alloc)?;
     let text = found_in(alloc, &table, triple);

@@ -1,7 +1,7 @@
 -- A growth that ends the countdown is refused. Any other growth returns what the inner allocator
 -- returns. The walk reaches both fields behind `self` directly. `h` is the inner allocator, `p` its
--- address, and `n` and `al` are the size and the alignment of the block. `beyond` is used at the end
--- only. Assumes `Logic`.
+-- address, and `n` and `al` are the size and the alignment of the block. `beyond` is used at the
+-- end only. Assumes `Logic`.
 use Rattle.std.proofs.Common.{ℕ, ◌+◌, Bool, true, false, List, [], ◌∷◌, Ok, Err, refl, ap, w64}
 use Rattle.std.{proofs.Common.Bor, proofs.alloc.Calls.Takes-gives}
 use mir.Syntax.{Args, Fn, a_type, dnil, dcons}

@@ -1,5 +1,5 @@
--- The inner allocator frees its block. No block stands at null, so the pointer is one to a block. The
--- names are those of the walk of `allocate`. Assumes `Logic`.
+-- The inner allocator frees its block. No block stands at null, so the pointer is one to a block.
+-- The names are those of the walk of `allocate`. Assumes `Logic`.
 use Rattle.std.proofs.Common.{◌≡◌, ℕ, ◌+◌, List, [], ◌∷◌, refl, w64}
 use mir.Syntax.{Args, Fn, a_type, dnil, dcons}
 use mir.Val.{Val, vunit}
