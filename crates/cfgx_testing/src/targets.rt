@@ -115,9 +115,9 @@ fn push_copies(
     Ok(())
 }
 
-/// Copies of the built-in rows with these triples, in this order.
+/// Returns copies of the built-in rows with `triples`, in this order.
 ///
-/// The error is that memory ran out, or that a triple is not built in.
+/// Returns an error if memory runs out, or if a triple is not built in.
 pub fn builtin_rows(
     alloc: Global,
     triples: &[&str],

@@ -22,6 +22,7 @@ by-hand os=windows arch=x86 env=msvc vendor=uwp windows bits=32
 aarch64-apple-darwin os=macos vendor=apple unix atomics
 ";
 
+// Targets, as rows of a table of targets, and what they answer to other predicates.
 #[derive(Clone, Copy)]
 struct Targets<'a> {
     rows: &'a [TargetInfo<'a>],
@@ -49,6 +50,7 @@ fn lanes_on(predicate: &Predicate<'_>, targets: Targets<'_>) -> Kleene64 {
 // Returns the answers of at most 64 targets to an owned `predicate`, and drops it.
 fn lanes_on_owned(predicate: Predicate<'_>, targets: Targets<'_>) -> Kleene64 {
     let lanes = lanes_on(&predicate, targets);
+    // By name: docs/DECISIONS.md says why, under "Tests".
     drop(predicate);
     lanes
 }
@@ -207,6 +209,7 @@ pub(super) fn finding_on_built_in(alloc: Global, text: &str, digits: &str) -> Fi
 fn rows_by_hand(alloc: Global) -> Result<Vec<TargetInfo<'static>>, AllocError> {
     let mut rows: Vec<TargetInfo<'static>> = Vec::new(alloc);
     let pushed = push_rows(alloc, &mut rows, BY_HAND);
+    // No `?` here: docs/DECISIONS.md says why, under "Tests".
     pushed.and(Ok(rows))
 }
 
