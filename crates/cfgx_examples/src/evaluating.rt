@@ -156,7 +156,8 @@ fn numbered_term(alloc: Global, expression: &Expression) -> Result<(Terms, usize
     Ok((term, usize::from(count)))
 }
 
-// Returns whether the expression asks this number of questions and has these two terms.
+// Returns whether `expression` asks `questions` questions, and has the terms `named` and
+// `numbered`.
 fn terms_are(
     alloc: Global,
     expression: &Expression,

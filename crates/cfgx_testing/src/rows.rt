@@ -250,15 +250,12 @@ pub type TableToCheck<'a> = (&'a str, &'a str, usize);
 
 // Returns a report of the wrong rows of a table and of a wrong number of rows. The report is empty
 // if nothing is wrong.
-fn report_of<F>(
-    alloc: Global,
-    (name, text, count): TableToCheck<'_>,
-    check: &F,
-) -> Result<String, AllocError>
+fn report_of<F>(alloc: Global, table: TableToCheck<'_>, check: &F) -> Result<String, AllocError>
 where
     F: Fn(&str, &[String]) -> Option<bool>,
     requires { F.IsAlwaysCallable check.now }
 {
+    let (name, text, count) = table;
     let rows = rows_of(alloc, text)?;
     let mut report = wrong_rows(
         alloc,

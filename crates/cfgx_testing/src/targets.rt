@@ -7,7 +7,7 @@ use cfg_expr::targets::{
 use cfgx_targets::reading::{read_endian, read_u8};
 use std::alloc::{AllocError, Global};
 
-/// Returns a row with this triple, in which everything is missing that may be.
+/// Returns a row with `triple`, in which everything is missing that may be.
 pub fn bare(triple: &str) -> TargetInfo<'_> {
     TargetInfo {
         triple: Triple::new_const(triple),
@@ -24,7 +24,7 @@ pub fn bare(triple: &str) -> TargetInfo<'_> {
     }
 }
 
-// Sets the field with this name to `text`.
+// Sets the field with the name `name` to `text`.
 fn set_text(
     row: &mut TargetInfo<'static>,
     name: &str,
@@ -42,7 +42,7 @@ fn set_text(
     }
 }
 
-// Sets the field with this name to `value`. The name of a list sets that list.
+// Sets the field with the name `name` to `value`. The name of a list sets that list.
 fn set_field(
     alloc: Global,
     row: &mut TargetInfo<'static>,
@@ -74,8 +74,8 @@ fn set_fields(
     Ok(())
 }
 
-/// Returns a bare row with this triple and these fields. Spaces separate the fields: `os=ios` and
-/// so on, or `unix`, `windows` or `atomics` for a list.
+/// Returns a bare row with `triple` and `fields`. Spaces separate the fields: `os=ios` and so on,
+/// or `unix`, `windows` or `atomics` for a list.
 pub fn row_of(
     alloc: Global,
     triple: &'static str,
@@ -99,7 +99,8 @@ pub fn push_rows(
     Ok(())
 }
 
-// Pushes a copy of the row of `table` with each of these triples. The error is also a missing row.
+// Pushes a copy of the row of `table` for each of `triples`. Returns the error also if a row is
+// missing.
 fn push_copies(
     alloc: Global,
     rows: &mut Vec<TargetInfo<'static>>,

@@ -14,7 +14,7 @@ use cfgx_testing::rows::{Finding, fail};
 use std::alloc::{AllocError, Global};
 use std::{env, fs, io};
 
-// Returns the finding of the check with this name in a row.
+// Returns the finding of the check `check` in `row`.
 fn finding(alloc: Global, check: &str, row: &[String]) -> Finding {
     if let Some(finding) = rules::finding(alloc, check, row) {
         return finding;

@@ -32,8 +32,7 @@ fn finding_of_long_run(alloc: Global, row: &[String]) -> Option<Finding> {
     })
 }
 
-// Compares a run with these words with the row. The run may not read, and must end at a failed
-// write.
+// Compares a run with `words` with `ended`. The run may not read, and must end at a failed write.
 fn compare_without_reads(alloc: Global, words: &[&str], ended: (&str, &str)) -> Finding {
     compare_run(alloc, words, &[], ended)?;
     let (status, written) = ended;
@@ -150,7 +149,7 @@ fn finding_of_three(
     })
 }
 
-// Returns the finding of the check with this name in the row, by the number of its fields.
+// Returns the finding of the check `check` in `row`, by the number of its fields.
 fn finding_by_number(alloc: Global, check: &str, row: &[String]) -> Option<Finding> {
     match row {
         [one] => finding_of_one(alloc, check, one.as_str()),
@@ -166,8 +165,8 @@ fn finding_by_number(alloc: Global, check: &str, row: &[String]) -> Option<Findi
     }
 }
 
-/// Returns the finding of the check with this name in the row, or `None` if no such check takes
-/// this number of fields.
+/// Returns the finding of the check `check` in `row`, or `None` if no check with this name takes as
+/// many fields as `row` has.
 pub(crate) fn finding(alloc: Global, check: &str, row: &[String]) -> Option<Finding> {
     match check {
         "run" => finding_of_run(alloc, row),

@@ -85,8 +85,8 @@ fn finding_of_three(
     })
 }
 
-/// Returns the finding of the check with this name in the row, or `None` if no such check takes
-/// this number of fields.
+/// Returns the finding of the check `check` in `row`, or `None` if no check with this name takes as
+/// many fields as `row` has.
 pub(crate) fn finding(alloc: Global, check: &str, row: &[String]) -> Option<Finding> {
     if check == "items" {
         return Some(tokens::finding(alloc, row));

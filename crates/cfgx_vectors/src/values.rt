@@ -22,8 +22,8 @@ fn finding_of_two(alloc: Global, check: &str, one: &str, other: &str) -> Option<
     })
 }
 
-/// Returns the finding of the check with this name in the row, or `None` if no such check takes
-/// this number of fields.
+/// Returns the finding of the check `check` in `row`, or `None` if no check with this name takes as
+/// many fields as `row` has.
 pub(crate) fn finding(alloc: Global, check: &str, row: &[String]) -> Option<Finding> {
     match row {
         [text] if check == "field" => Some(lists::finding_of_field(alloc, text.as_str())),

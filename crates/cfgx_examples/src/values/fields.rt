@@ -71,7 +71,7 @@ fn borrowed_and_owned_match<K: Drop, A: Allocator>(
     Ok(fields_match_texts(alloc, (&borrowed, &owned), texts))
 }
 
-// Returns whether two fields of this kind match the texts. The owned field is in the heap.
+// Returns whether two fields of the kind `K` match `texts`. The owned field is in `heap`.
 fn kind_matches<K: Drop>(alloc: Global, heap: Heap<'_>, texts: TwoTexts<'_>) -> bool {
     let owned = owned_text(heap, texts.1.1);
     is_ok_true(borrowed_and_owned_match::<K, _>(alloc, owned, texts))

@@ -32,12 +32,12 @@ fn each_field_changes_the_hash_of_a_row(rt: HostRuntime) -> Result<(), &'static 
     if count == 11 { Ok(()) } else { Err("fields") }
 }
 
-// Returns a row of iOS with these fields.
+// Returns a row of iOS with `fields`.
 fn ios(alloc: Global, fields: &'static str) -> Result<TargetInfo<'static>, AllocError> {
     row_of(alloc, "aarch64-apple-ios", fields)
 }
 
-// Returns a copy of a row of iOS with these fields.
+// Returns a copy of a row of iOS with `fields`.
 fn ios_copied(alloc: Global, fields: &'static str) -> Result<TargetInfo<'static>, AllocError> {
     let row = ios(alloc, fields)?;
     let copy = row.try_clone(alloc);

@@ -20,7 +20,7 @@ all(target_abi = "sim", feature = "x") | 000?0
 any(target_os = "tvos", target_env = "macabi") | 00101
 "#;
 
-// Pushes a section with this name and condition.
+// Pushes a section with `name` and `condition`.
 fn push_section(
     alloc: Global,
     sections: &mut Vec<Section>,

@@ -10,7 +10,7 @@ use std::alloc::{AllocError, Global};
 use std::io::{self, ErrorKind, Write};
 use std::str;
 
-// A writer in memory. The error of a failed call has this kind.
+// A writer in memory. The error of a failed call has the kind `kind`.
 #[derive(Drop)]
 struct Slow {
     sink: Recorder,

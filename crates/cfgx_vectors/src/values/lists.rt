@@ -15,7 +15,7 @@ fn families_of<'a>(alloc: Global, names: &'a str) -> Result<Vec<Family<'a>>, All
     Ok(families)
 }
 
-/// Returns what the list of the families with these names prints.
+/// Returns what the list of the families with `names` prints.
 pub(super) fn families_text(alloc: Global, names: &str) -> Result<String, AllocError> {
     let families = families_of(alloc, names)?;
     let list = Families::new(alloc, families.into_iter())?;
@@ -35,7 +35,7 @@ fn widths_of(alloc: Global, texts: &str) -> Result<Vec<HasAtomic>, AllocError> {
     Ok(widths)
 }
 
-/// Returns what the list of these widths prints.
+/// Returns what the list of the widths of `texts` prints.
 pub(super) fn widths_text(alloc: Global, texts: &str) -> Result<String, AllocError> {
     let widths = widths_of(alloc, texts)?;
     let list = HasAtomics::new(alloc, widths.into_iter())?;

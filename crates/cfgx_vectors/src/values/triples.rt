@@ -4,7 +4,7 @@ use cfgx_testing::checking::push_ok;
 use cfgx_testing::targets::bare;
 use std::alloc::{AllocError, Global};
 
-// Pushes a row for each of these triples.
+// Pushes a row for each of `triples`.
 fn push_rows<'a>(rows: &mut Vec<TargetInfo<'a>>, triples: &'a str) -> Result<(), AllocError> {
     for triple in triples.split_whitespace() {
         push_ok(rows, Ok(bare(triple)))?;
@@ -12,14 +12,14 @@ fn push_rows<'a>(rows: &mut Vec<TargetInfo<'a>>, triples: &'a str) -> Result<(),
     Ok(())
 }
 
-// Rows with these triples.
+// Returns rows with `triples`.
 fn rows_with<'a>(alloc: Global, triples: &'a str) -> Result<Vec<TargetInfo<'a>>, AllocError> {
     let mut rows = Vec::new(alloc);
     let pushed = push_rows(&mut rows, triples);
     pushed.and(Ok(rows))
 }
 
-// Returns whether the rows have these triples.
+// Returns whether `rows` have `triples`.
 fn have_triples(rows: &[TargetInfo<'_>], triples: &str) -> bool {
     let mut left = triples.split_whitespace();
     for row in rows {
