@@ -29,7 +29,7 @@ fn are_equal(alloc: Global, one: &str, other: &str) -> Result<bool, Failure> {
     is_equal(alloc, &expression, other)
 }
 
-/// `equal` or `different`: whether the expressions of both texts are equal.
+/// Returns `equal` if the expressions of both texts are equal, and otherwise `different`.
 pub(super) fn equality(alloc: Global, one: &str, other: &str) -> Result<String, Failure> {
     let is_equal = are_equal(alloc, one, other)?;
     let text = if is_equal { "equal" } else { "different" };

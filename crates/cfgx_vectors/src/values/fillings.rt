@@ -15,7 +15,7 @@ fn digits_of(alloc: Global, filling: &[bool]) -> Result<String, AllocError> {
     Ok(digits)
 }
 
-// Both fillings, which a space separates.
+// Returns both fillings, joined with a space.
 fn fillings_text(alloc: Global, one: &[bool], other: &[bool]) -> Result<String, AllocError> {
     let one = digits_of(alloc, one)?;
     let other = digits_of(alloc, other)?;

@@ -30,8 +30,8 @@ fn have_triples(rows: &[TargetInfo<'_>], triples: &str) -> bool {
     left.next().is_none()
 }
 
-// `table`, or the index at which the rows are refused, if the table or the error has the rows with
-// these triples.
+// Returns `table`, or the index at which the rows are refused, if the table or the error has the
+// rows with `triples`.
 fn made_text(
     alloc: Global,
     made: &Result<TargetTable<'_>, TableError<'_>>,
@@ -47,7 +47,7 @@ fn made_text(
     }
 }
 
-/// `table` if rows with these triples are a table, or the index at which they are refused.
+/// Returns `table` if rows with `triples` are a table, or the index at which they are refused.
 pub(super) fn table_text(alloc: Global, triples: &str) -> Result<String, AllocError> {
     let made = TargetTable::from_rows(rows_with(alloc, triples)?);
     let text = made_text(alloc, &made, triples);
