@@ -46,8 +46,8 @@ fn eval_condition_in_lanes(
     }
 }
 
-// Whether the expression of the text and its condition have this value in lanes. Returns `None` if
-// the text is faulty.
+// Whether the expression of the text and its condition have the value `wanted` in lanes. Returns
+// `None` if the text is faulty.
 fn values_are(alloc: Global, text: &str, answers: &[Kleene64], wanted: Kleene64) -> Option<bool> {
     let expression = Expression::parse(alloc, text).ok()?;
     let condition = expression.condition();
