@@ -1,4 +1,5 @@
-//! A hundred thousand members or functions with unknown answers, and lanes of as many members.
+//! Conditions with a hundred thousand members or functions: their decisions with unknown answers,
+//! and their values in lanes.
 use cfg_expr::Expression;
 use cfg_expr::expr::Condition;
 use cfg_expr::expr::logic::Kleene64;

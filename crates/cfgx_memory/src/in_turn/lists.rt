@@ -27,7 +27,7 @@ pub(super) fn check_printed_copy<T: TryClone<A> + Display, A: SmallAllocator>(
 /// Two widths in order.
 pub(crate) const SORTED: &[HasAtomic] = &[HasAtomic::IntegerSize(8), HasAtomic::Pointer];
 
-/// The same two widths, out of order.
+/// The widths of `SORTED`, out of order.
 pub(crate) const UNSORTED: &[HasAtomic] = &[HasAtomic::Pointer, HasAtomic::IntegerSize(8)];
 
 /// Makes a list of `widths`.

@@ -125,6 +125,7 @@ pick | 0 | m\tany(not(feature = "x"), target_os = "linux", test)\
  | m\tunknown\n\ttrue with 001\n\tfalse with 100\n
 pick | 0 | \u{e9}\ttrue\r\n\r\n | \u{e9}\tyes\n
 pick | 0 | \e | \e
+// In a row `pick alike` each field begins on a line of its own.
 // A line takes no memory if a line of at least its length was read before it and the output has
 // room. The first name has 20 bytes, so the block of the output has 20 and then 40. The output of
 // all lines has 34 bytes.
