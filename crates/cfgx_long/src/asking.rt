@@ -177,7 +177,7 @@ fn picks<M: TargetMatcher>(
     Ok(verdicts.as_slice() == [wanted].as_slice() && target.asked.get() == count)
 }
 
-// Returns the verdict with this name.
+// Returns the verdict with the name `name`.
 fn verdict_named(name: &str) -> Option<Verdict> {
     match name {
         "Yes" => Some(Verdict::Yes),
@@ -202,7 +202,7 @@ fn each_call_asks<M: TargetMatcher>(
     Ok(audits && decides && picks)
 }
 
-// Whether each call asks the target with this name `count` times, and finds the wanted verdict.
+// Whether each call asks the target `name` `count` times, and finds the wanted verdict.
 fn each_call_asks_named(
     alloc: Global,
     name: &str,

@@ -1,4 +1,4 @@
-//! Deep, wide and long texts are read, or get their fault.
+//! Tests that deep, wide and long texts are read or have their fault.
 use cfg_expr::Expression;
 use cfg_expr::error::Failure;
 use cfg_expr::expr::{Condition, ConditionReader, Predicates};
@@ -44,7 +44,7 @@ any(~a,~2000000~) | 2000000
 any(~abcdefg,~1100000~) | 1100000
 "#;
 
-// Whether `left` returns `count`, and the iterator yields as many predicates.
+// Whether `left` returns `count`, and the iterator yields `count` predicates.
 fn yields_count(predicates: Predicates<'_>, count: Option<usize>) -> bool {
     Some(predicates.left()) == count && Some(predicates.count()) == count
 }
@@ -69,7 +69,7 @@ pub(crate) const READ: &str = r#"
 any(~a,~100000~) | 100000 | ~not(~100000~a~)~100000~ | 1 | a | 1
 "#;
 
-// Whether the condition was read, has this text and `count` predicates.
+// Whether the condition was read, and has `text` and `count` predicates.
 fn is_condition(read: &Result<Condition<'_>, Failure>, text: &str, count: &str) -> bool {
     match read {
         Ok(condition) => {
@@ -105,8 +105,7 @@ pub(crate) fn reads_texts(alloc: Global, row: &[String]) -> bool {
     reads_pairs(&mut reader, row)
 }
 
-/// A run over a text whose fault is far from its start. The output has as many spaces before the
-/// marker as the text has bytes before the fault.
+/// A run over a text whose fault is at byte 3007. The output has 3007 spaces before the marker.
 pub(crate) const FAR: &str = r#"
 1 | all(b~,~3000~c d)\n~ ~3007~^ expected one of `=`, `,`, `)` here\n | parse \
 | all(b~,~3000~c d)

@@ -68,8 +68,9 @@ fn fault_passes(alloc: Global, error: &ParseError, text: &str) -> Result<bool, A
     Ok(is_inside && printed.as_str().starts_with(original))
 }
 
-// Checks what parsing the text returned. Returns 1 or 0 for an accepted text, and 1 or 0 for one
-// with at least two predicates, or `None` if the check fails.
+// Checks `parsed`, which parsing the text returned. The first number is 1 if the text is accepted,
+// and the second is 1 if it also has at least two predicates. Otherwise they are 0. Returns `None`
+// if the check fails.
 fn count_parsed(
     alloc: Global,
     numbers: &mut Numbers,
@@ -95,8 +96,8 @@ fn count_text(alloc: Global, numbers: &mut Numbers, text: &str) -> Option<(usize
 // The number of texts of one seed.
 const TEXTS: usize = 2_500;
 
-// Returns how many texts are accepted, and how many have at least two predicates. The error is the
-// first text whose check fails.
+// Returns the number of accepted texts, and the number of those with at least two predicates. The
+// error is the first text whose check fails.
 fn count_texts(alloc: Global, seed: u64) -> Result<(usize, usize), String> {
     let mut numbers = Numbers::new(seed);
     let (mut accepted, mut with_several) = (0usize, 0usize);
@@ -113,7 +114,7 @@ fn count_texts(alloc: Global, seed: u64) -> Result<(usize, usize), String> {
     Ok((accepted, with_several))
 }
 
-// Of each seed at least 500 texts are accepted and 500 refused.
+// At least 500 texts of each seed are accepted, and at least 500 are refused.
 #[test]
 fn generated_texts_pass(rt: HostRuntime) -> Result<(), String> {
     for seed in 1..=4 {

@@ -14,7 +14,8 @@ const LENGTHS: &[(usize, usize, Option<usize>, usize)] = &[
     (16_777_221, 65_536, None, 4),
 ];
 
-// Whether `read_input` returns an input of `wanted` bytes, or finds it too long if that is `None`.
+// Whether `read_input` returns an input of `wanted` bytes, or finds it too long if `wanted`
+// is `None`.
 fn reads_length(alloc: Heap<'_>, source: &mut Counting, wanted: Option<usize>) -> bool {
     match read_input(alloc, source) {
         Ok(Input::Bytes(bytes)) => wanted == Some(bytes.len()),

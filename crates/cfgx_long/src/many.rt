@@ -1,4 +1,5 @@
-//! A hundred thousand members or functions with unknown answers, and lanes of as many members.
+//! Conditions with a hundred thousand members or functions: their decisions with unknown answers,
+//! and their values in lanes.
 use cfg_expr::Expression;
 use cfg_expr::expr::Condition;
 use cfg_expr::expr::logic::Kleene64;
@@ -46,8 +47,8 @@ fn eval_condition_in_lanes(
     }
 }
 
-// Whether the expression of the text and its condition have this value in lanes. Returns `None` if
-// the text is faulty.
+// Whether the expression of the text and its condition have the value `wanted` in lanes. Returns
+// `None` if the text is faulty.
 fn values_are(alloc: Global, text: &str, answers: &[Kleene64], wanted: Kleene64) -> Option<bool> {
     let expression = Expression::parse(alloc, text).ok()?;
     let condition = expression.condition();

@@ -21,7 +21,7 @@ fn push_functions(
     Ok(())
 }
 
-// Returns the texts, the `not` of each, and each `all` and `any` of two.
+// Returns the texts, the `not` of each, and each `all` and `any` of two texts.
 fn with_functions(alloc: Global, texts: &[String]) -> Result<Vec<String>, AllocError> {
     let mut functions = Vec::new(alloc);
     for text in texts {
@@ -83,7 +83,7 @@ fn common_value(alloc: Global, expression: &Expression, answers: &[Answer]) -> O
     Some(Some(first))
 }
 
-// Whether each call finds the common value of the fillings, over the answers of this number.
+// Whether each call finds the common value of the fillings, over the answers that `number` encodes.
 fn calls_find_common_value(alloc: Global, expression: &Expression, number: usize) -> Option<bool> {
     let answers = answers_of(alloc, number, expression.predicates().left()).ok()?;
     let value = common_value(alloc, expression, answers.as_slice())?;
@@ -100,8 +100,8 @@ fn calls_find_common_values(alloc: Global, expression: &Expression, cases: usize
     true
 }
 
-// Returns how many lists of answers there are to the text, which has up to four predicates, or
-// `None` if a call finds another value over one of them.
+// Returns the number of lists of answers to the text, which has up to four predicates. Returns
+// `None` if a call finds another value than the common one over a list.
 fn count_cases(alloc: Global, text: &str) -> Option<usize> {
     let expression = Expression::parse(alloc, text).ok()?;
     let left = expression.predicates().left();

@@ -15,7 +15,8 @@ fn fill_list<A: Allocator>(alloc: A) -> Result<bool, AllocError> {
     Ok(bytes.len() == 100)
 }
 
-// Refuses each growth of the list in turn, until a turn has fewer. Returns how many there are.
+// Refuses each growth of the list in turn, until the list has no growth of that number. Returns the
+// number of growths.
 fn count_list_growths(heap: &Refusing<Global>) -> Option<u64> {
     for n in 1..=100u64 {
         heap.refuse(n);

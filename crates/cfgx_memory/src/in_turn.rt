@@ -21,7 +21,7 @@ use cfg_expr::memory::SmallAllocator;
 use cfgx_testing::checking::{is_ok_true, value_equals};
 use cfgx_testing::heap::count_growths;
 use cfgx_testing::rows::{TableToCheck, check_tables};
-use runs::Ending;
+use runs::WantedRun;
 use std::alloc::{AllocError, Global};
 use texts::Parsed;
 
@@ -34,15 +34,15 @@ type Outcome = AllocResult<bool>;
 /// A call that takes memory.
 #[derive(Clone, Copy)]
 enum Call<'a> {
-    /// The lexer reads this text.
+    /// The text that the lexer reads.
     Lex(&'a str),
-    /// A reader reads this text, for which parsing elsewhere returned this.
+    /// The text that a reader reads, and what parsing it elsewhere returned.
     Read(&'a str, &'a Parsed),
-    /// The call with this name gets this text, for which parsing elsewhere returned this.
+    /// The name of a call, its text, and what parsing the text elsewhere returned.
     Text(&'a str, &'a str, &'a Parsed),
-    /// The program runs with these words and has this ending.
-    Run(&'a [&'a str], &'a Ending<'a>),
-    /// The call with this name, one of the table `CALLS`, gets this text.
+    /// The words of a run of the program, and how it has to end.
+    Run(&'a [&'a str], &'a WantedRun<'a>),
+    /// The name of a call of the table `CALLS`, and its text.
     Other(&'a str, &'a str),
 }
 
@@ -53,12 +53,13 @@ fn check_call<A: SmallAllocator>(global: Global, alloc: A, call: &Call<'_>) -> O
         Call::Lex(text) => lexing::check_lexer(alloc, text),
         Call::Read(text, parsed) => reading::check_reader(alloc, text, parsed),
         Call::Text(name, text, parsed) => texts::check_call(alloc, name, text, parsed),
-        Call::Run(words, ending) => runs::check_run(global, alloc, words, ending),
+        Call::Run(words, wanted) => runs::check_run(global, alloc, words, wanted),
         Call::Other(name, text) => calls::check_call(global, alloc, name, text),
     }
 }
 
-// Refuses each growth of the call in turn. Returns how many there are, or `None` if a check fails.
+// Refuses each growth of the call in turn. Returns the number of growths, or `None` if a check
+// fails.
 fn refuse_each_growth(global: Global, call: Call<'_>) -> Option<u64> {
     count_growths(global, |heap| check_call(global, heap, &call))
 }
@@ -104,7 +105,7 @@ const TABLES: &[TableToCheck<'_>] = &[
     ("growths of a reader", reading::READ, 8),
 ];
 
-// Returns whether the row passes the check of this table, or `None` if there is no such table.
+// Returns whether the row passes the check of `table`, or `None` if there is no such table.
 fn row_passes(global: Global, table: &str, row: &[String]) -> Option<bool> {
     match table {
         "each growth of a call on a text" => Some(texts::row_passes(global, row)),

@@ -1,8 +1,8 @@
 //! Calls that take no memory, with every growth refused: each returns its usual result and asks for
 //! no growth.
 //!
-//! What a call gets is made with memory first. A check takes the allocator twice: as `heap`, to set
-//! which growths it refuses, and as `alloc`, to make the call.
+//! The arguments of a call are made first, with memory. A check takes the allocator twice: as
+//! `heap`, to set which growths it refuses, and as `alloc`, to make the call.
 mod conditions;
 mod faults;
 mod lists;
@@ -47,7 +47,7 @@ const TABLES: &[TableToCheck<'_>] = &[
     ("other values take no memory", values::VALUES, 26),
 ];
 
-// Returns whether the row passes the check of this table, or `None` if there is no such table.
+// Returns whether the row passes the check of `table`, or `None` if there is no such table.
 fn row_passes(global: Global, heap: Heap<'_>, table: &str, row: &[String]) -> Option<bool> {
     match table {
         "conditions take no memory" => Some(conditions::row_passes(global, heap, heap, row)),

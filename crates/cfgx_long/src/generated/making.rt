@@ -1,9 +1,13 @@
 //! Texts that are made from pseudorandom numbers.
+//!
+//! A function that owns a text drops or returns it in one place, also if there is an error. The
+//! documentation of the crate says why.
 use super::numbers::Numbers;
 use std::alloc::{AllocError, Global};
 use std::mem::replace;
 
-// Pieces of texts. Here and below `|` separates them.
+// Tokens. In each of these constants `|` separates the items. An item can be empty, and one that is
+// repeated is chosen more often.
 const TOKENS: &str = "a|_b1|unix|test|key|all|any|not|feature|target_os|=|(|)|,|\"v\"|\"\"|\"| |\
     \u{3000}|all(|any(|not(|)|)|,|cfg(|8|\u{e9}";
 
@@ -15,15 +19,16 @@ const LEAVES: &str = "true|false|a|b|key|unix|windows|test|debug_assertions|proc
     target_os = \"\"|target_pointer_width = \"064\"|target_vendor = \"apple\"|all()|any()|\
     not(all())";
 
-// What stands before the first member of a function.
+// The space before the condition inside a function.
 const PREFIXES: &str = "| |\n\t|\u{a0}";
 
-// What stands after its last member.
+// The text after the last member of a function.
 const SUFFIXES: &str = "||,| , ,";
 
+// The names and the opening parentheses of functions with any number of members.
 const FUNCTIONS: &str = "all(|any(|all (|any\u{3000}(";
 
-// Pushes up to 11 tokens.
+// Pushes up to 11 random tokens.
 fn push_tokens(numbers: &mut Numbers, text: &mut String) -> Result<(), AllocError> {
     for _token in 0..numbers.below(12) {
         text.push_str(numbers.one_of(TOKENS))?;
@@ -31,7 +36,7 @@ fn push_tokens(numbers: &mut Numbers, text: &mut String) -> Result<(), AllocErro
     Ok(())
 }
 
-// Pushes up to two members, each between `before` and `after`.
+// Pushes up to two leaves, each between `before` and `after`.
 fn push_leaves(
     numbers: &mut Numbers,
     text: &mut String,
@@ -46,13 +51,14 @@ fn push_leaves(
     Ok(())
 }
 
-// Pushes the condition `inner` after a prefix.
+// Pushes a random prefix and the condition `inner`.
 fn push_inner(numbers: &mut Numbers, text: &mut String, inner: &str) -> Result<(), AllocError> {
     text.push_str(numbers.one_of(PREFIXES))?;
     text.push_str(inner)
 }
 
-// Pushes `all(` or `any(`, the condition `inner`, and other members beside it.
+// Pushes `all(` or `any(`, up to two leaves, the condition `inner`, and up to two leaves. Does not
+// push the closing parenthesis.
 fn push_members(numbers: &mut Numbers, text: &mut String, inner: &str) -> Result<(), AllocError> {
     text.push_str(numbers.one_of(FUNCTIONS))?;
     push_leaves(numbers, text, "", ",")?;
@@ -60,7 +66,8 @@ fn push_members(numbers: &mut Numbers, text: &mut String, inner: &str) -> Result
     push_leaves(numbers, text, ", ", "")
 }
 
-// Pushes a function of the condition `inner`. An `all` or `any` gets other members beside it.
+// Pushes a random function with the condition `inner` as a member. An `all` or `any` can have other
+// members.
 fn push_function(numbers: &mut Numbers, text: &mut String, inner: &str) -> Result<(), AllocError> {
     if numbers.below(3) > 0 {
         push_members(numbers, text, inner)?;
@@ -72,7 +79,7 @@ fn push_function(numbers: &mut Numbers, text: &mut String, inner: &str) -> Resul
     text.push_str(")")
 }
 
-// Replaces the condition `text` by functions of it, one around another.
+// Wraps the condition `text` in up to five nested functions.
 fn wrap_in_functions(
     alloc: Global,
     numbers: &mut Numbers,
@@ -87,20 +94,31 @@ fn wrap_in_functions(
     Ok(())
 }
 
-// Returns a condition with up to five functions, one around another.
+// Returns a random leaf in up to five nested functions.
 fn make_condition(alloc: Global, numbers: &mut Numbers) -> Result<String, AllocError> {
     let mut text = String::from_str(alloc, numbers.one_of(LEAVES))?;
     let wrapped = wrap_in_functions(alloc, numbers, &mut text);
     wrapped.and(Ok(text))
 }
 
-// Returns a condition in `cfg( )`.
+// Returns a random condition in `cfg()`.
 fn make_attribute(alloc: Global, numbers: &mut Numbers) -> Result<String, AllocError> {
     let inner = make_condition(alloc, numbers)?;
     format!(in alloc; "cfg({inner})")
 }
 
-// Pushes `whole` with `token` in place of the characters from byte `start` up to byte `end`.
+// Pushes the characters of `whole` that begin at byte `start` or later, and before byte `end`.
+fn push_part(text: &mut String, whole: &str, start: usize, end: usize) -> Result<(), AllocError> {
+    for (index, character) in whole.char_indices() {
+        if index >= start && index < end {
+            text.push(character)?;
+        }
+    }
+    Ok(())
+}
+
+// Pushes `whole` with `token` in place of the characters that begin at byte `start` or later, and
+// before byte `end`.
 fn push_damaged(
     text: &mut String,
     whole: &str,
@@ -108,19 +126,12 @@ fn push_damaged(
     end: usize,
     token: &str,
 ) -> Result<(), AllocError> {
-    let mut token = Some(token);
-    for (index, character) in whole.char_indices() {
-        if index >= start {
-            text.push_str(token.take().unwrap_or(""))?;
-        }
-        if index < start || index >= end {
-            text.push(character)?;
-        }
-    }
-    Ok(())
+    push_part(text, whole, 0, start)?;
+    text.push_str(token)?;
+    push_part(text, whole, end, whole.len())
 }
 
-// Returns a condition with a token in place of some of its characters.
+// Returns a random condition with a random token in place of up to three of its characters.
 fn make_damaged(alloc: Global, numbers: &mut Numbers) -> Result<String, AllocError> {
     let whole = make_condition(alloc, numbers)?;
     let start = numbers.below(whole.len());
@@ -131,7 +142,8 @@ fn make_damaged(alloc: Global, numbers: &mut Numbers) -> Result<String, AllocErr
     pushed.and(Ok(text))
 }
 
-// Returns a character of one to four bytes, most often of one, or `None` for a surrogate.
+// Returns a random character, most often one of ASCII. Returns `None` if the number is that of a
+// surrogate.
 fn next_character(numbers: &mut Numbers) -> Option<char> {
     let bound = match numbers.below(8) {
         0 => 0x800,
@@ -142,7 +154,7 @@ fn next_character(numbers: &mut Numbers) -> Option<char> {
     char::from_u32(u32::try_from(numbers.below(bound)).ok()?)
 }
 
-// Pushes up to nine characters.
+// Pushes up to nine random characters.
 fn push_characters(numbers: &mut Numbers, text: &mut String) -> Result<(), AllocError> {
     for _character in 0..numbers.below(10) {
         if let Some(character) = next_character(numbers) {
@@ -152,21 +164,22 @@ fn push_characters(numbers: &mut Numbers, text: &mut String) -> Result<(), Alloc
     Ok(())
 }
 
-// Returns tokens in any order.
+// Returns a text of up to 11 random tokens.
 fn make_tokens(alloc: Global, numbers: &mut Numbers) -> Result<String, AllocError> {
     let mut text = String::new(alloc);
     let pushed = push_tokens(numbers, &mut text);
     pushed.and(Ok(text))
 }
 
-// Returns characters in any order.
+// Returns a text of up to nine random characters.
 fn make_characters(alloc: Global, numbers: &mut Numbers) -> Result<String, AllocError> {
     let mut text = String::new(alloc);
     let pushed = push_characters(numbers, &mut text);
     pushed.and(Ok(text))
 }
 
-/// Returns the next text.
+/// Returns a random text: tokens, characters, a condition, a condition in `cfg()` or, most often, a
+/// damaged condition.
 pub(super) fn make_text(alloc: Global, numbers: &mut Numbers) -> Result<String, AllocError> {
     match numbers.below(6) {
         0 => make_tokens(alloc, numbers),

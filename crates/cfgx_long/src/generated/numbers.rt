@@ -7,7 +7,7 @@ pub(super) struct Numbers {
 }
 
 impl Numbers {
-    /// Returns a generator with this seed.
+    /// Returns a generator that begins with `seed`.
     pub(super) fn new(seed: u64) -> Numbers {
         Numbers { state: seed }
     }
@@ -26,7 +26,7 @@ impl Numbers {
         self.next() as usize % bound.max(1)
     }
 
-    /// Returns one of the texts, which `|` separates.
+    /// Returns one of the items of `texts`. `|` separates the items.
     pub(super) fn one_of(&mut self, texts: &'static str) -> &'static str {
         let index = self.below(texts.split('|').count());
         texts.split('|').nth(index).unwrap_or("")

@@ -10,9 +10,9 @@ use cfgx_testing::checking::is_ok_true;
 use cfgx_testing::heap::{empty_heap, has_every_block};
 use std::alloc::Global;
 
-/// The kind of a value and its name, the number of growths, and the texts from which the value is
-/// made, or what it prints. Each growth is refused in turn. The number can be `some`, for at least
-/// one, or `once`: then the call is made once, with no growth refused.
+/// The kind of a value and its name, the number of growths, and texts. The value is made from each
+/// text, or prints it. Each growth is refused in turn. The number can be `some`, for at least one,
+/// or `once`: then the call is made once, with no growth refused.
 pub(super) const CALLS: &str = r#"
 // The owned text and its copy take a growth each, and the borrowed text and its copy none.
 field triple | 2 | \u{e9} | a text of seventeen | ~v~100000~
@@ -54,7 +54,7 @@ input | 4 | ~-~300000~
 failed read | once | 1 | 2 | 3 | 4 | 5
 "#;
 
-/// Makes the call, such as `field os`, with this text and checks its result.
+/// Makes the call, such as `field os`, with `text` and checks its result.
 pub(super) fn check_call<A: SmallAllocator>(
     global: Global,
     alloc: A,
@@ -83,8 +83,8 @@ fn passes_once(global: Global, call: &str, text: &str) -> bool {
     is_ok_true(check_call(global, &heap, call, text)) & has_every_block(heap)
 }
 
-// Whether the call passes its check with each growth refused in turn, and takes the growths that
-// the row says.
+// Whether the call passes its check with each growth refused in turn, and has the number of growths
+// that `growths` says.
 fn passes(global: Global, call: &str, growths: &str, text: &str) -> bool {
     if growths == "once" {
         return passes_once(global, call, text);

@@ -1,4 +1,4 @@
-//! How many growths decisions take.
+//! The number of growths of decisions.
 use super::Outcome;
 use super::texts::Parsed;
 use cfg_expr::expr::Condition;
@@ -11,7 +11,7 @@ use cfgx_testing::heap::{Heap, empty_heap, has_every_block};
 use std::alloc::Global;
 
 /// A text, answers, the decision over them, and its number of growths: one for each filling, and no
-/// other for up to 33 nodes. Deciding the same again in its memory takes none.
+/// other for up to 33 nodes. A second call that reuses the memory of the decision takes none.
 pub(super) const DECISIONS: &str = r#"
 a | 1 | true | 0
 a | ? | 1 0 | 2
@@ -23,10 +23,10 @@ any(a, not(a)) | ?? | 01 10 | 2
 ~not(~32~a~)~32~ | ? | 1 0 | 2
 "#;
 
-/// The decision of a row, as the row writes it, and its growths.
+/// The decision of a row, as the row writes it, and its number of growths.
 type Wanted<'a> = (&'a str, u64);
 
-// Checks that deciding takes `growths` growths, and that deciding again in the memory of this
+// Checks that deciding takes `growths` growths, and that deciding again in the memory of the
 // decision takes none. Both decisions have to match `row`.
 fn check_decide_twice<A: SmallAllocator>(
     heap: Heap<'_>,

@@ -14,7 +14,8 @@ use std::alloc::{AllocError, Global};
 // The most predicates of an expression here.
 const MOST_PREDICATES: usize = 100;
 
-/// Makes the call with this name on the expression, or on its condition, and checks its result.
+/// Makes the call with the name `call` on the expression, or on its condition, and checks its
+/// result.
 pub(crate) fn check_expression_call<A: SmallAllocator>(
     alloc: A,
     call: &str,
@@ -34,7 +35,7 @@ pub(crate) fn check_expression_call<A: SmallAllocator>(
     }
 }
 
-// Makes the call with this name on the condition, and checks its result.
+// Makes the call with the name `call` on the condition, and checks its result.
 fn check_condition_call<A: SmallAllocator>(
     alloc: A,
     call: &str,

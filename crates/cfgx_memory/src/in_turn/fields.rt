@@ -22,7 +22,7 @@ fn check_copies<T: PartialEq + Drop>(
     if is_right { outcome } else { Ok(false) }
 }
 
-// Checks fields of the kind `K` with this text.
+// Checks fields of the kind `K` that have `text`.
 fn check_field_of<K: Drop, A: SmallAllocator>(alloc: A, text: &str) -> Outcome {
     let owned: Field<'_, K, A> = Field::new(String::from_str(alloc, text)?);
     let borrowed = Field::new_const(text);
@@ -34,7 +34,7 @@ fn check_field_of<K: Drop, A: SmallAllocator>(alloc: A, text: &str) -> Outcome {
     )
 }
 
-/// Checks fields of the kind with this name.
+/// Checks fields of the kind with the name `kind`.
 pub(super) fn check_field<A: SmallAllocator>(alloc: A, kind: &str, text: &str) -> Outcome {
     match kind {
         "triple" => check_field_of::<TripleKind, A>(alloc, text),
@@ -49,7 +49,7 @@ pub(super) fn check_field<A: SmallAllocator>(alloc: A, kind: &str, text: &str) -
     }
 }
 
-// A predicate of this kind, whose field the function `new` makes from the text.
+// A predicate of the kind `$kind`. The function `$new` makes its field from `$text`.
 macro_rules! predicate {
     ($kind:ident $new:ident $text:ident) => {
         match $kind {
@@ -93,7 +93,7 @@ fn check_predicate_copies<'a, A: SmallAllocator>(
     )
 }
 
-/// Checks predicates of the kind with this name.
+/// Checks predicates of the kind with the name `kind`.
 pub(super) fn check_predicate<A: SmallAllocator>(alloc: A, kind: &str, text: &str) -> Outcome {
     let owned_text = String::from_str(alloc, text)?;
     match (
@@ -111,7 +111,7 @@ impl<'a, A: SmallAllocator> TryClone<A> for TargetPredicate<'a, A> {
     }
 }
 
-// Returns the predicate without a text that has this name.
+// Returns the predicate with the name `name`, which has no text.
 fn plain_predicate<'a, A: SmallAllocator>(name: &str) -> Option<TargetPredicate<'a, A>> {
     match name {
         "big" => Some(TargetPredicate::Endian(Endian::big)),
@@ -122,7 +122,7 @@ fn plain_predicate<'a, A: SmallAllocator>(name: &str) -> Option<TargetPredicate<
     }
 }
 
-/// Checks the predicate without a text that has this name.
+/// Checks the predicate with the name `name`, which has no text.
 pub(super) fn check_plain_predicate<A: SmallAllocator>(alloc: A, name: &str) -> Outcome {
     match plain_predicate(name) {
         Some(predicate) => check_copy(alloc, &predicate),

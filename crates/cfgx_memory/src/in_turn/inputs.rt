@@ -1,4 +1,4 @@
-//! Inputs that are read whole: the room doubles, from 64 KiB on, and every byte is freed.
+//! Inputs that are read whole. Their room begins with 64 KiB and doubles, and every block is freed.
 use super::Outcome;
 use cfgx_engine::engine::{Input, Stop, read_input};
 use cfgx_testing::checking::is_ok_true;
@@ -33,7 +33,7 @@ pub(super) fn check_input<A: Allocator>(global: Global, alloc: A, bytes: &[u8]) 
     }
 }
 
-/// Whether `read_input` returns the failure of the read with this number.
+/// Whether `read_input` returns the failure of the read with the number `failing_read`.
 pub(super) fn stops_at_failed_read<A: Allocator>(alloc: A, failing_read: &str) -> bool {
     let Ok(failing_read) = failing_read.parse() else {
         return false;

@@ -25,8 +25,8 @@ fn check_fault<A: SmallAllocator>(item: &Item<'_, A>) -> Outcome {
     }
 }
 
-/// Checks that the lexer of `a 8 b` returns the key `a` and the fault of `8`. The fault ends it,
-/// also if it is out of memory.
+/// Checks that the lexer of `a 8 b` returns the key `a` and the fault of `8`. The lexer ends
+/// after the fault, also if it is out of memory.
 pub(super) fn check_lexer<A: SmallAllocator>(alloc: A, text: &str) -> Outcome {
     let mut lexer = Lexer::new(alloc, text);
     let begins = is_key_a(&lexer.next());

@@ -27,10 +27,10 @@ pub(super) fn check_printed_copy<T: TryClone<A> + Display, A: SmallAllocator>(
 /// Two widths in order.
 pub(crate) const SORTED: &[HasAtomic] = &[HasAtomic::IntegerSize(8), HasAtomic::Pointer];
 
-/// The same two widths, out of order.
+/// The widths of `SORTED`, out of order.
 pub(crate) const UNSORTED: &[HasAtomic] = &[HasAtomic::Pointer, HasAtomic::IntegerSize(8)];
 
-/// Makes a list of these widths.
+/// Makes a list of `widths`.
 pub(crate) fn list_of<A: SmallAllocator>(
     alloc: A,
     widths: &[HasAtomic],
@@ -107,7 +107,7 @@ pub(super) fn check_long_list<A: SmallAllocator>(alloc: A, name: &str, text: &st
     }
 }
 
-// Makes the list of families with this name, if there is one.
+// Makes the list of families with the name `name`, if there is one.
 fn families_named<'a, A: SmallAllocator + 'a>(
     alloc: A,
     name: &str,
@@ -136,7 +136,7 @@ fn check_made<T: TryClone<A> + Display, A: SmallAllocator>(
     }
 }
 
-/// Checks the list of families with this name, its copy, and that it prints `text`.
+/// Checks the list of families with the name `name`, its copy, and that it prints `text`.
 pub(super) fn check_families<A: SmallAllocator>(
     global: Global,
     alloc: A,
@@ -146,7 +146,7 @@ pub(super) fn check_families<A: SmallAllocator>(
     check_made(global, alloc, families_named(alloc, name), text)
 }
 
-// Makes the list of widths with this name, if there is one.
+// Makes the list of widths with the name `name`, if there is one.
 fn widths_named<A: SmallAllocator>(alloc: A, name: &str) -> Option<AllocResult<HasAtomics<A>>> {
     match name {
         "128" => Some(HasAtomics::atomic_8_16_32_64_128_ptr(alloc)),
@@ -158,7 +158,7 @@ fn widths_named<A: SmallAllocator>(alloc: A, name: &str) -> Option<AllocResult<H
     }
 }
 
-/// Checks the list of widths with this name, its copy, and that it prints `text`.
+/// Checks the list of widths with the name `name`, its copy, and that it prints `text`.
 pub(super) fn check_widths<A: SmallAllocator>(
     global: Global,
     alloc: A,

@@ -56,7 +56,7 @@ fn own_row<'a, A: SmallAllocator + 'a>(alloc: A, row: &mut TargetInfo<'a, A>) ->
     }
 }
 
-// Makes the row own all, and checks its copy.
+// Makes the row own all its texts and lists, and checks its copy.
 fn check_owned_row<'a, A: SmallAllocator + 'a>(alloc: A, row: &mut TargetInfo<'a, A>) -> Outcome {
     own_row(alloc, row)?;
     check_copy(alloc, row)
@@ -75,7 +75,7 @@ where
     if is_equal { outcome } else { Ok(false) }
 }
 
-// Checks the copy of the row, and the copy of this copy once it owns all.
+// Checks a copy of the row. Then makes a copy own all its texts and lists, and checks a copy of it.
 fn check_row<'a, A: SmallAllocator + 'a>(alloc: A, row: &TargetInfo<'a, A>) -> Outcome {
     let borrowed = check_copy(alloc, row);
     let owned = check_copied(

@@ -1,4 +1,6 @@
-//! Runs of the program.
+//! Tests of runs of the program in which memory is refused.
+//!
+//! A growth is a request for memory.
 use super::{Call, Outcome, refuse_each_growth};
 use cfg_expr::memory::SmallAllocator;
 use cfg_expr::targets::{TargetInfo, TargetTable};
@@ -10,79 +12,111 @@ use cfgx_testing::triples::SIM;
 use cfgx_testing::words::words_of;
 use std::alloc::{AllocError, Global};
 
-/// An input, the status of a run over it, and its output.
-pub(super) type Ending<'a> = (&'a str, u8, &'a [u8]);
+// The status of wrong use.
+const WRONG_USE: u8 = 2;
 
-// Runs the program over the input. Returns the status, what is left of the input, and the output.
+// The status of a run out of memory.
+const OUT_OF_MEMORY: u8 = 3;
+
+/// The input, the status and the output of a run with enough memory.
+#[derive(Clone, Copy)]
+pub(super) struct WantedRun<'a> {
+    input: &'a str,
+    status: u8,
+    output: &'a [u8],
+}
+
+// Runs the program over `input`. Returns the status, the source with the rest of the input, and the
+// sink with the output.
 fn run_over<'i, A: SmallAllocator>(
     global: Global,
     alloc: A,
     words: &[&str],
     input: &'i str,
 ) -> (u8, Pieces<'i>, Recorder) {
+    // Each read returns as many bytes as it can, and no read fails.
     let mut source = Pieces::new(input.as_bytes(), ALL, 0);
     let mut sink = Recorder::new(global);
     let status = run(alloc, words, &mut source, &mut sink);
     (status, source, sink)
 }
 
-// Checks that the run has read all its input and has the wanted status and output. Out of memory,
-// what it read stays read, and its sink was not called.
-fn check_ending(ended: &(u8, Pieces<'_>, Recorder), wanted: &Ending<'_>) -> Outcome {
+// Whether the sink has no byte, and there was no write, no flush and no failed call.
+fn was_not_called(sink: &Recorder) -> bool {
+    sink_matches(sink, b"", (0, 0), 0)
+}
+
+// Returns whether the run has read all its input, and has the status and the output of `wanted`.
+// Returns the error if the run was out of memory. Then it must not have called its sink, and the
+// source must have a suffix of the input left.
+fn check_ended(ended: &(u8, Pieces<'_>, Recorder), wanted: &WantedRun<'_>) -> Outcome {
     let (status, source, sink) = ended;
-    if source.failures != 0 || !wanted.0.as_bytes().ends_with(source.left) {
+    if source.failures != 0 || !wanted.input.as_bytes().ends_with(source.left) {
         Ok(false)
-    } else if *status == 3 && sink_matches(sink, b"", (0, 0), 0) {
+    } else if *status == OUT_OF_MEMORY && was_not_called(sink) {
         Err(AllocError)
     } else {
-        Ok(has_written(sink, wanted.2) && *status == wanted.1 && source.left.is_empty())
+        let is_right = has_written(sink, wanted.output) && *status == wanted.status;
+        Ok(is_right && source.left.is_empty())
     }
 }
 
-/// Runs the program over the input of `ending`, and checks that it ends so.
+/// Runs the program over the input of `wanted`, and checks that it ends as `wanted` says.
 pub(super) fn check_run<A: SmallAllocator>(
     global: Global,
     alloc: A,
     words: &[&str],
-    ending: &Ending<'_>,
+    wanted: &WantedRun<'_>,
 ) -> Outcome {
-    check_ending(&run_over(global, alloc, words, ending.0), ending)
+    check_ended(&run_over(global, alloc, words, wanted.input), wanted)
 }
 
-// Refuses each growth of the run in turn. Returns how many there are, or 0 if a run does not end as
-// `ending` says.
-fn run_growths(global: Global, words: &[&str], ending: &Ending<'_>) -> u64 {
-    refuse_each_growth(global, Call::Run(words, ending)).unwrap_or(0)
+// Refuses each growth of a run with `words` in turn. Returns the number of growths, or `None` if a
+// run does not end as `wanted` says.
+fn run_growths(global: Global, words: &[&str], wanted: &WantedRun<'_>) -> Option<u64> {
+    refuse_each_growth(global, Call::Run(words, wanted))
 }
 
-/// Whether a run without input takes memory, survives refusals, and ends with this status and the
-/// output of a run with memory.
-pub(super) fn survives_refused_run(global: Global, words: &[&str], status: u8) -> bool {
+/// Whether a run without input takes memory, ends with `status`, and survives refusals: each growth
+/// is refused in turn, and the next run, with memory, has the output of the run before all of them.
+pub(super) fn run_survives(global: Global, words: &[&str], status: u8) -> bool {
     let (ended, _source, sink) = run_over(global, global, words, "");
-    ended == status && run_growths(global, words, &("", status, sink.bytes.as_slice())) > 0
+    let wanted = WantedRun {
+        input: "",
+        status,
+        output: sink.bytes.as_slice(),
+    };
+    ended == status && run_growths(global, words, &wanted).unwrap_or(0) > 0
 }
 
-/// How growths are refused, the status, and the words. For `pick`, which runs on the simulator, the
-/// input and the output in place of words. For `pick alike`, those of two runs that take the same
-/// number of growths.
+/// A kind, a status, and the fields of that kind:
+///
+/// - `each refused`: the words. Each growth is refused in turn.
+/// - `table alone`: the output, and the words. The run takes as many growths as the table of
+///   built-in targets has blocks, and each is refused in turn.
+/// - `pick`: the input and the output of a run of `pick` on the simulator. Each growth is refused
+///   in turn.
+/// - `pick alike`: the inputs and the outputs of two such runs, as input, output, input, output.
+///   Both take the same number of growths.
+/// - `without memory`: the words. Every growth is refused.
 pub(super) const RUNS: &str = r#"
-in turns | 1 | parse | \e
-in turns | 0 | eval | a
-in turns | 0 | eval | all(a, any(b), c) | a | ?b | c
-in turns | 0 | eval | any(target_os = "linux", feature = "a", not(a), not(b))\
+each refused | 1 | parse | \e
+each refused | 0 | eval | a
+each refused | 0 | eval | all(a, any(b), c) | a | ?b | c
+each refused | 0 | eval | any(target_os = "linux", feature = "a", not(a), not(b))\
  | ?any(target_os = "linux", key = "v") | all(feature = "b", a, b, c, d, e, f)
-in turns | 1 | eval | key) | a
-in turns | 1 | eval | a | b | ?c | key)
-in turns | 1 | eval | a | b | ?key) | c
-in turns | 0 | target | aarch64-apple-ios | any(unix, a)
-in turns | 0 | target | aarch64-apple-ios-sim | all(test, a, b, c, d, e)
-in turns | 1 | target | aarch64-apple-ios | key)
-in turns | 2 | target | nowhere | key)
+each refused | 1 | eval | key) | a
+each refused | 1 | eval | a | b | ?c | key)
+each refused | 1 | eval | a | b | ?key) | c
+each refused | 0 | target | aarch64-apple-ios | any(unix, a)
+each refused | 0 | target | aarch64-apple-ios-sim | all(test, a, b, c, d, e)
+each refused | 1 | target | aarch64-apple-ios | key)
+each refused | 2 | target | nowhere | key)
 // A wide run and a deep one.
-in turns | 0 | eval | any(~a,~100~) | ?any(~b,~100~)
-in turns | 0 | target | aarch64-apple-tvos | ~not(~40~a~)~40~
+each refused | 0 | eval | any(~a,~100~) | ?any(~b,~100~)
+each refused | 0 | target | aarch64-apple-tvos | ~not(~40~a~)~40~
 // The table of targets takes a block for its rows, and one for each of their lists that has
-// members. The text is not read. The output stands before the words.
+// members. The condition is not read, because the triple is unknown.
 table alone | 2 | unknown triple\n | target | nowhere | any(~a,~100~)
 pick | 0 | SECTIONS | VERDICTS
 pick | 1 | x | line 1: no tab\n
@@ -91,102 +125,123 @@ pick | 0 | m\tany(not(feature = "x"), target_os = "linux", test)\
  | m\tunknown\n\ttrue with 001\n\tfalse with 100\n
 pick | 0 | \u{e9}\ttrue\r\n\r\n | \u{e9}\tyes\n
 pick | 0 | \e | \e
-// A line takes no memory if one as long was read before it and the output has room. The first name
-// has 20 bytes, so the block of the output has 20 and then 40, and all lines write 34.
+// In a row `pick alike` each field begins on a line of its own.
+// A line takes no memory if a line of at least its length was read before it and the output has
+// room. The first name has 20 bytes, so the block of the output has 20 and then 40. The output of
+// all lines has 34 bytes.
 pick alike | 0 | ~n~20~\tall(a, b, c, d, e, not(any(not(f))), windows)\n\
  | ~n~20~\tno\n\
  | ~n~20~\tall(a, b, c, d, e, not(any(not(f))), windows)\n\
 b\tall(a, b, c, d, e, not(any(not(f))), windows)\nc\twindows\n\
  | ~n~20~\tno\nb\tno\nc\tno\n
-// Unknown sections are decided in the memory of the first one. Its name has 400 bytes, so the block
-// of the output has 400 and then 800, and all lines write fewer.
+// Each later unknown section is decided in the memory of the first one. The first name has 400
+// bytes, so the block of the output has 400 and then 800. The output of all lines has fewer bytes.
+// The functions of a list are asked before its other predicates. In `any(a, not(a))` the first
+// digit is therefore that of the `a` inside `not`.
 pick alike | 0 | ~n~400~\tany(a, not(a))\n\
  | ~n~400~\tunknown\n\ttrue with 01\n\tfalse with 10\n\
  | ~n~400~\tany(a, not(a))\nb\tall(c, d)\nc\tnot(test)\nd\tall(unix, e)\nf\tany(g, windows)\n\
  | ~n~400~\tunknown\n\ttrue with 01\n\tfalse with 10\n\
 b\tunknown\n\ttrue with 11\n\tfalse with 00\nc\tunknown\n\ttrue with 0\n\tfalse with 1\n\
 d\tunknown\n\ttrue with 11\n\tfalse with 10\nf\tunknown\n\ttrue with 10\n\tfalse with 00\n
-// Wrong use takes no memory. With none at all, its status is the same.
-without | 2
-without | 2 | parse
-without | 2 | eval
-without | 2 | pick
-without | 2 | pick | a | b
-without | 2 | target | nowhere
-without | 3 | parse | a
-without | 3 | eval | a
-without | 3 | target | nowhere | )
+// Wrong use takes no memory, so its status stays 2. Any other run without memory has status 3.
+without memory | 2
+without memory | 2 | parse
+without memory | 2 | eval
+without memory | 2 | pick
+without memory | 2 | pick | a | b
+without memory | 2 | target | nowhere
+without memory | 3 | parse | a
+without memory | 3 | eval | a
+without memory | 3 | target | nowhere | )
 "#;
 
-// Whether a run with no memory at all ends with this status: that of wrong use, which asks for no
-// growth and writes the usage, or that of a run out of memory.
+// Whether a run without memory ends with `status`. If it is `WRONG_USE`, the run must write the
+// usage and ask for no growth. If it is `OUT_OF_MEMORY`, the run must have asked for one.
 fn ends_without_memory(global: Global, words: &[&str], status: u8) -> bool {
     let heap = empty_heap(global);
     heap.refuse(EVERY);
-    let outcome = check_run(global, &heap, words, &("", 2, USAGE.as_bytes()));
+    let wrong_use = WantedRun {
+        input: "",
+        status: WRONG_USE,
+        output: USAGE.as_bytes(),
+    };
+    let outcome = check_run(global, &heap, words, &wrong_use);
     let has_asked = heap.asked_growths() > 0;
     let is_right = match outcome {
-        Ok(is_misused) => is_misused && status == 2 && !has_asked,
-        Err(AllocError) => status == 3 && has_asked,
+        Ok(is_misused) => is_misused && status == WRONG_USE && !has_asked,
+        Err(AllocError) => status == OUT_OF_MEMORY && has_asked,
     };
     is_right && has_every_block(heap)
 }
 
-// Counts the blocks of a table with these rows: one for the rows, and one for each list that has
-// members.
+// Counts the blocks of a table of `rows`: one for the rows, and one for each list that has members.
 fn blocks_of_table(rows: &[TargetInfo<'_>]) -> u64 {
     let mut blocks = 1u64;
     for row in rows {
         let families = u64::from(!row.families.as_slice().is_empty());
-        let widths = u64::from(!row.has_atomics.as_slice().is_empty());
-        blocks = blocks.saturating_add(families).saturating_add(widths);
+        let atomics = u64::from(!row.has_atomics.as_slice().is_empty());
+        blocks = blocks.saturating_add(families).saturating_add(atomics);
     }
     blocks
 }
 
-// Whether a run takes as many growths as the table of built-in targets has blocks. Its output
-// stands before its words.
+// Whether a run takes as many growths as the table of built-in targets has blocks, with each of
+// them refused in turn. The first of `fields` is the output, and the others are the words.
 fn takes_table_alone(global: Global, status: u8, fields: &[&str]) -> bool {
     match (fields, TargetTable::builtins(global)) {
         ([output, words @ ..], Ok(table)) => {
-            let growths = run_growths(global, words, &("", status, output.as_bytes()));
-            growths == blocks_of_table(table.rows())
+            let wanted = WantedRun {
+                input: "",
+                status,
+                output: output.as_bytes(),
+            };
+            let growths = run_growths(global, words, &wanted);
+            growths == Some(blocks_of_table(table.rows()))
         }
         _ => false,
     }
 }
 
-// Refuses each growth of a run of `pick` in turn. Returns how many there are, or 0 if a run does
-// not end with this status and the output of the row.
-fn pick_growths(global: Global, status: u8, fields: &[&str]) -> u64 {
-    match fields {
-        [input, output] => {
-            run_growths(global, &["pick", SIM], &(*input, status, output.as_bytes()))
-        }
-        _ => 0,
-    }
+// Refuses each growth of a run of `pick` in turn. The fields are its input and its output. Returns
+// the number of growths, or `None` if a run does not end with `status` and the output.
+fn pick_growths(global: Global, status: u8, fields: &[&str]) -> Option<u64> {
+    let [input, output] = fields else {
+        return None;
+    };
+    let wanted = WantedRun {
+        input: *input,
+        status,
+        output: output.as_bytes(),
+    };
+    run_growths(global, &["pick", SIM], &wanted)
+}
+
+// Whether a run of `pick` takes memory, and ends with `status` and the output of the fields.
+fn pick_survives(global: Global, status: u8, fields: &[&str]) -> bool {
+    pick_growths(global, status, fields).unwrap_or(0) > 0
 }
 
 // Whether two runs of `pick` take the same number of growths.
 fn picks_take_same(global: Global, status: u8, fields: &[&str]) -> bool {
     let (one, other) = fields.split_at(fields.len().min(2));
     let growths = pick_growths(global, status, one);
-    growths > 0 && pick_growths(global, status, other) == growths
+    growths.unwrap_or(0) > 0 && pick_growths(global, status, other) == growths
 }
 
-// Whether a run ends with this status, with growths refused as `kind` says.
+// Whether a run ends with `status`, with growths refused as `kind` says.
 fn run_passes(global: Global, kind: &str, status: u8, fields: &[&str]) -> bool {
     match kind {
-        "in turns" => survives_refused_run(global, fields, status),
+        "each refused" => run_survives(global, fields, status),
         "table alone" => takes_table_alone(global, status, fields),
-        "pick" => pick_growths(global, status, fields) > 0,
+        "pick" => pick_survives(global, status, fields),
         "pick alike" => picks_take_same(global, status, fields),
-        "without" => ends_without_memory(global, fields, status),
+        "without memory" => ends_without_memory(global, fields, status),
         _ => false,
     }
 }
 
-/// Whether the run of the row ends as the row says.
+/// Whether the run of the row, or each of its two runs, ends as the row says.
 pub(super) fn row_passes(global: Global, row: &[String]) -> bool {
     let [kind, status, fields @ ..] = row else {
         return false;

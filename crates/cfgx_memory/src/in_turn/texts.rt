@@ -1,6 +1,6 @@
 //! Texts that are parsed, by each call that takes memory.
 use super::expressions::check_expression_call;
-use super::runs::survives_refused_run;
+use super::runs::run_survives;
 use super::{Call, Outcome, refuse_each_growth, survives_refusals};
 use cfg_expr::Expression;
 use cfg_expr::error::{Failure, ParseError};
@@ -12,8 +12,8 @@ use cfgx_testing::heap::{empty_heap, has_every_block};
 use cfgx_testing::triples::IOS;
 use std::alloc::{AllocError, Global};
 
-/// Which calls are made, the fault of the text or the number of its predicates, the text, and its
-/// stripped text if that is another one. An `evaluated` text is true if all its predicates are,
+/// The kind of the calls, the fault of the text or the number of its predicates, the text, and its
+/// stripped text if that differs. An `evaluated` text is true if all its predicates are,
 /// false if all are false, and has no predicate on targets.
 pub(super) const TEXTS: &str = r#"
 lexed | U[`<key>` `all` `any` `not`] at 2..3 | a 8 b
@@ -135,7 +135,8 @@ pub(super) fn check_call<A: SmallAllocator>(
     check_parsed(alloc, call, &parsed, expected)
 }
 
-// Whether `parsed` has this stripped text, and this fault or number of predicates.
+// Whether `parsed` has the stripped text `original`, and the fault or the number of predicates that
+// `wanted` says.
 fn matches_row(global: Global, parsed: &Parsed, wanted: &str, original: &str) -> bool {
     match parsed {
         Ok(expression) => {
@@ -157,12 +158,12 @@ fn calls_survive(global: Global, calls: &str, text: &str, expected: &Parsed) -> 
     true
 }
 
-// Whether runs of the program with this text survive refusals and end with this status.
+// Whether runs of the program with `text` survive refusals and end with `status`.
 fn runs_survive(global: Global, text: &str, status: u8) -> bool {
-    survives_refused_run(global, &["parse", text], status)
-        && survives_refused_run(global, &["eval", text, "a"], status)
-        && survives_refused_run(global, &["eval", "a", text], status)
-        && survives_refused_run(global, &["target", IOS, text], status)
+    run_survives(global, &["parse", text], status)
+        && run_survives(global, &["eval", text, "a"], status)
+        && run_survives(global, &["eval", "a", text], status)
+        && run_survives(global, &["target", IOS, text], status)
 }
 
 // Whether each of the calls, a reader and runs of the program survive refusals.
@@ -184,12 +185,12 @@ const CALLS: &str = "parse from_str try_clone eval decide polar_fillings eval_la
     Condition::eval Condition::decide Condition::polar_fillings Condition::eval_lanes \
     decide_on audit pick";
 
-// Returns how many growths `parse` of the text takes.
+// Returns the number of growths of `parse` of the text, or `None` if a check fails.
 fn parse_growths(global: Global, text: &str, expected: &Parsed) -> Option<u64> {
     refuse_each_growth(global, Call::Text("parse", text, expected))
 }
 
-// Whether the calls that this kind of row names pass their checks.
+// Whether the calls of a row of the kind `kind` pass their checks.
 fn calls_pass(global: Global, kind: &str, text: &str, expected: &Parsed) -> bool {
     match kind {
         "parsed in 1" => parse_growths(global, text, expected) == Some(1),

@@ -21,14 +21,14 @@ impl TargetMatcher for Nowhere {
     }
 }
 
-/// Checks the decision on a target, of which the expression asks nothing.
+/// Checks the decision on a target. The expression has no predicate on targets.
 pub(super) fn check_decide_on<A: SmallAllocator>(alloc: A, expression: &Expression<A>) -> Outcome {
     let mut answers = Vec::new(alloc);
     let decision = decide_on(alloc, expression, &Nowhere, &mut answers);
     check_decision(&decision, answers.len())
 }
 
-// Checks that `items` are the `wanted` ones.
+// Checks that `items` equal `wanted`.
 fn check_items<T: PartialEq + Drop, A: SmallAllocator>(
     items: &AllocResult<Vec<T, A>>,
     wanted: &[T],

@@ -17,7 +17,7 @@ use cfgx_testing::refusing::EVERY;
 use cfgx_testing::triples::{DARWIN, IOS, MACABI, SIM, TVOS};
 use std::alloc::Global;
 
-/// Parses the text with memory. Every growth after it is refused.
+/// Parses the text with memory. Every later growth is refused.
 pub(super) fn parse_with_memory<A: SmallAllocator>(
     heap: Heap<'_>,
     alloc: A,
@@ -68,7 +68,7 @@ fn reads<'t, A: SmallAllocator>(
     is_ok_true(check_read(reader, text, &Expression::parse(global, text)))
 }
 
-// Whether the reader reads `LONG` with memory, and then the text and `LONG` again with none.
+// Whether the reader reads `LONG` with memory, and then the text and `LONG` again without memory.
 fn reads_after_long<'t, A: SmallAllocator>(
     global: Global,
     heap: Heap<'_>,
@@ -81,7 +81,7 @@ fn reads_after_long<'t, A: SmallAllocator>(
     is_read && reads(global, reader, text) && reads(global, reader, LONG)
 }
 
-// Whether a new reader reads `LONG` with memory, and then the text and `LONG` again with none.
+// Whether a new reader reads `LONG` with memory, and then the text and `LONG` again without memory.
 fn is_read_after_long<A: SmallAllocator>(
     global: Global,
     heap: Heap<'_>,
@@ -103,8 +103,8 @@ fn spell_next(predicates: &mut Predicates<'_>, spellings: &mut Vec<u8>) -> bool 
     is_spelled
 }
 
-// Writes the spellings of all predicates. Returns whether `counts` are the numbers that were left
-// before each one.
+// Writes the spellings of all predicates. Returns whether `counts` has the number of predicates
+// left before each of them.
 fn spell_all(predicates: &mut Predicates<'_>, counts: &[usize], spellings: &mut Vec<u8>) -> bool {
     for count in counts {
         if predicates.left() != *count || !spell_next(predicates, spellings) {
@@ -114,8 +114,8 @@ fn spell_all(predicates: &mut Predicates<'_>, counts: &[usize], spellings: &mut 
     predicates.left() == 0 && predicates.next().is_none()
 }
 
-// Whether the predicates have these spellings, and `counts` are the numbers that are left before
-// each one.
+// Whether the predicates have `spellings`, and `counts` has the number of predicates left before
+// each of them.
 fn are_spelled(
     global: Global,
     mut predicates: Predicates<'_>,

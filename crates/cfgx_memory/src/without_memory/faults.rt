@@ -13,13 +13,13 @@ use cfgx_testing::refusing::EVERY;
 use std::alloc::{Allocator, Global};
 use std::ops::Range;
 
-// Whether the item and its copy have this token and span.
+// Whether the item and its copy have `token` and `span`.
 fn has_token(item: &LexerToken<'_>, token: Token<'_>, span: &Range<usize>) -> bool {
     let is_right = item.token == token && item.span == *span;
     is_right && matches!(item.clone(), Ok(copy) if copy.token == token && copy.span == *span)
 }
 
-// Whether the item is this token with this span.
+// Whether the item is `token` with `span`.
 fn is_token<A: Allocator>(item: &Item<'_, A>, token: Token<'_>, span: &Range<usize>) -> bool {
     match item {
         Some(Ok(item)) => has_token(item, token, span),
@@ -27,8 +27,8 @@ fn is_token<A: Allocator>(item: &Item<'_, A>, token: Token<'_>, span: &Range<usi
     }
 }
 
-// Whether the next item of the lexer is this token with this span, and at most `bound` items
-// follow.
+// Whether the next item of the lexer is `token` with `span`, and the lexer says that at most
+// `bound` items follow.
 fn next_is<A: Allocator>(
     lexer: &mut Lexer<'_, A>,
     token: Token<'_>,
@@ -61,7 +61,7 @@ foo ( | unexpected term | foo (\n    ^ expected one of `=`, `,`, `)` here
 key) | unopened parens | key)\n   ^ unopened parens
 "#;
 
-// Whether the fault has this description and prints this text. No text here is empty.
+// Whether the fault has `description` and prints `printed`. No text here is empty.
 fn prints_fault<A: Allocator>(
     global: Global,
     error: &ParseError<A>,
@@ -137,7 +137,7 @@ pub(super) fn row_passes<A: SmallAllocator>(
 /// What `HasAtomic::read` returns.
 type Width<A> = Result<HasAtomic, HasAtomicFailure<A>>;
 
-// Reads the width with memory. Every growth after it is refused.
+// Reads the width with memory. Every later growth is refused.
 fn read_width_with_memory<A: SmallAllocator>(heap: Heap<'_>, alloc: A, text: &str) -> Width<A> {
     heap.refuse(0);
     let width = HasAtomic::read(alloc, text);

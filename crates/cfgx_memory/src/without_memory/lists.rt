@@ -46,7 +46,7 @@ fn compares_widths<A: SmallAllocator>(heap: Heap<'_>, alloc: A) -> bool {
     is_made_and_ordered(&list, &same, &above)
 }
 
-// Whether the list contains the family with this name.
+// Whether the list contains the family with the name `name`.
 fn contains_named<A: SmallAllocator>(list: &Families<'_, A>, name: &str) -> bool {
     let family: Family<'_> = match name {
         "unix" => Family::unix(),
@@ -144,7 +144,7 @@ list of no families
 borrowed list of no families
 "#;
 
-// Whether the check with this name passes.
+// Whether the check with the name `check` passes.
 fn passes<A: SmallAllocator>(global: Global, heap: Heap<'_>, alloc: A, check: &str) -> bool {
     match check {
         "rising families" => are_sorted([Family::unix(), Family::wasm()]),

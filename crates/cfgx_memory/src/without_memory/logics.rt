@@ -9,7 +9,7 @@ fn is_two_valued<T: Logic + Copy + PartialEq>() -> bool {
     yes.not() == no && no.not() == yes && found.as_slice() == [yes, no, no, yes].as_slice()
 }
 
-// Whether a logic is that of Kleene, with this unknown value.
+// Whether a logic is that of Kleene, and its third value is `unknown`.
 fn is_three_valued<T: Logic + Copy + PartialEq>(unknown: T) -> bool {
     let (yes, no) = (T::top(), T::bottom());
     let found = [
@@ -23,7 +23,7 @@ fn is_three_valued<T: Logic + Copy + PartialEq>(unknown: T) -> bool {
     is_two_valued::<T>() && found.as_slice() == wanted.as_slice()
 }
 
-/// Whether the operations of the logic with this name give the right values.
+/// Whether the operations of the logic with the name `name` give the right values.
 pub(super) fn logic_is_right(name: &str) -> bool {
     match name {
         "bool" => is_two_valued::<bool>(),

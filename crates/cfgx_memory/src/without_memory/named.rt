@@ -4,7 +4,7 @@ use cfg_expr::memory::SmallAllocator;
 use cfgx_fields::{Abi, Arch, Env, Family, Field, Os, Panic, Vendor};
 use std::alloc::Allocator;
 
-// Whether the fields have these texts, of which there are `count`. Spaces separate the texts.
+// Whether the fields have `texts`, and there are `count` of them. Spaces separate the texts.
 fn have_texts<K: Drop, A: Allocator>(
     fields: &[Field<'_, K, A>],
     texts: &'static str,
@@ -65,7 +65,7 @@ fn panic_strategies_are_named<A: SmallAllocator>() -> bool {
     named!(2 Panic abort unwind)
 }
 
-/// Whether the named values of the type with this name have the right texts.
+/// Whether the named values of the type with the name `name` have the right texts.
 pub(super) fn named_values_are_right<A: SmallAllocator>(name: &str) -> bool {
     match name {
         "abis" => abis_are_named::<A>(),

@@ -14,8 +14,8 @@ use std::alloc::AllocError;
 /// Rows, or out of memory.
 type Rows<'a, A> = AllocResult<Vec<TargetInfo<'a, A>, A>>;
 
-// Copies the rows of the table with these triples, in this order. It leaves out a triple that is
-// not there.
+// Copies the rows of the table with the given triples, in the order of `triples`. Leaves out a
+// triple that the table does not have.
 fn copy_rows<'a, A: SmallAllocator + 'a>(
     alloc: A,
     table: &TargetTable<'a, A>,
@@ -30,14 +30,14 @@ fn copy_rows<'a, A: SmallAllocator + 'a>(
     Ok(rows)
 }
 
-// Copies the built-in rows with these triples, in this order.
+// Copies the built-in rows with the given triples, in the order of `triples`.
 fn copy_builtin_rows<'a, A: SmallAllocator + 'a>(alloc: A, triples: &[&str]) -> Rows<'a, A> {
     let table = TargetTable::builtins(alloc)?;
     copy_rows(alloc, &table, triples)
 }
 
-/// Copies the built-in rows with these triples, in this order, with memory. Every growth after it
-/// is refused.
+/// Copies the built-in rows with the given triples, in the order of `triples`, with memory. Every
+/// later growth is refused.
 pub(super) fn rows_with_memory<'a, A: SmallAllocator + 'a>(
     heap: Heap<'_>,
     alloc: A,
@@ -49,8 +49,8 @@ pub(super) fn rows_with_memory<'a, A: SmallAllocator + 'a>(
     rows
 }
 
-// Makes a table of the rows. Returns the index at which it refuses them, if it does, and how many
-// rows the table or the error has.
+// Makes a table of the rows. Returns the index of the error, or `None` if there is none, and the
+// number of rows of the table or the error.
 fn refusal<A: SmallAllocator>(rows: Rows<'_, A>) -> AllocResult<(Option<usize>, usize)> {
     match TargetTable::from_rows(rows?) {
         Ok(table) => Ok((None, table.rows().len())),
@@ -63,7 +63,7 @@ fn are_ordered_rows<A: SmallAllocator>(rows: &[TargetInfo<'_, A>]) -> bool {
     matches!(rows, [one, same, above] if is_ordered(one, same, above))
 }
 
-// Makes a table of the rows with these three triples. Returns whether it is refused at `index`, or
+// Makes a table of the rows with the three triples. Returns whether it is refused at `index`, or
 // made if `index` is `None`, and whether `are_ordered_rows` returns `are_ordered` for the rows.
 fn table_is<A: SmallAllocator>(
     heap: Heap<'_>,
@@ -78,7 +78,7 @@ fn table_is<A: SmallAllocator>(
     is_right && refusal == Ok((index, 3))
 }
 
-// Whether the table has a row with this triple.
+// Whether the table has a row with the triple `triple`.
 fn has_triple<A: SmallAllocator>(table: &TargetTable<'_, A>, triple: &str) -> bool {
     match get_builtin_target_by_triple(table, triple) {
         Some(row) => row.triple.as_str() == triple,
@@ -122,7 +122,7 @@ built in
 no sections
 "#;
 
-// Whether the check with this name passes.
+// Whether the check with the name `check` passes.
 fn passes<A: SmallAllocator>(heap: Heap<'_>, alloc: A, check: &str) -> bool {
     match check {
         "a table" => table_is(heap, alloc, &[DARWIN, MACABI, TVOS], None, false),

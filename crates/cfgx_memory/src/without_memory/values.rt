@@ -66,7 +66,7 @@ fn reads_byte_orders() -> bool {
         && Endian::from_str("") == other
 }
 
-// Whether the text is read as this width.
+// Whether the text is read as `width`.
 fn reads_width<A: SmallAllocator>(alloc: A, text: &str, width: HasAtomic) -> bool {
     is_ok_true(value_equals(HasAtomic::read(alloc, text), &width))
 }
@@ -141,7 +141,7 @@ logic option
 logic lanes
 "#;
 
-// Whether the check with this name passes. It takes no memory at all.
+// Whether the check with the name `check` passes. It takes no memory at all.
 fn passes_alone<A: SmallAllocator>(global: Global, alloc: A, check: &str) -> bool {
     match check {
         "order of functions" => are_increasing(&FUNCTIONS),
@@ -162,7 +162,7 @@ fn passes_alone<A: SmallAllocator>(global: Global, alloc: A, check: &str) -> boo
     }
 }
 
-// Whether the check with this name passes. Errors are made with memory.
+// Whether the check with the name `check` passes. Errors are made with memory.
 fn passes<A: SmallAllocator>(global: Global, heap: Heap<'_>, alloc: A, check: &str) -> bool {
     match check.split_once(' ') {
         Some(("named", name)) => named_values_are_right::<A>(name),
