@@ -75,11 +75,14 @@ fn condition_agrees(
     expression: &Expression,
     answers: &[Answer],
 ) -> Result<bool, AllocError> {
-    let count = answers.len();
-    if condition.predicates().left() != count || expression.predicates().left() != count {
+    let lanes = lanes_of(alloc, answers)?;
+    let count = lanes.len();
+    if count != answers.len()
+        || condition.predicates().left() != count
+        || expression.predicates().left() != count
+    {
         return Ok(false);
     }
-    let lanes = lanes_of(alloc, answers)?;
     let value = condition.eval_lanes(alloc, lanes.as_slice())?;
     let fillings = condition.polar_fillings(alloc, answers)?;
     Ok(
