@@ -62,8 +62,8 @@ fn push_numbered<'a>(
 // Returns targets with the triples `target-0`, `target-1` and so on. Their other fields are those
 // of the targets of `TRIPLES` in turn.
 fn numbered_targets(alloc: Global) -> Result<Vec<TargetInfo<'static>>, AllocError> {
-    let models = builtin_rows(alloc, TRIPLES)?;
-    let mut targets = Vec::new(alloc);
+    let models: Vec<TargetInfo<'static>> = builtin_rows(alloc, TRIPLES)?;
+    let mut targets: Vec<TargetInfo<'static>> = Vec::new(alloc);
     push_numbered(alloc, models.as_slice(), &mut targets)?;
     Ok(targets)
 }
