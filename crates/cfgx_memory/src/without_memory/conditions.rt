@@ -137,6 +137,9 @@ fn only_simulator_meets<A: SmallAllocator>(
     predicate: &TargetPredicate<'_>,
     rows: &[TargetInfo<'_, A>],
 ) -> bool {
+    if rows.len() > 64 {
+        return false;
+    }
     let lanes = predicate.lanes(rows);
     for (lane, row) in rows.iter().enumerate() {
         let is_simulator = row.triple.as_str() == SIM;
