@@ -156,8 +156,8 @@ pub(crate) fn eval_on_target<A: SmallAllocator, M: TargetMatcher>(
     )
 }
 
-/// Returns a verdict for each section, in order. `matcher` answers the predicates on the target,
-/// and all others are unknown.
+/// Returns a verdict for each section, in order. The answer to a predicate on the target is that of
+/// `matcher`. Every other answer is unknown.
 ///
 /// A verdict is `Yes` exactly if every way to fill the unknown answers makes the section's
 /// condition true, and `No` exactly if every way makes it false.

@@ -14,6 +14,7 @@ mod values;
 use crate::in_turn::AllocResult;
 use cfgx_testing::checking::hash_of;
 use cfgx_testing::heap::{Heap, empty_heap, has_every_block};
+use cfgx_testing::refusing::EVERY;
 use cfgx_testing::rows::{TableToCheck, check_tables};
 use std::alloc::Global;
 use std::hash::Hash;
@@ -47,14 +48,22 @@ const TABLES: &[TableToCheck<'_>] = &[
     ("other values take no memory", values::VALUES, 26),
 ];
 
+// Returns the field of a row that has only one. Returns an empty text for any other row.
+fn only_field(row: &[String]) -> &str {
+    match row {
+        [field] => field.as_str(),
+        _ => "",
+    }
+}
+
 // Returns whether the row passes the check of `table`, or `None` if there is no such table.
 fn row_passes(global: Global, heap: Heap<'_>, table: &str, row: &[String]) -> Option<bool> {
     match table {
         "conditions take no memory" => Some(conditions::row_passes(global, heap, heap, row)),
         "faults take no memory" => Some(faults::row_passes(global, heap, heap, row)),
-        "lists take no memory" => Some(lists::row_passes(global, heap, heap, row)),
+        "lists take no memory" => Some(lists::passes(global, heap, heap, only_field(row))),
         "tables of targets take no memory" => Some(tables::row_passes(heap, heap, row)),
-        "other values take no memory" => Some(values::row_passes(global, heap, heap, row)),
+        "other values take no memory" => Some(values::passes(global, heap, heap, only_field(row))),
         _ => None,
     }
 }
@@ -66,6 +75,7 @@ fn passes_without_growth(
     table: &str,
     row: &[String],
 ) -> Option<bool> {
+    heap.refuse(EVERY);
     let refused = heap.refused_growths();
     let passes = row_passes(global, heap, table, row)?;
     Some(passes && heap.refused_growths() == refused)

@@ -29,7 +29,7 @@ pub struct Parsed<A: Allocator = Global> {
 }
 
 impl<A: Allocator> Model for Parsed<A> {
-    ghost use Rattle.std.specs.Prelude.{List, [], ◌∷◌, ℕ, string_bytes};
+    ghost use Rattle.std.specs.Prelude.{List, ℕ, string_bytes};
     ghost use Rattle.cfgx_parser.specs.nodes.KeepsTree.{KeepsOneTree};
 
     ghost Value = { List ℕ };

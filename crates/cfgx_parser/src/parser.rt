@@ -1,7 +1,6 @@
 //! The parser: from a text to the nodes of its tree, in one pass.
-ghost use Rattle.std.specs.Prelude.{◌≡◌, ◌+◌, ◌≤◌, ◌^◌, length, ◌<◌, ◌↔◌, ◌≢◌, [], true};
-ghost use Rattle.std.specs.Prelude.{option_map};
-ghost use Rattle.std.specs.Prelude.{map, reverse, IsTrue, OnOk, IfOk, Err};
+ghost use Rattle.std.specs.Prelude.{◌≡◌, ◌+◌, ◌≤◌, ◌^◌, ◌<◌, [], true, length, reverse};
+ghost use Rattle.std.specs.Prelude.{Err, OnOk};
 ghost use Rattle.cfgx_syntax.specs.Error.{cause_of, unexpected};
 ghost use Rattle.cfgx_syntax.specs.Lexer.{token_of, item_of};
 ghost use Rattle.cfgx_grammar.specs.FollowSet.{next, expected};

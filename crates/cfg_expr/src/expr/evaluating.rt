@@ -3,8 +3,9 @@
 //! members by their joined value. The last entry is the value of the condition.
 //!
 //! Unread answers occupy the front of the slots, and the stack occupies the back. They never
-//! overlap, since each node pushes at most one entry. The nodes are in the order of the text, which
-//! is not the order in which predicates are asked.
+//! overlap, since each node pushes at most one entry. The nodes are in the order of the text.
+//! Predicates are asked in another order: of each list, first those of its functions, and then its
+//! own.
 ghost use Rattle.std.specs.Prelude.{◌≡◌, ◌<◌, ◌≤◌, ◌+◌, ◌∷◌, ℕ, List, IfOk, OnErr, IsOk};
 ghost use Rattle.std.specs.Prelude.{length, map, set, get_or, take, drop};
 ghost use Rattle.cfgx_grammar.specs.Answer.{HasOneTree};
@@ -140,8 +141,8 @@ fn literal_value<T: Logic>(truth: bool) -> T
 }
 
 /// The stack of the subtrees that no function has joined yet. It occupies the slots from `begin`
-/// on, and its top entry is the first of them. Before the node at `place` is read, `begin` is above
-/// `place`.
+/// on, and its top entry is the first of them. Before the node at `place` is read, `begin` is
+/// greater than `place`.
 #[derive(Drop)]
 pub(crate) struct Stack<'a, T> {
     slots: &'a mut [Slot<T>],
@@ -162,7 +163,8 @@ impl<T: Logic> Stack<'_, T> {
         self.slots[self.begin] = entry;
     }
 
-    /// Pops the top entry, and returns its value. Returns `T::top()` if there is no entry.
+    /// Pops the top entry, and returns its value. Returns `T::top()` if the stack is empty, which
+    /// it never is for a parsed condition.
     fn pop(&mut self) -> T
         requires { self.old.begin ≤ length self.old.slots.now }
         ensures value { result ≡ top_value T.Logic (entries self.old) }
@@ -175,9 +177,9 @@ impl<T: Logic> Stack<'_, T> {
         if self.begin == self.slots.len() {
             return T::top();
         }
-        let top = mem::replace(&mut self.slots[self.begin], Slot::Empty);
+        let entry = mem::replace(&mut self.slots[self.begin], Slot::Empty);
         self.begin += 1;
-        top.value_or_top()
+        entry.value_or_top()
     }
 
     /// Replaces the top `count` entries, or all if there are fewer, by their joined value.
@@ -240,7 +242,8 @@ fn eval_nodes<T: Logic>(nodes: &[ExprNode], slots: &mut [Slot<T>]) -> T
     stack.pop()
 }
 
-/// Returns `count` empty slots. Up to 33 take no memory: enough for a text of 32 bytes.
+/// Returns `count` empty slots. Up to 33 are inline and take no memory. They are enough for the
+/// nodes of a text of 32 bytes.
 fn empty_slots<T: Logic, A: Allocator>(
     alloc: &A,
     count: usize,
@@ -264,7 +267,8 @@ fn put_answer<T: Logic>(answer: T, place: usize, slots: &mut [Slot<T>])
     }
 }
 
-/// Returns what `ep` answers to `predicate`.
+/// Returns what `ep` answers to `predicate`. The predicate is dropped here: if the loop of
+/// `ask_each` dropped it, the proof of the loop would have a case for each kind of predicate.
 fn ask<EP, T>(predicate: Predicate<'_>, ep: &mut EP) -> T
 where
     EP: FnMut(&Predicate<'_>) -> T,
@@ -274,7 +278,7 @@ where
     ep(&predicate)
 }
 
-/// Asks each predicate in order, and puts its answer into the slot of its node.
+/// Asks the predicates in their order, and puts each answer into the slot of its node.
 fn ask_each<EP, T>(parsed: &ParsedRef<'_>, slots: &mut [Slot<T>], ep: &mut EP)
 where
     EP: FnMut(&Predicate<'_>) -> T,
@@ -324,7 +328,8 @@ where
     Ok(eval_nodes(nodes, slots))
 }
 
-/// Returns the value of the condition over `answers`, one for each predicate in order.
+/// Returns the value of the condition over `answers`, one for each predicate, in the order in
+/// which the predicates are asked.
 ///
 /// Returns an error if `alloc` refuses memory for the slots.
 pub(crate) fn eval_over_answers<T, A>(

@@ -1,15 +1,17 @@
 //! Decides a condition of which some answers may be unknown. The decision is the value of the
 //! condition or, if that is unknown, two fillings: a filling has a truth value for each answer, and
-//! the condition is true with the first filling and false with the second.
+//! the condition is true with the first filling and false with the second. Each occurrence of a
+//! predicate has an answer of its own.
 //!
-//! Both fillings keep the known answers. In place of an unknown answer, the first filling has true
-//! below an even number of `not`, and false below an odd number. The second filling has the
+//! Both fillings keep the known answers. For an unknown answer, the first filling has true if its
+//! predicate is below an even number of `not`, and false otherwise. The second filling has the
 //! opposite value.
 //!
-//! One pass over the nodes finds the predicates below an odd number of `not`. The stack `ahead` has
-//! an entry for each subtree that the pass has not reached, with the next one on top. An entry is
-//! true if its subtree is below an odd number of `not`. Each subtree has a node, so there are never
-//! more entries than nodes, and neither `ahead` nor `odds` takes memory for up to 33 nodes.
+//! One pass over the nodes makes the list `odds`, which says of each node whether it is a predicate
+//! below an odd number of `not`. The pass has a stack `ahead` of the subtrees that it has not
+//! reached, and whose parent it has. The next one is on top. An entry is true if its subtree is
+//! below an odd number of `not`. Each subtree has a node, so there are never more entries than
+//! nodes, and neither `ahead` nor `odds` takes memory for up to 33 nodes.
 ghost use Rattle.std.specs.Prelude.{◌≡◌, ◌++◌, ◌∷◌, true, false, length, map};
 ghost use Rattle.std.specs.Prelude.{replicate, reverse, List, OnOk};
 ghost use Rattle.cfgx_grammar.specs.Given.{AreAnswersTo};
@@ -51,7 +53,8 @@ fn push_repeated<A: SmallAllocator>(
 }
 
 /// Pops the entry of `node` from `ahead`, and pushes one for each of its members. Pushes to `odds`
-/// whether `node` is a predicate below an odd number of `not`.
+/// whether `node` is a predicate below an odd number of `not`. Does nothing if `ahead` is empty,
+/// which it never is before a node of a condition.
 fn push_odd<A: SmallAllocator>(
     node: &ExprNode,
     ahead: &mut SmallVec<bool, 33, &A>,
@@ -75,7 +78,8 @@ fn push_odd<A: SmallAllocator>(
     Ok(())
 }
 
-/// Pushes to `odds`, for each node, whether it is a predicate below an odd number of `not`.
+/// Pushes to `odds`, for each node, whether it is a predicate below an odd number of `not`. `ahead`
+/// is the stack of the pass, which begins empty.
 fn push_odds<A: SmallAllocator>(
     nodes: &[ExprNode],
     ahead: &mut SmallVec<bool, 33, &A>,
@@ -92,8 +96,8 @@ fn push_odds<A: SmallAllocator>(
     Ok(())
 }
 
-/// Replaces the items of `if_true` and `if_false` by the two fillings of `answers`. `places` has
-/// the place of the predicate of each answer among the nodes. `odds` says of each node whether it
+/// Replaces the items of `if_true` and `if_false` by the two fillings of `answers`. `places` has,
+/// for each answer, the place of its predicate among the nodes. `odds` says of each node whether it
 /// is a predicate below an odd number of `not`.
 fn fill<A: SmallAllocator>(
     if_true: &mut Vec<bool, A>,
@@ -121,7 +125,7 @@ fn fill<A: SmallAllocator>(
 }
 
 /// Replaces `decision` by the two fillings of `answers`. Reuses the memory of the fillings that it
-/// has. If it is out of memory, nothing is known of `decision`.
+/// has. If `alloc` refuses memory, `decision` may hold anything.
 fn set_unknown<A: SmallAllocator>(
     alloc: A,
     decision: &mut Decision<A>,
@@ -147,10 +151,10 @@ fn set_unknown<A: SmallAllocator>(
     Ok(())
 }
 
-/// Replaces `decision` by what the answers decide. New fillings reuse the memory of those that it
+/// Replaces `decision` by what `answers` decide. New fillings reuse the memory of those that it
 /// holds.
 ///
-/// The error is that `alloc` refused memory.
+/// Returns an error if `alloc` refuses memory. `decision` may then hold anything.
 pub(crate) fn decide<A: SmallAllocator>(
     alloc: A,
     parsed: &ParsedRef<'_>,

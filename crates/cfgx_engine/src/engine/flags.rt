@@ -1,8 +1,5 @@
 // Evaluates a text for the command `eval`. Each flag is a text, and names all predicates in it: as
 // unknown if the flag begins with `?`, and as true if not. All other predicates are false.
-//
-// `is_same` takes a predicate by value, and drops it. If the loop of `names` dropped it, the proof
-// of the loop would have a case for each kind of predicate.
 
 ghost use Rattle.std.specs.Prelude.{◌≡◌, ◌↔◌, Err, IfErr, IsTrue, OnOk};
 ghost use Rattle.cfgx_grammar.specs.Answer.{Answers};
@@ -67,7 +64,8 @@ impl<A: SmallAllocator> Flag<A> {
     }
 }
 
-/// Whether `named` and `asked` are the same predicate.
+/// Whether `named` and `asked` are the same predicate. `named` is dropped here: if the loop of
+/// `Flag::names` dropped it, the proof of the loop would have a case for each kind of predicate.
 fn is_same(named: Predicate<'_>, asked: &Predicate<'_>) -> bool
     ensures { IsTrue result ↔ (question_of named.entry ≡ question_of asked.now) }
 {

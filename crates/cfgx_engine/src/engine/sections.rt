@@ -1,6 +1,6 @@
 // Reads the input of the command `pick` line by line, and makes the output.
 
-ghost use Rattle.std.specs.Prelude.{◌≡◌, ◌≤◌, ◌++◌, Err, IfErr, IfOk, OnErr, OnOk, length, map};
+ghost use Rattle.std.specs.Prelude.{◌≡◌, ◌≤◌, ◌++◌, Err, IfErr, IfOk, OnOk, length, map};
 ghost use Rattle.std.specs.Prelude.{IsSomeAnd, string_bytes};
 ghost use Rattle.std.specs.List.{position_or_len};
 ghost use Rattle.std.specs.Str.Lines.{strip_carriage_return};
@@ -169,14 +169,20 @@ fn push_line<'a, A: SmallAllocator>(
             Err(LineError::Faulty(message))
         }
         Line::Section { name, condition } => match reader.read(condition) {
-            Ok(condition) => Ok(push_section(alloc, row, name, &condition, buffers, printed)?),
-            Err(failure) => Err(LineError::Faulty(fault_message(alloc, number, failure)?)),
+            Ok(condition) => {
+                push_section(alloc, row, name, &condition, buffers, printed)?;
+                Ok(())
+            }
+            Err(failure) => {
+                let message = fault_message(alloc, number, failure)?;
+                Err(LineError::Faulty(message))
+            }
         },
     }
 }
 
 /// Returns the message of the line `number`, whose condition cannot be parsed. Returns an error if
-/// the parser is out of memory.
+/// memory was refused to the parser, or is refused to the message.
 fn fault_message<A: Allocator>(
     alloc: A,
     number: usize,
@@ -222,8 +228,8 @@ fn push_decision<A: Allocator>(
         Decision::Known(false) => printed.extend_from_slice(b"\tno\n")?,
         Decision::Unknown { if_true, if_false } => {
             printed.extend_from_slice(b"\tunknown\n")?;
-            push_filling(printed, "\ttrue with ", if_true.as_slice())?;
-            push_filling(printed, "\tfalse with ", if_false.as_slice())?;
+            push_filling("\ttrue with ", if_true.as_slice(), printed)?;
+            push_filling("\tfalse with ", if_false.as_slice(), printed)?;
         }
     }
     Ok(())
@@ -231,21 +237,21 @@ fn push_decision<A: Allocator>(
 
 /// Pushes `label` and a filling as a line of their own.
 fn push_filling<A: Allocator>(
-    printed: &mut Vec<u8, A>,
     label: &str,
     filling: &[bool],
+    printed: &mut Vec<u8, A>,
 ) -> Result<(), AllocError>
     ensures { OnOk result (printed.new.items
         ≡ printed.old.items ++ filling_line label.now filling.now) }
 {
     printed.extend_from_slice(label.as_bytes())?;
-    push_digits(printed, filling)?;
+    push_digits(filling, printed)?;
     printed.push(b'\n')?;
     Ok(())
 }
 
 /// Pushes a digit for each value: `1` for true, `0` for false.
-fn push_digits<A: Allocator>(printed: &mut Vec<u8, A>, filling: &[bool]) -> Result<(), AllocError>
+fn push_digits<A: Allocator>(filling: &[bool], printed: &mut Vec<u8, A>) -> Result<(), AllocError>
     ensures { OnOk result (printed.new.items ≡ printed.old.items ++ digits filling.now) }
 {
     for value in filling {

@@ -144,8 +144,8 @@ list of no families
 borrowed list of no families
 "#;
 
-// Whether the check with the name `check` passes.
-fn passes<A: SmallAllocator>(global: Global, heap: Heap<'_>, alloc: A, check: &str) -> bool {
+/// Whether the check with the name `check` passes, with every growth refused.
+pub(super) fn passes<A: SmallAllocator>(global: Global, heap: Heap<'_>, alloc: A, check: &str) -> bool {
     match check {
         "rising families" => are_sorted([Family::unix(), Family::wasm()]),
         "falling families" => !are_sorted([Family::wasm(), Family::unix()]),
@@ -159,18 +159,4 @@ fn passes<A: SmallAllocator>(global: Global, heap: Heap<'_>, alloc: A, check: &s
         "borrowed list of no families" => borrows_no_families(),
         _ => false,
     }
-}
-
-/// Whether the check of the row passes, with every growth refused.
-pub(super) fn row_passes<A: SmallAllocator>(
-    global: Global,
-    heap: Heap<'_>,
-    alloc: A,
-    row: &[String],
-) -> bool {
-    let [check] = row else {
-        return false;
-    };
-    heap.refuse(EVERY);
-    passes(global, heap, alloc, check.as_str())
 }

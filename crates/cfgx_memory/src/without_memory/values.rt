@@ -14,7 +14,6 @@ use cfgx_engine::engine::Counted;
 use cfgx_engine::resolve::Verdict;
 use cfgx_testing::checking::{is_ok_true, prints, value_equals};
 use cfgx_testing::heap::Heap;
-use cfgx_testing::refusing::EVERY;
 use cfgx_testing::streams::{ALL, Pieces};
 use std::alloc::Global;
 use std::str::FromStr;
@@ -162,8 +161,9 @@ fn passes_alone<A: SmallAllocator>(global: Global, alloc: A, check: &str) -> boo
     }
 }
 
-// Whether the check with the name `check` passes. Errors are made with memory.
-fn passes<A: SmallAllocator>(global: Global, heap: Heap<'_>, alloc: A, check: &str) -> bool {
+/// Whether the check with the name `check` passes, with every growth refused. Errors are made with
+/// memory.
+pub(super) fn passes<A: SmallAllocator>(global: Global, heap: Heap<'_>, alloc: A, check: &str) -> bool {
     match check.split_once(' ') {
         Some(("named", name)) => named_values_are_right::<A>(name),
         Some(("logic", name)) => logic_is_right(name),
@@ -171,18 +171,4 @@ fn passes<A: SmallAllocator>(global: Global, heap: Heap<'_>, alloc: A, check: &s
         Some(("errors", "of widths")) => compares_width_errors(heap, alloc),
         _ => passes_alone(global, alloc, check),
     }
-}
-
-/// Whether the check of the row passes, with every growth refused.
-pub(super) fn row_passes<A: SmallAllocator>(
-    global: Global,
-    heap: Heap<'_>,
-    alloc: A,
-    row: &[String],
-) -> bool {
-    let [check] = row else {
-        return false;
-    };
-    heap.refuse(EVERY);
-    passes(global, heap, alloc, check.as_str())
 }

@@ -1,7 +1,7 @@
 //! Sixty-four answers that may be unknown, joined all at once.
 #![tactic(auto, using(crate::proofs::LaneLemmas::lanes))]
 
-ghost use Rattle.std.specs.Prelude.{◌≡◌, ℕ, ◌<◌, Some, true, false, IsTrue};
+ghost use Rattle.std.specs.Prelude.{◌≡◌, ◌<◌, Some, true, false, IsTrue};
 ghost use Rattle.cfgx_syntax.specs.Kleene.{AreDisjoint, EachLane, IsDisjoint, lane};
 ghost use Rattle.cfgx_syntax.specs.Kleene.{planes_and, planes_bottom, planes_not, planes_or};
 ghost use Rattle.cfgx_syntax.specs.Kleene.{planes_top};
