@@ -109,8 +109,8 @@ impl Connective {
         }
     }
 
-    /// Takes the members of the given `kind` out, and returns `value` joined with each of them, from
-    /// the last to the first. The members are in the order of the text.
+    /// Takes the members of the given `kind` out, and returns `value` joined with each of them,
+    /// from the last to the first. The members are in the order of the text.
     fn join_kind<T: Logic>(self, kind: Kind, value: T, members: &mut [Slot<T>]) -> T
         ensures value { result
             ≡ from_last (join_of T.Logic self) value (values_in kind members.old) }

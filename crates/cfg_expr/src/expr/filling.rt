@@ -1,6 +1,6 @@
-//! Decides a condition when some answers to its predicates may be unknown. The decision is the value
-//! of the condition or, if that is unknown, two fillings: a filling has a truth value for each
-//! answer, and the condition is true with the first filling and false with the second. Each
+//! Decides a condition when some answers to its predicates may be unknown. The decision is the
+//! value of the condition or, if that is unknown, two fillings: a filling has a truth value for
+//! each answer, and the condition is true with the first filling and false with the second. Each
 //! occurrence of a predicate has an answer of its own.
 //!
 //! Both fillings keep the known answers. For an unknown answer, the first filling has true if its
