@@ -53,7 +53,7 @@ fn spellings_are_parsed(alloc: Global, expression: &Expression) -> Option<bool> 
     has_same_predicates(alloc, expression, spellings.as_slice())
 }
 
-// Whether the expression is printed, spelled and evaluated right.
+// Returns whether the expression is printed, spelled and evaluated right.
 fn expression_passes(alloc: Global, numbers: &mut Numbers, expression: &Expression) -> bool {
     is_ok_true(print_is_parsed(alloc, expression))
         && spellings_are_parsed(alloc, expression) == Some(true)

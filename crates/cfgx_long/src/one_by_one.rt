@@ -83,14 +83,15 @@ fn common_value(alloc: Global, expression: &Expression, answers: &[Answer]) -> O
     Some(Some(first))
 }
 
-// Whether each call finds the common value of the fillings, over the answers that `number` encodes.
+// Returns whether each call finds the common value of the fillings, over the answers that `number`
+// encodes.
 fn calls_find_common_value(alloc: Global, expression: &Expression, number: usize) -> Option<bool> {
     let answers = answers_of(alloc, number, expression.predicates().left()).ok()?;
     let value = common_value(alloc, expression, answers.as_slice())?;
     Some(each_call_finds(alloc, expression, answers.as_slice(), value))
 }
 
-// Whether each call finds the common value over the answers of each number below `cases`.
+// Returns whether each call finds the common value over the answers of each number below `cases`.
 fn calls_find_common_values(alloc: Global, expression: &Expression, cases: usize) -> bool {
     for number in 0..cases {
         if calls_find_common_value(alloc, expression, number) != Some(true) {

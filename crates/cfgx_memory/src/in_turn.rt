@@ -64,7 +64,7 @@ fn refuse_each_growth(global: Global, call: Call<'_>) -> Option<u64> {
     count_growths(global, |heap| check_call(global, heap, &call))
 }
 
-// Whether the call takes memory and passes its check with each growth refused in turn.
+// Returns whether the call takes memory and passes its check with each growth refused in turn.
 fn survives_refusals(global: Global, call: Call<'_>) -> bool {
     refuse_each_growth(global, call).unwrap_or(0) > 0
 }
