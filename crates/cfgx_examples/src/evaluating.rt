@@ -167,8 +167,8 @@ fn terms_are(
     numbered: &str,
 ) -> Result<bool, AllocError> {
     let (term, count) = numbered_term(alloc, expression)?;
-    let count_is_right =
-        count_questions(alloc, expression)? == count && questions.parse() == Ok(count);
+    let count_is_right = count_questions(alloc, expression)? == count
+        && questions.parse() == Ok(count);
     let names_are_right = joined_terms(alloc, expression)?.as_bytes() == named.as_bytes();
     Ok(count_is_right && names_are_right && term.as_bytes() == numbered.as_bytes())
 }
@@ -207,11 +207,12 @@ fn eval_and_count(alloc: Global, text: &str, answers: &[Lawless]) -> Option<(Law
     value.zip(count_questions(alloc, &expression).ok())
 }
 
-// `all` starts from `top`, which is 1, and first joins the member that is asked last. `any(b)` is
-// `bottom`, which is 2. The steps of the first value are 3 * 1 + 30 = 33, 3 * 33 + 10 = 109 and
-// 3 * 109 + 2 = 329. Those of the value 35 are 3 * 1 + 7 = 10 and 3 * 10 + 5 = 35, and those of the
-// value 134 are 3 * 1 + 9 = 12, 3 * 12 + 7 = 43 and 3 * 43 + 5 = 134. The predicates in `any` are
-// asked too, but their values never count here.
+// `all` starts from `top`, which is 1, and first joins the member that is asked last. `any` is
+// `bottom`, which is 2. The predicates in `any` are asked too, but their values never count here.
+//
+// - `all(a, any(b), c)`: 3 * 1 + 30 = 33, 3 * 33 + 10 = 109, 3 * 109 + 2 = 329
+// - `all(a, b)`: 3 * 1 + 7 = 10, 3 * 10 + 5 = 35
+// - `all(a, b, c)`: 3 * 1 + 9 = 12, 3 * 12 + 7 = 43, 3 * 43 + 5 = 134
 #[test]
 fn the_last_member_is_joined_first(rt: HostRuntime) {
     let alloc = rt.alloc();

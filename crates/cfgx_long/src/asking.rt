@@ -119,8 +119,8 @@ fn audit_matches<M: TargetMatcher>(
     targets.len() == verdicts.len()
 }
 
-// Returns whether `audit` asks each of three targets exactly `count` times, and returns `wanted` for
-// each.
+// Returns whether `audit` asks each of three targets exactly `count` times, and returns `wanted`
+// for each.
 fn audit_is_right<M: TargetMatcher>(
     alloc: Global,
     condition: &Expression,

@@ -5,7 +5,7 @@ use cfgx_testing::checking::push_ok;
 use std::alloc::{AllocError, Global};
 use std::test::Fail;
 
-// Pushes the text, its `not`, and each `all` and `any` of it and one of the texts.
+// Pushes `text`, its `not`, and the `all` and the `any` of `text` and each of `texts`.
 fn push_functions(
     alloc: Global,
     functions: &mut Vec<String>,
@@ -56,7 +56,8 @@ fn answers_of(alloc: Global, number: usize, count: usize) -> Result<Vec<Answer>,
     Ok(answers)
 }
 
-// Returns the value over `bool` if the bits of the number replace the unknown answers.
+// Returns the value over `bool` if each unknown answer is replaced by the bit of `bits` at its
+// index.
 fn eval_filled(
     alloc: Global,
     expression: &Expression,

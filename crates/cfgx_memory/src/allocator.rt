@@ -5,8 +5,8 @@ use cfgx_testing::refusing::Refusing;
 use std::alloc::{AllocError, Allocator, Global};
 use std::mem::forget;
 
-// Pushes 100 bytes to a list that begins with no block and outgrows each that it gets. Returns
-// whether it has them.
+// Pushes 100 bytes to a list that begins with no block and outgrows each block that it gets.
+// Returns whether the list has 100 bytes.
 fn fill_list<A: Allocator>(alloc: A) -> Result<bool, AllocError> {
     let mut bytes = Vec::new(alloc);
     for byte in 0..100u8 {

@@ -105,7 +105,8 @@ const TABLES: &[TableToCheck<'_>] = &[
     ("growths of a reader", reading::READ, 8),
 ];
 
-// Returns whether the row passes the check of `table`, or `None` if there is no such table.
+// Returns whether the row passes the check with the name `table`, or `None` if there is no such
+// check.
 fn row_passes(global: Global, table: &str, row: &[String]) -> Option<bool> {
     match table {
         "each growth of a call on a text" => Some(texts::row_passes(global, row)),

@@ -1,9 +1,9 @@
 //! Calls that take no memory, with every growth refused: each returns its usual result and asks for
 //! no growth.
 //!
-//! Every growth is refused before a check begins. A check that needs memory for the arguments of a
-//! call allows growths while it makes them, as in `parse_with_memory`, or makes them with `global`.
-//! A check takes the allocator twice: as `heap`, to set which growths it refuses, and as `alloc`, to
+//! A check begins with every growth refused. If it needs memory for the arguments of a call, it
+//! allows growths while it makes them, as in `parse_with_memory`, or makes them with `global`. A
+//! check takes the allocator twice: as `heap`, to set which growths it refuses, and as `alloc`, to
 //! make the call.
 mod conditions;
 mod faults;

@@ -77,9 +77,9 @@ fn run_growths(global: Global, words: &[&str], wanted: &WantedRun<'_>) -> Option
     refuse_each_growth(global, Call::Run(words, wanted))
 }
 
-/// Returns whether a run without input takes memory, ends with `status`, and survives refusals:
-/// each growth is refused in turn, and the next run, with memory, has the output of the run before
-/// all of them.
+/// Returns whether a run without input takes memory, ends with `status`, and survives refusals.
+/// Each growth is refused in turn, and a run with memory after it must have the status and the
+/// output of the first run, in which no growth is refused.
 pub(super) fn run_survives(global: Global, words: &[&str], status: u8) -> bool {
     let (ended, _source, sink) = run_over(global, global, words, "");
     let wanted = WantedRun {
@@ -187,8 +187,8 @@ fn blocks_of_table(rows: &[TargetInfo<'_>]) -> u64 {
     blocks
 }
 
-// Returns whether a run takes as many growths as the table of built-in targets has blocks, with
-// each of them refused in turn. The first of `fields` is the output, and the others are the words.
+// Returns whether a run takes as many growths as the table of built-in targets has blocks. Each
+// growth is refused in turn. The first of `fields` is the output, and the others are the words.
 fn takes_table_alone(global: Global, status: u8, fields: &[&str]) -> bool {
     match (fields, TargetTable::builtins(global)) {
         ([output, words @ ..], Ok(table)) => {
@@ -224,7 +224,7 @@ fn pick_survives(global: Global, status: u8, fields: &[&str]) -> bool {
     pick_growths(global, status, fields).unwrap_or(0) > 0
 }
 
-// Returns whether two runs of `pick` take the same number of growths.
+// Returns whether two runs of `pick` take memory, and the same number of growths.
 fn picks_take_same(global: Global, status: u8, fields: &[&str]) -> bool {
     let (one, other) = fields.split_at(fields.len().min(2));
     let growths = pick_growths(global, status, one);

@@ -185,7 +185,7 @@ const CALLS: &str = "parse from_str try_clone eval decide polar_fillings eval_la
     Condition::eval Condition::decide Condition::polar_fillings Condition::eval_lanes \
     decide_on audit pick";
 
-// Returns the number of growths of `parse` of the text, or `None` if a check fails.
+// Returns the number of growths that `parse` takes for `text`, or `None` if a check fails.
 fn parse_growths(global: Global, text: &str, expected: &Parsed) -> Option<u64> {
     refuse_each_growth(global, Call::Text("parse", text, expected))
 }

@@ -157,7 +157,7 @@ fn only_simulator_meets<A: SmallAllocator>(
 // The triples of the rows that are asked.
 const TRIPLES: &[&str; 5] = &[DARWIN, IOS, MACABI, SIM, TVOS];
 
-// Returns whether this is a predicate on targets, and only the row of the simulator meets it.
+// Returns whether `predicate` is about targets, and only the row of the simulator meets it.
 fn is_met_by_simulator<A: SmallAllocator>(
     predicate: Option<Predicate<'_>>,
     rows: &[TargetInfo<'_, A>],
@@ -170,7 +170,7 @@ fn is_met_by_simulator<A: SmallAllocator>(
     is_met
 }
 
-// Returns whether only the row of the simulator meets the first predicate.
+// Returns whether only the row of the simulator meets the first predicate of `expression`.
 fn asks_for_simulator<A: SmallAllocator>(
     expression: &Expression<A>,
     rows: &AllocResult<Vec<TargetInfo<'_, A>, A>>,
@@ -181,7 +181,7 @@ fn asks_for_simulator<A: SmallAllocator>(
     }
 }
 
-// Returns whether `audit` on no target returns no verdict.
+// Returns whether `audit` returns an empty list for an empty list of targets.
 fn audits_no_target<A: SmallAllocator>(alloc: A, expression: &Expression<A>) -> bool {
     let targets: &[Nowhere] = &[];
     matches!(audit(alloc, expression, targets), Ok(verdicts) if verdicts.is_empty())
@@ -221,14 +221,14 @@ const SPELLINGS: &str = "bafeature = \"a feature with a long name\"";
 
 const WIDTH_SPELLING: &str = "target_has_atomic = \"128\"";
 
-// Returns whether this is the expression of `TEXT`.
+// Returns whether `expression` and its condition have the text `TEXT`, and `expression` prints it.
 fn has_text<A: SmallAllocator>(global: Global, expression: &Expression<A>) -> bool {
     expression.original() == TEXT
         && expression.condition().original() == TEXT
         && prints(global, expression, TEXT)
 }
 
-// Returns whether the expression passes the check.
+// Returns whether `expression` passes the check with the name `check`.
 fn expression_passes<A: SmallAllocator>(
     global: Global,
     heap: Heap<'_>,
@@ -254,7 +254,7 @@ fn expression_passes<A: SmallAllocator>(
     }
 }
 
-// Returns whether the text passes the check. Parsing it returned `parsed`.
+// Returns whether `text` passes the check with the name `check`. Parsing it returned `parsed`.
 fn passes<A: SmallAllocator>(
     global: Global,
     heap: Heap<'_>,

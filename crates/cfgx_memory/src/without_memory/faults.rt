@@ -38,7 +38,8 @@ fn next_is<A: Allocator>(
     is_token(&lexer.next(), token, &span) & (lexer.items_left_bound() == bound)
 }
 
-// Returns whether this is the lexer of `cfg(key = "v" 8)`, and returns its first items.
+// Returns whether `lexer` has the text `key = "v" 8`, and its first items are the tokens before
+// `8`.
 fn returns_items<A: Allocator>(lexer: &mut Lexer<'_, A>) -> bool {
     lexer.original() == "key = \"v\" 8"
         && lexer.items_left_bound() == 11
@@ -47,7 +48,7 @@ fn returns_items<A: Allocator>(lexer: &mut Lexer<'_, A>) -> bool {
         && next_is(lexer, Token::Value("v"), 6..9, 2)
 }
 
-/// Returns whether a lexer returns the first items of its text.
+/// Returns whether a lexer of `cfg(key = "v" 8)` returns the tokens before `8`.
 pub(super) fn lexes<A: Allocator>(alloc: A) -> bool {
     let mut lexer = Lexer::new(alloc, "cfg(key = \"v\" 8)");
     returns_items(&mut lexer)
@@ -83,7 +84,7 @@ fn are_equal_faults<A: Allocator>(one: &Failure<A>, other: &Failure<A>) -> bool 
     }
 }
 
-// Returns whether the failure equals that of the text.
+// Returns whether `failure` and the failure of `text` are faults, and equal.
 fn equals_failure_of<A: SmallAllocator>(
     heap: Heap<'_>,
     alloc: A,
@@ -99,8 +100,8 @@ fn equals_failure_of<A: SmallAllocator>(
 /// A text, the description of its fault, and what the fault prints.
 type Row<'a> = (&'a str, &'a str, &'a str);
 
-// Returns whether the text of the row has the fault of the row, which equals that of the same text,
-// and not that of another one. Parsing the text returned `parsed`.
+// Returns whether the text of the row has the fault of the row. The fault must equal that of the
+// same text, and differ from that of another text. Parsing the text returned `parsed`.
 fn passes<A: SmallAllocator>(
     global: Global,
     heap: Heap<'_>,
@@ -145,7 +146,7 @@ fn read_width_with_memory<A: SmallAllocator>(heap: Heap<'_>, alloc: A, text: &st
     width
 }
 
-/// Returns whether the error of a text that is no width prints the right text.
+/// Returns whether the error of `PTR`, which is no width, prints `PRINTED_ERROR`.
 pub(super) fn prints_width_error<A: SmallAllocator>(
     global: Global,
     heap: Heap<'_>,
@@ -157,7 +158,7 @@ pub(super) fn prints_width_error<A: SmallAllocator>(
     }
 }
 
-// Returns whether both are errors of texts, and equal.
+// Returns whether `one` and `other` are errors of texts, and equal.
 fn are_equal_errors<A: SmallAllocator>(one: &Width<A>, other: &Width<A>) -> bool {
     match (one, other) {
         (Err(HasAtomicFailure::Parse(error)), Err(HasAtomicFailure::Parse(other_error))) => {
@@ -167,7 +168,7 @@ fn are_equal_errors<A: SmallAllocator>(one: &Width<A>, other: &Width<A>) -> bool
     }
 }
 
-/// Returns whether errors of texts that are no widths are equal if the texts are.
+/// Returns whether errors of texts that are no widths are equal exactly if the texts are.
 pub(super) fn compares_width_errors<A: SmallAllocator>(heap: Heap<'_>, alloc: A) -> bool {
     let one = read_width_with_memory(heap, alloc, "PTR");
     let same = read_width_with_memory(heap, alloc, "PTR");

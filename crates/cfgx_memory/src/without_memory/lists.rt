@@ -13,7 +13,7 @@ use std::alloc::Global;
 
 const POINTER: &[HasAtomic] = &[HasAtomic::Pointer];
 
-// Returns whether this is the list of `SORTED`.
+// Returns whether `list` was made and is the list of `SORTED`.
 fn is_sorted_list<A: SmallAllocator>(global: Global, list: &AllocResult<HasAtomics<A>>) -> bool {
     match list {
         Ok(list) => {
@@ -28,7 +28,7 @@ fn is_sorted_list<A: SmallAllocator>(global: Global, list: &AllocResult<HasAtomi
     }
 }
 
-// Returns whether a list of widths is made right.
+// Returns whether a list that is made of `SORTED` has these widths.
 fn makes_widths<A: SmallAllocator>(global: Global, heap: Heap<'_>, alloc: A) -> bool {
     heap.refuse(0);
     let list = list_of(alloc, SORTED);
@@ -46,7 +46,7 @@ fn compares_widths<A: SmallAllocator>(heap: Heap<'_>, alloc: A) -> bool {
     is_made_and_ordered(&list, &same, &above)
 }
 
-// Returns whether the list contains the family with the name `name`.
+// Returns whether the list contains the family with the name `name`: `unix`, `wasm` or `windows`.
 fn contains_named<A: SmallAllocator>(list: &Families<'_, A>, name: &str) -> bool {
     let family: Family<'_> = match name {
         "unix" => Family::unix(),
@@ -64,7 +64,7 @@ fn equals_copy_of_borrowed<A: SmallAllocator>(alloc: A, list: &Families<'_, A>) 
     is_ok_true(value_equals(borrowed.try_clone(alloc), &borrowed))
 }
 
-// Returns whether this is the list of `unix` and `wasm`.
+// Returns whether `list` was made and is the list of `unix` and `wasm`.
 fn is_unix_wasm<A: SmallAllocator>(
     global: Global,
     alloc: A,
@@ -83,7 +83,7 @@ fn is_unix_wasm<A: SmallAllocator>(
     }
 }
 
-// Returns whether a list of families is made right.
+// Returns whether the list that `unix_wasm` makes has these families.
 fn makes_families<A: SmallAllocator>(global: Global, heap: Heap<'_>, alloc: A) -> bool {
     heap.refuse(0);
     let list = Families::unix_wasm(alloc);
@@ -145,7 +145,12 @@ borrowed list of no families
 "#;
 
 /// Returns whether the check with the name `check` passes, with every growth refused.
-pub(super) fn passes<A: SmallAllocator>(global: Global, heap: Heap<'_>, alloc: A, check: &str) -> bool {
+pub(super) fn passes<A: SmallAllocator>(
+    global: Global,
+    heap: Heap<'_>,
+    alloc: A,
+    check: &str,
+) -> bool {
     match check {
         "rising families" => are_sorted([Family::unix(), Family::wasm()]),
         "falling families" => !are_sorted([Family::wasm(), Family::unix()]),

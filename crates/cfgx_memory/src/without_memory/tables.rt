@@ -65,7 +65,7 @@ fn are_ordered_rows<A: SmallAllocator>(rows: &[TargetInfo<'_, A>]) -> bool {
 }
 
 // Makes a table of the rows with the three triples. Returns whether it is refused at `index`, or
-// made if `index` is `None`, and whether `are_ordered_rows` returns `are_ordered` for the rows.
+// made if `index` is `None`, and `are_ordered_rows` returns `are_ordered` for the rows.
 fn table_is<A: SmallAllocator>(
     heap: Heap<'_>,
     alloc: A,
@@ -109,7 +109,7 @@ fn finds_builtin_rows<A: SmallAllocator>(heap: Heap<'_>, alloc: A) -> bool {
     finds_rows(&table)
 }
 
-// Returns whether `pick` of no sections returns no verdict.
+// Returns whether `pick` returns an empty list for an empty list of sections.
 fn picks_of_no_sections<A: SmallAllocator>(alloc: A) -> bool {
     let sections: Vec<Section<A>, A> = Vec::new(alloc);
     matches!(pick(alloc, sections.as_slice(), &Nowhere), Ok(verdicts) if verdicts.is_empty())

@@ -75,7 +75,7 @@ fn prints_widths(global: Global) -> bool {
     prints(global, &EIGHT, "8") && prints(global, &HasAtomic::Pointer, "ptr")
 }
 
-// Returns whether reasons are equal if they are the same, and print their message.
+// Returns whether reasons are equal exactly if they are the same, and a reason prints its message.
 fn compares_reasons(global: Global) -> bool {
     let reason = Reason::InvalidNot(2);
     reason == Reason::InvalidNot(2)
@@ -85,7 +85,7 @@ fn compares_reasons(global: Global) -> bool {
         && prints(global, &reason, "not() takes 1 predicate, found 2")
 }
 
-// Returns whether tokens are equal if they are the same, and print their variant.
+// Returns whether tokens are equal exactly if they are the same, and a token prints its variant.
 fn compares_tokens(global: Global) -> bool {
     Token::Key("a") == Token::Key("a")
         && Token::Key("a") != Token::Value("a")
@@ -93,7 +93,7 @@ fn compares_tokens(global: Global) -> bool {
         && prints(global, &Token::OpenParen, "OpenParen")
 }
 
-// Returns whether predicates are equal if they have the same kind and the same text.
+// Returns whether predicates are equal exactly if they have the same kind and the same text.
 fn compares_predicates<A: SmallAllocator>() -> bool {
     let abi = TargetPredicate::<A>::Abi(Abi::sim());
     let same = TargetPredicate::Abi(Abi::new_const("sim"));
@@ -141,7 +141,7 @@ logic option
 logic lanes
 "#;
 
-// Returns whether the check with the name `check` passes. It takes no memory at all.
+// Returns whether the check with the name `check` passes. The check never allows a growth.
 fn passes_alone<A: SmallAllocator>(global: Global, alloc: A, check: &str) -> bool {
     match check {
         "order of functions" => are_increasing(&FUNCTIONS),
@@ -164,7 +164,12 @@ fn passes_alone<A: SmallAllocator>(global: Global, alloc: A, check: &str) -> boo
 
 /// Returns whether the check with the name `check` passes, with every growth refused. Errors are
 /// made with memory.
-pub(super) fn passes<A: SmallAllocator>(global: Global, heap: Heap<'_>, alloc: A, check: &str) -> bool {
+pub(super) fn passes<A: SmallAllocator>(
+    global: Global,
+    heap: Heap<'_>,
+    alloc: A,
+    check: &str,
+) -> bool {
     match check.split_once(' ') {
         Some(("named", name)) => named_values_are_right::<A>(name),
         Some(("logic", name)) => logic_is_right(name),

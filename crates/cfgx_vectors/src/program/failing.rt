@@ -52,7 +52,7 @@ fn ended_text(
     format!(in alloc; "{status} | {written} | {writes} {flushes} | with a wrong call of a stream")
 }
 
-// Compares a run with the row, whose settings apply to the sink.
+// Compares a run of `words` over `input` with `ended`. The settings apply to the sink.
 fn compare_ended(
     alloc: Global,
     settings: &str,
@@ -72,7 +72,7 @@ fn compare_ended(
     }
 }
 
-/// Compares a run with the words of the row with the row.
+/// Compares a run of the words of the row with what the row says.
 pub(super) fn finding(alloc: Global, row: &[String]) -> Option<Finding> {
     let [settings, status, written, calls, input, words @ ..] = row else {
         return None;

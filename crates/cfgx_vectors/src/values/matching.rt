@@ -1,6 +1,6 @@
 //! Compares the values of conditions on targets with digits. The values are found by `eval`, in
-//! lanes, and by `pick`. The digit `1` is true, `0` is false, and `?`, which counts as a digit here,
-//! is unknown.
+//! lanes, and by `pick`. The digit `1` is true, `0` is false, and `?`, which counts as a digit
+//! here, is unknown.
 use cfg_expr::error::Failure;
 use cfg_expr::expr::logic::Kleene64;
 use cfg_expr::expr::{Predicates, TargetMatcher};
@@ -216,8 +216,8 @@ fn rows_by_hand(alloc: Global) -> Result<Vec<TargetInfo<'static>>, AllocError> {
     pushed.and(Ok(rows))
 }
 
-/// Compares `digits` with the values of `text` on the targets that are made by hand. Predicates that
-/// are not about targets are true.
+/// Compares `digits` with the values of `text` on the targets that are made by hand. Predicates
+/// that are not about targets are true.
 pub(super) fn finding_on_hand_made(alloc: Global, text: &str, digits: &str) -> Finding {
     match rows_by_hand(alloc) {
         Ok(rows) => {
