@@ -52,7 +52,8 @@ use targets::value_on;
 use unknown::outside_tests;
 
 /// A row names an example, or a target for the example with targets. The next fields are a text,
-/// and what the returned value prints: for `rows` the lanes as digits, and for `logic` the cost.
+/// and what the returned value prints. For `rows` the last field has the lanes as digits, and for
+/// `logic` the cost.
 pub const ANSWERS: &str = r#"
 // Names, tokens and features.
 names | linux | true

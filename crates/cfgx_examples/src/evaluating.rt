@@ -173,7 +173,7 @@ fn terms_are(
     Ok(count_is_right && names_are_right && term.as_bytes() == numbered.as_bytes())
 }
 
-/// Returns whether the text of `row` has its value if the flags of `row` are true.
+/// Returns whether the text of `row` has the value of `row` if the flags of `row` are true.
 pub fn value_is_right(alloc: Global, row: &[String]) -> bool {
     let [text, flags, value] = row else {
         return false;
@@ -187,7 +187,8 @@ pub fn value_is_right(alloc: Global, row: &[String]) -> bool {
     }
 }
 
-/// Returns whether the text of `row` asks its number of questions and has its terms.
+/// Returns whether the text of `row` asks as many questions as `row` says, and has the terms of
+/// `row`.
 pub fn terms_are_right(alloc: Global, row: &[String]) -> bool {
     let [text, questions, named, numbered] = row else {
         return false;

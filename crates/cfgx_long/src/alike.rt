@@ -7,8 +7,8 @@ use cfgx_testing::answers::{
 use cfgx_testing::checking::is_ok_true;
 use std::alloc::{AllocError, Global};
 
-/// A text, the number of its predicates, and its values if all answers are true, false, and
-/// unknown.
+/// A text, the number of its predicates, and three digits: its value if all answers are true, if
+/// all are false, and if all are unknown.
 pub(crate) const ALIKE: &str = r#"
 all() | 0 | 111
 any() | 0 | 000
@@ -108,7 +108,8 @@ fn lanes_are(
     Ok(both_find_lanes(alloc, expression, digits, answers.as_slice()))
 }
 
-// Returns whether the values are those of the digits, if all answers are true, false, and unknown.
+// Returns whether the three digits are the values if all answers are true, if all are false, and if
+// all are unknown.
 fn values_are(alloc: Global, expression: &Expression, digits: &[u8], count: usize) -> bool {
     for (digit, answer) in digits.iter().zip([Some(true), Some(false), None]) {
         if !is_ok_true(value_is(alloc, expression, answer, *digit, count)) {

@@ -120,8 +120,8 @@ pub(super) fn ends_at_each_write(
     true
 }
 
-// Returns whether a run ends with status 3 if read number `failing` fails, reads no more, and makes
-// no call of its sink, whose calls would fail too.
+// Returns whether a run in which read number `failing` fails ends with status 3, leaves `left`
+// unread, reads no more, and makes no call of its sink. Such a call would fail too.
 fn ends_at_read(alloc: Global, input: &[u8], failing: u64, left: &[u8]) -> bool {
     let mut source = Pieces::new(input, 3, failing);
     let mut sink = Recorder::new(alloc);
