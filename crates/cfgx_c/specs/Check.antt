@@ -49,7 +49,8 @@ term_lists =
 
 -- the number of a list of terms, and 0 for every other list
 abbrev pub list_number : List (List ℕ) → ℕ
-list_number terms = option_map_or (λ place. place + 1) 0 (position (texts_eq terms) term_lists)
+list_number terms = option_map_or (λ place. place + 1)
+    (position (texts_eq terms) term_lists) 0
 
 -- the number of the list of terms of `Unexpected`, and 0 for every other reason
 abbrev pub terms_number : Cause → ℕ
