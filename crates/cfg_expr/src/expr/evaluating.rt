@@ -88,7 +88,7 @@ pub(crate) enum Connective {
 
 impl Connective {
     /// Returns the value of a function without members.
-    fn identity<T: Logic>(self) -> T
+    pub(super) fn identity<T: Logic>(self) -> T
         ensures { result ≡ identity_of T.Logic self }
     {
         match self {
@@ -98,7 +98,7 @@ impl Connective {
     }
 
     /// Joins the value of `member` to `value`.
-    fn join<T: Logic>(self, value: T, member: T) -> T
+    pub(super) fn join<T: Logic>(self, value: T, member: T) -> T
         ensures { result ≡ join_of T.Logic self value member }
     {
         match self {
@@ -134,7 +134,7 @@ impl Connective {
 }
 
 /// Returns the value of a literal.
-fn literal_value<T: Logic>(truth: bool) -> T
+pub(super) fn literal_value<T: Logic>(truth: bool) -> T
     ensures { result ≡ literal_value T.Logic truth }
 {
     if truth { T::top() } else { T::bottom() }
