@@ -4,7 +4,8 @@
 use crate::auditing::AUDITED;
 use crate::calling::ANSWERS;
 use crate::evaluating::{BY_FLAGS, TERMS};
-use crate::{auditing, calling, evaluating};
+use crate::facts::{ANSWERED, READ};
+use crate::{auditing, calling, evaluating, facts};
 use cfgx_testing::rows::{Finding, TableToCheck, check_tables};
 use std::alloc::Global;
 
@@ -14,6 +15,8 @@ const TABLES: &[TableToCheck<'static>] = &[
     ("verdicts on many targets", AUDITED, 6),
     ("values with flags", BY_FLAGS, 5),
     ("terms and questions", TERMS, 12),
+    ("facts that are read", READ, 31),
+    ("answers of facts", ANSWERED, 13),
 ];
 
 // Returns whether the row passes the check, or `None` if no check has this name.
@@ -23,6 +26,8 @@ fn row_is_right(alloc: Global, check: &str, row: &[String]) -> Option<bool> {
         "verdicts on many targets" => Some(auditing::row_is_right(alloc, row)),
         "values with flags" => Some(evaluating::value_is_right(alloc, row)),
         "terms and questions" => Some(evaluating::terms_are_right(alloc, row)),
+        "facts that are read" => Some(facts::outcome_is_right(alloc, row)),
+        "answers of facts" => Some(facts::answers_are_right(alloc, row)),
         _ => None,
     }
 }
