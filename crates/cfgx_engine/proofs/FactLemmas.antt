@@ -1,27 +1,28 @@
 -- Facts that are read one after another, and what they answer.
-use Rattle.std.proofs.Common.{◌≡◌, ◌≢◌, ◌↔◌, ◌⊎◌, inl, inr, ⊎_elim, ℕ, Bool, List, [], ◌∷◌, ◌++◌}
+use Rattle.std.proofs.Common.{◌≡◌, ◌≢◌, ◌↔◌, ◌⊎◌, inl, inr, ⊎_elim, ℕ, Bool, true, false, List, [], ◌∷◌, ◌++◌}
 use Rattle.std.proofs.Common.{Option, Some, None, Ok, Err, codes, map, refl, ap, ◌<◌, ◌+◌, zero}
 use Rattle.std.proofs.Common.{suc, Bor, bytes_eq, length, get_or, take, append-nil, arith}
-use Rattle.std.{proofs.lemmas.Bool.false_from_ne_true, specs.List.AllByRecursion, specs.List.Any}
+use Rattle.std.{proofs.lemmas.Bool.false_from_ne_true, specs.List.AllByRecursion, specs.List.filter_map}
 use Rattle.std.proofs.{lemmas.List.map-append, lemmas.List.take_more, lemmas.List.take-map}
 use Rattle.std.proofs.lemmas.Option.{IfSome_then, slice_get-get_or, slice_get-map}
 use Rattle.std.proofs.lemmas.List.Elements.{All-from_recursion, All-push, filter_map-append}
 use Rattle.std.proofs.lemmas.List.Elements.{Contains-append_cases, Contains-append_left}
 use Rattle.std.proofs.lemmas.List.Elements.{Contains-append_right, recursion_from_All}
 use Rattle.std.proofs.lemmas.Slice.Eq.{bytes_eq-Decides}
-use Rattle.cfgx_syntax.specs.{Stripping.strip, Error.TextFault, Error.failure_of}
+use Rattle.cfgx_syntax.specs.{Stripping.strip, Error.Fault, Error.TextFault}
+use Rattle.cfgx_syntax.specs.Error.{failure_of}
 use Rattle.cfgx_syntax.specs.declared.error.Failure.{Failure}
 use Rattle.cfgx_syntax.specs.declared.error.Failure.TheVariants as failure
-use Rattle.cfgx_grammar.specs.{Question.Question, Tree.Tree, Answer.HasOneTree}
+use Rattle.cfgx_grammar.specs.{Question.Question, Tree.Tree, Answer.HasOneTree, Answer.ReadsAs}
 use Rattle.cfgx_grammar.proofs.Answering.{not_both}
 use Rattle.cfgx_engine.specs.Facts.{AreFacts, FactTexts, IsAnswer, IsFirstFaulty, IsFlag, IsNamed}
 use Rattle.cfgx_engine.specs.Facts.{NameAlike, Names, ReadsFacts, fact_text, texts_of}
-use Rattle.cfgx_engine.specs.Facts.{unknown_text}
+use Rattle.cfgx_engine.specs.Facts.{true_text, unknown_text}
 use Rattle.cfgx_engine.specs.declared.resolve.facts.Otherwise.{Otherwise}
 use Rattle.cfgx_engine.specs.declared.resolve.facts.Unaskable.{Unaskable}
 use Rattle.cfgx_engine.specs.declared.resolve.facts.Unaskable.TheVariants as unaskable
 use Rattle.cfgx_engine.specs.internal.ReadsFacts.{AddsFact, PushesText, accepts, error_at, joined}
-use Rattle.cfgx_engine.specs.internal.{ReadsFacts.passes_over, Shows.Fails}
+use Rattle.cfgx_engine.specs.internal.{ReadsFacts.NamesNothing, ReadsFacts.passes_over, Shows.Fails}
 use Rattle.cfgx_engine.specs.{Request.texts, Readings.GivesAll, Readings.ParsesAs}
 use Rattle.cfgx_engine.proofs.ReadingLemmas.{first_fails, later_fails}
 
@@ -61,16 +62,21 @@ IsNamed-alike xs us ys vs question alike more =
       λ named. more.1 (here.1 (⊎_elim (λ left. inl (alike.1 left)) inr (there.0 named))),
     )
 
--- the texts of one fact more
+-- the texts of one fact more, of either kind
+texts-append : (of : List ℕ → Option (List ℕ)) (facts : List (List ℕ)) (fact : List ℕ)
+    → map strip (filter_map of (facts ++ fact ∷ []))
+    ≡ map strip (filter_map of facts) ++ map strip (filter_map of (fact ∷ []))
+texts-append of facts fact = rw (filter_map-append, map-append) refl
+
 texts_of-more : (facts : List (List ℕ)) (fact : List ℕ) (old new : FactTexts)
     → NameAlike old (texts_of facts) → NameAlike new (joined old (texts_of (fact ∷ [])))
     → NameAlike new (texts_of (facts ++ fact ∷ []))
-texts_of-more facts fact old new alike more = rw (filter_map-append, map-append) (record {
-  true_alike = λ question. IsNamed-alike _ _ _ _ question (alike.true_alike question)
-      (more.true_alike question);
-  unknown_alike = λ question. IsNamed-alike _ _ _ _ question (alike.unknown_alike question)
-      (more.unknown_alike question);
-})
+texts_of-more facts fact old new alike more = record {
+  true_alike = λ question. rw (texts-append true_text facts fact) (IsNamed-alike _ _ _ _ question
+      (alike.true_alike question) (more.true_alike question));
+  unknown_alike = λ question. rw (texts-append unknown_text facts fact) (IsNamed-alike _ _ _ _
+      question (alike.unknown_alike question) (more.unknown_alike question));
+}
 
 -- The texts of a fact that is added.
 
@@ -135,6 +141,16 @@ AddsFact-true passed fact old new unmarked pushes = record {
   };
 }
 
+-- a text with a fault asks nothing
+pub NamesNothing-fault : (text : List ℕ) (fault : Fault) → ReadsAs text (Err fault)
+    → NamesNothing text
+NamesNothing-fault text fault reads question names =
+    absurd (cc (reads.only (Ok names.0) names.1))
+
+-- what is true is not false
+pub true_and_false : (b : Bool) → b ≡ true → b ≡ false → ⊥
+true_and_false b is not = absurd cc
+
 -- a fact is not accepted if its text has a fault and is not passed over
 refuses : (passed : Unaskable) (fact : List ℕ) (fault : TextFault)
     → ParsesAs (fact_text fact) (Err fault) → ¬ passes_over passed (strip (fact_text fact))
@@ -148,8 +164,8 @@ pub Fails-refused : {A : Type 0} (passed : Unaskable) (fact text : List ℕ) (fa
     → Fails {A = A} (λ fault. ParsesAs text (Err fault) × ¬ passes_over passed (strip text)) failed
     → Fails {A = A} (λ fault. ParsesAs (fact_text fact) (Err fault) × ¬ accepts passed fact) failed
 Fails-refused {A} passed fact text failed is fails = IfSome_then (failure_of {A = A} failed) fails
-    (λ fault both. let parses = rw ← is at both.0 in
-    (parses, refuses passed fact fault parses (rw ← is at both.1)))
+    (λ fault both. let parses = rw (← is) at both.0 in
+    (parses, refuses passed fact fault parses (rw (← is) at both.1)))
 
 -- what texts answer, others that name the same answer too
 pub IsAnswer-alike : (one other : FactTexts) (otherwise : Otherwise) (question : Question)

@@ -3,7 +3,8 @@ use Rattle.std.proofs.Common.{◌≡◌, ◌⊎◌, inl, inr, ⊎_elim, ℕ, ◌
 use Rattle.std.proofs.Common.{map, refl, sym, ap, ◌∙◌, Option, Some, None, Result, Ok, Err, take}
 use Rattle.std.proofs.Common.{arith, rules}
 use Rattle.std.specs.{List.AllByRecursion, Option.option_or}
-use Rattle.cfgx_syntax.specs.{Error.Cause, Error.Fault, Token.Token}
+use Rattle.cfgx_syntax.specs.{Error.Cause, Error.Fault, Error.TextFault, Error.fault_in}
+use Rattle.cfgx_syntax.specs.Token.{Token}
 use Rattle.cfgx_syntax.specs.Items.{AreItems, Ending, HasOneTokenList, Item, ItemsFrom, lexical}
 use Rattle.cfgx_syntax.specs.{Lexer.GivesNext, Lexer.item_of, LexerState.LexerState}
 use Rattle.cfgx_syntax.specs.LexerState.{starting}
@@ -125,8 +126,8 @@ module _ (text : List ℕ) (place : ℕ) (first second third fourth : Next)
         value = None;
         items = x ∷ [];
         are_items = rw blank at are;
-        spelled = rw token_is refl;
-      }, rw start_is refl)
+        spelled = ap (λ token. token ∷ []) token_is;
+      }, ap (λ start. start ∷ []) start_is)
   bare_key (x ∷ y ∷ items) ending are finds is ends =
       let found = takes_2 (y ∷ items) ending finds.1 in
       absurd (no_end_kind y.token y.start (sym found.0 ∙ ends))
@@ -153,8 +154,8 @@ module _ (text : List ℕ) (place : ℕ) (first second third fourth : Next)
         value = Some inside;
         items = x ∷ y ∷ z ∷ [];
         are_items = rw blank at are;
-        spelled = rw (token_is, equals_is, value_is) refl;
-      }, rw start_is refl)
+        spelled = cc (token_is, equals_is, value_is);
+      }, ap (λ start. start ∷ []) start_is)
   key_with_value (x ∷ y ∷ z ∷ w ∷ items) ending are finds is equals has ends =
       let found = takes_2 (y ∷ z ∷ w ∷ items) ending finds.1 in
       let value = takes_3 (z ∷ w ∷ items) ending found.1 in
@@ -179,14 +180,14 @@ module _ (text : List ℕ) (place : ℕ) (first second third fourth : Next)
       let (start, end, is) = one_item items key spelled in
       let finds = takes _ Ending.blank (rw begins (rw is at are)) in
       let same : start ≡ place = grind (arith, starts, is) in
-      (rw ← same finds.0, inl (takes_2 [] Ending.blank finds.1))
+      (rw (← same) finds.0, inl (takes_2 [] Ending.blank finds.1))
   found_by key (Some value) items are spelled starts =
       let (start, end, from, to, begin, stop, is) = three_items items key value spelled in
       let finds = takes _ Ending.blank (rw begins (rw is at are)) in
       let found = takes_2 _ Ending.blank finds.1 in
       let last = takes_3 _ Ending.blank found.1 in
       let same : start ≡ place = grind (arith, starts, is) in
-      (rw ← same finds.0, inr (found.0, last.0, takes_4 [] Ending.blank last.1))
+      (rw (← same) finds.0, inr (found.0, last.0, takes_4 [] Ending.blank last.1))
 
   -- and only then
   pub found-IsKeyAt : IsKeyAt text place
@@ -274,7 +275,7 @@ fault_of_leaf text fault key None items are spelled shown =
     record {
       start = start;
       later = start;
-      starts = rw is refl;
+      starts = ap (λ items. map (λ item. item.start) (take 1 items)) is;
       is_of = bare_fault_is (class key None) key start end fault (spares_value key) shown';
     }
 fault_of_leaf text fault key (Some value) items are spelled shown =
@@ -284,7 +285,7 @@ fault_of_leaf text fault key (Some value) items are spelled shown =
     record {
       start = start;
       later = begin + 1;
-      starts = rw is refl;
+      starts = ap (λ items. map (λ item. item.start) (take 1 items)) is;
       is_of = fault_is (class key (Some value)) key value start end (begin + 1) (stop - 1) fault
           (omega (arith, order.0.ordered, order.1.0.comes_after, order.1.0.ordered,
           order.1.1.0.comes_after)) shown';
@@ -307,17 +308,23 @@ leaf_fault text fault leaf has =
     fault_of_leaf text fault leaf.key leaf.value leaf.items leaf.are_items leaf.spelled
     (rw (same.0, same.1) at has.shown)
 
--- a text is not askable if its fault starts where the key does
-pub IsUnaskable-at : (text : List ℕ) (fault : Fault) → HasFault text fault
-    → IsKeyAt text fault.start → IsUnaskable text
-IsUnaskable-at text fault has (leaf, starts) =
+-- no condition can ask a text whose fault starts where its key does
+pub IsUnaskable-at : (text : List ℕ) (fault : Fault) (shown : TextFault)
+    → shown ≡ fault_in text fault → HasFault text fault → IsKeyAt text shown.start
+    → IsUnaskable text
+IsUnaskable-at text fault shown is has (leaf, starts) =
     let found = leaf_fault text fault leaf has in
-    let same : found.start ≡ fault.start = grind (arith, found.starts, starts) in
-    (leaf, key_at_fault (class leaf.key leaf.value) found.start found.later fault same found.is_of)
+    let here = ap (λ (f : TextFault). f.start) is in
+    let same : found.start ≡ fault.start = grind (arith, found.starts, starts, here) in
+    let at_key = key_at_fault (class leaf.key leaf.value) found.start found.later fault same
+    found.is_of in (leaf, at_key.0, at_key.1)
 
--- and the fault of a text that is not askable starts where the key does
-pub IsKeyAt-unaskable : (text : List ℕ) (fault : Fault) → HasFault text fault → IsUnaskable text
-    → IsKeyAt text fault.start
-IsKeyAt-unaskable text fault has (leaf, cause, is) =
+-- and the fault of a text that no condition can ask starts there
+pub IsKeyAt-unaskable : (text : List ℕ) (fault : Fault) (shown : TextFault)
+    → shown ≡ fault_in text fault → HasFault text fault → IsUnaskable text
+    → IsKeyAt text shown.start
+IsKeyAt-unaskable text fault shown is has (leaf, cause, says) =
     let found = leaf_fault text fault leaf has in
-    let here : fault.start ≡ found.start = rw is at found.is_of in (leaf, rw here found.starts)
+    let at_key : fault.start ≡ found.start = rw says at found.is_of in
+    let here : found.start ≡ shown.start = cc (at_key, is) in
+    (leaf, found.starts ∙ ap (λ start. start ∷ []) here)

@@ -11,7 +11,7 @@ returns-in-Some-clause-ok g c =
     let word = c.args.word.now in
     let marked = strip_prefix_char 63 word (Some c.in-Some.text) c.in-Some.ensures.cases
     (omega arith) in
-    on_ok_weaker c.push_fact.result (λ pushes. rw ← c.self.view_is
+    on_ok_weaker c.push_fact.result (λ pushes. rw (← c.self.view_is)
     (AddsFact-unknown c.args.unaskable word c.in-Some.text.now _ _ (rw marked refl) pushes))
     c.push_fact.ensures.ok
 
@@ -28,7 +28,7 @@ returns-in-None-clause-ok g c =
     let word = c.args.word.now in
     let unmarked = unknown_text-unmarked word
     (strip_prefix_char 63 word None c.in-None.ensures.cases (omega arith)) in
-    on_ok_weaker c.push_fact-in-None.result (λ pushes. rw ← c.self.view_is
+    on_ok_weaker c.push_fact-in-None.result (λ pushes. rw (← c.self.view_is)
     (AddsFact-true c.args.unaskable word _ _ unmarked pushes)) c.push_fact-in-None.ensures.ok
 
 pub returns-in-None-clause-err : goal.returns-in-None-clause-err
