@@ -178,14 +178,18 @@ module _ (text : List ℕ) (place : ℕ) (first second third fourth : Next)
       → (first ≡ next.Key place) × AreLast second third fourth
   found_by key None items are spelled starts =
       let (start, end, is) = one_item items key spelled in
-      let finds = takes _ Ending.blank (rw begins (rw is at are)) in
+      let finds = takes (item_at (Token.key key) start end ∷ []) Ending.blank
+          (rw begins (rw is at are)) in
       let same : start ≡ place = grind (arith, starts, is) in
       (rw (← same) finds.0, inl (takes_2 [] Ending.blank finds.1))
   found_by key (Some value) items are spelled starts =
       let (start, end, from, to, begin, stop, is) = three_items items key value spelled in
-      let finds = takes _ Ending.blank (rw begins (rw is at are)) in
-      let found = takes_2 _ Ending.blank finds.1 in
-      let last = takes_3 _ Ending.blank found.1 in
+      let equals = item_at Token.equals from to in
+      let last_one = item_at (Token.value value) begin stop in
+      let finds = takes (item_at (Token.key key) start end ∷ equals ∷ last_one ∷ []) Ending.blank
+          (rw begins (rw is at are)) in
+      let found = takes_2 (equals ∷ last_one ∷ []) Ending.blank finds.1 in
+      let last = takes_3 (last_one ∷ []) Ending.blank found.1 in
       let same : start ≡ place = grind (arith, starts, is) in
       (rw (← same) finds.0, inr (found.0, last.0, takes_4 [] Ending.blank last.1))
 
