@@ -1,4 +1,4 @@
-pub mod Flags
+pub mod Facts
 pub mod Input
 pub mod Output
 pub mod Prints

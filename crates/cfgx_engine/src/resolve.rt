@@ -10,10 +10,12 @@ ghost use Rattle.cfgx_parser.specs.Predicate.{question_of};
 ghost use Rattle.cfgx_engine.specs.Verdicts.{answer_by, IsVerdict, verdict_of};
 
 mod auditing;
+mod facts;
 
 use cfg_expr::expr::{Condition, Predicates, TargetMatcher};
 use cfg_expr::memory::SmallAllocator;
 use cfg_expr::{Decision, Expression, Predicate};
+pub use facts::{Facts, FactsError, Otherwise};
 use std::alloc::{AllocError, Global};
 
 /// A section of a manifest, which counts if its condition is true.

@@ -5,7 +5,8 @@ use crate::auditing::AUDITED;
 use crate::calling::ANSWERS;
 use crate::evaluating::steps::{STEPS, VALUES_OF_STEPS};
 use crate::evaluating::{BY_FLAGS, TERMS};
-use crate::{auditing, calling, evaluating};
+use crate::facts::{ANSWERED, READ};
+use crate::{auditing, calling, evaluating, facts};
 use cfgx_testing::rows::{Finding, TableToCheck, check_tables};
 use std::alloc::Global;
 
@@ -17,6 +18,8 @@ const TABLES: &[TableToCheck<'static>] = &[
     ("terms and questions", TERMS, 12),
     ("steps and their values", STEPS, 9),
     ("values of steps", VALUES_OF_STEPS, 20),
+    ("facts that are read", READ, 31),
+    ("answers of facts", ANSWERED, 13),
 ];
 
 // Returns whether the row passes the check, or `None` if no check has this name.
@@ -28,6 +31,8 @@ fn row_is_right(alloc: Global, check: &str, row: &[String]) -> Option<bool> {
         "terms and questions" => Some(evaluating::terms_are_right(alloc, row)),
         "steps and their values" => Some(evaluating::steps::steps_are_right(alloc, row)),
         "values of steps" => Some(evaluating::steps::value_is_right(alloc, row)),
+        "facts that are read" => Some(facts::outcome_is_right(alloc, row)),
+        "answers of facts" => Some(facts::answers_are_right(alloc, row)),
         _ => None,
     }
 }

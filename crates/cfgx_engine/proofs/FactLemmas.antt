@@ -1,0 +1,248 @@
+-- Facts that are read one after another, and what they answer.
+use Rattle.std.proofs.Common.{◌≡◌, ◌≢◌, ◌↔◌, ◌⊎◌, inl, inr, ⊎_elim, ℕ, Bool, true, false, List, [], ◌∷◌, ◌++◌}
+use Rattle.std.proofs.Common.{Option, Some, None, Ok, Err, codes, map, refl, ap, ◌<◌, ◌+◌, zero}
+use Rattle.std.proofs.Common.{suc, Bor, bytes_eq, length, get_or, take, append-nil, arith}
+use Rattle.std.{proofs.lemmas.Bool.false_from_ne_true, specs.List.AllByRecursion, specs.List.filter_map}
+use Rattle.std.proofs.{lemmas.List.map-append, lemmas.List.take_more, lemmas.List.take-map}
+use Rattle.std.proofs.lemmas.Option.{IfSome_then, slice_get-get_or, slice_get-map}
+use Rattle.std.proofs.lemmas.List.Elements.{All-from_recursion, All-push, filter_map-append}
+use Rattle.std.proofs.lemmas.List.Elements.{Contains-append_cases, Contains-append_left}
+use Rattle.std.proofs.lemmas.List.Elements.{Contains-append_right, recursion_from_All}
+use Rattle.std.proofs.lemmas.Slice.Eq.{bytes_eq-Decides}
+use Rattle.cfgx_syntax.specs.{Stripping.strip, Error.Fault, Error.TextFault}
+use Rattle.cfgx_syntax.specs.Error.{failure_of}
+use Rattle.cfgx_syntax.specs.declared.error.Failure.{Failure}
+use Rattle.cfgx_syntax.specs.declared.error.Failure.TheVariants as failure
+use Rattle.cfgx_grammar.specs.{Question.Question, Tree.Tree, Answer.HasOneTree, Answer.ReadsAs}
+use Rattle.cfgx_grammar.proofs.Answering.{not_both}
+use Rattle.cfgx_engine.specs.Facts.{AreFacts, FactTexts, IsAnswer, IsFirstFaulty, IsFlag, IsNamed}
+use Rattle.cfgx_engine.specs.Facts.{NameAlike, Names, ReadsFacts, fact_text, texts_of}
+use Rattle.cfgx_engine.specs.Facts.{true_text, unknown_text}
+use Rattle.cfgx_engine.specs.declared.resolve.facts.Otherwise.{Otherwise}
+use Rattle.cfgx_engine.specs.declared.resolve.facts.Unaskable.{Unaskable}
+use Rattle.cfgx_engine.specs.declared.resolve.facts.Unaskable.TheVariants as unaskable
+use Rattle.cfgx_engine.specs.internal.ReadsFacts.{AddsFact, PushesText, accepts, error_at, joined}
+use Rattle.cfgx_engine.specs.internal.{ReadsFacts.NamesNothing, ReadsFacts.passes_over, Shows.Fails}
+use Rattle.cfgx_engine.specs.{Request.texts, Readings.GivesAll, Readings.ParsesAs}
+use Rattle.cfgx_engine.proofs.ReadingLemmas.{first_fails, later_fails}
+
+-- a fact without a `?` in front names true predicates
+pub unknown_text-unmarked : (fact : List ℕ) → ((rest : List ℕ) → fact ≢ 63 ∷ rest)
+    → unknown_text fact ≡ None
+unknown_text-unmarked [] lacks = refl
+unknown_text-unmarked (byte ∷ rest) lacks =
+    rw (false_from_ne_true (bytes_eq (byte ∷ []) (codes "?")) (λ is.
+    lacks rest (ap (λ xs. xs ++ rest) ((bytes_eq-Decides (byte ∷ []) (codes "?")).0 is))))
+
+-- both lists together name what one of them names
+IsNamed-append : (xs ys : List (List ℕ)) (question : Question)
+    → IsNamed (xs ++ ys) question ↔ (IsNamed xs question ⊎ IsNamed ys question)
+IsNamed-append xs ys question = (
+  λ (k, text, below, is, names). ⊎_elim
+      (λ left. inl (left.0, text, left.1, left.2, names))
+      (λ right. inr (right.0, text, right.1, right.2, names))
+      (Contains-append_cases xs ys text (k, below, is)),
+  λ named. ⊎_elim
+      (λ (k, text, below, is, names).
+      let left = Contains-append_left xs ys text (k, below, is) in
+      (left.0, text, left.1, left.2, names))
+      (λ (k, text, below, is, names).
+      let right = Contains-append_right xs ys text (k, below, is) in
+      (right.0, text, right.1, right.2, names)) named,
+)
+
+-- lists that name what others name, each with the same one behind it
+IsNamed-alike : (xs us ys vs : List (List ℕ)) (question : Question)
+    → IsNamed xs question ↔ IsNamed us question → IsNamed ys question ↔ IsNamed (xs ++ vs) question
+    → IsNamed ys question ↔ IsNamed (us ++ vs) question
+IsNamed-alike xs us ys vs question alike more =
+    let here = IsNamed-append xs vs question in
+    let there = IsNamed-append us vs question in (
+      λ named. there.1 (⊎_elim (λ left. inl (alike.0 left)) inr (here.0 (more.0 named))),
+      λ named. more.1 (here.1 (⊎_elim (λ left. inl (alike.1 left)) inr (there.0 named))),
+    )
+
+-- the texts of one fact more, of either kind
+texts-append : (of : List ℕ → Option (List ℕ)) (facts : List (List ℕ)) (fact : List ℕ)
+    → map strip (filter_map of (facts ++ fact ∷ []))
+    ≡ map strip (filter_map of facts) ++ map strip (filter_map of (fact ∷ []))
+texts-append of facts fact = rw (filter_map-append, map-append) refl
+
+texts_of-more : (facts : List (List ℕ)) (fact : List ℕ) (old new : FactTexts)
+    → NameAlike old (texts_of facts) → NameAlike new (joined old (texts_of (fact ∷ [])))
+    → NameAlike new (texts_of (facts ++ fact ∷ []))
+texts_of-more facts fact old new alike more = record {
+  true_alike = λ question. rw (texts-append true_text facts fact) (IsNamed-alike _ _ _ _ question
+      (alike.true_alike question) (more.true_alike question));
+  unknown_alike = λ question. rw (texts-append unknown_text facts fact) (IsNamed-alike _ _ _ _
+      question (alike.unknown_alike question) (more.unknown_alike question));
+}
+
+-- The texts of a fact that is added.
+
+-- the same text behind texts names what it names
+IsNamed-one : (text : List ℕ) (question : Question) → IsNamed (text ∷ []) question
+    → Names text question
+IsNamed-one text question (zero, other, below, is, names) = rw is names
+IsNamed-one text question (suc k, other, below, is, names) = absurd (omega arith)
+
+-- texts with the text of a fact, or without it if it is passed over
+IsNamed-pushed : (passed : Unaskable) (text : List ℕ) (old new : List (List ℕ))
+    → PushesText passed text old new → (question : Question)
+    → IsNamed new question ↔ IsNamed (old ++ strip text ∷ []) question
+IsNamed-pushed passed text old new (inl (one, is)) question =
+    rw is (λ named. named, λ named. named)
+IsNamed-pushed passed text old new (inr (passes, nothing, is)) question =
+    let both = IsNamed-append old (strip text ∷ []) question in (
+      λ named. both.1 (inl (rw is at named)),
+      λ named. rw is (⊎_elim (λ left. left)
+          (λ right. absurd (nothing question (IsNamed-one (strip text) question right)))
+          (both.0 named)),
+    )
+
+IsNamed-same : (texts : List (List ℕ)) (question : Question)
+    → IsNamed texts question ↔ IsNamed (texts ++ []) question
+IsNamed-same texts question = rw append-nil (λ named. named, λ named. named)
+
+-- a fact is accepted if its text has one tree or is passed over
+accepts-text : (passed : Unaskable) (fact text : List ℕ) → fact_text fact ≡ text
+    → HasOneTree (strip text) ⊎ passes_over passed (strip text) → accepts passed fact
+accepts-text unaskable.Faulty fact text is one = ⊎_elim (λ tree. rw is tree) (λ none. absurd none) one
+accepts-text unaskable.PassedOver fact text is one = rw is one
+
+pushes-one : (passed : Unaskable) (text : List ℕ) (old new : List (List ℕ))
+    → PushesText passed text old new
+    → HasOneTree (strip text) ⊎ passes_over passed (strip text)
+pushes-one passed text old new (inl (one, is)) = inl one
+pushes-one passed text old new (inr (passes, nothing, is)) = inr passes
+
+pub AddsFact-unknown : (passed : Unaskable) (fact text : List ℕ) (old : FactTexts)
+    (new : List (List ℕ)) → unknown_text fact ≡ Some text
+    → PushesText passed text old.of_unknown new
+    → AddsFact (accepts passed) fact old (record { of_true = old.of_true; of_unknown = new })
+AddsFact-unknown passed fact text old new marked pushes = record {
+  accepted = accepts-text passed fact text (rw marked refl) (pushes-one passed text _ new pushes);
+  alike = record {
+    true_alike = λ question. rw marked (IsNamed-same old.of_true question);
+    unknown_alike = λ question.
+        rw marked (IsNamed-pushed passed text old.of_unknown new pushes question);
+  };
+}
+
+pub AddsFact-true : (passed : Unaskable) (fact : List ℕ) (old : FactTexts) (new : List (List ℕ))
+    → unknown_text fact ≡ None → PushesText passed fact old.of_true new
+    → AddsFact (accepts passed) fact old (record { of_true = new; of_unknown = old.of_unknown })
+AddsFact-true passed fact old new unmarked pushes = record {
+  accepted = accepts-text passed fact fact (rw unmarked refl) (pushes-one passed fact _ new pushes);
+  alike = record {
+    true_alike = λ question.
+        rw unmarked (IsNamed-pushed passed fact old.of_true new pushes question);
+    unknown_alike = λ question. rw unmarked (IsNamed-same old.of_unknown question);
+  };
+}
+
+-- a text with a fault asks nothing
+pub NamesNothing-fault : (text : List ℕ) (fault : Fault) → ReadsAs text (Err fault)
+    → NamesNothing text
+NamesNothing-fault text fault reads question names =
+    absurd (cc (reads.only (Ok names.0) names.1))
+
+-- what is true is not false
+pub true_and_false : (b : Bool) → b ≡ true → b ≡ false → ⊥
+true_and_false b is not = absurd cc
+
+-- a fact is not accepted if its text has a fault and is not passed over
+refuses : (passed : Unaskable) (fact : List ℕ) (fault : TextFault)
+    → ParsesAs (fact_text fact) (Err fault) → ¬ passes_over passed (strip (fact_text fact))
+    → ¬ accepts passed fact
+refuses unaskable.Faulty fact fault parses fails = λ one. not_both parses.1 one
+refuses unaskable.PassedOver fact fault parses fails = λ one.
+    ⊎_elim (λ tree. not_both parses.1 tree) fails one
+
+pub Fails-refused : {A : Type 0} (passed : Unaskable) (fact text : List ℕ) (failed : Failure A)
+    → fact_text fact ≡ text
+    → Fails {A = A} (λ fault. ParsesAs text (Err fault) × ¬ passes_over passed (strip text)) failed
+    → Fails {A = A} (λ fault. ParsesAs (fact_text fact) (Err fault) × ¬ accepts passed fact) failed
+Fails-refused {A} passed fact text failed is fails = IfSome_then (failure_of {A = A} failed) fails
+    (λ fault both. let parses = rw (← is) at both.0 in
+    (parses, refuses passed fact fault parses (rw (← is) at both.1)))
+
+-- what texts answer, others that name the same answer too
+pub IsAnswer-alike : (one other : FactTexts) (otherwise : Otherwise) (question : Question)
+    (answer : Option Bool) → NameAlike one other → IsAnswer one otherwise question answer
+    → IsAnswer other otherwise question answer
+IsAnswer-alike one other otherwise question answer alike answers =
+    let true_alike = alike.true_alike question in
+    let unknown_alike = alike.unknown_alike question in grind arith
+
+module _ (Accepts : List ℕ → Type 0) (words : List (Bor (List ℕ))) (i : ℕ) (d : Bor (List ℕ))
+    (below : i < length words) where
+  -- the facts in one word more
+  pub AreFacts-more : (old new : FactTexts) → AreFacts Accepts (texts (take i words)) old
+      → AddsFact Accepts (get_or words i d).now old new
+      → AreFacts Accepts (texts (take (i + 1) words)) new
+  AreFacts-more old new are adds =
+      let front = texts (take i words) in
+      let word = (get_or words i d).now in
+      rw (take_more words i d below, map-append) (record {
+        each = recursion_from_All Accepts _
+            (All-push Accepts front word (All-from_recursion Accepts front are.each) adds.accepted);
+        alike = texts_of-more front word old new are.alike adds.alike;
+      })
+
+  -- a word is the first faulty fact if each word before it is accepted
+  pub IsFirstFaulty-here : (fault : TextFault) → AllByRecursion Accepts (texts (take i words))
+      → ¬ Accepts (get_or words i d).now → ParsesAs (fact_text (get_or words i d).now) (Err fault)
+      → IsFirstFaulty Accepts (texts words) i fault
+  IsFirstFaulty-here fault before refused parses = record {
+    fact = (get_or words i d).now;
+    stands = rw (slice_get-map, slice_get-get_or words i d below) refl;
+    before = rw take-map before;
+    refused = refused;
+    parses = parses;
+  }
+
+  -- the error of a failure at a word
+  pub ReadsFacts-fails : {A : Type 0} (failed : Failure A)
+      → AllByRecursion Accepts (texts (take i words))
+      → Fails {A = A} (λ fault. ParsesAs (fact_text (get_or words i d).now) (Err fault)
+      × ¬ Accepts (get_or words i d).now) failed
+      → ReadsFacts {A = A} Accepts (texts words) (Err (error_at {A = A} i failed))
+  ReadsFacts-fails (failure.Parse error) before fails =
+      IsFirstFaulty-here _ before fails.1 fails.0
+  ReadsFacts-fails (failure.Memory error) before fails = tt
+
+-- no facts
+pub AreFacts-none : (Accepts : List ℕ → Type 0) (read : FactTexts) → read.of_true ≡ []
+    → read.of_unknown ≡ [] → AreFacts Accepts [] read
+AreFacts-none Accepts read none_true none_unknown = record {
+  each = tt;
+  alike = record {
+    true_alike = λ question. rw none_true (λ named. named, λ named. named);
+    unknown_alike = λ question. rw none_unknown (λ named. named, λ named. named);
+  };
+}
+
+-- each flag is parsed as the one tree of its text
+pub trees_of : (flags : List (List ℕ)) → AllByRecursion IsFlag flags
+    → (trees : List (Tree Question)) × GivesAll ParsesAs (map fact_text flags) (Ok trees)
+trees_of [] each = ([], tt)
+trees_of (flag ∷ flags) each =
+    let others = trees_of flags each.1 in
+    (each.0.tree ∷ others.0, (each.0.reads, others.1))
+
+-- the first faulty flag gives the fault of them all
+pub GivesAll-faulty : (flags : List (List ℕ)) (i : ℕ) (fault : TextFault)
+    → IsFirstFaulty IsFlag flags i fault → GivesAll ParsesAs (map fact_text flags) (Err fault)
+GivesAll-faulty [] i fault first = absurd (grind (arith, first.stands))
+GivesAll-faulty (flag ∷ flags) zero fault first =
+    let is : flag ≡ first.fact = grind (arith, first.stands) in
+    first_fails ParsesAs _ _ fault (rw is first.parses)
+GivesAll-faulty (flag ∷ flags) (suc i) fault first =
+    let rest = GivesAll-faulty flags i fault (record {
+      fact = first.fact;
+      stands = first.stands;
+      before = first.before.1;
+      refused = first.refused;
+      parses = first.parses;
+    }) in later_fails ParsesAs _ first.before.0.tree _ fault first.before.0.reads rest

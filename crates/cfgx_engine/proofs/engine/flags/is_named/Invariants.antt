@@ -1,9 +1,0 @@
-use Rattle.std.{proofs.Common.take, specs.List.All}
-use Rattle.cfgx_parser.specs.Predicate.{question_of}
-use Rattle.cfgx_engine.specs.Flags.{Names}
-use Rattle.cfgx_engine.proofs.engine.flags.is_named.Given as goal
-
--- no flag so far names the predicate
-abbrev pub invariant-loop-flag : goal.invariant-loop-flag
-invariant-loop-flag g l =
-    All (λ text. Names text (question_of l.predicate) → ⊥) (take l.flag-index l.flags)
