@@ -38,11 +38,11 @@ pub enum Step {
     Literal(bool),
     /// Pops a value, and pushes its negation
     Not,
-    /// Pops this number of values, and pushes `top` joined with each of them by `and`, in the order
-    /// in which they are popped
+    /// Pops this number of values, and pushes `top`, joined by `and` with each value in the order
+    /// of popping
     All(usize),
-    /// Pops this number of values, and pushes `bottom` joined with each of them by `or`, in the order
-    /// in which they are popped
+    /// Pops this number of values, and pushes `bottom`, joined by `or` with each value in the order
+    /// of popping
     Any(usize),
 }
 
