@@ -1,3 +1,4 @@
+pub mod CSteps
 pub mod Described
 pub mod EndsLemmas
 pub mod Located

@@ -5,6 +5,7 @@ pub mod Ends
 pub mod Predicates
 pub mod Run
 pub mod Status
+pub mod Steps
 pub mod Texts
 pub mod Value
 pub mod Version

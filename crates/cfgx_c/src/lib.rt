@@ -3,8 +3,10 @@
 #![tactic(auto)]
 
 mod answers;
+mod apply;
 mod buffer;
 mod check;
+mod compile;
 mod decide;
 mod ends;
 mod explain;
@@ -12,15 +14,19 @@ mod fault;
 mod predicates;
 mod run;
 mod status;
+mod steps;
 mod streams;
 mod value;
 mod version;
 
+pub use apply::cfgx_apply;
 pub use check::cfgx_check;
+pub use compile::cfgx_compile;
 pub use decide::cfgx_decide;
 pub use explain::cfgx_explain;
 pub use fault::CfgxFault;
 pub use predicates::{CfgxPredicate, cfgx_predicates};
 pub use run::cfgx_run;
+pub use steps::CfgxStep;
 pub use value::cfgx_value;
 pub use version::cfgx_version;

@@ -47,8 +47,8 @@ trees_by test (Trees.more tree trees) =
 abbrev pub nodes_in : List ℕ → List (Bor (List ExprNode)) → List (List (Node Question))
 nodes_in text slices = map (λ slice. map (node_at text) slice.now) slices
 
--- The tree's own step is pushed to the steps, which are made from the last one to the first, and its
--- members are pushed to the stack of trees: their steps, and then its own, are its steps.
+-- The tree's own step is pushed to the steps, which are made from the last one to the first, and
+-- its members are pushed to the stack of trees: their steps, and then its own, are its steps.
 pub record Expands (text : List ℕ) (tree : Tree Question) (old_trees : List (Bor (List ExprNode)))
     (old_steps : List Step) (new_trees : List (Bor (List ExprNode))) (new_steps : List Step)
     : Type 0 where

@@ -1,8 +1,8 @@
-//! A condition as steps, which a loop with a stack of values runs, and their evaluation.
+//! Conditions as steps, and the value of any steps.
 //!
-//! The steps of a function stand behind those of its members, and members stand in the order in
-//! which they are asked. So answers are taken one after another, and a function joins the last
-//! values of the stack.
+//! A loop with a stack of values runs the steps. The step of a function comes after those of its
+//! members, and members come in the order in which they are asked. So each step that asks takes the
+//! next answer, and a function joins the last values of the stack.
 ghost use Rattle.std.specs.Prelude.{◌≡◌, ◌↔◌, ◌<◌, ◌≤◌, ◌+◌, ◌++◌, [], false, ℕ, List};
 ghost use Rattle.std.specs.Prelude.{IfErr, IfNone, IfOk, IfSome, IsTrue, OnErr, OnOk, OnSome};
 ghost use Rattle.std.specs.Prelude.{count_by, drop, length, map};
@@ -38,9 +38,11 @@ pub enum Step {
     Literal(bool),
     /// Pops a value, and pushes its negation
     Not,
-    /// Pops this number of values, and pushes what joining them by `and` to `top` gives
+    /// Pops this number of values, and pushes `top`, joined by `and` with each value in the order
+    /// of popping
     All(usize),
-    /// Pops this number of values, and pushes what joining them by `or` to `bottom` gives
+    /// Pops this number of values, and pushes `bottom`, joined by `or` with each value in the order
+    /// of popping
     Any(usize),
 }
 

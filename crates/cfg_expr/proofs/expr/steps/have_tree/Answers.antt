@@ -7,7 +7,8 @@ use Rattle.cfg_expr.proofs.expr.steps.have_tree.Goals as goal
 
 pub returns-then-not-push_kind-clause-tree : goal.returns-then-not-push_kind-clause-tree
 returns-then-not-push_kind-clause-tree g c = kinds-stopped c.args.steps.now
-    c.loop-step.step-index _ c.loop-step.kinds.items c.loop-step-test.true c.loop-step.invariant.runs
+    c.loop-step.step-index _ c.loop-step.kinds.items c.loop-step-test.true
+    c.loop-step.invariant.runs
     (c.push_kind.ensures.kinds
     ∙ ap (λ found. found_if found c.push_kind.new.kinds.items) c.if-not-push_kind.true)
 

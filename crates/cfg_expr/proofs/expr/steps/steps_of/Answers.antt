@@ -34,5 +34,6 @@ returns g c =
     let none = nil_from_length trees.items (sym trees.ok.0 ∙ c.in_default.ensures.cases.0) in (
       c.loop-tree.invariant.one,
       c.reverse.ensures.items
-          ∙ all-made c.args.parsed.now trees.items c.loop-tree.steps.items c.loop-tree.invariant none,
+          ∙ all-made c.args.parsed.now trees.items c.loop-tree.steps.items
+          c.loop-tree.invariant none,
     )

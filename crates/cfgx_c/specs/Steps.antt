@@ -1,0 +1,55 @@
+-- Steps as C sees them, and what `cfgx_compile` and `cfgx_apply` promise.
+-- Source: include/cfgx.h.
+use Rattle.std.specs.Prelude.{◌≡◌, ◌≢◌, ℕ, true, false, List, length, map}
+use Rattle.cfgx_syntax.specs.Stripping.{strip}
+use Rattle.cfgx_grammar.specs.Answer.{HasOneTree}
+use Rattle.cfgx_grammar.specs.Filling.{three_valued}
+use Rattle.cfgx_grammar.specs.Fold.{tree_fold}
+use Rattle.cfgx_grammar.specs.Question.{Question}
+use Rattle.cfgx_grammar.specs.Tree.{Tree, asked}
+use Rattle.cfg_expr.specs.Steps.{steps_of}
+use Rattle.cfg_expr.specs.declared.expr.steps.Step.{Step}
+use Rattle.cfg_expr.specs.declared.expr.steps.Step.TheVariants.{Ask, Literal, Not, All, Any}
+use Rattle.cfgx_c.specs.Buffer.{FillsBoth}
+use Rattle.cfgx_c.specs.Predicates.{ListsPredicates}
+use Rattle.cfgx_c.specs.Value.{answer_of, byte_of_value}
+use Rattle.cfgx_c.specs.declared.predicates.CfgxPredicate.{CfgxPredicate}
+use Rattle.cfgx_c.specs.declared.steps.CfgxStep.{CfgxStep}
+
+-- a step as C sees it: its kind, and the number of values that it pops
+abbrev pub c_step : Step → CfgxStep
+c_step (Literal false) = record { kind = 0; count = 0 }
+c_step (Literal true) = record { kind = 1; count = 0 }
+c_step Ask = record { kind = 2; count = 0 }
+c_step Not = record { kind = 3; count = 1 }
+c_step (All n) = record { kind = 4; count = n }
+c_step (Any n) = record { kind = 5; count = n }
+
+-- both buffers were filled: with the steps of the text's one tree, and with its predicates
+pub record Compiles (text : List ℕ) (old_steps new_steps : List CfgxStep) (steps_needed : ℕ)
+    (old_predicates new_predicates : List CfgxPredicate) (predicates_needed : ℕ) : Type 0 where
+  pub one : HasOneTree (strip text)
+  pub predicates : List CfgxPredicate
+  pub lists : ListsPredicates text predicates
+  pub fills : FillsBoth (map c_step (steps_of one.tree)) old_steps new_steps predicates
+      old_predicates new_predicates
+  pub steps_needed_is : steps_needed ≡ length (steps_of one.tree)
+  pub predicates_needed_is : predicates_needed ≡ length predicates
+
+-- a tree that has these steps
+pub record HasCSteps (steps : List CfgxStep) (tree : Tree Question) : Type 0 where
+  pub are : map c_step (steps_of tree) ≡ steps
+
+-- there is such a tree, and over the answers, one for each predicate that it asks, every such tree
+-- has this value
+pub record Applies (steps : List CfgxStep) (answers : List ℕ) (value : ℕ) : Type 0 where
+  pub tree : Tree Question
+  pub has : HasCSteps steps tree
+  pub count : length answers ≡ length (asked tree)
+  pub every : (other : Tree Question) → HasCSteps steps other
+      → value ≡ byte_of_value (tree_fold three_valued other (map answer_of answers))
+
+-- there is such a tree, and it asks more or fewer predicates than there are answers
+abbrev pub IsMiscounted : List CfgxStep → List ℕ → Type 0
+IsMiscounted steps answers =
+    (tree : Tree Question) × HasCSteps steps tree × (length answers ≢ length (asked tree))

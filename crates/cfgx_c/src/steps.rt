@@ -1,0 +1,78 @@
+// Steps as C sees them.
+
+ghost use Rattle.std.specs.Prelude.{◌≡◌, IfOk, List, MatchOption, map};
+ghost use Rattle.cfg_expr.specs.declared.expr.steps.Step.{Step};
+ghost use Rattle.cfgx_c.specs.Steps.{c_step};
+
+use cfg_expr::expr::Step;
+use std::alloc::{AllocError, Global};
+
+/// A step of the evaluation of a condition with a stack.
+#[repr(C)]
+#[derive(Clone, Copy, Debug)]
+pub struct CfgxStep {
+    /// The number of the kind
+    pub kind: u32,
+    /// The number of values that the step pops
+    pub count: usize,
+}
+
+/// Returns a step as C sees it.
+fn c_step(step: Step) -> CfgxStep
+    ensures { result ≡ c_step step }
+{
+    match step {
+        Step::Literal(false) => CfgxStep { kind: 0, count: 0 },
+        Step::Literal(true) => CfgxStep { kind: 1, count: 0 },
+        Step::Ask => CfgxStep { kind: 2, count: 0 },
+        Step::Not => CfgxStep { kind: 3, count: 1 },
+        Step::All(count) => CfgxStep { kind: 4, count },
+        Step::Any(count) => CfgxStep { kind: 5, count },
+    }
+}
+
+/// Returns the steps as C sees them.
+///
+/// The error is that `alloc` refused the list.
+pub(crate) fn c_steps(alloc: Global, steps: &[Step]) -> Result<Vec<CfgxStep>, AllocError>
+    ensures { IfOk result (λ list. list.items ≡ map c_step steps.now) }
+{
+    let mut list = Vec::new(alloc);
+    for step in steps {
+        list.push(c_step(*step))?;
+    }
+    Ok(list)
+}
+
+/// Returns the step that C sees as `step`, or `None` if there is none.
+fn step_of(step: CfgxStep) -> Option<Step>
+    ensures { MatchOption result ((of : Step) → ¬ (c_step of ≡ step)) (λ of. c_step of ≡ step) }
+{
+    match (step.kind, step.count) {
+        (0, 0) => Some(Step::Literal(false)),
+        (1, 0) => Some(Step::Literal(true)),
+        (2, 0) => Some(Step::Ask),
+        (3, 1) => Some(Step::Not),
+        (4, count) => Some(Step::All(count)),
+        (5, count) => Some(Step::Any(count)),
+        _ => None,
+    }
+}
+
+/// Returns the steps that C sees as `steps`, or `None` if there are none.
+///
+/// The error is that `alloc` refused the list.
+pub(crate) fn steps_in(alloc: Global, steps: &[CfgxStep]) -> Result<Option<Vec<Step>>, AllocError>
+    ensures { IfOk result (λ found. MatchOption found
+        ((list : List Step) → ¬ (map c_step list ≡ steps.now))
+        (λ list. map c_step list.items ≡ steps.now)) }
+{
+    let mut list = Vec::new(alloc);
+    for step in steps {
+        let Some(step) = step_of(*step) else {
+            return Ok(None);
+        };
+        list.push(step)?;
+    }
+    Ok(Some(list))
+}
