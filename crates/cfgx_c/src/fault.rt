@@ -118,7 +118,7 @@ fn terms_number(reason: Reason) -> u32
 }
 
 /// Returns the offset of the stripped text in `text`.
-fn strip_offset(text: &str) -> usize
+pub(crate) fn strip_offset(text: &str) -> usize
     ensures { result ≡ strip_offset text.now }
 {
     if strip(text).len() == text.len() {
