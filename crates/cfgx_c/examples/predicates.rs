@@ -1,0 +1,54 @@
+//! Lists the predicates of a condition, or prints what is wrong with it.
+//!
+//! usage: predicates TEXT
+mod cfgx;
+
+use cfgx::{Predicate, Status};
+use std::env::args;
+use std::process::ExitCode;
+
+/// The names of the kinds, from 1 on.
+const KINDS: [&str; 18] = [
+    "", "flag", "key_value", "test", "debug_assertions", "proc_macro", "feature",
+    "target_feature", "abi", "arch", "endian", "env", "family", "has_atomic", "os", "panic",
+    "pointer_width", "vendor",
+];
+
+/// Returns the name of the kind, and then the key, the value or the number if there is one.
+fn describe(text: &str, predicate: &Predicate) -> String {
+    let number = match predicate.number {
+        0 => String::new(),
+        number => number.to_string(),
+    };
+    let parts = [
+        KINDS[predicate.kind as usize],
+        &text[predicate.key_start..predicate.key_end],
+        &text[predicate.value_start..predicate.value_end],
+        &number,
+    ];
+    let shown: Vec<&str> = parts.into_iter().filter(|part| !part.is_empty()).collect();
+    shown.join(" ")
+}
+
+/// Prints each predicate, or what is wrong with the text.
+fn print_predicates(text: &str) -> Result<(), Status> {
+    if let Some(message) = cfgx::explain(text)? {
+        eprintln!("{message}");
+        return Err(Status::Faulty);
+    }
+    for predicate in cfgx::predicates(text)? {
+        println!("{}", describe(text, &predicate));
+    }
+    Ok(())
+}
+
+fn main() -> ExitCode {
+    let Some(text) = args().nth(1) else {
+        eprintln!("usage: predicates TEXT");
+        return ExitCode::from(2);
+    };
+    match print_predicates(&text) {
+        Ok(()) => ExitCode::SUCCESS,
+        Err(_) => ExitCode::FAILURE,
+    }
+}

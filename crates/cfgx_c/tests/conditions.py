@@ -1,0 +1,126 @@
+"""Conditions read by a reader of its own, which knows only accepted texts: their predicates with
+spans, their steps and their values. It is what the calls are compared with."""
+import re
+
+TOKEN = re.compile(rb'[A-Za-z_][A-Za-z0-9_]*|"[^"]*"|[=(),]')
+FUNCTIONS = {b"not": 3, b"all": 4, b"any": 5}
+LITERALS = {b"false": 0, b"true": 1}
+ASK = 2
+FLAG, KEY_VALUE, FAMILY = 1, 2, 12
+ALONE = {b"test": 3, b"debug_assertions": 4, b"proc_macro": 5}
+TEXTS = {
+    b"feature": 6, b"target_feature": 7, b"target_abi": 8, b"target_arch": 9, b"target_env": 11,
+    b"target_family": 12, b"target_os": 14, b"panic": 15, b"target_vendor": 17,
+}
+NUMBERS = {b"target_endian": 10, b"target_has_atomic": 13, b"target_pointer_width": 16}
+WORDS = {b"big": 0, b"little": 1, b"ptr": 65536}
+
+
+def predicate_of(key, value):
+    """Returns the kind, the number and the spans of a predicate. `value` has its quotes, and is
+    None if the key stands alone."""
+    word = key.group()
+    if value is None:
+        if word in (b"unix", b"windows"):
+            return (FAMILY, 0, 0, 0, *key.span())
+        if word in ALONE:
+            return (ALONE[word], 0, 0, 0, 0, 0)
+        return (FLAG, 0, *key.span(), 0, 0)
+    inside = value.group()[1:-1]
+    span = (value.start() + 1, value.end() - 1)
+    if word in NUMBERS:
+        number = WORDS[inside] if inside in WORDS else int(inside)
+        return (NUMBERS[word], number, 0, 0, 0, 0)
+    if word in TEXTS:
+        return (TEXTS[word], 0, 0, 0, *span)
+    return (KEY_VALUE, 0, *key.span(), *span)
+
+
+class Condition:
+    """An accepted text."""
+
+    def __init__(self, text):
+        is_stripped = text.startswith(b"cfg(") and text.endswith(b")")
+        offset = 4 if is_stripped else 0
+        tokens = TOKEN.finditer(text, offset, len(text) - 1 if is_stripped else len(text))
+        self.tokens = list(tokens)
+        self.tree = self.read_members(0)[0][0]
+
+    def read_members(self, at):
+        """Returns the members from a place up to a `)` or the end, and the place behind it.
+
+        A member is a predicate, a literal, or the pair of a function and its members.
+        """
+        members = []
+        while at < len(self.tokens) and self.tokens[at].group() != b")":
+            word = self.tokens[at].group()
+            following = self.tokens[at + 1].group() if at + 1 < len(self.tokens) else b""
+            if word in FUNCTIONS:
+                inner, at = self.read_members(at + 2)
+                members.append((FUNCTIONS[word], inner))
+            elif following == b"=":
+                members.append(predicate_of(self.tokens[at], self.tokens[at + 2]))
+                at += 3
+            else:
+                if word != b",":
+                    members.append(LITERALS.get(word, predicate_of(self.tokens[at], None)))
+                at += 1
+        return members, at + 1
+
+    def walk(self):
+        """Yields the members of the tree in the order of asking, each function behind its own."""
+        yield from walk(self.tree)
+
+    def predicates(self):
+        """Returns the predicates in the order in which they are asked."""
+        return [member for member in self.walk() if is_predicate(member)]
+
+    def steps(self):
+        """Returns the kind and the count of each step."""
+        return [step_of(member) for member in self.walk()]
+
+    def value(self, answers):
+        """Returns the value over answers, each of which is True, False, or None for unknown."""
+        stack, answers = [], iter(answers)
+        for kind, count in self.steps():
+            popped = stack[len(stack) - count:]
+            del stack[len(stack) - count:]
+            stack.append(next(answers) if kind == ASK else joined(kind, popped))
+        return stack[0]
+
+
+def is_function(member):
+    """Whether the member is a pair of a function and its members."""
+    return isinstance(member, tuple) and len(member) == 2
+
+
+def is_predicate(member):
+    """Whether the member is a predicate."""
+    return isinstance(member, tuple) and len(member) == 6
+
+
+def walk(member):
+    """Yields the members below a member in the order of asking, and then the member."""
+    if is_function(member):
+        for inner in sorted(member[1], key=lambda inner: not is_function(inner)):
+            yield from walk(inner)
+    yield member
+
+
+def step_of(member):
+    """Returns the kind and the count of the step of a member."""
+    if is_function(member):
+        return member[0], len(member[1])
+    return (ASK if is_predicate(member) else member), 0
+
+
+def joined(kind, values):
+    """Returns the value of a literal or of a function over values."""
+    if kind in LITERALS.values():
+        return bool(kind)
+    if kind == FUNCTIONS[b"not"]:
+        return None if values[0] is None else not values[0]
+    deciding = kind == FUNCTIONS[b"any"]
+    if deciding in values:
+        return deciding
+    return None if None in values else not deciding

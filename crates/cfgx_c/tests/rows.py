@@ -1,0 +1,263 @@
+#!/usr/bin/env python3
+"""Compares the calls of the shared library with the rows of cfgx_vectors.
+
+usage: rows.py LIBRARY CALL..   The calls are those that the library has.
+
+A row that is wrong is printed with what was wanted and found. Predicates and steps are compared
+with those that conditions.py finds.
+"""
+import os
+import random
+import re
+import sys
+
+FOLDER = os.path.dirname(os.path.abspath(__file__))
+DATA = os.path.join(FOLDER, "..", "..", "cfgx_vectors", "data")
+sys.path.insert(0, os.path.join(FOLDER, "..", "examples"))
+
+from cfgx import Cfgx  # noqa: E402
+from conditions import Condition  # noqa: E402
+
+ESCAPES = {"n": "\n", "t": "\t", "r": "\r", "0": "\0", "\\": "\\", "e": ""}
+USAGE = "usage: cfgx parse TEXT | eval TEXT FLAG.. | target TRIPLE TEXT | pick TRIPLE\n"
+REASONS = (
+    "", "InvalidNot", "InvalidCharacters", "UnclosedParens", "UnopenedParens", "UnclosedQuotes",
+    "UnopenedQuotes", "Empty", "Unexpected", "InvalidInteger", "MultipleRootPredicates",
+    "InvalidHasAtomic", "UnknownBuiltin",
+)
+# The lists of terms, in the order of their numbers in docs/RULES.md.
+TERMS = (
+    None,
+    "",
+    "`<key>` `all` `any` `not`",
+    "`<key>` `)` `all` `any` `not`",
+    "`)` `<key>`",
+    "`=` `,` `)`",
+    '`"`',
+    "`,` `)`",
+    "`(`",
+    "`)` `,`",
+    '`"<value>"`',
+    '`= "<feature_name>"`',
+    '`= "<panic_strategy>"`',
+    '`= "<target_cfg_value>"`',
+    "`<feature>`",
+    "`target_arch` `target_feature` `target_os` `target_family` `target_env` `target_endian`"
+    " `target_has_atomic` `target_pointer_width` `target_vendor`",
+)
+VALUES = {"1": True, "0": False, "?": None}
+PRINTED = {True: b"true\n", False: b"false\n", None: b"unknown\n"}
+
+
+def unescaped(field):
+    """Returns the bytes that a field stands for."""
+    field = re.sub(r"~(.*?)~(\d+)~", lambda piece: piece[1] * int(piece[2]), field)
+    field = re.sub(r"\\u\{(\w+)\}", lambda number: chr(int(number[1], 16)), field)
+    return re.sub(r"\\(.)", lambda escape: ESCAPES[escape[1]], field).encode()
+
+
+def tables():
+    """Yields the name of the check and the fields of each row of the tables."""
+    for name in sorted(os.listdir(DATA)):
+        check = None
+        with open(os.path.join(DATA, name), encoding="utf-8") as file:
+            lines = iter(file.read().split("\n"))
+        for line in lines if name.endswith(".txt") else ():
+            head = re.fullmatch(r"\[(.*): \d+ rows?\]", line)
+            if head:
+                check = head[1]
+                next(lines)
+            elif check and line and not line.startswith("# "):
+                yield check, line.split(" | ")
+
+
+def rust_crate():
+    """Yields the text, the status and the output of each row of the Rust crate."""
+    with open(os.path.join(DATA, "rust_crate.tsv"), encoding="utf-8") as file:
+        for line in file.read().split("\n"):
+            if line.count("\t") == 2:
+                text, status, output = line.split("\t")
+                yield unescaped(text), int(status), unescaped(output)
+
+
+def rows_of(*checks):
+    """Returns the fields of the rows with these checks."""
+    return [fields for check, fields in tables() if check in checks]
+
+
+def offset_of(text):
+    """Returns where the stripped text begins."""
+    return 4 if text.startswith(b"cfg(") and text.endswith(b")") else 0
+
+
+def fault_of(text, fault):
+    """Returns the fields of the fault that a row names."""
+    reason, start, end = re.fullmatch(r"(.*) at (\d+)\.\.(\d+)", fault).groups()
+    terms = re.fullmatch(r"U\[(.*)\]", reason)
+    members = re.search(r"\((\d+)\)", reason)
+    name = "Unexpected" if terms else re.match(r"\w+", reason)[0]
+    return (
+        offset_of(text), int(start), int(end), int(members[1]) if members else 0,
+        REASONS.index(name), TERMS.index(terms[1]) if terms else 0,
+    )
+
+
+def fields_of(struct):
+    """Returns the fields of a struct, or None."""
+    return struct and tuple(getattr(struct, name) for name, _ in struct._fields_)
+
+
+def accepted_texts():
+    """Returns each accepted text of the tables."""
+    texts = [unescaped(row[0]) for row in rows_of("predicates", "fillings")]
+    texts += [unescaped(row[2]) for row in rows_of("run") if row[0] == "0" and len(row) > 2]
+    return texts + [text for text, status, _ in rust_crate() if status == 0]
+
+
+def check_check(cfgx):
+    """Compares the faults."""
+    for text, fault, *_ in rows_of("fault", "fault in the stripped text"):
+        text = unescaped(text)
+        yield text, fields_of(cfgx.check(text)), fault_of(text, fault)
+    for text in accepted_texts():
+        yield text, fields_of(cfgx.check(text)), None
+
+
+def check_explain(cfgx):
+    """Compares the messages with what the program prints of faults."""
+    for text, status, output in rust_crate():
+        yield text, cfgx.explain(text), output[:-1] if status == 1 else None
+
+
+def check_predicates(cfgx):
+    """Compares the predicates."""
+    for text in accepted_texts():
+        found = [fields_of(predicate) for predicate in cfgx.predicates(text)]
+        yield text, found, Condition(text).predicates()
+
+
+def check_value(cfgx):
+    """Compares the values over the answers of the rows, and over others."""
+    for text, answers, wanted in rows_of("fillings"):
+        text, answers = unescaped(text), [VALUES[answer] for answer in answers.replace("\\e", "")]
+        value = {"true": True, "false": False}.get(wanted)
+        yield (text, answers), cfgx.value(text, answers), value
+    for text, answers in answered_texts():
+        yield (text, answers), cfgx.value(text, answers), Condition(text).value(answers)
+
+
+def answered_texts():
+    """Yields the accepted texts, each with answers at random. They are the same in each run."""
+    source = random.Random(1)
+    for text in accepted_texts():
+        for _ in range(3):
+            count = len(Condition(text).predicates())
+            yield text, [source.choice((True, False, None)) for _ in range(count)]
+
+
+def check_decide(cfgx):
+    """Compares the fillings of the rows, and the values over fillings at other answers."""
+    for text, answers, wanted in rows_of("fillings"):
+        text, answers = unescaped(text), [VALUES[answer] for answer in answers.replace("\\e", "")]
+        value = {"true": True, "false": False}.get(wanted)
+        fillings = [[], []]
+        if value is None:
+            fillings = [[VALUES[answer] for answer in filling] for filling in wanted.split(" ")]
+        yield (text, answers), cfgx.decide(text, answers), (value, *fillings)
+    for text, answers in answered_texts():
+        value, if_true, if_false = cfgx.decide(text, answers)
+        condition = Condition(text)
+        yield (text, answers), value, condition.value(answers)
+        if value is None:
+            found = condition.value(if_true), condition.value(if_false)
+            yield (text, answers), found, (True, False)
+
+
+def check_compile(cfgx):
+    """Compares the steps and the predicates."""
+    for text in accepted_texts():
+        steps, predicates = cfgx.compile(text)
+        condition = Condition(text)
+        yield text, [fields_of(step) for step in steps], condition.steps()
+        yield text, [fields_of(predicate) for predicate in predicates], condition.predicates()
+
+
+def check_apply(cfgx):
+    """Compares the values of steps with those of their texts."""
+    for text, answers in answered_texts():
+        steps, _ = cfgx.compile(text)
+        yield (text, answers), cfgx.apply(steps, answers), cfgx.value(text, answers)
+
+
+def flag_rows():
+    """Yields the text, the flags and the output of each `eval` that has a value."""
+    for status, output, *words in rows_of("run"):
+        if status == "0" and words[0] == "eval":
+            yield unescaped(words[1]), [unescaped(word) for word in words[2:]], unescaped(output)
+
+
+def check_answers(cfgx):
+    """Compares the values over the answers of flags with those of `eval`."""
+    for text, flags, output in flag_rows():
+        answers = cfgx.answers(text, flags)
+        yield (text, flags), PRINTED[Condition(text).value(answers)], output
+
+
+def check_audit(cfgx):
+    """Compares the values on targets with those of `eval`, all in one call and one by one."""
+    rows = list(flag_rows())
+    texts, targets = [row[0] for row in rows], [row[1] for row in rows]
+    values = cfgx.audit(texts, targets)
+    for place, (text, flags, output) in enumerate(rows):
+        yield (text, flags), PRINTED[values[place][place]], output
+        yield (text, flags), PRINTED[cfgx.audit([text], [flags])[0][0]], output
+
+
+def check_run(cfgx):
+    """Compares the runs of the program."""
+    for status, output, *words in rows_of("run"):
+        output = USAGE.encode() if output == "USAGE" else unescaped(output)
+        words = [unescaped(word) for word in words]
+        yield words, cfgx.run(words), (int(status), output)
+    for status, text, output in rows_of("pick"):
+        if "SECTIONS" not in text:
+            words = [b"pick", b"aarch64-apple-ios-sim"]
+            found = cfgx.run(words, unescaped(text))
+            yield text, found, (int(status), unescaped(output))
+
+
+CHECKS = {
+    "check": check_check,
+    "explain": check_explain,
+    "predicates": check_predicates,
+    "value": check_value,
+    "decide": check_decide,
+    "compile": check_compile,
+    "apply": check_apply,
+    "answers": check_answers,
+    "audit": check_audit,
+    "run": check_run,
+}
+
+
+def failures_of(name, cfgx):
+    """Runs the check of a call, and prints and counts its failures."""
+    rows = failures = 0
+    for row, found, wanted in CHECKS[name](cfgx):
+        rows += 1
+        if found != wanted:
+            failures += 1
+            print(f"FAILED: cfgx_{name}: {row}\n  wanted {wanted}\n  found  {found}")
+    print(f"cfgx_{name}: {rows} comparisons with the rows of cfgx_vectors, {failures} failures")
+    return failures + (rows == 0)
+
+
+def main():
+    """Runs the checks of the calls."""
+    cfgx = Cfgx(sys.argv[1])
+    names = [name for name in sys.argv[2:] if name in CHECKS]
+    sys.exit(1 if sum(failures_of(name, cfgx) for name in names) else 0)
+
+
+if __name__ == "__main__":
+    main()

@@ -1,0 +1,73 @@
+/* Tests `cfgx_value`. */
+#include "harness.h"
+
+/* The answers are bytes. */
+struct row {
+    struct text text;
+    struct text answers;
+    uint32_t status;
+    uint8_t value;
+};
+
+#define VALUE(literal, answers, value)                                                             \
+    {TEXT(literal), TEXT(answers), CFGX_STATUS_DONE, CFGX_VALUE_##value}
+#define NO_VALUE(literal, answers, status)                                                         \
+    {TEXT(literal), TEXT(answers), CFGX_STATUS_##status, 0}
+
+static const struct row rows[] = {
+    VALUE("all(unix, feature = \"x\")", "\1\1", TRUE),
+    VALUE("all(unix, feature = \"x\")", "\1\0", FALSE),
+    VALUE("all(unix, feature = \"x\")", "\1\2", UNKNOWN),
+    VALUE("all(unix, feature = \"x\")", "\0\2", FALSE),
+    VALUE("cfg(any(unix, feature = \"x\"))", "\2\1", TRUE),
+    /* Each byte but 0 and 1 is unknown. */
+    VALUE("a", "\3", UNKNOWN),
+    VALUE("a", "\x80", UNKNOWN),
+    VALUE("a", "\xff", UNKNOWN),
+    VALUE("not(a)", "\3", UNKNOWN),
+    VALUE("not(a)", "\x80", UNKNOWN),
+    VALUE("not(a)", "\xff", UNKNOWN),
+    VALUE("any(a, b)", "\xff\1", TRUE),
+    VALUE("all(a, b)", "\x80\1", UNKNOWN),
+    VALUE("all(a, b)", "\x80\0", FALSE),
+    /* The predicate below `not` is asked first. */
+    VALUE("all(a, not(b))", "\0\1", TRUE),
+    VALUE("all(a, not(b))", "\1\0", FALSE),
+    VALUE("all(a, not(b))", "\2\1", UNKNOWN),
+    VALUE("any(a, a, not(a), all(b, true), not(any(c, false)))", "\1\0\1\0\0", FALSE),
+    VALUE("any(a, a, not(a), all(b, true), not(any(c, false)))", "\1\0\0\0\0", TRUE),
+    VALUE("true", "", TRUE),
+    VALUE("any()", "", FALSE),
+    VALUE("key = \"a\0\xc3\xa9\"", "\1", TRUE),
+
+    NO_VALUE("all(a, b)", "", MISCOUNTED),
+    NO_VALUE("all(a, b)", "\1", MISCOUNTED),
+    NO_VALUE("all(a, b)", "\1\1\1", MISCOUNTED),
+    NO_VALUE("true", "\1", MISCOUNTED),
+    NO_VALUE("all(a, b", "\1\1", FAULTY),
+    NO_VALUE("", "", FAULTY),
+    NO_VALUE("unix\0unix", "\1\1", FAULTY),
+    NO_VALUE("a = \"\xff\"", "\1", NOT_UTF8),
+};
+
+static void call(const void *item, size_t room, uint32_t status)
+{
+    const struct row *row = item;
+    char *text = block_of(row->text);
+    uint8_t *answers = block_of(row->answers);
+    struct buffer value = make_buffer(&BYTES, 1);
+    uint32_t found = cfgx_value(text, row->text.length, answers, row->answers.length, value.bytes);
+    (void)room;
+    free_block(text);
+    free_block(answers);
+    expect_number("the status", found, status);
+    expect_filled(value, &row->value, status == CFGX_STATUS_DONE);
+}
+
+int main(void)
+{
+    for (size_t i = 0; i < COUNT(rows); i++) {
+        test_row(call, &rows[i], rows[i].text, 1, rows[i].status);
+    }
+    return finish("cfgx_value", 1);
+}
