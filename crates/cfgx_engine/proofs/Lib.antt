@@ -1,9 +1,11 @@
 pub mod AuditLemmas
 pub mod FlagLemmas
+pub mod LaneAnswers
 pub mod OneOutput
 pub mod OutputLemmas
 pub mod PickLemmas
 pub mod ReadingLemmas
 pub mod RowLemmas
 pub mod SectionLemmas
+pub mod ValueLemmas
 pub mod VerdictLemmas
