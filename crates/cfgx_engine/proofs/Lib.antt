@@ -1,5 +1,6 @@
 pub mod AuditLemmas
-pub mod FlagLemmas
+pub mod FactLemmas
+pub mod KeyLemmas
 pub mod LaneAnswers
 pub mod OneOutput
 pub mod OutputLemmas

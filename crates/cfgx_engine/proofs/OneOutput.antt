@@ -18,7 +18,10 @@ use Rattle.cfgx_grammar.specs.{Question.Question, Spelling.spelling, Tree.Tree}
 use Rattle.cfgx_grammar.specs.{WellFormed.IsWellFormed, Filling.three_valued, Fold.tree_fold}
 use Rattle.cfgx_grammar.{specs.Answer.ReadsAs, proofs.alone.spelling_alone}
 use Rattle.cfgx_grammar.proofs.{Answering.only_tree, Answering.same_fault, alone.well_formed_tree}
-use Rattle.cfgx_engine.specs.Flags.{IsAnswer, Names, flag_text, known_texts, unknown_texts}
+use Rattle.cfgx_engine.specs.Facts.{FactTexts, IsAnswer, Names, fact_text, texts_of}
+use Rattle.cfgx_engine.specs.Facts.{unnamed_answer}
+use Rattle.cfgx_engine.specs.declared.resolve.facts.Otherwise.{Otherwise}
+use Rattle.cfgx_engine.specs.declared.resolve.facts.Otherwise.TheVariants as otherwise
 use Rattle.cfgx_engine.specs.{Input.input_limit, Request.Request, Request.request_of}
 use Rattle.cfgx_engine.specs.Output.{HasValue, Output, ValueBy, answer_on, result_output}
 use Rattle.cfgx_engine.specs.Output.{tree_output, unknown_triple, usage, value_by}
@@ -91,9 +94,9 @@ ParsesAs-single text (Ok tree) (Err _) this that = absurd (cc (that.1.only (Ok t
 ParsesAs-single text (Err _) (Ok other) this that = absurd (cc (this.1.only (Ok other) that.has))
 
 -- the value over the answers of the flags
-IsAnswer-single : (known unknown : List (List ℕ)) (question : Question)
-    → IsSingle (IsAnswer known unknown question)
-IsAnswer-single known unknown question one other this that = grind arith
+IsAnswer-single : (facts : FactTexts) (unnamed : Otherwise) (question : Question)
+    → IsSingle (IsAnswer facts unnamed question)
+IsAnswer-single facts unnamed question one other this that = grind arith
 
 ValueBy-single : (flags : List (List ℕ)) (read : Result (List (Tree Question)) TextFault)
     → IsSingle (ValueBy flags read)
@@ -222,22 +225,23 @@ module _ (Q : List ℕ → Type 0) (tested : (text : List ℕ) → is_utf8 text 
           (Any-known (same-known question well_formed) _ (well_formed_tree text tree read.has))
 
   -- the answers of the flags
-  module _ (known unknown : List (List ℕ)) (these : AllByRecursion Q known)
-      (those : AllByRecursion Q unknown) where
+  module _ (facts : FactTexts) (unnamed : Otherwise) (these : AllByRecursion Q facts.of_true)
+      (those : AllByRecursion Q facts.of_unknown) where
     answers-some : (questions : List Question) → AllByRecursion IsWellFormed questions
-        → HasSome (AllZip (IsAnswer known unknown) questions)
+        → HasSome (AllZip (IsAnswer facts unnamed) questions)
     answers-some [] all = ([], tt)
     answers-some (question ∷ questions) all =
         let names = Names-known question all.0 in
         let rest = answers-some questions all.1 in
-        ⊎_elim (λ is. (Some true ∷ rest.0, (is, rest.1))) (λ not.
-        ⊎_elim (λ is. (None ∷ rest.0, ((not, is), rest.1))) (λ none.
-        (Some false ∷ rest.0, ((not, none), rest.1))) (Any-known names unknown those))
-        (Any-known names known these)
+        ⊎_elim (λ is. (Some true ∷ rest.0, (inl (is, refl), rest.1))) (λ not.
+        ⊎_elim (λ is. (None ∷ rest.0, (inr (inl (not, is, refl)), rest.1))) (λ none.
+        (unnamed_answer unnamed question ∷ rest.0, (inr (inr (not, none, refl)), rest.1)))
+        (Any-known names facts.of_unknown those)) (Any-known names facts.of_true these)
 
   flags-are : (R : List ℕ → Type 0) → ((text : List ℕ) → Q text → R text)
-      → (flags : List (List ℕ)) → AllByRecursion Q flags → AllByRecursion R (map flag_text flags)
-      × AllByRecursion Q (known_texts flags) × AllByRecursion Q (unknown_texts flags)
+      → (flags : List (List ℕ)) → AllByRecursion Q flags → AllByRecursion R (map fact_text flags)
+      × AllByRecursion Q (texts_of flags).of_true
+      × AllByRecursion Q (texts_of flags).of_unknown
   flags-are R each [] all = (tt, tt, tt)
   flags-are R each (flag ∷ flags) all =
       let rest = flags-are R each flags all.1 in
@@ -248,15 +252,16 @@ module _ (Q : List ℕ → Type 0) (tested : (text : List ℕ) → is_utf8 text 
   HasValue-some text flags is all =
       let texts = flags-are (λ text. HasSome (ParsesAs text)) ParsesAs-some flags all in
       valued texts.1 texts.2
-      (GivesAll-some ParsesAs (text ∷ map flag_text flags) (ParsesAs-some text is, texts.0))
+      (GivesAll-some ParsesAs (text ∷ map fact_text flags) (ParsesAs-some text is, texts.0))
     where
-      valued : AllByRecursion Q (known_texts flags) → AllByRecursion Q (unknown_texts flags)
-          → HasSome (GivesAll ParsesAs (text ∷ map flag_text flags)) → HasSome (HasValue text flags)
+      valued : AllByRecursion Q (texts_of flags).of_true
+          → AllByRecursion Q (texts_of flags).of_unknown
+          → HasSome (GivesAll ParsesAs (text ∷ map fact_text flags)) → HasSome (HasValue text flags)
       valued known unknown (Err fault, gives) = (Err fault, (Err fault, gives, refl))
       valued known unknown (Ok [], gives) = absurd (grind arith)
       valued known unknown (Ok (tree ∷ trees), gives) =
           let read : ReadsAs (strip text) (Ok tree) = grind arith in
-          let all = answers-some _ _ known unknown _ (well_formed_tree _ tree read.has) in
+          let all = answers-some _ otherwise.False known unknown _ (well_formed_tree _ tree read.has) in
           (Ok (tree_fold three_valued tree all.0), (Ok (tree ∷ trees), gives, (all.0, all.1, refl)))
 
   -- what holds of each line holds of the lines of an input

@@ -1,5 +1,5 @@
 pub mod Audits
-pub mod Flags
+pub mod Facts
 pub mod Input
 pub mod Output
 pub mod Prints

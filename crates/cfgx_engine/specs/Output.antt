@@ -12,8 +12,9 @@ use Rattle.cfgx_grammar.specs.Filling.{three_valued}
 use Rattle.cfgx_grammar.specs.Fold.{tree_fold}
 use Rattle.cfgx_grammar.specs.Matching.{meets}
 use Rattle.cfgx_grammar.specs.Spelling.{spelling}
-use Rattle.cfgx_engine.specs.Flags.{IsAnswer, flag_text, known_texts, unknown_texts}
+use Rattle.cfgx_engine.specs.Facts.{IsAnswer, fact_text, texts_of}
 use Rattle.cfgx_engine.specs.Readings.{GivesAll, ParsesAs}
+use Rattle.cfgx_engine.specs.declared.resolve.facts.Otherwise.TheVariants as otherwise
 use Rattle.cfgx_engine.specs.Verdicts.{answer_by}
 
 -- what a run writes, and its exit status, if memory is found and no call fails
@@ -70,7 +71,7 @@ abbrev pub ValueBy : List (List ℕ) → Result (List (Tree Question)) TextFault
     → Result (Option Bool) TextFault → Type 0
 ValueBy flags (Ok []) value = ⊥
 ValueBy flags (Ok (tree ∷ _)) value = (answers : List (Option Bool))
-    × AllZip (IsAnswer (known_texts flags) (unknown_texts flags)) (asked tree) answers
+    × AllZip (IsAnswer (texts_of flags) otherwise.False) (asked tree) answers
     × (value ≡ Ok (tree_fold three_valued tree answers))
 ValueBy flags (Err fault) value = value ≡ Err fault
 
@@ -78,7 +79,7 @@ ValueBy flags (Err fault) value = value ≡ Err fault
 -- the flags
 abbrev pub HasValue : List ℕ → List (List ℕ) → Result (Option Bool) TextFault → Type 0
 HasValue text flags value = (reading : Result (List (Tree Question)) TextFault)
-    × GivesAll ParsesAs (text ∷ map flag_text flags) reading × ValueBy flags reading value
+    × GivesAll ParsesAs (text ∷ map fact_text flags) reading × ValueBy flags reading value
 
 -- the answer of a target to a question. A question that is not on the target is unknown
 abbrev pub answer_on : {A : Type 0} → TargetInfo A → Question → Option Bool

@@ -10,11 +10,15 @@ ghost use Rattle.cfgx_parser.specs.Predicate.{question_of};
 ghost use Rattle.cfgx_engine.specs.Verdicts.{answer_by, IsVerdict};
 
 mod auditing;
+mod by_facts;
+mod facts;
 
 use auditing::{ByMatching, push_values};
 use cfg_expr::expr::{Condition, Predicates, TargetMatcher};
 use cfg_expr::memory::SmallAllocator;
 use cfg_expr::{Decision, Expression, Predicate};
+pub use by_facts::audit_facts;
+pub use facts::{Facts, FactsError, Otherwise};
 use std::alloc::{AllocError, Global};
 
 /// A section of a manifest, which counts if its condition is true.

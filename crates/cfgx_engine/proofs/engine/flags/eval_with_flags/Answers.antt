@@ -1,13 +1,28 @@
 -- Each call returns the answer of the flags, and leaves them.
-use Rattle.std.proofs.Common.{◌≡◌, ◌∷◌, ap, refl, rules, Ok, Err}
+use Rattle.std.proofs.Common.{◌≡◌, ℕ, List, ◌∷◌, map, ap, refl, rules, Ok, Err}
 use Rattle.std.proofs.{lemmas.Option.IfSome_then, lemmas.Result.err_from_is_err_and}
 use Rattle.cfg_expr.proofs.Chains.{Calls-AllZip}
 use Rattle.cfgx_parser.specs.Predicate.{question_of}
-use Rattle.cfgx_engine.specs.Flags.{IsAnswer, known_texts, unknown_texts}
-use Rattle.cfgx_engine.specs.{Output.HasValue, Readings.ParsesAs, Request.texts}
+use Rattle.cfgx_engine.specs.Facts.{FactTexts, IsAnswer, IsFlag, ReadsFacts, texts_of}
+use Rattle.cfgx_engine.specs.declared.resolve.facts.Otherwise.TheVariants as otherwise
+use Rattle.cfgx_engine.specs.declared.resolve.facts.FactsError.{FactsError}
+use Rattle.cfgx_engine.specs.declared.resolve.facts.FactsError.TheVariants as facts_error
+use Rattle.cfgx_engine.specs.internal.{ReadsFacts.failure_in, Shows.Fails}
+use Rattle.cfgx_engine.specs.Facts.{fact_text}
+use Rattle.cfgx_engine.specs.{Output.HasValue, Readings.GivesAll, Readings.ParsesAs}
+use Rattle.cfgx_engine.specs.Request.{texts}
 use Rattle.cfgx_engine.proofs.ReadingLemmas.{first_fails, later_fails}
-use Rattle.cfgx_engine.proofs.{FlagLemmas.trees_of, OutputLemmas.Fails-parse}
+use Rattle.cfgx_engine.proofs.FactLemmas.{GivesAll-faulty, IsAnswer-alike, trees_of}
+use Rattle.cfgx_engine.proofs.OutputLemmas.{Fails-parse}
 use Rattle.cfgx_engine.proofs.engine.flags.eval_with_flags.Goals as goal
+
+-- the error of faulty flags is their first fault
+Fails-flags : {A : Type 0} (flags : List (List ℕ)) (error : FactsError A)
+    → ReadsFacts {A = A} IsFlag flags (Err error)
+    → Fails {A = A} (λ fault. GivesAll ParsesAs (map fact_text flags) (Err fault))
+    (failure_in {A = A} error)
+Fails-flags flags (facts_error.Faulty index error) first = GivesAll-faulty flags index _ first
+Fails-flags flags (facts_error.Memory error) first = tt
 
 pub returns-in_err-condition : goal.returns-in_err-condition
 returns-in_err-condition g c =
@@ -22,8 +37,10 @@ returns-in_err-flags g c =
     let p = err_from_is_err_and c.from_residual-in_err-flags.result
     c.from_residual-in_err-flags.ensures.1 in
     let one = c.in_ok-condition.ensures.2 in
-    let Valued = HasValue c.args.text.now (texts c.args.words.now) in
-    rw (p.1, p.2) (IfSome_then _ {Q = λ fault. Valued (Err fault)} c.in_err-flags.ensures
+    let words = texts c.args.words.now in
+    let Valued = HasValue c.args.text.now words in
+    rw (p.1, p.2) (IfSome_then _ {Q = λ fault. Valued (Err fault)}
+    (Fails-flags {A = g.row.A.Denot} words c.in_err-flags.field-0 c.in_err-flags.ensures)
     (λ fault gives. (Err fault, later_fails ParsesAs _ one.tree _ fault one.reads gives, refl)))
 
 pub returns : goal.returns
@@ -33,12 +50,12 @@ returns g c =
     let words = texts c.args.words.now in
     let trees = trees_of words are.each in
     let answered = Calls-AllZip _ (λ closure. closure.0.now ≡ c.in_ok-flags.flags)
-    (IsAnswer (known_texts words) (unknown_texts words))
+    (IsAnswer (texts_of words) otherwise.False)
     (λ before question given after holds asks.
     let met = asks.called.met in
-    let answers : IsAnswer before.0.now.known.items before.0.now.unknown.items
-    (question_of asks.shown.now) given = search rules in
-    (rw (← are.known_are, ← are.unknown_are, ← holds, ← asks.shows) answers, search rules))
+    let answers : IsAnswer before.0.now otherwise.False (question_of asks.shown.now) given =
+    search rules in
+    (IsAnswer-alike _ _ _ _ _ are.alike (rw (← holds, ← asks.shows) answers), search rules))
     _ _ _ _ (refl {a = c.in_ok-flags.flags}) evaluates.calls in (
       Ok (evaluates.one.tree ∷ trees.0),
       (evaluates.one.reads, trees.1),

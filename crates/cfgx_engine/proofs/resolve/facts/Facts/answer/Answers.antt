@@ -1,4 +1,4 @@
-use Rattle.cfgx_engine.proofs.engine.flags.Flags.answer.Goals as goal
+use Rattle.cfgx_engine.proofs.resolve.facts.Facts.answer.Goals as goal
 
 pub returns-then-is_named : goal.returns-then-is_named
 returns-then-is_named g c = rw c.as_slice.ensures.value at (c.is_named.ensures.0 c.if-is_named.true)

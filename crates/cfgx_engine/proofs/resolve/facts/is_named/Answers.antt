@@ -1,7 +1,7 @@
 use Rattle.std.proofs.{Common.refl, Common.sym, lemmas.List.take_all, lemmas.List.Elements.All-more}
 use Rattle.cfgx_parser.specs.Predicate.{question_of}
-use Rattle.cfgx_engine.specs.Flags.{Names}
-use Rattle.cfgx_engine.proofs.engine.flags.is_named.Goals as goal
+use Rattle.cfgx_engine.specs.Facts.{Names}
+use Rattle.cfgx_engine.proofs.resolve.facts.is_named.Goals as goal
 
 pub returns-then-names : goal.returns-then-names
 returns-then-names g c =

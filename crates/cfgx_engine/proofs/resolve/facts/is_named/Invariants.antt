@@ -1,7 +1,7 @@
 use Rattle.std.{proofs.Common.take, specs.List.All}
 use Rattle.cfgx_parser.specs.Predicate.{question_of}
-use Rattle.cfgx_engine.specs.Flags.{Names}
-use Rattle.cfgx_engine.proofs.engine.flags.is_named.Given as goal
+use Rattle.cfgx_engine.specs.Facts.{Names}
+use Rattle.cfgx_engine.proofs.resolve.facts.is_named.Given as goal
 
 -- no flag so far names the predicate
 abbrev pub invariant-loop-flag : goal.invariant-loop-flag

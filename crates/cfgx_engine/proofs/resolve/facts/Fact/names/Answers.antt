@@ -1,7 +1,7 @@
 use Rattle.std.proofs.Common.{◌≡◌, zero, suc, List, [], ◌∷◌, Contains, arith}
 use Rattle.std.proofs.lemmas.List.Elements.{Contains-append_right}
 use Rattle.cfgx_parser.specs.Predicate.{question_of}
-use Rattle.cfgx_engine.proofs.engine.flags.Flag.names.Goals as goal
+use Rattle.cfgx_engine.proofs.resolve.facts.Fact.names.Goals as goal
 use Rattle.cfgx_grammar.proofs.Answering.{only_tree}
 
 -- an item of a list that is not the first is one of the others

@@ -1,0 +1,123 @@
+-- What facts say of a predicate, and which texts are facts. A fact is a text whose predicates are
+-- true, or `?` and a text whose predicates are unknown.
+-- Source of the rules: docs/RULES.md.
+use Rattle.std.specs.Prelude.{◌≡◌, ◌⊎◌, ◌↔◌, ℕ, Bool, true, false, List, codes, take, drop, map}
+use Rattle.std.specs.Prelude.{Option, Some, None, Result, Ok, Err, is_some, unwrap_or, slice_get}
+use Rattle.std.specs.Prelude.{if◌then◌else◌}
+use Rattle.std.specs.List.{AllByRecursion, Any, Contains, filter_map}
+use Rattle.std.specs.Str.{bytes_eq}
+use Rattle.cfgx_syntax.specs.Stripping.{strip}
+use Rattle.cfgx_syntax.specs.Items.{Item, Ending, AreItems}
+use Rattle.cfgx_syntax.specs.Error.{Cause, TextFault, fault_of}
+use Rattle.cfgx_grammar.specs.Question.{Question}
+use Rattle.cfgx_grammar.specs.Tree.{Tree, asked}
+use Rattle.cfgx_grammar.specs.Grammar.{HasTree, leaf_tokens}
+use Rattle.cfgx_grammar.specs.Classification.{Class, Part, class}
+use Rattle.cfgx_grammar.specs.Answer.{HasOneTree}
+use Rattle.cfgx_engine.specs.Readings.{ParsesAs}
+use Rattle.cfgx_engine.specs.declared.resolve.facts.Otherwise.{Otherwise}
+use Rattle.cfgx_engine.specs.declared.resolve.facts.Otherwise.TheVariants as otherwise
+use Rattle.cfgx_engine.specs.declared.resolve.facts.FactsError.{FactsError}
+use Rattle.cfgx_engine.specs.declared.resolve.facts.FactsError.TheVariants as facts_error
+
+-- the text of a fact whose predicates are unknown: what follows the `?` in front
+abbrev pub unknown_text : List ℕ → Option (List ℕ)
+unknown_text fact = if bytes_eq (take 1 fact) (codes "?") then Some (drop 1 fact) else None
+
+-- the text of a fact whose predicates are true: the whole fact
+abbrev pub true_text : List ℕ → Option (List ℕ)
+true_text fact = if is_some (unknown_text fact) then None else Some fact
+
+-- the text of a fact of either kind
+abbrev pub fact_text : List ℕ → List ℕ
+fact_text fact = unwrap_or (unknown_text fact) fact
+
+-- texts whose predicates are true, and texts whose predicates are unknown, each without an outer
+-- `cfg( )`
+pub record FactTexts : Type 0 where
+  pub of_true : List (List ℕ)
+  pub of_unknown : List (List ℕ)
+
+-- the texts of facts
+abbrev pub texts_of : List (List ℕ) → FactTexts
+texts_of facts = record {
+  of_true = map strip (filter_map true_text facts);
+  of_unknown = map strip (filter_map unknown_text facts);
+}
+
+-- the text's tree asks the question
+abbrev pub Names : List ℕ → Question → Type 0
+Names text question = (tree : Tree Question) × HasTree text tree × Contains (asked tree) question
+
+-- one of the texts names the question
+abbrev pub IsNamed : List (List ℕ) → Question → Type 0
+IsNamed texts question = Any (λ text. Names text question) texts
+
+-- the answer to a question that no text names: false, or unknown if `otherwise` says so and the
+-- question is not on the target
+abbrev pub unnamed_answer : Otherwise → Question → Option Bool
+unnamed_answer otherwise.False question = Some false
+unnamed_answer otherwise.Unknown (Question.target question) = Some false
+unnamed_answer otherwise.Unknown question = None
+
+-- the answer to a question: true if a text of true predicates names it, else unknown if a text of
+-- unknown predicates names it, else that of a question that no text names
+abbrev pub IsAnswer : FactTexts → Otherwise → Question → Option Bool → Type 0
+IsAnswer facts otherwise question answer =
+    (IsNamed facts.of_true question × (answer ≡ Some true))
+    ⊎ (¬ IsNamed facts.of_true question × IsNamed facts.of_unknown question × (answer ≡ None))
+    ⊎ (¬ IsNamed facts.of_true question × ¬ IsNamed facts.of_unknown question
+    × (answer ≡ unnamed_answer otherwise question))
+
+-- both name the same questions as true, and the same as unknown
+pub record NameAlike (one other : FactTexts) : Type 0 where
+  pub true_alike : (question : Question)
+      → IsNamed one.of_true question ↔ IsNamed other.of_true question
+  pub unknown_alike : (question : Question)
+      → IsNamed one.of_unknown question ↔ IsNamed other.of_unknown question
+
+-- the text is a key, or a key, `=` and a value
+pub record IsKeyAndValue (text : List ℕ) : Type 0 where
+  pub key : List ℕ
+  pub value : Option (List ℕ)
+  pub items : List Item
+  pub are_items : AreItems text items Ending.blank
+  pub spelled : map (λ item. item.token) items ≡ leaf_tokens key value
+
+-- No condition can ask the text: it is a key, or a key, `=` and a value, and the key is at fault. It
+-- begins with `target_` and is not known, or lacks the value that it needs.
+abbrev pub IsUnaskable : List ℕ → Type 0
+IsUnaskable text = (leaf : IsKeyAndValue text) × (cause : Cause)
+    × (class leaf.key leaf.value ≡ Class.faulty cause Part.of_key)
+
+-- a fact that `cfgx eval` takes: its text is a condition
+abbrev pub IsFlag : List ℕ → Type 0
+IsFlag fact = HasOneTree (strip (fact_text fact))
+
+-- a fact that a compiler may print: its text is a condition, or no condition can ask it
+abbrev pub IsRustcFact : List ℕ → Type 0
+IsRustcFact fact = IsFlag fact ⊎ IsUnaskable (strip (fact_text fact))
+
+-- each fact is accepted, and the texts name what those of the facts name. A fact that no condition
+-- can ask names nothing
+pub record AreFacts (Accepts : List ℕ → Type 0) (facts : List (List ℕ)) (read : FactTexts)
+    : Type 0 where
+  pub each : AllByRecursion Accepts facts
+  pub alike : NameAlike read (texts_of facts)
+
+-- the fact at `index` is the first that is not accepted, and its text has this fault
+pub record IsFirstFaulty (Accepts : List ℕ → Type 0) (facts : List (List ℕ)) (index : ℕ)
+    (fault : TextFault) : Type 0 where
+  pub fact : List ℕ
+  pub stands : slice_get facts index ≡ Some fact
+  pub before : AllByRecursion Accepts (take index facts)
+  pub refused : ¬ Accepts fact
+  pub parses : ParsesAs (fact_text fact) (Err fault)
+
+-- the facts, or the first that is not accepted
+abbrev pub ReadsFacts : {A : Type 0} → (List ℕ → Type 0) → List (List ℕ)
+    → Result FactTexts (FactsError A) → Type 0
+ReadsFacts Accepts facts (Ok read) = AreFacts Accepts facts read
+ReadsFacts Accepts facts (Err (facts_error.Faulty index error)) =
+    IsFirstFaulty Accepts facts index (fault_of error)
+ReadsFacts Accepts facts (Err (facts_error.Memory error)) = Unit {0}

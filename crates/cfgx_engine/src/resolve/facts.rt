@@ -1,0 +1,302 @@
+//! Facts of a target, and what they answer to predicates.
+ghost use Rattle.std.specs.Prelude.{◌≡◌, ◌↔◌, Err, IfErr, IsTrue, OnOk};
+ghost use Rattle.cfgx_syntax.specs.Stripping.{strip};
+ghost use Rattle.cfgx_parser.specs.Predicate.{question_of};
+ghost use Rattle.cfgx_engine.specs.Facts.{IsAnswer, IsFlag, IsNamed, IsRustcFact, Names};
+ghost use Rattle.cfgx_engine.specs.Facts.{ReadsFacts, fact_text, unnamed_answer};
+ghost use Rattle.cfgx_engine.specs.internal.ReadsFacts.{AddsFact, IsKeyAt, IsLastValue, PushesText};
+ghost use Rattle.cfgx_engine.specs.internal.ReadsFacts.{ReadsText, accepts, error_at, passes_over};
+ghost use Rattle.cfgx_engine.specs.internal.Shows.{Fails};
+ghost use Rattle.cfgx_engine.specs.Readings.{ParsesAs};
+ghost use Rattle.cfgx_engine.specs.Request.{texts};
+
+use cfg_expr::error::{Failure, ParseError};
+use cfg_expr::expr::lexer::{Lexer, LexerToken, Token};
+use cfg_expr::memory::SmallAllocator;
+use cfg_expr::{Expression, Predicate};
+use std::alloc::{AllocError, Allocator, Global};
+use std::marker::Model;
+
+/// The answer to a predicate that no fact names.
+#[derive(Clone, Copy, PartialEq, Eq, Debug)]
+pub enum Otherwise {
+    /// False
+    False,
+    /// False if the predicate is on the target, and otherwise unknown
+    Unknown,
+}
+
+/// The error of a call that reads facts.
+#[derive(Drop)]
+#[derive_where(Debug)]
+pub enum FactsError<A: Allocator = Global> {
+    /// A fact is faulty, and every fact before it is not.
+    Faulty {
+        /// The index of the fact
+        index: usize,
+        /// What is wrong with its text, which follows the `?`
+        error: ParseError<A>,
+    },
+    /// The call ran out of memory. A fact may be faulty or none.
+    Memory(AllocError),
+}
+
+impl<A: Allocator> FactsError<A> {
+    /// Returns the error of the fact at `index`.
+    fn at(index: usize, failure: Failure<A>) -> FactsError<A>
+        ensures { result ≡ error_at index failure }
+    {
+        match failure {
+            Failure::Parse(error) => FactsError::Faulty { index, error },
+            Failure::Memory(error) => FactsError::Memory(error),
+        }
+    }
+}
+
+/// Leaves out the index of the fact.
+impl<A: Allocator> From<FactsError<A>> for Failure<A> {
+    ghost use Rattle.cfgx_engine.specs.internal.ReadsFacts.{failure_in};
+
+    ghost from_gives = { λ error failure. failure ≡ failure_in error };
+
+    fn from(error: FactsError<A>) -> Failure<A> {
+        match error {
+            FactsError::Faulty { error, .. } => Failure::Parse(error),
+            FactsError::Memory(error) => Failure::Memory(error),
+        }
+    }
+}
+
+/// What a text is that no condition can ask.
+#[derive(Clone, Copy)]
+enum Unaskable {
+    /// Faulty, as every other text that is no condition
+    Faulty,
+    /// Passed over
+    PassedOver,
+}
+
+/// A parsed fact, which names the predicates of its text. Contracts see the text.
+#[derive(Drop)]
+#[derive_where(Debug)]
+struct Fact<A: SmallAllocator> {
+    condition: Expression<A>,
+}
+
+impl<A: SmallAllocator> Model for Fact<A> {
+    ghost use Rattle.std.specs.Prelude.{List, ℕ};
+
+    ghost Value = { List ℕ };
+
+    ghost view = { λ fact. fact.condition };
+}
+
+impl<A: SmallAllocator> Fact<A> {
+    /// Parses the text of a fact. Returns `None` if it is passed over.
+    fn parse(alloc: A, text: &str, unaskable: Unaskable) -> Result<Option<Fact<A>>, Failure<A>>
+        ensures { ReadsText unaskable text.now result }
+    {
+        match Expression::parse(alloc, text) {
+            Ok(condition) => Ok(Some(Fact { condition })),
+            Err(Failure::Parse(error)) => match unaskable {
+                Unaskable::PassedOver if is_key_at(alloc, text, error.span.start) => Ok(None),
+                _ => Err(Failure::Parse(error)),
+            },
+            Err(failure) => Err(failure),
+        }
+    }
+
+    /// Whether this fact names `predicate`.
+    fn names(&self, predicate: &Predicate<'_>) -> bool
+        ensures { IsTrue result ↔ Names self.now (question_of predicate.now) }
+    {
+        for named in self.condition.predicates() {
+            if is_same(named, predicate) {
+                return true;
+            }
+        }
+        false
+    }
+}
+
+/// What is known of a target: which predicates are true, and which are unknown. Contracts see the
+/// texts of the facts, without an outer `cfg( )`.
+///
+/// A fact is a text, or `?` and a text. It names every predicate in its text, also one below a
+/// `not`: as unknown if it begins with `?`, and otherwise as true. A predicate that facts of both
+/// kinds name is true.
+#[derive(Drop)]
+#[derive_where(Debug)]
+pub struct Facts<A: SmallAllocator = Global> {
+    /// The facts that name true predicates
+    true_facts: Vec<Fact<A>, A>,
+    /// The facts that name unknown predicates
+    unknown_facts: Vec<Fact<A>, A>,
+}
+
+impl<A: SmallAllocator> Model for Facts<A> {
+    ghost use Rattle.cfgx_engine.specs.Facts.{FactTexts};
+
+    ghost Value = { FactTexts };
+
+    ghost view = { λ facts. record {
+      of_true = facts.true_facts.items;
+      of_unknown = facts.unknown_facts.items;
+    } };
+}
+
+impl<A: SmallAllocator> Facts<A> {
+    /// Reads facts, as `cfgx eval` does its flags.
+    ///
+    /// # Errors
+    ///
+    /// `FactsError::Faulty`: the first fact whose text is no condition. `FactsError::Memory`:
+    /// `alloc` refused memory.
+    pub fn from_flags(alloc: A, flags: &[&str]) -> Result<Facts<A>, FactsError<A>>
+        ensures { ReadsFacts IsFlag (texts flags.now) result }
+    {
+        Facts::read(alloc, flags, Unaskable::Faulty)
+    }
+
+    /// Reads facts, such as the lines of `rustc --print cfg`. A fact that no condition can ask is
+    /// passed over: its text is a key, or a key, `=` and a value, and the key begins with `target_`
+    /// and is not known, or lacks the value that it needs. Some compilers print such lines.
+    ///
+    /// # Errors
+    ///
+    /// `FactsError::Faulty`: the first other fact whose text is no condition.
+    /// `FactsError::Memory`: `alloc` refused memory.
+    pub fn from_rustc(alloc: A, lines: &[&str]) -> Result<Facts<A>, FactsError<A>>
+        ensures { ReadsFacts IsRustcFact (texts lines.now) result }
+    {
+        Facts::read(alloc, lines, Unaskable::PassedOver)
+    }
+
+    /// Reads each of `words` as a fact, in order.
+    fn read(alloc: A, words: &[&str], unaskable: Unaskable) -> Result<Facts<A>, FactsError<A>>
+        ensures { ReadsFacts (accepts unaskable) (texts words.now) result }
+    {
+        let mut facts = Facts {
+            true_facts: Vec::new(alloc),
+            unknown_facts: Vec::new(alloc),
+        };
+        for (index, word) in words.iter().enumerate() {
+            if let Err(failure) = facts.add(alloc, word, unaskable) {
+                return Err(FactsError::at(index, failure));
+            }
+        }
+        Ok(facts)
+    }
+
+    /// Reads a fact and adds it, if it is not passed over.
+    fn add(&mut self, alloc: A, word: &str, unaskable: Unaskable) -> Result<(), Failure<A>>
+        ensures ok { OnOk result (AddsFact (accepts unaskable) word.now self.old self.new) }
+        ensures err { IfErr result (Fails (λ fault. ParsesAs (fact_text word.now) (Err fault)
+            × ¬ accepts unaskable word.now)) }
+    {
+        match word.strip_prefix('?') {
+            Some(text) => push_fact(alloc, &mut self.unknown_facts, text, unaskable),
+            None => push_fact(alloc, &mut self.true_facts, word, unaskable),
+        }
+    }
+
+    /// Returns the answer of the facts to `predicate`: true if a fact names it as true, otherwise
+    /// unknown if a fact names it as unknown, and otherwise what `otherwise` says.
+    pub fn answer(&self, predicate: &Predicate<'_>, otherwise: Otherwise) -> Option<bool>
+        ensures { IsAnswer self.now otherwise (question_of predicate.now) result }
+    {
+        if is_named(self.true_facts.as_slice(), predicate) {
+            Some(true)
+        } else if is_named(self.unknown_facts.as_slice(), predicate) {
+            None
+        } else {
+            unnamed_answer(predicate, otherwise)
+        }
+    }
+}
+
+/// Parses the text of a fact and pushes the fact, if it is not passed over.
+fn push_fact<A: SmallAllocator>(
+    alloc: A,
+    facts: &mut Vec<Fact<A>, A>,
+    text: &str,
+    unaskable: Unaskable,
+) -> Result<(), Failure<A>>
+    ensures ok { OnOk result (PushesText unaskable text.now facts.old.items facts.new.items) }
+    ensures err { IfErr result (Fails (λ fault. ParsesAs text.now (Err fault)
+        × ¬ passes_over unaskable (strip text.now))) }
+{
+    if let Some(fact) = Fact::parse(alloc, text, unaskable)? {
+        facts.push(fact)?;
+    }
+    Ok(())
+}
+
+/// Whether the stripped text is a key, or a key, `=` and a value, and the key starts at `place`.
+fn is_key_at<A: SmallAllocator>(alloc: A, text: &str, place: usize) -> bool
+    ensures { IsTrue result ↔ IsKeyAt (strip text.now) place }
+{
+    let mut lexer = Lexer::new(alloc, text);
+    let start = match lexer.next() {
+        Some(Ok(LexerToken {
+            token: Token::Key(_),
+            span,
+        })) => span.start,
+        _ => return false,
+    };
+    match lexer.next() {
+        None => start == place,
+        Some(Ok(LexerToken {
+            token: Token::Equals,
+            ..
+        })) => start == place && is_last_value(lexer),
+        _ => false,
+    }
+}
+
+/// Whether only a value is left.
+fn is_last_value<A: SmallAllocator>(mut lexer: Lexer<'_, A>) -> bool
+    ensures { IsTrue result ↔ IsLastValue lexer.entry }
+{
+    match lexer.next() {
+        Some(Ok(LexerToken {
+            token: Token::Value(_),
+            ..
+        })) => lexer.next().is_none(),
+        _ => false,
+    }
+}
+
+/// Whether `named` and `asked` are the same predicate. `named` is dropped here: if the loop of
+/// `Fact::names` dropped it, the proof of the loop would have a case for each kind of predicate.
+fn is_same(named: Predicate<'_>, asked: &Predicate<'_>) -> bool
+    ensures { IsTrue result ↔ (question_of named.entry ≡ question_of asked.now) }
+{
+    named == *asked
+}
+
+/// Whether one of `facts` names `predicate`.
+#[inline(always)]
+fn is_named<A: SmallAllocator>(facts: &[Fact<A>], predicate: &Predicate<'_>) -> bool
+    ensures { IsTrue result ↔ IsNamed facts.now (question_of predicate.now) }
+{
+    for fact in facts {
+        if fact.names(predicate) {
+            return true;
+        }
+    }
+    false
+}
+
+/// Returns the answer to a predicate that no fact names.
+fn unnamed_answer(predicate: &Predicate<'_>, otherwise: Otherwise) -> Option<bool>
+    ensures { result ≡ unnamed_answer otherwise (question_of predicate.now) }
+{
+    match otherwise {
+        Otherwise::False => Some(false),
+        Otherwise::Unknown => match predicate {
+            Predicate::Target(_) => Some(false),
+            _ => None,
+        },
+    }
+}
