@@ -77,10 +77,19 @@ enum Unaskable {
 }
 
 /// A parsed fact, which names the predicates of its text. Contracts see the text.
-#[derive(Drop)]
 #[derive_where(Debug)]
 struct Fact<A: SmallAllocator> {
     condition: Expression<A>,
+}
+
+// A derived `Drop` drops the fields for any `A: Allocator`, and an `Expression` may be dropped only
+// if its allocator is a `SmallAllocator`. `Facts` can derive it: its vectors drop facts by this impl.
+impl<A: SmallAllocator> Drop for Fact<A> {
+    fn drop(self) {
+        let Fact {
+            condition: _condition,
+        } = self;
+    }
 }
 
 impl<A: SmallAllocator> Model for Fact<A> {

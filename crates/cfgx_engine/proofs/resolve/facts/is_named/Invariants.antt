@@ -3,7 +3,7 @@ use Rattle.cfgx_parser.specs.Predicate.{question_of}
 use Rattle.cfgx_engine.specs.Facts.{Names}
 use Rattle.cfgx_engine.proofs.resolve.facts.is_named.Given as goal
 
--- no flag so far names the predicate
-abbrev pub invariant-loop-flag : goal.invariant-loop-flag
-invariant-loop-flag g l =
-    All (λ text. Names text (question_of l.predicate) → ⊥) (take l.flag-index l.flags)
+-- no fact so far names the predicate
+abbrev pub invariant-loop-fact : goal.invariant-loop-fact
+invariant-loop-fact g l =
+    All (λ text. Names text (question_of l.predicate) → ⊥) (take l.fact-index l.facts)
