@@ -4,5 +4,5 @@ use Rattle.cfgx_engine.specs.{Audits.AreValues, Facts.IsAnswer}
 use Rattle.cfgx_engine.proofs.resolve.by_facts.audit_facts.Given as goal
 
 abbrev pub invariant-loop-condition : goal.invariant-loop-condition
-invariant-loop-condition g l = AreValues (λ facts. IsAnswer facts l.otherwise)
+invariant-loop-condition g l = AreValues (λ facts. IsAnswer facts l.fn.otherwise)
     (take l.condition-index l.conditions) l.targets l.values.items
