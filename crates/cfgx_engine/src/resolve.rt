@@ -17,7 +17,7 @@ use auditing::{ByMatching, push_values};
 use cfg_expr::expr::{Condition, Predicates, TargetMatcher};
 use cfg_expr::memory::SmallAllocator;
 use cfg_expr::{Decision, Expression, Predicate};
-pub use by_facts::audit_facts;
+pub use by_facts::{AuditError, audit_facts};
 pub use facts::{Facts, FactsError, Otherwise};
 use std::alloc::{AllocError, Global};
 
@@ -209,6 +209,12 @@ pub fn audit<A: SmallAllocator, M: TargetMatcher>(
         IsVerdict (M.answer target) condition.now verdict) targets.now verdicts.items) }
 {
     let mut verdicts = Vec::with_capacity(alloc, targets.len())?;
-    push_values(alloc, &ByMatching, condition, targets, &mut verdicts)?;
+    push_values(
+        alloc,
+        &ByMatching,
+        &condition.condition(),
+        targets,
+        &mut verdicts,
+    )?;
     Ok(verdicts)
 }
