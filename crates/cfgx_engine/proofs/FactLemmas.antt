@@ -1,20 +1,28 @@
 -- Facts that are read one after another, and what they answer.
-use Rattle.std.proofs.Common.{◌≡◌, ◌≢◌, ◌↔◌, ◌⊎◌, inl, inr, ⊎_elim, ℕ, Bool, List, [], ◌∷◌, ◌++◌}
-use Rattle.std.proofs.Common.{Option, None, Ok, Err, codes, map, refl, ap, ◌<◌, ◌+◌, zero, suc}
-use Rattle.std.proofs.Common.{Bor, bytes_eq, length, get_or, take, arith}
-use Rattle.std.{proofs.lemmas.Bool.false_from_ne_true, specs.List.AllByRecursion, specs.List.Any}
+use Rattle.std.proofs.Common.{◌≡◌, ◌≢◌, ◌↔◌, ◌⊎◌, inl, inr, ⊎_elim, ℕ, Bool, true, false, List, [], ◌∷◌, ◌++◌}
+use Rattle.std.proofs.Common.{Option, Some, None, Ok, Err, codes, map, refl, ap, ◌<◌, ◌+◌, zero}
+use Rattle.std.proofs.Common.{suc, Bor, bytes_eq, length, get_or, take, append-nil, arith}
+use Rattle.std.{proofs.lemmas.Bool.false_from_ne_true, specs.List.AllByRecursion, specs.List.filter_map}
 use Rattle.std.proofs.{lemmas.List.map-append, lemmas.List.take_more, lemmas.List.take-map}
-use Rattle.std.proofs.lemmas.Option.{slice_get-get_or, slice_get-map}
+use Rattle.std.proofs.lemmas.Option.{IfSome_then, slice_get-get_or, slice_get-map}
 use Rattle.std.proofs.lemmas.List.Elements.{All-from_recursion, All-push, filter_map-append}
 use Rattle.std.proofs.lemmas.List.Elements.{Contains-append_cases, Contains-append_left}
 use Rattle.std.proofs.lemmas.List.Elements.{Contains-append_right, recursion_from_All}
 use Rattle.std.proofs.lemmas.Slice.Eq.{bytes_eq-Decides}
-use Rattle.cfgx_syntax.specs.{Stripping.strip, Error.TextFault}
-use Rattle.cfgx_grammar.specs.{Question.Question, Tree.Tree, Answer.HasOneTree}
+use Rattle.cfgx_syntax.specs.{Stripping.strip, Error.Fault, Error.TextFault}
+use Rattle.cfgx_syntax.specs.Error.{failure_of}
+use Rattle.cfgx_syntax.specs.declared.error.Failure.{Failure}
+use Rattle.cfgx_syntax.specs.declared.error.Failure.TheVariants as failure
+use Rattle.cfgx_grammar.specs.{Question.Question, Tree.Tree, Answer.HasOneTree, Answer.ReadsAs}
+use Rattle.cfgx_grammar.proofs.Answering.{not_both}
 use Rattle.cfgx_engine.specs.Facts.{AreFacts, FactTexts, IsAnswer, IsFirstFaulty, IsFlag, IsNamed}
-use Rattle.cfgx_engine.specs.Facts.{NameAlike, fact_text, texts_of, unknown_text}
+use Rattle.cfgx_engine.specs.Facts.{NameAlike, Names, ReadsFacts, fact_text, texts_of}
+use Rattle.cfgx_engine.specs.Facts.{true_text, unknown_text}
 use Rattle.cfgx_engine.specs.declared.resolve.facts.Otherwise.{Otherwise}
-use Rattle.cfgx_engine.specs.internal.ReadsFacts.{AddsFact, joined}
+use Rattle.cfgx_engine.specs.declared.resolve.facts.Unaskable.{Unaskable}
+use Rattle.cfgx_engine.specs.declared.resolve.facts.Unaskable.TheVariants as unaskable
+use Rattle.cfgx_engine.specs.internal.ReadsFacts.{AddsFact, PushesText, accepts, error_at, joined}
+use Rattle.cfgx_engine.specs.internal.{ReadsFacts.NamesNothing, ReadsFacts.passes_over, Shows.Fails}
 use Rattle.cfgx_engine.specs.{Request.texts, Readings.GivesAll, Readings.ParsesAs}
 use Rattle.cfgx_engine.proofs.ReadingLemmas.{first_fails, later_fails}
 
@@ -54,16 +62,110 @@ IsNamed-alike xs us ys vs question alike more =
       λ named. more.1 (here.1 (⊎_elim (λ left. inl (alike.1 left)) inr (there.0 named))),
     )
 
--- the texts of one fact more
+-- the texts of one fact more, of either kind
+texts-append : (of : List ℕ → Option (List ℕ)) (facts : List (List ℕ)) (fact : List ℕ)
+    → map strip (filter_map of (facts ++ fact ∷ []))
+    ≡ map strip (filter_map of facts) ++ map strip (filter_map of (fact ∷ []))
+texts-append of facts fact = rw (filter_map-append, map-append) refl
+
 texts_of-more : (facts : List (List ℕ)) (fact : List ℕ) (old new : FactTexts)
     → NameAlike old (texts_of facts) → NameAlike new (joined old (texts_of (fact ∷ [])))
     → NameAlike new (texts_of (facts ++ fact ∷ []))
-texts_of-more facts fact old new alike more = rw (filter_map-append, map-append) (record {
-  true_alike = λ question. IsNamed-alike _ _ _ _ question (alike.true_alike question)
-      (more.true_alike question);
-  unknown_alike = λ question. IsNamed-alike _ _ _ _ question (alike.unknown_alike question)
-      (more.unknown_alike question);
-})
+texts_of-more facts fact old new alike more = record {
+  true_alike = λ question. rw (texts-append true_text facts fact) (IsNamed-alike _ _ _ _ question
+      (alike.true_alike question) (more.true_alike question));
+  unknown_alike = λ question. rw (texts-append unknown_text facts fact) (IsNamed-alike _ _ _ _
+      question (alike.unknown_alike question) (more.unknown_alike question));
+}
+
+-- The texts of a fact that is added.
+
+-- the same text behind texts names what it names
+IsNamed-one : (text : List ℕ) (question : Question) → IsNamed (text ∷ []) question
+    → Names text question
+IsNamed-one text question (zero, other, below, is, names) = rw is names
+IsNamed-one text question (suc k, other, below, is, names) = absurd (omega arith)
+
+-- texts with the text of a fact, or without it if it is passed over
+IsNamed-pushed : (passed : Unaskable) (text : List ℕ) (old new : List (List ℕ))
+    → PushesText passed text old new → (question : Question)
+    → IsNamed new question ↔ IsNamed (old ++ strip text ∷ []) question
+IsNamed-pushed passed text old new (inl (one, is)) question =
+    rw is (λ named. named, λ named. named)
+IsNamed-pushed passed text old new (inr (passes, nothing, is)) question =
+    let both = IsNamed-append old (strip text ∷ []) question in (
+      λ named. both.1 (inl (rw is at named)),
+      λ named. rw is (⊎_elim (λ left. left)
+          (λ right. absurd (nothing question (IsNamed-one (strip text) question right)))
+          (both.0 named)),
+    )
+
+IsNamed-same : (texts : List (List ℕ)) (question : Question)
+    → IsNamed texts question ↔ IsNamed (texts ++ []) question
+IsNamed-same texts question = rw append-nil (λ named. named, λ named. named)
+
+-- a fact is accepted if its text has one tree or is passed over
+accepts-text : (passed : Unaskable) (fact text : List ℕ) → fact_text fact ≡ text
+    → HasOneTree (strip text) ⊎ passes_over passed (strip text) → accepts passed fact
+accepts-text unaskable.Faulty fact text is one = ⊎_elim (λ tree. rw is tree) (λ none. absurd none) one
+accepts-text unaskable.PassedOver fact text is one = rw is one
+
+pushes-one : (passed : Unaskable) (text : List ℕ) (old new : List (List ℕ))
+    → PushesText passed text old new
+    → HasOneTree (strip text) ⊎ passes_over passed (strip text)
+pushes-one passed text old new (inl (one, is)) = inl one
+pushes-one passed text old new (inr (passes, nothing, is)) = inr passes
+
+pub AddsFact-unknown : (passed : Unaskable) (fact text : List ℕ) (old : FactTexts)
+    (new : List (List ℕ)) → unknown_text fact ≡ Some text
+    → PushesText passed text old.of_unknown new
+    → AddsFact (accepts passed) fact old (record { of_true = old.of_true; of_unknown = new })
+AddsFact-unknown passed fact text old new marked pushes = record {
+  accepted = accepts-text passed fact text (rw marked refl) (pushes-one passed text _ new pushes);
+  alike = record {
+    true_alike = λ question. rw marked (IsNamed-same old.of_true question);
+    unknown_alike = λ question.
+        rw marked (IsNamed-pushed passed text old.of_unknown new pushes question);
+  };
+}
+
+pub AddsFact-true : (passed : Unaskable) (fact : List ℕ) (old : FactTexts) (new : List (List ℕ))
+    → unknown_text fact ≡ None → PushesText passed fact old.of_true new
+    → AddsFact (accepts passed) fact old (record { of_true = new; of_unknown = old.of_unknown })
+AddsFact-true passed fact old new unmarked pushes = record {
+  accepted = accepts-text passed fact fact (rw unmarked refl) (pushes-one passed fact _ new pushes);
+  alike = record {
+    true_alike = λ question.
+        rw unmarked (IsNamed-pushed passed fact old.of_true new pushes question);
+    unknown_alike = λ question. rw unmarked (IsNamed-same old.of_unknown question);
+  };
+}
+
+-- a text with a fault asks nothing
+pub NamesNothing-fault : (text : List ℕ) (fault : Fault) → ReadsAs text (Err fault)
+    → NamesNothing text
+NamesNothing-fault text fault reads question names =
+    absurd (cc (reads.only (Ok names.0) names.1))
+
+-- what is true is not false
+pub true_and_false : (b : Bool) → b ≡ true → b ≡ false → ⊥
+true_and_false b is not = absurd cc
+
+-- a fact is not accepted if its text has a fault and is not passed over
+refuses : (passed : Unaskable) (fact : List ℕ) (fault : TextFault)
+    → ParsesAs (fact_text fact) (Err fault) → ¬ passes_over passed (strip (fact_text fact))
+    → ¬ accepts passed fact
+refuses unaskable.Faulty fact fault parses fails = λ one. not_both parses.1 one
+refuses unaskable.PassedOver fact fault parses fails = λ one.
+    ⊎_elim (λ tree. not_both parses.1 tree) fails one
+
+pub Fails-refused : {A : Type 0} (passed : Unaskable) (fact text : List ℕ) (failed : Failure A)
+    → fact_text fact ≡ text
+    → Fails {A = A} (λ fault. ParsesAs text (Err fault) × ¬ passes_over passed (strip text)) failed
+    → Fails {A = A} (λ fault. ParsesAs (fact_text fact) (Err fault) × ¬ accepts passed fact) failed
+Fails-refused {A} passed fact text failed is fails = IfSome_then (failure_of {A = A} failed) fails
+    (λ fault both. let parses = rw (← is) at both.0 in
+    (parses, refuses passed fact fault parses (rw (← is) at both.1)))
 
 -- what texts answer, others that name the same answer too
 pub IsAnswer-alike : (one other : FactTexts) (otherwise : Otherwise) (question : Question)
@@ -99,6 +201,27 @@ module _ (Accepts : List ℕ → Type 0) (words : List (Bor (List ℕ))) (i : �
     refused = refused;
     parses = parses;
   }
+
+  -- the error of a failure at a word
+  pub ReadsFacts-fails : {A : Type 0} (failed : Failure A)
+      → AllByRecursion Accepts (texts (take i words))
+      → Fails {A = A} (λ fault. ParsesAs (fact_text (get_or words i d).now) (Err fault)
+      × ¬ Accepts (get_or words i d).now) failed
+      → ReadsFacts {A = A} Accepts (texts words) (Err (error_at {A = A} i failed))
+  ReadsFacts-fails (failure.Parse error) before fails =
+      IsFirstFaulty-here _ before fails.1 fails.0
+  ReadsFacts-fails (failure.Memory error) before fails = tt
+
+-- no facts
+pub AreFacts-none : (Accepts : List ℕ → Type 0) (read : FactTexts) → read.of_true ≡ []
+    → read.of_unknown ≡ [] → AreFacts Accepts [] read
+AreFacts-none Accepts read none_true none_unknown = record {
+  each = tt;
+  alike = record {
+    true_alike = λ question. rw none_true (λ named. named, λ named. named);
+    unknown_alike = λ question. rw none_unknown (λ named. named, λ named. named);
+  };
+}
 
 -- each flag is parsed as the one tree of its text
 pub trees_of : (flags : List (List ℕ)) → AllByRecursion IsFlag flags

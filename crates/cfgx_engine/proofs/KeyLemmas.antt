@@ -1,10 +1,13 @@
 -- Texts that are a key, or a key, `=` and a value, and what is at fault in them.
-use Rattle.std.proofs.Common.{◌≡◌, ◌≢◌, ℕ, ◌+◌, ◌-◌, ◌<◌, Bool, List, [], ◌∷◌, map, refl, ap}
-use Rattle.std.proofs.Common.{Option, Some, None, Result, Ok, Err, arith, rules, length, take}
+use Rattle.std.proofs.Common.{◌≡◌, ◌⊎◌, inl, inr, ⊎_elim, ℕ, ◌+◌, ◌-◌, ◌<◌, Bool, List, [], ◌∷◌}
+use Rattle.std.proofs.Common.{map, refl, sym, ap, ◌∙◌, Option, Some, None, Result, Ok, Err, take}
+use Rattle.std.proofs.Common.{arith, rules}
 use Rattle.std.specs.{List.AllByRecursion, Option.option_or}
-use Rattle.cfgx_syntax.specs.{Error.Cause, Error.Fault, Token.Token}
-use Rattle.cfgx_syntax.specs.Items.{AreItems, Ending, Item, ItemsFrom, lexical}
+use Rattle.cfgx_syntax.specs.{Error.Cause, Error.Fault, Error.TextFault, Error.fault_in}
+use Rattle.cfgx_syntax.specs.Token.{Token}
+use Rattle.cfgx_syntax.specs.Items.{AreItems, Ending, HasOneTokenList, Item, ItemsFrom, lexical}
 use Rattle.cfgx_syntax.specs.{Lexer.GivesNext, Lexer.item_of, LexerState.LexerState}
+use Rattle.cfgx_syntax.specs.LexerState.{starting}
 use Rattle.cfgx_syntax.specs.{declared.error.Failure.Failure, declared.lexer.LexerToken.LexerToken}
 use Rattle.cfgx_syntax.proofs.TokenList.{Follows-stands, ItemsFrom-same, no_more_items}
 use Rattle.cfgx_grammar.specs.Classification.{Class, Part, Rule, by_name, class, key_rules}
@@ -12,28 +15,36 @@ use Rattle.cfgx_grammar.specs.FirstFault.{HasFault, class_fault, first_fault}
 use Rattle.cfgx_grammar.specs.{Grammar.leaf_tokens, LastPredicate.KeyAndValue}
 use Rattle.cfgx_grammar.specs.LastPredicate.{Word, word_of}
 use Rattle.cfgx_engine.specs.Facts.{IsKeyAndValue, IsUnaskable}
-use Rattle.cfgx_engine.specs.internal.ReadsFacts.{IsKeyAt}
+use Rattle.cfgx_engine.specs.internal.KeysAndValues.{AreLast, FindsNext, IsKeyAt, TakesNext}
+use Rattle.cfgx_engine.specs.internal.KeysAndValues.{end_kind, kind_at, kind_of}
+use Rattle.cfgx_engine.specs.declared.resolve.facts.Next.{Next}
+use Rattle.cfgx_engine.specs.declared.resolve.facts.Next.TheVariants as next
 
--- what a lexer yields next tells of the tokens that are left
-abbrev pub Tells : {A : Type 0} → LexerState → Option (Result LexerToken (Failure A)) → List Item
-    → Ending → Type 0
-Tells new None items ending = (items ≡ []) × (ending ≡ Ending.blank)
-Tells new (Some (Ok found)) items ending = (rest : List Item) × (items ≡ item_of found ∷ rest)
-    × ItemsFrom new.text new.place rest ending
-Tells new (Some (Err failure)) items ending = (items ≡ []) × (ending ≢ Ending.blank)
+-- what the next token is
+abbrev found_of : {A : Type 0} → Option (Result LexerToken (Failure A)) → Next
+found_of None = next.End
+found_of (Some (Ok found)) = kind_of (item_of found)
+found_of (Some (Err failure)) = next.Other
 
-pub tells : {A : Type 0} (old new : LexerState) (given : Option (Result LexerToken (Failure A)))
-    (items : List Item) (ending : Ending) → GivesNext {A = A} old given new
-    → ItemsFrom old.text old.place items ending → Tells {A = A} new given items ending
-tells old new None items ending gives come =
-    no_more_items old.text old.place items ending Ending.blank gives.0 come
-tells old new (Some (Ok found)) items ending gives come =
+other_end : (text : List ℕ) (ending : Ending) (fault : Fault) → lexical text ending ≡ Some fault
+    → next.Other ≡ end_kind ending
+other_end text Ending.blank fault is = absurd (grind arith)
+other_end text (Ending.no_token place) fault is = refl
+other_end text (Ending.unclosed_quotes place) fault is = refl
+
+-- a lexer yields the next token of those that are left
+pub takes_next : {A : Type 0} (old new : LexerState)
+    (given : Option (Result LexerToken (Failure A))) → GivesNext {A = A} old given new
+    → TakesNext old (found_of {A = A} given) new
+takes_next old new None gives items ending come =
+    let none = no_more_items old.text old.place items ending Ending.blank gives.0 come in
+    rw (none.0, none.1) refl
+takes_next old new (Some (Ok found)) gives items ending come =
     let follows = Follows-stands old.text old.place (item_of found) items ending gives.stands come
-    in (follows.rest, follows.items_are, rw gives.goes_on follows.come)
-tells old new (Some (Err failure)) items ending gives come =
-    let both = no_more_items old.text old.place items ending gives.ending gives.ends come in
-    let refused = gives.refused in
-    (both.0, λ is. absurd (grind (arith, refused, is, both.1)))
+    in rw follows.items_are (refl, rw gives.goes_on follows.come)
+takes_next old new (Some (Err failure)) gives items ending come =
+    let none = no_more_items old.text old.place items ending gives.ending gives.ends come in
+    rw (none.0, none.1) (other_end old.text gives.ending gives.fault gives.refused)
 
 -- an item of a token
 abbrev item_at : Token → ℕ → ℕ → Item
@@ -53,6 +64,136 @@ three_items : (items : List Item) (key value : List ℕ)
 three_items (one ∷ two ∷ three ∷ []) key value are =
     (one.start, one.end, two.start, two.end, three.start, three.end, grind arith)
 three_items _ key value are = absurd (grind arith)
+
+-- tokens of each kind
+
+key_kind : (token : Token) (start place : ℕ) → kind_at token start ≡ next.Key place
+    → (word : List ℕ) × (token ≡ Token.key word) × (start ≡ place)
+key_kind (Token.key word) start place is = (word, refl, grind arith)
+key_kind (Token.value inside) start place is = absurd (grind arith)
+key_kind Token.equals start place is = absurd (grind arith)
+key_kind Token.all start place is = absurd (grind arith)
+key_kind Token.any start place is = absurd (grind arith)
+key_kind Token.not start place is = absurd (grind arith)
+key_kind Token.open_paren start place is = absurd (grind arith)
+key_kind Token.close_paren start place is = absurd (grind arith)
+key_kind Token.comma start place is = absurd (grind arith)
+
+equals_kind : (token : Token) (start : ℕ) → kind_at token start ≡ next.Equals
+    → token ≡ Token.equals
+equals_kind token start is = grind arith
+
+value_kind : (token : Token) (start : ℕ) → kind_at token start ≡ next.Value
+    → (inside : List ℕ) × (token ≡ Token.value inside)
+value_kind (Token.value inside) start is = (inside, refl)
+value_kind (Token.key word) start is = absurd (grind arith)
+value_kind Token.equals start is = absurd (grind arith)
+value_kind Token.all start is = absurd (grind arith)
+value_kind Token.any start is = absurd (grind arith)
+value_kind Token.not start is = absurd (grind arith)
+value_kind Token.open_paren start is = absurd (grind arith)
+value_kind Token.close_paren start is = absurd (grind arith)
+value_kind Token.comma start is = absurd (grind arith)
+
+no_end_kind : (token : Token) (start : ℕ) → kind_at token start ≡ next.End → ⊥
+no_end_kind token start is = grind arith
+
+blank_end : (ending : Ending) → end_kind ending ≡ next.End → ending ≡ Ending.blank
+blank_end ending is = grind arith
+
+no_key_end : (ending : Ending) (place : ℕ) → end_kind ending ≡ next.Key place → ⊥
+no_key_end ending place is = grind arith
+
+no_equals_end : (ending : Ending) → end_kind ending ≡ next.Equals → ⊥
+no_equals_end ending is = grind arith
+
+no_value_end : (ending : Ending) → end_kind ending ≡ next.Value → ⊥
+no_value_end ending is = grind arith
+
+module _ (text : List ℕ) (place : ℕ) (first second third fourth : Next)
+    (from one two three four : LexerState) (begins : from ≡ starting text)
+    (takes : TakesNext from first one) (takes_2 : TakesNext one second two)
+    (takes_3 : TakesNext two third three) (takes_4 : TakesNext three fourth four) where
+  bare_key : (items : List Item) (ending : Ending) → AreItems text items ending
+      → FindsNext items ending first one → first ≡ next.Key place → second ≡ next.End
+      → IsKeyAt text place
+  bare_key [] ending are finds is ends = absurd (no_key_end ending place (sym finds ∙ is))
+  bare_key (x ∷ []) ending are finds is ends =
+      let (word, token_is, start_is) = key_kind x.token x.start place (sym finds.0 ∙ is) in
+      let blank = blank_end ending (sym (takes_2 [] ending finds.1) ∙ ends) in
+      (record {
+        key = word;
+        value = None;
+        items = x ∷ [];
+        are_items = rw blank at are;
+        spelled = ap (λ token. token ∷ []) token_is;
+      }, ap (λ start. start ∷ []) start_is)
+  bare_key (x ∷ y ∷ items) ending are finds is ends =
+      let found = takes_2 (y ∷ items) ending finds.1 in
+      absurd (no_end_kind y.token y.start (sym found.0 ∙ ends))
+
+  key_with_value : (items : List Item) (ending : Ending) → AreItems text items ending
+      → FindsNext items ending first one → first ≡ next.Key place → second ≡ next.Equals
+      → third ≡ next.Value → fourth ≡ next.End → IsKeyAt text place
+  key_with_value [] ending are finds is equals has ends =
+      absurd (no_key_end ending place (sym finds ∙ is))
+  key_with_value (x ∷ []) ending are finds is equals has ends =
+      absurd (no_equals_end ending (sym (takes_2 [] ending finds.1) ∙ equals))
+  key_with_value (x ∷ y ∷ []) ending are finds is equals has ends =
+      let found = takes_2 (y ∷ []) ending finds.1 in
+      absurd (no_value_end ending (sym (takes_3 [] ending found.1) ∙ has))
+  key_with_value (x ∷ y ∷ z ∷ []) ending are finds is equals has ends =
+      let found = takes_2 (y ∷ z ∷ []) ending finds.1 in
+      let value = takes_3 (z ∷ []) ending found.1 in
+      let (word, token_is, start_is) = key_kind x.token x.start place (sym finds.0 ∙ is) in
+      let equals_is = equals_kind y.token y.start (sym found.0 ∙ equals) in
+      let (inside, value_is) = value_kind z.token z.start (sym value.0 ∙ has) in
+      let blank = blank_end ending (sym (takes_4 [] ending value.1) ∙ ends) in
+      (record {
+        key = word;
+        value = Some inside;
+        items = x ∷ y ∷ z ∷ [];
+        are_items = rw blank at are;
+        spelled = cc (token_is, equals_is, value_is);
+      }, ap (λ start. start ∷ []) start_is)
+  key_with_value (x ∷ y ∷ z ∷ w ∷ items) ending are finds is equals has ends =
+      let found = takes_2 (y ∷ z ∷ w ∷ items) ending finds.1 in
+      let value = takes_3 (z ∷ w ∷ items) ending found.1 in
+      let last = takes_4 (w ∷ items) ending value.1 in
+      absurd (no_end_kind w.token w.start (sym last.0 ∙ ends))
+
+  -- the text is a key, or a key, `=` and a value, if these are its tokens
+  pub IsKeyAt-found : HasOneTokenList text → first ≡ next.Key place → AreLast second third fourth
+      → IsKeyAt text place
+  IsKeyAt-found one is last =
+      let finds = takes one.items one.ending (rw begins one.are) in
+      ⊎_elim (λ ends. bare_key one.items one.ending one.are finds is ends)
+      (λ (equals, has, ends). key_with_value one.items one.ending one.are finds is equals has
+      ends) last
+
+  found_by : (key : List ℕ) (value : Option (List ℕ)) (items : List Item)
+      → AreItems text items Ending.blank
+      → map (λ item. item.token) items ≡ leaf_tokens key value
+      → map (λ item. item.start) (take 1 items) ≡ place ∷ []
+      → (first ≡ next.Key place) × AreLast second third fourth
+  found_by key None items are spelled starts =
+      let (start, end, is) = one_item items key spelled in
+      let finds = takes _ Ending.blank (rw begins (rw is at are)) in
+      let same : start ≡ place = grind (arith, starts, is) in
+      (rw (← same) finds.0, inl (takes_2 [] Ending.blank finds.1))
+  found_by key (Some value) items are spelled starts =
+      let (start, end, from, to, begin, stop, is) = three_items items key value spelled in
+      let finds = takes _ Ending.blank (rw begins (rw is at are)) in
+      let found = takes_2 _ Ending.blank finds.1 in
+      let last = takes_3 _ Ending.blank found.1 in
+      let same : start ≡ place = grind (arith, starts, is) in
+      (rw (← same) finds.0, inr (found.0, last.0, takes_4 [] Ending.blank last.1))
+
+  -- and only then
+  pub found-IsKeyAt : IsKeyAt text place
+      → (first ≡ next.Key place) × AreLast second third fourth
+  found-IsKeyAt (leaf, starts) =
+      found_by leaf.key leaf.value leaf.items leaf.are_items leaf.spelled starts
 
 -- the key and the value of such items
 abbrev key_and_value : List ℕ → ℕ → ℕ → Option Word → KeyAndValue
@@ -134,7 +275,7 @@ fault_of_leaf text fault key None items are spelled shown =
     record {
       start = start;
       later = start;
-      starts = rw is refl;
+      starts = ap (λ items. map (λ item. item.start) (take 1 items)) is;
       is_of = bare_fault_is (class key None) key start end fault (spares_value key) shown';
     }
 fault_of_leaf text fault key (Some value) items are spelled shown =
@@ -144,7 +285,7 @@ fault_of_leaf text fault key (Some value) items are spelled shown =
     record {
       start = start;
       later = begin + 1;
-      starts = rw is refl;
+      starts = ap (λ items. map (λ item. item.start) (take 1 items)) is;
       is_of = fault_is (class key (Some value)) key value start end (begin + 1) (stop - 1) fault
           (omega (arith, order.0.ordered, order.1.0.comes_after, order.1.0.ordered,
           order.1.1.0.comes_after)) shown';
@@ -167,17 +308,23 @@ leaf_fault text fault leaf has =
     fault_of_leaf text fault leaf.key leaf.value leaf.items leaf.are_items leaf.spelled
     (rw (same.0, same.1) at has.shown)
 
--- a text is not askable if its fault starts where the key does
-pub IsUnaskable-at : (text : List ℕ) (fault : Fault) → HasFault text fault
-    → IsKeyAt text fault.start → IsUnaskable text
-IsUnaskable-at text fault has (leaf, starts) =
+-- no condition can ask a text whose fault starts where its key does
+pub IsUnaskable-at : (text : List ℕ) (fault : Fault) (shown : TextFault)
+    → shown ≡ fault_in text fault → HasFault text fault → IsKeyAt text shown.start
+    → IsUnaskable text
+IsUnaskable-at text fault shown is has (leaf, starts) =
     let found = leaf_fault text fault leaf has in
-    let same : found.start ≡ fault.start = grind (arith, found.starts, starts) in
-    (leaf, key_at_fault (class leaf.key leaf.value) found.start found.later fault same found.is_of)
+    let here = ap (λ (f : TextFault). f.start) is in
+    let same : found.start ≡ fault.start = grind (arith, found.starts, starts, here) in
+    let at_key = key_at_fault (class leaf.key leaf.value) found.start found.later fault same
+    found.is_of in (leaf, at_key.0, at_key.1)
 
--- and the fault of a text that is not askable starts where the key does
-pub IsKeyAt-unaskable : (text : List ℕ) (fault : Fault) → HasFault text fault → IsUnaskable text
-    → IsKeyAt text fault.start
-IsKeyAt-unaskable text fault has (leaf, cause, is) =
+-- and the fault of a text that no condition can ask starts there
+pub IsKeyAt-unaskable : (text : List ℕ) (fault : Fault) (shown : TextFault)
+    → shown ≡ fault_in text fault → HasFault text fault → IsUnaskable text
+    → IsKeyAt text shown.start
+IsKeyAt-unaskable text fault shown is has (leaf, cause, says) =
     let found = leaf_fault text fault leaf has in
-    let here : fault.start ≡ found.start = rw is at found.is_of in (leaf, rw here found.starts)
+    let at_key : fault.start ≡ found.start = rw says at found.is_of in
+    let here : found.start ≡ shown.start = cc (at_key, is) in
+    (leaf, found.starts ∙ ap (λ start. start ∷ []) here)

@@ -1,6 +1,7 @@
 -- The contracts of private functions cite these definitions. No public contract does.
 pub mod AddsLine
 pub mod InLanes
+pub mod KeysAndValues
 pub mod ReadsFacts
 pub mod ReadsMore
 pub mod Shows

@@ -5,7 +5,8 @@ use crate::auditing::AUDITED;
 use crate::auditing_by_facts::AUDITED_BY_FACTS;
 use crate::calling::ANSWERS;
 use crate::evaluating::{BY_FLAGS, TERMS};
-use crate::{auditing, auditing_by_facts, calling, evaluating};
+use crate::facts::{ANSWERED, READ};
+use crate::{auditing, auditing_by_facts, calling, evaluating, facts};
 use cfgx_testing::rows::{Finding, TableToCheck, check_tables};
 use std::alloc::Global;
 
@@ -16,6 +17,8 @@ const TABLES: &[TableToCheck<'static>] = &[
     ("values by facts", AUDITED_BY_FACTS, 9),
     ("values with flags", BY_FLAGS, 5),
     ("terms and questions", TERMS, 12),
+    ("facts that are read", READ, 31),
+    ("answers of facts", ANSWERED, 13),
 ];
 
 // Returns whether the row passes the check, or `None` if no check has this name.
@@ -26,6 +29,8 @@ fn row_is_right(alloc: Global, check: &str, row: &[String]) -> Option<bool> {
         "values by facts" => Some(auditing_by_facts::row_is_right(alloc, row)),
         "values with flags" => Some(evaluating::value_is_right(alloc, row)),
         "terms and questions" => Some(evaluating::terms_are_right(alloc, row)),
+        "facts that are read" => Some(facts::outcome_is_right(alloc, row)),
+        "answers of facts" => Some(facts::answers_are_right(alloc, row)),
         _ => None,
     }
 }

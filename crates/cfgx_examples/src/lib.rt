@@ -12,6 +12,8 @@ mod checks;
 #[cfg(test)]
 pub mod evaluating;
 #[cfg(test)]
+pub mod facts;
+#[cfg(test)]
 pub mod respelling;
 #[cfg(test)]
 mod values;

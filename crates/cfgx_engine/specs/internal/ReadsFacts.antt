@@ -1,15 +1,12 @@
 -- Facts that are read one after another.
-use Rattle.std.specs.Prelude.{◌≡◌, ◌⊎◌, ℕ, List, [], ◌∷◌, ◌++◌, map, take, Option, Some, None}
+use Rattle.std.specs.Prelude.{◌≡◌, ◌⊎◌, ℕ, List, [], ◌∷◌, ◌++◌, Option, Some, None}
 use Rattle.std.specs.Prelude.{Result, Ok, Err}
 use Rattle.cfgx_syntax.specs.Stripping.{strip}
-use Rattle.cfgx_syntax.specs.Token.{Token}
-use Rattle.cfgx_syntax.specs.Items.{Item, Ending, ItemsFrom}
-use Rattle.cfgx_syntax.specs.LexerState.{LexerState}
 use Rattle.cfgx_syntax.specs.declared.error.Failure.{Failure}
 use Rattle.cfgx_syntax.specs.declared.error.Failure.TheVariants as failure
 use Rattle.cfgx_grammar.specs.Answer.{HasOneTree}
 use Rattle.cfgx_grammar.specs.Question.{Question}
-use Rattle.cfgx_engine.specs.Facts.{FactTexts, IsFlag, IsKeyAndValue, IsRustcFact, IsUnaskable}
+use Rattle.cfgx_engine.specs.Facts.{FactTexts, IsFlag, IsRustcFact, IsUnaskable}
 use Rattle.cfgx_engine.specs.Facts.{NameAlike, Names, texts_of}
 use Rattle.cfgx_engine.specs.Readings.{ParsesAs}
 use Rattle.cfgx_engine.specs.declared.resolve.facts.FactsError.{FactsError}
@@ -58,16 +55,6 @@ abbrev pub PushesText : Unaskable → List ℕ → List (List ℕ) → List (Lis
 PushesText unaskable text old new =
     (HasOneTree (strip text) × (new ≡ old ++ strip text ∷ []))
     ⊎ (passes_over unaskable (strip text) × NamesNothing (strip text) × (new ≡ old))
-
--- a value is left, and nothing else
-abbrev pub IsLastValue : LexerState → Type 0
-IsLastValue lexer = (item : Item) × (inside : List ℕ) × (item.token ≡ Token.value inside)
-    × ItemsFrom lexer.text lexer.place (item ∷ []) Ending.blank
-
--- the text is a key, or a key, `=` and a value, and the key starts at `place`
-abbrev pub IsKeyAt : List ℕ → ℕ → Type 0
-IsKeyAt text place = (leaf : IsKeyAndValue text)
-    × (map (λ item. item.start) (take 1 leaf.items) ≡ place ∷ [])
 
 -- the error of a failure at the fact of this index
 abbrev pub error_at : {A : Type 0} → ℕ → Failure A → FactsError A

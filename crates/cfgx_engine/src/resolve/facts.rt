@@ -1,11 +1,13 @@
 //! Facts of a target, and what they answer to predicates.
 ghost use Rattle.std.specs.Prelude.{◌≡◌, ◌↔◌, Err, IfErr, IsTrue, OnOk};
+ghost use Rattle.cfgx_syntax.specs.Lexer.{item_of};
 ghost use Rattle.cfgx_syntax.specs.Stripping.{strip};
 ghost use Rattle.cfgx_parser.specs.Predicate.{question_of};
 ghost use Rattle.cfgx_engine.specs.Facts.{IsAnswer, IsFlag, IsNamed, IsRustcFact, Names};
 ghost use Rattle.cfgx_engine.specs.Facts.{ReadsFacts, fact_text, unnamed_answer};
-ghost use Rattle.cfgx_engine.specs.internal.ReadsFacts.{AddsFact, IsKeyAt, IsLastValue, PushesText};
-ghost use Rattle.cfgx_engine.specs.internal.ReadsFacts.{ReadsText, accepts, error_at, passes_over};
+ghost use Rattle.cfgx_engine.specs.internal.KeysAndValues.{AreLast, IsKeyAt, TakesNext, kind_of};
+ghost use Rattle.cfgx_engine.specs.internal.ReadsFacts.{AddsFact, PushesText, ReadsText, accepts};
+ghost use Rattle.cfgx_engine.specs.internal.ReadsFacts.{error_at, passes_over};
 ghost use Rattle.cfgx_engine.specs.internal.Shows.{Fails};
 ghost use Rattle.cfgx_engine.specs.Readings.{ParsesAs};
 ghost use Rattle.cfgx_engine.specs.Request.{texts};
@@ -108,8 +110,14 @@ impl<A: SmallAllocator> Fact<A> {
         match Expression::parse(alloc, text) {
             Ok(condition) => Ok(Some(Fact { condition })),
             Err(Failure::Parse(error)) => match unaskable {
-                Unaskable::PassedOver if is_key_at(alloc, text, error.span.start) => Ok(None),
-                _ => Err(Failure::Parse(error)),
+                Unaskable::Faulty => Err(Failure::Parse(error)),
+                Unaskable::PassedOver => {
+                    if is_key_at(alloc, text, error.span.start) {
+                        Ok(None)
+                    } else {
+                        Err(Failure::Parse(error))
+                    }
+                }
             },
             Err(failure) => Err(failure),
         }
@@ -241,38 +249,65 @@ fn push_fact<A: SmallAllocator>(
     Ok(())
 }
 
+/// What a lexer yields next, as far as it matters to `is_key_at`.
+#[derive(Clone, Copy, PartialEq, Eq)]
+enum Next {
+    /// A key, and where it starts
+    Key(usize),
+    /// `=`
+    Equals,
+    /// A value
+    Value,
+    /// Nothing: only white space is left
+    End,
+    /// Another token, or a failure
+    Other,
+}
+
+/// Returns what `found` is.
+fn kind_of(found: &LexerToken<'_>) -> Next
+    ensures { result ≡ kind_of (item_of found.now) }
+{
+    match found.token {
+        Token::Key(_) => Next::Key(found.span.start),
+        Token::Equals => Next::Equals,
+        Token::Value(_) => Next::Value,
+        Token::All | Token::Any | Token::Not => Next::Other,
+        Token::OpenParen | Token::CloseParen | Token::Comma => Next::Other,
+    }
+}
+
+/// Takes the next token, and returns what it is.
+fn take_next<A: SmallAllocator>(lexer: &mut Lexer<'_, A>) -> Next
+    ensures { TakesNext lexer.old result lexer.new }
+{
+    match lexer.next() {
+        Some(Ok(found)) => kind_of(&found),
+        Some(Err(_)) => Next::Other,
+        None => Next::End,
+    }
+}
+
 /// Whether the stripped text is a key, or a key, `=` and a value, and the key starts at `place`.
 fn is_key_at<A: SmallAllocator>(alloc: A, text: &str, place: usize) -> bool
     ensures { IsTrue result ↔ IsKeyAt (strip text.now) place }
 {
     let mut lexer = Lexer::new(alloc, text);
-    let start = match lexer.next() {
-        Some(Ok(LexerToken {
-            token: Token::Key(_),
-            span,
-        })) => span.start,
-        _ => return false,
-    };
-    match lexer.next() {
-        None => start == place,
-        Some(Ok(LexerToken {
-            token: Token::Equals,
-            ..
-        })) => start == place && is_last_value(lexer),
-        _ => false,
-    }
+    let first = take_next(&mut lexer);
+    let second = take_next(&mut lexer);
+    let third = take_next(&mut lexer);
+    let fourth = take_next(&mut lexer);
+    first == Next::Key(place) && are_last(second, third, fourth)
 }
 
-/// Whether only a value is left.
-fn is_last_value<A: SmallAllocator>(mut lexer: Lexer<'_, A>) -> bool
-    ensures { IsTrue result ↔ IsLastValue lexer.entry }
+/// Whether nothing comes after a key, or `=`, a value and nothing else.
+fn are_last(second: Next, third: Next, fourth: Next) -> bool
+    ensures { IsTrue result ↔ AreLast second third fourth }
 {
-    match lexer.next() {
-        Some(Ok(LexerToken {
-            token: Token::Value(_),
-            ..
-        })) => lexer.next().is_none(),
-        _ => false,
+    match second {
+        Next::End => true,
+        Next::Equals => third == Next::Value && fourth == Next::End,
+        Next::Key(_) | Next::Value | Next::Other => false,
     }
 }
 

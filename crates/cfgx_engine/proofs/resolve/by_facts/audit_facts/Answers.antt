@@ -23,7 +23,7 @@ pub loop-index-preserved : goal.loop-index-preserved
 loop-index-preserved g c =
     values-more (λ (facts : FactTexts). IsAnswer facts c.args.otherwise) c.args.targets.now
     c.args.conditions.now c.loop-index.index _ _ _ c.loop-index-test.true c.loop-index.invariant
-    c.push_text.ensures.condition c.push_text.ensures.values
+    c.in_default.ensures.condition c.in_default.ensures.values
 
 -- no condition is left
 pub returns-clause-ok : goal.returns-clause-ok
