@@ -1,7 +1,7 @@
 -- Answers that are put into lanes, from the last to the first.
 use Rattle.std.proofs.Common.{◌≡◌, ◌∙◌, ◌+◌, ◌*◌, ◌<◌, ◌≤◌, ◌^◌, ℕ, zero, suc, Bool, true, false}
-use Rattle.std.proofs.Common.{List, [], ◌∷◌, ◌++◌, Option, Some, None, ap, append_assoc, arith}
-use Rattle.std.proofs.Common.{length, refl}
+use Rattle.std.proofs.Common.{List, [], ◌∷◌, ◌++◌, Option, Some, None, ap, append_assoc, append-nil}
+use Rattle.std.proofs.Common.{arith, length, refl, sym}
 use Rattle.std.specs.{Int.bit_at, List.AllZip, List.slice_get}
 use Rattle.std.{proofs.Math.Nat.pow-succ', proofs.Math.Pow.pow_mono}
 use Rattle.std.proofs.lemmas.List.{length-append, nil_from_length}
@@ -70,6 +70,16 @@ module _ {T : Type 0} (Answers : T → Question → Option Bool → Type 0) (que
     pub targets_are : targets ≡ left ++ done
     pub answered : AllZip (λ target answer. Answers target question answer) done answers
     pub planes_are : planes ≡ planes_of answers
+
+  -- at first all targets are left
+  pub Put-none : (targets : List T) → Put targets targets (planes_of [])
+  Put-none targets = record {
+    done = [];
+    answers = [];
+    targets_are = sym (append-nil targets);
+    answered = tt;
+    planes_are = refl;
+  }
 
   module _ {targets left : List T} {planes : Planes} where
     -- there is room for one more answer if a target is left

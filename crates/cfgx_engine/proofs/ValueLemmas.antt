@@ -1,15 +1,23 @@
--- The values of one condition more on many targets.
-use Rattle.std.proofs.Common.{◌≡◌, ◌∙◌, ◌+◌, ◌*◌, ◌≤◌, ◌<◌, ℕ, Bool, List, [], ◌∷◌, ◌++◌, Option}
-use Rattle.std.proofs.Common.{None, Some, ⊎_elim, ap, arith, length, sym}
+-- The values of one condition more on many targets, and the first faulty one.
+use Rattle.std.proofs.Common.{◌≡◌, ◌∙◌, ◌+◌, ◌*◌, ◌≤◌, ◌<◌, ℕ, zero, suc, Bool, List, []}
+use Rattle.std.proofs.Common.{◌∷◌, ◌++◌, Option}
+use Rattle.std.proofs.Common.{Bor, Err, None, Some, ⊎_elim, ap, arith, get_or, length}
+use Rattle.std.proofs.Common.{map, refl, sym, take}
+use Rattle.std.specs.List.{AllByRecursion}
 use Rattle.std.specs.{List.AllZip, List.slice_get, Option.IsSomeAnd}
 use Rattle.std.proofs.{Math.Nat.suc-mul, lemmas.List.length-append, lemmas.Nat.mul-add-lt}
 use Rattle.std.proofs.lemmas.Option.{MatchOption-at_some, same_Some, slice_get_cases}
 use Rattle.std.proofs.lemmas.{Option.slice_get_within, Slice.Zip.AllZip-left, Slice.Zip.AllZip-long}
-use Rattle.cfgx_grammar.specs.Question.{Question}
-use Rattle.cfgx_grammar.proofs.ListLemmas.{slice_get-append, slice_get-append-add}
+use Rattle.std.proofs.lemmas.{List.{map-append, take-map, take_more}, Option.slice_get-get_or}
+use Rattle.std.proofs.lemmas.Option.{slice_get-map}
+use Rattle.cfgx_syntax.specs.{Stripping.strip, Error.TextFault}
+use Rattle.cfgx_grammar.specs.{Answer.HasOneTree, Question.Question, Tree.asked}
+use Rattle.cfgx_grammar.proofs.ListLemmas.{all_of_both, slice_get-append, slice_get-append-add}
 use Rattle.cfgx_grammar.proofs.ListLemmas.{slice_get-append_seam}
-use Rattle.cfgx_engine.specs.Audits.{AreValues, HasValueOver}
-use Rattle.cfgx_engine.specs.internal.InLanes.{AddsEach, TellsValue}
+use Rattle.cfgx_engine.specs.Audits.{AreValues, HasValueOver, IsFirstFault}
+use Rattle.cfgx_engine.specs.{Readings.ParsesAs, Request.texts}
+use Rattle.cfgx_engine.{specs.internal.InLanes.AddsEach, specs.internal.InLanes.TellsValue}
+use Rattle.cfgx_engine.proofs.AuditLemmas.{AllZip-weaker}
 
 IsSomeAnd-weaker : {X : Type 0} (found : Option X) {P Q : X → Type 0} → ((x : X) → P x → Q x)
     → IsSomeAnd found P → IsSomeAnd found Q
@@ -72,3 +80,65 @@ module _ {T : Type 0} (Answers : T → Question → Option Bool → Type 0) (con
             (added-value adds.0 adds.2 j target is_target))
             (slice_get_cases conditions i).1;
       }
+
+-- the condition at `i` and its values are added to those before it
+pub values-more : {T : Type 0} (Answers : T → Question → Option Bool → Type 0) (targets : List T)
+    (conditions : List (Bor (List ℕ))) (i : ℕ) (d : Bor (List ℕ)) (old new : List (Option Bool))
+    → i < length conditions
+    → AllByRecursion (λ text. HasOneTree (strip text)) (texts (take i conditions))
+    × AreValues Answers (map strip (texts (take i conditions))) targets old
+    → HasOneTree (strip (get_or conditions i d).now)
+    → AddsEach (Tells Answers (strip (get_or conditions i d).now) targets) targets old new
+    → AllByRecursion (λ text. HasOneTree (strip text)) (texts (take (i + 1) conditions))
+    × AreValues Answers (map strip (texts (take (i + 1) conditions))) targets new
+values-more Answers targets conditions i d old new below before one adds =
+    rw (take_more conditions i d below, map-append, map-append) (
+      all_of_both (λ text. HasOneTree (strip text)) (texts (take i conditions))
+          ((get_or conditions i d).now ∷ []) before.0 (one, tt),
+      AreValues-more Answers (strip (get_or conditions i d).now) targets
+          (map strip (texts (take i conditions))) old new before.1 adds,
+    )
+
+-- the text at `index` is the first that is faulty
+pub IsFirstFault-here : (conditions : List (Bor (List ℕ))) (index : ℕ) (d : Bor (List ℕ))
+    (fault : TextFault) → index < length conditions
+    → AllByRecursion (λ text. HasOneTree (strip text)) (texts (take index conditions))
+    → ParsesAs (get_or conditions index d).now (Err fault)
+    → IsFirstFault (texts conditions) index fault
+IsFirstFault-here conditions index d fault below each parses = record {
+  text = (get_or conditions index d).now;
+  stands = rw (slice_get-map, slice_get-get_or conditions index d below) refl;
+  before = rw take-map each;
+  parses = parses;
+}
+
+-- the item at the same place of a related list
+AllZip-at : {X Y : Type 0} (R : X → Y → Type 0) (xs : List X) (ys : List Y) (i : ℕ) (x : X)
+    → AllZip R xs ys → slice_get xs i ≡ Some x → (y : Y) × (slice_get ys i ≡ Some y) × R x y
+AllZip-at R [] ys i x zipped is = absurd (grind (arith, is))
+AllZip-at R (x ∷ xs) [] i one zipped is = absurd zipped
+AllZip-at R (x ∷ xs) (y ∷ ys) zero one zipped is = (y, refl, rw (same_Some x one is) at zipped.0)
+AllZip-at R (x ∷ xs) (y ∷ ys) (suc i) one zipped is = AllZip-at R xs ys i one zipped.1 is
+
+-- values on some targets are those on others that answer as they do
+pub AreValues-alike : {S T : Type 0} (One : S → Question → Option Bool → Type 0)
+    (Other : T → Question → Option Bool → Type 0) (R : T → S → Type 0)
+    → ((other : T) (one : S) → R other one → (question : Question) (answer : Option Bool)
+    → One one question answer → Other other question answer)
+    → (conditions : List (List ℕ)) (others : List T) (ones : List S) (values : List (Option Bool))
+    → AllZip R others ones → AreValues One conditions ones values
+    → AreValues Other conditions others values
+AreValues-alike One Other R alike conditions others ones values zipped are =
+    let long = AllZip-long R others ones zipped in
+    record {
+      count = are.count ∙ ap (λ n. length conditions * n) long;
+      each = λ i j condition other is is_other.
+          let found = AllZip-at R others ones j other zipped is_other in
+          IsSomeAnd-weaker (slice_get values (i * length others + j)) (λ value (over : HasValueOver (One found.0) condition value). record {
+            one = over.one;
+            answers = over.answers;
+            answered = AllZip-weaker (One found.0) (Other other) (alike other found.0 found.2)
+                (asked over.one.tree) over.answers over.answered;
+            value_is = over.value_is;
+          }) (rw (sym long) (are.each i j condition found.0 is found.1));
+    }

@@ -1,12 +1,16 @@
 -- The values of many conditions on many targets.
 -- Source: Kleene's strong logic.
-use Rattle.std.specs.Prelude.{◌≡◌, ◌+◌, ◌*◌, ℕ, Bool, List, Option, Some, IsSomeAnd, length}
-use Rattle.std.specs.List.{AllZip, slice_get}
+use Rattle.std.specs.Prelude.{◌≡◌, ◌+◌, ◌*◌, ℕ, Bool, List, Option, Some, Err, IsSomeAnd, length}
+use Rattle.std.specs.Prelude.{take}
+use Rattle.std.specs.List.{AllByRecursion, AllZip, slice_get}
+use Rattle.cfgx_syntax.specs.Stripping.{strip}
+use Rattle.cfgx_syntax.specs.Error.{TextFault}
 use Rattle.cfgx_grammar.specs.Question.{Question}
 use Rattle.cfgx_grammar.specs.Tree.{asked}
 use Rattle.cfgx_grammar.specs.Answer.{HasOneTree}
 use Rattle.cfgx_grammar.specs.Filling.{three_valued}
 use Rattle.cfgx_grammar.specs.Fold.{tree_fold}
+use Rattle.cfgx_engine.specs.Readings.{ParsesAs}
 
 -- the value of the text's one tree over answers to its questions
 pub record HasValueOver (Answers : Question → Option Bool → Type 0) (text : List ℕ)
@@ -25,3 +29,10 @@ pub record AreValues {T : Type 0} (Answers : T → Question → Option Bool → 
       → slice_get conditions i ≡ Some condition → slice_get targets j ≡ Some target
       → IsSomeAnd (slice_get values (i * length targets + j))
       (HasValueOver (Answers target) condition)
+
+-- the text at `index` has this fault, and each text before it is a condition
+pub record IsFirstFault (texts : List (List ℕ)) (index : ℕ) (fault : TextFault) : Type 0 where
+  pub text : List ℕ
+  pub stands : slice_get texts index ≡ Some text
+  pub before : AllByRecursion (λ text. HasOneTree (strip text)) (take index texts)
+  pub parses : ParsesAs text (Err fault)

@@ -205,6 +205,12 @@ pub fn audit<A: SmallAllocator, M: TargetMatcher>(
         IsVerdict (M.answer target) condition.now verdict) targets.now verdicts.items) }
 {
     let mut verdicts = Vec::with_capacity(alloc, targets.len())?;
-    push_values(alloc, &ByMatching, condition, targets, &mut verdicts)?;
+    push_values(
+        alloc,
+        &ByMatching,
+        &condition.condition(),
+        targets,
+        &mut verdicts,
+    )?;
     Ok(verdicts)
 }

@@ -10,10 +10,10 @@ ghost use Rattle.cfgx_parser.specs.Predicate.{question_of};
 ghost use Rattle.cfgx_engine.specs.Verdicts.{answer_by};
 ghost use Rattle.cfgx_engine.specs.internal.InLanes.{AddsEach, InLanes, lane_values, TellsValue};
 
-use cfg_expr::expr::TargetMatcher;
+use cfg_expr::Predicate;
 use cfg_expr::expr::logic::Kleene64;
+use cfg_expr::expr::{Condition, TargetMatcher};
 use cfg_expr::memory::SmallAllocator;
-use cfg_expr::{Expression, Predicate};
 use std::alloc::{AllocError, Allocator};
 
 /// A way to ask targets of the type `T`.
@@ -55,7 +55,7 @@ impl<M: TargetMatcher> Asker<M> for ByMatching {
 pub(super) fn push_values<A: SmallAllocator, T, S: Asker<T>, V: From<Option<bool>> + Drop>(
     alloc: A,
     asker: &S,
-    condition: &Expression<A>,
+    condition: &Condition<'_>,
     targets: &[T],
     values: &mut Vec<V, A>,
 ) -> Result<(), AllocError>
@@ -76,7 +76,7 @@ pub(super) fn push_values<A: SmallAllocator, T, S: Asker<T>, V: From<Option<bool
 fn push_piece<A: SmallAllocator, T, S: Asker<T>, V: From<Option<bool>> + Drop>(
     alloc: A,
     asker: &S,
-    condition: &Expression<A>,
+    condition: &Condition<'_>,
     targets: &[T],
     values: &mut Vec<V, A>,
 ) -> Result<(), AllocError>
@@ -94,7 +94,7 @@ fn push_piece<A: SmallAllocator, T, S: Asker<T>, V: From<Option<bool>> + Drop>(
 fn ask_all<A: SmallAllocator, T, S: Asker<T>>(
     alloc: A,
     asker: &S,
-    condition: &Expression<A>,
+    condition: &Condition<'_>,
     targets: &[T],
 ) -> Result<Vec<Kleene64, A>, AllocError>
     requires { length targets.now ≤ 64 }
