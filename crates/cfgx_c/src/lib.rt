@@ -3,21 +3,26 @@
 #![tactic(auto)]
 
 mod answers;
+mod audit;
 mod buffer;
 mod check;
 mod decide;
 mod ends;
 mod explain;
+mod facts;
 mod fault;
+mod reading;
 mod run;
 mod status;
 mod streams;
 mod value;
 mod version;
 
+pub use audit::cfgx_audit;
 pub use check::cfgx_check;
 pub use decide::cfgx_decide;
 pub use explain::cfgx_explain;
+pub use facts::cfgx_answers;
 pub use fault::CfgxFault;
 pub use run::cfgx_run;
 pub use value::cfgx_value;
