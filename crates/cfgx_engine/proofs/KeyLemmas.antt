@@ -1,5 +1,5 @@
 -- Texts that are a key, or a key, `=` and a value, and what is at fault in them.
-use Rattle.std.proofs.Common.{◌≡◌, ◌⊎◌, inl, inr, ⊎_elim, ℕ, ◌+◌, ◌-◌, ◌<◌, Bool, List, [], ◌∷◌}
+use Rattle.std.proofs.Common.{◌≡◌, ◌↔◌, ◌⊎◌, inl, inr, ⊎_elim, ℕ, ◌+◌, ◌-◌, ◌<◌, Bool, List, [], ◌∷◌}
 use Rattle.std.proofs.Common.{map, refl, sym, ap, ◌∙◌, Option, Some, None, Result, Ok, Err, take}
 use Rattle.std.proofs.Common.{arith, rules}
 use Rattle.std.specs.{List.AllByRecursion, Option.option_or}
@@ -120,14 +120,16 @@ module _ (text : List ℕ) (place : ℕ) (first second third fourth : Next)
   bare_key [] ending are finds is ends = absurd (no_key_end ending place (sym finds ∙ is))
   bare_key (x ∷ []) ending are finds is ends =
       let (word, token_is, start_is) = key_kind x.token x.start place (sym finds.0 ∙ is) in
-      let blank = blank_end ending (sym (takes_2 [] ending finds.1) ∙ ends) in
-      (record {
-        key = word;
-        value = None;
-        items = x ∷ [];
-        are_items = rw blank at are;
-        spelled = ap (λ token. token ∷ []) token_is;
-      }, ap (λ start. start ∷ []) start_is)
+      let blank = blank_end ending (sym (takes_2 [] ending finds.1) ∙ ends) in (
+        record {
+          key = word;
+          value = None;
+          items = x ∷ [];
+          are_items = rw blank at are;
+          spelled = ap (λ token. token ∷ []) token_is;
+        },
+        ap (λ start. start ∷ []) start_is,
+      )
   bare_key (x ∷ y ∷ items) ending are finds is ends =
       let found = takes_2 (y ∷ items) ending finds.1 in
       absurd (no_end_kind y.token y.start (sym found.0 ∙ ends))
@@ -148,28 +150,21 @@ module _ (text : List ℕ) (place : ℕ) (first second third fourth : Next)
       let (word, token_is, start_is) = key_kind x.token x.start place (sym finds.0 ∙ is) in
       let equals_is = equals_kind y.token y.start (sym found.0 ∙ equals) in
       let (inside, value_is) = value_kind z.token z.start (sym value.0 ∙ has) in
-      let blank = blank_end ending (sym (takes_4 [] ending value.1) ∙ ends) in
-      (record {
-        key = word;
-        value = Some inside;
-        items = x ∷ y ∷ z ∷ [];
-        are_items = rw blank at are;
-        spelled = cc (token_is, equals_is, value_is);
-      }, ap (λ start. start ∷ []) start_is)
+      let blank = blank_end ending (sym (takes_4 [] ending value.1) ∙ ends) in (
+        record {
+          key = word;
+          value = Some inside;
+          items = x ∷ y ∷ z ∷ [];
+          are_items = rw blank at are;
+          spelled = cc (token_is, equals_is, value_is);
+        },
+        ap (λ start. start ∷ []) start_is,
+      )
   key_with_value (x ∷ y ∷ z ∷ w ∷ items) ending are finds is equals has ends =
       let found = takes_2 (y ∷ z ∷ w ∷ items) ending finds.1 in
       let value = takes_3 (z ∷ w ∷ items) ending found.1 in
       let last = takes_4 (w ∷ items) ending value.1 in
       absurd (no_end_kind w.token w.start (sym last.0 ∙ ends))
-
-  -- the text is a key, or a key, `=` and a value, if these are its tokens
-  pub IsKeyAt-found : HasOneTokenList text → first ≡ next.Key place → AreLast second third fourth
-      → IsKeyAt text place
-  IsKeyAt-found one is last =
-      let finds = takes one.items one.ending (rw begins one.are) in
-      ⊎_elim (λ ends. bare_key one.items one.ending one.are finds is ends)
-      (λ (equals, has, ends). key_with_value one.items one.ending one.are finds is equals has
-      ends) last
 
   found_by : (key : List ℕ) (value : Option (List ℕ)) (items : List Item)
       → AreItems text items Ending.blank
@@ -178,22 +173,31 @@ module _ (text : List ℕ) (place : ℕ) (first second third fourth : Next)
       → (first ≡ next.Key place) × AreLast second third fourth
   found_by key None items are spelled starts =
       let (start, end, is) = one_item items key spelled in
-      let finds = takes _ Ending.blank (rw begins (rw is at are)) in
+      let finds = takes (item_at (Token.key key) start end ∷ []) Ending.blank
+      (rw begins (rw is at are)) in
       let same : start ≡ place = grind (arith, starts, is) in
       (rw (← same) finds.0, inl (takes_2 [] Ending.blank finds.1))
   found_by key (Some value) items are spelled starts =
       let (start, end, from, to, begin, stop, is) = three_items items key value spelled in
-      let finds = takes _ Ending.blank (rw begins (rw is at are)) in
-      let found = takes_2 _ Ending.blank finds.1 in
-      let last = takes_3 _ Ending.blank found.1 in
+      let equals = item_at Token.equals from to in
+      let last_one = item_at (Token.value value) begin stop in
+      let finds = takes (item_at (Token.key key) start end ∷ equals ∷ last_one ∷ []) Ending.blank
+      (rw begins (rw is at are)) in
+      let found = takes_2 (equals ∷ last_one ∷ []) Ending.blank finds.1 in
+      let last = takes_3 (last_one ∷ []) Ending.blank found.1 in
       let same : start ≡ place = grind (arith, starts, is) in
       (rw (← same) finds.0, inr (found.0, last.0, takes_4 [] Ending.blank last.1))
 
-  -- and only then
-  pub found-IsKeyAt : IsKeyAt text place
-      → (first ≡ next.Key place) × AreLast second third fourth
-  found-IsKeyAt (leaf, starts) =
-      found_by leaf.key leaf.value leaf.items leaf.are_items leaf.spelled starts
+  -- the text is a key, or a key, `=` and a value, exactly if these are its tokens
+  pub IsKeyAt-tokens : HasOneTokenList text
+      → ((first ≡ next.Key place) × AreLast second third fourth) ↔ IsKeyAt text place
+  IsKeyAt-tokens one = (
+    λ (is, last). let finds = takes one.items one.ending (rw begins one.are) in
+        ⊎_elim (λ ends. bare_key one.items one.ending one.are finds is ends)
+        (λ (equals, has, ends). key_with_value one.items one.ending one.are finds is equals has
+        ends) last,
+    λ (leaf, starts). found_by leaf.key leaf.value leaf.items leaf.are_items leaf.spelled starts,
+  )
 
 -- the key and the value of such items
 abbrev key_and_value : List ℕ → ℕ → ℕ → Option Word → KeyAndValue
@@ -268,7 +272,12 @@ fault_of_leaf : (text : List ℕ) (fault : Fault) (key : List ℕ) (value : Opti
     (spelled : map (λ item. item.token) items ≡ leaf_tokens key value)
     → first_fault text items Ending.blank ≡ Some fault
     → FaultOfLeaf text (record {
-      key = key; value = value; items = items; are_items = are; spelled = spelled }) fault
+      key = key;
+      value = value;
+      items = items;
+      are_items = are;
+      spelled = spelled;
+    }) fault
 fault_of_leaf text fault key None items are spelled shown =
     let (start, end, is) = one_item items key spelled in
     let shown' = rw (is, key_fault text key start end) at shown in
@@ -287,8 +296,13 @@ fault_of_leaf text fault key (Some value) items are spelled shown =
       later = begin + 1;
       starts = ap (λ items. map (λ item. item.start) (take 1 items)) is;
       is_of = fault_is (class key (Some value)) key value start end (begin + 1) (stop - 1) fault
-          (omega (arith, order.0.ordered, order.1.0.comes_after, order.1.0.ordered,
-          order.1.1.0.comes_after)) shown';
+          (omega (
+            arith,
+            order.0.ordered,
+            order.1.0.comes_after,
+            order.1.0.ordered,
+            order.1.1.0.comes_after,
+          )) shown';
     }
 
 -- the fault of a class that starts where the key does is that of the key

@@ -14,10 +14,10 @@ mod by_facts;
 mod facts;
 
 use auditing::{ByMatching, push_values};
+pub use by_facts::{AuditError, audit_facts};
 use cfg_expr::expr::{Condition, Predicates, TargetMatcher};
 use cfg_expr::memory::SmallAllocator;
 use cfg_expr::{Decision, Expression, Predicate};
-pub use by_facts::{AuditError, audit_facts};
 pub use facts::{Facts, FactsError, Otherwise};
 use std::alloc::{AllocError, Global};
 

@@ -6,8 +6,18 @@ use std::alloc::Global;
 
 /// The facts of three targets. A fact that no condition can ask is passed over.
 const FACTS: &[&[&str]] = &[
-    &["unix", "target_os = \"linux\"", "target_has_atomic", "?feature = \"y\""],
-    &["windows", "target_os = \"windows\"", "target_future = \"1\"", "feature = \"x\""],
+    &[
+        "unix",
+        "target_os = \"linux\"",
+        "target_has_atomic",
+        "?feature = \"y\"",
+    ],
+    &[
+        "windows",
+        "target_os = \"windows\"",
+        "target_future = \"1\"",
+        "feature = \"x\"",
+    ],
     &[],
 ];
 
@@ -82,10 +92,12 @@ fn audits_agree(alloc: Global, text: &str, otherwise: Otherwise, digits: &[u8]) 
 // Returns whether an audit of `all()` and a faulty text ends at index 1.
 fn ends_at_fault(alloc: Global) -> bool {
     match audit_facts(alloc, &["all()", "any("], &[], Otherwise::False) {
-        Err(AuditError {
-            index,
-            failure: Failure::Parse(_),
-        }) => index == 1,
+        Err(
+            AuditError {
+                index,
+                failure: Failure::Parse(_),
+            },
+        ) => index == 1,
         _ => false,
     }
 }
@@ -97,6 +109,16 @@ pub fn row_is_right(alloc: Global, row: &[String]) -> bool {
         return false;
     };
     ends_at_fault(alloc)
-        && audits_agree(alloc, condition.as_str(), Otherwise::False, if_false.as_bytes())
-        && audits_agree(alloc, condition.as_str(), Otherwise::Unknown, if_unknown.as_bytes())
+        && audits_agree(
+            alloc,
+            condition.as_str(),
+            Otherwise::False,
+            if_false.as_bytes(),
+        )
+        && audits_agree(
+            alloc,
+            condition.as_str(),
+            Otherwise::Unknown,
+            if_unknown.as_bytes(),
+        )
 }

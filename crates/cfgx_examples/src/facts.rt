@@ -160,8 +160,10 @@ fn both_match(
 ) -> Result<bool, Failure> {
     let condition = Expression::parse(alloc, text)?;
     let [if_false, if_unknown] = digits;
-    Ok(answers_match(facts, &condition, Otherwise::False, if_false)
-        && answers_match(facts, &condition, Otherwise::Unknown, if_unknown))
+    Ok(
+        answers_match(facts, &condition, Otherwise::False, if_false)
+            && answers_match(facts, &condition, Otherwise::Unknown, if_unknown),
+    )
 }
 
 /// Returns whether the facts of `row` give the answers of `row`.

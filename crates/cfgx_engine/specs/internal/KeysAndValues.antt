@@ -37,6 +37,10 @@ abbrev pub TakesNext : LexerState → Next → LexerState → Type 0
 TakesNext old found new = (items : List Item) (ending : Ending)
     → ItemsFrom old.text old.place items ending → FindsNext items ending found new
 
+-- a key that starts at `place`
+abbrev pub IsKey : Next → ℕ → Type 0
+IsKey first place = first ≡ next.Key place
+
 -- nothing comes after a key, or `=`, a value and nothing else
 abbrev pub AreLast : Next → Next → Next → Type 0
 AreLast second third fourth = (second ≡ next.End)

@@ -5,7 +5,8 @@ ghost use Rattle.cfgx_syntax.specs.Stripping.{strip};
 ghost use Rattle.cfgx_parser.specs.Predicate.{question_of};
 ghost use Rattle.cfgx_engine.specs.Facts.{IsAnswer, IsFlag, IsNamed, IsRustcFact, Names};
 ghost use Rattle.cfgx_engine.specs.Facts.{ReadsFacts, fact_text, unnamed_answer};
-ghost use Rattle.cfgx_engine.specs.internal.KeysAndValues.{AreLast, IsKeyAt, TakesNext, kind_of};
+ghost use Rattle.cfgx_engine.specs.internal.KeysAndValues.{AreLast, IsKey, IsKeyAt, TakesNext};
+ghost use Rattle.cfgx_engine.specs.internal.KeysAndValues.{kind_of};
 ghost use Rattle.cfgx_engine.specs.internal.ReadsFacts.{AddsFact, PushesText, ReadsText, accepts};
 ghost use Rattle.cfgx_engine.specs.internal.ReadsFacts.{error_at, passes_over};
 ghost use Rattle.cfgx_engine.specs.internal.Shows.{Fails};
@@ -85,7 +86,8 @@ struct Fact<A: SmallAllocator> {
 }
 
 // A derived `Drop` drops the fields for any `A: Allocator`, and an `Expression` may be dropped only
-// if its allocator is a `SmallAllocator`. `Facts` can derive it: its vectors drop facts by this impl.
+// if its allocator is a `SmallAllocator`. `Facts` can derive it, as its vectors drop facts by this
+// impl.
 impl<A: SmallAllocator> Drop for Fact<A> {
     fn drop(self) {
         let Fact {
@@ -297,7 +299,14 @@ fn is_key_at<A: SmallAllocator>(alloc: A, text: &str, place: usize) -> bool
     let second = take_next(&mut lexer);
     let third = take_next(&mut lexer);
     let fourth = take_next(&mut lexer);
-    first == Next::Key(place) && are_last(second, third, fourth)
+    is_key(first, place) && are_last(second, third, fourth)
+}
+
+/// Whether `first` is a key that starts at `place`.
+fn is_key(first: Next, place: usize) -> bool
+    ensures { IsTrue result ↔ IsKey first place }
+{
+    first == Next::Key(place)
 }
 
 /// Whether nothing comes after a key, or `=`, a value and nothing else.
