@@ -173,12 +173,12 @@ fn utf8_front<'a>(alloc: Global, texts: &[&'a [u8]]) -> Result<Vec<&'a str>, All
 }
 
 /// Returns the error of facts whose numbers begin at `begin`.
-fn fact_error(begin: usize, error: FactsError) -> ReadError
-    requires { FactFits begin error }
-    ensures { result ≡ fact_error begin error }
+fn fact_error(begin: usize, error: &FactsError) -> ReadError
+    requires { FactFits begin error.now }
+    ensures { result ≡ fact_error begin error.now }
 {
     match error {
-        FactsError::Faulty { index, .. } => ReadError::FaultyFact(begin + index),
+        FactsError::Faulty { index, .. } => ReadError::FaultyFact(begin + *index),
         FactsError::Memory(_) => ReadError::Memory,
     }
 }
@@ -193,7 +193,7 @@ pub(crate) fn read_facts(alloc: Global, begin: usize, facts: &[&[u8]]) -> Result
     let front = utf8_front(alloc, facts)?;
     let read = match Facts::from_rustc(alloc, front.as_slice()) {
         Ok(read) => read,
-        Err(error) => return Err(fact_error(begin, error)),
+        Err(error) => return Err(fact_error(begin, &error)),
     };
     if front.len() < facts.len() {
         return Err(ReadError::FaultyFact(begin + front.len()));

@@ -25,8 +25,8 @@ returns-in_err-targets-clause-err c =
     rw (p.1, p.2) (FailsFor-facts _ _ _ checked.1 fails)
 
 -- no text is faulty, since all were checked
-pub returns-in-Err-clause-err : goal.returns-in-Err-clause-err
-returns-in-Err-clause-err c =
+pub returns-clause-err : goal.returns-clause-err
+returns-clause-err c =
     let checked = rw (c.as_slice.ensures.value, c.in_ok-texts.ensures) at
     c.in_ok-conditions.ensures.ok in
     let found = rw (c.as_slice-3.ensures.value, checked.0) at c.in-Err.ensures.err in

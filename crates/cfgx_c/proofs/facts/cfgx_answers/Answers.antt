@@ -9,9 +9,7 @@ returns-in-Ok-clause-done c is =
     let found = rw c.otherwise_of.ensures at c.in-Ok.ensures.ok in (
       found.0,
       found.1,
-      c.in-Ok.found.items,
-      found.2,
-      rw c.as_slice.ensures.value at c.fill_values.ensures,
+      (c.in-Ok.found.items, found.2, rw c.as_slice.ensures.value at c.fill_values.ensures),
     )
 
 pub returns-in-Err-clause-faulty_fact : goal.returns-in-Err-clause-faulty_fact

@@ -6,7 +6,9 @@ use Rattle.cfgx_c.proofs.facts.write_values.Goals as goal
 
 -- one byte more
 pub loop-i-preserved : goal.loop-i-preserved
-loop-i-preserved c = ?
+loop-i-preserved c =
+    rw c.byte_of_value.ensures (written-more byte_of_value c.args.values.now c.args.buffer.now
+    c.loop-i.buffer c.loop-i.i _ c.loop-i-test.true c.requires c.loop-i.invariant)
 
 -- all bytes
 pub returns : goal.returns

@@ -1,8 +1,8 @@
-use Rattle.std.proofs.Common.{arith, length}
+use Rattle.std.proofs.Common.{Bor, List, ℕ, arith, length, subst, sym}
 use Rattle.std.proofs.lemmas.List.{length-map}
 use Rattle.std.proofs.lemmas.List.Elements.{All-from_recursion}
 use Rattle.cfgx_engine.specs.Facts.{IsRustcFact}
-use Rattle.cfgx_c.specs.Reading.{views}
+use Rattle.cfgx_c.specs.Reading.{IsUtf8Front, views}
 use Rattle.cfgx_c.proofs.InputLemmas.{FailsForFacts-refused, fact-fits, facts-good}
 use Rattle.cfgx_c.proofs.InputLemmas.{faulty-not_utf8, front-whole}
 use Rattle.cfgx_c.proofs.reading.read_facts.Goals as goal
@@ -26,15 +26,17 @@ returns-clause-ok c =
 -- the first fact that is refused
 pub fact_error-requires : goal.fact_error-requires
 fact_error-requires c =
-    let read = rw c.as_slice.ensures.value at c.in-Err.ensures in
-    fact-fits c.args.begin (views c.args.facts.now) (views c.in_ok-front.front.items) _
-    (rw (length-map c.args.facts.now (λ text. text.now)) c.requires) c.in_ok-front.ensures read
+    let utf8 = subst (λ (xs : List (Bor (List ℕ))). IsUtf8Front (views c.args.facts.now) (views xs))
+    (sym c.as_slice.ensures.value) c.in_ok-front.ensures in
+    fact-fits c.args.begin (views c.args.facts.now) (views c.as_slice.result.now) c.in-Err.error
+    (rw (length-map c.args.facts.now (λ text. text.now)) c.requires) utf8 c.in-Err.ensures
 
 pub returns-in-Err-clause-err : goal.returns-in-Err-clause-err
 returns-in-Err-clause-err c =
-    let read = rw c.as_slice.ensures.value at c.in-Err.ensures in
+    let utf8 = subst (λ (xs : List (Bor (List ℕ))). IsUtf8Front (views c.args.facts.now) (views xs))
+    (sym c.as_slice.ensures.value) c.in_ok-front.ensures in
     rw c.fact_error.ensures (FailsForFacts-refused c.args.begin (views c.args.facts.now)
-    (views c.in_ok-front.front.items) _ c.in_ok-front.ensures read)
+    (views c.as_slice.result.now) c.in-Err.error utf8 c.in-Err.ensures)
 
 -- the first fact that is not UTF-8
 pub returns-then-len-facts-clause-err : goal.returns-then-len-facts-clause-err
