@@ -14,7 +14,7 @@ use Rattle.std.proofs.lemmas.List.{Sums.passes_at_first, Splits.join_with_byte-s
 use Rattle.cfgx_syntax.specs.{Stripping.strip, Error.TextFault, Error.fault_in}
 use Rattle.cfgx_targets.specs.{Builtins.builtin_rows, Table.row_with}
 use Rattle.cfgx_targets.specs.declared.info.TargetInfo.{TargetInfo}
-use Rattle.cfgx_grammar.specs.{Question.Question, Spelling.spelling, Tree.Tree}
+use Rattle.cfgx_grammar.specs.{Question.Question, Spelling.spelling, Tree.Tree, Tree.asked}
 use Rattle.cfgx_grammar.specs.{WellFormed.IsWellFormed, Filling.three_valued, Fold.tree_fold}
 use Rattle.cfgx_grammar.{specs.Answer.ReadsAs, proofs.alone.spelling_alone}
 use Rattle.cfgx_grammar.proofs.{Answering.only_tree, Answering.same_fault, alone.well_formed_tree}
@@ -100,7 +100,12 @@ IsAnswer-single facts unnamed question one other this that = grind arith
 
 ValueBy-single : (flags : List (List ℕ)) (read : Result (List (Tree Question)) TextFault)
     → IsSingle (ValueBy flags read)
-ValueBy-single flags read one other this that = grind (arith, AllZip-single, IsAnswer-single)
+ValueBy-single flags (Ok []) one other this that = absurd this
+ValueBy-single flags (Ok (tree ∷ trees)) one other (answers, each, is) (others, every, same) =
+    let alike = AllZip-single (IsAnswer-single (texts_of flags) otherwise.False) (asked tree)
+    answers others each every in
+    is ∙ ap (λ given. Ok (tree_fold three_valued tree given)) alike ∙ sym same
+ValueBy-single flags (Err fault) one other this that = this ∙ sym that
 
 HasValue-single : (text : List ℕ) (flags : List (List ℕ)) → IsSingle (HasValue text flags)
 HasValue-single text flags one other this that =

@@ -36,7 +36,7 @@ rustc | target_thread_local | read
 rustc | test;?target_has_atomic | read
 rustc | feature;panic;target_;target_os | read
 rustc | target_x="a";target_has_atomic_load_store="8";target_object_format = "elf" | read
-rustc | ?target_x="" ; cfg( target_thread_local );?cfg(target_x="a") | read
+rustc | ?target_x="" ;cfg( target_thread_local );?cfg(target_x="a") | read
 // No other faulty fact is.
 rustc | target_feature="" | 19: U[`<feature>`] at 16..16
 rustc | target_has_atomic="x" | 19: InvalidHasAtomic at 19..20

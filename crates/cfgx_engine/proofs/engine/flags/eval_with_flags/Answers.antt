@@ -40,7 +40,7 @@ returns-in_err-flags g c =
     let words = texts c.args.words.now in
     let Valued = HasValue c.args.text.now words in
     rw (p.1, p.2) (IfSome_then _ {Q = λ fault. Valued (Err fault)}
-    (Fails-flags {A = g.row.A.Denot} words c.in_err-flags.field-0 c.in_err-flags.ensures)
+    (Fails-flags {A = g.row.A.Denot} words c.in_err-flags.field-0.0 c.in_err-flags.ensures)
     (λ fault gives. (Err fault, later_fails ParsesAs _ one.tree _ fault one.reads gives, refl)))
 
 pub returns : goal.returns
@@ -54,8 +54,11 @@ returns g c =
     (λ before question given after holds asks.
     let met = asks.called.met in
     let answers : IsAnswer before.0.now otherwise.False (question_of asks.shown.now) given =
-    search rules in
-    (IsAnswer-alike _ _ _ _ _ are.alike (rw (← holds, ← asks.shows) answers), search rules))
+    search rules in (
+      IsAnswer-alike c.in_ok-flags.flags (texts_of words) otherwise.False question given are.alike
+          (rw (← holds, ← asks.shows) answers),
+      search rules,
+    ))
     _ _ _ _ (refl {a = c.in_ok-flags.flags}) evaluates.calls in (
       Ok (evaluates.one.tree ∷ trees.0),
       (evaluates.one.reads, trees.1),
