@@ -1,6 +1,6 @@
 -- What `cfgx_audit` writes.
 -- Source: include/cfgx.h.
-use Rattle.std.specs.Prelude.{◌≡◌, ℕ, Bool, List, Option, length, map}
+use Rattle.std.specs.Prelude.{ℕ, Bool, List, Option, length, map}
 use Rattle.cfgx_syntax.specs.Stripping.{strip}
 use Rattle.cfgx_engine.specs.Audits.{AreValues}
 use Rattle.cfgx_engine.specs.Facts.{IsAnswer, texts_of}

@@ -7,7 +7,7 @@ use Rattle.cfgx_syntax.specs.declared.error.Failure.{Failure}
 use Rattle.cfgx_syntax.specs.declared.error.Failure.TheVariants as failure
 use Rattle.cfgx_engine.specs.declared.resolve.facts.FactsError.{FactsError}
 use Rattle.cfgx_engine.specs.declared.resolve.facts.FactsError.TheVariants as facts_error
-use Rattle.cfgx_c.specs.Answers.{IsCondition, IsFact, IsFaulty, IsFirstFaulty, IsFirstFaultyFact}
+use Rattle.cfgx_c.specs.Answers.{IsCondition, IsFaulty, IsFirstFaulty, IsFirstFaultyFact}
 use Rattle.cfgx_c.specs.Answers.{IsFirstNotUtf8}
 use Rattle.cfgx_c.specs.Status.{faulty, faulty_fact, not_utf8, out_of_memory}
 use Rattle.cfgx_c.specs.declared.reading.ReadError.{ReadError}

@@ -1,5 +1,5 @@
 -- Each part is the next one, and at the end none is left.
-use Rattle.std.proofs.Common.{append_assoc, append-nil, refl, rules, sym}
+use Rattle.std.proofs.Common.{append_assoc, append-nil, rules, sym}
 use Rattle.std.proofs.lemmas.List.{drop_all, map-append}
 use Rattle.cfgx_c.proofs.EndsLemmas.{begin-le, next_end, next_part}
 use Rattle.cfgx_c.proofs.reading.parts.Goals as goal

@@ -1,6 +1,6 @@
-use Rattle.std.proofs.Common.{◌≡◌, ◌∙◌, ◌++◌, ◌∷◌, ◌≤◌, [], append_assoc, append-nil, ap, arith}
-use Rattle.std.proofs.Common.{get_or, length, map, rules, sym, take}
-use Rattle.std.specs.List.{AllZip, slice_range}
+use Rattle.std.proofs.Common.{◌∙◌, ◌++◌, ◌∷◌, ◌≤◌, [], append_assoc, append-nil, arith}
+use Rattle.std.proofs.Common.{get_or, length, rules, sym, take}
+use Rattle.std.specs.List.{slice_range}
 use Rattle.std.proofs.lemmas.List.{drop_all, length-map, take_all}
 use Rattle.std.proofs.lemmas.{List.Elements.All-append, Result.err_from_is_err_and}
 use Rattle.std.proofs.lemmas.Slice.Zip.{all_zipped_more}
