@@ -1,6 +1,6 @@
 -- Each target gets the value that it gets alone.
 use Rattle.std.proofs.Common.{◌≡◌, ◌∙◌, ◌≤◌, ℕ, zero, suc, Bool, List, [], ◌∷◌, ◌++◌, Option, Some}
-use Rattle.std.proofs.Common.{ap, append_assoc, append-nil, arith, length, map, refl, sym, take}
+use Rattle.std.proofs.Common.{ap, append_assoc, append-nil, arith, length, map, sym, take}
 use Rattle.std.proofs.Common.{⊎_elim}
 use Rattle.std.specs.List.{AllZip, slice_get}
 use Rattle.std.proofs.{Math.Seq.take-suc, lemmas.List.take_all, lemmas.Slice.Zip.all_zipped_more}

@@ -2,12 +2,12 @@
 use Rattle.std.proofs.Common.{◌≡◌, ◌∙◌, ◌+◌, ◌*◌, ◌<◌, ◌≤◌, ◌^◌, ℕ, zero, suc, Bool, true, false}
 use Rattle.std.proofs.Common.{List, [], ◌∷◌, ◌++◌, Option, Some, None, ap, append_assoc, append-nil}
 use Rattle.std.proofs.Common.{arith, length, refl, sym}
-use Rattle.std.specs.{Int.bit_at, List.AllZip, List.slice_get}
+use Rattle.std.specs.{Int.bit_at, List.AllZip}
 use Rattle.std.{proofs.Math.Nat.pow-succ', proofs.Math.Pow.pow_mono}
 use Rattle.std.proofs.lemmas.List.{length-append, nil_from_length}
 use Rattle.std.proofs.lemmas.Slice.Zip.{AllZip-long}
 use Rattle.std.proofs.lemmas.Nat.Bits.{bit_at-zero, bit_at-suc, bit_at_lowest}
-use Rattle.cfgx_syntax.specs.Kleene.{AreDisjoint, Planes, answer_of_bits, lane}
+use Rattle.cfgx_syntax.specs.Kleene.{AreDisjoint, Planes}
 use Rattle.cfgx_syntax.proofs.LaneLemmas.{AreDisjoint-from}
 use Rattle.cfgx_grammar.specs.Question.{Question}
 use Rattle.cfgx_engine.specs.internal.InLanes.{InLanes, planes_of, with_lane_0}

@@ -1,5 +1,5 @@
 -- The values of one condition more on many targets, and the first faulty one.
-use Rattle.std.proofs.Common.{◌≡◌, ◌∙◌, ◌+◌, ◌*◌, ◌≤◌, ◌<◌, ℕ, zero, suc, Bool, List, []}
+use Rattle.std.proofs.Common.{◌≡◌, ◌∙◌, ◌+◌, ◌*◌, ◌<◌, ℕ, zero, suc, Bool, List, []}
 use Rattle.std.proofs.Common.{◌∷◌, ◌++◌, Option}
 use Rattle.std.proofs.Common.{Bor, Err, None, Some, ⊎_elim, ap, arith, get_or, length}
 use Rattle.std.proofs.Common.{map, refl, sym, take}

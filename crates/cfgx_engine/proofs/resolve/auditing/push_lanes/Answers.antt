@@ -1,7 +1,7 @@
 -- The value in the next lane is added.
-use Rattle.std.proofs.Common.{◌≡◌, ◌+◌, ◌++◌, ◌∷◌, [], arith, rules, suc}
+use Rattle.std.proofs.Common.{◌≡◌, ◌+◌, ◌∷◌, [], arith, rules, suc}
 use Rattle.cfgx_syntax.specs.Kleene.{lane}
-use Rattle.cfgx_engine.specs.internal.InLanes.{AddsEach, lane_values}
+use Rattle.cfgx_engine.specs.internal.InLanes.{lane_values}
 use Rattle.cfgx_engine.proofs.AuditLemmas.{AddsEach-append, AddsEach-none}
 use Rattle.cfgx_engine.proofs.resolve.auditing.push_lanes.Goals as goal
 

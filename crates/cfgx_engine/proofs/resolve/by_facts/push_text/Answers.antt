@@ -1,4 +1,4 @@
-use Rattle.std.proofs.{lemmas.Result.err_from_is_err_and, lemmas.Result.on_ok_weaker}
+use Rattle.std.proofs.{lemmas.Result.err_from_is_err_and}
 use Rattle.cfgx_engine.proofs.OutputLemmas.{Fails-parse}
 use Rattle.cfgx_engine.proofs.resolve.by_facts.push_text.Goals as goal
 
