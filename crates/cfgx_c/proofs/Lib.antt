@@ -1,6 +1,8 @@
+pub mod AnswerLemmas
 pub mod CSteps
 pub mod Described
 pub mod EndsLemmas
+pub mod InputLemmas
 pub mod Located
 pub mod Numbering
 pub mod Taken

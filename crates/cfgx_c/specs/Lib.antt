@@ -1,8 +1,11 @@
+pub mod Answers
+pub mod Audit
 pub mod Buffer
 pub mod Check
 pub mod Decide
 pub mod Ends
 pub mod Predicates
+pub mod Reading
 pub mod Run
 pub mod Status
 pub mod Steps

@@ -4,14 +4,17 @@
 
 mod answers;
 mod apply;
+mod audit;
 mod buffer;
 mod check;
 mod compile;
 mod decide;
 mod ends;
 mod explain;
+mod facts;
 mod fault;
 mod predicates;
+mod reading;
 mod run;
 mod status;
 mod steps;
@@ -20,10 +23,12 @@ mod value;
 mod version;
 
 pub use apply::cfgx_apply;
+pub use audit::cfgx_audit;
 pub use check::cfgx_check;
 pub use compile::cfgx_compile;
 pub use decide::cfgx_decide;
 pub use explain::cfgx_explain;
+pub use facts::cfgx_answers;
 pub use fault::CfgxFault;
 pub use predicates::{CfgxPredicate, cfgx_predicates};
 pub use run::cfgx_run;

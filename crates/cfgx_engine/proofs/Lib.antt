@@ -1,10 +1,12 @@
 pub mod AuditLemmas
 pub mod FactLemmas
 pub mod KeyLemmas
+pub mod LaneAnswers
 pub mod OneOutput
 pub mod OutputLemmas
 pub mod PickLemmas
 pub mod ReadingLemmas
 pub mod RowLemmas
 pub mod SectionLemmas
+pub mod ValueLemmas
 pub mod VerdictLemmas

@@ -1,3 +1,4 @@
+pub mod Audits
 pub mod Facts
 pub mod Input
 pub mod Output

@@ -7,11 +7,14 @@ ghost use Rattle.cfgx_grammar.specs.Answer.{HasOneTree};
 ghost use Rattle.cfgx_grammar.specs.Filling.{three_valued};
 ghost use Rattle.cfgx_grammar.specs.Tree.{asked};
 ghost use Rattle.cfgx_parser.specs.Predicate.{question_of};
-ghost use Rattle.cfgx_engine.specs.Verdicts.{answer_by, IsVerdict, verdict_of};
+ghost use Rattle.cfgx_engine.specs.Verdicts.{answer_by, IsVerdict};
 
 mod auditing;
+mod by_facts;
 mod facts;
 
+use auditing::{ByMatching, push_values};
+pub use by_facts::{AuditError, audit_facts};
 use cfg_expr::expr::{Condition, Predicates, TargetMatcher};
 use cfg_expr::memory::SmallAllocator;
 use cfg_expr::{Decision, Expression, Predicate};
@@ -46,6 +49,22 @@ pub enum Verdict {
     No,
     /// The unknown answers decide
     Unknown,
+}
+
+/// Returns the verdict of a value.
+impl From<Option<bool>> for Verdict {
+    ghost use Rattle.std.specs.Prelude.{◌≡◌};
+    ghost use Rattle.cfgx_engine.specs.Verdicts.{verdict_of};
+
+    ghost from_gives = { λ value verdict. verdict ≡ verdict_of value };
+
+    fn from(value: Option<bool>) -> Verdict {
+        match value {
+            Some(true) => Verdict::Yes,
+            Some(false) => Verdict::No,
+            None => Verdict::Unknown,
+        }
+    }
 }
 
 /// Asks `matcher` a predicate. It does not know predicates that are not on the target.
@@ -132,17 +151,6 @@ pub fn decide_on<A: SmallAllocator, M: TargetMatcher>(
     }
 }
 
-/// Returns the verdict of a value.
-fn verdict_of(value: Option<bool>) -> Verdict
-    ensures { result ≡ verdict_of value }
-{
-    match value {
-        Some(true) => Verdict::Yes,
-        Some(false) => Verdict::No,
-        None => Verdict::Unknown,
-    }
-}
-
 /// Evaluates a condition over the answers of `matcher`.
 pub(crate) fn eval_on_target<A: SmallAllocator, M: TargetMatcher>(
     alloc: A,
@@ -178,7 +186,7 @@ pub fn pick<A: SmallAllocator, M: TargetMatcher>(
     let mut verdicts = Vec::with_capacity(alloc, sections.len())?;
     for section in sections {
         let value = eval_on_target(alloc, &section.condition, matcher)?;
-        verdicts.push(verdict_of(value))?;
+        verdicts.push(Verdict::from(value))?;
     }
     Ok(verdicts)
 }
@@ -201,11 +209,12 @@ pub fn audit<A: SmallAllocator, M: TargetMatcher>(
         IsVerdict (M.answer target) condition.now verdict) targets.now verdicts.items) }
 {
     let mut verdicts = Vec::with_capacity(alloc, targets.len())?;
-    let mut left = targets;
-    while !left.is_empty() {
-        let (piece, others) = left.split_at(left.len().min(64));
-        auditing::audit_piece(alloc, condition, piece, &mut verdicts)?;
-        left = others;
-    }
+    push_values(
+        alloc,
+        &ByMatching,
+        &condition.condition(),
+        targets,
+        &mut verdicts,
+    )?;
     Ok(verdicts)
 }

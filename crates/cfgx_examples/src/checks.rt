@@ -2,11 +2,12 @@
 //!
 //! All tables share one test and one closure.
 use crate::auditing::AUDITED;
+use crate::auditing_by_facts::AUDITED_BY_FACTS;
 use crate::calling::ANSWERS;
 use crate::evaluating::steps::{STEPS, VALUES_OF_STEPS};
 use crate::evaluating::{BY_FLAGS, TERMS};
 use crate::facts::{ANSWERED, READ};
-use crate::{auditing, calling, evaluating, facts};
+use crate::{auditing, auditing_by_facts, calling, evaluating, facts};
 use cfgx_testing::rows::{Finding, TableToCheck, check_tables};
 use std::alloc::Global;
 
@@ -14,6 +15,7 @@ use std::alloc::Global;
 const TABLES: &[TableToCheck<'static>] = &[
     ("examples", ANSWERS, 64),
     ("verdicts on many targets", AUDITED, 6),
+    ("values by facts", AUDITED_BY_FACTS, 9),
     ("values with flags", BY_FLAGS, 5),
     ("terms and questions", TERMS, 12),
     ("steps and their values", STEPS, 9),
@@ -27,6 +29,7 @@ fn row_is_right(alloc: Global, check: &str, row: &[String]) -> Option<bool> {
     match check {
         "examples" => calling::row_is_right(alloc, row),
         "verdicts on many targets" => Some(auditing::row_is_right(alloc, row)),
+        "values by facts" => Some(auditing_by_facts::row_is_right(alloc, row)),
         "values with flags" => Some(evaluating::value_is_right(alloc, row)),
         "terms and questions" => Some(evaluating::terms_are_right(alloc, row)),
         "steps and their values" => Some(evaluating::steps::steps_are_right(alloc, row)),

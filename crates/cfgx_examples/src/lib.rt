@@ -4,6 +4,8 @@
 #[cfg(test)]
 pub mod auditing;
 #[cfg(test)]
+pub mod auditing_by_facts;
+#[cfg(test)]
 pub mod calling;
 #[cfg(test)]
 mod checks;

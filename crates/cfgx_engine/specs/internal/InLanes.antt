@@ -1,18 +1,46 @@
--- The verdicts on a condition for at most sixty-four targets at once.
-use Rattle.std.specs.Prelude.{◌≡◌, ℕ, zero, suc, Bool, List, [], ◌∷◌, ◌++◌, Some}
-use Rattle.std.specs.List.{slice_get}
+-- The values of a condition on at most sixty-four targets at once.
+use Rattle.std.specs.Prelude.{◌≡◌, ◌+◌, ◌*◌, ℕ, zero, suc, Bool, true, false, List, [], ◌∷◌, ◌++◌}
+use Rattle.std.specs.Prelude.{Option, Some, None}
+use Rattle.std.specs.List.{AllZip, slice_get}
 use Rattle.cfgx_syntax.specs.Kleene.{Planes, lane}
-use Rattle.cfgx_grammar.specs.Question.{Question, TargetQuestion}
-use Rattle.cfgx_engine.specs.Verdicts.{answer_by, verdict_of}
-use Rattle.cfgx_engine.specs.declared.resolve.Verdict.{Verdict}
+use Rattle.cfgx_grammar.specs.Question.{Question}
+use Rattle.cfgx_engine.specs.Audits.{HasValueOver}
 
--- the lane of each target holds its answer to the question
-abbrev pub InLanes : {M : Type 0} → (M → TargetQuestion → Bool) → List M → Question → Planes
-    → Type 0
-InLanes {M = M} answer targets question planes = (i : ℕ) (target : M)
-    → slice_get targets i ≡ Some target → lane i planes ≡ answer_by (answer target) question
+-- the lane of each target holds an answer of it to the question
+abbrev pub InLanes : {T : Type 0} → (T → Question → Option Bool → Type 0) → List T → Question
+    → Planes → Type 0
+InLanes {T = T} Answers targets question planes = (i : ℕ) (target : T)
+    → slice_get targets i ≡ Some target → Answers target question (lane i planes)
 
--- the verdicts in the first `n` lanes
-abbrev pub lane_verdicts : ℕ → Planes → List Verdict
-lane_verdicts zero planes = []
-lane_verdicts (suc n) planes = lane_verdicts n planes ++ verdict_of (lane n planes) ∷ []
+-- the lanes that are true and the lanes that are false, as planes
+abbrev pub as_planes : ℕ × ℕ → Planes
+as_planes planes = record { is_true = planes.0; is_false = planes.1 }
+
+-- the planes with this answer in lane 0, and in each other lane the answer in the lane before it
+abbrev pub with_lane_0 : Option Bool → Planes → Planes
+with_lane_0 (Some true) others =
+    record { is_true = 2 * others.is_true + 1; is_false = 2 * others.is_false }
+with_lane_0 (Some false) others =
+    record { is_true = 2 * others.is_true; is_false = 2 * others.is_false + 1 }
+with_lane_0 None others = record { is_true = 2 * others.is_true; is_false = 2 * others.is_false }
+
+-- the planes with these answers in the first lanes, and no answer in the others
+abbrev pub planes_of : List (Option Bool) → Planes
+planes_of [] = record { is_true = 0; is_false = 0 }
+planes_of (answer ∷ answers) = with_lane_0 answer (planes_of answers)
+
+-- the values in the first `n` lanes
+abbrev pub lane_values : ℕ → Planes → List (Option Bool)
+lane_values zero planes = []
+lane_values (suc n) planes = lane_values n planes ++ lane n planes ∷ []
+
+-- one output was added for each of the items, in order
+abbrev pub AddsEach : {X V : Type 0} → (X → V → Type 0) → List X → List V → List V → Type 0
+AddsEach {V = V} Gives items old new =
+    (added : List V) × (new ≡ old ++ added) × AllZip Gives items added
+
+-- the output is one that is given for the value of the condition over these answers
+abbrev pub TellsValue : {V : Type 0} → (Option Bool → V → Type 0) → List ℕ
+    → (Question → Option Bool → Type 0) → V → Type 0
+TellsValue Gives condition Answers output = (value : Option Bool)
+    × HasValueOver Answers condition value × Gives value output

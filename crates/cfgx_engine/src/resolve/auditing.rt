@@ -1,81 +1,126 @@
-// The verdicts on a condition for at most 64 targets, by one evaluation in 64 lanes.
+// The values of a condition on many targets, by one evaluation in 64 lanes for each 64 of them.
 //
-// `ask_in_lanes` takes a predicate by value: with the drop in the loop of `ask_all`, the proof
-// would go over all kinds of predicates.
-ghost use Rattle.std.specs.Prelude.{◌≡◌, ◌++◌, ◌≤◌, List, length, IfOk, OnOk};
+// `ask` takes a predicate by value: with the drop in the loop of `ask_all`, the proof would go over
+// all kinds of predicates.
+ghost use Rattle.std.specs.Prelude.{◌≡◌, ◌≤◌, length, IfOk, OnOk};
 ghost use Rattle.std.specs.List.{AllZip};
 ghost use Rattle.cfgx_grammar.specs.Answer.{HasOneTree};
 ghost use Rattle.cfgx_grammar.specs.Tree.{asked};
 ghost use Rattle.cfgx_parser.specs.Predicate.{question_of};
-ghost use Rattle.cfgx_engine.specs.internal.InLanes.{InLanes, lane_verdicts};
-ghost use Rattle.cfgx_engine.specs.Verdicts.{IsVerdict};
+ghost use Rattle.cfgx_engine.specs.Verdicts.{answer_by};
+ghost use Rattle.cfgx_engine.specs.internal.InLanes.{AddsEach, InLanes, lane_values, TellsValue};
 
-use super::{Verdict, verdict_of};
-use cfg_expr::expr::TargetMatcher;
+use cfg_expr::Predicate;
 use cfg_expr::expr::logic::Kleene64;
+use cfg_expr::expr::{Condition, TargetMatcher};
 use cfg_expr::memory::SmallAllocator;
-use cfg_expr::{Expression, Predicate};
 use std::alloc::{AllocError, Allocator};
 
-/// Pushes the verdict on the condition for each of at most 64 targets.
-pub(super) fn audit_piece<A: SmallAllocator, M: TargetMatcher>(
+/// A way to ask targets of the type `T`.
+pub(super) trait Asker<T> {
+    ghost use Rattle.std.specs.Prelude.{Bool, Option};
+    ghost use Rattle.cfgx_grammar.specs.Question.{Question};
+
+    /// Holds of a target, a question and an answer that the target may give to it.
+    ghost answers: { Self → T → Question → Option Bool → Type 0 };
+
+    /// Returns the answers of at most 64 targets to a predicate: lane `i` is that of target `i`.
+    fn ask(&self, targets: &[T], predicate: Predicate<'_>) -> Kleene64
+        requires { length targets.now ≤ 64 }
+        ensures { InLanes (answers self.now) targets.now (question_of predicate.entry) result };
+}
+
+/// Asks matchers. They do not know predicates that are not on the target.
+#[derive(Drop)]
+pub(super) struct ByMatching;
+
+impl<M: TargetMatcher> Asker<M> for ByMatching {
+    ghost answers = { λ _ matcher question answer. answer ≡ answer_by (M.answer matcher) question };
+
+    fn ask(&self, targets: &[M], predicate: Predicate<'_>) -> Kleene64
+        requires { length targets.now ≤ 64 }
+        ensures { InLanes (λ matcher question answer.
+            answer ≡ answer_by (M.answer matcher) question) targets.now
+            (question_of predicate.entry) result }
+    {
+        match &predicate {
+            Predicate::Target(target) => target.lanes(targets),
+            _ => Kleene64::new(0, 0),
+        }
+    }
+}
+
+/// Pushes the value of the condition on each target, in order. Each predicate is asked once of each
+/// target, and the condition is evaluated once for each 64 targets.
+pub(super) fn push_values<A: SmallAllocator, T, S: Asker<T>, V: From<Option<bool>> + Drop>(
     alloc: A,
-    condition: &Expression<A>,
-    targets: &[M],
-    verdicts: &mut Vec<Verdict, A>,
+    asker: &S,
+    condition: &Condition<'_>,
+    targets: &[T],
+    values: &mut Vec<V, A>,
+) -> Result<(), AllocError>
+    ensures { OnOk result (AddsEach
+        (λ target. TellsValue V.from_gives condition.now (S.answers asker.now target))
+        targets.now values.old.items values.new.items) }
+{
+    let mut left = targets;
+    while !left.is_empty() {
+        let (piece, others) = left.split_at(left.len().min(64));
+        push_piece(alloc, asker, condition, piece, values)?;
+        left = others;
+    }
+    Ok(())
+}
+
+/// Pushes the value of the condition on each of at most 64 targets.
+fn push_piece<A: SmallAllocator, T, S: Asker<T>, V: From<Option<bool>> + Drop>(
+    alloc: A,
+    asker: &S,
+    condition: &Condition<'_>,
+    targets: &[T],
+    values: &mut Vec<V, A>,
 ) -> Result<(), AllocError>
     requires { length targets.now ≤ 64 }
-    ensures { OnOk result ((passed : List M) → AllZip (λ target verdict.
-        IsVerdict (M.answer target) condition.now verdict) passed verdicts.old.items
-        → AllZip (λ target verdict. IsVerdict (M.answer target) condition.now verdict)
-        (passed ++ targets.now) verdicts.new.items) }
+    ensures { OnOk result (AddsEach
+        (λ target. TellsValue V.from_gives condition.now (S.answers asker.now target))
+        targets.now values.old.items values.new.items) }
 {
-    let answers = ask_all(alloc, condition, targets)?;
+    let answers = ask_all(alloc, asker, condition, targets)?;
     let value = condition.eval_lanes(alloc, answers.as_slice())?;
-    push_verdicts(value, targets.len(), verdicts)
+    push_lanes(value, targets.len(), values)
 }
 
 /// Asks the targets each predicate of the condition, in order. Each target has a lane.
-fn ask_all<A: SmallAllocator, M: TargetMatcher>(
+fn ask_all<A: SmallAllocator, T, S: Asker<T>>(
     alloc: A,
-    condition: &Expression<A>,
-    targets: &[M],
+    asker: &S,
+    condition: &Condition<'_>,
+    targets: &[T],
 ) -> Result<Vec<Kleene64, A>, AllocError>
     requires { length targets.now ≤ 64 }
     ensures { IfOk result (λ answers. (one : HasOneTree condition.now)
-        × AllZip (InLanes M.answer targets.now) (asked one.tree) answers.items) }
+        × AllZip (InLanes (S.answers asker.now) targets.now) (asked one.tree) answers.items) }
 {
     let predicates = condition.predicates();
     let mut answers = Vec::with_capacity(alloc, predicates.left())?;
     for predicate in predicates {
-        answers.push(ask_in_lanes(targets, predicate))?;
+        answers.push(asker.ask(targets, predicate))?;
     }
     Ok(answers)
 }
 
-/// Asks the targets a predicate. They do not know predicates that are not on the target.
-fn ask_in_lanes<M: TargetMatcher>(targets: &[M], predicate: Predicate<'_>) -> Kleene64
-    requires { length targets.now ≤ 64 }
-    ensures { InLanes M.answer targets.now (question_of predicate.entry) result }
-{
-    match &predicate {
-        Predicate::Target(target) => target.lanes(targets),
-        _ => Kleene64::new(0, 0),
-    }
-}
-
-/// Pushes the verdicts in the first `count` lanes.
-fn push_verdicts<A: Allocator>(
+/// Pushes the values in the first `count` lanes.
+fn push_lanes<A: Allocator, V: From<Option<bool>> + Drop>(
     value: Kleene64,
     count: usize,
-    verdicts: &mut Vec<Verdict, A>,
+    values: &mut Vec<V, A>,
 ) -> Result<(), AllocError>
     requires { count ≤ 64 }
-    ensures { OnOk result
-        (verdicts.new.items ≡ verdicts.old.items ++ lane_verdicts count value) }
+    ensures { OnOk result (AddsEach V.from_gives (lane_values count value) values.old.items
+        values.new.items) }
 {
     for i in 0..count {
-        verdicts.push(verdict_of(value.lane(i)))?;
+        values.push(V::from(value.lane(i)))?;
     }
     Ok(())
 }

@@ -1,11 +1,8 @@
--- The next piece is added.
-use Rattle.std.proofs.Common.{◌++◌, append_assoc}
+-- Each verdict is that of the value on its target.
+use Rattle.cfgx_engine.proofs.VerdictLemmas.{verdicts-told}
 use Rattle.cfgx_engine.proofs.resolve.audit.Goals as goal
 
-pub loop-left-preserved : goal.loop-left-preserved
-loop-left-preserved g c =
-    let so_far = c.loop-left.invariant in (
-      so_far.0 ++ c.split_at.result.0.now,
-      rw (append_assoc, ← c.split_at.ensures.by_index.0) so_far.1,
-      c.in_ok-audit_piece.ensures so_far.0 so_far.2,
-    )
+pub returns : goal.returns
+returns g c =
+    verdicts-told g.M.TargetMatcher.answer _ _ _ _ c.in_ok-verdicts.ensures.items
+    (rw c.condition.ensures at c.in_ok-push_values.ensures)

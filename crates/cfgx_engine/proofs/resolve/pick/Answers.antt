@@ -11,7 +11,7 @@ loop-section-preserved g c =
       take_more _ c.loop-section.section-index c.section-item.result c.loop-section-test.true,
       c.in_ok-push.ensures.items,
     ) (all_zipped_more _ _ _ _ _ c.loop-section.invariant
-    (rw (← c.section-item.is, c.verdict_of.ensures) is_verdict))
+    (rw (← c.section-item.is, c.from.ensures) is_verdict))
 
 -- no section is left
 pub returns : goal.returns

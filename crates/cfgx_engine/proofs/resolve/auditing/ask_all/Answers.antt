@@ -9,7 +9,7 @@ loop-predicate-preserved g c =
     let so_far = c.loop-predicate.invariant in (
       so_far.0 ++ question_of c.in-Some.predicate ∷ [],
       rw append_assoc (rw c.in-Some.ensures.steps at so_far.1),
-      rw c.in_ok-push.ensures.items (all_zipped_more _ _ _ _ _ so_far.2 c.ask_in_lanes.ensures),
+      rw c.in_ok-push.ensures.items (all_zipped_more _ _ _ _ _ so_far.2 c.ask.ensures),
     )
 
 pub returns : goal.returns

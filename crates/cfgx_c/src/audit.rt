@@ -1,0 +1,124 @@
+// The values of many conditions on many targets.
+
+ghost use Rattle.std.specs.Prelude.{◌≡◌, ◌≢◌, ◌↔◌, ◌≤◌, ◌*◌, ◌^◌, IfErr, IfOk, length, map};
+ghost use Rattle.std.specs.List.{All};
+ghost use Rattle.cfgx_c.specs.Answers.{IsCondition, IsFact, IsFirstFaulty, IsFirstFaultyFact};
+ghost use Rattle.cfgx_c.specs.Answers.{IsFirstNotUtf8};
+ghost use Rattle.cfgx_c.specs.Audit.{AreAllEnds, FillsValues, ValuesBy};
+ghost use Rattle.cfgx_c.specs.Ends.{AreEnds, parts};
+ghost use Rattle.cfgx_c.specs.Reading.{FailsFor};
+ghost use Rattle.cfgx_c.specs.Status.{bad_ends, done, faulty, faulty_fact, miscounted, no_tree};
+ghost use Rattle.cfgx_c.specs.Status.{not_utf8, too_large, wrong_use};
+
+use crate::ends::are_ends;
+use crate::facts::{fill_values, otherwise_of};
+use crate::reading::{ReadError, check_texts, parts, read_targets, text_error};
+use crate::status::{BAD_ENDS, DONE, TOO_LARGE};
+use cfgx_engine::resolve::{Otherwise, audit_facts};
+use std::alloc::Global;
+
+/// Reads the texts and then the facts, and returns the values of the texts on the targets. Target
+/// `j` has the facts up to `target_ends[j]`.
+fn find_values(
+    alloc: Global,
+    texts: &[u8],
+    text_ends: &[usize],
+    facts: &[u8],
+    fact_ends: &[usize],
+    target_ends: &[usize],
+    otherwise: Otherwise,
+) -> Result<Vec<Option<bool>>, ReadError>
+    requires { AreAllEnds texts.now text_ends.now facts.now fact_ends.now target_ends.now }
+    ensures ok { IfOk result (λ values. All IsCondition (parts text_ends.now texts.now)
+        × All IsFact (parts fact_ends.now facts.now)
+        × ValuesBy (parts text_ends.now texts.now)
+        (parts target_ends.now (parts fact_ends.now facts.now)) otherwise values.items) }
+    ensures err { IfErr result (FailsFor (parts text_ends.now texts.now)
+        (parts fact_ends.now facts.now)) }
+{
+    let texts = parts(alloc, texts, text_ends)?;
+    let conditions = check_texts(alloc, texts.as_slice())?;
+    let facts = parts(alloc, facts, fact_ends)?;
+    let targets = read_targets(alloc, facts.as_slice(), target_ends)?;
+    match audit_facts(alloc, conditions.as_slice(), targets.as_slice(), otherwise) {
+        Ok(values) => Ok(values),
+        Err(error) => Err(text_error(error.index, error.failure)),
+    }
+}
+
+/// Evaluates many conditions on many targets. Target `j` has the facts from `target_ends[j - 1]`,
+/// or from 0, up to `target_ends[j]`, and answers by them as in `cfgx_answers`.
+///
+/// Returns the status `DONE`, and fills `values`: with `n` targets, item `i * n + j` is the value of
+/// condition `i` on target `j`, 0 for false, 1 for true, 2 for unknown. Otherwise returns the first
+/// of these that is so:
+///
+/// - `BAD_ENDS`: ends fall, or the last one is not the number of items.
+/// - `TOO_LARGE`: the number of values does not fit in a `usize`.
+/// - `NOT_UTF8` or `FAULTY`: a text is no condition. `place` becomes the number of the first one.
+/// - `FAULTY_FACT`: a fact is faulty or not UTF-8. `place` becomes the number of the first one.
+///
+/// Returns `OUT_OF_MEMORY` if memory was refused, unless the ends are bad or the number of values
+/// is too large. With any status but `DONE` `needed` becomes 0, and `values` stays as it was. With
+/// any other status than the last three of the list `place` stays as it was.
+#[unsafe(no_mangle)]
+pub extern "C" fn cfgx_audit(
+    alloc: Global,
+    texts: &[u8],
+    text_ends: &[usize],
+    facts: &[u8],
+    fact_ends: &[usize],
+    target_ends: &[usize],
+    otherwise: u8,
+    values: &mut [u8],
+    needed: &mut usize,
+    place: &mut usize,
+) -> u32
+    ensures done { result ≡ done → All IsCondition (parts text_ends.now texts.now)
+        × All IsFact (parts fact_ends.now facts.now)
+        × FillsValues (parts text_ends.now texts.now)
+        (parts target_ends.now (parts fact_ends.now facts.now)) otherwise values.old values.new
+        needed.new }
+    ensures faulty { result ≡ faulty → IsFirstFaulty (parts text_ends.now texts.now) place.new }
+    ensures not_utf8 { result ≡ not_utf8
+        → IsFirstNotUtf8 (parts text_ends.now texts.now) place.new }
+    ensures faulty_fact { result ≡ faulty_fact
+        → All IsCondition (parts text_ends.now texts.now)
+        × IsFirstFaultyFact (parts fact_ends.now facts.now) place.new }
+    ensures bad_ends { (result ≡ bad_ends)
+        ↔ ¬ AreAllEnds texts.now text_ends.now facts.now fact_ends.now target_ends.now }
+    ensures too_large { (result ≡ too_large)
+        ↔ (AreAllEnds texts.now text_ends.now facts.now fact_ends.now target_ends.now
+        × (2 ^ 64 ≤ length text_ends.now * length target_ends.now)) }
+    ensures kept { result ≢ done → (values.new ≡ values.old) × (needed.new ≡ 0) }
+    ensures place { result ≢ faulty → result ≢ not_utf8 → result ≢ faulty_fact
+        → place.new ≡ place.old }
+    ensures status { (result ≤ faulty_fact) × (result ≢ wrong_use) × (result ≢ miscounted)
+        × (result ≢ no_tree) }
+{
+    *needed = 0;
+    if !are_ends(text_ends, texts.len())
+        || !are_ends(fact_ends, facts.len())
+        || !are_ends(target_ends, fact_ends.len())
+    {
+        return BAD_ENDS;
+    }
+    if text_ends.len().checked_mul(target_ends.len()).is_none() {
+        return TOO_LARGE;
+    }
+    match find_values(
+        alloc,
+        texts,
+        text_ends,
+        facts,
+        fact_ends,
+        target_ends,
+        otherwise_of(otherwise),
+    ) {
+        Ok(found) => {
+            *needed = fill_values(values, found.as_slice());
+            DONE
+        }
+        Err(error) => error.report(place),
+    }
+}

@@ -1,0 +1,224 @@
+// Conditions and facts that are passed as bytes.
+
+ghost use Rattle.std.specs.Prelude.{◌≡◌, ◌+◌, ◌<◌, ◌^◌, IfErr, IfOk, length, map, unwrap_or};
+ghost use Rattle.std.specs.List.{All, AllZip};
+ghost use Rattle.cfgx_syntax.specs.Stripping.{strip};
+ghost use Rattle.cfgx_engine.specs.Facts.{NameAlike, texts_of};
+ghost use Rattle.cfgx_c.specs.Answers.{IsCondition, IsFact};
+ghost use Rattle.cfgx_c.specs.Ends.{AreEnds, parts};
+ghost use Rattle.cfgx_c.specs.Reading.{FailsForFacts, FailsForText, FailsForTexts, IsUtf8Front};
+ghost use Rattle.cfgx_c.specs.Reading.{FactFits, fact_error, place_of, status_of, text_error};
+ghost use Rattle.cfgx_c.specs.Reading.{views};
+
+use crate::status::{FAULTY, FAULTY_FACT, NOT_UTF8, OUT_OF_MEMORY};
+use cfg_expr::Expression;
+use cfg_expr::error::Failure;
+use cfg_expr::expr::ConditionReader;
+use cfgx_engine::resolve::{Facts, FactsError};
+use std::alloc::{AllocError, AllocFailed, Global};
+
+/// Why texts and facts give no result.
+#[derive(Debug, Drop)]
+pub(crate) enum ReadError {
+    /// The text with this number is faulty, and those before it are conditions
+    Faulty(usize),
+    /// The text with this number is not UTF-8, and those before it are conditions
+    NotUtf8(usize),
+    /// The fact with this number is faulty or not UTF-8, and those before it are not
+    FaultyFact(usize),
+    /// Memory was refused
+    Memory,
+}
+
+impl ReadError {
+    /// Returns the status of a call with this error.
+    pub(crate) fn status(&self) -> u32
+        ensures { result ≡ status_of self.now }
+    {
+        match self {
+            ReadError::Faulty(_) => FAULTY,
+            ReadError::NotUtf8(_) => NOT_UTF8,
+            ReadError::FaultyFact(_) => FAULTY_FACT,
+            ReadError::Memory => OUT_OF_MEMORY,
+        }
+    }
+
+    /// Writes the number of the text or the fact at fault to `place`. If memory was refused, `place`
+    /// stays as it was. Returns the status of a call with this error.
+    pub(crate) fn report(&self, place: &mut usize) -> u32
+        ensures status { result ≡ status_of self.now }
+        ensures place { place.new ≡ unwrap_or (place_of self.now) place.old }
+    {
+        match self {
+            ReadError::Faulty(number) => *place = *number,
+            ReadError::NotUtf8(number) => *place = *number,
+            ReadError::FaultyFact(number) => *place = *number,
+            ReadError::Memory => {}
+        }
+        self.status()
+    }
+}
+
+impl From<AllocError> for ReadError {
+    ghost use Rattle.std.specs.Prelude.{◌≡◌};
+    ghost use Rattle.cfgx_c.specs.declared.reading.ReadError.TheVariants.{Memory};
+
+    ghost from_gives = { λ _ failure. failure ≡ Memory };
+
+    fn from(_error: AllocError) -> ReadError {
+        ReadError::Memory
+    }
+}
+
+impl<T: Drop> From<AllocFailed<T>> for ReadError {
+    ghost use Rattle.std.specs.Prelude.{◌≡◌};
+    ghost use Rattle.cfgx_c.specs.declared.reading.ReadError.TheVariants.{Memory};
+
+    ghost from_gives = { λ _ failure. failure ≡ Memory };
+
+    fn from(_error: AllocFailed<T>) -> ReadError {
+        ReadError::Memory
+    }
+}
+
+/// Returns the parts of `bytes` with these ends.
+pub(crate) fn parts<'a>(
+    alloc: Global,
+    bytes: &'a [u8],
+    ends: &[usize],
+) -> Result<Vec<&'a [u8]>, AllocError>
+    requires { AreEnds ends.now (length bytes.now) }
+    ensures { IfOk result (λ found. views found.items ≡ parts ends.now bytes.now) }
+{
+    let mut parts = Vec::with_capacity(alloc, ends.len())?;
+    let mut begin = 0;
+    for &end in ends {
+        parts.push(&bytes[begin..end])?;
+        begin = end;
+    }
+    Ok(parts)
+}
+
+/// Returns the error of the text with this number.
+pub(crate) fn text_error(number: usize, failure: Failure) -> ReadError
+    ensures { result ≡ text_error number failure }
+{
+    match failure {
+        Failure::Parse(_) => ReadError::Faulty(number),
+        Failure::Memory(_) => ReadError::Memory,
+    }
+}
+
+/// Checks that each text is a condition, and returns the texts.
+pub(crate) fn check_texts<'a>(alloc: Global, texts: &[&'a [u8]]) -> Result<Vec<&'a str>, ReadError>
+    ensures ok { IfOk result (λ conditions. (views conditions.items ≡ views texts.now)
+        × All IsCondition (views texts.now)) }
+    ensures err { IfErr result (FailsForTexts (views texts.now)) }
+{
+    let mut reader = ConditionReader::new(alloc);
+    let mut conditions = Vec::with_capacity(alloc, texts.len())?;
+    for text in texts {
+        let condition = check_text(&mut reader, conditions.len(), text)?;
+        conditions.push(condition)?;
+    }
+    Ok(conditions)
+}
+
+/// Checks that the text with this number is a condition, and returns the text.
+fn check_text<'a>(
+    reader: &mut ConditionReader<'a>,
+    number: usize,
+    text: &'a [u8],
+) -> Result<&'a str, ReadError>
+    ensures ok { IfOk result (λ condition. (condition.now ≡ text.now) × IsCondition text.now) }
+    ensures err { IfErr result (FailsForText number text.now) }
+{
+    let Ok(text) = str::from_utf8(text) else {
+        return Err(ReadError::NotUtf8(number));
+    };
+    match reader.read(text) {
+        Ok(_) => Ok(text),
+        Err(Failure::Parse(_)) => Err(ReadError::Faulty(number)),
+        Err(Failure::Memory(_)) => Err(ReadError::Memory),
+    }
+}
+
+/// Reads a text, whose number is 0.
+pub(crate) fn read_text(alloc: Global, text: &[u8]) -> Result<Expression, ReadError>
+    ensures ok { IfOk result (λ condition. (condition ≡ strip text.now) × IsCondition text.now) }
+    ensures err { IfErr result (FailsForText 0 text.now) }
+{
+    let Ok(text) = str::from_utf8(text) else {
+        return Err(ReadError::NotUtf8(0));
+    };
+    match Expression::parse(alloc, text) {
+        Ok(condition) => Ok(condition),
+        Err(Failure::Parse(_)) => Err(ReadError::Faulty(0)),
+        Err(Failure::Memory(_)) => Err(ReadError::Memory),
+    }
+}
+
+/// Returns the texts before the first one that is not UTF-8.
+fn utf8_front<'a>(alloc: Global, texts: &[&'a [u8]]) -> Result<Vec<&'a str>, AllocError>
+    ensures { IfOk result (λ front. IsUtf8Front (views texts.now) (views front.items)) }
+{
+    let mut front = Vec::with_capacity(alloc, texts.len())?;
+    for text in texts {
+        let Ok(text) = str::from_utf8(text) else {
+            return Ok(front);
+        };
+        front.push(text)?;
+    }
+    Ok(front)
+}
+
+/// Returns the error of facts whose numbers begin at `begin`.
+fn fact_error(begin: usize, error: &FactsError) -> ReadError
+    requires { FactFits begin error.now }
+    ensures { result ≡ fact_error begin error.now }
+{
+    match error {
+        FactsError::Faulty { index, .. } => ReadError::FaultyFact(begin + *index),
+        FactsError::Memory(_) => ReadError::Memory,
+    }
+}
+
+/// Reads the facts of a target, whose numbers begin at `begin`.
+pub(crate) fn read_facts(alloc: Global, begin: usize, facts: &[&[u8]]) -> Result<Facts, ReadError>
+    requires { begin + length facts.now < 2 ^ 64 }
+    ensures ok { IfOk result (λ read. All IsFact (views facts.now)
+        × NameAlike read (texts_of (views facts.now))) }
+    ensures err { IfErr result (FailsForFacts begin (views facts.now)) }
+{
+    let front = utf8_front(alloc, facts)?;
+    let read = match Facts::from_rustc(alloc, front.as_slice()) {
+        Ok(read) => read,
+        Err(error) => return Err(fact_error(begin, &error)),
+    };
+    if front.len() < facts.len() {
+        return Err(ReadError::FaultyFact(begin + front.len()));
+    }
+    Ok(read)
+}
+
+/// Reads the facts of each target. Target `j` has the facts up to `target_ends[j]`.
+pub(crate) fn read_targets(
+    alloc: Global,
+    facts: &[&[u8]],
+    target_ends: &[usize],
+) -> Result<Vec<Facts>, ReadError>
+    requires { AreEnds target_ends.now (length facts.now) }
+    ensures ok { IfOk result (λ targets. All IsFact (views facts.now)
+        × AllZip (λ facts read. NameAlike read (texts_of facts))
+        (parts target_ends.now (views facts.now)) targets.items) }
+    ensures err { IfErr result (FailsForFacts 0 (views facts.now)) }
+{
+    let mut targets = Vec::with_capacity(alloc, target_ends.len())?;
+    let mut begin = 0;
+    for &end in target_ends {
+        let read = read_facts(alloc, begin, &facts[begin..end])?;
+        targets.push(read)?;
+        begin = end;
+    }
+    Ok(targets)
+}

@@ -1,0 +1,24 @@
+-- The values in the lanes are those on the targets.
+use Rattle.std.proofs.Common.{◌∙◌, ap, length}
+use Rattle.std.proofs.{lemmas.Result.on_ok_weaker, lemmas.Slice.Zip.AllZip-long}
+use Rattle.cfgx_grammar.specs.{Tree.asked}
+use Rattle.cfgx_engine.{specs.internal.InLanes.InLanes, proofs.AuditLemmas.lanes-told}
+use Rattle.cfgx_engine.proofs.resolve.auditing.push_piece.Goals as goal
+
+pub eval_lanes-requires : goal.eval_lanes-requires
+eval_lanes-requires g c =
+    let found = c.in_ok-answers.ensures in (
+      found.0.tree,
+      found.0.reads.has,
+      ap length c.as_slice.ensures.value
+          ∙ AllZip-long (InLanes (g.S.Asker.answers c.args.asker.now) c.args.targets.now)
+          (asked found.0.tree) c.in_ok-answers.answers.items found.1,
+    )
+
+pub returns : goal.returns
+returns g c =
+    let value = c.in_ok-value.ensures.value in
+    on_ok_weaker c.push_lanes.result (lanes-told c.args.targets.now
+    (g.S.Asker.answers c.args.asker.now) g.V.From.from_gives c.in_ok-answers.answers.items
+    c.as_slice.result.now c.in_ok-value.value _ _ c.requires c.as_slice.ensures.value
+    c.in_ok-answers.ensures (value.0, value.2)) c.push_lanes.ensures
