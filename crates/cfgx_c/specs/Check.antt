@@ -1,8 +1,10 @@
 -- What `cfgx_check` reports of a fault.
 -- Source: include/cfgx.h.
-use Rattle.std.specs.Prelude.{◌==◌, ℕ, List, length, if◌then◌else◌}
+use Rattle.std.specs.Prelude.{◌==◌, ◌+◌, ℕ, List, [], ◌∷◌, codes, length, if◌then◌else◌}
+use Rattle.std.specs.{List.position, Option.option_map_or}
 use Rattle.cfgx_syntax.specs.Stripping.{strip}
-use Rattle.cfgx_syntax.specs.Error.{Cause, Fault}
+use Rattle.cfgx_syntax.specs.Error.{Cause, Fault, texts_eq}
+use Rattle.cfgx_grammar.specs.Classification.{target_names}
 use Rattle.cfgx_c.specs.declared.fault.CfgxFault.{CfgxFault}
 
 -- the number of a reason, in the order of the variants of `Reason`
@@ -26,6 +28,35 @@ abbrev pub member_count : Cause → ℕ
 member_count (Cause.invalid_not members) = members
 member_count cause = 0
 
+-- the lists of terms that a text may lack, as docs/RULES.md numbers them from 1 on
+abbrev pub term_lists : List (List (List ℕ))
+term_lists =
+    []
+    ∷ (codes "<key>" ∷ codes "all" ∷ codes "any" ∷ codes "not" ∷ [])
+    ∷ (codes "<key>" ∷ codes ")" ∷ codes "all" ∷ codes "any" ∷ codes "not" ∷ [])
+    ∷ (codes ")" ∷ codes "<key>" ∷ [])
+    ∷ (codes "=" ∷ codes "," ∷ codes ")" ∷ [])
+    ∷ (codes "\"" ∷ [])
+    ∷ (codes "," ∷ codes ")" ∷ [])
+    ∷ (codes "(" ∷ [])
+    ∷ (codes ")" ∷ codes "," ∷ [])
+    ∷ (codes "\"<value>\"" ∷ [])
+    ∷ (codes "= \"<feature_name>\"" ∷ [])
+    ∷ (codes "= \"<panic_strategy>\"" ∷ [])
+    ∷ (codes "= \"<target_cfg_value>\"" ∷ [])
+    ∷ (codes "<feature>" ∷ [])
+    ∷ target_names ∷ []
+
+-- the number of a list of terms, and 0 for every other list
+abbrev pub list_number : List (List ℕ) → ℕ
+list_number terms = option_map_or (λ place. place + 1)
+    (position (texts_eq terms) term_lists) 0
+
+-- the number of the list of terms of `Unexpected`, and 0 for every other reason
+abbrev pub terms_number : Cause → ℕ
+terms_number (Cause.unexpected terms) = list_number terms
+terms_number cause = 0
+
 -- the offset of the stripped text in the text: behind `cfg(` if that was stripped
 abbrev pub strip_offset : List ℕ → ℕ
 strip_offset text = if length (strip text) == length text then 0 else 4
@@ -38,4 +69,5 @@ c_fault text fault = record {
   end = fault.end;
   members = member_count fault.cause;
   reason = reason_number fault.cause;
+  terms = terms_number fault.cause;
 }

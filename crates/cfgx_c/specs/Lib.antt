@@ -1,6 +1,10 @@
 pub mod Buffer
 pub mod Check
+pub mod Decide
 pub mod Ends
+pub mod Predicates
 pub mod Run
 pub mod Status
+pub mod Texts
 pub mod Value
+pub mod Version

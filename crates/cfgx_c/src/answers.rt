@@ -33,6 +33,17 @@ fn answer_of(byte: u8) -> Option<bool>
     }
 }
 
+/// Returns the answers in `bytes`.
+pub(crate) fn answers_of(alloc: Global, bytes: &[u8]) -> Result<Vec<Option<bool>>, AllocError>
+    ensures { IfOk result (λ answers. answers.items ≡ map answer_of bytes.now) }
+{
+    let mut answers = Vec::new(alloc);
+    for byte in bytes {
+        answers.push(answer_of(*byte))?;
+    }
+    Ok(answers)
+}
+
 /// Takes the first of the bytes that are left, and returns the answer in it. It is unknown if none
 /// is left.
 fn take_answer(left: &mut &[u8]) -> Option<bool>

@@ -1,8 +1,9 @@
 // Faults as C sees them.
 
-ghost use Rattle.std.specs.Prelude.{◌≡◌};
-ghost use Rattle.cfgx_syntax.specs.Error.{cause_of};
-ghost use Rattle.cfgx_c.specs.Check.{c_fault, member_count, reason_number, strip_offset};
+ghost use Rattle.std.specs.Prelude.{◌≡◌, map};
+ghost use Rattle.cfgx_syntax.specs.Error.{cause_of, texts_eq};
+ghost use Rattle.cfgx_c.specs.Check.{c_fault, list_number, member_count, reason_number};
+ghost use Rattle.cfgx_c.specs.Check.{strip_offset, terms_number};
 
 use cfg_expr::error::{ParseError, Reason};
 use cfgx_syntax::stripping::strip;
@@ -21,7 +22,38 @@ pub struct CfgxFault {
     pub members: usize,
     /// The number of the reason
     pub reason: u32,
+    /// The number of the list of terms, from 1 on, if the reason is `Unexpected`, else 0
+    pub terms: u32,
 }
+
+/// The lists of terms of `Unexpected`, as `docs/RULES.md` numbers them from 1 on.
+const TERM_LISTS: &[&[&str]] = &[
+    &[],
+    &["<key>", "all", "any", "not"],
+    &["<key>", ")", "all", "any", "not"],
+    &[")", "<key>"],
+    &["=", ",", ")"],
+    &["\""],
+    &[",", ")"],
+    &["("],
+    &[")", ","],
+    &["\"<value>\""],
+    &["= \"<feature_name>\""],
+    &["= \"<panic_strategy>\""],
+    &["= \"<target_cfg_value>\""],
+    &["<feature>"],
+    &[
+        "target_arch",
+        "target_feature",
+        "target_os",
+        "target_family",
+        "target_env",
+        "target_endian",
+        "target_has_atomic",
+        "target_pointer_width",
+        "target_vendor",
+    ],
+];
 
 /// Returns the number of a reason.
 fn reason_number(reason: Reason) -> u32
@@ -53,8 +85,40 @@ fn member_count(reason: Reason) -> usize
     }
 }
 
+/// Returns whether both lists have the same terms in the same order.
+#[tactic(auto, using(cfgx_syntax::proofs::Equalities::texts))]
+fn are_same_terms(terms: &[&str], others: &[&str]) -> bool
+    ensures { result ≡ texts_eq (map (λ t. t.now) terms.now) (map (λ t. t.now) others.now) }
+{
+    terms == others
+}
+
+/// Returns the number of a list of terms, or 0 if it is none of `TERM_LISTS`.
+fn list_number(terms: &[&str]) -> u32
+    ensures { result ≡ list_number (map (λ t. t.now) terms.now) }
+{
+    let mut number = 0;
+    for list in TERM_LISTS {
+        number += 1;
+        if are_same_terms(terms, list) {
+            return number;
+        }
+    }
+    0
+}
+
+/// Returns the number of the list of terms if the reason has one, else 0.
+fn terms_number(reason: Reason) -> u32
+    ensures { result ≡ terms_number (cause_of reason) }
+{
+    match reason {
+        Reason::Unexpected(terms) => list_number(terms),
+        _ => 0,
+    }
+}
+
 /// Returns the offset of the stripped text in `text`.
-fn strip_offset(text: &str) -> usize
+pub(crate) fn strip_offset(text: &str) -> usize
     ensures { result ≡ strip_offset text.now }
 {
     if strip(text).len() == text.len() {
@@ -78,5 +142,6 @@ pub(crate) fn c_fault(text: &str, error: &ParseError) -> CfgxFault
         end: error.span.end,
         members: member_count(error.reason),
         reason: reason_number(error.reason),
+        terms: terms_number(error.reason),
     }
 }

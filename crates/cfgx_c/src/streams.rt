@@ -1,7 +1,6 @@
-// A source and a sink in memory, and the buffer of a caller.
+// A source and a sink in memory.
 
 ghost use Rattle.std.specs.Prelude.{◌≡◌, [], Some};
-ghost use Rattle.cfgx_c.specs.Run.{Fills};
 
 use cfgx_engine::engine::{Sink, Source};
 use std::alloc::Global;
@@ -66,15 +65,4 @@ impl Sink for VecSink {
     fn flush(&mut self) -> io::Result<()> {
         Ok(())
     }
-}
-
-/// Copies `bytes` to the start of `buffer` if they all fit. Returns their number.
-pub(crate) fn fill(buffer: &mut [u8], bytes: &[u8]) -> usize
-    ensures { Fills bytes.now buffer.old buffer.new result }
-{
-    let needed = bytes.len();
-    if needed <= buffer.len() {
-        buffer[..needed].copy_from_slice(bytes);
-    }
-    needed
 }

@@ -2,7 +2,7 @@
 use Rattle.std.proofs.Common.{◌∙◌, ap, arith, length}
 use Rattle.cfgx_grammar.proofs.Answering.{only_tree}
 use Rattle.cfgx_c.specs.Value.{byte_of_value}
-use Rattle.cfgx_c.proofs.cfgx_value.Goals as goal
+use Rattle.cfgx_c.proofs.value.cfgx_value.Goals as goal
 
 pub returns-then-left-answers-clause-miscounted : goal.returns-then-left-answers-clause-miscounted
 returns-then-left-answers-clause-miscounted c is =

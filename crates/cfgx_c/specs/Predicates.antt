@@ -1,0 +1,159 @@
+-- What `cfgx_predicates` lists.
+-- Source: include/cfgx.h.
+use Rattle.std.specs.Prelude.{◌≡◌, ◌≤◌, ◌+◌, ℕ, List, Option, Some, None, length, map}
+use Rattle.std.specs.Prelude.{option_map, slice_range}
+use Rattle.std.specs.List.{AllZip, filter_map}
+use Rattle.cfgx_syntax.specs.Stripping.{strip}
+use Rattle.cfgx_targets.specs.declared.atomic.HasAtomic.{HasAtomic}
+use Rattle.cfgx_targets.specs.declared.atomic.HasAtomic.TheVariants as atomic
+use Rattle.cfgx_targets.specs.declared.endian.Endian.{Endian}
+use Rattle.cfgx_targets.specs.declared.endian.Endian.TheVariants as endian
+use Rattle.cfgx_grammar.specs.Answer.{HasOneTree}
+use Rattle.cfgx_grammar.specs.Question.{Question, TargetQuestion}
+use Rattle.cfgx_grammar.specs.Tree.{asked}
+use Rattle.cfgx_parser.specs.nodes.KeepsTree.{predicate_at}
+use Rattle.cfgx_parser.specs.nodes.Located.{question_at}
+use Rattle.cfgx_parser.specs.declared.nodes.ExprNode.{ExprNode}
+use Rattle.cfgx_parser.specs.declared.nodes.InnerPredicate.{InnerPredicate}
+use Rattle.cfgx_parser.specs.declared.nodes.InnerPredicate.TheVariants as inner
+use Rattle.cfgx_parser.specs.declared.nodes.InnerTarget.{InnerTarget}
+use Rattle.cfgx_parser.specs.declared.nodes.InnerTarget.TheVariants as target
+use Rattle.cfgx_parser.specs.declared.nodes.Span.{Span}
+use Rattle.cfgx_c.specs.Check.{strip_offset}
+use Rattle.cfgx_c.specs.declared.predicates.CfgxPredicate.{CfgxPredicate}
+
+-- the number of the kind of a predicate on the target
+abbrev pub target_kind : TargetQuestion → ℕ
+target_kind (TargetQuestion.abi text) = 8
+target_kind (TargetQuestion.arch text) = 9
+target_kind (TargetQuestion.endian order) = 10
+target_kind (TargetQuestion.env text) = 11
+target_kind (TargetQuestion.family text) = 12
+target_kind (TargetQuestion.has_atomic width) = 13
+target_kind (TargetQuestion.os text) = 14
+target_kind (TargetQuestion.panic text) = 15
+target_kind (TargetQuestion.pointer_width width) = 16
+target_kind (TargetQuestion.vendor text) = 17
+
+-- the number of the kind of a predicate
+abbrev pub kind_of : Question → ℕ
+kind_of (Question.flag key) = 1
+kind_of (Question.key_value key value) = 2
+kind_of Question.test = 3
+kind_of Question.debug_assertions = 4
+kind_of Question.proc_macro = 5
+kind_of (Question.feature text) = 6
+kind_of (Question.target_feature text) = 7
+kind_of (Question.target question) = target_kind question
+
+-- the number of a byte order
+abbrev pub endian_number : Endian → ℕ
+endian_number endian.big = 0
+endian_number endian.little = 1
+
+-- the number of bits of an atomic; the width of a pointer has a number above all of these
+abbrev pub atomic_number : HasAtomic → ℕ
+atomic_number (atomic.IntegerSize bits) = bits
+atomic_number atomic.Pointer = 65536
+
+abbrev pub target_number : TargetQuestion → ℕ
+target_number (TargetQuestion.endian order) = endian_number order
+target_number (TargetQuestion.has_atomic width) = atomic_number width
+target_number (TargetQuestion.pointer_width width) = width
+target_number _ = 0
+
+-- the number of a width, of an atomic or of a byte order, and 0 for every other predicate
+abbrev pub number_of : Question → ℕ
+number_of (Question.target question) = target_number question
+number_of _ = 0
+
+-- the key, if the kind does not say it
+abbrev pub key_text : Question → Option (List ℕ)
+key_text (Question.flag key) = Some key
+key_text (Question.key_value key value) = Some key
+key_text _ = None
+
+abbrev pub target_text : TargetQuestion → Option (List ℕ)
+target_text (TargetQuestion.abi text) = Some text
+target_text (TargetQuestion.arch text) = Some text
+target_text (TargetQuestion.endian order) = None
+target_text (TargetQuestion.env text) = Some text
+target_text (TargetQuestion.family text) = Some text
+target_text (TargetQuestion.has_atomic width) = None
+target_text (TargetQuestion.os text) = Some text
+target_text (TargetQuestion.panic text) = Some text
+target_text (TargetQuestion.pointer_width width) = None
+target_text (TargetQuestion.vendor text) = Some text
+
+-- the value, if there is one and the number does not say it
+abbrev pub value_text : Question → Option (List ℕ)
+value_text (Question.target question) = target_text question
+value_text (Question.feature text) = Some text
+value_text (Question.target_feature text) = Some text
+value_text (Question.key_value key value) = Some value
+value_text _ = None
+
+-- these bytes stand at `start..end` of the text; if there are none, both are 0
+abbrev pub IsSpanOf : List ℕ → Option (List ℕ) → ℕ → ℕ → Type 0
+IsSpanOf text None start end = (start ≡ 0) × (end ≡ 0)
+IsSpanOf text (Some bytes) start end = (start ≤ end) × (end ≤ length text)
+    × (slice_range text start end ≡ bytes)
+
+-- the predicate describes the question, with spans in the text
+pub record Describes (text : List ℕ) (question : Question) (predicate : CfgxPredicate) : Type 0
+  where
+    pub kind : predicate.kind ≡ kind_of question
+    pub number : predicate.number ≡ number_of question
+    pub key : IsSpanOf text (key_text question) predicate.key_start predicate.key_end
+    pub value : IsSpanOf text (value_text question) predicate.value_start predicate.value_end
+
+-- the predicates describe what the text's one tree asks, in this order
+pub record ListsPredicates (text : List ℕ) (predicates : List CfgxPredicate) : Type 0 where
+  pub one : HasOneTree (strip text)
+  pub each : AllZip (Describes text) (asked one.tree) predicates
+
+-- the span of the key of a node's predicate, if its kind does not say the key
+abbrev pub key_span : InnerPredicate → Option Span
+key_span (inner.Other key value) = Some key
+key_span _ = None
+
+abbrev pub target_span : InnerTarget → Option Span
+target_span (target.Abi span) = Some span
+target_span (target.Arch span) = Some span
+target_span (target.Endian order) = None
+target_span (target.Env span) = Some span
+target_span (target.Family span) = Some span
+target_span (target.HasAtomic width) = None
+target_span (target.Os span) = Some span
+target_span (target.Panic span) = Some span
+target_span (target.PointerWidth width) = None
+target_span (target.Vendor span) = Some span
+
+-- the span of the value of a node's predicate, if there is one and the number does not say it
+abbrev pub value_span : InnerPredicate → Option Span
+value_span (inner.Target question) = target_span question
+value_span (inner.Feature span) = Some span
+value_span (inner.TargetFeature span) = Some span
+value_span (inner.Other key value) = value
+value_span _ = None
+
+-- the span with `offset` more bytes before it; without a span, that from 0 to 0
+abbrev pub moved : ℕ → Option Span → Span
+moved offset None = record { start = 0; end = 0 }
+moved offset (Some span) = record { start = span.start + offset; end = span.end + offset }
+
+-- the predicate of a node as C sees it; `offset` bytes were stripped before the text
+abbrev pub c_predicate : List ℕ → ℕ → InnerPredicate → CfgxPredicate
+c_predicate text offset predicate = record {
+  kind = kind_of (question_at text predicate);
+  number = number_of (question_at text predicate);
+  key_start = (moved offset (key_span predicate)).start;
+  key_end = (moved offset (key_span predicate)).end;
+  value_start = (moved offset (value_span predicate)).start;
+  value_end = (moved offset (value_span predicate)).end;
+}
+
+-- the predicates at these places as C sees them
+abbrev pub c_predicates : List ℕ → ℕ → List ExprNode → List ℕ → List CfgxPredicate
+c_predicates text offset nodes places = filter_map (λ place. option_map (c_predicate text offset)
+    (predicate_at nodes place)) places

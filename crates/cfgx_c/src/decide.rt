@@ -1,0 +1,120 @@
+// The decision of a condition over answers.
+
+ghost use Rattle.std.specs.Prelude.{◌≡◌, ◌≢◌, ◌≤◌, ◌++◌, Err, IfOk, OnOk, length, map};
+ghost use Rattle.std.specs.Str.{IsUtf8};
+ghost use Rattle.cfgx_syntax.specs.Error.{Fault};
+ghost use Rattle.cfgx_syntax.specs.Stripping.{strip};
+ghost use Rattle.cfgx_grammar.specs.Answer.{HasOneTree, ReadsAs};
+ghost use Rattle.cfgx_grammar.specs.Given.{AreAnswersTo};
+ghost use Rattle.cfgx_grammar.specs.Tree.{asked};
+ghost use Rattle.cfg_expr.specs.Deciding.{Decides};
+ghost use Rattle.cfgx_c.specs.Decide.{DecidesOver, filling_bytes, fillings_in, value_in};
+ghost use Rattle.cfgx_c.specs.Status.{done, faulty, miscounted, not_utf8, wrong_use};
+ghost use Rattle.cfgx_c.specs.Value.{answer_of, byte_of_value};
+
+use crate::answers::{answers_of, byte_of_value};
+use crate::buffer::fill;
+use crate::status::{DONE, FAULTY, MISCOUNTED, NOT_UTF8, OUT_OF_MEMORY};
+use cfg_expr::error::Failure;
+use cfg_expr::{Decision, Expression};
+use std::alloc::{AllocError, Global};
+
+/// Returns the value of a decision.
+fn value_in(decision: &Decision) -> Option<bool>
+    ensures { result ≡ value_in decision.now }
+{
+    match decision {
+        Decision::Known(value) => Some(*value),
+        Decision::Unknown { .. } => None,
+    }
+}
+
+/// Appends the truth values of `filling` to `bytes`, a byte for each.
+fn push_filling(bytes: &mut Vec<u8>, filling: &[bool]) -> Result<(), AllocError>
+    ensures { OnOk result (bytes.new.items ≡ bytes.old.items ++ filling_bytes filling.now) }
+{
+    for truth in filling {
+        bytes.push(byte_of_value(Some(*truth)))?;
+    }
+    Ok(())
+}
+
+/// Returns the bytes of both fillings of a decision, one behind the other, or none if the value is
+/// known.
+fn fillings_in(alloc: Global, decision: &Decision) -> Result<Vec<u8>, AllocError>
+    ensures { IfOk result (λ bytes. bytes.items ≡ fillings_in decision.now) }
+{
+    let mut bytes = Vec::new(alloc);
+    if let Decision::Unknown { if_true, if_false } = decision {
+        push_filling(&mut bytes, if_true.as_slice())?;
+        push_filling(&mut bytes, if_false.as_slice())?;
+    }
+    Ok(bytes)
+}
+
+/// Decides a condition over `answers`, which are in the order of its predicates.
+fn decide_over_bytes(
+    alloc: Global,
+    condition: &Expression,
+    answers: &[u8],
+) -> Result<Decision, AllocError>
+    requires { AreAnswersTo answers.now condition.now }
+    ensures { IfOk result (Decides condition.now (map answer_of answers.now)) }
+{
+    let answers = answers_of(alloc, answers)?;
+    condition.decide(alloc, answers.as_slice())
+}
+
+/// Decides a condition over answers to its predicates, which are as for `cfgx_value`.
+///
+/// Returns the status `DONE`, and writes the value to `value`: 0 for false, 1 for true, 2 for
+/// unknown. If the value is unknown, fills `fillings` with two fillings, one behind the other: each
+/// has a byte for each answer, 0 for false or 1 for true, and keeps the known answers. The
+/// condition is true with the first one and false with the second one. If the value is known,
+/// `needed` becomes 0.
+///
+/// Returns `FAULTY`, `NOT_UTF8`, `OUT_OF_MEMORY` and `MISCOUNTED` as `cfgx_value` does. With these
+/// `needed` becomes 0, and `fillings` and `value` stay as they were.
+#[unsafe(no_mangle)]
+pub extern "C" fn cfgx_decide(
+    alloc: Global,
+    text: &[u8],
+    answers: &[u8],
+    fillings: &mut [u8],
+    needed: &mut usize,
+    value: &mut u8,
+) -> u32
+    ensures done { result ≡ done → DecidesOver (strip text.now) answers.now fillings.old
+        fillings.new needed.new value.new }
+    ensures counted { result ≡ done → AreAnswersTo answers.now (strip text.now) }
+    ensures faulty { result ≡ faulty → (found : Fault) × ReadsAs (strip text.now) (Err found) }
+    ensures not_utf8 { result ≡ not_utf8 → ¬ IsUtf8 text.now }
+    ensures utf8 { result ≢ not_utf8 → IsUtf8 text.now }
+    ensures miscounted { result ≡ miscounted → (one : HasOneTree (strip text.now))
+        × (length answers.now ≢ length (asked one.tree)) }
+    ensures kept { result ≢ done → (fillings.new ≡ fillings.old) × (needed.new ≡ 0)
+        × (value.new ≡ value.old) }
+    ensures status { (result ≤ miscounted) × (result ≢ wrong_use) }
+{
+    *needed = 0;
+    let Ok(text) = str::from_utf8(text) else {
+        return NOT_UTF8;
+    };
+    let condition = match Expression::parse(alloc, text) {
+        Ok(condition) => condition,
+        Err(Failure::Parse(_)) => return FAULTY,
+        Err(Failure::Memory(_)) => return OUT_OF_MEMORY,
+    };
+    if condition.predicates().left() != answers.len() {
+        return MISCOUNTED;
+    }
+    let Ok(decision) = decide_over_bytes(alloc, &condition, answers) else {
+        return OUT_OF_MEMORY;
+    };
+    let Ok(bytes) = fillings_in(alloc, &decision) else {
+        return OUT_OF_MEMORY;
+    };
+    *needed = fill(fillings, bytes.as_slice());
+    *value = byte_of_value(value_in(&decision));
+    DONE
+}

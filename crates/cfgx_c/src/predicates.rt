@@ -1,0 +1,254 @@
+// The predicates of a condition as C sees them.
+
+ghost use Rattle.std.specs.Prelude.{◌≡◌, ◌≢◌, ◌≤◌, ◌<◌, ◌+◌, ◌^◌, ℕ, List, Err, IfOk, length};
+ghost use Rattle.std.specs.Str.{IsUtf8};
+ghost use Rattle.cfgx_syntax.specs.Error.{Fault};
+ghost use Rattle.cfgx_syntax.specs.Stripping.{strip};
+ghost use Rattle.cfgx_grammar.specs.Answer.{ReadsAs};
+ghost use Rattle.cfgx_parser.specs.nodes.KeepsTree.{predicate_at};
+ghost use Rattle.cfgx_parser.specs.nodes.Located.{HasCut, ValueHasCut, question_at};
+ghost use Rattle.cfgx_parser.specs.nodes.Located.{target_question_at};
+ghost use Rattle.cfgx_c.specs.Buffer.{Fills};
+ghost use Rattle.cfgx_c.specs.Predicates.{atomic_number, c_predicate, endian_number, key_span};
+ghost use Rattle.cfgx_c.specs.Predicates.{kind_of, moved, number_of, target_kind, target_number};
+ghost use Rattle.cfgx_c.specs.Predicates.{target_span, value_span, ListsPredicates};
+ghost use Rattle.cfgx_c.specs.Status.{done, faulty, not_utf8, wrong_use};
+ghost use Rattle.cfgx_c.specs.declared.predicates.CfgxPredicate.{CfgxPredicate};
+
+use crate::buffer::fill;
+use crate::fault::strip_offset;
+use crate::status::{DONE, FAULTY, NOT_UTF8, OUT_OF_MEMORY};
+use cfgx_parser::nodes::{ExprNode, InnerPredicate, InnerTarget, Span};
+use cfgx_parser::parsed::{ParsedRef, parse};
+use cfgx_syntax::error::Failure;
+use cfgx_targets::atomic::HasAtomic;
+use cfgx_targets::endian::Endian;
+use std::alloc::{AllocError, Global};
+
+/// A predicate of a condition. Spans are in bytes of the text as it was passed.
+#[repr(C)]
+#[derive(Clone, Copy, Debug)]
+pub struct CfgxPredicate {
+    /// The number of the kind
+    pub kind: u32,
+    /// The number of bits of a pointer or of an atomic, 65536 for the width `ptr`, or the number of
+    /// a byte order; 0 for every other kind
+    pub number: u32,
+    /// The start of the key, if the kind does not say it, else 0
+    pub key_start: usize,
+    /// The end of the key, if the kind does not say it, else 0
+    pub key_end: usize,
+    /// The start of the value without its quotes, or of `unix` or `windows`. It is 0 if there is no
+    /// value or `number` says it
+    pub value_start: usize,
+    /// The end of the value, in the same way
+    pub value_end: usize,
+}
+
+/// Returns the number of the kind of a predicate on the target.
+fn target_kind(target: InnerTarget) -> u32
+    ensures { (text : List ℕ) → result ≡ target_kind (target_question_at text target) }
+{
+    match target {
+        InnerTarget::Abi(_) => 8,
+        InnerTarget::Arch(_) => 9,
+        InnerTarget::Endian(_) => 10,
+        InnerTarget::Env(_) => 11,
+        InnerTarget::Family(_) => 12,
+        InnerTarget::HasAtomic(_) => 13,
+        InnerTarget::Os(_) => 14,
+        InnerTarget::Panic(_) => 15,
+        InnerTarget::PointerWidth(_) => 16,
+        InnerTarget::Vendor(_) => 17,
+    }
+}
+
+/// Returns the number of the kind of a predicate.
+fn kind_of(predicate: InnerPredicate) -> u32
+    ensures { (text : List ℕ) → result ≡ kind_of (question_at text predicate) }
+{
+    match predicate {
+        InnerPredicate::Other { value: None, .. } => 1,
+        InnerPredicate::Other { value: Some(_), .. } => 2,
+        InnerPredicate::Test => 3,
+        InnerPredicate::DebugAssertions => 4,
+        InnerPredicate::ProcMacro => 5,
+        InnerPredicate::Feature(_) => 6,
+        InnerPredicate::TargetFeature(_) => 7,
+        InnerPredicate::Target(target) => target_kind(target),
+    }
+}
+
+/// Returns the number of a byte order.
+fn endian_number(endian: Endian) -> u32
+    ensures { result ≡ endian_number endian }
+{
+    match endian {
+        Endian::big => 0,
+        Endian::little => 1,
+    }
+}
+
+/// Returns the number of bits of an atomic, or 65536 for the width of a pointer.
+fn atomic_number(width: HasAtomic) -> u32
+    ensures { result ≡ atomic_number width }
+{
+    match width {
+        HasAtomic::IntegerSize(bits) => u32::from(bits),
+        HasAtomic::Pointer => 65536,
+    }
+}
+
+/// Returns the number of a width, of an atomic or of a byte order, and 0 for every other predicate.
+fn number_of(predicate: InnerPredicate) -> u32
+    ensures { (text : List ℕ) → result ≡ number_of (question_at text predicate) }
+{
+    match predicate {
+        InnerPredicate::Target(InnerTarget::Endian(endian)) => endian_number(endian),
+        InnerPredicate::Target(InnerTarget::HasAtomic(width)) => atomic_number(width),
+        InnerPredicate::Target(InnerTarget::PointerWidth(width)) => u32::from(width),
+        _ => 0,
+    }
+}
+
+/// Returns the span of the key, if the kind does not say it.
+fn key_span(predicate: InnerPredicate) -> Option<Span>
+    ensures { result ≡ key_span predicate }
+{
+    match predicate {
+        InnerPredicate::Other { identifier, .. } => Some(identifier),
+        _ => None,
+    }
+}
+
+/// Returns the span of the value of a predicate on the target, if the number does not say it.
+fn target_span(target: InnerTarget) -> Option<Span>
+    ensures { result ≡ target_span target }
+{
+    match target {
+        InnerTarget::Abi(span) => Some(span),
+        InnerTarget::Arch(span) => Some(span),
+        InnerTarget::Endian(_) => None,
+        InnerTarget::Env(span) => Some(span),
+        InnerTarget::Family(span) => Some(span),
+        InnerTarget::HasAtomic(_) => None,
+        InnerTarget::Os(span) => Some(span),
+        InnerTarget::Panic(span) => Some(span),
+        InnerTarget::PointerWidth(_) => None,
+        InnerTarget::Vendor(span) => Some(span),
+    }
+}
+
+/// Returns the span of the value, if there is one and the number does not say it.
+fn value_span(predicate: InnerPredicate) -> Option<Span>
+    ensures { result ≡ value_span predicate }
+{
+    match predicate {
+        InnerPredicate::Target(target) => target_span(target),
+        InnerPredicate::Feature(span) => Some(span),
+        InnerPredicate::TargetFeature(span) => Some(span),
+        InnerPredicate::Other { value, .. } => value,
+        _ => None,
+    }
+}
+
+/// Returns the span with `offset` more bytes before it. Without a span, returns that from 0 to 0.
+fn moved(span: Option<Span>, offset: usize) -> Span
+    requires { (text : List ℕ) × ValueHasCut text span × (length text + offset < 2 ^ 64) }
+    ensures { result ≡ moved offset span }
+{
+    match span {
+        Some(span) => Span {
+            start: span.start + offset,
+            end: span.end + offset,
+        },
+        None => Span { start: 0, end: 0 },
+    }
+}
+
+/// Returns a predicate as C sees it. `offset` bytes were stripped before the text.
+fn c_predicate(predicate: InnerPredicate, offset: usize) -> CfgxPredicate
+    requires { (text : List ℕ) × HasCut text predicate × (length text + offset < 2 ^ 64) }
+    ensures { (text : List ℕ) → result ≡ c_predicate text offset predicate }
+{
+    let key = moved(key_span(predicate), offset);
+    let value = moved(value_span(predicate), offset);
+    CfgxPredicate {
+        kind: kind_of(predicate),
+        number: number_of(predicate),
+        key_start: key.start,
+        key_end: key.end,
+        value_start: value.start,
+        value_end: value.end,
+    }
+}
+
+/// Returns the predicate at `place` among the nodes, if there is one.
+fn predicate_at(nodes: &[ExprNode], place: usize) -> Option<InnerPredicate>
+    ensures { result ≡ predicate_at nodes.now place }
+{
+    match nodes.get(place) {
+        Some(ExprNode::Predicate(predicate)) => Some(*predicate),
+        _ => None,
+    }
+}
+
+/// Returns the predicates of `text`, as which `parsed` was read, in the order in which they are
+/// asked.
+///
+/// The error is that `alloc` refused the list.
+pub(crate) fn predicates_of(
+    alloc: Global,
+    text: &str,
+    parsed: &ParsedRef<'_>,
+) -> Result<Vec<CfgxPredicate>, AllocError>
+    requires { parsed.now ≡ strip text.now }
+    ensures { IfOk result (λ list. ListsPredicates text.now list.items) }
+{
+    let offset = strip_offset(text);
+    let nodes = parsed.nodes();
+    let mut list = Vec::new(alloc);
+    for place in parsed.places() {
+        if let Some(predicate) = predicate_at(nodes, *place) {
+            list.push(c_predicate(predicate, offset))?;
+        }
+    }
+    Ok(list)
+}
+
+/// Lists the predicates of a condition in the order in which they are asked. A predicate that
+/// stands twice is listed twice.
+///
+/// Returns the status `DONE`, fills `predicates`, and writes their number to `needed`. Returns
+/// `FAULTY` if the text has a fault, `NOT_UTF8` if it is not UTF-8, and `OUT_OF_MEMORY` if memory
+/// was refused. With these `needed` becomes 0, and `predicates` stays as it was.
+#[unsafe(no_mangle)]
+pub extern "C" fn cfgx_predicates(
+    alloc: Global,
+    text: &[u8],
+    predicates: &mut [CfgxPredicate],
+    needed: &mut usize,
+) -> u32
+    ensures done { result ≡ done → (list : List CfgxPredicate) × ListsPredicates text.now list
+        × Fills list predicates.old predicates.new needed.new }
+    ensures faulty { result ≡ faulty → (found : Fault) × ReadsAs (strip text.now) (Err found) }
+    ensures not_utf8 { result ≡ not_utf8 → ¬ IsUtf8 text.now }
+    ensures utf8 { result ≢ not_utf8 → IsUtf8 text.now }
+    ensures kept { result ≢ done → (predicates.new ≡ predicates.old) × (needed.new ≡ 0) }
+    ensures status { (result ≤ not_utf8) × (result ≢ wrong_use) }
+{
+    *needed = 0;
+    let Ok(text) = str::from_utf8(text) else {
+        return NOT_UTF8;
+    };
+    let parsed = match parse(alloc, text) {
+        Ok(parsed) => parsed,
+        Err(Failure::Parse(_)) => return FAULTY,
+        Err(Failure::Memory(_)) => return OUT_OF_MEMORY,
+    };
+    let Ok(list) = predicates_of(alloc, text, &parsed.as_ref()) else {
+        return OUT_OF_MEMORY;
+    };
+    *needed = fill(predicates, list.as_slice());
+    DONE
+}
