@@ -38,7 +38,6 @@ static uint32_t ask(const char *text, char **fact, size_t count, struct answers 
         ends[i] = length;
     }
     char *facts = new_block(length);
-    *facts = '\0';
     for (size_t i = 0; i < count; i++) {
         strcpy(facts + ends[i] - strlen(fact[i]), fact[i]);
     }
