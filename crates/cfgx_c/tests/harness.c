@@ -73,7 +73,11 @@ void free_block(void *block)
 
 struct joined join(struct list list)
 {
-    struct joined joined = {NULL, 0, new_block(list.count * sizeof(size_t)), list.count};
+    struct joined joined = {NULL, 0, NULL, list.count};
+    if (list.count == 0) {
+        return joined;
+    }
+    joined.ends = new_block(list.count * sizeof(size_t));
     for (size_t i = 0; i < list.count; i++) {
         joined.length += list.texts[i].length;
         joined.ends[i] = joined.length;

@@ -60,6 +60,7 @@ typedef void call_of_row(const void *row, size_t room, uint32_t status);
 void *block_of(struct text text);
 void free_block(void *block);
 
+/* Returns the texts as a call takes them. Those of an empty list are null pointers. */
 struct joined join(struct list list);
 void free_joined(struct joined joined);
 
