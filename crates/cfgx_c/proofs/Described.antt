@@ -1,7 +1,7 @@
 -- The predicates of nodes describe what is asked, with spans in the text that was passed.
-use Rattle.std.proofs.Common.{◌≡◌, ℕ, zero, suc, ◌+◌, ◌-◌, ◌≤◌, ◌<◌, Bool, true, false, ◌&&◌, List, [], ◌∷◌, ◌∙◌}
-use Rattle.std.proofs.Common.{Option, Some, None, option_map, length, take, drop, refl, sym, ap}
-use Rattle.std.proofs.Common.{arith, rules, length-take, length-drop}
+use Rattle.std.proofs.Common.{◌≡◌, ℕ, zero, suc, ◌+◌, ◌-◌, ◌≤◌, Bool, true, false, ◌&&◌, List}
+use Rattle.std.proofs.Common.{[], ◌∷◌, Option, Some, None, option_map, length, map, take, drop}
+use Rattle.std.proofs.Common.{refl, sym, ap, ◌∙◌, arith, length-take, length-drop}
 use Rattle.std.proofs.lemmas.Bool.{eq-eqb, ne_eqb}
 use Rattle.std.proofs.lemmas.Bool.Decides.{Decides-eqb}
 use Rattle.std.proofs.lemmas.List.{drop-drop, drop-take, take-take, take_all}
@@ -13,13 +13,14 @@ use Rattle.cfgx_syntax.specs.Stripping.{strip}
 use Rattle.cfgx_grammar.specs.{Answer.HasOneTree, Question.Question}
 use Rattle.cfgx_parser.proofs.AskedPredicates.{questions_at-kept}
 use Rattle.cfgx_parser.specs.nodes.KeepsTree.{KeepsTree, predicate_at, questions_at}
-use Rattle.cfgx_parser.specs.nodes.Located.{HasCut, IsSpan, ValueHasCut, at, question_at}
+use Rattle.cfgx_parser.specs.nodes.Located.{HasCut, ValueHasCut, at, question_at}
+use Rattle.cfgx_parser.specs.nodes.ReadFrom.{AreRead, inner_node}
 use Rattle.cfgx_parser.specs.nodes.WritesNodes.{NodeHasCut}
 use Rattle.cfgx_parser.specs.declared.nodes.ExprNode.{ExprNode}
 use Rattle.cfgx_parser.specs.declared.nodes.ExprNode.TheVariants as node
 use Rattle.cfgx_parser.specs.declared.nodes.InnerPredicate.{InnerPredicate}
-use Rattle.cfgx_parser.specs.declared.nodes.InnerPredicate.TheVariants as inner
 use Rattle.cfgx_parser.specs.declared.nodes.Span.{Span}
+use Rattle.cfgx_c.proofs.Located.{AreInPlace-read}
 use Rattle.cfgx_c.specs.Check.{strip_offset}
 use Rattle.cfgx_c.specs.declared.predicates.CfgxPredicate.{CfgxPredicate}
 use Rattle.cfgx_c.specs.Predicates.{Describes, IsSpanOf, ListsPredicates, c_predicate, c_predicates}
@@ -129,7 +130,8 @@ module _ (text : List ℕ) (nodes : List ExprNode)
   abbrev Listed : List Question → List CfgxPredicate → Type 0
   Listed = AllZip (Describes text)
 
-  one_more : (found : Option InnerPredicate) (questions : List Question) (predicates : List CfgxPredicate)
+  one_more : (found : Option InnerPredicate) (questions : List Question)
+      (predicates : List CfgxPredicate)
       → ((p : InnerPredicate) → found ≡ Some p → HasCut (strip text) p)
       → Listed questions predicates
       → Listed (cons_option (option_map (question_at (strip text)) found) questions)
@@ -146,8 +148,10 @@ module _ (text : List ℕ) (nodes : List ExprNode)
 
 pub ListsPredicates-kept : (text : List ℕ) (nodes : List ExprNode) (asks : List ℕ)
     (one : HasOneTree (strip text)) → KeepsTree (strip text) nodes asks one.tree
+    → AreRead (strip text) (map inner_node nodes)
     → ListsPredicates text (c_predicates (strip text) (strip_offset text) nodes asks)
-ListsPredicates-kept text nodes asks one keeps = record {
+ListsPredicates-kept text nodes asks one keeps read = record {
   one = one;
   each = rw (← questions_at-kept keeps) (listed_each text nodes keeps.cuts asks);
+  in_place = AreInPlace-read text nodes asks one keeps.nodes_are keeps.places_are read;
 }

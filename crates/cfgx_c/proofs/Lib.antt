@@ -1,3 +1,4 @@
 pub mod Described
 pub mod EndsLemmas
+pub mod Located
 pub mod Taken

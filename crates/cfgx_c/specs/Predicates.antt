@@ -10,9 +10,11 @@ use Rattle.cfgx_targets.specs.declared.endian.Endian.{Endian}
 use Rattle.cfgx_targets.specs.declared.endian.Endian.TheVariants as endian
 use Rattle.cfgx_grammar.specs.Answer.{HasOneTree}
 use Rattle.cfgx_grammar.specs.Question.{Question, TargetQuestion}
-use Rattle.cfgx_grammar.specs.Tree.{asked}
+use Rattle.cfgx_grammar.specs.Tree.{Tree, asked}
 use Rattle.cfgx_parser.specs.nodes.KeepsTree.{predicate_at}
 use Rattle.cfgx_parser.specs.nodes.Located.{question_at}
+use Rattle.cfgx_parser.specs.nodes.Prefix.{node_map, prefix}
+use Rattle.cfgx_parser.specs.nodes.ReadFrom.{AreRead}
 use Rattle.cfgx_parser.specs.declared.nodes.ExprNode.{ExprNode}
 use Rattle.cfgx_parser.specs.declared.nodes.InnerPredicate.{InnerPredicate}
 use Rattle.cfgx_parser.specs.declared.nodes.InnerPredicate.TheVariants as inner
@@ -107,11 +109,6 @@ pub record Describes (text : List ℕ) (question : Question) (predicate : CfgxPr
     pub key : IsSpanOf text (key_text question) predicate.key_start predicate.key_end
     pub value : IsSpanOf text (value_text question) predicate.value_start predicate.value_end
 
--- the predicates describe what the text's one tree asks, in this order
-pub record ListsPredicates (text : List ℕ) (predicates : List CfgxPredicate) : Type 0 where
-  pub one : HasOneTree (strip text)
-  pub each : AllZip (Describes text) (asked one.tree) predicates
-
 -- the span of the key of a node's predicate, if its kind does not say the key
 abbrev pub key_span : InnerPredicate → Option Span
 key_span (inner.Other key value) = Some key
@@ -152,6 +149,21 @@ c_predicate text offset predicate = record {
   value_start = (moved offset (value_span predicate)).start;
   value_end = (moved offset (value_span predicate)).end;
 }
+
+-- The predicates are those of the text's one tree, each with the spans of its own tokens. `located`
+-- is this tree with the spans of each predicate in the stripped text.
+pub record AreInPlace (text : List ℕ) (predicates : List CfgxPredicate) : Type 0 where
+  pub one : HasOneTree (strip text)
+  pub located : Tree InnerPredicate
+  pub questions : map (node_map (question_at (strip text))) (prefix located) ≡ prefix one.tree
+  pub read : AreRead (strip text) (prefix located)
+  pub listed : predicates ≡ map (c_predicate (strip text) (strip_offset text)) (asked located)
+
+-- the predicates describe what the text's one tree asks, in this order, each where it stands
+pub record ListsPredicates (text : List ℕ) (predicates : List CfgxPredicate) : Type 0 where
+  pub one : HasOneTree (strip text)
+  pub each : AllZip (Describes text) (asked one.tree) predicates
+  pub in_place : AreInPlace text predicates
 
 -- the predicates at these places as C sees them
 abbrev pub c_predicates : List ℕ → ℕ → List ExprNode → List ℕ → List CfgxPredicate

@@ -10,7 +10,7 @@ ghost use Rattle.cfgx_parser.specs.nodes.Located.{HasCut, ValueHasCut, question_
 ghost use Rattle.cfgx_parser.specs.nodes.Located.{target_question_at};
 ghost use Rattle.cfgx_c.specs.Buffer.{Fills};
 ghost use Rattle.cfgx_c.specs.Predicates.{atomic_number, c_predicate, endian_number, key_span};
-ghost use Rattle.cfgx_c.specs.Predicates.{kind_of, moved, number_of, target_kind, target_number};
+ghost use Rattle.cfgx_c.specs.Predicates.{kind_of, moved, number_of, target_kind};
 ghost use Rattle.cfgx_c.specs.Predicates.{target_span, value_span, ListsPredicates};
 ghost use Rattle.cfgx_c.specs.Status.{done, faulty, not_utf8, wrong_use};
 ghost use Rattle.cfgx_c.specs.declared.predicates.CfgxPredicate.{CfgxPredicate};

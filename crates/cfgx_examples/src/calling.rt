@@ -51,8 +51,9 @@ use tables::table_of;
 use targets::value_on;
 use unknown::outside_tests;
 
-/// A row names an example, or a target for the example with targets. Then it has a text, and what
-/// the returned value prints. For `rows` and `logic` it has the lanes or the cost.
+/// A row names an example, or a target for the example with targets. The next fields are a text,
+/// and what the returned value prints. For `rows` the last field has the lanes as digits, and for
+/// `logic` the cost.
 pub const ANSWERS: &str = r#"
 // Names, tokens and features.
 names | linux | true

@@ -46,7 +46,8 @@ fn term_of(predicate: &Predicate<'_>) -> Terms
     }
 }
 
-/// Returns the term by which a condition joins the terms of its predicates.
+/// Returns the value of `expression` in the logic of terms, where each predicate has the value
+/// `term_of(predicate)`. For `all(a, b)` this is `((T&b)&a)`.
 pub fn joined_terms(alloc: Global, expression: &Expression) -> Result<Terms, AllocError>
     ensures { IfOk result (IsValueBy ⟦<Terms as Logic>⟧ expression.now term_of) }
 {
@@ -67,8 +68,8 @@ pub fn count_questions(alloc: Global, expression: &Expression) -> Result<usize, 
     Ok(count)
 }
 
-/// A logic without laws: `and` is the sum of three times its first value and its second value, `or`
-/// is its first value, and `not` is its value. Sums wrap.
+/// A logic without laws: `a.and(b)` is `3 * a + b`, and both `a.or(b)` and `a.not()` are `a`. All
+/// arithmetic wraps.
 #[derive(Clone, Copy, Debug, PartialEq, Eq)]
 pub struct Lawless(pub u64);
 
@@ -117,15 +118,15 @@ any(a, feature = "b") | b feature | false
 all(a, b) | a | false
 "#;
 
-// Returns the value if the flags of a row are true, of which there are at most two.
+// Returns the value of `expression` if the names in `flags`, at most two, are true.
 fn eval_with_flags_of_row(alloc: Global, expression: &Expression, flags: &str) -> Option<bool> {
     let (one, other) = flags.split_once(' ').unwrap_or((flags, ""));
     eval_with_flags(alloc, expression, &[one, other]).ok()
 }
 
-/// A row is a text, the number of its questions, and two terms: one of the names of the predicates,
-/// and one of these names with the numbers of the questions. The last member that is asked is
-/// joined first.
+/// A row is a text, the number of its questions, and two terms. The first term has the names of the
+/// predicates. The second has each name followed by the number of its question. The last member
+/// that is asked is joined first.
 pub const TERMS: &str = r#"
 all(a, any(b), c) | 3 | (((T&c)&a)&(F|b)) | (((T&c3)&a2)&(F|b1))
 not(any(x)) | 1 | !(F|x) | !(F|x1)
@@ -142,8 +143,8 @@ all() | 0 | T | T
 ~not(~100~a~)~100~ | 1 | ~!~64~ | ~!~64~
 "#;
 
-// Returns the term of the names of the predicates with the numbers of the questions, and the number
-// of questions. No text here asks more than nine.
+// Returns the term that has each name followed by the number of its question. Also returns the
+// number of questions. No text here asks more than nine.
 fn numbered_term(alloc: Global, expression: &Expression) -> Result<(Terms, usize), AllocError> {
     let mut count = 0u8;
     let mut answer = |predicate: &Predicate<'_>| {
@@ -166,12 +167,13 @@ fn terms_are(
     numbered: &str,
 ) -> Result<bool, AllocError> {
     let (term, count) = numbered_term(alloc, expression)?;
-    let is_counted = count_questions(alloc, expression)? == count && questions.parse() == Ok(count);
-    let is_named = joined_terms(alloc, expression)?.as_bytes() == named.as_bytes();
-    Ok(is_counted && is_named && term.as_bytes() == numbered.as_bytes())
+    let count_is_right = count_questions(alloc, expression)? == count
+        && questions.parse() == Ok(count);
+    let names_are_right = joined_terms(alloc, expression)?.as_bytes() == named.as_bytes();
+    Ok(count_is_right && names_are_right && term.as_bytes() == numbered.as_bytes())
 }
 
-/// Returns whether the text of `row` has its value if the flags of `row` are true.
+/// Returns whether the text of `row` has the value of `row` if the flags of `row` are true.
 pub fn value_is_right(alloc: Global, row: &[String]) -> bool {
     let [text, flags, value] = row else {
         return false;
@@ -185,7 +187,8 @@ pub fn value_is_right(alloc: Global, row: &[String]) -> bool {
     }
 }
 
-/// Returns whether the text of `row` asks its number of questions and has its terms.
+/// Returns whether the text of `row` asks as many questions as `row` says, and has the terms of
+/// `row`.
 pub fn terms_are_right(alloc: Global, row: &[String]) -> bool {
     let [text, questions, named, numbered] = row else {
         return false;
@@ -197,17 +200,20 @@ pub fn terms_are_right(alloc: Global, row: &[String]) -> bool {
     }
 }
 
-// Returns the value of `text` over these answers to its questions in turn, and the number of
-// questions.
+// Returns the value of `text` and the number of its questions. `answers` are the answers to these
+// questions, in order.
 fn eval_and_count(alloc: Global, text: &str, answers: &[Lawless]) -> Option<(Lawless, usize)> {
     let expression = Expression::parse(alloc, text).ok()?;
     let value = eval_over_answers(alloc, &expression, answers);
     value.zip(count_questions(alloc, &expression).ok())
 }
 
-// `any(b)` is `bottom`, which is 2; then 3 * 1 + 30 = 33, 3 * 33 + 10 = 109, 3 * 109 + 2 = 329. Of
-// two members, 3 * 1 + 7 = 10 and 3 * 10 + 5 = 35. Of three, 3 * 1 + 9 = 12, 3 * 12 + 7 = 43 and
-// 3 * 43 + 5 = 134. What `any` joins never counts here, and is asked all the same.
+// `all` starts from `top`, which is 1, and first joins the member that is asked last. `any` is
+// `bottom`, which is 2. The predicates in `any` are asked too, but their values never count here.
+//
+// - `all(a, any(b), c)`: 3 * 1 + 30 = 33, 3 * 33 + 10 = 109, 3 * 109 + 2 = 329
+// - `all(a, b)`: 3 * 1 + 7 = 10, 3 * 10 + 5 = 35
+// - `all(a, b, c)`: 3 * 1 + 9 = 12, 3 * 12 + 7 = 43, 3 * 43 + 5 = 134
 #[test]
 fn the_last_member_is_joined_first(rt: HostRuntime) {
     let alloc = rt.alloc();

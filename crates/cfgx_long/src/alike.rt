@@ -7,8 +7,8 @@ use cfgx_testing::answers::{
 use cfgx_testing::checking::is_ok_true;
 use std::alloc::{AllocError, Global};
 
-/// A text, the number of its predicates, and its values if all answers are true, false, and
-/// unknown.
+/// A text, the number of its predicates, and three digits: its value if all answers are true, if
+/// all are false, and if all are unknown.
 pub(crate) const ALIKE: &str = r#"
 all() | 0 | 111
 any() | 0 | 000
@@ -50,7 +50,8 @@ all(a,~true,~100000~) | 1 | 10?
 ~not(~100001~true~)~100001~ | 0 | 000
 "#;
 
-// Whether the value over `bool` is that of the digit, if each of `count` answers is `answer`.
+// Returns whether the value over `bool` is that of the digit, if each of `count` answers is
+// `answer`.
 fn bool_value_is(
     alloc: Global,
     expression: &Expression,
@@ -62,8 +63,8 @@ fn bool_value_is(
     Ok(eval_over_answers(alloc, expression, answers.as_slice()) == Some(digit == b'1'))
 }
 
-// Whether each call finds the value of the digit, if each of `count` answers is `answer`. A known
-// answer is also tried as a `bool`.
+// Returns whether each call finds the value of the digit, if each of `count` answers is `answer`. A
+// known answer is also tried as a `bool`.
 fn value_is(
     alloc: Global,
     expression: &Expression,
@@ -79,7 +80,7 @@ fn value_is(
     }
 }
 
-// Whether `eval` and `eval_lanes` find the lanes of the digits over `answers`.
+// Returns whether `eval` and `eval_lanes` find the lanes of the digits over `answers`.
 fn both_find_lanes(
     alloc: Global,
     expression: &Expression,
@@ -95,8 +96,8 @@ fn both_find_lanes(
     }
 }
 
-// Whether the lanes of the value are those of the digits, if each of `count` answers is true in the
-// first lane, false in the second one, and unknown in all others.
+// Returns whether the lanes of the value are those of the digits, if each of `count` answers is
+// true in the first lane, false in the second one, and unknown in all others.
 fn lanes_are(
     alloc: Global,
     expression: &Expression,
@@ -107,7 +108,8 @@ fn lanes_are(
     Ok(both_find_lanes(alloc, expression, digits, answers.as_slice()))
 }
 
-// Whether the values are those of the digits, if all answers are true, false, and unknown.
+// Returns whether the three digits are the values if all answers are true, if all are false, and if
+// all are unknown.
 fn values_are(alloc: Global, expression: &Expression, digits: &[u8], count: usize) -> bool {
     for (digit, answer) in digits.iter().zip([Some(true), Some(false), None]) {
         if !is_ok_true(value_is(alloc, expression, answer, *digit, count)) {
@@ -117,15 +119,15 @@ fn values_are(alloc: Global, expression: &Expression, digits: &[u8], count: usiz
     digits.len() == 3 && is_ok_true(lanes_are(alloc, expression, digits, count))
 }
 
-// Whether the values of the text are those of the digits. Returns `None` if the text or the count
-// is faulty.
+// Returns whether the values of the text are those of the digits. Returns `None` if the text or the
+// count is faulty.
 fn text_has_values(alloc: Global, text: &str, count: &str, digits: &str) -> Option<bool> {
     let count = count.parse::<usize>().ok()?;
     let expression = Expression::parse(alloc, text).ok()?;
     Some(values_are(alloc, &expression, digits.as_bytes(), count))
 }
 
-/// Whether the text of the row has the number of predicates and the values of the row.
+/// Returns whether the text of the row has the number of predicates and the values of the row.
 pub(crate) fn has_values(alloc: Global, row: &[String]) -> bool {
     match row {
         [text, count, digits] => {

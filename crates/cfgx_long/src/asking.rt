@@ -1,5 +1,5 @@
-//! How often each call asks a target: once for each occurrence of a predicate on the target,
-//! whatever the target answers.
+//! How often `audit`, `decide_on` and `pick` ask a target: once for each occurrence of a predicate
+//! on the target, whatever the target answers.
 use cfg_expr::error::Failure;
 use cfg_expr::expr::TargetMatcher;
 use cfg_expr::targets::{Os, TargetInfo};
@@ -38,11 +38,11 @@ impl TargetMatcher for Nothing {
     }
 }
 
-// Makes a row of the system `here`.
-fn row_here() -> TargetInfo<'static> {
-    let mut row: TargetInfo<'static> = bare("here");
-    row.os = Some(Os::new_const("here"));
-    row
+// Returns a target whose `os` is `here`.
+fn target_here() -> TargetInfo<'static> {
+    let mut target: TargetInfo<'static> = bare("here");
+    target.os = Some(Os::new_const("here"));
+    target
 }
 
 /// A target, and how often it was asked.
@@ -71,7 +71,7 @@ impl<M: TargetMatcher> TargetMatcher for Counting<'_, M> {
 }
 
 /// A target, a condition, the verdict, and how often the target is asked. `everything` meets each
-/// predicate, `nothing` meets none, and `here` is a row of the system `here`, with 64 bits.
+/// predicate, `nothing` meets none, and `here` is a target whose `os` is `here`, with 64 bits.
 pub(crate) const ASKED: &str = r#"
 everything | unix | Yes | 1
 everything | not(unix) | No | 1
@@ -93,7 +93,7 @@ nothing | any(a, feature = "x", key = "unix") | Unknown | 0
 nothing | any(~unix,~100000~) | No | 100000
 nothing | all(~unix,~100000~test) | No | 100000
 nothing | any(~unix,~100000~test) | Unknown | 100000
-// The row meets every second predicate of the longer conditions.
+// The target `here` meets every second predicate of the longer conditions.
 here | target_os = "here" | Yes | 1
 here | target_os = "there" | No | 1
 here | all(target_os = "here", target_os = "there") | No | 2
@@ -104,7 +104,7 @@ here | any(~unix, target_os = "here",~1000~test) | Yes | 2000
 here | any(~unix, not(target_os = "here"),~1000~test) | Unknown | 2000
 "#;
 
-// Whether each target was asked `count` times, and each verdict is the wanted one.
+// Returns whether each target was asked exactly `count` times, and the verdict on each is `wanted`.
 fn audit_matches<M: TargetMatcher>(
     targets: &[Counting<'_, M>],
     verdicts: &[Verdict],
@@ -119,8 +119,9 @@ fn audit_matches<M: TargetMatcher>(
     targets.len() == verdicts.len()
 }
 
-// Whether `audit` asks each of three targets `count` times, and returns the wanted verdicts.
-fn audits<M: TargetMatcher>(
+// Returns whether `audit` asks each of three targets exactly `count` times, and returns `wanted`
+// for each.
+fn audit_is_right<M: TargetMatcher>(
     alloc: Global,
     condition: &Expression,
     target: &M,
@@ -136,7 +137,7 @@ fn audits<M: TargetMatcher>(
     Ok(audit_matches(&targets, verdicts.as_slice(), wanted, count))
 }
 
-// The verdict of a decision.
+// Returns the verdict of `decision`.
 fn verdict_of(decision: &Decision) -> Verdict {
     match decision {
         Decision::Known(true) => Verdict::Yes,
@@ -145,8 +146,9 @@ fn verdict_of(decision: &Decision) -> Verdict {
     }
 }
 
-// Whether `decide_on` asks the target `count` times, and its decision has the wanted verdict.
-fn decides<M: TargetMatcher>(
+// Returns whether `decide_on` asks the target exactly `count` times, its decision has the verdict
+// `wanted`, and it leaves one answer for each predicate in `answers`.
+fn decision_is_right<M: TargetMatcher>(
     alloc: Global,
     condition: &Expression,
     target: &M,
@@ -163,8 +165,9 @@ fn decides<M: TargetMatcher>(
     )
 }
 
-// Whether `pick` asks the target `count` times, and returns the wanted verdict.
-fn picks<M: TargetMatcher>(
+// Returns whether `pick` asks the target exactly `count` times, and returns `wanted` for its only
+// section.
+fn pick_is_right<M: TargetMatcher>(
     alloc: Global,
     condition: Expression,
     target: &M,
@@ -187,7 +190,8 @@ fn verdict_named(name: &str) -> Option<Verdict> {
     }
 }
 
-// Whether each call asks the target `count` times, and finds the wanted verdict.
+// Returns whether `audit`, `decide_on` and `pick` ask `target` exactly `count` times for each
+// verdict, and each verdict is `wanted`.
 fn each_call_asks<M: TargetMatcher>(
     alloc: Global,
     text: &str,
@@ -196,13 +200,14 @@ fn each_call_asks<M: TargetMatcher>(
     count: usize,
 ) -> Result<bool, Failure> {
     let condition = Expression::parse(alloc, text)?;
-    let audits = is_ok_true(audits(alloc, &condition, target, wanted, count));
-    let decides = is_ok_true(decides(alloc, &condition, target, wanted, count));
-    let picks = is_ok_true(picks(alloc, condition, target, wanted, count));
-    Ok(audits && decides && picks)
+    let audit_is_right = is_ok_true(audit_is_right(alloc, &condition, target, wanted, count));
+    let decision_is_right = is_ok_true(decision_is_right(alloc, &condition, target, wanted, count));
+    let pick_is_right = is_ok_true(pick_is_right(alloc, condition, target, wanted, count));
+    Ok(audit_is_right && decision_is_right && pick_is_right)
 }
 
-// Whether each call asks the target `name` `count` times, and finds the wanted verdict.
+// Returns whether `audit`, `decide_on` and `pick` ask the target with the name `name` exactly
+// `count` times for each verdict, and each verdict is `wanted`.
 fn each_call_asks_named(
     alloc: Global,
     name: &str,
@@ -214,14 +219,15 @@ fn each_call_asks_named(
         "everything" => is_ok_true(each_call_asks(alloc, text, &Everything, wanted, count)),
         "nothing" => is_ok_true(each_call_asks(alloc, text, &Nothing, wanted, count)),
         "here" => {
-            let row = row_here();
-            is_ok_true(each_call_asks(alloc, text, &row, wanted, count))
+            let target = target_here();
+            is_ok_true(each_call_asks(alloc, text, &target, wanted, count))
         }
         _ => false,
     }
 }
 
-/// Whether each call asks the target of the row as often as the row says, and finds its verdict.
+/// Returns whether `audit`, `decide_on` and `pick` ask the target of the row as often as the row
+/// says, and find the verdict of the row.
 pub(crate) fn asks_target(alloc: Global, row: &[String]) -> bool {
     let [target, text, verdict, count] = row else {
         return false;

@@ -18,7 +18,8 @@ const TABLES: &[TableToCheck<'static>] = &[
     ("lanes of members", MEMBERS, 1),
 ];
 
-// Returns whether the row passes the check of `table`, or `None` if there is no such table.
+// Returns whether the row passes the check with the name `table`, or `None` if there is no such
+// check.
 fn row_passes(alloc: Global, table: &str, row: &[String]) -> Option<bool> {
     match table {
         "fault" => Some(has_fault(alloc, row)),

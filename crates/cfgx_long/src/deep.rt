@@ -24,7 +24,7 @@ any(~a,~49998~8) | U[`<key>` `all` `any` `not`] at 100000..100001
 all(b~,~3000~c d) | U[`=` `,` `)`] at 3007..3008
 "#;
 
-/// Whether the text of the row has the fault of the row.
+/// Returns whether the text of the row has the fault of the row.
 pub(crate) fn has_fault(alloc: Global, row: &[String]) -> bool {
     match row {
         [text, fault] => text_has_fault(alloc, text.as_str(), text.as_str(), fault.as_str()),
@@ -44,7 +44,7 @@ any(~a,~2000000~) | 2000000
 any(~abcdefg,~1100000~) | 1100000
 "#;
 
-// Whether `left` returns `count`, and the iterator yields `count` predicates.
+// Returns whether `left` returns `count`, and the iterator yields `count` predicates.
 fn yields_count(predicates: Predicates<'_>, count: Option<usize>) -> bool {
     Some(predicates.left()) == count && Some(predicates.count()) == count
 }
@@ -56,7 +56,7 @@ fn parses(alloc: Global, text: &str, count: &str) -> Result<bool, Failure> {
     Ok(is_kept && yields_count(expression.predicates(), count.parse().ok()))
 }
 
-/// Whether the text of the row has the number of predicates of the row.
+/// Returns whether the text of the row has the number of predicates of the row.
 pub(crate) fn has_predicates(alloc: Global, row: &[String]) -> bool {
     match row {
         [text, count] => is_ok_true(parses(alloc, text.as_str(), count.as_str())),
@@ -69,7 +69,7 @@ pub(crate) const READ: &str = r#"
 any(~a,~100000~) | 100000 | ~not(~100000~a~)~100000~ | 1 | a | 1
 "#;
 
-// Whether the condition was read, and has `text` and `count` predicates.
+// Returns whether the condition was read, and has `text` and `count` predicates.
 fn is_condition(read: &Result<Condition<'_>, Failure>, text: &str, count: &str) -> bool {
     match read {
         Ok(condition) => {
@@ -79,7 +79,8 @@ fn is_condition(read: &Result<Condition<'_>, Failure>, text: &str, count: &str) 
     }
 }
 
-// Whether the reader reads the text of the pair, which has the number of predicates of the pair.
+// Returns whether the reader reads the text of the pair, which has the number of predicates of the
+// pair.
 fn reads_pair<'a>(reader: &mut ConditionReader<'a>, pair: &'a [String]) -> bool {
     match pair {
         [text, count] => {
@@ -89,7 +90,7 @@ fn reads_pair<'a>(reader: &mut ConditionReader<'a>, pair: &'a [String]) -> bool 
     }
 }
 
-// Whether the reader reads each pair of the row.
+// Returns whether the reader reads each pair of the row.
 fn reads_pairs<'a>(reader: &mut ConditionReader<'a>, row: &'a [String]) -> bool {
     for pair in row.chunks(2) {
         if !reads_pair(reader, pair) {
@@ -99,7 +100,7 @@ fn reads_pairs<'a>(reader: &mut ConditionReader<'a>, row: &'a [String]) -> bool 
     !row.is_empty()
 }
 
-/// Whether a new reader reads each text of the row.
+/// Returns whether a new reader reads each text of the row.
 pub(crate) fn reads_texts(alloc: Global, row: &[String]) -> bool {
     let mut reader = ConditionReader::new(alloc);
     reads_pairs(&mut reader, row)

@@ -40,7 +40,7 @@ fn spell_all(alloc: Global, predicates: Predicates<'_>) -> Option<Vec<u8>> {
     Some(spellings)
 }
 
-// Returns whether the text is parsed to the same predicates.
+// Returns whether `text` asks the predicates of `expression`, or `None` if it is refused.
 fn has_same_predicates(alloc: Global, expression: &Expression, text: &[u8]) -> Option<bool> {
     let text = str::from_utf8(text).ok()?;
     let other = Expression::parse(alloc, text).ok()?;
@@ -53,14 +53,14 @@ fn spellings_are_parsed(alloc: Global, expression: &Expression) -> Option<bool> 
     has_same_predicates(alloc, expression, spellings.as_slice())
 }
 
-// Whether the expression is printed, spelled and evaluated right.
+// Returns whether the expression is printed, spelled and evaluated right.
 fn expression_passes(alloc: Global, numbers: &mut Numbers, expression: &Expression) -> bool {
     is_ok_true(print_is_parsed(alloc, expression))
         && spellings_are_parsed(alloc, expression) == Some(true)
         && is_ok_true(calls_agree_in_lanes(alloc, numbers, expression))
 }
 
-// Returns whether the fault lies in `text`, and its print begins with its part of the text.
+// Returns whether the fault lies in `text`, and what it prints begins with its stripped text.
 fn fault_passes(alloc: Global, error: &ParseError, text: &str) -> Result<bool, AllocError> {
     let printed = format!(in alloc; "{error}")?;
     let (original, start, end) = (error.original.as_str(), error.span.start, error.span.end);

@@ -14,7 +14,7 @@ const LENGTHS: &[(usize, usize, Option<usize>, usize)] = &[
     (16_777_221, 65_536, None, 4),
 ];
 
-// Whether `read_input` returns an input of `wanted` bytes, or finds it too long if `wanted`
+// Returns whether `read_input` returns an input of `wanted` bytes, or finds it too long if `wanted`
 // is `None`.
 fn reads_length(alloc: Heap<'_>, source: &mut Counting, wanted: Option<usize>) -> bool {
     match read_input(alloc, source) {
@@ -24,7 +24,7 @@ fn reads_length(alloc: Heap<'_>, source: &mut Counting, wanted: Option<usize>) -
     }
 }
 
-// Whether the source of the row is read as the row says, and all memory is freed.
+// Returns whether the source of the row is read as the row says, and all memory is freed.
 fn length_passes(alloc: Global, row: &(usize, usize, Option<usize>, usize)) -> bool {
     let (count, each, wanted, left) = *row;
     let heap = empty_heap(alloc);

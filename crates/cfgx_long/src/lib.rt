@@ -1,8 +1,8 @@
 //! Tests that take long unless LLVM builds them: deep, wide and long texts, inputs of 16 MiB,
 //! generated texts, and values over every list of answers.
 //!
-//! A check drops an owned value by name, or passes it to a function by a reference: the proof of a
-//! drop is long where a scope ends.
+//! A check calls `drop` on an owned value, or passes it to a function by a reference: the proof of
+//! a drop is long where a scope ends.
 #![tactic(auto)]
 
 #[cfg(test)]

@@ -18,7 +18,7 @@ all(~a,~100000~any()) | ~?~100000~ | false
 ~not(~99999~a~)~99999~ | 1 | false
 "#;
 
-/// Whether the text of the row is decided as the row says.
+/// Returns whether the text of the row is decided as the row says.
 pub(crate) fn decides(alloc: Global, row: &[String]) -> bool {
     match row {
         [text, answers, decision] => {
@@ -47,8 +47,8 @@ fn eval_condition_in_lanes(
     }
 }
 
-// Whether the expression of the text and its condition have the value `wanted` in lanes. Returns
-// `None` if the text is faulty.
+// Returns whether the expression of the text and its condition have the value `wanted` in lanes.
+// Returns `None` if the text is faulty.
 fn values_are(alloc: Global, text: &str, answers: &[Kleene64], wanted: Kleene64) -> Option<bool> {
     let expression = Expression::parse(alloc, text).ok()?;
     let condition = expression.condition();
@@ -58,8 +58,8 @@ fn values_are(alloc: Global, text: &str, answers: &[Kleene64], wanted: Kleene64)
     )
 }
 
-// Whether the value of `any` is its first member, which is true in lane 1 and false in lane 0, if
-// all others are false in both lanes.
+// Returns whether the value of `any` is that of its first member, which is true in lane 1 and false
+// in lane 0. All other members are false in both lanes.
 fn any_is_first_member(alloc: Global, text: &str) -> Option<bool> {
     let first = Kleene64::new(0b10, 0b01);
     let mut answers = vec![in alloc; Kleene64::new(0, 0b11); 100_000].ok()?;
@@ -67,7 +67,7 @@ fn any_is_first_member(alloc: Global, text: &str) -> Option<bool> {
     values_are(alloc, text, answers.as_slice(), first)
 }
 
-/// Whether the value of the text of the row is its first member.
+/// Returns whether the value of the text of the row is that of its first member.
 pub(crate) fn first_member_decides(alloc: Global, row: &[String]) -> bool {
     match row {
         [text] => any_is_first_member(alloc, text.as_str()) == Some(true),

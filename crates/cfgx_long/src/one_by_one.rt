@@ -5,7 +5,7 @@ use cfgx_testing::checking::push_ok;
 use std::alloc::{AllocError, Global};
 use std::test::Fail;
 
-// Pushes the text, its `not`, and each `all` and `any` of it and one of the texts.
+// Pushes `text`, its `not`, and the `all` and the `any` of `text` and each of `texts`.
 fn push_functions(
     alloc: Global,
     functions: &mut Vec<String>,
@@ -56,7 +56,8 @@ fn answers_of(alloc: Global, number: usize, count: usize) -> Result<Vec<Answer>,
     Ok(answers)
 }
 
-// Returns the value over `bool` if the bits of the number replace the unknown answers.
+// Returns the value over `bool` if each unknown answer is replaced by the bit of `bits` at its
+// index.
 fn eval_filled(
     alloc: Global,
     expression: &Expression,
@@ -83,14 +84,15 @@ fn common_value(alloc: Global, expression: &Expression, answers: &[Answer]) -> O
     Some(Some(first))
 }
 
-// Whether each call finds the common value of the fillings, over the answers that `number` encodes.
+// Returns whether each call finds the common value of the fillings, over the answers that `number`
+// encodes.
 fn calls_find_common_value(alloc: Global, expression: &Expression, number: usize) -> Option<bool> {
     let answers = answers_of(alloc, number, expression.predicates().left()).ok()?;
     let value = common_value(alloc, expression, answers.as_slice())?;
     Some(each_call_finds(alloc, expression, answers.as_slice(), value))
 }
 
-// Whether each call finds the common value over the answers of each number below `cases`.
+// Returns whether each call finds the common value over the answers of each number below `cases`.
 fn calls_find_common_values(alloc: Global, expression: &Expression, cases: usize) -> bool {
     for number in 0..cases {
         if calls_find_common_value(alloc, expression, number) != Some(true) {

@@ -5,8 +5,8 @@ use cfgx_testing::refusing::Refusing;
 use std::alloc::{AllocError, Allocator, Global};
 use std::mem::forget;
 
-// Pushes 100 bytes to a list that begins with no block and outgrows each that it gets. Returns
-// whether it has them.
+// Pushes 100 bytes to a list that begins with no block and outgrows each block that it gets.
+// Returns whether the list has 100 bytes.
 fn fill_list<A: Allocator>(alloc: A) -> Result<bool, AllocError> {
     let mut bytes = Vec::new(alloc);
     for byte in 0..100u8 {
@@ -43,7 +43,7 @@ fn refuses_second<A: Allocator>(heap: &Refusing<Global>, alloc: A) -> Result<boo
     Ok(was_ahead & is_refused & stays & (bytes.as_slice() == [7, 8].as_slice()))
 }
 
-// Whether the allocator refuses the second growth when it is told to, and no other growth.
+// Returns whether the allocator refuses the second growth when it is told to, and no other growth.
 fn refuses_only_one(heap: &Refusing<Global>) -> bool {
     let was_filled = heap.has_refused() && is_ok_true(fill_list(heap));
     heap.refuse(2);
@@ -64,8 +64,8 @@ fn make_list<A: Allocator>(alloc: A, is_forgotten: bool) -> Result<bool, AllocEr
     Ok(true)
 }
 
-// Whether the arena counts the block of a forgotten list as in use, and that of a dropped one as
-// freed.
+// Returns whether the arena counts the block of a forgotten list as in use, and that of a dropped
+// one as freed.
 fn counts_block(global: Global, is_forgotten: bool) -> bool {
     let heap = empty_heap(global);
     let is_made = is_ok_true(make_list(&heap, is_forgotten));

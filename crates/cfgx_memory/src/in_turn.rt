@@ -64,7 +64,7 @@ fn refuse_each_growth(global: Global, call: Call<'_>) -> Option<u64> {
     count_growths(global, |heap| check_call(global, heap, &call))
 }
 
-// Whether the call takes memory and passes its check with each growth refused in turn.
+// Returns whether the call takes memory and passes its check with each growth refused in turn.
 fn survives_refusals(global: Global, call: Call<'_>) -> bool {
     refuse_each_growth(global, call).unwrap_or(0) > 0
 }
@@ -105,7 +105,8 @@ const TABLES: &[TableToCheck<'_>] = &[
     ("growths of a reader", reading::READ, 8),
 ];
 
-// Returns whether the row passes the check of `table`, or `None` if there is no such table.
+// Returns whether the row passes the check with the name `table`, or `None` if there is no such
+// check.
 fn row_passes(global: Global, table: &str, row: &[String]) -> Option<bool> {
     match table {
         "each growth of a call on a text" => Some(texts::row_passes(global, row)),

@@ -1,7 +1,7 @@
 //! Tests of calls that are out of memory, and of calls that take no memory.
 //!
-//! A check drops an owned value by name, or passes it to a function that is generic over its type,
-//! and takes its allocator as a type parameter: the proof of a drop is long at a known type.
+//! A check calls `drop` on an owned value, or passes it to a function that is generic over its
+//! type, and takes its allocator as a type parameter: the proof of a drop is long at a known type.
 #![tactic(auto)]
 
 #[cfg(test)]

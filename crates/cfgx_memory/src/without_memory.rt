@@ -1,8 +1,10 @@
 //! Calls that take no memory, with every growth refused: each returns its usual result and asks for
 //! no growth.
 //!
-//! The arguments of a call are made first, with memory. A check takes the allocator twice: as
-//! `heap`, to set which growths it refuses, and as `alloc`, to make the call.
+//! A check begins with every growth refused. If it needs memory for the arguments of a call, it
+//! allows growths while it makes them, as in `parse_with_memory`, or makes them with `global`. A
+//! check takes the allocator twice: as `heap`, to set which growths it refuses, and as `alloc`, to
+//! make the call.
 mod conditions;
 mod faults;
 mod lists;
@@ -19,7 +21,7 @@ use cfgx_testing::rows::{TableToCheck, check_tables};
 use std::alloc::Global;
 use std::hash::Hash;
 
-// Whether `one` equals `same` with the same hash, and is below `above`.
+// Returns whether `one` and `same` are equal and have equal hashes, and `one` is below `above`.
 fn is_ordered<T: Ord + Hash>(one: &T, same: &T, above: &T) -> bool {
     one == same
         && one != above
@@ -28,7 +30,7 @@ fn is_ordered<T: Ord + Hash>(one: &T, same: &T, above: &T) -> bool {
         && hash_of(one) == hash_of(same)
 }
 
-// Whether all three were made, and `is_ordered` holds of them.
+// Returns whether all three were made, and `is_ordered` returns true for them.
 fn is_made_and_ordered<T: Ord + Hash>(
     one: &AllocResult<T>,
     same: &AllocResult<T>,
@@ -56,9 +58,10 @@ fn only_field(row: &[String]) -> &str {
     }
 }
 
-// Returns whether the row passes the check of `table`, or `None` if there is no such table.
-fn row_passes(global: Global, heap: Heap<'_>, table: &str, row: &[String]) -> Option<bool> {
-    match table {
+// Returns whether the row passes the check with the name `name`, or `None` if there is no such
+// check.
+fn row_passes(global: Global, heap: Heap<'_>, name: &str, row: &[String]) -> Option<bool> {
+    match name {
         "conditions take no memory" => Some(conditions::row_passes(global, heap, heap, row)),
         "faults take no memory" => Some(faults::row_passes(global, heap, heap, row)),
         "lists take no memory" => Some(lists::passes(global, heap, heap, only_field(row))),
@@ -68,16 +71,17 @@ fn row_passes(global: Global, heap: Heap<'_>, table: &str, row: &[String]) -> Op
     }
 }
 
-// Returns whether the row passes with no growth refused, or `None` if there is no such table.
+// Refuses every growth, and returns whether the row passes without asking for a growth that is
+// refused, or `None` if there is no check with the name `name`.
 fn passes_without_growth(
     global: Global,
     heap: Heap<'_>,
-    table: &str,
+    name: &str,
     row: &[String],
 ) -> Option<bool> {
     heap.refuse(EVERY);
     let refused = heap.refused_growths();
-    let passes = row_passes(global, heap, table, row)?;
+    let passes = row_passes(global, heap, name, row)?;
     Some(passes && heap.refused_growths() == refused)
 }
 
@@ -88,7 +92,7 @@ fn calls_take_no_memory(rt: HostRuntime) -> Result<(), String> {
     check_tables(
         global,
         TABLES,
-        |table, row| passes_without_growth(global, &heap, table, row),
+        |name, row| passes_without_growth(global, &heap, name, row),
     )?;
     assert!(rt; has_every_block(heap));
     Ok(())

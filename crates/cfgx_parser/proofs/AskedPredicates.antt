@@ -19,11 +19,12 @@ shown_same : (text : List ℕ) (nodes : List ExprNode) (place : ℕ) (question :
     → question_in text nodes place ≡ Some question
 shown_same text nodes place question is = grind (arith, slice_get-map (node_at text) nodes place)
 
-filtered : {X Y : Type 0} (h : X → Option Y) (xs : List X)
+-- what a filter keeps, if it keeps something of each item
+pub filter_map-some : {X Y : Type 0} (h : X → Option Y) (xs : List X)
     (ys : List Y) → map h xs ≡ map (λ (y : Y). Some y) ys → filter_map h xs ≡ ys
-filtered h [] [] e = refl
-filtered h (x ∷ xs) (y ∷ ys) e = grind (arith, filtered h xs ys (cc))
-filtered h xs ys e = absurd (cc)
+filter_map-some h [] [] e = refl
+filter_map-some h (x ∷ xs) (y ∷ ys) e = grind (arith, filter_map-some h xs ys (cc))
+filter_map-some h xs ys e = absurd (cc)
 
 -- where a predicate is found
 
@@ -63,7 +64,7 @@ module _ {text : List ℕ} {nodes : List ExprNode} {asks : List ℕ} {tree : Tre
       question (rw k.nodes_are is)))
 
   pub questions_at-kept : questions_at text nodes asks ≡ asked tree
-  questions_at-kept = filtered (question_in text nodes) asks (asked tree) asks_kept
+  questions_at-kept = filter_map-some (question_in text nodes) asks (asked tree) asks_kept
 
   pub NamePredicates-kept : NamePredicates text nodes asks
   NamePredicates-kept = NamePredicates-asks text nodes asks (asked tree) k.cuts asks_kept

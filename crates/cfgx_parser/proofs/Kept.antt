@@ -1,18 +1,20 @@
 -- The nodes and places that are kept of an accepted text are those of its one tree.
-use Rattle.std.proofs.Common.{◌≡◌, ℕ, List, [], ◌∷◌, ◌++◌, length, Ok, sym, ◌∙◌, arith}
+use Rattle.std.proofs.Common.{◌≡◌, ℕ, List, [], ◌∷◌, ◌++◌, length, map, Ok, sym, ap, ◌∙◌, arith}
 use Rattle.std.{proofs.lemmas.List.length-map, proofs.lemmas.List.append-nil}
 use Rattle.std.{specs.Prelude.slice_range, specs.Prelude.◌≤◌, specs.List.AllByRecursion}
 use Rattle.cfgx_syntax.{specs.Cut.CanBeCut, proofs.Values.value_inside, specs.Token.{Token, Spells}}
-use Rattle.cfgx_syntax.specs.Items.{Item, ItemsFrom, HasOneTokenList}
+use Rattle.cfgx_syntax.specs.Items.{Ending, Item, ItemsFrom, HasOneTokenList}
 use Rattle.cfgx_grammar.{specs.Question.Question, specs.Tree.Tree, proofs.Answering.only_tree}
-use Rattle.cfgx_grammar.proofs.ListLemmas.{all_of_first}
+use Rattle.cfgx_grammar.{specs.Grammar.HasTree, proofs.ListLemmas.all_of_first}
 use Rattle.cfgx_grammar.proofs.Answering.{answer, tree_of, Finds-one, HasOneTree-tree}
 use Rattle.cfgx_parser.specs.nodes.{KeepsTree.{KeepsTree, KeepsOneTree}, Prefix.{prefix, places}}
 use Rattle.cfgx_parser.specs.nodes.Node.{Written, nothing, with_list_ended}
+use Rattle.cfgx_parser.specs.nodes.ReadFrom.{AreRead, inner_node}
 use Rattle.cfgx_parser.specs.nodes.WritesNodes.{IsPlaced, ArePlaced, WritesNodes}
 use Rattle.cfgx_parser.{specs.parsing.NodeState.ParserState, specs.declared.nodes.ExprNode.ExprNode}
 use Rattle.cfgx_parser.proofs.NodeSizes.{nodes-bytes}
 use Rattle.cfgx_parser.proofs.spelled.Laws.{own, inner, node_laws, laws_written}
+use Rattle.cfgx_parser.proofs.spelled.ReadLaws.{AreReadFrom-before, read_laws, laws_read}
 
 -- the text of a key or of a value stands at its place
 placed_at : (text : List ℕ) (token : Token) (start end : ℕ)
@@ -44,6 +46,25 @@ module _ (text : List ℕ) (one : HasOneTokenList text) where
         places items item.end are.1 cuts.1,
       )
 
+  -- the predicates among the nodes are read from the tokens
+  read_accepted : (tree : Tree Question) → HasTree text tree → (u : ParserState)
+      → answer text one ≡ Ok u → AreRead text (map inner_node u.written.nodes)
+  read_accepted tree has u e =
+      let f = Finds-one text one read_laws tree has in
+      let same : Ok f.whole ≡ Ok u = sym f.answers ∙ e in
+      let written : with_list_ended 0 f.written ≡ u.written = sym f.whole_is ∙ cc in
+      let writes = laws_read f.first nothing f.written tree f.builds in
+      let nodes : u.written.nodes ≡ writes.added = sym (ap (λ v. v.nodes) written)
+      ∙ writes.nodes_are in
+      let items : has.items ≡ f.first ++ f.rest = (one.only has.items Ending.blank has.are_items).0
+      ∙ f.items_are in
+      record {
+        items = has.items;
+        are_items = has.are_items;
+        read = rw (items, nodes) (AreReadFrom-before f.first f.rest (map inner_node writes.added)
+            writes.read);
+      }
+
   pub KeepsOneTree-accepted : (u : ParserState) → answer text one ≡ Ok u
       → KeepsOneTree text u.written.nodes u.written.places
   KeepsOneTree-accepted u e =
@@ -55,7 +76,11 @@ module _ (text : List ℕ) (one : HasOneTokenList text) where
       let writes = laws_written text f.first nothing f.written tree f.builds
       (all_of_first _ f.first f.rest (rw f.items_are at placed)) in
       let keeps = KeepsTree-writes text f.written u.written tree written writes in
-      record { one = whole; keeps = rw (← only_tree whole tree has) keeps }
+      record {
+        one = whole;
+        keeps = rw (← only_tree whole tree has) keeps;
+        read = read_accepted tree has u e;
+      }
 
 pub few-nodes : {text : List ℕ} {nodes : List ExprNode} {asks : List ℕ}
     → KeepsOneTree text nodes asks

@@ -1,4 +1,5 @@
 -- For a text that a tree spells, the nodes of this tree are written.
 pub mod Laws
 pub mod LocatedClasses
+pub mod ReadLaws
 pub mod WritingLemmas

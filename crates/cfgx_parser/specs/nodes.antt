@@ -4,6 +4,7 @@ pub mod KeepsTree
 pub mod Located
 pub mod Node
 pub mod Prefix
+pub mod ReadFrom
 pub mod Shape
 pub mod Writer
 pub mod WritesNodes

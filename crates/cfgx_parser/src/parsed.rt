@@ -6,6 +6,7 @@ ghost use Rattle.cfgx_grammar.specs.Answer.{Answers, HasOneTree};
 ghost use Rattle.cfgx_grammar.specs.WellFormed.{IsWellFormed};
 ghost use Rattle.cfgx_grammar.specs.Tree.{asked};
 ghost use Rattle.cfgx_parser.specs.nodes.Prefix.{node_at, prefix, places};
+ghost use Rattle.cfgx_parser.specs.nodes.ReadFrom.{AreRead, inner_node};
 ghost use Rattle.cfgx_parser.specs.nodes.WritesNodes.{NodeHasCut};
 
 use crate::nodes::ExprNode;
@@ -112,13 +113,14 @@ impl<'a> ParsedRef<'a> {
         self.original
     }
 
-    /// Returns the nodes of the tree, in source order. There are no more nodes than bytes, and the
-    /// text can be cut at their spans.
+    /// Returns the nodes of the tree, in source order. There are no more nodes than bytes. The text
+    /// can be cut at their spans, which are those of its tokens, one behind another.
     pub fn nodes(&self) -> &'a [ExprNode]
         ensures nodes { (one : HasOneTree self.now)
             × (map (node_at self.now) result.now ≡ prefix one.tree) }
         ensures few { length result.now ≤ length self.now }
         ensures cuts { AllByRecursion (NodeHasCut self.now) result.now }
+        ensures read { AreRead self.now (map inner_node result.now) }
     {
         self.nodes
     }

@@ -16,7 +16,7 @@ fn terms_text(alloc: Global, terms: &[&str]) -> Result<String, AllocError> {
 }
 
 /// Returns a fault as rows write it, such as `UnopenedParens at 3..4` or `InvalidNot(2) at 0..9`.
-/// For `Unexpected` rows write the terms, such as ``U[`=` `,` `)`] at 2..3``.
+/// For `Unexpected`, rows write the terms, such as ``U[`=` `,` `)`] at 2..3``.
 pub fn fault_text(alloc: Global, error: &ParseError) -> Result<String, AllocError> {
     let (start, end) = (error.span.start, error.span.end);
     match error.reason {

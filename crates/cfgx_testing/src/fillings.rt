@@ -25,7 +25,7 @@ fn filling_matches(filling: &[bool], digits: &str) -> bool {
     filling.len() == digits.len()
 }
 
-// Returns whether the two fillings are those of `row`, which a space separates.
+// Returns whether the two fillings are those of `row`. A space separates the fillings in `row`.
 fn both_fillings_match(if_true: &[bool], if_false: &[bool], row: &str) -> bool {
     match row.split_once(' ') {
         Some((one, other)) => filling_matches(if_true, one) && filling_matches(if_false, other),
@@ -134,8 +134,8 @@ fn new_reader_decides(
     is_ok_true(reader_decides(alloc, &mut reader, expression, row))
 }
 
-/// Returns whether each call of an expression and of a condition with this text returns, over the
-/// answers of `digits`, what `row` says. Returns `None` if the text is faulty or memory runs out.
+/// Returns whether each call of the expression and of the condition of `text` returns what `row`
+/// says, over the answers of `digits`. Returns `None` if the text is faulty or memory runs out.
 pub fn each_call_decides(alloc: Global, text: &str, digits: &str, row: &str) -> Option<bool> {
     let answers = answers_of(alloc, digits).ok()?;
     let expression = Expression::parse(alloc, text).ok()?;

@@ -68,7 +68,8 @@ pub fn escaped(alloc: Global, text: &str) -> Result<String, AllocError> {
     Ok(field)
 }
 
-// Pushes `piece` `times` times. Returns `None` if `times` is not a number, or if memory runs out.
+// Pushes `times` copies of `piece`. Returns `None` if `times` is not a number, or if memory runs
+// out.
 fn push_times(text: &mut String, piece: &str, times: &str) -> Option<()> {
     for _time in 0..times.parse::<usize>().ok()? {
         text.push_str(piece).ok()?;
@@ -96,8 +97,7 @@ fn expanded(alloc: Global, field: &str) -> Option<String> {
 }
 
 // Returns the text that `field` stands for, or `None` if `field` has no meaning or memory runs out.
-// The text never contains `~`: the escapes are replaced first, so that an escaped `~` also
-// separates parts.
+// A field cannot write `~` itself. Escapes are replaced first, so `\u{7e}` separates parts too.
 fn text_of(alloc: Global, field: &str) -> Option<String> {
     let field = match field {
         "USAGE" => USAGE,
@@ -118,8 +118,8 @@ pub fn fields_of(alloc: Global, row: &str) -> Option<Vec<String>> {
     Some(fields)
 }
 
-// Pushes `line` to `row`, and then `row` to `rows`, unless `line` ends with a backslash, which is
-// not pushed.
+// Pushes `line`, without a backslash at its end, to `row`. If there is no such backslash, moves
+// `row` to `rows`.
 fn push_line(
     alloc: Global,
     rows: &mut Vec<String>,
@@ -150,8 +150,8 @@ pub fn rows_of(alloc: Global, table: &str) -> Result<Vec<String>, AllocError> {
     Ok(rows)
 }
 
-/// The result of a check. The error is a message, or the actual text, which the row should have
-/// had.
+/// The result of a check. The error is a message, or the actual text, if it is not the one that the
+/// row wants.
 pub type Finding = Result<(), String>;
 
 /// Returns `message` as an error.
@@ -197,7 +197,7 @@ pub fn require(alloc: Global, is_right: bool, message: &str) -> Finding {
     }
 }
 
-// Pushes to `report` the wrong `row` as it is written, and what its check found.
+// Pushes two lines to `report`: the wrong `row` as it is written, and what its check found.
 fn push_wrong(
     alloc: Global,
     report: &mut String,
@@ -233,7 +233,8 @@ fn finding_of(alloc: Global, is_right: Option<bool>) -> Finding {
     }
 }
 
-// Checks the fields of `row`. One `check` serves all tables: it gets the name of the check too.
+// Checks the fields of `row`. `check` is one function for all tables, so it also gets `name`, which
+// says what to check.
 fn check_row<F>(alloc: Global, row: &str, name: &str, check: &F) -> Finding
 where
     F: Fn(&str, &[String]) -> Option<bool>,
@@ -281,14 +282,14 @@ where
             if report.is_empty() {
                 return Ok(());
             }
-            Err(named(alloc, table.0, report))
+            Err(with_name(alloc, table.0, report))
         }
         Err(_) => fail(alloc, "out of memory"),
     }
 }
 
 // Returns `report` with `name` before it, or `report` alone if memory runs out.
-fn named(alloc: Global, name: &str, report: String) -> String {
+fn with_name(alloc: Global, name: &str, report: String) -> String {
     match format!(in alloc; "{name}: {report}") {
         Ok(text) => text,
         Err(_) => report,
@@ -298,8 +299,7 @@ fn named(alloc: Global, name: &str, report: String) -> String {
 /// Checks the rows of each table. `check` gets the name of the check and the fields of a row, and
 /// returns whether the row is right, or `None` if no check has this name.
 ///
-/// The error describes the first table with a wrong row, or whose number of rows is not the given
-/// one.
+/// The error describes the first table that has a wrong row or a wrong number of rows.
 pub fn check_tables<F>(alloc: Global, tables: &[TableToCheck<'_>], check: F) -> Finding
 where
     F: Fn(&str, &[String]) -> Option<bool>,

@@ -134,7 +134,7 @@ impl Source for Counting {
 
     ghost failures = { λ _. 0 };
 
-    // The source does not tell its bytes: of these the contract of a read says enough.
+    // The source does not tell its bytes. The contract of a read says enough about them.
     ghost unread = { λ _. None };
 
     fn read(&mut self, buffer: &mut [u8]) -> io::Result<usize> {

@@ -99,8 +99,8 @@ pub fn push_rows(
     Ok(())
 }
 
-// Pushes a copy of the row of `table` for each of `triples`. Returns the error also if a row is
-// missing.
+// Pushes a copy of the row of `table` for each of `triples`. Returns an error if memory runs out,
+// or if a row is missing.
 fn push_copies(
     alloc: Global,
     rows: &mut Vec<TargetInfo<'static>>,

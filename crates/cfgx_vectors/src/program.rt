@@ -23,7 +23,7 @@ fn run_of(row: &[String]) -> Option<((&str, &str), &[String])> {
     }
 }
 
-// Compares a run without input with the row.
+// Compares a run of the words of `row`, without input, with the status and the output of `row`.
 fn finding_of_long_run(alloc: Global, row: &[String]) -> Option<Finding> {
     let (ended, words) = run_of(row)?;
     Some(match words_of(alloc, words) {
@@ -32,7 +32,7 @@ fn finding_of_long_run(alloc: Global, row: &[String]) -> Option<Finding> {
     })
 }
 
-// Compares a run with `words` with `ended`. The run may not read, and must end at a failed write.
+// Compares a run of `words` with `ended`. The run may not read, and must end at a failed write.
 fn compare_without_reads(alloc: Global, words: &[&str], ended: (&str, &str)) -> Finding {
     compare_run(alloc, words, &[], ended)?;
     let (status, written) = ended;
@@ -45,7 +45,8 @@ fn compare_without_reads(alloc: Global, words: &[&str], ended: (&str, &str)) -> 
     require(alloc, ends, "it goes on past a failed write")
 }
 
-// Compares a run that reads nothing with the row.
+// Compares a run of the words of `row` with the status and the output of `row`. The run may not
+// read.
 fn finding_of_run(alloc: Global, row: &[String]) -> Option<Finding> {
     let (ended, words) = run_of(row)?;
     Some(match words_of(alloc, words) {
@@ -54,12 +55,13 @@ fn finding_of_run(alloc: Global, row: &[String]) -> Option<Finding> {
     })
 }
 
-// Compares a run of `pick` on the target with the row.
+// Compares a run of `pick` for `triple` over `input` with `ended`.
 fn compare_pick(alloc: Global, triple: &str, input: &str, ended: (&str, &str)) -> Finding {
     compare_run(alloc, &["pick", triple], input.as_bytes(), ended)
 }
 
-// Compares a run of `pick` with streams that move at most `each` bytes per call.
+// Compares a run of `pick` over `input` with `ended`. Its streams move at most `each` bytes per
+// call.
 fn compare_in_pieces(alloc: Global, each: usize, input: &str, ended: (&str, &str)) -> Finding {
     compare_pair(
         alloc,
@@ -68,8 +70,8 @@ fn compare_in_pieces(alloc: Global, each: usize, input: &str, ended: (&str, &str
     )
 }
 
-// Compares a run of `pick` with streams that move few bytes per call, or all, and fail at each
-// call.
+// Compares runs of `pick` over `input` with `ended`. Their streams move few bytes per call, or all.
+// A run must also end at each failed call.
 fn compare_by_streams(alloc: Global, input: &str, ended: (&str, &str)) -> Finding {
     for each in &[1, 2, 3, 7, ALL] {
         compare_in_pieces(alloc, *each, input, ended)?;
@@ -98,7 +100,7 @@ fn bytes_of(alloc: Global, row: &str) -> Option<Vec<u8>> {
     Some(bytes)
 }
 
-// Compares the output of `pick` for `input` with that for bytes that are not UTF-8.
+// Checks that `pick` refuses `input` as bytes that are not UTF-8.
 fn compare_refused(alloc: Global, input: &[u8]) -> Finding {
     let ended = ("1", "input is not UTF-8\n");
     compare_run(alloc, &["pick", SIM], input, ended)?;

@@ -13,7 +13,7 @@ use cfgx_testing::rows::{Finding, compare, compare_pair, fail, require};
 use cfgx_testing::streams::{ALL, run_text};
 use std::alloc::Global;
 
-/// Compares the predicates that `parse` prints with `predicates`, which line feeds separate.
+/// Compares `predicates`, which line feeds separate, with those that `parse` prints for `text`.
 pub(crate) fn compare_predicates(alloc: Global, text: &str, predicates: &str) -> Finding {
     let end = if predicates.is_empty() { "" } else { "\n" };
     match format!(in alloc; "{predicates}{end}") {

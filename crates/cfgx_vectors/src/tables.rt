@@ -59,7 +59,7 @@ fn push_fields(texts: &mut Vec<String>, fields: Vec<String>) -> Result<(), Alloc
     Ok(())
 }
 
-// Pushes the fields of each row. A row in which a field has no meaning has none.
+// Pushes the fields of each row. Leaves out a row in which a field has no meaning.
 fn push_texts(alloc: Global, texts: &mut Vec<String>, rows: &[String]) -> Result<(), AllocError> {
     for row in rows {
         if let Some(fields) = fields_of(alloc, row.as_str()) {

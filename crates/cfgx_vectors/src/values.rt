@@ -11,8 +11,8 @@ use std::alloc::Global;
 fn finding_of_two(alloc: Global, check: &str, one: &str, other: &str) -> Option<Finding> {
     Some(match check {
         "values on built-in targets" => matching::finding_on_built_in(alloc, one, other),
-        "values on targets made by hand" => matching::finding_by_hand(alloc, one, other),
-        "values on no target" => matching::finding_on_none(alloc, one, other),
+        "values on targets made by hand" => matching::finding_on_hand_made(alloc, one, other),
+        "values on no target" => matching::finding_without_targets(alloc, one, other),
         "list of families" => compare(alloc, lists::families_text(alloc, one), other),
         "list of widths" => compare(alloc, lists::widths_text(alloc, one), other),
         "width" => compare(alloc, lists::width_text(alloc, one), other),

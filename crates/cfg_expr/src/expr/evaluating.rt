@@ -3,9 +3,9 @@
 //! members by their joined value. The last entry is the value of the condition.
 //!
 //! Unread answers occupy the front of the slots, and the stack occupies the back. They never
-//! overlap, since each node pushes at most one entry. The nodes are in the order of the text.
-//! Predicates are asked in another order: of each list, first those of its functions, and then its
-//! own.
+//! overlap, since each node has one slot and pushes one entry. The nodes are in the order of the
+//! text. Predicates are asked in another order: for each function, first those below its member
+//! functions, and then its own members.
 ghost use Rattle.std.specs.Prelude.{◌≡◌, ◌<◌, ◌≤◌, ◌+◌, ◌∷◌, ℕ, List, IfOk, OnErr, IsOk};
 ghost use Rattle.std.specs.Prelude.{length, map, set, get_or, take, drop};
 ghost use Rattle.cfgx_grammar.specs.Answer.{HasOneTree};
@@ -37,8 +37,10 @@ use std::mem;
 /// An unread answer, or an entry of the stack, which is the value of a subtree.
 #[derive(Default, Drop)]
 pub(crate) enum Slot<T> {
+    /// There is no answer, or it was read
     #[default]
     Empty,
+    /// The answer to a predicate, or the value of a literal
     Leaf(T),
     /// The value of a function
     Function(T),
@@ -97,7 +99,7 @@ impl Connective {
         }
     }
 
-    /// Joins the value of `member` to `value`.
+    /// Returns `value` joined with `member`.
     fn join<T: Logic>(self, value: T, member: T) -> T
         ensures { result ≡ join_of T.Logic self value member }
     {
@@ -107,8 +109,8 @@ impl Connective {
         }
     }
 
-    /// Takes the members of the given `kind` out, from the last to the first, and joins each of
-    /// them to `value`. The members are in the order of the text.
+    /// Takes the members of the given `kind` out, and returns `value` joined with each of them,
+    /// from the last to the first. The members are in the order of the text.
     fn join_kind<T: Logic>(self, kind: Kind, value: T, members: &mut [Slot<T>]) -> T
         ensures value { result
             ≡ from_last (join_of T.Logic self) value (values_in kind members.old) }
@@ -123,8 +125,9 @@ impl Connective {
         value
     }
 
-    /// Joins first the leaves and then the functions, each from the last to the first. This is the
-    /// order of `cfg-expr`, which matters to a `Logic` whose operations do not commute.
+    /// Returns the joined value of the members: first the leaves are joined and then the functions,
+    /// each from the last to the first. This is the order of `cfg-expr`, which matters to a `Logic`
+    /// whose operations do not commute.
     fn join_all<T: Logic>(self, members: &mut [Slot<T>]) -> T
         ensures { result ≡ joined T.Logic self members.old }
     {
@@ -242,8 +245,8 @@ fn eval_nodes<T: Logic>(nodes: &[ExprNode], slots: &mut [Slot<T>]) -> T
     stack.pop()
 }
 
-/// Returns `count` empty slots. Up to 33 are inline and take no memory. They are enough for the
-/// nodes of a text of 32 bytes.
+/// Returns `count` empty slots. Up to 33 are inline and take no memory. A text has no more nodes
+/// than bytes, so this is enough for a text of 32 bytes.
 fn empty_slots<T: Logic, A: Allocator>(
     alloc: &A,
     count: usize,
@@ -278,7 +281,8 @@ where
     ep(&predicate)
 }
 
-/// Asks the predicates in their order, and puts each answer into the slot of its node.
+/// Asks `ep` each predicate, in the order of `parsed.predicates()`, and puts each answer into the
+/// slot of its node.
 fn ask_each<EP, T>(parsed: &ParsedRef<'_>, slots: &mut [Slot<T>], ep: &mut EP)
 where
     EP: FnMut(&Predicate<'_>) -> T,
@@ -309,7 +313,7 @@ fn put_each<T: Logic + Copy>(places: &[usize], answers: &[T], slots: &mut [Slot<
 
 /// Returns the value of the condition, and asks `ep` for the answer to each predicate.
 ///
-/// Returns an error if `alloc` refuses memory for the slots. Nothing is asked then.
+/// Returns an error if `alloc` refuses memory for the slots. In that case, `ep` is not called.
 pub(crate) fn eval<EP, T, A>(alloc: A, parsed: &ParsedRef<'_>, ep: &mut EP) -> Result<T, AllocError>
 where
     EP: FnMut(&Predicate<'_>) -> T,

@@ -1,17 +1,19 @@
-//! Decides a condition of which some answers may be unknown. The decision is the value of the
-//! condition or, if that is unknown, two fillings: a filling has a truth value for each answer, and
-//! the condition is true with the first filling and false with the second. Each occurrence of a
-//! predicate has an answer of its own.
+//! Decides a condition when some answers to its predicates may be unknown. The decision is the
+//! value of the condition or, if that is unknown, two fillings: a filling has a truth value for
+//! each answer, and the condition is true with the first filling and false with the second. Each
+//! occurrence of a predicate has an answer of its own.
 //!
 //! Both fillings keep the known answers. For an unknown answer, the first filling has true if its
 //! predicate is below an even number of `not`, and false otherwise. The second filling has the
 //! opposite value.
 //!
 //! One pass over the nodes makes the list `odds`, which says of each node whether it is a predicate
-//! below an odd number of `not`. The pass has a stack `ahead` of the subtrees that it has not
-//! reached, and whose parent it has. The next one is on top. An entry is true if its subtree is
-//! below an odd number of `not`. Each subtree has a node, so there are never more entries than
-//! nodes, and neither `ahead` nor `odds` takes memory for up to 33 nodes.
+//! below an odd number of `not`. The stack `ahead` has an entry for each subtree that the pass has
+//! not reached, but whose parent it has reached. The next one is on top. An entry is true if its
+//! subtree is below an odd number of `not`.
+//!
+//! Each subtree has a node of its own, so there are never more entries than nodes. Both lists hold
+//! 33 entries inline, so up to 33 nodes take no memory.
 ghost use Rattle.std.specs.Prelude.{◌≡◌, ◌++◌, ◌∷◌, true, false, length, map};
 ghost use Rattle.std.specs.Prelude.{replicate, reverse, List, OnOk};
 ghost use Rattle.cfgx_grammar.specs.Given.{AreAnswersTo};
@@ -37,7 +39,7 @@ fn arity(func: &Func) -> usize
     }
 }
 
-/// Pushes `odd` to `ahead` `count` times.
+/// Pushes `count` copies of `odd` to `ahead`.
 fn push_repeated<A: SmallAllocator>(
     odd: bool,
     count: usize,
@@ -144,7 +146,7 @@ fn set_unknown<A: SmallAllocator>(
             if_false: Vec::new(alloc),
         };
     }
-    // `decision` is unknown by now.
+    // `decision` is `Decision::Unknown` here.
     if let Decision::Unknown { if_true, if_false } = decision {
         fill(if_true, if_false, odds, places, answers)?;
     }

@@ -182,7 +182,7 @@ fn push_line<'a, A: SmallAllocator>(
 }
 
 /// Returns the message of the line `number`, whose condition cannot be parsed. Returns an error if
-/// memory was refused to the parser, or is refused to the message.
+/// `failure` is an error of memory, or if `alloc` refuses memory for the message.
 fn fault_message<A: Allocator>(
     alloc: A,
     number: usize,

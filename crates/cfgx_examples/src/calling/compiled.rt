@@ -101,8 +101,8 @@ fn has_triple(table: &TargetTable<'_>, triple: &str) -> bool {
     get_builtin_target_by_triple(table, triple).is_some()
 }
 
-// Returns whether the lines of a compiler make a row with this triple, and that row makes such a
-// table.
+// Returns whether the lines of a compiler make a row with this triple, and `makes_a_table` returns
+// true for that row.
 fn is_row_added(
     alloc: Global,
     triple: &'static str,

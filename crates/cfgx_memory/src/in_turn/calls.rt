@@ -77,14 +77,14 @@ pub(super) fn check_call<A: SmallAllocator>(
     }
 }
 
-// Whether the call passes its check with no growth refused, and every block is freed.
+// Returns whether the call passes its check with no growth refused, and every block is freed.
 fn passes_once(global: Global, call: &str, text: &str) -> bool {
     let heap = empty_heap(global);
     is_ok_true(check_call(global, &heap, call, text)) & has_every_block(heap)
 }
 
-// Whether the call passes its check with each growth refused in turn, and has the number of growths
-// that `growths` says.
+// Returns whether the call passes its check with each growth refused in turn, and has the number of
+// growths that `growths` says.
 fn passes(global: Global, call: &str, growths: &str, text: &str) -> bool {
     if growths == "once" {
         return passes_once(global, call, text);
@@ -96,7 +96,7 @@ fn passes(global: Global, call: &str, growths: &str, text: &str) -> bool {
     }
 }
 
-/// Whether the call of the row passes its check with each text.
+/// Returns whether the call of the row passes its check with each text.
 pub(super) fn row_passes(global: Global, fields: &[String]) -> bool {
     let [call, growths, texts @ ..] = fields else {
         return false;

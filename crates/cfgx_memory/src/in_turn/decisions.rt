@@ -46,7 +46,7 @@ fn check_decide_twice<A: SmallAllocator>(
     Ok(is_first_right && decision_matches(&decision, row) && heap.asked_growths() == asked)
 }
 
-// Whether the condition that was parsed is decided as wanted.
+// Returns whether `parsed` has a condition that is decided as `wanted` says.
 fn decides<A: SmallAllocator>(
     heap: Heap<'_>,
     alloc: A,
@@ -63,7 +63,7 @@ fn decides<A: SmallAllocator>(
     }
 }
 
-// Whether the condition of the text is decided as wanted, and every block is freed.
+// Returns whether the condition of `text` is decided as `wanted` says, and every block is freed.
 fn decides_text(global: Global, text: &str, answers: &[Answer], wanted: Wanted<'_>) -> bool {
     let heap = empty_heap(global);
     let is_right = decides(
@@ -76,7 +76,7 @@ fn decides_text(global: Global, text: &str, answers: &[Answer], wanted: Wanted<'
     is_right && has_every_block(heap)
 }
 
-/// Whether the text of the row is decided as the row says.
+/// Returns whether the text of the row is decided as the row says.
 pub(super) fn row_passes(global: Global, row: &[String]) -> bool {
     let [text, digits, decision, growths] = row else {
         return false;

@@ -106,12 +106,13 @@ fn check_condition_eval_lanes<A: SmallAllocator>(alloc: A, condition: &Condition
     }
 }
 
-// Whether `filling` consists of `value`, `count` times.
+// Returns whether `filling` consists of `count` copies of `value`.
 fn repeats(filling: &[bool], value: bool, count: usize) -> bool {
     filling.len() == count && !filling.contains(&!value)
 }
 
-// Whether the first filling is all true, and the other one all false.
+// Returns whether `if_true` consists of `count` copies of true, and `if_false` of `count` copies of
+// false.
 fn are_polar(if_true: &[bool], if_false: &[bool], count: usize) -> bool {
     repeats(if_true, true, count) && repeats(if_false, false, count)
 }
@@ -151,8 +152,8 @@ fn check_condition_polar_fillings<A: SmallAllocator>(
     }
 }
 
-// Whether the decision over `count` unknown answers is unknown, with the fillings all true and all
-// false.
+// Returns whether the decision over `count` unknown answers is unknown, with the fillings all true
+// and all false.
 fn is_polar<A: SmallAllocator>(decision: &Decision<A>, count: usize) -> bool {
     match decision {
         Decision::Unknown { if_true, if_false } => {

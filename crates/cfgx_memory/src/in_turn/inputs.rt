@@ -33,7 +33,7 @@ pub(super) fn check_input<A: Allocator>(global: Global, alloc: A, bytes: &[u8]) 
     }
 }
 
-/// Whether `read_input` returns the failure of the read with the number `failing_read`.
+/// Returns whether `read_input` returns the failure of the read with the number `failing_read`.
 pub(super) fn stops_at_failed_read<A: Allocator>(alloc: A, failing_read: &str) -> bool {
     let Ok(failing_read) = failing_read.parse() else {
         return false;

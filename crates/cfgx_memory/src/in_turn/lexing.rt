@@ -8,7 +8,7 @@ use std::alloc::AllocError;
 /// What `next` of a lexer returns.
 pub(crate) type Item<'t, A> = Option<Result<LexerToken<'t>, Failure<A>>>;
 
-// Whether the item is the key `a`.
+// Returns whether the item is the key `a`.
 fn is_key_a<A: SmallAllocator>(item: &Item<'_, A>) -> bool {
     match item {
         Some(Ok(item)) => item.token == Token::Key("a"),

@@ -83,7 +83,7 @@ any(~any(),    ~60~) | 5 | any(~any(),    ~600~) | 1
 a | 4 | key) | 1 | a | 0
 "#;
 
-// Whether reading the text returns what parsing it returns, and takes `growths` growths.
+// Returns whether reading the text returns what parsing it returns, and takes `growths` growths.
 fn reads_in<'t, A: SmallAllocator>(
     global: Global,
     heap: Heap<'_>,
@@ -96,7 +96,7 @@ fn reads_in<'t, A: SmallAllocator>(
     is_ok_true(check_read(reader, text, &expected)) && heap.asked_growths() == asked
 }
 
-// Whether the reader reads the text of a pair with the growths of the pair.
+// Returns whether the reader reads the text of a pair with the growths of the pair.
 fn reads_pair<'t, A: SmallAllocator>(
     global: Global,
     heap: Heap<'_>,
@@ -112,7 +112,7 @@ fn reads_pair<'t, A: SmallAllocator>(
     }
 }
 
-// Whether a new reader reads each pair of the row.
+// Returns whether a new reader reads each pair of the row.
 fn reads_pairs<A: SmallAllocator>(
     global: Global,
     heap: Heap<'_>,
@@ -128,7 +128,7 @@ fn reads_pairs<A: SmallAllocator>(
     !row.is_empty()
 }
 
-/// Whether a reader reads the row, and every block is freed.
+/// Returns whether a reader reads the row, and every block is freed.
 pub(super) fn row_passes(global: Global, row: &[String]) -> bool {
     let heap = empty_heap(global);
     let is_read = reads_pairs(global, &heap, &heap, row);

@@ -75,7 +75,8 @@ where
     if is_equal { outcome } else { Ok(false) }
 }
 
-// Checks a copy of the row. Then makes a copy own all its texts and lists, and checks a copy of it.
+// Checks a copy of the row. Then makes another copy own all its texts and lists, and checks a copy
+// of that one.
 fn check_row<'a, A: SmallAllocator + 'a>(alloc: A, row: &TargetInfo<'a, A>) -> Outcome {
     let borrowed = check_copy(alloc, row);
     let owned = check_copied(

@@ -41,7 +41,7 @@ fn run_over<'i, A: SmallAllocator>(
     (status, source, sink)
 }
 
-// Whether the sink has no byte, and there was no write, no flush and no failed call.
+// Returns whether the sink has no byte, and there was no write, no flush and no failed call.
 fn was_not_called(sink: &Recorder) -> bool {
     sink_matches(sink, b"", (0, 0), 0)
 }
@@ -77,8 +77,9 @@ fn run_growths(global: Global, words: &[&str], wanted: &WantedRun<'_>) -> Option
     refuse_each_growth(global, Call::Run(words, wanted))
 }
 
-/// Whether a run without input takes memory, ends with `status`, and survives refusals: each growth
-/// is refused in turn, and the next run, with memory, has the output of the run before all of them.
+/// Returns whether a run without input takes memory, ends with `status`, and survives refusals.
+/// Each growth is refused in turn, and a run with memory after it must have the status and the
+/// output of the first run, in which no growth is refused.
 pub(super) fn run_survives(global: Global, words: &[&str], status: u8) -> bool {
     let (ended, _source, sink) = run_over(global, global, words, "");
     let wanted = WantedRun {
@@ -156,8 +157,8 @@ without memory | 3 | eval | a
 without memory | 3 | target | nowhere | )
 "#;
 
-// Whether a run without memory ends with `status`. If it is `WRONG_USE`, the run must write the
-// usage and ask for no growth. If it is `OUT_OF_MEMORY`, the run must have asked for one.
+// Returns whether a run without memory ends with `status`. If it is `WRONG_USE`, the run must write
+// the usage and ask for no growth. If it is `OUT_OF_MEMORY`, the run must have asked for one.
 fn ends_without_memory(global: Global, words: &[&str], status: u8) -> bool {
     let heap = empty_heap(global);
     heap.refuse(EVERY);
@@ -186,8 +187,8 @@ fn blocks_of_table(rows: &[TargetInfo<'_>]) -> u64 {
     blocks
 }
 
-// Whether a run takes as many growths as the table of built-in targets has blocks, with each of
-// them refused in turn. The first of `fields` is the output, and the others are the words.
+// Returns whether a run takes as many growths as the table of built-in targets has blocks. Each
+// growth is refused in turn. The first of `fields` is the output, and the others are the words.
 fn takes_table_alone(global: Global, status: u8, fields: &[&str]) -> bool {
     match (fields, TargetTable::builtins(global)) {
         ([output, words @ ..], Ok(table)) => {
@@ -217,19 +218,20 @@ fn pick_growths(global: Global, status: u8, fields: &[&str]) -> Option<u64> {
     run_growths(global, &["pick", SIM], &wanted)
 }
 
-// Whether a run of `pick` takes memory, and ends with `status` and the output of the fields.
+// Returns whether a run of `pick` takes memory, and ends with `status` and the output of the
+// fields.
 fn pick_survives(global: Global, status: u8, fields: &[&str]) -> bool {
     pick_growths(global, status, fields).unwrap_or(0) > 0
 }
 
-// Whether two runs of `pick` take the same number of growths.
+// Returns whether two runs of `pick` take memory, and the same number of growths.
 fn picks_take_same(global: Global, status: u8, fields: &[&str]) -> bool {
     let (one, other) = fields.split_at(fields.len().min(2));
     let growths = pick_growths(global, status, one);
     growths.unwrap_or(0) > 0 && pick_growths(global, status, other) == growths
 }
 
-// Whether a run ends with `status`, with growths refused as `kind` says.
+// Returns whether a run ends with `status`, with growths refused as `kind` says.
 fn run_passes(global: Global, kind: &str, status: u8, fields: &[&str]) -> bool {
     match kind {
         "each refused" => run_survives(global, fields, status),
@@ -241,7 +243,7 @@ fn run_passes(global: Global, kind: &str, status: u8, fields: &[&str]) -> bool {
     }
 }
 
-/// Whether the run of the row, or each of its two runs, ends as the row says.
+/// Returns whether the run of the row, or each of its two runs, ends as the row says.
 pub(super) fn row_passes(global: Global, row: &[String]) -> bool {
     let [kind, status, fields @ ..] = row else {
         return false;

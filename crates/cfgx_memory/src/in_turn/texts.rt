@@ -72,12 +72,12 @@ parsed in 3 | 0 | any(~any(),    ~3000~)
 /// What `parse` returns.
 pub(crate) type Parsed<A = Global> = Result<Expression<A>, Failure<A>>;
 
-/// Whether both conditions have the same text and the same predicates in the same order.
+/// Returns whether both conditions have the same text and the same predicates in the same order.
 pub(super) fn is_same_condition(one: &Condition<'_>, other: &Condition<'_>) -> bool {
     one.original() == other.original() && one.predicates().eq(other.predicates())
 }
 
-/// Whether both faults have the same text, span and reason.
+/// Returns whether both faults have the same text, span and reason.
 pub(super) fn is_same_fault<A: SmallAllocator, B: SmallAllocator>(
     one: &ParseError<A>,
     other: &ParseError<B>,
@@ -135,8 +135,8 @@ pub(super) fn check_call<A: SmallAllocator>(
     check_parsed(alloc, call, &parsed, expected)
 }
 
-// Whether `parsed` has the stripped text `original`, and the fault or the number of predicates that
-// `wanted` says.
+// Returns whether `parsed` has the stripped text `original`, and the fault or the number of
+// predicates that `wanted` says.
 fn matches_row(global: Global, parsed: &Parsed, wanted: &str, original: &str) -> bool {
     match parsed {
         Ok(expression) => {
@@ -148,7 +148,7 @@ fn matches_row(global: Global, parsed: &Parsed, wanted: &str, original: &str) ->
     }
 }
 
-// Whether each of the calls survives refusals. Spaces separate the calls.
+// Returns whether each of the calls survives refusals. Spaces separate the calls.
 fn calls_survive(global: Global, calls: &str, text: &str, expected: &Parsed) -> bool {
     for call in calls.split(' ') {
         if !survives_refusals(global, Call::Text(call, text, expected)) {
@@ -158,7 +158,7 @@ fn calls_survive(global: Global, calls: &str, text: &str, expected: &Parsed) -> 
     true
 }
 
-// Whether runs of the program with `text` survive refusals and end with `status`.
+// Returns whether runs of the program with `text` survive refusals and end with `status`.
 fn runs_survive(global: Global, text: &str, status: u8) -> bool {
     run_survives(global, &["parse", text], status)
         && run_survives(global, &["eval", text, "a"], status)
@@ -166,7 +166,7 @@ fn runs_survive(global: Global, text: &str, status: u8) -> bool {
         && run_survives(global, &["target", IOS, text], status)
 }
 
-// Whether each of the calls, a reader and runs of the program survive refusals.
+// Returns whether each of the calls, a reader and runs of the program survive refusals.
 fn all_survive(global: Global, calls: &str, text: &str, expected: &Parsed) -> bool {
     let status = if expected.is_ok() { 0 } else { 1 };
     calls_survive(global, calls, text, expected)
@@ -174,7 +174,7 @@ fn all_survive(global: Global, calls: &str, text: &str, expected: &Parsed) -> bo
         && runs_survive(global, text, status)
 }
 
-// Whether the expression of the text equals its copy, and every block is freed.
+// Returns whether the expression of the text equals its copy, and every block is freed.
 fn equals_copy(global: Global, text: &str, expected: &Parsed) -> bool {
     let heap = empty_heap(global);
     is_ok_true(check_call(&heap, "try_clone", text, expected)) & has_every_block(heap)
@@ -185,12 +185,12 @@ const CALLS: &str = "parse from_str try_clone eval decide polar_fillings eval_la
     Condition::eval Condition::decide Condition::polar_fillings Condition::eval_lanes \
     decide_on audit pick";
 
-// Returns the number of growths of `parse` of the text, or `None` if a check fails.
+// Returns the number of growths that `parse` takes for `text`, or `None` if a check fails.
 fn parse_growths(global: Global, text: &str, expected: &Parsed) -> Option<u64> {
     refuse_each_growth(global, Call::Text("parse", text, expected))
 }
 
-// Whether the calls of a row of the kind `kind` pass their checks.
+// Returns whether the calls of a row of the kind `kind` pass their checks.
 fn calls_pass(global: Global, kind: &str, text: &str, expected: &Parsed) -> bool {
     match kind {
         "parsed in 1" => parse_growths(global, text, expected) == Some(1),
@@ -206,7 +206,7 @@ fn calls_pass(global: Global, kind: &str, text: &str, expected: &Parsed) -> bool
     }
 }
 
-/// Whether the text of the row is parsed as the row says, and its calls pass their checks.
+/// Returns whether the text of the row is parsed as the row says, and its calls pass their checks.
 pub(super) fn row_passes(global: Global, fields: &[String]) -> bool {
     let (kind, wanted, text, original) = match fields {
         [kind, wanted, text] => (kind, wanted, text, text),

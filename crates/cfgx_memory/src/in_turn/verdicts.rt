@@ -63,7 +63,7 @@ fn sections<A: SmallAllocator>(alloc: A, texts: &[&str]) -> AllocResult<Vec<Sect
     Ok(sections)
 }
 
-// Whether the sections are those of the texts, in order.
+// Returns whether the sections are those of the texts, in order.
 fn have_texts<A: SmallAllocator>(sections: &[Section<A>], texts: &[&str]) -> bool {
     for (section, text) in sections.iter().zip(texts) {
         if section.name.as_str() != *text || section.condition.original() != *text {

@@ -59,7 +59,7 @@ fn equality_with_text_is<A: SmallAllocator>(
 // A text with more nodes than a reader makes room for at first.
 const LONG: &str = "all(a, b, c, d, e, not(any(not(f))))";
 
-// Whether reading the text returns what parsing it in `global` returns.
+// Returns whether reading the text returns what parsing it in `global` returns.
 fn reads<'t, A: SmallAllocator>(
     global: Global,
     reader: &mut ConditionReader<'t, A>,
@@ -68,7 +68,8 @@ fn reads<'t, A: SmallAllocator>(
     is_ok_true(check_read(reader, text, &Expression::parse(global, text)))
 }
 
-// Whether the reader reads `LONG` with memory, and then the text and `LONG` again without memory.
+// Returns whether the reader reads `LONG` with memory, and then the text and `LONG` again without
+// memory.
 fn reads_after_long<'t, A: SmallAllocator>(
     global: Global,
     heap: Heap<'_>,
@@ -81,7 +82,8 @@ fn reads_after_long<'t, A: SmallAllocator>(
     is_read && reads(global, reader, text) && reads(global, reader, LONG)
 }
 
-// Whether a new reader reads `LONG` with memory, and then the text and `LONG` again without memory.
+// Returns whether a new reader reads `LONG` with memory, and then the text and `LONG` again without
+// memory.
 fn is_read_after_long<A: SmallAllocator>(
     global: Global,
     heap: Heap<'_>,
@@ -114,8 +116,8 @@ fn spell_all(predicates: &mut Predicates<'_>, counts: &[usize], spellings: &mut 
     predicates.left() == 0 && predicates.next().is_none()
 }
 
-// Whether the predicates have `spellings`, and `counts` has the number of predicates left before
-// each of them.
+// Returns whether the predicates have `spellings`, and `counts` has the number of predicates left
+// before each of them.
 fn are_spelled(
     global: Global,
     mut predicates: Predicates<'_>,
@@ -131,8 +133,8 @@ fn value_in_lane(lanes: Kleene64, lane: usize) -> Option<bool> {
     if lane < 64 { lanes.lane(lane) } else { None }
 }
 
-// Whether the row of the simulator is the only one that meets the predicate, by `matches` and by
-// `lanes`.
+// Returns whether the row of the simulator is the only one that meets the predicate, by `matches`
+// and by `lanes`.
 fn only_simulator_meets<A: SmallAllocator>(
     predicate: &TargetPredicate<'_>,
     rows: &[TargetInfo<'_, A>],
@@ -155,7 +157,7 @@ fn only_simulator_meets<A: SmallAllocator>(
 // The triples of the rows that are asked.
 const TRIPLES: &[&str; 5] = &[DARWIN, IOS, MACABI, SIM, TVOS];
 
-// Whether this is a predicate on targets, and only the row of the simulator meets it.
+// Returns whether `predicate` is about targets, and only the row of the simulator meets it.
 fn is_met_by_simulator<A: SmallAllocator>(
     predicate: Option<Predicate<'_>>,
     rows: &[TargetInfo<'_, A>],
@@ -168,7 +170,7 @@ fn is_met_by_simulator<A: SmallAllocator>(
     is_met
 }
 
-// Whether only the row of the simulator meets the first predicate.
+// Returns whether only the row of the simulator meets the first predicate of `expression`.
 fn asks_for_simulator<A: SmallAllocator>(
     expression: &Expression<A>,
     rows: &AllocResult<Vec<TargetInfo<'_, A>, A>>,
@@ -179,7 +181,7 @@ fn asks_for_simulator<A: SmallAllocator>(
     }
 }
 
-// Whether `audit` on no target returns no verdict.
+// Returns whether `audit` returns an empty list for an empty list of targets.
 fn audits_no_target<A: SmallAllocator>(alloc: A, expression: &Expression<A>) -> bool {
     let targets: &[Nowhere] = &[];
     matches!(audit(alloc, expression, targets), Ok(verdicts) if verdicts.is_empty())
@@ -219,14 +221,14 @@ const SPELLINGS: &str = "bafeature = \"a feature with a long name\"";
 
 const WIDTH_SPELLING: &str = "target_has_atomic = \"128\"";
 
-// Whether this is the expression of `TEXT`.
+// Returns whether `expression` and its condition have the text `TEXT`, and `expression` prints it.
 fn has_text<A: SmallAllocator>(global: Global, expression: &Expression<A>) -> bool {
     expression.original() == TEXT
         && expression.condition().original() == TEXT
         && prints(global, expression, TEXT)
 }
 
-// Whether the expression passes the check.
+// Returns whether `expression` passes the check with the name `check`.
 fn expression_passes<A: SmallAllocator>(
     global: Global,
     heap: Heap<'_>,
@@ -252,7 +254,7 @@ fn expression_passes<A: SmallAllocator>(
     }
 }
 
-// Whether the text passes the check. Parsing it returned `parsed`.
+// Returns whether `text` passes the check with the name `check`. Parsing it returned `parsed`.
 fn passes<A: SmallAllocator>(
     global: Global,
     heap: Heap<'_>,
@@ -267,7 +269,7 @@ fn passes<A: SmallAllocator>(
     }
 }
 
-/// Whether the text of the row passes the check of the row, with every growth refused.
+/// Returns whether the text of the row passes the check of the row, with every growth refused.
 pub(super) fn row_passes<A: SmallAllocator>(
     global: Global,
     heap: Heap<'_>,

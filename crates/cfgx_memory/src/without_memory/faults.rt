@@ -13,13 +13,13 @@ use cfgx_testing::refusing::EVERY;
 use std::alloc::{Allocator, Global};
 use std::ops::Range;
 
-// Whether the item and its copy have `token` and `span`.
+// Returns whether the item and its copy have `token` and `span`.
 fn has_token(item: &LexerToken<'_>, token: Token<'_>, span: &Range<usize>) -> bool {
     let is_right = item.token == token && item.span == *span;
     is_right && matches!(item.clone(), Ok(copy) if copy.token == token && copy.span == *span)
 }
 
-// Whether the item is `token` with `span`.
+// Returns whether the item is `token` with `span`.
 fn is_token<A: Allocator>(item: &Item<'_, A>, token: Token<'_>, span: &Range<usize>) -> bool {
     match item {
         Some(Ok(item)) => has_token(item, token, span),
@@ -27,8 +27,8 @@ fn is_token<A: Allocator>(item: &Item<'_, A>, token: Token<'_>, span: &Range<usi
     }
 }
 
-// Whether the next item of the lexer is `token` with `span`, and the lexer says that at most
-// `bound` items follow.
+// Returns whether the next item of the lexer is `token` with `span`, and the lexer says that at
+// most `bound` items follow.
 fn next_is<A: Allocator>(
     lexer: &mut Lexer<'_, A>,
     token: Token<'_>,
@@ -38,7 +38,8 @@ fn next_is<A: Allocator>(
     is_token(&lexer.next(), token, &span) & (lexer.items_left_bound() == bound)
 }
 
-// Whether this is the lexer of `cfg(key = "v" 8)`, and returns its first items.
+// Returns whether `lexer` has the text `key = "v" 8`, and its first items are the tokens before
+// `8`.
 fn returns_items<A: Allocator>(lexer: &mut Lexer<'_, A>) -> bool {
     lexer.original() == "key = \"v\" 8"
         && lexer.items_left_bound() == 11
@@ -47,7 +48,7 @@ fn returns_items<A: Allocator>(lexer: &mut Lexer<'_, A>) -> bool {
         && next_is(lexer, Token::Value("v"), 6..9, 2)
 }
 
-/// Whether a lexer returns the first items of its text.
+/// Returns whether a lexer of `cfg(key = "v" 8)` returns the tokens before `8`.
 pub(super) fn lexes<A: Allocator>(alloc: A) -> bool {
     let mut lexer = Lexer::new(alloc, "cfg(key = \"v\" 8)");
     returns_items(&mut lexer)
@@ -61,7 +62,7 @@ foo ( | unexpected term | foo (\n    ^ expected one of `=`, `,`, `)` here
 key) | unopened parens | key)\n   ^ unopened parens
 "#;
 
-// Whether the fault has `description` and prints `printed`. No text here is empty.
+// Returns whether the fault has `description` and prints `printed`. No text here is empty.
 fn prints_fault<A: Allocator>(
     global: Global,
     error: &ParseError<A>,
@@ -73,7 +74,7 @@ fn prints_fault<A: Allocator>(
         && prints(global, error, printed)
 }
 
-// Whether both failures are faults, and equal.
+// Returns whether both failures are faults, and equal.
 fn are_equal_faults<A: Allocator>(one: &Failure<A>, other: &Failure<A>) -> bool {
     match (one, other) {
         (Failure::Parse(error), Failure::Parse(other_error)) => {
@@ -83,7 +84,7 @@ fn are_equal_faults<A: Allocator>(one: &Failure<A>, other: &Failure<A>) -> bool 
     }
 }
 
-// Whether the failure equals that of the text.
+// Returns whether `failure` and the failure of `text` are faults, and equal.
 fn equals_failure_of<A: SmallAllocator>(
     heap: Heap<'_>,
     alloc: A,
@@ -99,8 +100,8 @@ fn equals_failure_of<A: SmallAllocator>(
 /// A text, the description of its fault, and what the fault prints.
 type Row<'a> = (&'a str, &'a str, &'a str);
 
-// Whether the text of the row has the fault of the row, which equals that of the same text, and not
-// that of another one. Parsing the text returned `parsed`.
+// Returns whether the text of the row has the fault of the row. The fault must equal that of the
+// same text, and differ from that of another text. Parsing the text returned `parsed`.
 fn passes<A: SmallAllocator>(
     global: Global,
     heap: Heap<'_>,
@@ -119,7 +120,7 @@ fn passes<A: SmallAllocator>(
         && !equals_failure_of(heap, alloc, failure, "kei)")
 }
 
-/// Whether the text of the row has the fault of the row, with every growth refused.
+/// Returns whether the text of the row has the fault of the row, with every growth refused.
 pub(super) fn row_passes<A: SmallAllocator>(
     global: Global,
     heap: Heap<'_>,
@@ -145,7 +146,7 @@ fn read_width_with_memory<A: SmallAllocator>(heap: Heap<'_>, alloc: A, text: &st
     width
 }
 
-/// Whether the error of a text that is no width prints the right text.
+/// Returns whether the error of `PTR`, which is no width, prints `PRINTED_ERROR`.
 pub(super) fn prints_width_error<A: SmallAllocator>(
     global: Global,
     heap: Heap<'_>,
@@ -157,7 +158,7 @@ pub(super) fn prints_width_error<A: SmallAllocator>(
     }
 }
 
-// Whether both are errors of texts, and equal.
+// Returns whether `one` and `other` are errors of texts, and equal.
 fn are_equal_errors<A: SmallAllocator>(one: &Width<A>, other: &Width<A>) -> bool {
     match (one, other) {
         (Err(HasAtomicFailure::Parse(error)), Err(HasAtomicFailure::Parse(other_error))) => {
@@ -167,7 +168,7 @@ fn are_equal_errors<A: SmallAllocator>(one: &Width<A>, other: &Width<A>) -> bool
     }
 }
 
-/// Whether errors of texts that are no widths are equal if the texts are.
+/// Returns whether errors of texts that are no widths are equal exactly if the texts are.
 pub(super) fn compares_width_errors<A: SmallAllocator>(heap: Heap<'_>, alloc: A) -> bool {
     let one = read_width_with_memory(heap, alloc, "PTR");
     let same = read_width_with_memory(heap, alloc, "PTR");

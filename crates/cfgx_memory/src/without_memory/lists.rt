@@ -13,7 +13,7 @@ use std::alloc::Global;
 
 const POINTER: &[HasAtomic] = &[HasAtomic::Pointer];
 
-// Whether this is the list of `SORTED`.
+// Returns whether `list` was made and is the list of `SORTED`.
 fn is_sorted_list<A: SmallAllocator>(global: Global, list: &AllocResult<HasAtomics<A>>) -> bool {
     match list {
         Ok(list) => {
@@ -28,7 +28,7 @@ fn is_sorted_list<A: SmallAllocator>(global: Global, list: &AllocResult<HasAtomi
     }
 }
 
-// Whether a list of widths is made right.
+// Returns whether a list that is made of `SORTED` has these widths.
 fn makes_widths<A: SmallAllocator>(global: Global, heap: Heap<'_>, alloc: A) -> bool {
     heap.refuse(0);
     let list = list_of(alloc, SORTED);
@@ -36,7 +36,7 @@ fn makes_widths<A: SmallAllocator>(global: Global, heap: Heap<'_>, alloc: A) -> 
     is_sorted_list(global, &list)
 }
 
-// Whether the lists of `SORTED` and `UNSORTED` are equal, and below a third list.
+// Returns whether the lists of `SORTED` and `UNSORTED` are equal, and below a third list.
 fn compares_widths<A: SmallAllocator>(heap: Heap<'_>, alloc: A) -> bool {
     heap.refuse(0);
     let list = list_of(alloc, SORTED);
@@ -46,7 +46,7 @@ fn compares_widths<A: SmallAllocator>(heap: Heap<'_>, alloc: A) -> bool {
     is_made_and_ordered(&list, &same, &above)
 }
 
-// Whether the list contains the family with the name `name`.
+// Returns whether the list contains the family with the name `name`: `unix`, `wasm` or `windows`.
 fn contains_named<A: SmallAllocator>(list: &Families<'_, A>, name: &str) -> bool {
     let family: Family<'_> = match name {
         "unix" => Family::unix(),
@@ -58,13 +58,13 @@ fn contains_named<A: SmallAllocator>(list: &Families<'_, A>, name: &str) -> bool
     is_member
 }
 
-// Whether a list that borrows the members of `list` equals its copy.
+// Returns whether a list that borrows the members of `list` equals its copy.
 fn equals_copy_of_borrowed<A: SmallAllocator>(alloc: A, list: &Families<'_, A>) -> bool {
     let borrowed = Families::new_const(list.as_slice());
     is_ok_true(value_equals(borrowed.try_clone(alloc), &borrowed))
 }
 
-// Whether this is the list of `unix` and `wasm`.
+// Returns whether `list` was made and is the list of `unix` and `wasm`.
 fn is_unix_wasm<A: SmallAllocator>(
     global: Global,
     alloc: A,
@@ -83,7 +83,7 @@ fn is_unix_wasm<A: SmallAllocator>(
     }
 }
 
-// Whether a list of families is made right.
+// Returns whether the list that `unix_wasm` makes has these families.
 fn makes_families<A: SmallAllocator>(global: Global, heap: Heap<'_>, alloc: A) -> bool {
     heap.refuse(0);
     let list = Families::unix_wasm(alloc);
@@ -91,7 +91,7 @@ fn makes_families<A: SmallAllocator>(global: Global, heap: Heap<'_>, alloc: A) -
     is_unix_wasm(global, alloc, &list)
 }
 
-// Whether two lists of the same families are equal, and below a third list.
+// Returns whether two lists of the same families are equal, and below a third list.
 fn compares_families<A: SmallAllocator>(heap: Heap<'_>, alloc: A) -> bool {
     heap.refuse(0);
     let list = Families::unix_wasm(alloc);
@@ -101,31 +101,31 @@ fn compares_families<A: SmallAllocator>(heap: Heap<'_>, alloc: A) -> bool {
     is_made_and_ordered(&list, &same, &above)
 }
 
-// Whether a list that borrows no families is empty.
+// Returns whether a list that borrows no families is empty.
 fn borrows_no_families() -> bool {
     let list: Families<'_> = Families::new_const(&[]);
     list.as_slice().is_empty()
 }
 
-// Whether the list was made and is empty.
+// Returns whether the list was made and is empty.
 fn is_empty<T: Member, A: SmallAllocator>(list: &AllocResult<SortedList<'_, T, A>>) -> bool {
     matches!(list, Ok(list) if list.as_slice().is_empty())
 }
 
-// Whether a list of no families is empty.
+// Returns whether a list of no families is empty.
 fn makes_no_families<A: SmallAllocator>(alloc: A) -> bool {
     let none: Vec<Family<'_, A>, A> = Vec::new(alloc);
     is_empty(&Families::new(alloc, none.into_iter()))
 }
 
-// Whether the families are in order.
+// Returns whether the families are in order.
 fn are_sorted(families: [Family<'_>; 2]) -> bool {
     let are_sorted = Families::<Global>::is_sorted(&families);
     drop(families);
     are_sorted
 }
 
-// Whether `is_sorted` tells widths in order from widths out of order.
+// Returns whether `is_sorted` tells widths in order from widths out of order.
 fn tells_sorted_widths() -> bool {
     HasAtomics::<Global>::is_sorted(SORTED) && !HasAtomics::<Global>::is_sorted(UNSORTED)
 }
@@ -144,8 +144,13 @@ list of no families
 borrowed list of no families
 "#;
 
-/// Whether the check with the name `check` passes, with every growth refused.
-pub(super) fn passes<A: SmallAllocator>(global: Global, heap: Heap<'_>, alloc: A, check: &str) -> bool {
+/// Returns whether the check with the name `check` passes, with every growth refused.
+pub(super) fn passes<A: SmallAllocator>(
+    global: Global,
+    heap: Heap<'_>,
+    alloc: A,
+    check: &str,
+) -> bool {
     match check {
         "rising families" => are_sorted([Family::unix(), Family::wasm()]),
         "falling families" => !are_sorted([Family::wasm(), Family::unix()]),

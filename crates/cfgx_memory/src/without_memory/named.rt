@@ -4,7 +4,8 @@ use cfg_expr::memory::SmallAllocator;
 use cfgx_fields::{Abi, Arch, Env, Family, Field, Os, Panic, Vendor};
 use std::alloc::Allocator;
 
-// Whether the fields have `texts`, and there are `count` of them. Spaces separate the texts.
+// Returns whether the fields have `texts`, and there are `count` of them. Spaces separate the
+// texts.
 fn have_texts<K: Drop, A: Allocator>(
     fields: &[Field<'_, K, A>],
     texts: &'static str,
@@ -65,7 +66,7 @@ fn panic_strategies_are_named<A: SmallAllocator>() -> bool {
     named!(2 Panic abort unwind)
 }
 
-/// Whether the named values of the type with the name `name` have the right texts.
+/// Returns whether the named values of the type with the name `name` have the right texts.
 pub(super) fn named_values_are_right<A: SmallAllocator>(name: &str) -> bool {
     match name {
         "abis" => abis_are_named::<A>(),

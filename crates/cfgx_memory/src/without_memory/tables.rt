@@ -58,13 +58,14 @@ fn refusal<A: SmallAllocator>(rows: Rows<'_, A>) -> AllocResult<(Option<usize>, 
     }
 }
 
-// Whether there are three rows, of which the first two are equal and the third is above both.
+// Returns whether there are three rows, of which the first two are equal and the third is above
+// both.
 fn are_ordered_rows<A: SmallAllocator>(rows: &[TargetInfo<'_, A>]) -> bool {
     matches!(rows, [one, same, above] if is_ordered(one, same, above))
 }
 
 // Makes a table of the rows with the three triples. Returns whether it is refused at `index`, or
-// made if `index` is `None`, and whether `are_ordered_rows` returns `are_ordered` for the rows.
+// made if `index` is `None`, and `are_ordered_rows` returns `are_ordered` for the rows.
 fn table_is<A: SmallAllocator>(
     heap: Heap<'_>,
     alloc: A,
@@ -78,7 +79,7 @@ fn table_is<A: SmallAllocator>(
     is_right && refusal == Ok((index, 3))
 }
 
-// Whether the table has a row with the triple `triple`.
+// Returns whether the table has a row with the triple `triple`.
 fn has_triple<A: SmallAllocator>(table: &TargetTable<'_, A>, triple: &str) -> bool {
     match get_builtin_target_by_triple(table, triple) {
         Some(row) => row.triple.as_str() == triple,
@@ -86,7 +87,8 @@ fn has_triple<A: SmallAllocator>(table: &TargetTable<'_, A>, triple: &str) -> bo
     }
 }
 
-// Whether rows of the table are found by their triples, and no row by a prefix of its triple.
+// Returns whether rows of the table are found by their triples, and no row by a prefix of its
+// triple.
 fn finds_rows<A: SmallAllocator>(table: &AllocResult<TargetTable<'_, A>>) -> bool {
     match table {
         Ok(table) => {
@@ -99,7 +101,7 @@ fn finds_rows<A: SmallAllocator>(table: &AllocResult<TargetTable<'_, A>>) -> boo
     }
 }
 
-// Whether rows of the table of built-in targets are found.
+// Returns whether rows of the table of built-in targets are found.
 fn finds_builtin_rows<A: SmallAllocator>(heap: Heap<'_>, alloc: A) -> bool {
     heap.refuse(0);
     let table = TargetTable::builtins(alloc);
@@ -107,7 +109,7 @@ fn finds_builtin_rows<A: SmallAllocator>(heap: Heap<'_>, alloc: A) -> bool {
     finds_rows(&table)
 }
 
-// Whether `pick` of no sections returns no verdict.
+// Returns whether `pick` returns an empty list for an empty list of sections.
 fn picks_of_no_sections<A: SmallAllocator>(alloc: A) -> bool {
     let sections: Vec<Section<A>, A> = Vec::new(alloc);
     matches!(pick(alloc, sections.as_slice(), &Nowhere), Ok(verdicts) if verdicts.is_empty())
@@ -122,7 +124,7 @@ built in
 no sections
 "#;
 
-// Whether the check with the name `check` passes.
+// Returns whether the check with the name `check` passes.
 fn passes<A: SmallAllocator>(heap: Heap<'_>, alloc: A, check: &str) -> bool {
     match check {
         "a table" => table_is(heap, alloc, &[DARWIN, MACABI, TVOS], None, false),
@@ -134,7 +136,7 @@ fn passes<A: SmallAllocator>(heap: Heap<'_>, alloc: A, check: &str) -> bool {
     }
 }
 
-/// Whether the check of the row passes, with every growth refused.
+/// Returns whether the check of the row passes, with every growth refused.
 pub(super) fn row_passes<A: SmallAllocator>(heap: Heap<'_>, alloc: A, row: &[String]) -> bool {
     let [check] = row else {
         return false;

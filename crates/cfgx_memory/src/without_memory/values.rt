@@ -31,7 +31,8 @@ const FUNCTIONS: [Func; 6] = [
     Func::Any(1),
 ];
 
-// Whether `value` compares with each of the values as `index` does with the index of that value.
+// Returns whether `value` compares with each of the values as `index` does with the index of that
+// value.
 fn compares_by_index<T: Ord>(values: &[T], index: usize, value: &T) -> bool {
     for (other_index, other) in values.iter().enumerate() {
         let order = index.cmp(&other_index);
@@ -46,7 +47,7 @@ fn compares_by_index<T: Ord>(values: &[T], index: usize, value: &T) -> bool {
     true
 }
 
-// Whether the values are in strictly increasing order.
+// Returns whether the values are in strictly increasing order.
 fn are_increasing<T: Ord>(values: &[T]) -> bool {
     for (index, value) in values.iter().enumerate() {
         if !compares_by_index(values, index, value) {
@@ -56,7 +57,7 @@ fn are_increasing<T: Ord>(values: &[T]) -> bool {
     true
 }
 
-// Whether byte orders are read from their names, and from no other text.
+// Returns whether byte orders are read from their names, and from no other text.
 fn reads_byte_orders() -> bool {
     let other = Err(Reason::Unexpected(&["big", "little"]));
     Endian::from_str("big") == Ok(Endian::big)
@@ -65,7 +66,7 @@ fn reads_byte_orders() -> bool {
         && Endian::from_str("") == other
 }
 
-// Whether the text is read as `width`.
+// Returns whether the text is read as `width`.
 fn reads_width<A: SmallAllocator>(alloc: A, text: &str, width: HasAtomic) -> bool {
     is_ok_true(value_equals(HasAtomic::read(alloc, text), &width))
 }
@@ -74,7 +75,7 @@ fn prints_widths(global: Global) -> bool {
     prints(global, &EIGHT, "8") && prints(global, &HasAtomic::Pointer, "ptr")
 }
 
-// Whether reasons are equal if they are the same, and print their message.
+// Returns whether reasons are equal exactly if they are the same, and a reason prints its message.
 fn compares_reasons(global: Global) -> bool {
     let reason = Reason::InvalidNot(2);
     reason == Reason::InvalidNot(2)
@@ -84,7 +85,7 @@ fn compares_reasons(global: Global) -> bool {
         && prints(global, &reason, "not() takes 1 predicate, found 2")
 }
 
-// Whether tokens are equal if they are the same, and print their variant.
+// Returns whether tokens are equal exactly if they are the same, and a token prints its variant.
 fn compares_tokens(global: Global) -> bool {
     Token::Key("a") == Token::Key("a")
         && Token::Key("a") != Token::Value("a")
@@ -92,7 +93,7 @@ fn compares_tokens(global: Global) -> bool {
         && prints(global, &Token::OpenParen, "OpenParen")
 }
 
-// Whether predicates are equal if they have the same kind and the same text.
+// Returns whether predicates are equal exactly if they have the same kind and the same text.
 fn compares_predicates<A: SmallAllocator>() -> bool {
     let abi = TargetPredicate::<A>::Abi(Abi::sim());
     let same = TargetPredicate::Abi(Abi::new_const("sim"));
@@ -104,7 +105,7 @@ fn compares_verdicts() -> bool {
     Verdict::Yes == Verdict::Yes && Verdict::Yes != Verdict::No && Verdict::No != Verdict::Unknown
 }
 
-// Whether a stream has no failed call at first.
+// Returns whether a stream has no failed call at first.
 fn counts_from_zero() -> bool {
     let counted = Counted::new(Pieces::new(b"ab", ALL, 0));
     counted.failures() == 0 && counted.get_ref().left == b"ab".as_slice()
@@ -140,7 +141,7 @@ logic option
 logic lanes
 "#;
 
-// Whether the check with the name `check` passes. It takes no memory at all.
+// Returns whether the check with the name `check` passes. The check never allows a growth.
 fn passes_alone<A: SmallAllocator>(global: Global, alloc: A, check: &str) -> bool {
     match check {
         "order of functions" => are_increasing(&FUNCTIONS),
@@ -161,9 +162,14 @@ fn passes_alone<A: SmallAllocator>(global: Global, alloc: A, check: &str) -> boo
     }
 }
 
-/// Whether the check with the name `check` passes, with every growth refused. Errors are made with
-/// memory.
-pub(super) fn passes<A: SmallAllocator>(global: Global, heap: Heap<'_>, alloc: A, check: &str) -> bool {
+/// Returns whether the check with the name `check` passes, with every growth refused. Errors are
+/// made with memory.
+pub(super) fn passes<A: SmallAllocator>(
+    global: Global,
+    heap: Heap<'_>,
+    alloc: A,
+    check: &str,
+) -> bool {
     match check.split_once(' ') {
         Some(("named", name)) => named_values_are_right::<A>(name),
         Some(("logic", name)) => logic_is_right(name),

@@ -7,6 +7,7 @@ use Rattle.cfgx_grammar.specs.Tree.{Tree}
 use Rattle.cfgx_grammar.specs.Answer.{HasOneTree}
 use Rattle.cfgx_parser.specs.nodes.Located.{HasCut, question_at}
 use Rattle.cfgx_parser.specs.nodes.Prefix.{node_at, prefix, places}
+use Rattle.cfgx_parser.specs.nodes.ReadFrom.{AreRead, inner_node}
 use Rattle.cfgx_parser.specs.nodes.WritesNodes.{NodeHasCut}
 use Rattle.cfgx_parser.specs.declared.nodes.InnerPredicate.{InnerPredicate}
 use Rattle.cfgx_parser.specs.declared.nodes.ExprNode.{ExprNode}
@@ -19,11 +20,13 @@ pub record KeepsTree (text : List ℕ) (nodes : List ExprNode) (kept_places : Li
   pub cuts : AllByRecursion (NodeHasCut text) nodes
   pub places_are : kept_places ≡ places 0 tree
 
--- the nodes and the places are those of the text's one tree
+-- the nodes and the places are those of the text's one tree, and the predicates among the nodes
+-- were read from its tokens
 pub record KeepsOneTree (text : List ℕ) (nodes : List ExprNode) (kept_places : List ℕ) : Type 0
   where
     pub one : HasOneTree text
     pub keeps : KeepsTree text nodes kept_places one.tree
+    pub read : AreRead text (map inner_node nodes)
 
 abbrev pub predicate_of : ExprNode → Option InnerPredicate
 predicate_of (node.Fn func len) = None

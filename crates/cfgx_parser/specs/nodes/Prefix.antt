@@ -14,6 +14,12 @@ pub data Node (X : Type 0) : Type 0 where
   literal : Bool → Node X
   function : Func → ℕ → Node X
 
+-- the node with `f` of its leaf
+abbrev pub node_map : {X Y : Type 0} → (X → Y) → Node X → Node Y
+node_map f (Node.leaf x) = Node.leaf (f x)
+node_map f (Node.literal truth) = Node.literal truth
+node_map f (Node.function func len) = Node.function func len
+
 abbrev pub node_at : List ℕ → ExprNode → Node Question
 node_at text (node.Fn func len) = Node.function func len
 node_at text (node.Predicate predicate) = Node.leaf (question_at text predicate)

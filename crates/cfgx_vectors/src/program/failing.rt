@@ -52,7 +52,7 @@ fn ended_text(
     format!(in alloc; "{status} | {written} | {writes} {flushes} | with a wrong call of a stream")
 }
 
-// Compares a run with the row, whose settings apply to the sink.
+// Compares a run of `words` over `input` with `ended`. The settings apply to the sink.
 fn compare_ended(
     alloc: Global,
     settings: &str,
@@ -72,7 +72,7 @@ fn compare_ended(
     }
 }
 
-/// Compares a run with the words of the row with the row.
+/// Compares a run of the words of the row with what the row says.
 pub(super) fn finding(alloc: Global, row: &[String]) -> Option<Finding> {
     let [settings, status, written, calls, input, words @ ..] = row else {
         return None;
@@ -120,8 +120,8 @@ pub(super) fn ends_at_each_write(
     true
 }
 
-// Returns whether a run ends with status 3 if read number `failing` fails, reads no more, and makes
-// no call of its sink, whose calls would fail too.
+// Returns whether a run in which read number `failing` fails ends with status 3, leaves `left`
+// unread, reads no more, and makes no call of its sink. Such a call would fail too.
 fn ends_at_read(alloc: Global, input: &[u8], failing: u64, left: &[u8]) -> bool {
     let mut source = Pieces::new(input, 3, failing);
     let mut sink = Recorder::new(alloc);

@@ -85,7 +85,7 @@ fn error_of_row(alloc: Global, text: &str, fault: &str) -> Option<ParseError> {
     error_of(alloc, text, span_of(span)?, name)
 }
 
-// Compares the fault as rows write it with `fault`, and what it prints with `printed`.
+// Compares the fault, as rows write it, with `fault`, and what the fault prints with `printed`.
 fn compare_printed(alloc: Global, error: &ParseError, fault: &str, printed: &str) -> Finding {
     compare(alloc, fault_text(alloc, error), fault)?;
     compare(alloc, format!(in alloc; "{error}"), printed)

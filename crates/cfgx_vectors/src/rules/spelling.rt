@@ -72,8 +72,8 @@ fn spell_one(predicate: Predicate<'_>, writer: &mut Slow) -> io::Result<()> {
     spelled
 }
 
-// Returns whether the writer has the spelling, no call had an empty slice, and each call took as
-// many bytes as it may.
+// Returns whether the writer has the spelling, and no call had an empty slice. If a call takes at
+// most one byte, there must be one call for each byte.
 fn has_spelling(writer: &Slow, spelled: &str) -> bool {
     let sink = &writer.sink;
     !sink.is_misused

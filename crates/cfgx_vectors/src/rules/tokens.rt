@@ -62,7 +62,8 @@ fn has_ended(lexer: &mut Lexer<'_>) -> bool {
     true
 }
 
-// Compares all items of the lexer with `items`, and the bytes before them with `before`.
+// Compares all items of the lexer with `items`, and the number of bytes that are left before them
+// with `before`.
 fn compare_all(alloc: Global, lexer: &mut Lexer<'_>, before: &str, items: &[String]) -> Finding {
     let actual = with_left(alloc, Ok(String::new(alloc)), lexer.items_left_bound());
     compare(alloc, actual, before)?;

@@ -1,5 +1,6 @@
-//! Values of conditions on targets, by `eval`, in lanes and by `pick`. In digits, `1` is true, `0`
-//! is false, and `?`, which counts as a digit here, is unknown.
+//! Compares the values of conditions on targets with digits. The values are found by `eval`, in
+//! lanes, and by `pick`. The digit `1` is true, `0` is false, and `?`, which counts as a digit
+//! here, is unknown.
 use cfg_expr::error::Failure;
 use cfg_expr::expr::logic::Kleene64;
 use cfg_expr::expr::{Predicates, TargetMatcher};
@@ -22,7 +23,8 @@ by-hand os=windows arch=x86 env=msvc vendor=uwp windows bits=32
 aarch64-apple-darwin os=macos vendor=apple unix atomics
 ";
 
-// Targets, as rows of a table of targets, and what they answer to other predicates.
+// Targets, as rows of a table of targets, and their one answer to each predicate that is not about
+// targets.
 #[derive(Clone, Copy)]
 struct Targets<'a> {
     rows: &'a [TargetInfo<'a>],
@@ -39,7 +41,8 @@ fn answer_on<T: TargetMatcher>(predicate: &Predicate<'_>, target: &T, otherwise:
     }
 }
 
-// Returns the answers of at most 64 targets to `predicate`, in lanes.
+// Returns the answers of at most 64 targets to `predicate`, in lanes. Each lane is `otherwise` if
+// there are more targets, or if `predicate` is not about targets.
 fn lanes_on(predicate: &Predicate<'_>, targets: Targets<'_>) -> Kleene64 {
     match predicate {
         Predicate::Target(asked) if targets.rows.len() <= 64 => asked.lanes(targets.rows),
@@ -47,15 +50,15 @@ fn lanes_on(predicate: &Predicate<'_>, targets: Targets<'_>) -> Kleene64 {
     }
 }
 
-// Returns the answers of at most 64 targets to an owned `predicate`, and drops it.
+// Returns what `lanes_on` returns for `predicate`, and drops `predicate`.
 fn lanes_on_owned(predicate: Predicate<'_>, targets: Targets<'_>) -> Kleene64 {
     let lanes = lanes_on(&predicate, targets);
-    // By name: docs/DECISIONS.md says why, under "Tests".
+    // `drop` is called explicitly; `docs/DECISIONS.md` says why, under "Tests".
     drop(predicate);
     lanes
 }
 
-// Returns the answers of at most 64 targets to each of `predicates`, in lanes.
+// Returns what `lanes_on` returns for each of `predicates`.
 fn answers_on(
     alloc: Global,
     predicates: Predicates<'_>,
@@ -92,8 +95,8 @@ fn eval_digits(
     Ok(digits)
 }
 
-// Returns whether the values of `expression` in lanes, by `eval` over lanes and by `eval_lanes`,
-// match `digits`.
+// Returns whether the values of `expression` in lanes, by `eval` and by `eval_in_lanes`, are the
+// same and match `digits`.
 fn lanes_match(
     alloc: Global,
     expression: &Expression,
@@ -138,7 +141,8 @@ fn section_of(alloc: Global, text: &str) -> Result<Section, Failure> {
     Ok(Section { name, condition })
 }
 
-// Returns the digit of the single verdict in `verdicts`, or `x` if there is not one verdict.
+// Returns the digit of the single verdict in `verdicts`, or `x` if `verdicts` does not have exactly
+// one item.
 fn digit_of_verdict(verdicts: &[Verdict]) -> char {
     match verdicts {
         [verdict] => digit_of(match verdict {
@@ -176,8 +180,7 @@ fn parse_and_pick_digits(
     Ok(pick_digits(alloc, sections.as_slice(), rows)?)
 }
 
-// Compares the values of the condition `text` with `digits`, and the verdicts on it with those of
-// the targets.
+// Compares the values of `text` with `digits`, and the verdicts on it with all digits but the last.
 fn compare_text_and_verdicts(
     alloc: Global,
     rows: &[TargetInfo<'_>],
@@ -213,9 +216,9 @@ fn rows_by_hand(alloc: Global) -> Result<Vec<TargetInfo<'static>>, AllocError> {
     pushed.and(Ok(rows))
 }
 
-/// Compares the values of `text` on the targets that are made by hand with `digits`. Predicates
+/// Compares `digits` with the values of `text` on the targets that are made by hand. Predicates
 /// that are not about targets are true.
-pub(super) fn finding_by_hand(alloc: Global, text: &str, digits: &str) -> Finding {
+pub(super) fn finding_on_hand_made(alloc: Global, text: &str, digits: &str) -> Finding {
     match rows_by_hand(alloc) {
         Ok(rows) => {
             let targets = Targets {
@@ -228,9 +231,9 @@ pub(super) fn finding_by_hand(alloc: Global, text: &str, digits: &str) -> Findin
     }
 }
 
-/// Compares the value of `text` without any target, which is that of all unused lanes, with
-/// `digits`.
-pub(super) fn finding_on_none(alloc: Global, text: &str, digits: &str) -> Finding {
+/// Compares the value of `text` in the unused lanes with `digits`. Without targets, all lanes are
+/// unused.
+pub(super) fn finding_without_targets(alloc: Global, text: &str, digits: &str) -> Finding {
     let targets = Targets {
         rows: &[],
         otherwise: None,

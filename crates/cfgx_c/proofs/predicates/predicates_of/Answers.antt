@@ -1,10 +1,9 @@
--- The nodes and the places are those of the text's one tree, and the spans lie in the stripped text.
+-- The nodes and the places are those of the text's one tree, with spans in the stripped text.
 use Rattle.std.proofs.Common.{◌∙◌, arith, sym, ap}
 use Rattle.std.proofs.lemmas.{Grind.common_steps, List.take_all, List.Elements.filter_map-append}
 use Rattle.cfgx_syntax.specs.Stripping.{strip}
 use Rattle.cfgx_grammar.proofs.Answering.{only_tree}
-use Rattle.cfgx_parser.specs.nodes.Prefix.{places}
-use Rattle.cfgx_c.specs.Predicates.{c_predicates}
+use Rattle.cfgx_parser.specs.nodes.{KeepsTree.KeepsTree, Prefix.places}
 use Rattle.cfgx_c.proofs.Described.{HasCut-at, ListsPredicates-kept, strip-stands}
 use Rattle.cfgx_c.proofs.predicates.predicates_of.Goals as goal
 
@@ -24,11 +23,13 @@ pub returns : goal.returns
 returns c =
     let nodes = rw c.requires at c.nodes-nodes.ensures.nodes in
     let asks = rw c.requires at c.places-place-items.ensures in
-    let all = take_all c.loop-place.place-index c.places-place-items.result.now c.loop-place-test.false in
-    let listed = ListsPredicates-kept c.args.text.now c.nodes-nodes.result.now
-    c.places-place-items.result.now nodes.0 (record {
+    let every = c.places-place-items.result.now in
+    let all = take_all c.loop-place.place-index every c.loop-place-test.false in
+    let keeps : KeepsTree (strip c.args.text.now) c.nodes-nodes.result.now every nodes.0.tree = record {
       nodes_are = nodes.1;
       cuts = rw c.requires at c.nodes-nodes.ensures.cuts;
       places_are = asks.1 ∙ ap (places 0) (only_tree nodes.0 asks.0.tree asks.0.reads.has);
-    }) in
+    } in
+    let listed = ListsPredicates-kept c.args.text.now c.nodes-nodes.result.now every nodes.0 keeps
+    (rw c.requires at c.nodes-nodes.ensures.read) in
     rw (c.loop-place.invariant, all, c.strip_offset-offset.ensures) listed

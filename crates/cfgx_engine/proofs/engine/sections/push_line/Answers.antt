@@ -13,10 +13,9 @@ returns-in_ok-push_section-in-Ok-clause-ok g c =
       read.1 ∙ append_assoc c.args.printed.now.items c.in-Section.name.now _,
     )
 
-pub returns-in_ok-fault_message-in-Err-clause-err
-    : goal.returns-in_ok-fault_message-in-Err-clause-err
-returns-in_ok-fault_message-in-Err-clause-err g c =
+pub returns-in_ok-message-in-Err-clause-err : goal.returns-in_ok-message-in-Err-clause-err
+returns-in_ok-message-in-Err-clause-err g c =
     let fails = Fails-parse {A = g.row.A.Denot} c.in-Section.condition.now _ c.in-Err.ensures in
     let one = shown_fault (failure_of {A = g.row.A.Denot} c.in-Err.failure) fails
-    c.in_ok-fault_message-in-Err.ensures in
+    c.in_ok-message-in-Err.ensures in
     rw c.in-Section.is (Err one.0, one.1, ap Err one.2)

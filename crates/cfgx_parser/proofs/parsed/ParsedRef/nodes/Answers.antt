@@ -11,3 +11,6 @@ returns-clause-few c = rw (← c.self.view_is) (few-nodes c.self.invariant)
 
 pub returns-clause-cuts : goal.returns-clause-cuts
 returns-clause-cuts c = rw (← c.self.view_is) c.self.invariant.keeps.cuts
+
+pub returns-clause-read : goal.returns-clause-read
+returns-clause-read c = rw (← c.self.view_is) c.self.invariant.read
