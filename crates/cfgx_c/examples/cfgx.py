@@ -106,9 +106,9 @@ class Cfgx:
 
     def call(self, name, *arguments):
         """Makes a call, and returns its status."""
-        function = self.library[f"cfgx_{name}"]
-        function.restype = c_uint32
-        function.argtypes = ARGUMENTS[name]
+        function = getattr(self.library, f"cfgx_{name}")
+        if function.argtypes is None:
+            function.argtypes, function.restype = ARGUMENTS[name], c_uint32
         return function(*arguments)
 
     def version(self):
