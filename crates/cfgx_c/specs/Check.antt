@@ -47,14 +47,13 @@ term_lists =
     ∷ (codes "<feature>" ∷ [])
     ∷ target_names ∷ []
 
--- the number of a list of terms, and 0 for every other list
-abbrev pub list_number : List (List ℕ) → ℕ
-list_number terms = option_map_or (λ place. place + 1)
-    (position (texts_eq terms) term_lists) 0
+-- the number of a list in a table, from 1 on, and 0 for a list that is not in it
+abbrev pub number_in : List (List (List ℕ)) → List (List ℕ) → ℕ
+number_in lists terms = option_map_or (λ place. place + 1) (position (texts_eq terms) lists) 0
 
 -- the number of the list of terms of `Unexpected`, and 0 for every other reason
 abbrev pub terms_number : Cause → ℕ
-terms_number (Cause.unexpected terms) = list_number terms
+terms_number (Cause.unexpected terms) = number_in term_lists terms
 terms_number cause = 0
 
 -- the offset of the stripped text in the text: behind `cfg(` if that was stripped

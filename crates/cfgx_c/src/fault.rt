@@ -1,8 +1,8 @@
 // Faults as C sees them.
 
-ghost use Rattle.std.specs.Prelude.{◌≡◌, map};
+ghost use Rattle.std.specs.Prelude.{◌≡◌, ◌<◌, ◌^◌, length, map};
 ghost use Rattle.cfgx_syntax.specs.Error.{cause_of, texts_eq};
-ghost use Rattle.cfgx_c.specs.Check.{c_fault, list_number, member_count, reason_number};
+ghost use Rattle.cfgx_c.specs.Check.{c_fault, member_count, number_in, reason_number};
 ghost use Rattle.cfgx_c.specs.Check.{strip_offset, terms_number};
 
 use cfg_expr::error::{ParseError, Reason};
@@ -93,12 +93,14 @@ fn are_same_terms(terms: &[&str], others: &[&str]) -> bool
     terms == others
 }
 
-/// Returns the number of a list of terms, or 0 if it is none of `TERM_LISTS`.
-fn list_number(terms: &[&str]) -> u32
-    ensures { result ≡ list_number (map (λ t. t.now) terms.now) }
+/// Returns the number of a list of terms in `lists`, from 1 on, or 0 if it is not there.
+fn number_in(lists: &[&[&str]], terms: &[&str]) -> u32
+    requires { length lists.now < 2 ^ 32 }
+    ensures { result ≡ number_in (map (λ list. map (λ t. t.now) list.now) lists.now)
+        (map (λ t. t.now) terms.now) }
 {
     let mut number = 0;
-    for list in TERM_LISTS {
+    for list in lists {
         number += 1;
         if are_same_terms(terms, list) {
             return number;
@@ -112,7 +114,7 @@ fn terms_number(reason: Reason) -> u32
     ensures { result ≡ terms_number (cause_of reason) }
 {
     match reason {
-        Reason::Unexpected(terms) => list_number(terms),
+        Reason::Unexpected(terms) => number_in(TERM_LISTS, terms),
         _ => 0,
     }
 }

@@ -47,8 +47,9 @@ pub extern "C" fn cfgx_run(
     let mut reader = SliceSource { left: input };
     let mut writer = VecSink::new(alloc);
     let status = u32::from(run(alloc, words.as_slice(), &mut reader, &mut writer));
-    if status != OUT_OF_MEMORY {
-        *needed = fill(output, writer.bytes.as_slice());
+    if status == OUT_OF_MEMORY {
+        return OUT_OF_MEMORY;
     }
+    *needed = fill(output, writer.bytes.as_slice());
     status
 }
