@@ -25,7 +25,20 @@ static void *new_block(size_t count, size_t size)
     return block;
 }
 
-/* Prints the name of the kind, and then the key, the value or the number if there is one. */
+/* Prints the byte order or the width if the predicate has one. */
+static void print_number(const struct cfgx_predicate *predicate)
+{
+    if (predicate->kind == CFGX_PREDICATE_ENDIAN) {
+        printf(" %s", predicate->number == CFGX_ENDIAN_BIG ? "big" : "little");
+    } else if (predicate->number == CFGX_ATOMIC_POINTER) {
+        printf(" ptr");
+    } else if (predicate->kind == CFGX_PREDICATE_HAS_ATOMIC
+               || predicate->kind == CFGX_PREDICATE_POINTER_WIDTH) {
+        printf(" %u", (unsigned)predicate->number);
+    }
+}
+
+/* Prints the name of the kind, and then the key, the value and the number if there is one. */
 static void print_predicate(const char *text, const struct cfgx_predicate *predicate)
 {
     size_t key = predicate->key_end - predicate->key_start;
@@ -37,9 +50,7 @@ static void print_predicate(const char *text, const struct cfgx_predicate *predi
     if (value > 0) {
         printf(" %.*s", (int)value, text + predicate->value_start);
     }
-    if (predicate->number > 0) {
-        printf(" %u", (unsigned)predicate->number);
-    }
+    print_number(predicate);
     printf("\n");
 }
 

@@ -8,13 +8,23 @@ import sys
 from cfgx import KINDS, Cfgx
 
 
+def number_of(kind, number):
+    """Returns the byte order or the width, or an empty text if the predicate has none."""
+    if kind == "endian":
+        return "little" if number else "big"
+    if kind in ("has_atomic", "pointer_width"):
+        return "ptr" if number == 65536 else str(number)
+    return ""
+
+
 def describe(text, predicate):
-    """Returns the name of the kind, and then the key, the value or the number if there is one."""
+    """Returns the name of the kind, and then the key, the value and the number if there is one."""
+    kind = KINDS[predicate.kind]
     parts = (
-        KINDS[predicate.kind].encode(),
+        kind.encode(),
         text[predicate.key_start:predicate.key_end],
         text[predicate.value_start:predicate.value_end],
-        str(predicate.number or "").encode(),
+        number_of(kind, predicate.number).encode(),
     )
     return b" ".join(part for part in parts if part)
 

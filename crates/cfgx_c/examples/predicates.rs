@@ -14,17 +14,25 @@ const KINDS: [&str; 18] = [
     "pointer_width", "vendor",
 ];
 
-/// Returns the name of the kind, and then the key, the value or the number if there is one.
+/// Returns the byte order or the width, or an empty text if the predicate has none.
+fn number_of(kind: &str, number: u32) -> String {
+    match (kind, number) {
+        ("endian", 0) => "big".to_string(),
+        ("endian", _) => "little".to_string(),
+        ("has_atomic", 65536) => "ptr".to_string(),
+        ("has_atomic" | "pointer_width", width) => width.to_string(),
+        _ => String::new(),
+    }
+}
+
+/// Returns the name of the kind, and then the key, the value and the number if there is one.
 fn describe(text: &str, predicate: &Predicate) -> String {
-    let number = match predicate.number {
-        0 => String::new(),
-        number => number.to_string(),
-    };
+    let kind = KINDS[predicate.kind as usize];
     let parts = [
-        KINDS[predicate.kind as usize],
+        kind,
         &text[predicate.key_start..predicate.key_end],
         &text[predicate.value_start..predicate.value_end],
-        &number,
+        &number_of(kind, predicate.number),
     ];
     let shown: Vec<&str> = parts.into_iter().filter(|part| !part.is_empty()).collect();
     shown.join(" ")
