@@ -3,3 +3,4 @@ pub mod Parities
 pub mod Parts
 pub mod Rooms
 pub mod evaluated
+pub mod stepped

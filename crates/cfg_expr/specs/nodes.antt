@@ -1,5 +1,7 @@
--- How the nodes of a `ParsedRef` are evaluated and its answers are filled. Internal: no public
--- contract cites this.
+-- How the nodes of a `ParsedRef` are evaluated, how its answers are filled, and how steps are made
+-- and run. Internal: no public contract cites this.
 pub mod AnswerSlots
 pub mod Parity
 pub mod Reading
+pub mod StepKinds
+pub mod StepValues

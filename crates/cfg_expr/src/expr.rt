@@ -6,12 +6,14 @@ ghost use Rattle.cfgx_grammar.specs.Answer.{Answers};
 ghost use Rattle.cfg_expr.specs.Deciding.{AreFillings, Decides, IsExactOverAll};
 ghost use Rattle.cfg_expr.specs.Evaluation.{AsksInOrder, EvaluatesTo, MayEvaluate};
 ghost use Rattle.cfg_expr.specs.Evaluation.{IsByLaneOverAll, IsValueInLanes};
+ghost use Rattle.cfg_expr.specs.Steps.{AreSteps};
 
 mod condition;
 mod evaluating;
 mod filling;
 pub mod laws;
 mod spelling;
+mod steps;
 
 use crate::error::Failure;
 use crate::memory::SmallAllocator;
@@ -27,6 +29,7 @@ pub use spelling::spell;
 use std::alloc::{AllocError, Allocator, Global};
 use std::fmt;
 use std::marker::Model;
+pub use steps::{Step, StepsError, eval_steps, steps_of};
 
 /// A parsed condition. Contracts see it as its stripped text.
 #[derive(Drop)]
@@ -241,5 +244,19 @@ impl<A: SmallAllocator> Expression<A> {
         ensures short { length self.now ≤ 32 → IsOk result }
     {
         self.condition().eval_lanes(alloc, answers)
+    }
+    /// Compiles the condition to steps, which ask its predicates in the order of `predicates`. Run
+    /// with a stack, by `eval_steps` or by a loop in any language, they give what `eval` gives.
+    ///
+    /// A predicate, a literal and a function are one step each, and the step of a function comes
+    /// after those of its members: first its functions, and then its predicates and literals.
+    ///
+    /// # Errors
+    ///
+    /// `AllocError`: `alloc` refused memory.
+    pub fn steps(&self, alloc: A) -> Result<Vec<Step, A>, AllocError>
+        ensures { IfOk result (λ steps. AreSteps self.now steps.items) }
+    {
+        self.condition().steps(alloc)
     }
 }

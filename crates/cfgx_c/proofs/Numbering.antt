@@ -1,5 +1,5 @@
 -- The number of the first item that passes a test, from 1 on.
-use Rattle.std.proofs.Common.{◌≡◌, ◌<◌, ◌≤◌, ◌+◌, ℕ, Bool, true, false, List, arith, get_or, length, refl}
+use Rattle.std.proofs.Common.{◌≡◌, ◌<◌, ◌+◌, ℕ, Bool, true, false, List, arith, get_or, length}
 use Rattle.std.specs.{List.position, Option.option_map_or}
 use Rattle.std.proofs.lemmas.List.Sums.{position_or_len_is}
 
@@ -16,5 +16,5 @@ module _ {X : Type 0} (test : X → Bool) (items : List X) (default : X) where
       → option_map_or (λ place. place + 1) (position test items) 0 ≡ 0
   number-none others =
       let is = position_or_len_is test items (length items) default (omega arith) others
-          (λ below. absurd (omega arith)) in
+      (λ below. absurd (omega arith)) in
       grind (arith, is)

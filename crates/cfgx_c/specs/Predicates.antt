@@ -58,13 +58,14 @@ abbrev pub atomic_number : HasAtomic → ℕ
 atomic_number (atomic.IntegerSize bits) = bits
 atomic_number atomic.Pointer = 65536
 
+-- the number of a predicate on the target: that of a width, of an atomic or of a byte order, else 0
 abbrev pub target_number : TargetQuestion → ℕ
 target_number (TargetQuestion.endian order) = endian_number order
 target_number (TargetQuestion.has_atomic width) = atomic_number width
 target_number (TargetQuestion.pointer_width width) = width
 target_number _ = 0
 
--- the number of a width, of an atomic or of a byte order, and 0 for every other predicate
+-- the number of a predicate, and 0 if it is not on the target
 abbrev pub number_of : Question → ℕ
 number_of (Question.target question) = target_number question
 number_of _ = 0
@@ -75,6 +76,7 @@ key_text (Question.flag key) = Some key
 key_text (Question.key_value key value) = Some key
 key_text _ = None
 
+-- the value of a predicate on the target, if the number does not say it
 abbrev pub target_text : TargetQuestion → Option (List ℕ)
 target_text (TargetQuestion.abi text) = Some text
 target_text (TargetQuestion.arch text) = Some text
@@ -114,6 +116,7 @@ abbrev pub key_span : InnerPredicate → Option Span
 key_span (inner.Other key value) = Some key
 key_span _ = None
 
+-- the span of the value of a node's predicate on the target, if the number does not say it
 abbrev pub target_span : InnerTarget → Option Span
 target_span (target.Abi span) = Some span
 target_span (target.Arch span) = Some span
@@ -165,7 +168,7 @@ pub record ListsPredicates (text : List ℕ) (predicates : List CfgxPredicate) :
   pub each : AllZip (Describes text) (asked one.tree) predicates
   pub in_place : AreInPlace text predicates
 
--- the predicates at these places as C sees them
+-- the predicates at these places as C sees them; the loop of `predicates_of` lists them
 abbrev pub c_predicates : List ℕ → ℕ → List ExprNode → List ℕ → List CfgxPredicate
 c_predicates text offset nodes places = filter_map (λ place. option_map (c_predicate text offset)
     (predicate_at nodes place)) places

@@ -3,6 +3,7 @@
 //! All tables share one test and one closure.
 use crate::auditing::AUDITED;
 use crate::calling::ANSWERS;
+use crate::evaluating::steps::{STEPS, VALUES_OF_STEPS};
 use crate::evaluating::{BY_FLAGS, TERMS};
 use crate::{auditing, calling, evaluating};
 use cfgx_testing::rows::{Finding, TableToCheck, check_tables};
@@ -14,6 +15,8 @@ const TABLES: &[TableToCheck<'static>] = &[
     ("verdicts on many targets", AUDITED, 6),
     ("values with flags", BY_FLAGS, 5),
     ("terms and questions", TERMS, 12),
+    ("steps and their values", STEPS, 9),
+    ("values of steps", VALUES_OF_STEPS, 20),
 ];
 
 // Returns whether the row passes the check, or `None` if no check has this name.
@@ -23,6 +26,8 @@ fn row_is_right(alloc: Global, check: &str, row: &[String]) -> Option<bool> {
         "verdicts on many targets" => Some(auditing::row_is_right(alloc, row)),
         "values with flags" => Some(evaluating::value_is_right(alloc, row)),
         "terms and questions" => Some(evaluating::terms_are_right(alloc, row)),
+        "steps and their values" => Some(evaluating::steps::steps_are_right(alloc, row)),
+        "values of steps" => Some(evaluating::steps::value_is_right(alloc, row)),
         _ => None,
     }
 }

@@ -4,6 +4,7 @@ ghost use Rattle.cfg_expr.specs.Evaluation.{IsValueBy};
 ghost use Rattle.cfg_expr.specs.Words.{HasOneTree, asked, question_of};
 ghost use Rattle.cfgx_examples.specs.Examples.{is_among, term_of};
 
+pub mod steps;
 pub mod terms;
 
 use cfg_expr::expr::Logic;

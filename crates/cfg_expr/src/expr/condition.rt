@@ -6,8 +6,9 @@ ghost use Rattle.cfgx_grammar.specs.Answer.{Answers};
 ghost use Rattle.cfg_expr.specs.Deciding.{AreFillings, Decides, IsExactOverAll};
 ghost use Rattle.cfg_expr.specs.Evaluation.{AsksInOrder, EvaluatesTo, MayEvaluate};
 ghost use Rattle.cfg_expr.specs.Evaluation.{IsByLaneOverAll, IsValueInLanes};
+ghost use Rattle.cfg_expr.specs.Steps.{AreSteps};
 
-use super::{Decision, Logic, Predicate, evaluating, filling};
+use super::{Decision, Logic, Predicate, Step, evaluating, filling, steps};
 use crate::error::Failure;
 use crate::memory::SmallAllocator;
 use cfgx_parser::parsed::{ParsedRef, TextReader};
@@ -133,6 +134,17 @@ impl<'a> Condition<'a> {
     {
         prove!(are_disjoint(answers));
         evaluating::eval_over_answers(alloc, &self.parsed, answers)
+    }
+
+    /// Compiles the condition to steps, as `Expression::steps` does.
+    ///
+    /// # Errors
+    ///
+    /// `AllocError`: `alloc` refused memory.
+    pub fn steps<A: SmallAllocator>(&self, alloc: A) -> Result<Vec<Step, A>, AllocError>
+        ensures { IfOk result (λ steps. AreSteps self.now steps.items) }
+    {
+        steps::steps_of(alloc, &self.parsed)
     }
 }
 

@@ -90,7 +90,7 @@ pub(crate) enum Connective {
 
 impl Connective {
     /// Returns the value of a function without members.
-    fn identity<T: Logic>(self) -> T
+    pub(super) fn identity<T: Logic>(self) -> T
         ensures { result ≡ identity_of T.Logic self }
     {
         match self {
@@ -100,7 +100,7 @@ impl Connective {
     }
 
     /// Returns `value` joined with `member`.
-    fn join<T: Logic>(self, value: T, member: T) -> T
+    pub(super) fn join<T: Logic>(self, value: T, member: T) -> T
         ensures { result ≡ join_of T.Logic self value member }
     {
         match self {
@@ -137,7 +137,7 @@ impl Connective {
 }
 
 /// Returns the value of a literal.
-fn literal_value<T: Logic>(truth: bool) -> T
+pub(super) fn literal_value<T: Logic>(truth: bool) -> T
     ensures { result ≡ literal_value T.Logic truth }
 {
     if truth { T::top() } else { T::bottom() }

@@ -1,6 +1,6 @@
 //! Laws on the values of all conditions, for proofs of callers. Each function does nothing, and its
 //! caller knows what it ensures.
-ghost use Rattle.std.specs.Prelude.{◌≡◌, ℕ, ◌<◌, Bool, List, length, map};
+ghost use Rattle.std.specs.Prelude.{◌≡◌, ℕ, ◌<◌, ◌++◌, ◌∷◌, [], Bool, List, length, map};
 ghost use Rattle.std.specs.List.{AllByRecursion};
 ghost use Rattle.cfgx_syntax.specs.Kleene.{lane};
 ghost use Rattle.cfgx_grammar.specs.Filling.{three_valued};
@@ -8,6 +8,8 @@ ghost use Rattle.cfgx_grammar.specs.Fold.{answered, tree_fold, list_value, tree_
 ghost use Rattle.cfgx_grammar.specs.Homomorphism.{IsHomomorphism, Passes, is_disjoint, lane_valued};
 ghost use Rattle.cfgx_grammar.specs.Question.{Question};
 ghost use Rattle.cfgx_grammar.specs.Tree.{ListFunction, Tree, Trees, arranged, asked};
+ghost use Rattle.cfg_expr.specs.Steps.{run_steps, steps_of};
+ghost use Rattle.cfg_expr.specs.declared.expr.steps.Step.{Step};
 
 use super::Logic;
 
@@ -39,4 +41,13 @@ pub fn homomorphisms_keep_values<T: Logic, U: Logic>()
 pub fn lanes_are_homomorphisms()
     ensures { (i : ℕ) → i < 64
         → IsHomomorphism lane_valued three_valued (Passes is_disjoint) (lane i) }
+{}
+
+/// The steps of a condition, run over answers to its predicates, push its value. So a loop over the
+/// steps with a stack of values evaluates the condition, in any logic.
+pub fn steps_push_the_value<T: Logic>()
+    ensures { (tree : Tree Question) (answers more stack : List T) (rest : List Step)
+        → length answers ≡ length (asked tree)
+        → run_steps T.Logic (steps_of tree ++ rest) (answers ++ more) stack
+        ≡ run_steps T.Logic rest more (stack ++ tree_fold T.Logic tree answers ∷ []) }
 {}

@@ -4,11 +4,11 @@
 use super::texts::is_same_condition;
 use super::verdicts::{check_audit, check_decide_on, check_pick};
 use super::{AllocResult, Outcome};
-use cfg_expr::expr::Condition;
 use cfg_expr::expr::logic::Kleene64;
+use cfg_expr::expr::{Condition, StepsError, eval_steps};
 use cfg_expr::memory::SmallAllocator;
 use cfg_expr::{Decision, Expression, Predicate};
-use cfgx_testing::checking::value_equals;
+use cfgx_testing::checking::{is_ok_true, value_equals};
 use std::alloc::{AllocError, Global};
 
 // The most predicates of an expression here.
@@ -28,6 +28,7 @@ pub(crate) fn check_expression_call<A: SmallAllocator>(
         "eval_lanes" => check_eval_lanes(alloc, expression),
         "polar_fillings" => check_polar_fillings(alloc, expression),
         "decide" => check_decide(alloc, expression),
+        "steps" => check_steps(alloc, expression),
         "decide_on" => check_decide_on(alloc, expression),
         "audit" => check_audit(alloc, expression),
         "pick" => check_pick(alloc, expression.original()),
@@ -85,6 +86,18 @@ fn check_condition_eval<A: SmallAllocator>(alloc: A, condition: &Condition<'_>) 
         },
     );
     check_value(value, asked, condition.predicates().left())
+}
+
+// Compiles the expression to steps, and checks that their value is true.
+fn check_steps<A: SmallAllocator>(alloc: A, expression: &Expression<A>) -> Outcome {
+    let steps = expression.steps(alloc)?;
+    let Some(answers) = [true; MOST_PREDICATES].get(..expression.predicates().left()) else {
+        return Ok(false);
+    };
+    match eval_steps(alloc, steps.as_slice(), answers) {
+        Err(StepsError::Memory(refused)) => Err(refused),
+        value => Ok(is_ok_true(value)),
+    }
 }
 
 // Returns an answer that is true in one lane, false in another, and unknown in all others.

@@ -181,7 +181,7 @@ fn equals_copy(global: Global, text: &str, expected: &Parsed) -> bool {
 }
 
 // The calls on an `evaluated` text.
-const CALLS: &str = "parse from_str try_clone eval decide polar_fillings eval_lanes \
+const CALLS: &str = "parse from_str try_clone eval decide polar_fillings eval_lanes steps \
     Condition::eval Condition::decide Condition::polar_fillings Condition::eval_lanes \
     decide_on audit pick";
 

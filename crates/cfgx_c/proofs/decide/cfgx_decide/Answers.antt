@@ -14,8 +14,8 @@ returns-then-left-answers-clause-miscounted c is =
 
 pub returns-clause-done : goal.returns-clause-done
 returns-clause-done c is = rw (← c.in-Ok.ensures.cases.0, ← c.in-Ok-parse.ensures.0) (
-    c.in-Ok-decide_over_bytes.decision,
-    c.in-Ok-decide_over_bytes.ensures,
-    c.byte_of_value.ensures ∙ ap byte_of_value c.value_in.ensures,
-    rw (c.as_slice.ensures.value, c.in-Ok-fillings_in.ensures) at c.fill.ensures,
-  )
+  c.in-Ok-decide_over_bytes.decision,
+  c.in-Ok-decide_over_bytes.ensures,
+  c.byte_of_value.ensures ∙ ap byte_of_value c.value_in.ensures,
+  rw (c.as_slice.ensures.value, c.in-Ok-fillings_in.ensures) at c.fill.ensures,
+)

@@ -12,16 +12,23 @@ slice_bounds-part-end c =
     let end = begin-le _ _ _ next.1 in search rules
 
 pub returns-in_default-clause-error : goal.returns-in_default-clause-error
-returns-in_default-clause-error c = (search rules, record {
+returns-in_default-clause-error c = (
+  search rules,
+  record {
     before = _;
     text = _;
     after = _;
     whole = next_part _ _ _ _ _ c.loop-end-test.true c.loop-end.invariant.whole;
-    number_is = omega (arith, c.len.ensures, c.loop-end.texts.ok.0,
-        length-map c.loop-end.texts.items (λ text. text.now));
+    number_is = omega (
+      arith,
+      c.len.ensures,
+      c.loop-end.texts.ok.0,
+      length-map c.loop-end.texts.items (λ text. text.now),
+    );
     utf8 = c.loop-end.invariant.utf8;
     not_utf8 = c.in_default.ensures.cases.0;
-  })
+  },
+)
 
 pub loop-end-preserved : goal.loop-end-preserved
 loop-end-preserved c =
@@ -39,5 +46,5 @@ pub returns-clause-texts : goal.returns-clause-texts
 returns-clause-texts c =
     let invariant = c.loop-end.invariant in
     let whole =
-        rw (drop_all _ c.args.ends.now c.loop-end-test.false, append-nil) at invariant.whole in
+    rw (drop_all _ c.args.ends.now c.loop-end-test.false, append-nil) at invariant.whole in
     rw whole (refl, invariant.utf8)

@@ -1,6 +1,6 @@
 use Rattle.std.proofs.Common.{◌≡◌, ℕ, List, All, ◌++◌, drop, length, map}
 use Rattle.std.specs.Str.{IsUtf8}
-use Rattle.cfgx_c.specs.Ends.{AreEnds, AreEndsFrom, parts, parts_from}
+use Rattle.cfgx_c.specs.Ends.{AreEndsFrom, parts, parts_from}
 use Rattle.cfgx_c.proofs.ends.texts.Given as goal
 
 -- the texts so far, and the parts that are left, are all the parts

@@ -1,5 +1,6 @@
 -- The lists are compared one after another.
-use Rattle.std.proofs.Common.{◌≡◌, ◌∙◌, ◌+◌, ◌<◌, ℕ, Bool, Bor, false, List, [], ap, arith, get_or, length, map, sym}
+use Rattle.std.proofs.Common.{◌≡◌, ◌∙◌, ◌+◌, ◌<◌, ℕ, Bool, Bor, false, List, [], ap, arith}
+use Rattle.std.proofs.Common.{get_or, length, map, sym}
 use Rattle.std.proofs.lemmas.List.{get_or-map, length-map}
 use borrow.Author.Count.{below_more}
 use Rattle.cfgx_syntax.specs.Error.{texts_eq}
@@ -20,15 +21,15 @@ pub returns-then-are_same_terms : goal.returns-then-are_same_terms
 returns-then-are_same_terms c =
     let below = c.loop-list-test.true in
     let same = tells c.args.lists.now c.args.terms.now c.loop-list.list-index _ below
-        c.are_same_terms.ensures in
+    c.are_same_terms.ensures in
     ap (λ number. number + 1) c.loop-list.invariant.count
-        ∙ sym (number-first (texts_eq _) _ [] c.loop-list.list-index
-        (rw length-map below) c.loop-list.invariant.others (same ∙ c.if-are_same_terms.true))
+    ∙ sym (number-first (texts_eq _) _ [] c.loop-list.list-index
+    (rw length-map below) c.loop-list.invariant.others (same ∙ c.if-are_same_terms.true))
 
 pub loop-list-preserved : goal.loop-list-preserved
 loop-list-preserved c =
     let same = tells c.args.lists.now c.args.terms.now c.loop-list.list-index _
-        c.loop-list-test.true c.are_same_terms.ensures in
+    c.loop-list-test.true c.are_same_terms.ensures in
     record {
       count = ap (λ number. number + 1) c.loop-list.invariant.count;
       others = below_more (λ k. texts_eq _ (get_or _ k []) ≡ false) _
@@ -37,5 +38,9 @@ loop-list-preserved c =
 
 pub returns : goal.returns
 returns c = sym (number-none (texts_eq _) _ [] (λ k below. c.loop-list.invariant.others k
-    (omega (arith, below, length-map c.args.lists.now
-    (λ (list : Bor (List (Bor (List ℕ)))). map (λ t. t.now) list.now)))))
+    (omega (
+      arith,
+      below,
+      length-map c.args.lists.now
+          (λ (list : Bor (List (Bor (List ℕ)))). map (λ t. t.now) list.now),
+    ))))

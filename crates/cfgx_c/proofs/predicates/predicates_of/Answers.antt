@@ -23,13 +23,14 @@ pub returns : goal.returns
 returns c =
     let nodes = rw c.requires at c.nodes-nodes.ensures.nodes in
     let asks = rw c.requires at c.places-place-items.ensures in
+    let shown = c.nodes-nodes.result.now in
     let every = c.places-place-items.result.now in
     let all = take_all c.loop-place.place-index every c.loop-place-test.false in
-    let keeps : KeepsTree (strip c.args.text.now) c.nodes-nodes.result.now every nodes.0.tree = record {
+    let keeps : KeepsTree (strip c.args.text.now) shown every nodes.0.tree = record {
       nodes_are = nodes.1;
       cuts = rw c.requires at c.nodes-nodes.ensures.cuts;
       places_are = asks.1 ∙ ap (places 0) (only_tree nodes.0 asks.0.tree asks.0.reads.has);
     } in
-    let listed = ListsPredicates-kept c.args.text.now c.nodes-nodes.result.now every nodes.0 keeps
+    let listed = ListsPredicates-kept c.args.text.now shown every nodes.0 keeps
     (rw c.requires at c.nodes-nodes.ensures.read) in
     rw (c.loop-place.invariant, all, c.strip_offset-offset.ensures) listed

@@ -1,0 +1,5 @@
+pub mod Asks
+pub mod Kinds
+pub mod Made
+pub mod Slots
+pub mod Values
