@@ -1,0 +1,286 @@
+/* Tests `cfgx_apply`: rows, steps with each byte changed, steps at random, and the many steps that
+ * `cfgx_compile` gives for long conditions. */
+#include "harness.h"
+
+#include <stdio.h>
+#include <string.h>
+
+#define MOST 64
+
+struct row {
+    size_t step_count;
+    struct cfgx_step steps[MOST];
+    struct text answers;
+    uint32_t status;
+    uint8_t value;
+};
+
+#define FALSE {CFGX_STEP_FALSE, 0}
+#define TRUE {CFGX_STEP_TRUE, 0}
+#define ASK {CFGX_STEP_ASK, 0}
+#define NOT {CFGX_STEP_NOT, 1}
+#define ALL(count) {CFGX_STEP_ALL, count}
+#define ANY(count) {CFGX_STEP_ANY, count}
+#define ASK_8 ASK, ASK, ASK, ASK, ASK, ASK, ASK, ASK
+#define NOT_8 NOT, NOT, NOT, NOT, NOT, NOT, NOT, NOT
+#define VALUE(value) CFGX_STATUS_DONE, CFGX_VALUE_##value
+#define MISCOUNTED CFGX_STATUS_MISCOUNTED, 0
+#define NO_TREE CFGX_STATUS_NO_TREE, 0
+
+static const struct row rows[] = {
+    {1, {TRUE}, TEXT(""), VALUE(TRUE)},
+    {1, {FALSE}, TEXT(""), VALUE(FALSE)},
+    {1, {ALL(0)}, TEXT(""), VALUE(TRUE)},
+    {1, {ANY(0)}, TEXT(""), VALUE(FALSE)},
+    {1, {ASK}, TEXT("\0"), VALUE(FALSE)},
+    {1, {ASK}, TEXT("\1"), VALUE(TRUE)},
+    {1, {ASK}, TEXT("\2"), VALUE(UNKNOWN)},
+    {1, {ASK}, TEXT("\3"), VALUE(UNKNOWN)},
+    {2, {ASK, NOT}, TEXT("\x80"), VALUE(UNKNOWN)},
+    {2, {ASK, NOT}, TEXT("\xff"), VALUE(UNKNOWN)},
+    {3, {ASK, ASK, ALL(2)}, TEXT("\1\1"), VALUE(TRUE)},
+    {3, {ASK, ASK, ALL(2)}, TEXT("\xff\0"), VALUE(FALSE)},
+    {3, {ASK, ASK, ANY(2)}, TEXT("\xff\0"), VALUE(UNKNOWN)},
+    {3, {ASK, ASK, ANY(2)}, TEXT("\xff\1"), VALUE(TRUE)},
+    {4, {ASK, NOT, ASK, ALL(2)}, TEXT("\0\1"), VALUE(TRUE)},
+    {4, {ASK, NOT, ASK, ALL(2)}, TEXT("\1\0"), VALUE(FALSE)},
+    {34, {ASK_8, ASK_8, ASK_8, ASK_8, ASK, ALL(33)},
+     TEXT("\1\1\1\1\1\1\1\1\1\1\1\1\1\1\1\1\1\1\1\1\1\1\1\1\1\1\1\1\1\1\1\1\2"), VALUE(UNKNOWN)},
+    {42, {ASK, NOT_8, NOT_8, NOT_8, NOT_8, NOT_8, NOT}, TEXT("\0"), VALUE(TRUE)},
+
+    {1, {ASK}, TEXT(""), MISCOUNTED},
+    {1, {ASK}, TEXT("\1\1"), MISCOUNTED},
+    {1, {TRUE}, TEXT("\1"), MISCOUNTED},
+    {3, {ASK, ASK, ALL(2)}, TEXT("\1"), MISCOUNTED},
+
+    {0, {TRUE}, TEXT(""), NO_TREE},
+    {2, {TRUE, TRUE}, TEXT(""), NO_TREE},
+    {2, {ASK, ASK}, TEXT("\1\1"), NO_TREE},
+    {1, {NOT}, TEXT(""), NO_TREE},
+    {2, {ASK, ALL(2)}, TEXT("\1"), NO_TREE},
+    {2, {ASK, ALL(SIZE_MAX)}, TEXT("\1"), NO_TREE},
+    {2, {TRUE, ANY(SIZE_MAX / 16 + 2)}, TEXT(""), NO_TREE},
+    {2, {ASK, {CFGX_STEP_NOT, 0}}, TEXT("\1"), NO_TREE},
+    {3, {ASK, ASK, {CFGX_STEP_NOT, 2}}, TEXT("\1\1"), NO_TREE},
+    {1, {{CFGX_STEP_ASK, 1}}, TEXT("\1"), NO_TREE},
+    {1, {{CFGX_STEP_TRUE, 1}}, TEXT(""), NO_TREE},
+    {1, {{CFGX_STEP_FALSE, SIZE_MAX}}, TEXT(""), NO_TREE},
+    {1, {{6, 0}}, TEXT(""), NO_TREE},
+    {2, {ASK, {UINT32_MAX, 1}}, TEXT("\1"), NO_TREE},
+    /* The functions of a list come before its predicates and literals. */
+    {4, {ASK, ASK, NOT, ALL(2)}, TEXT("\1\1"), NO_TREE},
+    {3, {TRUE, ALL(0), ANY(2)}, TEXT(""), NO_TREE},
+    {5, {ALL(0), TRUE, ALL(0), ASK, ANY(4)}, TEXT("\1"), NO_TREE},
+};
+
+static struct text steps_of(const struct row *row)
+{
+    struct text steps = {(const char *)row->steps, row->step_count * sizeof(struct cfgx_step)};
+    return steps;
+}
+
+static void call(const void *item, size_t room, uint32_t status)
+{
+    const struct row *row = item;
+    struct cfgx_step *steps = block_of(steps_of(row));
+    uint8_t *answers = block_of(row->answers);
+    struct buffer value = make_buffer(&BYTES, 1);
+    uint32_t found = cfgx_apply(steps, row->step_count, answers, row->answers.length, value.bytes);
+    (void)room;
+    free_block(steps);
+    free_block(answers);
+    expect_number("the status", found, status);
+    expect_filled(value, &row->value, status == CFGX_STATUS_DONE);
+}
+
+/* A value on the stack of this test, and whether it is that of a function. */
+struct entry {
+    uint8_t value;
+    int is_function;
+};
+
+/* Returns the value of `all` or `any` over the entries. */
+static uint8_t list_value(uint32_t kind, const struct entry *entry, size_t count)
+{
+    uint8_t deciding = kind == CFGX_STEP_ALL ? CFGX_VALUE_FALSE : CFGX_VALUE_TRUE;
+    uint8_t value = !deciding;
+    for (size_t i = 0; i < count; i++) {
+        if (entry[i].value == deciding) {
+            return deciding;
+        }
+        if (entry[i].value == CFGX_VALUE_UNKNOWN) {
+            value = CFGX_VALUE_UNKNOWN;
+        }
+    }
+    return value;
+}
+
+/* Returns the value of a function over the entries. */
+static uint8_t function_value(uint32_t kind, const struct entry *entry, size_t count)
+{
+    if (kind != CFGX_STEP_NOT) {
+        return list_value(kind, entry, count);
+    }
+    return entry->value == CFGX_VALUE_UNKNOWN ? CFGX_VALUE_UNKNOWN : !entry->value;
+}
+
+/* Returns whether no function comes behind a predicate or a literal. */
+static int are_arranged(const struct entry *entry, size_t count)
+{
+    size_t i = 1;
+    while (i < count && entry[i].is_function <= entry[i - 1].is_function) {
+        i++;
+    }
+    return i >= count;
+}
+
+/* Returns whether a step behind CFGX_STEP_ASK is a function of the last entries. */
+static int is_function_of(struct cfgx_step step, const struct entry *stack, size_t depth)
+{
+    if (step.kind > CFGX_STEP_ANY || (step.kind == CFGX_STEP_NOT && step.count != 1)) {
+        return 0;
+    }
+    return step.count <= depth && are_arranged(stack + depth - step.count, step.count);
+}
+
+/* Sets the status and the value that the row has, by a stack of its own. */
+static void evaluate(struct row *row)
+{
+    struct entry stack[MOST];
+    size_t depth = 0, asked = 0;
+    row->status = CFGX_STATUS_NO_TREE;
+    for (size_t i = 0; i < row->step_count; i++) {
+        struct cfgx_step step = row->steps[i];
+        struct entry entry = {(uint8_t)step.kind, step.kind > CFGX_STEP_ASK};
+        if (entry.is_function ? !is_function_of(step, stack, depth) : step.count != 0) {
+            return;
+        }
+        if (step.kind == CFGX_STEP_ASK) {
+            uint8_t answer = asked < row->answers.length ? (uint8_t)row->answers.bytes[asked] : 0;
+            entry.value = answer <= CFGX_VALUE_TRUE ? answer : CFGX_VALUE_UNKNOWN;
+            asked++;
+        }
+        depth -= step.count;
+        if (entry.is_function) {
+            entry.value = function_value(step.kind, stack + depth, step.count);
+        }
+        stack[depth++] = entry;
+    }
+    if (depth == 1) {
+        row->status = asked == row->answers.length ? CFGX_STATUS_DONE : CFGX_STATUS_MISCOUNTED;
+        row->value = stack[0].value;
+    }
+}
+
+/* Tests the row, for which this test computes status and value. Returns whether it has a value. */
+static size_t test_computed(struct row *row)
+{
+    evaluate(row);
+    begin_row(steps_of(row));
+    call(row, 0, row->status);
+    return row->status == CFGX_STATUS_DONE;
+}
+
+/* Tests the steps of a row with each byte changed to each other byte. */
+static void test_bytes(const struct row *row)
+{
+    for (size_t at = 0; at < row->step_count * sizeof(struct cfgx_step); at++) {
+        struct row changed = *row;
+        for (unsigned byte = 0; byte < 256; byte++) {
+            ((unsigned char *)changed.steps)[at] = (unsigned char)byte;
+            test_computed(&changed);
+        }
+    }
+}
+
+/* Returns a number below `limit`, from a sequence that is the same in every run. */
+static size_t random_below(size_t limit)
+{
+    static uint64_t state = 88172645463325252u;
+    state ^= state << 13;
+    state ^= state >> 7;
+    state ^= state << 17;
+    return (size_t)(state >> 33) % limit;
+}
+
+/* Returns a step at random, mostly one that a stack of this depth has values for. */
+static struct cfgx_step random_step(size_t depth)
+{
+    struct cfgx_step step = {(uint32_t)random_below(7), 0};
+    if (step.kind > CFGX_STEP_ASK) {
+        step.count = step.kind == CFGX_STEP_NOT ? 1 : random_below(depth + 1);
+    }
+    if (random_below(24) == 0) {
+        step.count = random_below(2) ? random_below(4) : SIZE_MAX - random_below(3);
+    }
+    return step;
+}
+
+/* Tests lists of steps at random, a few of them long. */
+static void test_random(size_t lists)
+{
+    char answers[MOST];
+    size_t values = 0;
+    for (size_t i = 0; i < MOST; i++) {
+        answers[i] = (char)random_below(4);
+    }
+    for (size_t list = 0; list < lists; list++) {
+        size_t most = random_below(16) ? 8 : MOST;
+        struct row row = {1 + random_below(most), {TRUE}, {answers, 0}, 0, 0};
+        size_t depth = 0, asked = 0;
+        for (size_t i = 0; i < row.step_count; i++) {
+            row.steps[i] = random_step(depth);
+            asked += row.steps[i].kind == CFGX_STEP_ASK;
+            depth = row.steps[i].count > depth ? 1 : depth - row.steps[i].count + 1;
+        }
+        row.answers.length = random_below(8) ? asked : random_below(MOST);
+        values += test_computed(&row);
+    }
+    printf("cfgx_apply: %zu of %zu lists at random have a value\n", values, lists);
+    expect_number("whether a twentieth of these lists has a value", values * 20 >= lists, 1);
+}
+
+#define MEMBERS 50000
+
+/* Compiles a condition of MEMBERS predicates, which are all true, and tests its value. */
+static void test_long(const char *open, const char *member, const char *close, uint8_t value)
+{
+    static char text[8 * MEMBERS];
+    static struct cfgx_step steps[2 * MEMBERS + 1];
+    static struct cfgx_predicate predicates[MEMBERS];
+    static uint8_t answers[MEMBERS];
+    struct text name = {open, strlen(open)};
+    size_t length = strlen(open), step_count, predicate_count;
+    uint8_t found = 77;
+    memcpy(text, open, length);
+    for (size_t i = 0; i < MEMBERS; i++) {
+        memcpy(text + length, member, strlen(member));
+        length += strlen(member);
+    }
+    memcpy(text + length, close, strlen(close));
+    memset(answers, CFGX_VALUE_TRUE, MEMBERS);
+    begin_row(name);
+    uint32_t status = cfgx_compile(text, length + strlen(close), steps, COUNT(steps), &step_count,
+                                   predicates, COUNT(predicates), &predicate_count);
+    expect_number("the status of cfgx_compile", status, CFGX_STATUS_DONE);
+    expect_number("the number of predicates", predicate_count, MEMBERS);
+    status = cfgx_apply(steps, step_count, answers, predicate_count, &found);
+    expect_number("the status", status, CFGX_STATUS_DONE);
+    expect_number("the value", found, value);
+}
+
+int main(void)
+{
+    for (size_t i = 0; i < COUNT(rows); i++) {
+        test_row(call, &rows[i], steps_of(&rows[i]), 1, rows[i].status);
+    }
+    for (size_t i = 0; i < COUNT(rows); i++) {
+        if (rows[i].status == CFGX_STATUS_DONE && rows[i].step_count / 3 == 1) {
+            test_bytes(&rows[i]);
+        }
+    }
+    test_random(100000);
+    test_long("all(", "a,", ")", CFGX_VALUE_TRUE);
+    test_long("any(", "not(a),", ")", CFGX_VALUE_FALSE);
+    return finish("cfgx_apply", 1);
+}
