@@ -115,7 +115,7 @@ uint32_t cfgx_explain(const char *text, size_t text_length,
 #define CFGX_PREDICATE_PROC_MACRO 5       /* proc_macro */
 #define CFGX_PREDICATE_FEATURE 6          /* feature */
 #define CFGX_PREDICATE_TARGET_FEATURE 7   /* target_feature */
-#define CFGX_PREDICATE_ABI 8              /* target_abi; from here on a kind is on the target */
+#define CFGX_PREDICATE_ABI 8              /* target_abi; the kinds from 8 to 17 are on the target */
 #define CFGX_PREDICATE_ARCH 9             /* target_arch */
 #define CFGX_PREDICATE_ENDIAN 10          /* target_endian */
 #define CFGX_PREDICATE_ENV 11             /* target_env */

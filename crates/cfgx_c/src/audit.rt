@@ -49,8 +49,8 @@ fn find_values(
 /// Evaluates many conditions on many targets. Target `j` has the facts from `target_ends[j - 1]`,
 /// or from 0, up to `target_ends[j]`, and answers by them as in `cfgx_answers`.
 ///
-/// Returns the status `DONE`, and fills `values`: with `n` targets, item `i * n + j` is the value of
-/// condition `i` on target `j`, 0 for false, 1 for true, 2 for unknown. Otherwise returns the first
+/// Returns the status `DONE`, and fills `values`: with `n` targets, item `i * n + j` is the value
+/// of condition `i` on target `j`, 0 for false, 1 for true, 2 for unknown. Otherwise returns the first
 /// of these that is so:
 ///
 /// - `BAD_ENDS`: ends fall, or the last one is not the number of items.

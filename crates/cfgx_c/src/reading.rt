@@ -43,8 +43,8 @@ impl ReadError {
         }
     }
 
-    /// Writes the number of the text or the fact at fault to `place`. If memory was refused, `place`
-    /// stays as it was. Returns the status of a call with this error.
+    /// Writes the number of the text or the fact at fault to `place`. If memory was refused,
+    /// `place` stays as it was. Returns the status of a call with this error.
     pub(crate) fn report(&self, place: &mut usize) -> u32
         ensures status { result ≡ status_of self.now }
         ensures place { place.new ≡ unwrap_or (place_of self.now) place.old }

@@ -1,8 +1,10 @@
 -- Facts that are read one after another, and what they answer.
-use Rattle.std.proofs.Common.{◌≡◌, ◌≢◌, ◌↔◌, ◌⊎◌, inl, inr, ⊎_elim, ℕ, Bool, true, false, List, [], ◌∷◌, ◌++◌}
+use Rattle.std.proofs.Common.{◌≡◌, ◌≢◌, ◌↔◌, ◌⊎◌, inl, inr, ⊎_elim, ℕ, Bool, true, false, List}
+use Rattle.std.proofs.Common.{[], ◌∷◌, ◌++◌}
 use Rattle.std.proofs.Common.{Option, Some, None, Ok, Err, codes, map, refl, ap, ◌<◌, ◌+◌, zero}
 use Rattle.std.proofs.Common.{suc, Bor, bytes_eq, length, get_or, take, append-nil, arith}
-use Rattle.std.{proofs.lemmas.Bool.false_from_ne_true, specs.List.AllByRecursion, specs.List.filter_map}
+use Rattle.std.{proofs.lemmas.Bool.false_from_ne_true, specs.List.AllByRecursion}
+use Rattle.std.specs.List.{filter_map}
 use Rattle.std.proofs.{lemmas.List.map-append, lemmas.List.take_more, lemmas.List.take-map}
 use Rattle.std.proofs.lemmas.Option.{IfSome_then, slice_get-get_or, slice_get-map}
 use Rattle.std.proofs.lemmas.List.Elements.{All-from_recursion, All-push, filter_map-append}
@@ -107,7 +109,8 @@ IsNamed-same texts question = rw append-nil (λ named. named, λ named. named)
 -- a fact is accepted if its text has one tree or is passed over
 accepts-text : (passed : Unaskable) (fact text : List ℕ) → fact_text fact ≡ text
     → HasOneTree (strip text) ⊎ passes_over passed (strip text) → accepts passed fact
-accepts-text unaskable.Faulty fact text is one = ⊎_elim (λ tree. rw is tree) (λ none. absurd none) one
+accepts-text unaskable.Faulty fact text is one =
+    ⊎_elim (λ tree. rw is tree) (λ none. absurd none) one
 accepts-text unaskable.PassedOver fact text is one = rw is one
 
 pushes-one : (passed : Unaskable) (text : List ℕ) (old new : List (List ℕ))

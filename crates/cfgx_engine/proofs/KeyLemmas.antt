@@ -1,5 +1,6 @@
 -- Texts that are a key, or a key, `=` and a value, and what is at fault in them.
-use Rattle.std.proofs.Common.{◌≡◌, ◌↔◌, ◌⊎◌, inl, inr, ⊎_elim, ℕ, ◌+◌, ◌-◌, ◌<◌, Bool, List, [], ◌∷◌}
+use Rattle.std.proofs.Common.{◌≡◌, ◌↔◌, ◌⊎◌, inl, inr, ⊎_elim, ℕ, ◌+◌, ◌-◌, ◌<◌, Bool}
+use Rattle.std.proofs.Common.{List, [], ◌∷◌}
 use Rattle.std.proofs.Common.{map, refl, sym, ap, ◌∙◌, Option, Some, None, Result, Ok, Err, take}
 use Rattle.std.proofs.Common.{arith, rules}
 use Rattle.std.specs.{List.AllByRecursion, Option.option_or}

@@ -266,7 +266,8 @@ module _ (Q : List ℕ → Type 0) (tested : (text : List ℕ) → is_utf8 text 
       valued known unknown (Ok [], gives) = absurd (grind arith)
       valued known unknown (Ok (tree ∷ trees), gives) =
           let read : ReadsAs (strip text) (Ok tree) = grind arith in
-          let all = answers-some _ otherwise.False known unknown _ (well_formed_tree _ tree read.has) in
+          let all = answers-some _ otherwise.False known unknown _
+          (well_formed_tree _ tree read.has) in
           (Ok (tree_fold three_valued tree all.0), (Ok (tree ∷ trees), gives, (all.0, all.1, refl)))
 
   -- what holds of each line holds of the lines of an input

@@ -134,7 +134,8 @@ AreValues-alike One Other R alike conditions others ones values zipped are =
       count = are.count ∙ ap (λ n. length conditions * n) long;
       each = λ i j condition other is is_other.
           let found = AllZip-at R others ones j other zipped is_other in
-          IsSomeAnd-weaker (slice_get values (i * length others + j)) (λ value (over : HasValueOver (One found.0) condition value). record {
+          IsSomeAnd-weaker (slice_get values (i * length others + j)) (λ value
+          (over : HasValueOver (One found.0) condition value). record {
             one = over.one;
             answers = over.answers;
             answered = AllZip-weaker (One found.0) (Other other) (alike other found.0 found.2)

@@ -84,8 +84,8 @@ pub record IsKeyAndValue (text : List ℕ) : Type 0 where
   pub are_items : AreItems text items Ending.blank
   pub spelled : map (λ item. item.token) items ≡ leaf_tokens key value
 
--- No condition can ask the text: it is a key, or a key, `=` and a value, and the key is at fault. It
--- begins with `target_` and is not known, or lacks the value that it needs.
+-- No condition can ask the text: it is a key, or a key, `=` and a value, and the key is at fault.
+-- The key begins with `target_` and is not known, or it lacks the value that it needs.
 abbrev pub IsUnaskable : List ℕ → Type 0
 IsUnaskable text = (leaf : IsKeyAndValue text) × (cause : Cause)
     × (class leaf.key leaf.value ≡ Class.faulty cause Part.of_key)

@@ -16,8 +16,8 @@ const LINUX: &str = "debug_assertions;panic=\"unwind\";target_abi=\"\";target_ar
     target_has_atomic=\"ptr\";target_os=\"linux\";target_pointer_width=\"64\";\
     target_vendor=\"unknown\";unix;";
 
-/// A row has a constructor, the facts that follow those of `LINUX`, and `read`, or the index and the
-/// fault of the first faulty fact. Semicolons separate the facts, of which `LINUX` has 19.
+/// A row has a constructor, the facts that follow those of `LINUX`, and `read`, or the index and
+/// the fault of the first faulty fact. Semicolons separate the facts, of which `LINUX` has 19.
 pub const READ: &str = r#"
 flags | test | read
 rustc | test | read
@@ -59,7 +59,8 @@ rustc | test;target_x;a b;c d e | 21: U[`=` `,` `)`] at 2..3
 "#;
 
 /// A row has facts that follow those of `LINUX`, a text, and what the facts answer to its
-/// predicates, in order: where a predicate that no fact names is false, and where it may be unknown.
+/// predicates, in order: where a predicate that no fact names is false, and where it may be
+/// unknown.
 /// An answer is `1` for true, `0` for false and `?` for unknown.
 pub const ANSWERED: &str = r#"
 test | all(unix, windows, target_os = "linux", target_os = "macos") | 1010 | 1010

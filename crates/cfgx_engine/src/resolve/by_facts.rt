@@ -1,5 +1,6 @@
 //! The values of many conditions on many targets that answer by their facts.
-ghost use Rattle.std.specs.Prelude.{◌≡◌, ◌≤◌, ◌<◌, ◌^◌, length, map, Err, IfErr, IfOk, IfSome, OnOk};
+ghost use Rattle.std.specs.Prelude.{◌≡◌, ◌≤◌, ◌<◌, ◌^◌, length, map};
+ghost use Rattle.std.specs.Prelude.{Err, IfErr, IfOk, IfSome, OnOk};
 ghost use Rattle.std.specs.List.{AllByRecursion};
 ghost use Rattle.cfgx_syntax.specs.Error.{failure_of};
 ghost use Rattle.cfgx_syntax.specs.Stripping.{strip};
@@ -89,8 +90,8 @@ pub struct AuditError<A: Allocator = Global> {
 /// of condition `i` on target `j`. A target answers by its facts, and `otherwise` is the answer to
 /// a predicate that no fact names.
 ///
-/// Each condition is read once. Targets are taken in pieces of 64: each predicate is asked once of each
-/// target, and it is evaluated once for each piece.
+/// Each condition is read once. Targets are taken in pieces of 64: each predicate is asked once of
+/// each target, and it is evaluated once for each piece.
 ///
 /// # Errors
 ///

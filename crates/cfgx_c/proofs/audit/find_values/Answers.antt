@@ -30,8 +30,8 @@ returns-clause-err c =
     let checked = rw (c.as_slice.ensures.value, c.in_ok-texts.ensures) at
     c.in_ok-conditions.ensures.ok in
     let found = rw (c.as_slice-3.ensures.value, checked.0) at c.in-Err.ensures.err in
-    rw c.text_error.ensures (FailsFor-audit _ _ c.in-Err.error.index c.in-Err.error.failure checked.1
-    found)
+    rw c.text_error.ensures (FailsFor-audit _ _ c.in-Err.error.index c.in-Err.error.failure
+    checked.1 found)
 
 pub returns-in-Ok-clause-ok : goal.returns-in-Ok-clause-ok
 returns-in-Ok-clause-ok c =

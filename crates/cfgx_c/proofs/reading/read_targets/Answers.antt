@@ -49,7 +49,8 @@ loop-end-preserved c =
     record {
       left_are = next.1;
       good = rw (take-range facts begin end next.0 (begin-le _ _ _ next.1))
-          (All-append IsFact (take begin facts) (slice_range facts begin end) invariant.good read.0);
+          (All-append IsFact (take begin facts) (slice_range facts begin end) invariant.good
+          read.0);
       groups = invariant.groups ++ slice_range facts begin end ∷ [];
       whole = next_part _ _ _ facts invariant.groups c.loop-end-test.true invariant.whole
           ∙ sym (append_assoc invariant.groups (slice_range facts begin end ∷ []) _);
@@ -64,6 +65,7 @@ returns-clause-ok c =
     let none = drop_all _ c.args.target_ends.now c.loop-end-test.false in
     let ends = rw none at invariant.left_are in
     let whole = rw (none, append-nil) at invariant.whole in (
-      rw (take_all c.loop-end.begin (views c.args.facts.now) (omega (arith, ends))) at invariant.good,
+      rw (take_all c.loop-end.begin (views c.args.facts.now) (omega (arith, ends)))
+          at invariant.good,
       rw whole invariant.alike,
     )

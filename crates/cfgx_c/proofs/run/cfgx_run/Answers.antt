@@ -24,6 +24,6 @@ pub returns-clause-run : goal.returns-clause-run
 returns-clause-run c below =
     let writes = c.run.ensures.done (λ is. omega (arith, below, c.from-status.ensures, is)) in
     rw (← c.in-Ok.ensures.texts.0, ← c.as_slice.ensures.value)
-        (filled_output (request_of (texts c.as_slice.result.now)) _
-        (rw c.new-writer.ensures.0 at writes) c.from-status.ensures
-        (rw c.as_slice-2.ensures.value at c.fill.ensures))
+    (filled_output (request_of (texts c.as_slice.result.now)) _
+    (rw c.new-writer.ensures.0 at writes) c.from-status.ensures
+    (rw c.as_slice-2.ensures.value at c.fill.ensures))
