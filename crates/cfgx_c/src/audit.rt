@@ -50,8 +50,8 @@ fn find_values(
 /// or from 0, up to `target_ends[j]`, and answers by them as in `cfgx_answers`.
 ///
 /// Returns the status `DONE`, and fills `values`: with `n` targets, item `i * n + j` is the value
-/// of condition `i` on target `j`, 0 for false, 1 for true, 2 for unknown. Otherwise returns the first
-/// of these that is so:
+/// of condition `i` on target `j`, 0 for false, 1 for true, 2 for unknown. Otherwise returns the
+/// first of these that is so:
 ///
 /// - `BAD_ENDS`: ends fall, or the last one is not the number of items.
 /// - `TOO_LARGE`: the number of values does not fit in a `usize`.

@@ -178,9 +178,9 @@ impl<A: SmallAllocator> Facts<A> {
     }
 
     /// Reads facts, such as the lines of `rustc --print cfg`. A fact that no condition can ask is
-    /// passed over: its text is a key, or a key, `=` and a value. The key begins with `target_` and is
-    /// not known, or it lacks the value that it needs, such as a bare `feature`. Some compilers print
-    /// such lines.
+    /// passed over: its text is a key, or a key, `=` and a value. The key begins with `target_` and
+    /// is not known, or it lacks the value that it needs, such as a bare `feature`. Some compilers
+    /// print such lines.
     ///
     /// # Errors
     ///
