@@ -148,7 +148,7 @@ impl Expression {
         EP: FnMut(&Predicate<'_>) -> T,
         T: Logic,
     {
-        let mut stack: Vec<T> = Vec::new();
+        let mut stack: Vec<T> = Vec::with_capacity(self.nodes.len());
         for node in &self.nodes {
             let value = match node {
                 Node::Ask(question) => eval_predicate(&question.predicate(&self.original)),

@@ -158,8 +158,8 @@ pub(crate) fn compile<R>(
     read: impl FnOnce(&[Step], &[Predicate]) -> R,
 ) -> Result<R, Fault> {
     ensure_version();
-    let mut steps = [Step::default(); 32];
-    let mut predicates = [Predicate::default(); 32];
+    let mut steps = [Step::default(); 16];
+    let mut predicates = [Predicate::default(); 16];
     let (step_count, predicate_count) = fill_compiled(text, &mut steps, &mut predicates)?;
     if step_count <= steps.len() && predicate_count <= predicates.len() {
         return Ok(read(&steps[..step_count], &predicates[..predicate_count]));

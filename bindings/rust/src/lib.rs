@@ -28,8 +28,8 @@
 //! # Memory
 //!
 //! A call that gets no memory ends the process by
-//! [`handle_alloc_error`](std::alloc::handle_alloc_error), as those of `Vec` do. All types are plain
-//! data, so they are `Send` and `Sync`.
+//! [`handle_alloc_error`](std::alloc::handle_alloc_error), as those of `Vec` do. All types are
+//! plain data, so they are `Send` and `Sync`.
 
 #![deny(missing_docs)]
 #![deny(unsafe_code)]
@@ -44,3 +44,8 @@ pub mod targets;
 pub use audit::{FactError, Facts, Otherwise, Values, audit, audit_with};
 pub use error::ParseError;
 pub use expr::{Decision, Expression, Predicate, TargetPredicate};
+
+/// The examples of the README, which are tested with those of the pages.
+#[cfg(doctest)]
+#[doc = include_str!("../README.md")]
+struct Readme;

@@ -97,18 +97,18 @@ impl Question {
 
 /// Returns the predicate on the target, with a copy of its text.
 fn target_of(original: &str, offset: usize, found: &ffi::Predicate) -> TargetPredicate {
-    let text = || original[found.value_start - offset..found.value_end - offset].to_string();
+    let text = || &original[found.value_start - offset..found.value_end - offset];
     match found.kind {
-        8 => TargetPredicate::Abi(Abi::new(text())),
-        9 => TargetPredicate::Arch(Arch::new(text())),
+        8 => TargetPredicate::Abi(Abi::copied(text())),
+        9 => TargetPredicate::Arch(Arch::copied(text())),
         10 => TargetPredicate::Endian(endian_of(found.number)),
-        11 => TargetPredicate::Env(Env::new(text())),
-        12 => TargetPredicate::Family(Family::new(text())),
+        11 => TargetPredicate::Env(Env::copied(text())),
+        12 => TargetPredicate::Family(Family::copied(text())),
         13 => TargetPredicate::HasAtomic(width_of(found.number)),
-        14 => TargetPredicate::Os(Os::new(text())),
-        15 => TargetPredicate::Panic(Panic::new(text())),
+        14 => TargetPredicate::Os(Os::copied(text())),
+        15 => TargetPredicate::Panic(Panic::copied(text())),
         16 => TargetPredicate::PointerWidth(found.number as u8),
-        17 => TargetPredicate::Vendor(Vendor::new(text())),
+        17 => TargetPredicate::Vendor(Vendor::copied(text())),
         kind => unreachable!("predicate {kind}"),
     }
 }

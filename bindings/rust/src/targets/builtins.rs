@@ -12,6 +12,14 @@ macro_rules! named_values {
                 #[doc = concat!("`", $text, "`")]
                 pub const $name: $field = $field::new_const($text);
             )*
+
+            /// Returns the field with this text, which is copied unless it is that of a named value.
+            pub(crate) fn copied(text: &str) -> $field {
+                match text {
+                    $($text => $field::$name,)*
+                    _ => $field::new(text.to_string()),
+                }
+            }
         }
     };
 }

@@ -161,8 +161,8 @@ impl TargetInfo {
     /// # Errors
     ///
     /// `Faulty`: the first line that is no condition. `Twice`: the first line with another value of
-    /// a key that has one. `Missing`: no line has the architecture, the width of a pointer, the byte
-    /// order or the panic strategy.
+    /// a key that has one. `Missing`: no line has the architecture, the width of a pointer, the
+    /// byte order or the panic strategy.
     ///
     /// ```
     /// use cfgx::targets::{Os, TargetInfo};
