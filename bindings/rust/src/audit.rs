@@ -97,7 +97,7 @@ impl Facts {
 ///
 /// let conditions = [Expression::parse("feature = \"x\"").unwrap()];
 /// let targets = [Facts::new(["unix"])];
-/// let value = |otherwise| audit_with(&conditions, &targets, otherwise).unwrap().of(0)[0];
+/// let value = |otherwise| audit_with(&conditions, &targets, otherwise).unwrap().row(0)[0];
 /// assert_eq!(value(Otherwise::Unknown), None);
 /// assert_eq!(value(Otherwise::False), Some(false));
 /// ```
@@ -119,15 +119,15 @@ pub enum Otherwise {
 /// let targets = [Facts::new(["unix"]), Facts::new(["windows"])];
 /// let values = audit(&conditions, &targets).unwrap();
 /// assert_eq!(values.value(0, 1), Some(false));
-/// assert_eq!(values.of(1), [None, None]);
+/// assert_eq!(values.row(1), [None, None]);
 /// ```
 #[derive(Clone, Debug, PartialEq, Eq)]
-pub struct Values {
+pub struct Audit {
     values: Vec<Option<bool>>,
     target_count: usize,
 }
 
-impl Values {
+impl Audit {
     /// Returns the values of the condition with this number, one for each target.
     ///
     /// # Panics
@@ -139,9 +139,9 @@ impl Values {
     ///
     /// let targets = [Facts::new(["unix"])];
     /// let values = audit(&[Expression::parse("unix").unwrap()], &targets).unwrap();
-    /// assert_eq!(values.of(0), [Some(true)]);
+    /// assert_eq!(values.row(0), [Some(true)]);
     /// ```
-    pub fn of(&self, condition: usize) -> &[Option<bool>] {
+    pub fn row(&self, condition: usize) -> &[Option<bool>] {
         let start = condition * self.target_count;
         &self.values[start..start + self.target_count]
     }
@@ -160,7 +160,7 @@ impl Values {
     /// assert_eq!(values.value(0, 0), Some(false));
     /// ```
     pub fn value(&self, condition: usize, target: usize) -> Option<bool> {
-        self.of(condition)[target]
+        self.row(condition)[target]
     }
 }
 
@@ -210,10 +210,10 @@ impl Error for FactError {}
 /// let conditions = [Expression::parse("any(windows, feature = \"x\")").unwrap()];
 /// let targets = [Facts::new(["unix"]), Facts::new(["windows"])];
 /// let values = audit(&conditions, &targets)?;
-/// assert_eq!(values.of(0), [None, Some(true)]);
+/// assert_eq!(values.row(0), [None, Some(true)]);
 /// # Ok::<(), cfgx::FactError>(())
 /// ```
-pub fn audit(conditions: &[Expression], targets: &[Facts]) -> Result<Values, FactError> {
+pub fn audit(conditions: &[Expression], targets: &[Facts]) -> Result<Audit, FactError> {
     audit_with(conditions, targets, Otherwise::Unknown)
 }
 
@@ -229,14 +229,14 @@ pub fn audit(conditions: &[Expression], targets: &[Facts]) -> Result<Values, Fac
 ///
 /// let conditions = [Expression::parse("not(test)").unwrap()];
 /// let values = audit_with(&conditions, &[Facts::new(["unix"])], Otherwise::False)?;
-/// assert_eq!(values.of(0), [Some(true)]);
+/// assert_eq!(values.row(0), [Some(true)]);
 /// # Ok::<(), cfgx::FactError>(())
 /// ```
 pub fn audit_with(
     conditions: &[Expression],
     targets: &[Facts],
     otherwise: Otherwise,
-) -> Result<Values, FactError> {
+) -> Result<Audit, FactError> {
     let mut texts = Texts::default();
     for condition in conditions {
         texts.push(condition.original());
@@ -252,7 +252,7 @@ pub fn audit_with(
         Otherwise::Unknown => 2,
     };
     match ffi::audit(&texts, &facts, &target_ends, otherwise) {
-        Ok(values) => Ok(Values {
+        Ok(values) => Ok(Audit {
             values: values.into_iter().map(value_of).collect(),
             target_count: targets.len(),
         }),

@@ -9,6 +9,7 @@ use crate::ffi;
 pub use logic::Logic;
 use node::{Node, nodes_of};
 pub use predicate::{Predicate, TargetMatcher, TargetPredicate};
+use std::borrow::Cow;
 use std::fmt;
 use std::str::FromStr;
 
@@ -119,8 +120,13 @@ impl Expression {
     /// );
     /// ```
     pub fn predicates(&self) -> impl Iterator<Item = Predicate<'_>> {
+        self.asked().map(Cow::into_owned)
+    }
+
+    /// Returns the predicates in the order in which they are asked, without copies.
+    fn asked(&self) -> impl Iterator<Item = Cow<'_, Predicate<'_>>> {
         self.nodes.iter().filter_map(|node| match node {
-            Node::Ask(question) => Some(question.predicate(&self.original).into_owned()),
+            Node::Ask(question) => Some(question.predicate(&self.original)),
             _ => None,
         })
     }
@@ -185,7 +191,7 @@ impl Expression {
         EP: FnMut(&Predicate<'_>) -> Option<bool>,
     {
         let answers: Vec<u8> = self
-            .predicates()
+            .asked()
             .map(|predicate| eval_predicate(&predicate).map_or(2, u8::from))
             .collect();
         let (value, fillings) = ffi::decide(&self.original, &answers);

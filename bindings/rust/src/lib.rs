@@ -41,7 +41,7 @@ pub mod expr;
 mod ffi;
 pub mod targets;
 
-pub use audit::{FactError, Facts, Otherwise, Values, audit, audit_with};
+pub use audit::{Audit, FactError, Facts, Otherwise, audit, audit_with};
 pub use error::ParseError;
 pub use expr::{Decision, Expression, Predicate, TargetPredicate};
 

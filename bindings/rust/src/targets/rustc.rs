@@ -151,7 +151,7 @@ impl Rustc {
     ///
     /// let rustc = Rustc::ask(["x86_64-unknown-linux-gnu", "wasm32-unknown-unknown"])?;
     /// let values = audit(&[Expression::parse("unix").unwrap()], rustc.facts()).unwrap();
-    /// assert_eq!(values.of(0), [Some(true), Some(false)]);
+    /// assert_eq!(values.row(0), [Some(true), Some(false)]);
     /// # Ok::<(), cfgx::targets::RustcError>(())
     /// ```
     pub fn facts(&self) -> &[Facts] {

@@ -31,7 +31,7 @@ fn values_are_those_of_each_condition_on_each_target() {
                 "{expression} {facts:?}"
             );
         }
-        assert_eq!(values.of(row).len(), lists.len());
+        assert_eq!(values.row(row).len(), lists.len());
     }
 }
 
@@ -69,6 +69,6 @@ fn the_first_faulty_fact_is_named() {
 #[test]
 fn nothing_to_audit() {
     let condition = Expression::parse("unix").unwrap();
-    assert_eq!(audit(&[condition], &[]).unwrap().of(0), []);
+    assert_eq!(audit(&[condition], &[]).unwrap().row(0), []);
     assert!(audit(&[], &[Facts::new(["unix"])]).is_ok());
 }

@@ -3,7 +3,7 @@
 use super::engine;
 use super::trees::{Numbers, Tree};
 use cfgx::targets::{Rustc, TargetInfo};
-use cfgx::{Decision, Expression, Facts, ParseError, Values};
+use cfgx::{Audit, Decision, Expression, Facts, ParseError};
 use std::thread;
 
 fn is_shared<T: Send + Sync>() {}
@@ -15,7 +15,7 @@ fn types_are_send_and_sync() {
     is_shared::<Decision>();
     is_shared::<TargetInfo>();
     is_shared::<Facts>();
-    is_shared::<Values>();
+    is_shared::<Audit>();
     is_shared::<Rustc>();
 }
 
