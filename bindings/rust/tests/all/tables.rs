@@ -101,6 +101,7 @@ fn stripped_texts_and_equality() {
         let [one, other] = [0, 1].map(|place| Expression::parse(&row[place]).unwrap());
         assert_eq!(one == other, row[2] == "equal", "{row:?}");
     }
+    assert_ne!(Expression::parse("a"), Expression::parse("b"));
 }
 
 #[test]
@@ -152,6 +153,12 @@ fn what_reasons_and_faults_print() {
         };
         assert_eq!(error.to_string(), row[2]);
     }
+    let error = ParseError {
+        original: String::from("ab"),
+        span: 0..2,
+        reason: Reason::UnopenedQuotes,
+    };
+    assert_eq!(error.to_string(), "ab\n^ unopened quotes");
 }
 
 #[test]
