@@ -248,24 +248,15 @@ pub fn audit_with(
         target_ends.push(facts.ends.len());
     }
     let otherwise = match otherwise {
-        Otherwise::False => 0,
-        Otherwise::Unknown => 2,
+        Otherwise::False => Some(false),
+        Otherwise::Unknown => None,
     };
     match ffi::audit(&texts, &facts, &target_ends, otherwise) {
         Ok(values) => Ok(Audit {
-            values: values.into_iter().map(value_of).collect(),
+            values,
             target_count: targets.len(),
         }),
         Err(place) => Err(fact_error(targets, &target_ends, place)),
-    }
-}
-
-/// Returns the value that has this number.
-fn value_of(number: u8) -> Option<bool> {
-    match number {
-        0 => Some(false),
-        1 => Some(true),
-        _ => None,
     }
 }
 

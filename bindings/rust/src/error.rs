@@ -1,6 +1,6 @@
 //! What is wrong with a text.
 
-use crate::ffi;
+use crate::ffi::{self, numbers};
 use std::error::Error;
 use std::fmt;
 use std::ops::Range;
@@ -145,18 +145,18 @@ impl Reason {
     /// Returns the reason of a fault.
     fn new(fault: &ffi::Fault) -> Self {
         match fault.reason {
-            1 => Reason::InvalidNot(fault.members),
-            2 => Reason::InvalidCharacters,
-            3 => Reason::UnclosedParens,
-            4 => Reason::UnopenedParens,
-            5 => Reason::UnclosedQuotes,
-            6 => Reason::UnopenedQuotes,
-            7 => Reason::Empty,
-            8 => Reason::Unexpected(TERM_LISTS[fault.terms as usize - 1]),
-            9 => Reason::InvalidInteger,
-            10 => Reason::MultipleRootPredicates,
-            11 => Reason::InvalidHasAtomic,
-            12 => Reason::UnknownBuiltin,
+            numbers::REASON_INVALID_NOT => Reason::InvalidNot(fault.members),
+            numbers::REASON_INVALID_CHARACTERS => Reason::InvalidCharacters,
+            numbers::REASON_UNCLOSED_PARENS => Reason::UnclosedParens,
+            numbers::REASON_UNOPENED_PARENS => Reason::UnopenedParens,
+            numbers::REASON_UNCLOSED_QUOTES => Reason::UnclosedQuotes,
+            numbers::REASON_UNOPENED_QUOTES => Reason::UnopenedQuotes,
+            numbers::REASON_EMPTY => Reason::Empty,
+            numbers::REASON_UNEXPECTED => Reason::Unexpected(TERM_LISTS[fault.terms as usize - 1]),
+            numbers::REASON_INVALID_INTEGER => Reason::InvalidInteger,
+            numbers::REASON_MULTIPLE_ROOT_PREDICATES => Reason::MultipleRootPredicates,
+            numbers::REASON_INVALID_HAS_ATOMIC => Reason::InvalidHasAtomic,
+            numbers::REASON_UNKNOWN_BUILTIN => Reason::UnknownBuiltin,
             reason => unreachable!("reason {reason}"),
         }
     }

@@ -190,19 +190,17 @@ impl Expression {
     where
         EP: FnMut(&Predicate<'_>) -> Option<bool>,
     {
-        let answers: Vec<u8> = self
+        let answers: Vec<Option<bool>> = self
             .asked()
-            .map(|predicate| eval_predicate(&predicate).map_or(2, u8::from))
+            .map(|predicate| eval_predicate(&predicate))
             .collect();
-        let (value, fillings) = ffi::decide(&self.original, &answers);
-        match value {
-            0 => Decision::Known(false),
-            1 => Decision::Known(true),
-            _ => {
+        match ffi::decide(&self.original, &answers) {
+            (Some(value), _) => Decision::Known(value),
+            (None, fillings) => {
                 let (if_true, if_false) = fillings.split_at(answers.len());
                 Decision::Unknown {
-                    if_true: if_true.iter().map(|value| *value == 1).collect(),
-                    if_false: if_false.iter().map(|value| *value == 1).collect(),
+                    if_true: if_true.to_vec(),
+                    if_false: if_false.to_vec(),
                 }
             }
         }

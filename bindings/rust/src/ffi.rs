@@ -5,16 +5,19 @@
 //! pointer and its length may be passed. What a call writes is borrowed for this call alone. The
 //! structs are those of the header, and any bytes are a value of their fields.
 
+pub(crate) mod numbers;
+#[cfg(test)]
+mod tests;
+
+use numbers::{
+    STATUS_DONE, STATUS_FAULTY, STATUS_FAULTY_FACT, STATUS_OUT_OF_MEMORY, VALUE_FALSE, VALUE_TRUE,
+    VALUE_UNKNOWN, VERSION_LANGUAGE, VERSION_MAJOR, VERSION_MINOR,
+};
 use std::alloc::{Layout, handle_alloc_error};
 use std::ptr::null_mut;
 
 /// The version of the header that these declarations are of.
-const VERSION: u32 = 2_001_000;
-
-const DONE: u32 = 0;
-const FAULTY: u32 = 1;
-const OUT_OF_MEMORY: u32 = 3;
-const FAULTY_FACT: u32 = 9;
+const VERSION: u32 = VERSION_LANGUAGE * 1_000_000 + VERSION_MAJOR * 1000 + VERSION_MINOR;
 
 /// What is wrong with a text: `struct cfgx_fault`.
 #[repr(C)]
@@ -191,9 +194,9 @@ fn fill_compiled(
         )
     };
     match status {
-        DONE => Ok((step_count, predicate_count)),
-        FAULTY => Err(fault_of(text)),
-        OUT_OF_MEMORY => end_without_memory(text.len()),
+        STATUS_DONE => Ok((step_count, predicate_count)),
+        STATUS_FAULTY => Err(fault_of(text)),
+        STATUS_OUT_OF_MEMORY => end_without_memory(text.len()),
         _ => unreachable!("status {status}"),
     }
 }
@@ -203,15 +206,30 @@ fn fault_of(text: &str) -> Fault {
     let mut fault = Fault::default();
     // SAFETY: the text and the fault are as the head of this module says.
     match unsafe { cfgx_check(text.as_ptr(), text.len(), &mut fault) } {
-        FAULTY => fault,
-        OUT_OF_MEMORY => end_without_memory(text.len()),
+        STATUS_FAULTY => fault,
+        STATUS_OUT_OF_MEMORY => end_without_memory(text.len()),
         status => unreachable!("status {status}"),
+    }
+}
+
+/// Returns the byte of an answer.
+fn byte_of(answer: Option<bool>) -> u8 {
+    answer.map_or(VALUE_UNKNOWN as u8, u8::from)
+}
+
+/// Returns the value that has this byte.
+fn value_of(byte: u8) -> Option<bool> {
+    match u32::from(byte) {
+        VALUE_FALSE => Some(false),
+        VALUE_TRUE => Some(true),
+        _ => None,
     }
 }
 
 /// Returns the value of a condition over as many answers as it has predicates, and the two fillings
 /// one behind the other, which are empty if the value is known.
-pub(crate) fn decide(text: &str, answers: &[u8]) -> (u8, Vec<u8>) {
+pub(crate) fn decide(text: &str, answers: &[Option<bool>]) -> (Option<bool>, Vec<bool>) {
+    let answers: Vec<u8> = answers.iter().copied().map(byte_of).collect();
     let mut fillings = vec![0; 2 * answers.len()];
     let (mut needed, mut value) = (0, 0);
     // SAFETY: the slices, the count and the value are as the head of this module says.
@@ -228,11 +246,12 @@ pub(crate) fn decide(text: &str, answers: &[u8]) -> (u8, Vec<u8>) {
         )
     };
     match status {
-        DONE => fillings.truncate(needed),
-        OUT_OF_MEMORY => end_without_memory(text.len()),
+        STATUS_DONE => fillings.truncate(needed),
+        STATUS_OUT_OF_MEMORY => end_without_memory(text.len()),
         _ => unreachable!("status {status}"),
     }
-    (value, fillings)
+    let fillings = fillings.into_iter().map(|byte| byte != 0).collect();
+    (value_of(value), fillings)
 }
 
 /// Returns whether the engine takes a text as a fact, also as one that it passes over.
@@ -249,16 +268,16 @@ pub(crate) fn is_fact(fact: &str) -> bool {
             fact.len(),
             &fact.len(),
             1,
-            0,
+            byte_of(None),
             null_mut(),
             0,
             &mut needed,
         )
     };
     match status {
-        DONE => true,
-        FAULTY_FACT => false,
-        OUT_OF_MEMORY => end_without_memory(fact.len()),
+        STATUS_DONE => true,
+        STATUS_FAULTY_FACT => false,
+        STATUS_OUT_OF_MEMORY => end_without_memory(fact.len()),
         _ => unreachable!("status {status}"),
     }
 }
@@ -269,8 +288,8 @@ pub(crate) fn audit(
     conditions: &Texts,
     facts: &Texts,
     target_ends: &[usize],
-    otherwise: u8,
-) -> Result<Vec<u8>, usize> {
+    otherwise: Option<bool>,
+) -> Result<Vec<Option<bool>>, usize> {
     ensure_version();
     let mut values = vec![0; conditions.ends.len().saturating_mul(target_ends.len())];
     let (mut needed, mut place) = (0, 0);
@@ -287,7 +306,7 @@ pub(crate) fn audit(
             facts.ends.len(),
             target_ends.as_ptr(),
             target_ends.len(),
-            otherwise,
+            byte_of(otherwise),
             values.as_mut_ptr(),
             values.len(),
             &mut needed,
@@ -295,9 +314,9 @@ pub(crate) fn audit(
         )
     };
     match status {
-        DONE => Ok(values),
-        FAULTY_FACT => Err(place),
-        OUT_OF_MEMORY => end_without_memory(facts.bytes.len()),
+        STATUS_DONE => Ok(values.into_iter().map(value_of).collect()),
+        STATUS_FAULTY_FACT => Err(place),
+        STATUS_OUT_OF_MEMORY => end_without_memory(facts.bytes.len()),
         _ => unreachable!("status {status}"),
     }
 }

@@ -1,7 +1,7 @@
 //! The steps of an evaluation, each with the predicate that it asks.
 
 use super::{Predicate, TargetPredicate};
-use crate::ffi;
+use crate::ffi::{self, numbers};
 use crate::targets::{Abi, Arch, Endian, Env, Family, HasAtomic, Os, Panic, Vendor};
 use std::borrow::Cow;
 use std::ops::Range;
@@ -47,12 +47,12 @@ pub(super) fn nodes_of(
         .iter()
         .map(|predicate| Question::new(original, offset, predicate));
     let node_of = |step: &ffi::Step| match step.kind {
-        0 => Node::Literal(false),
-        1 => Node::Literal(true),
-        2 => Node::Ask(questions.next().expect("each step has its predicate")),
-        3 => Node::Not,
-        4 => Node::All(step.count),
-        5 => Node::Any(step.count),
+        numbers::STEP_FALSE => Node::Literal(false),
+        numbers::STEP_TRUE => Node::Literal(true),
+        numbers::STEP_ASK => Node::Ask(questions.next().expect("each step has its predicate")),
+        numbers::STEP_NOT => Node::Not,
+        numbers::STEP_ALL => Node::All(step.count),
+        numbers::STEP_ANY => Node::Any(step.count),
         kind => unreachable!("step {kind}"),
     };
     steps.iter().map(node_of).collect()
@@ -65,16 +65,16 @@ impl Question {
         let within = |start, end| start - offset..end - offset;
         let value = || within(found.value_start, found.value_end);
         match found.kind {
-            1 => Question::Flag(within(found.key_start, found.key_end)),
-            2 => Question::KeyValue {
+            numbers::PREDICATE_FLAG => Question::Flag(within(found.key_start, found.key_end)),
+            numbers::PREDICATE_KEY_VALUE => Question::KeyValue {
                 key: within(found.key_start, found.key_end),
                 val: value(),
             },
-            3 => Question::Whole(Predicate::Test),
-            4 => Question::Whole(Predicate::DebugAssertions),
-            5 => Question::Whole(Predicate::ProcMacro),
-            6 => Question::Feature(value()),
-            7 => Question::TargetFeature(value()),
+            numbers::PREDICATE_TEST => Question::Whole(Predicate::Test),
+            numbers::PREDICATE_DEBUG_ASSERTIONS => Question::Whole(Predicate::DebugAssertions),
+            numbers::PREDICATE_PROC_MACRO => Question::Whole(Predicate::ProcMacro),
+            numbers::PREDICATE_FEATURE => Question::Feature(value()),
+            numbers::PREDICATE_TARGET_FEATURE => Question::TargetFeature(value()),
             _ => Question::Whole(Predicate::Target(target_of(original, offset, found))),
         }
     }
@@ -99,33 +99,33 @@ impl Question {
 fn target_of(original: &str, offset: usize, found: &ffi::Predicate) -> TargetPredicate {
     let text = || &original[found.value_start - offset..found.value_end - offset];
     match found.kind {
-        8 => TargetPredicate::Abi(Abi::copied(text())),
-        9 => TargetPredicate::Arch(Arch::copied(text())),
-        10 => TargetPredicate::Endian(endian_of(found.number)),
-        11 => TargetPredicate::Env(Env::copied(text())),
-        12 => TargetPredicate::Family(Family::copied(text())),
-        13 => TargetPredicate::HasAtomic(width_of(found.number)),
-        14 => TargetPredicate::Os(Os::copied(text())),
-        15 => TargetPredicate::Panic(Panic::copied(text())),
-        16 => TargetPredicate::PointerWidth(found.number as u8),
-        17 => TargetPredicate::Vendor(Vendor::copied(text())),
+        numbers::PREDICATE_ABI => TargetPredicate::Abi(Abi::copied(text())),
+        numbers::PREDICATE_ARCH => TargetPredicate::Arch(Arch::copied(text())),
+        numbers::PREDICATE_ENDIAN => TargetPredicate::Endian(endian_of(found.number)),
+        numbers::PREDICATE_ENV => TargetPredicate::Env(Env::copied(text())),
+        numbers::PREDICATE_FAMILY => TargetPredicate::Family(Family::copied(text())),
+        numbers::PREDICATE_HAS_ATOMIC => TargetPredicate::HasAtomic(width_of(found.number)),
+        numbers::PREDICATE_OS => TargetPredicate::Os(Os::copied(text())),
+        numbers::PREDICATE_PANIC => TargetPredicate::Panic(Panic::copied(text())),
+        numbers::PREDICATE_POINTER_WIDTH => TargetPredicate::PointerWidth(found.number as u8),
+        numbers::PREDICATE_VENDOR => TargetPredicate::Vendor(Vendor::copied(text())),
         kind => unreachable!("predicate {kind}"),
     }
 }
 
 /// Returns the byte order with this number.
 fn endian_of(number: u32) -> Endian {
-    if number == 0 {
-        Endian::big
-    } else {
-        Endian::little
+    match number {
+        numbers::ENDIAN_BIG => Endian::big,
+        numbers::ENDIAN_LITTLE => Endian::little,
+        _ => unreachable!("byte order {number}"),
     }
 }
 
-/// Returns the width of atomics with this number, which is 65536 for the width of a pointer.
+/// Returns the width of atomics with this number.
 fn width_of(number: u32) -> HasAtomic {
-    match u16::try_from(number) {
-        Ok(bits) => HasAtomic::IntegerSize(bits),
-        Err(_) => HasAtomic::Pointer,
+    match number {
+        numbers::ATOMIC_POINTER => HasAtomic::Pointer,
+        bits => HasAtomic::IntegerSize(bits as u16),
     }
 }
