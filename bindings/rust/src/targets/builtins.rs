@@ -279,3 +279,45 @@ const fn apple(triple: &'static str, os: Os, abi: Option<Abi>, env: Option<Env>)
         panic: Panic::unwind,
     }
 }
+
+#[cfg(test)]
+mod tests {
+    use super::{Abi, Arch, Env, Family, Os, Panic, Vendor};
+    use std::borrow::Cow;
+    use std::fs;
+    use std::path::Path;
+
+    /// Panics unless each named value of a file of `crates/cfgx_fields` is one here, which is
+    /// borrowed.
+    fn check(file: &str, copied: impl Fn(&str) -> Cow<'static, str>) {
+        let folder = "../../crates/cfgx_fields/src/builtins";
+        let path = Path::new(env!("CARGO_MANIFEST_DIR"))
+            .join(folder)
+            .join(file);
+        let code = fs::read_to_string(path).unwrap();
+        let texts: Vec<&str> = code.split("Self::new_const(\"").skip(1).collect();
+        assert!(texts.len() > 1, "{file}");
+        for text in texts.iter().map(|rest| rest.split('"').next().unwrap()) {
+            assert!(
+                matches!(copied(text), Cow::Borrowed(name) if name == text),
+                "{text}"
+            );
+        }
+    }
+
+    #[test]
+    fn each_named_value_is_named_here() {
+        check("abis.rt", |text| Abi::copied(text).0);
+        check("architectures.rt", |text| Arch::copied(text).0);
+        check("environments.rt", |text| Env::copied(text).0);
+        check("families.rt", |text| Family::copied(text).0);
+        check("systems.rt", |text| Os::copied(text).0);
+        check("panics.rt", |text| Panic::copied(text).0);
+        check("vendors.rt", |text| Vendor::copied(text).0);
+    }
+
+    #[test]
+    fn every_other_text_is_copied() {
+        assert!(matches!(Os::copied("x").0, Cow::Owned(text) if text == "x"));
+    }
+}
