@@ -13,7 +13,7 @@ macro_rules! named_values {
                 pub const $name: $field = $field::new_const($text);
             )*
 
-            /// Returns the field with this text, which is copied unless it is that of a named value.
+            /// Returns the field with this text, which is copied unless a named value has it.
             pub(crate) fn copied(text: &str) -> $field {
                 match text {
                     $($text => $field::$name,)*
