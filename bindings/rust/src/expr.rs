@@ -3,12 +3,14 @@
 pub mod logic;
 mod node;
 mod predicate;
+mod stack;
 
 use crate::error::ParseError;
 use crate::ffi;
 pub use logic::Logic;
 use node::{Node, nodes_of};
 pub use predicate::{Predicate, TargetMatcher, TargetPredicate};
+use stack::Stack;
 use std::borrow::Cow;
 use std::fmt;
 use std::str::FromStr;
@@ -154,19 +156,19 @@ impl Expression {
         EP: FnMut(&Predicate<'_>) -> T,
         T: Logic,
     {
-        let mut stack: Vec<T> = Vec::with_capacity(self.nodes.len());
+        let mut stack = Stack::<T>::new();
         for node in &self.nodes {
             let value = match node {
                 Node::Ask(question) => eval_predicate(&question.predicate(&self.original)),
                 Node::Literal(true) => T::top(),
                 Node::Literal(false) => T::bottom(),
-                Node::Not => popped(&mut stack).not(),
-                Node::All(count) => join(&mut stack, *count, T::top(), T::and),
-                Node::Any(count) => join(&mut stack, *count, T::bottom(), T::or),
+                Node::Not => stack.pop().not(),
+                Node::All(count) => (0..*count).fold(T::top(), |value, _| value.and(stack.pop())),
+                Node::Any(count) => (0..*count).fold(T::bottom(), |value, _| value.or(stack.pop())),
             };
             stack.push(value);
         }
-        popped(&mut stack)
+        stack.pop()
     }
 
     /// Decides the condition over answers of which some may be unknown: returns its value, or two
@@ -213,17 +215,6 @@ fn strip(text: &str) -> (usize, &str) {
         .strip_prefix("cfg(")
         .and_then(|rest| rest.strip_suffix(')'));
     inner.map_or((0, text), |inner| (4, inner))
-}
-
-/// Pops a value, which is there: the engine returns the steps of a tree.
-fn popped<T>(stack: &mut Vec<T>) -> T {
-    stack.pop().expect("a step finds its values")
-}
-
-/// Pops `count` values, and returns `value` joined with each of them.
-fn join<T>(stack: &mut Vec<T>, count: usize, value: T, join: impl Fn(T, T) -> T) -> T {
-    let first = stack.len() - count;
-    stack.drain(first..).rev().fold(value, join)
 }
 
 impl FromStr for Expression {
