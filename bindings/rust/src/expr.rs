@@ -1,0 +1,245 @@
+//! Conditions, and the predicates that they ask.
+
+pub mod logic;
+mod node;
+mod predicate;
+mod stack;
+
+use crate::error::ParseError;
+use crate::ffi;
+pub use logic::Logic;
+use node::{Node, nodes_of};
+pub use predicate::{Predicate, TargetMatcher, TargetPredicate};
+use stack::Stack;
+use std::borrow::Cow;
+use std::fmt;
+use std::str::FromStr;
+
+/// A parsed condition.
+///
+/// The engine parses the text once. An expression is plain data, so threads may share it.
+///
+/// Two expressions are equal if their texts are equal, without an outer `cfg( )`: `key` and `key,`
+/// are not. An expression prints this text.
+///
+/// ```
+/// use cfgx::{Expression, Predicate};
+///
+/// let expression = Expression::parse("cfg(any(unix, feature = \"x\"))")?;
+/// assert!(expression.eval(|predicate| matches!(predicate, Predicate::Feature("x"))));
+/// assert_eq!(expression.to_string(), "any(unix, feature = \"x\")");
+/// # Ok::<(), cfgx::ParseError>(())
+/// ```
+#[derive(Clone)]
+pub struct Expression {
+    original: String,
+    nodes: Vec<Node>,
+}
+
+/// What [`Expression::decide`] found.
+///
+/// ```
+/// use cfgx::{Decision, Expression};
+///
+/// let expression = Expression::parse("all(a, not(b))").unwrap();
+/// let decision = expression.decide(|_| None);
+/// let Decision::Unknown { if_true, if_false } = decision else {
+///     panic!("nothing is known")
+/// };
+/// // The predicate below `not` is asked first.
+/// assert_eq!(if_true, [false, true]);
+/// assert_eq!(if_false, [true, false]);
+/// ```
+#[derive(Clone, Debug, PartialEq, Eq)]
+pub enum Decision {
+    /// The value, whatever the unknown answers are
+    Known(bool),
+    /// The value depends on the unknown answers, as two fillings show. A filling has one truth
+    /// value for each answer, in order: the answer, if it is known
+    Unknown {
+        /// A filling with which the condition is true
+        if_true: Vec<bool>,
+        /// A filling with which the condition is false
+        if_false: Vec<bool>,
+    },
+}
+
+impl Expression {
+    /// Parses a condition, which may stand in `cfg( )`.
+    ///
+    /// # Errors
+    ///
+    /// The first fault of the text, if it is no condition.
+    ///
+    /// # Memory
+    ///
+    /// Without memory, this call and each other one of the crate end the process by
+    /// [`handle_alloc_error`](std::alloc::handle_alloc_error), as those of `Vec` do.
+    ///
+    /// ```
+    /// use cfgx::Expression;
+    ///
+    /// assert!(Expression::parse("all(unix, test)").is_ok());
+    /// assert!(Expression::parse("all(unix").is_err());
+    /// ```
+    pub fn parse(original: &str) -> Result<Self, ParseError> {
+        let (offset, stripped) = strip(original);
+        let nodes = ffi::compile(original, |steps, predicates| {
+            nodes_of(stripped, offset, steps, predicates)
+        });
+        match nodes {
+            Ok(nodes) => Ok(Expression {
+                original: stripped.to_string(),
+                nodes,
+            }),
+            Err(fault) => Err(ParseError::new(stripped, &fault)),
+        }
+    }
+
+    /// Returns the text without an outer `cfg( )`.
+    ///
+    /// ```
+    /// use cfgx::Expression;
+    ///
+    /// assert_eq!(Expression::parse("cfg(unix)").unwrap().original(), "unix");
+    /// ```
+    pub fn original(&self) -> &str {
+        &self.original
+    }
+
+    /// Returns the predicates in the order in which they are asked: those of a list's functions,
+    /// one function after another, and then the list's own. A predicate that stands twice is listed
+    /// twice.
+    ///
+    /// ```
+    /// use cfgx::{Expression, Predicate};
+    ///
+    /// let expression = Expression::parse("all(a, any(b), c)").unwrap();
+    /// let asked: Vec<Predicate<'_>> = expression.predicates().collect();
+    /// assert_eq!(
+    ///     asked,
+    ///     [Predicate::Flag("b"), Predicate::Flag("a"), Predicate::Flag("c")]
+    /// );
+    /// ```
+    pub fn predicates(&self) -> impl Iterator<Item = Predicate<'_>> {
+        self.asked().map(Cow::into_owned)
+    }
+
+    /// Returns the predicates in the order in which they are asked, without copies.
+    fn asked(&self) -> impl Iterator<Item = Cow<'_, Predicate<'_>>> {
+        self.nodes.iter().filter_map(|node| match node {
+            Node::Ask(question) => Some(question.predicate(&self.original)),
+            _ => None,
+        })
+    }
+
+    /// Evaluates the condition over what `eval_predicate` answers to its predicates.
+    ///
+    /// Each occurrence of a predicate is asked once, in the order of
+    /// [`predicates`](Expression::predicates). The members of `all` are joined by `and` to `top`,
+    /// and those of `any` by `or` to `bottom`: from the last back, first the predicates and
+    /// literals of the list, and then its functions. A list is joined as soon as its last predicate
+    /// was asked.
+    ///
+    /// ```
+    /// use cfgx::{Expression, Predicate};
+    ///
+    /// let expression = Expression::parse("any(unix, feature = \"x\")").unwrap();
+    /// let value: Option<bool> = expression.eval(|predicate| match predicate {
+    ///     Predicate::Feature(name) => Some(*name == "x"),
+    ///     _ => None,
+    /// });
+    /// assert_eq!(value, Some(true));
+    /// ```
+    pub fn eval<EP, T>(&self, mut eval_predicate: EP) -> T
+    where
+        EP: FnMut(&Predicate<'_>) -> T,
+        T: Logic,
+    {
+        let mut stack = Stack::<T>::new();
+        for node in &self.nodes {
+            let value = match node {
+                Node::Ask(question) => eval_predicate(&question.predicate(&self.original)),
+                Node::Literal(true) => T::top(),
+                Node::Literal(false) => T::bottom(),
+                Node::Not => stack.pop().not(),
+                Node::All(count) => (0..*count).fold(T::top(), |value, _| value.and(stack.pop())),
+                Node::Any(count) => (0..*count).fold(T::bottom(), |value, _| value.or(stack.pop())),
+            };
+            stack.push(value);
+        }
+        stack.pop()
+    }
+
+    /// Decides the condition over answers of which some may be unknown: returns its value, or two
+    /// fillings of the unknown answers, one with which it is true and one with which it is false.
+    ///
+    /// Each occurrence of a predicate is asked once, in the order of
+    /// [`predicates`](Expression::predicates). The value is known exactly if every filling leads to
+    /// it.
+    ///
+    /// ```
+    /// use cfgx::{Decision, Expression, Predicate};
+    ///
+    /// let expression = Expression::parse("any(unix, feature = \"x\")").unwrap();
+    /// let decision = expression.decide(|predicate| match predicate {
+    ///     Predicate::Target(_) => Some(true),
+    ///     _ => None,
+    /// });
+    /// assert_eq!(decision, Decision::Known(true));
+    /// ```
+    pub fn decide<EP>(&self, mut eval_predicate: EP) -> Decision
+    where
+        EP: FnMut(&Predicate<'_>) -> Option<bool>,
+    {
+        let answers: Vec<Option<bool>> = self
+            .asked()
+            .map(|predicate| eval_predicate(&predicate))
+            .collect();
+        match ffi::decide(&self.original, &answers) {
+            (Some(value), _) => Decision::Known(value),
+            (None, fillings) => {
+                let (if_true, if_false) = fillings.split_at(answers.len());
+                Decision::Unknown {
+                    if_true: if_true.to_vec(),
+                    if_false: if_false.to_vec(),
+                }
+            }
+        }
+    }
+}
+
+/// Returns the text without an outer `cfg( )`, and the number of bytes before it.
+fn strip(text: &str) -> (usize, &str) {
+    let inner = text
+        .strip_prefix("cfg(")
+        .and_then(|rest| rest.strip_suffix(')'));
+    inner.map_or((0, text), |inner| (4, inner))
+}
+
+impl FromStr for Expression {
+    type Err = ParseError;
+
+    /// Does what [`Expression::parse`] does.
+    fn from_str(original: &str) -> Result<Self, ParseError> {
+        Expression::parse(original)
+    }
+}
+
+impl fmt::Display for Expression {
+    fn fmt(&self, f: &mut fmt::Formatter<'_>) -> fmt::Result {
+        f.write_str(&self.original)
+    }
+}
+
+impl fmt::Debug for Expression {
+    fn fmt(&self, f: &mut fmt::Formatter<'_>) -> fmt::Result {
+        f.debug_tuple("Expression").field(&self.original).finish()
+    }
+}
+
+impl PartialEq for Expression {
+    fn eq(&self, other: &Self) -> bool {
+        self.original == other.original
+    }
+}

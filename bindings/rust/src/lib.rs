@@ -1,0 +1,51 @@
+//! Conditions of `#[cfg(..)]`, such as `all(unix, feature = "x")`: parses them, lists their
+//! predicates and evaluates them.
+//!
+//! This crate has the surface of [`cfg-expr`](https://docs.rs/cfg-expr/0.20) over an engine whose
+//! calls are proved. A program that uses `cfg-expr` changes one line of its manifest:
+//!
+//! ```toml
+//! cfg-expr = { package = "cfgx", path = "bindings/rust" }
+//! ```
+//!
+//! ```
+//! use cfgx as cfg_expr;
+//! use cfg_expr::{Expression, Predicate, targets::get_builtin_target_by_triple};
+//!
+//! let target = get_builtin_target_by_triple("aarch64-apple-darwin").unwrap();
+//! let expression = Expression::parse("cfg(all(unix, not(feature = \"x\")))")?;
+//! assert!(expression.eval(|predicate| match predicate {
+//!     Predicate::Target(asked) => asked.matches(target),
+//!     _ => false,
+//! }));
+//! # Ok::<(), cfg_expr::ParseError>(())
+//! ```
+//!
+//! What `cfg-expr` does not have: [`Expression::decide`], [`audit()`],
+//! [`TargetInfo::from_rustc_cfg`](targets::TargetInfo::from_rustc_cfg) and
+//! [`Rustc`](targets::Rustc).
+//!
+//! # Memory
+//!
+//! A call that gets no memory ends the process by
+//! [`handle_alloc_error`](std::alloc::handle_alloc_error), as those of `Vec` do. All types are
+//! plain data, so they are `Send` and `Sync`.
+
+#![deny(missing_docs)]
+#![deny(unsafe_code)]
+
+mod audit;
+pub mod error;
+pub mod expr;
+#[allow(unsafe_code)]
+mod ffi;
+pub mod targets;
+
+pub use audit::{Audit, FactError, Facts, Otherwise, audit, audit_with};
+pub use error::ParseError;
+pub use expr::{Decision, Expression, Predicate, TargetPredicate};
+
+/// The examples of the README, which are tested with those of the pages.
+#[cfg(doctest)]
+#[doc = include_str!("../README.md")]
+struct Readme;

@@ -1,0 +1,162 @@
+//! Targets, as conditions see them.
+
+mod builtins;
+mod fields;
+mod lists;
+mod printed;
+mod rustc;
+
+use crate::error::{HasAtomicParseError, Reason};
+pub use builtins::ALL_BUILTINS;
+pub use fields::{Abi, Arch, Env, Family, Os, Panic, Triple, Vendor};
+pub use lists::{Families, HasAtomics};
+pub use printed::RustcCfgError;
+pub use rustc::{Rustc, RustcError};
+use std::fmt;
+use std::str::FromStr;
+
+/// The values that the predicates on a target ask for. `None` means that the target has no such
+/// value.
+///
+/// ```
+/// use cfgx::targets::{
+///     Arch, Endian, Env, Families, HasAtomics, Os, Panic, TargetInfo, Triple, Vendor,
+/// };
+///
+/// let target = TargetInfo {
+///     triple: Triple::new_const("x86_64-unknown-linux-gnu"),
+///     os: Some(Os::linux),
+///     abi: None,
+///     arch: Arch::x86_64,
+///     env: Some(Env::gnu),
+///     vendor: Some(Vendor::unknown),
+///     families: Families::unix,
+///     pointer_width: 64,
+///     endian: Endian::little,
+///     has_atomics: HasAtomics::atomic_8_16_32_64_ptr,
+///     panic: Panic::unwind,
+/// };
+/// assert_eq!(target.os.unwrap().as_str(), "linux");
+/// ```
+#[derive(Clone, Debug, PartialEq, Eq, PartialOrd, Ord, Hash)]
+pub struct TargetInfo {
+    /// The name of the target.
+    pub triple: Triple,
+    /// The operating system, `target_os`.
+    pub os: Option<Os>,
+    /// The ABI, `target_abi`, if it distinguishes targets.
+    pub abi: Option<Abi>,
+    /// The architecture, `target_arch`.
+    pub arch: Arch,
+    /// The ABI or libc, `target_env`, if it distinguishes targets.
+    pub env: Option<Env>,
+    /// The vendor, `target_vendor`.
+    pub vendor: Option<Vendor>,
+    /// The families, `target_family`.
+    pub families: Families,
+    /// The number of bits of a pointer, `target_pointer_width`.
+    pub pointer_width: u8,
+    /// The byte order, `target_endian`.
+    pub endian: Endian,
+    /// The widths of atomics, `target_has_atomic`.
+    pub has_atomics: HasAtomics,
+    /// The panic strategy, `panic`.
+    pub panic: Panic,
+}
+
+/// The order in which a target stores the bytes of a number. The variants are spelled like the
+/// values of `target_endian`.
+///
+/// ```
+/// use cfgx::error::Reason;
+/// use cfgx::targets::Endian;
+///
+/// assert_eq!("big".parse(), Ok(Endian::big));
+/// assert_eq!("Big".parse::<Endian>(), Err(Reason::Unexpected(&["big", "little"])));
+/// ```
+#[derive(Clone, Copy, Debug, PartialEq, Eq, PartialOrd, Ord, Hash)]
+#[allow(non_camel_case_types)]
+pub enum Endian {
+    /// The highest byte comes first.
+    big,
+    /// The lowest byte comes first.
+    little,
+}
+
+impl FromStr for Endian {
+    type Err = Reason;
+
+    /// Reads `big` or `little`, letter for letter.
+    fn from_str(text: &str) -> Result<Self, Reason> {
+        match text {
+            "big" => Ok(Endian::big),
+            "little" => Ok(Endian::little),
+            _ => Err(Reason::Unexpected(&["big", "little"])),
+        }
+    }
+}
+
+/// A width of atomics. Numbers of bits are in order, and below the width of a pointer.
+///
+/// ```
+/// use cfgx::targets::HasAtomic;
+///
+/// assert_eq!("+64".parse(), Ok(HasAtomic::IntegerSize(64)));
+/// assert_eq!(HasAtomic::Pointer.to_string(), "ptr");
+/// assert!("word".parse::<HasAtomic>().is_err());
+/// ```
+#[derive(Clone, Copy, Debug, PartialEq, Eq, PartialOrd, Ord, Hash)]
+#[non_exhaustive]
+pub enum HasAtomic {
+    /// A number of bits.
+    IntegerSize(u16),
+    /// The width of a pointer.
+    Pointer,
+}
+
+impl FromStr for HasAtomic {
+    type Err = HasAtomicParseError;
+
+    /// Reads a number of bits, at most 65535, or `ptr`.
+    fn from_str(text: &str) -> Result<Self, HasAtomicParseError> {
+        match text.parse() {
+            Ok(bits) => Ok(HasAtomic::IntegerSize(bits)),
+            Err(_) if text == "ptr" => Ok(HasAtomic::Pointer),
+            Err(_) => Err(HasAtomicParseError::new(text)),
+        }
+    }
+}
+
+impl fmt::Display for HasAtomic {
+    fn fmt(&self, f: &mut fmt::Formatter<'_>) -> fmt::Result {
+        match self {
+            HasAtomic::IntegerSize(bits) => write!(f, "{bits}"),
+            HasAtomic::Pointer => f.write_str("ptr"),
+        }
+    }
+}
+
+/// Returns the built-in target with this triple.
+///
+/// ```
+/// use cfgx::targets::get_builtin_target_by_triple;
+///
+/// assert!(get_builtin_target_by_triple("aarch64-apple-tvos").is_some());
+/// assert!(get_builtin_target_by_triple("x86_64-unknown-linux-gnu").is_none());
+/// ```
+pub fn get_builtin_target_by_triple(triple: &str) -> Option<&'static TargetInfo> {
+    ALL_BUILTINS
+        .binary_search_by(|target| target.triple.as_str().cmp(triple))
+        .ok()
+        .map(|place| &ALL_BUILTINS[place])
+}
+
+/// Returns `1.99.0`, a fixed text. The built-in targets and the named values need not be those of
+/// that compiler.
+///
+/// ```
+/// assert_eq!(cfgx::targets::rustc_version(), "1.99.0");
+/// ```
+pub const fn rustc_version() -> &'static str {
+    "1.99.0"
+}

@@ -1,0 +1,175 @@
+//! Targets of the `rustc` on the path.
+
+use super::{RustcCfgError, TargetInfo};
+use crate::audit::Facts;
+use std::error::Error;
+use std::fmt;
+use std::io;
+use std::process::Command;
+
+/// What the `rustc` on the path says of some targets. It was asked of each once.
+///
+/// ```no_run
+/// use cfgx::targets::Rustc;
+///
+/// let rustc = Rustc::ask(["x86_64-unknown-linux-gnu", "wasm32-unknown-unknown"])?;
+/// assert_eq!(rustc.targets()[1].arch.as_str(), "wasm32");
+/// # Ok::<(), cfgx::targets::RustcError>(())
+/// ```
+#[derive(Clone, Debug)]
+pub struct Rustc {
+    targets: Vec<TargetInfo>,
+    facts: Vec<Facts>,
+}
+
+/// Why `rustc` says nothing of a target.
+///
+/// ```
+/// use cfgx::targets::{Rustc, RustcError};
+///
+/// match Rustc::ask(["nowhere"]) {
+///     Err(RustcError::Refused { triple, .. }) => assert_eq!(triple, "nowhere"),
+///     Err(RustcError::NotRun(_)) => println!("there is no rustc on the path"),
+///     other => panic!("{other:?}"),
+/// }
+/// ```
+#[derive(Debug)]
+#[non_exhaustive]
+pub enum RustcError {
+    /// It could not be run.
+    NotRun(io::Error),
+    /// It does not know the target.
+    Refused {
+        /// The triple that it was asked of.
+        triple: String,
+        /// What it wrote.
+        message: String,
+    },
+    /// What it printed describes no target.
+    Unread {
+        /// The triple that it was asked of.
+        triple: String,
+        /// Why not.
+        error: RustcCfgError,
+    },
+}
+
+impl fmt::Display for RustcError {
+    fn fmt(&self, f: &mut fmt::Formatter<'_>) -> fmt::Result {
+        match self {
+            RustcError::NotRun(error) => write!(f, "rustc could not be run: {error}"),
+            RustcError::Refused { triple, message } => {
+                write!(f, "rustc does not know {triple}: {}", message.trim_end())
+            }
+            RustcError::Unread { triple, error } => write!(f, "rustc of {triple}: {error}"),
+        }
+    }
+}
+
+impl Error for RustcError {
+    fn source(&self) -> Option<&(dyn Error + 'static)> {
+        match self {
+            RustcError::NotRun(error) => Some(error),
+            RustcError::Refused { .. } => None,
+            RustcError::Unread { error, .. } => Some(error),
+        }
+    }
+}
+
+impl Rustc {
+    /// Asks the `rustc` on the path of each target.
+    ///
+    /// # Errors
+    ///
+    /// `NotRun`: it could not be run. `Refused`: it does not know one of the targets. `Unread`:
+    /// what it printed of one describes no target.
+    ///
+    /// ```no_run
+    /// use cfgx::targets::Rustc;
+    ///
+    /// let rustc = Rustc::ask(["x86_64-unknown-linux-gnu"])?;
+    /// assert_eq!(rustc.targets().len(), 1);
+    /// # Ok::<(), cfgx::targets::RustcError>(())
+    /// ```
+    pub fn ask<I>(triples: I) -> Result<Rustc, RustcError>
+    where
+        I: IntoIterator,
+        I::Item: AsRef<str>,
+    {
+        let mut rustc = Rustc {
+            targets: Vec::new(),
+            facts: Vec::new(),
+        };
+        for triple in triples {
+            let triple = triple.as_ref();
+            let lines = printed_for(triple)?;
+            let target = TargetInfo::from_rustc_cfg(triple, &lines);
+            let unread = |error| RustcError::Unread {
+                triple: triple.to_string(),
+                error,
+            };
+            rustc.targets.push(target.map_err(unread)?);
+            rustc.facts.push(Facts::new(lines.lines()));
+        }
+        Ok(rustc)
+    }
+
+    /// Returns the targets, in the order of the triples.
+    ///
+    /// ```no_run
+    /// use cfgx::targets::Rustc;
+    ///
+    /// let rustc = Rustc::ask(["wasm32-unknown-unknown"])?;
+    /// assert_eq!(rustc.targets()[0].pointer_width, 32);
+    /// # Ok::<(), cfgx::targets::RustcError>(())
+    /// ```
+    pub fn targets(&self) -> &[TargetInfo] {
+        &self.targets
+    }
+
+    /// Returns the target with this triple, if `rustc` was asked of it.
+    ///
+    /// ```no_run
+    /// use cfgx::targets::Rustc;
+    ///
+    /// let rustc = Rustc::ask(["wasm32-unknown-unknown"])?;
+    /// assert!(rustc.target("wasm32-unknown-unknown").is_some());
+    /// # Ok::<(), cfgx::targets::RustcError>(())
+    /// ```
+    pub fn target(&self, triple: &str) -> Option<&TargetInfo> {
+        self.targets
+            .iter()
+            .find(|target| target.triple.as_str() == triple)
+    }
+
+    /// Returns the facts of each target, in the order of the triples, for an
+    /// [`audit`](crate::audit()).
+    ///
+    /// ```no_run
+    /// use cfgx::targets::Rustc;
+    /// use cfgx::{Expression, audit};
+    ///
+    /// let rustc = Rustc::ask(["x86_64-unknown-linux-gnu", "wasm32-unknown-unknown"])?;
+    /// let values = audit(&[Expression::parse("unix").unwrap()], rustc.facts()).unwrap();
+    /// assert_eq!(values.row(0), [Some(true), Some(false)]);
+    /// # Ok::<(), cfgx::targets::RustcError>(())
+    /// ```
+    pub fn facts(&self) -> &[Facts] {
+        &self.facts
+    }
+}
+
+/// Returns what `rustc --print cfg` prints for a target.
+fn printed_for(triple: &str) -> Result<String, RustcError> {
+    let output = Command::new("rustc")
+        .args(["--print", "cfg", "--target", triple])
+        .output()
+        .map_err(RustcError::NotRun)?;
+    if output.status.success() {
+        return Ok(String::from_utf8_lossy(&output.stdout).into_owned());
+    }
+    Err(RustcError::Refused {
+        triple: triple.to_string(),
+        message: String::from_utf8_lossy(&output.stderr).into_owned(),
+    })
+}

@@ -1,0 +1,55 @@
+//! A run under valgrind, which finds no leak and no wrong access.
+
+use cfgx::targets::TargetInfo;
+use cfgx::{Expression, Facts, audit};
+use std::env;
+use std::process::Command;
+use std::slice;
+
+/// Makes each call of the crate that calls the engine. The test below runs it under valgrind.
+#[test]
+fn calls_that_are_watched() {
+    let long = format!("all({})", "unix, any(key = \"x\"), ".repeat(100));
+    for text in [
+        "cfg(all(unix, not(feature = \"x\")))",
+        "not()",
+        "all(",
+        "a b",
+        &long,
+    ] {
+        if let Ok(expression) = Expression::parse(text) {
+            assert!(expression.clone().eval(|_| None::<bool>).is_none());
+            let _ = expression.decide(|_| None);
+            let targets = [
+                Facts::new(["unix", "target_thread_local"]),
+                Facts::new(["a b"]),
+            ];
+            assert!(audit(slice::from_ref(&expression), &targets[..1]).is_ok());
+            assert!(audit(&[expression], &targets).is_err());
+        }
+    }
+    assert!(TargetInfo::from_rustc_cfg("mine", "unix\ntarget_thread_local").is_err());
+}
+
+#[test]
+fn valgrind_finds_nothing() {
+    let Ok(output) = Command::new("valgrind")
+        .args(["-q", "--leak-check=full", "--error-exitcode=9"])
+        .args(["--show-leak-kinds=definite,indirect"])
+        .args(["--errors-for-leak-kinds=definite,indirect"])
+        .arg(env::current_exe().unwrap())
+        .args([
+            "--exact",
+            "leaks::calls_that_are_watched",
+            "--test-threads=1",
+        ])
+        .output()
+    else {
+        println!("there is no valgrind on this machine, so no leak was looked for");
+        return;
+    };
+    let said = String::from_utf8_lossy(&output.stderr);
+    assert!(output.status.success(), "{said}");
+    let printed = String::from_utf8_lossy(&output.stdout);
+    assert!(printed.contains("1 passed"), "{printed}");
+}

@@ -1,0 +1,93 @@
+//! Logics of a caller.
+
+use cfgx::Expression;
+use cfgx::expr::{Logic, Predicate};
+
+/// A logic whose values are terms: `T`, `F`, `(x&y)`, `(x|y)`, `!x`, or what a caller answers.
+#[derive(Clone, Debug, PartialEq)]
+pub struct Term(pub String);
+
+impl Logic for Term {
+    fn top() -> Self {
+        Term(String::from("T"))
+    }
+
+    fn bottom() -> Self {
+        Term(String::from("F"))
+    }
+
+    fn and(self, other: Self) -> Self {
+        Term(format!("({}&{})", self.0, other.0))
+    }
+
+    fn or(self, other: Self) -> Self {
+        Term(format!("({}|{})", self.0, other.0))
+    }
+
+    fn not(self) -> Self {
+        Term(format!("!{}", self.0))
+    }
+}
+
+/// Returns the term of a condition, in which each predicate is its name and the number of its
+/// question.
+fn term(text: &str) -> String {
+    let mut count = 0;
+    let value = Expression::parse(text).unwrap().eval(|predicate| {
+        count += 1;
+        match predicate {
+            Predicate::Flag(name) => Term(format!("{name}{count}")),
+            _ => Term(format!("?{count}")),
+        }
+    });
+    value.0
+}
+
+#[test]
+fn terms_show_the_order_of_questions_and_of_joining() {
+    assert_eq!(term("a"), "a1");
+    assert_eq!(term("all()"), "T");
+    assert_eq!(term("not(any())"), "!F");
+    assert_eq!(term("all(test)"), "(T&?1)");
+    assert_eq!(term("all(a, any(b), c)"), "(((T&c3)&a2)&(F|b1))");
+    assert_eq!(
+        term("any(a, all(b, not(c)), d)"),
+        "(((F|d4)|a3)|((T&b2)&!c1))"
+    );
+    assert_eq!(
+        term("all(a, true, any(b), false)"),
+        "((((T&F)&T)&a2)&(F|b1))"
+    );
+}
+
+/// A number of questions that cannot be copied.
+struct Asked(u32);
+
+impl Logic for Asked {
+    fn top() -> Self {
+        Asked(0)
+    }
+
+    fn bottom() -> Self {
+        Asked(0)
+    }
+
+    fn and(self, other: Self) -> Self {
+        Asked(self.0 + other.0)
+    }
+
+    fn or(self, other: Self) -> Self {
+        Asked(self.0 + other.0)
+    }
+
+    fn not(self) -> Self {
+        self
+    }
+}
+
+#[test]
+fn each_occurrence_is_asked_once() {
+    let expression = Expression::parse("any(a, not(a), all(a, a), true)").unwrap();
+    assert_eq!(expression.eval(|_| Asked(1)).0, 4);
+    assert_eq!(expression.predicates().count(), 4);
+}

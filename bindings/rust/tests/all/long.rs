@@ -1,0 +1,75 @@
+//! Deep and wide texts of a megabyte.
+
+use super::engine;
+use cfgx::error::Reason;
+use cfgx::{Decision, Expression};
+
+/// The least number of bytes of a long text.
+const LENGTH: usize = 1 << 20;
+
+/// Returns the value of a text whose predicates are all true, which the engine gives too.
+fn value_of(text: &str) -> bool {
+    assert!(text.len() >= LENGTH);
+    let expression = Expression::parse(text).unwrap();
+    let count = expression.predicates().count();
+    let value = expression.eval(|_| true);
+    assert_eq!(engine::value(text, &vec![Some(true); count]), Some(value));
+    value
+}
+
+#[test]
+fn deep_texts() {
+    let depth = LENGTH / 5;
+    assert!(!value_of(&format!(
+        "{}a{}",
+        "not(".repeat(depth | 1),
+        ")".repeat(depth | 1)
+    )));
+    assert!(value_of(&format!(
+        "{}a{}",
+        "all(b,".repeat(depth),
+        ")".repeat(depth)
+    )));
+    assert!(value_of(&format!(
+        "{}a{}",
+        "any(".repeat(depth),
+        ",b)".repeat(depth)
+    )));
+}
+
+#[test]
+fn wide_texts() {
+    assert!(value_of(&format!("all({})", "a,".repeat(LENGTH / 2))));
+    assert!(value_of(&format!(
+        "any(all(), {})",
+        "not(unix), ".repeat(LENGTH / 11 + 1)
+    )));
+    assert!(value_of(&format!("key = \"{}\"", "é".repeat(LENGTH / 2))));
+}
+
+#[test]
+fn long_decisions() {
+    let text = format!("all({})", "a,".repeat(LENGTH / 2));
+    let expression = Expression::parse(&text).unwrap();
+    let Decision::Unknown { if_true, if_false } = expression.decide(|_| None) else {
+        panic!("nothing is known")
+    };
+    assert_eq!((if_true.len(), if_false.len()), (LENGTH / 2, LENGTH / 2));
+    assert!(if_true.iter().all(|value| *value));
+    assert!(!if_false.iter().any(|value| *value));
+}
+
+#[test]
+fn long_faults() {
+    let text = format!("{})", "a".repeat(LENGTH));
+    let error = Expression::parse(&text).unwrap_err();
+    assert_eq!(
+        (&error.span, &error.reason),
+        (&(LENGTH..LENGTH + 1), &Reason::UnopenedParens)
+    );
+    assert_eq!(Some(error.to_string()), engine::explain(&text));
+    let text = format!("cfg(not({}))", "a,".repeat(LENGTH / 2));
+    let error = Expression::parse(&text).unwrap_err();
+    assert_eq!(error.reason, Reason::InvalidNot(LENGTH / 2));
+    assert_eq!(Some(error.to_string()), engine::explain(&text));
+}

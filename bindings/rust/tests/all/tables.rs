@@ -1,0 +1,189 @@
+//! The rows of the repository's own tables.
+
+use super::rows::table;
+use super::spelling::spelled;
+use cfgx::error::{ParseError, Reason};
+use cfgx::targets::{Families, Family, HasAtomic, HasAtomics, Os};
+use cfgx::{Decision, Expression};
+use std::error::Error;
+
+/// Returns a reason as the tables write it.
+fn named(reason: &Reason) -> String {
+    match reason {
+        Reason::Unexpected(terms) => {
+            let terms: Vec<String> = terms.iter().map(|term| format!("`{term}`")).collect();
+            format!("U[{}]", terms.join(" "))
+        }
+        other => format!("{other:?}"),
+    }
+}
+
+/// Returns a fault as the tables write it.
+fn located(error: &ParseError) -> String {
+    format!("{} at {:?}", named(&error.reason), error.span)
+}
+
+/// Returns the reason that the tables write so.
+fn reason_named(name: &str) -> Reason {
+    if let Some(count) = name.strip_prefix("InvalidNot(") {
+        return Reason::InvalidNot(count.trim_end_matches(')').parse().unwrap());
+    }
+    if let Some(list) = name.strip_prefix("U[") {
+        let terms = list.trim_end_matches(']').split('`').skip(1).step_by(2);
+        let terms: Vec<&str> = terms.map(|term| &*String::from(term).leak()).collect();
+        return Reason::Unexpected(terms.leak());
+    }
+    let simple = [
+        Reason::InvalidCharacters,
+        Reason::UnclosedParens,
+        Reason::UnopenedParens,
+        Reason::UnclosedQuotes,
+        Reason::UnopenedQuotes,
+        Reason::Empty,
+        Reason::InvalidInteger,
+        Reason::MultipleRootPredicates,
+        Reason::InvalidHasAtomic,
+        Reason::UnknownBuiltin,
+    ];
+    let is_named = |reason: &Reason| named(reason) == name;
+    simple.into_iter().find(is_named).unwrap()
+}
+
+#[test]
+fn faults() {
+    for file in [
+        "faults.txt",
+        "neighbours.txt",
+        "predicates.txt",
+        "tokens.txt",
+    ] {
+        for row in table(file, "fault") {
+            let error = Expression::parse(&row[0]).unwrap_err();
+            assert_eq!(located(&error), row[1], "{}", row[0]);
+            assert_eq!(error.original, row[0]);
+        }
+    }
+    for row in table("stripping.txt", "fault in the stripped text") {
+        let error = row[0].parse::<Expression>().unwrap_err();
+        assert_eq!([located(&error), error.original], row[1..]);
+    }
+}
+
+#[test]
+fn predicates_in_the_order_in_which_they_are_asked() {
+    for file in ["grammar.txt", "order.txt", "predicates.txt", "tokens.txt"] {
+        for row in table(file, "predicates") {
+            let expression = Expression::parse(&row[0]).unwrap();
+            let listed: Vec<String> = expression.predicates().map(|one| spelled(&one)).collect();
+            assert_eq!(listed.join("\n"), row[1], "{}", row[0]);
+        }
+    }
+    for row in table("spelling.txt", "spelling") {
+        let expression = Expression::parse(&row[0]).unwrap();
+        let listed: Vec<String> = expression.predicates().map(|one| spelled(&one)).collect();
+        assert_eq!(listed.concat(), row[1], "{}", row[0]);
+    }
+}
+
+#[test]
+fn stripped_texts_and_equality() {
+    for row in table("stripping.txt", "stripped text") {
+        let expression = Expression::parse(&row[0]).unwrap();
+        assert_eq!(expression.original(), row[1]);
+        assert_eq!(expression.to_string(), row[1]);
+        assert_eq!(
+            format!("{expression:?}"),
+            format!("Expression({:?})", row[1])
+        );
+        assert_eq!(expression.clone(), expression);
+    }
+    for row in table("stripping.txt", "equality") {
+        let [one, other] = [0, 1].map(|place| Expression::parse(&row[place]).unwrap());
+        assert_eq!(one == other, row[2] == "equal", "{row:?}");
+    }
+    assert_ne!(Expression::parse("a"), Expression::parse("b"));
+}
+
+#[test]
+fn fillings() {
+    for row in table("values.txt", "fillings") {
+        let expression = Expression::parse(&row[0]).unwrap();
+        let mut answers = row[1].chars().map(|answer| match answer {
+            '0' => Some(false),
+            '1' => Some(true),
+            _ => None,
+        });
+        let found = match expression.decide(|_| answers.next().unwrap()) {
+            Decision::Known(value) => value.to_string(),
+            Decision::Unknown { if_true, if_false } => {
+                let digits = |values: Vec<bool>| -> String {
+                    values
+                        .into_iter()
+                        .map(|value| if value { '1' } else { '0' })
+                        .collect()
+                };
+                format!("{} {}", digits(if_true), digits(if_false))
+            }
+        };
+        assert_eq!(found, row[2], "{} over {}", row[0], row[1]);
+        assert_eq!(answers.next(), None);
+    }
+}
+
+#[test]
+#[allow(deprecated)]
+fn what_reasons_and_faults_print() {
+    for row in table("printing.txt", "reason") {
+        let reason = reason_named(&row[0]);
+        assert_eq!(reason.to_string(), row[1]);
+        let error = ParseError {
+            original: String::new(),
+            span: 0..0,
+            reason,
+        };
+        assert_eq!(error.description(), row[2]);
+    }
+    for row in table("printing.txt", "printed fault") {
+        let (reason, span) = row[1].rsplit_once(" at ").unwrap();
+        let (start, end) = span.split_once("..").unwrap();
+        let error = ParseError {
+            original: row[0].clone(),
+            span: start.parse().unwrap()..end.parse().unwrap(),
+            reason: reason_named(reason),
+        };
+        assert_eq!(error.to_string(), row[2]);
+    }
+    let error = ParseError {
+        original: String::from("ab"),
+        span: 0..2,
+        reason: Reason::UnopenedQuotes,
+    };
+    assert_eq!(error.to_string(), "ab\n^ unopened quotes");
+}
+
+#[test]
+fn lists_widths_and_fields() {
+    for row in table("lists.txt", "list of families") {
+        let families = row[0]
+            .split_whitespace()
+            .map(str::to_string)
+            .map(Family::new);
+        assert_eq!(Families::new(families).to_string(), row[1]);
+    }
+    for row in table("lists.txt", "list of widths") {
+        let widths = row[0]
+            .split_whitespace()
+            .map(|width| width.parse().unwrap());
+        assert_eq!(HasAtomics::new(widths).to_string(), row[1]);
+    }
+    for row in table("lists.txt", "width") {
+        let printed = match row[0].parse::<HasAtomic>() {
+            Ok(width) => width.to_string(),
+            Err(error) => error.to_string(),
+        };
+        assert_eq!(printed, row[1]);
+    }
+    for row in table("lists.txt", "field") {
+        assert_eq!(Os::new(row[0].clone()).to_string(), row[0]);
+    }
+}
