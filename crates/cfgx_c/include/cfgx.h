@@ -24,7 +24,7 @@
  * If several statuses are true, a call returns the first of these: CFGX_STATUS_BAD_ENDS;
  * CFGX_STATUS_TOO_LARGE; CFGX_STATUS_NOT_UTF8 or CFGX_STATUS_FAULTY, for the first text that is not
  * UTF-8 or no condition; CFGX_STATUS_FAULTY_FACT; CFGX_STATUS_NO_TREE; CFGX_STATUS_MISCOUNTED.
- * CFGX_STATUS_OUT_OF_MEMORY may stand in for each of them but the first two.
+ * CFGX_STATUS_OUT_OF_MEMORY may stand in for every status but the first two.
  *
  * A call keeps no pointer and no memory. It takes memory from malloc and realloc, and returns it to
  * free. Several threads may call at once. Nothing checks these duties of a caller:
@@ -255,7 +255,7 @@ uint32_t cfgx_apply(const struct cfgx_step *steps, size_t step_count,
  *
  * Returns CFGX_STATUS_DONE. Returns CFGX_STATUS_FAULTY or CFGX_STATUS_NOT_UTF8, and writes the
  * number of the first such text to `*place`. Returns CFGX_STATUS_FAULTY_FACT, and writes the number
- * of the first such fact, among those of all targets, to `*place`. Otherwise returns
+ * of the first such fact, counted over all targets, to `*place`. Otherwise returns
  * CFGX_STATUS_OUT_OF_MEMORY, CFGX_STATUS_BAD_ENDS or CFGX_STATUS_TOO_LARGE. With every other
  * status, `*place` stays as it was. */
 uint32_t cfgx_audit(const char *texts, size_t texts_length,
@@ -278,8 +278,8 @@ uint32_t cfgx_run(const char *words, size_t words_length,
                   const char *input, size_t input_length,
                   char *output, size_t room, size_t *needed);
 
-/* What follows lets a null pointer stand where its count is 0. The name of each call becomes that
- * of a function that passes on what it is passed, with a pointer to some item in place of such a
+/* What follows allows a null pointer where its count is 0. The name of each call becomes that of a
+ * function here. It passes on what it is passed, with a pointer to some item in place of such a
  * null pointer. A null pointer with another count stays null. */
 
 static inline const char *cfgx_given_text(const char *text, size_t count) {
