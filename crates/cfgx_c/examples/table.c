@@ -52,7 +52,8 @@ static void add_lines(struct list *list, const char *path)
     while ((length = getline(&line, &room, file)) > 0) {
         add_text(list, line, (size_t)length - (line[length - 1] == '\n'));
     }
-    if (ferror(file)) {
+    /* A read that fails, or memory that is refused, also ends the loop. */
+    if (ferror(file) || !feof(file)) {
         fail("a file cannot be read");
     }
     free(line);
@@ -104,6 +105,7 @@ int main(int count, char **word)
         add_lines(&facts, word[target + 2]);
         target_ends[target] = facts.count;
     }
+    /* The block is refused if the product does not fit in a size_t. */
     uint8_t *found = new_block(conditions.count, targets);
     size_t needed, place = 0, room = conditions.count * targets;
     uint32_t status = cfgx_audit(conditions.bytes, conditions.length, conditions.ends,
