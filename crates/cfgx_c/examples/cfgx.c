@@ -1,14 +1,13 @@
-/* The program cfgx, over the call `cfgx_run`. */
-#include "cfgx.h"
+/* The program cfgx, over the call `cfgx_run`. Needs POSIX. */
+#include "support.h"
 
-#include <stdlib.h>
 #include <string.h>
 #include <unistd.h>
 
-/* The program reads at most one byte more than `pick` takes. */
+/* As much input as is read: one byte more than `pick` takes. */
 #define MOST_INPUT (((size_t)1 << 24) + 1)
 
-/* What a call is passed and fills, in blocks that grow. */
+/* What the call is passed, and what it fills. */
 struct run {
     char *words;
     size_t words_length;
@@ -28,7 +27,7 @@ static int take_words(struct run *run, char **word, size_t count)
         length += strlen(word[i]);
     }
     run->words = malloc(length + 1);
-    run->word_ends = malloc((count + 1) * sizeof *run->word_ends);
+    run->word_ends = calloc(count + 1, sizeof *run->word_ends);
     if (run->words == NULL || run->word_ends == NULL) {
         return 0;
     }
@@ -61,16 +60,20 @@ static int read_input(struct run *run)
 /* Runs cfgx, and once more if the output needs more room. Returns the status. */
 static uint32_t fill_output(struct run *run)
 {
-    size_t room = run->output_length;
-    uint32_t status = cfgx_run(run->words, run->words_length, run->word_ends, run->word_count,
-                               run->input, run->input_length, run->output, room,
-                               &run->output_length);
-    if (run->output_length <= room) {
-        return status;
-    }
-    free(run->output);
-    run->output = malloc(run->output_length);
-    return run->output == NULL ? CFGX_STATUS_OUT_OF_MEMORY : fill_output(run);
+    size_t room;
+    uint32_t status;
+    do {
+        room = run->output_length;
+        free(run->output);
+        run->output = malloc(room + 1);
+        if (run->output == NULL) {
+            return CFGX_STATUS_OUT_OF_MEMORY;
+        }
+        status = cfgx_run(run->words, run->words_length, run->word_ends, run->word_count,
+                          run->input, run->input_length, run->output, room,
+                          &run->output_length);
+    } while (run->output_length > room);
+    return status;
 }
 
 /* Writes the output. Returns whether each write succeeded. */
@@ -103,6 +106,7 @@ static uint32_t status_of(struct run *run, char **word, size_t count)
 
 int main(int count, char **word)
 {
+    expect_version();
     struct run run = {0};
     uint32_t status = status_of(&run, word + 1, count > 0 ? (size_t)count - 1 : 0);
     free(run.words);

@@ -3,9 +3,11 @@
 A text is `bytes`. A value or an answer is True, False, or None for unknown.
 """
 import ctypes
+import sys
 from ctypes import POINTER, c_char_p, c_size_t, c_uint8, c_uint32
 
-DONE, FAULTY = 0, 1
+VERSION = 2_001_000
+DONE, FAULTY, WRONG_USE, OUT_OF_MEMORY, NOT_UTF8, FAULTY_FACT = 0, 1, 2, 3, 4, 9
 STATUSES = (
     "done", "a faulty text", "wrong use", "out of memory", "not UTF-8", "miscounted answers",
     "bad ends", "the steps of no condition", "too many values", "a faulty fact",
@@ -55,10 +57,11 @@ ARGUMENTS = {
 
 
 class CfgxError(Exception):
-    """A status other than that of a result, and the place that an audit told."""
+    """A status other than that of a result, and the number of the text or the fact at fault if the
+    call told it."""
 
     def __init__(self, status, place=None):
-        super().__init__(STATUSES[status])
+        super().__init__(STATUSES[status] + ("" if place is None else f", number {place}"))
         self.status = status
         self.place = place
 
@@ -67,6 +70,22 @@ def expect_done(status, place=None):
     """Raises the status, unless it is that of a result."""
     if status != DONE:
         raise CfgxError(status, place)
+
+
+def run_example(main, usage, most=None):
+    """Runs an example with the words of the command line: at least one, and at most so many."""
+    words = sys.argv[1:]
+    if not words or most is not None and len(words) > most:
+        print("usage:", usage, file=sys.stderr)
+        sys.exit(WRONG_USE)
+    try:
+        main(*words)
+    except CfgxError as error:
+        print(error, file=sys.stderr)
+        sys.exit(error.status)
+    except OSError as error:
+        print(error, file=sys.stderr)
+        sys.exit(WRONG_USE)
 
 
 def list_of(texts):
@@ -101,8 +120,11 @@ def filled(item, call):
 class Cfgx:
     """The library at a path."""
 
-    def __init__(self, path="libcfgx.so.1"):
+    def __init__(self, path="libcfgx.so.2.1"):
         self.library = ctypes.CDLL(path)
+        version = self.version()
+        if version // 1000 != VERSION // 1000 or version < VERSION:
+            raise OSError(f"{path} has the version {version}, which does not suit {VERSION}")
 
     def call(self, name, *arguments):
         """Makes a call, and returns its status."""
@@ -198,15 +220,19 @@ class Cfgx:
         status, values = filled(
             c_uint8, lambda *buffer: self.call("audit", *given, *buffer, place)
         )
-        expect_done(status, place.value)
-        rows = range(0, len(values), len(ends) or 1)
-        return [[value_of(byte) for byte in values[row:row + len(ends)]] for row in rows]
+        is_placed = status in (FAULTY, NOT_UTF8, FAULTY_FACT)
+        expect_done(status, place.value if is_placed else None)
+        rows = range(len(texts))
+        return [
+            [value_of(byte) for byte in values[row * len(ends):(row + 1) * len(ends)]]
+            for row in rows
+        ]
 
     def run(self, words, text=b""):
         """Returns the status with which cfgx ends, and what it prints."""
         status, output = filled(
             c_uint8, lambda *buffer: self.call("run", *list_of(words), text, len(text), *buffer)
         )
-        if status > 3:
+        if status > OUT_OF_MEMORY:
             raise CfgxError(status)
         return status, bytes(output)

@@ -3,6 +3,9 @@
 // Each program uses a part of this.
 #![allow(dead_code)]
 
+use std::fmt;
+use std::process::ExitCode;
+
 /// `struct cfgx_predicate` of `cfgx.h`.
 #[repr(C)]
 #[derive(Clone, Copy, Default)]
@@ -16,6 +19,8 @@ pub struct Predicate {
 }
 
 unsafe extern "C" {
+    safe fn cfgx_version() -> u32;
+
     fn cfgx_explain(
         text: *const u8,
         text_length: usize,
@@ -75,12 +80,44 @@ unsafe extern "C" {
     ) -> u32;
 }
 
-/// A status other than that of a result.
+/// What the statuses mean.
+const MEANINGS: [&str; 10] = [
+    "done",
+    "a faulty text",
+    "wrong use",
+    "out of memory",
+    "not UTF-8",
+    "miscounted answers",
+    "bad ends",
+    "the steps of no condition",
+    "too many values",
+    "a faulty fact",
+];
+
+/// The version of the calls above.
+const VERSION: u32 = 2_001_000;
+
+const DONE: u32 = 0;
+const FAULTY: u32 = 1;
+const NOT_UTF8: u32 = 4;
+const FAULTY_FACT: u32 = 9;
+
+/// A status other than that of a result, and the number of the text or the fact at fault, if an
+/// audit told it.
 #[derive(Debug, PartialEq)]
-pub enum Status {
-    Faulty,
-    OutOfMemory,
-    Other(u32),
+pub struct Failure {
+    status: u32,
+    place: Option<usize>,
+}
+
+impl fmt::Display for Failure {
+    fn fmt(&self, f: &mut fmt::Formatter<'_>) -> fmt::Result {
+        f.write_str(MEANINGS[self.status as usize])?;
+        match self.place {
+            Some(place) => write!(f, ", number {place}"),
+            None => Ok(()),
+        }
+    }
 }
 
 /// The value of a condition.
@@ -117,13 +154,37 @@ impl<T: AsRef<str>> FromIterator<T> for Texts {
 }
 
 /// Returns the result of a status.
-fn done(status: u32) -> Result<(), Status> {
+fn done(status: u32) -> Result<(), Failure> {
     match status {
-        0 => Ok(()),
-        1 => Err(Status::Faulty),
-        3 => Err(Status::OutOfMemory),
-        other => Err(Status::Other(other)),
+        DONE => Ok(()),
+        status => Err(Failure { status, place: None }),
     }
+}
+
+/// Returns the result of the status of an audit, which tells a place with some statuses.
+fn done_at(status: u32, place: usize) -> Result<(), Failure> {
+    match status {
+        FAULTY | NOT_UTF8 | FAULTY_FACT => Err(Failure { status, place: Some(place) }),
+        status => done(status),
+    }
+}
+
+/// Ends an example that had this result.
+pub fn finish(result: Result<(), Failure>) -> ExitCode {
+    let Err(failure) = result else {
+        return ExitCode::SUCCESS;
+    };
+    eprintln!("{failure}");
+    ExitCode::from(failure.status as u8)
+}
+
+/// Panics unless the library has these calls.
+pub fn expect_version() {
+    let version = cfgx_version();
+    assert!(
+        version / 1000 == VERSION / 1000 && version >= VERSION,
+        "the library has the version {version}, which does not suit {VERSION}"
+    );
 }
 
 /// Returns the value in a byte.
@@ -150,18 +211,18 @@ fn filled<T: Clone + Default>(call: impl Fn(*mut T, usize, *mut usize) -> u32) -
 // leads to what is written.
 
 /// Returns what is wrong with a text, or nothing if it is a condition.
-pub fn explain(text: &str) -> Result<Option<String>, Status> {
+pub fn explain(text: &str) -> Result<Option<String>, Failure> {
     let (status, message) = filled(|buffer, room, needed| unsafe {
         cfgx_explain(text.as_ptr(), text.len(), buffer, room, needed)
     });
-    match done(status) {
-        Err(Status::Faulty) => Ok(Some(String::from_utf8_lossy(&message).into_owned())),
-        result => result.map(|()| None),
+    match status {
+        FAULTY => Ok(Some(String::from_utf8_lossy(&message).into_owned())),
+        status => done(status).map(|()| None),
     }
 }
 
 /// Returns the predicates of a condition, in the order in which they are asked.
-pub fn predicates(text: &str) -> Result<Vec<Predicate>, Status> {
+pub fn predicates(text: &str) -> Result<Vec<Predicate>, Failure> {
     let (status, predicates) = filled(|buffer, room, needed| unsafe {
         cfgx_predicates(text.as_ptr(), text.len(), buffer, room, needed)
     });
@@ -169,7 +230,7 @@ pub fn predicates(text: &str) -> Result<Vec<Predicate>, Status> {
 }
 
 /// Returns what the facts answer to the predicates of a condition.
-pub fn answers(text: &str, facts: &Texts) -> Result<Vec<u8>, Status> {
+pub fn answers(text: &str, facts: &Texts) -> Result<Vec<u8>, Failure> {
     let (status, answers) = filled(|buffer, room, needed| unsafe {
         cfgx_answers(
             text.as_ptr(),
@@ -188,7 +249,7 @@ pub fn answers(text: &str, facts: &Texts) -> Result<Vec<u8>, Status> {
 }
 
 /// Decides a condition by the answers to its predicates.
-pub fn decide(text: &str, answers: &[u8]) -> Result<Decision, Status> {
+pub fn decide(text: &str, answers: &[u8]) -> Result<Decision, Failure> {
     let (mut value, mut needed) = (0, 0);
     let mut fillings = vec![0; 2 * answers.len()];
     done(unsafe {
@@ -219,10 +280,11 @@ pub fn audit(
     conditions: &Texts,
     facts: &Texts,
     target_ends: &[usize],
-) -> Result<Vec<Vec<Value>>, Status> {
+) -> Result<Vec<Vec<Value>>, Failure> {
     let (mut needed, mut place) = (0, 0);
-    let mut values = vec![0; conditions.ends.len() * target_ends.len()];
-    done(unsafe {
+    let (rows, columns) = (conditions.ends.len(), target_ends.len());
+    let mut values = vec![0; rows.checked_mul(columns).expect("a table that fits in memory")];
+    let status = unsafe {
         cfgx_audit(
             conditions.bytes.as_ptr(),
             conditions.bytes.len(),
@@ -240,7 +302,8 @@ pub fn audit(
             &mut needed,
             &mut place,
         )
-    })?;
-    let rows = values.chunks(target_ends.len().max(1));
-    Ok(rows.map(|row| row.iter().map(|&byte| value_of(byte)).collect()).collect())
+    };
+    done_at(status, place)?;
+    let values: Vec<Value> = values.into_iter().map(value_of).collect();
+    Ok((0..rows).map(|row| values[row * columns..(row + 1) * columns].to_vec()).collect())
 }

@@ -3,10 +3,8 @@
  * answers that makes it true and one that makes it false, with a digit for each predicate.
  *
  * usage: decide TEXT FACT.. */
-#include "cfgx.h"
+#include "support.h"
 
-#include <stdio.h>
-#include <stdlib.h>
 #include <string.h>
 
 static const char *const values[] = {"false", "true", "unknown"};
@@ -18,33 +16,23 @@ struct answers {
     uint8_t *fillings;
 };
 
-/* Returns a block of so many bytes, which is not null. */
-static void *new_block(size_t size)
+/* Answers the predicates by the facts. Returns the status of the call. */
+static uint32_t answer(const char *text, char **fact, size_t count, struct answers *answers)
 {
-    void *block = malloc(size + 1);
-    if (block == NULL) {
-        fputs("out of memory\n", stderr);
-        exit(CFGX_STATUS_OUT_OF_MEMORY);
-    }
-    return block;
-}
-
-/* Asks the facts. Returns the status of the call. */
-static uint32_t ask(const char *text, char **fact, size_t count, struct answers *answers)
-{
-    size_t length = 0, *ends = new_block(count * sizeof *ends);
+    size_t length = 0, *ends = new_block(count, sizeof *ends);
     for (size_t i = 0; i < count; i++) {
         length += strlen(fact[i]);
         ends[i] = length;
     }
-    char *facts = new_block(length);
+    char *facts = new_block(length, 1);
     for (size_t i = 0; i < count; i++) {
-        strcpy(facts + ends[i] - strlen(fact[i]), fact[i]);
+        size_t size = strlen(fact[i]);
+        memcpy(facts + ends[i] - size, fact[i], size);
     }
     uint32_t status = cfgx_answers(text, strlen(text), facts, length, ends, count,
                                    CFGX_VALUE_FALSE, NULL, 0, &answers->count);
-    answers->bytes = new_block(answers->count);
-    if (answers->count > 0) {
+    answers->bytes = new_block(answers->count, 1);
+    if (status == CFGX_STATUS_DONE) {
         status = cfgx_answers(text, strlen(text), facts, length, ends, count, CFGX_VALUE_FALSE,
                               answers->bytes, answers->count, &answers->count);
     }
@@ -68,7 +56,7 @@ static uint32_t decide(const char *text, struct answers *answers)
 {
     uint8_t value;
     size_t needed;
-    answers->fillings = new_block(2 * answers->count);
+    answers->fillings = new_block(answers->count, 2);
     uint32_t status = cfgx_decide(text, strlen(text), answers->bytes, answers->count,
                                   answers->fillings, 2 * answers->count, &needed, &value);
     if (status == CFGX_STATUS_DONE) {
@@ -88,11 +76,12 @@ int main(int count, char **word)
         return CFGX_STATUS_WRONG_USE;
     }
     struct answers answers = {0};
-    uint32_t status = ask(word[1], word + 2, (size_t)count - 2, &answers);
+    expect_version();
+    uint32_t status = answer(word[1], word + 2, (size_t)count - 2, &answers);
     if (status == CFGX_STATUS_DONE) {
         status = decide(word[1], &answers);
     }
     free(answers.bytes);
     free(answers.fillings);
-    return (int)status;
+    return finish(report(status));
 }

@@ -5,9 +5,8 @@ that makes it true and one that makes it false, with a digit for each predicate.
 usage: decide.py TEXT FACT..
 """
 import os
-import sys
 
-from cfgx import Cfgx
+from cfgx import Cfgx, run_example
 
 NAMES = {True: "true", False: "false", None: "unknown"}
 
@@ -17,9 +16,9 @@ def digits(filling):
     return "".join(str(int(answer)) for answer in filling)
 
 
-def main():
+def main(*words):
     """Prints the value that the facts give to the condition."""
-    cfgx, (text, *facts) = Cfgx(), [os.fsencode(word) for word in sys.argv[1:]]
+    cfgx, (text, *facts) = Cfgx(), [os.fsencode(word) for word in words]
     value, if_true, if_false = cfgx.decide(text, cfgx.answers(text, facts))
     print(NAMES[value])
     if value is None:
@@ -28,4 +27,4 @@ def main():
 
 
 if __name__ == "__main__":
-    main()
+    run_example(main, "decide.py TEXT FACT..")

@@ -5,7 +5,7 @@
 //! usage: decide TEXT FACT..
 mod cfgx;
 
-use cfgx::{Decision, Status, Texts};
+use cfgx::{Decision, Failure, Texts};
 use std::env::args;
 use std::process::ExitCode;
 
@@ -15,7 +15,7 @@ fn digits(filling: &[u8]) -> String {
 }
 
 /// Prints the value that the facts give to the condition.
-fn print_decision(text: &str, facts: &Texts) -> Result<(), Status> {
+fn print_decision(text: &str, facts: &Texts) -> Result<(), Failure> {
     let answers = cfgx::answers(text, facts)?;
     match cfgx::decide(text, &answers)? {
         Decision::Known(value) => println!("{value}"),
@@ -33,11 +33,6 @@ fn main() -> ExitCode {
         eprintln!("usage: decide TEXT FACT..");
         return ExitCode::from(2);
     };
-    match print_decision(&text, &args().skip(2).collect()) {
-        Ok(()) => ExitCode::SUCCESS,
-        Err(status) => {
-            eprintln!("{status:?}");
-            ExitCode::FAILURE
-        }
-    }
+    cfgx::expect_version();
+    cfgx::finish(print_decision(&text, &args().skip(2).collect()))
 }

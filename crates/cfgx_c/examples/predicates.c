@@ -1,10 +1,8 @@
 /* Lists the predicates of a condition, or prints what is wrong with it.
  *
  * usage: predicates TEXT */
-#include "cfgx.h"
+#include "support.h"
 
-#include <stdio.h>
-#include <stdlib.h>
 #include <string.h>
 
 /* The names of the kinds, from 1 on. */
@@ -14,15 +12,13 @@ static const char *const kinds[] = {
     "pointer_width", "vendor",
 };
 
-/* Returns a block for `count` items, which is not null. */
-static void *new_block(size_t count, size_t size)
+/* Prints a space and the bytes from `start` up to `end`, if there are any. */
+static void print_span(const char *text, size_t start, size_t end)
 {
-    void *block = calloc(count + 1, size);
-    if (block == NULL) {
-        fputs("out of memory\n", stderr);
-        exit(CFGX_STATUS_OUT_OF_MEMORY);
+    if (start < end) {
+        putchar(' ');
+        fwrite(text + start, 1, end - start, stdout);
     }
-    return block;
 }
 
 /* Prints the byte order or the width if the predicate has one. */
@@ -41,15 +37,9 @@ static void print_number(const struct cfgx_predicate *predicate)
 /* Prints the name of the kind, and then the key, the value and the number if there is one. */
 static void print_predicate(const char *text, const struct cfgx_predicate *predicate)
 {
-    size_t key = predicate->key_end - predicate->key_start;
-    size_t value = predicate->value_end - predicate->value_start;
     printf("%s", kinds[predicate->kind]);
-    if (key > 0) {
-        printf(" %.*s", (int)key, text + predicate->key_start);
-    }
-    if (value > 0) {
-        printf(" %.*s", (int)value, text + predicate->value_start);
-    }
+    print_span(text, predicate->key_start, predicate->key_end);
+    print_span(text, predicate->value_start, predicate->value_end);
     print_number(predicate);
     printf("\n");
 }
@@ -60,9 +50,10 @@ static uint32_t print_predicates(const char *text, size_t length)
     size_t count;
     uint32_t status = cfgx_predicates(text, length, NULL, 0, &count);
     struct cfgx_predicate *predicates = new_block(count, sizeof *predicates);
-    if (count > 0) {
+    if (status == CFGX_STATUS_DONE) {
         status = cfgx_predicates(text, length, predicates, count, &count);
     }
+    /* With every other status `count` is 0. */
     for (size_t i = 0; i < count; i++) {
         print_predicate(text, &predicates[i]);
     }
@@ -76,9 +67,14 @@ static uint32_t print_fault(const char *text, size_t length)
     size_t needed;
     uint32_t status = cfgx_explain(text, length, NULL, 0, &needed);
     char *message = new_block(needed, 1);
-    if (needed > 0) {
+    if (status == CFGX_STATUS_FAULTY) {
         status = cfgx_explain(text, length, message, needed, &needed);
-        fprintf(stderr, "%s\n", message);
+    }
+    if (status == CFGX_STATUS_FAULTY) {
+        fwrite(message, 1, needed, stderr);
+        fputc('\n', stderr);
+    } else {
+        report(status);
     }
     free(message);
     return status;
@@ -90,9 +86,11 @@ int main(int count, char **word)
         fputs("usage: predicates TEXT\n", stderr);
         return CFGX_STATUS_WRONG_USE;
     }
-    uint32_t status = print_predicates(word[1], strlen(word[1]));
+    expect_version();
+    size_t length = strlen(word[1]);
+    uint32_t status = print_predicates(word[1], length);
     if (status == CFGX_STATUS_FAULTY) {
-        status = print_fault(word[1], strlen(word[1]));
+        return finish(print_fault(word[1], length));
     }
-    return (int)status;
+    return finish(report(status));
 }

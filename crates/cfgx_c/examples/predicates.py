@@ -5,7 +5,7 @@ usage: predicates.py TEXT
 import os
 import sys
 
-from cfgx import KINDS, Cfgx
+from cfgx import FAULTY, KINDS, Cfgx, run_example
 
 
 def number_of(kind, number):
@@ -29,15 +29,16 @@ def describe(text, predicate):
     return b" ".join(part for part in parts if part)
 
 
-def main():
+def main(word):
     """Prints each predicate of the text, or its fault."""
-    cfgx, text = Cfgx(), os.fsencode(sys.argv[1])
+    cfgx, text = Cfgx(), os.fsencode(word)
     message = cfgx.explain(text)
     if message is not None:
-        sys.exit(os.fsdecode(message))
+        print(os.fsdecode(message), file=sys.stderr)
+        sys.exit(FAULTY)
     for predicate in cfgx.predicates(text):
         print(os.fsdecode(describe(text, predicate)))
 
 
 if __name__ == "__main__":
-    main()
+    run_example(main, "predicates.py TEXT", most=1)

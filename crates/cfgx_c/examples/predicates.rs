@@ -3,7 +3,7 @@
 //! usage: predicates TEXT
 mod cfgx;
 
-use cfgx::{Predicate, Status};
+use cfgx::{Failure, Predicate};
 use std::env::args;
 use std::process::ExitCode;
 
@@ -38,12 +38,8 @@ fn describe(text: &str, predicate: &Predicate) -> String {
     shown.join(" ")
 }
 
-/// Prints each predicate, or what is wrong with the text.
-fn print_predicates(text: &str) -> Result<(), Status> {
-    if let Some(message) = cfgx::explain(text)? {
-        eprintln!("{message}");
-        return Err(Status::Faulty);
-    }
+/// Prints each predicate of the text.
+fn print_predicates(text: &str) -> Result<(), Failure> {
     for predicate in cfgx::predicates(text)? {
         println!("{}", describe(text, &predicate));
     }
@@ -51,12 +47,18 @@ fn print_predicates(text: &str) -> Result<(), Status> {
 }
 
 fn main() -> ExitCode {
-    let Some(text) = args().nth(1) else {
+    let words: Vec<String> = args().skip(1).collect();
+    let [text] = words.as_slice() else {
         eprintln!("usage: predicates TEXT");
         return ExitCode::from(2);
     };
-    match print_predicates(&text) {
-        Ok(()) => ExitCode::SUCCESS,
-        Err(_) => ExitCode::FAILURE,
+    cfgx::expect_version();
+    match cfgx::explain(text) {
+        Ok(None) => cfgx::finish(print_predicates(text)),
+        Ok(Some(message)) => {
+            eprintln!("{message}");
+            ExitCode::FAILURE
+        }
+        Err(failure) => cfgx::finish(Err(failure)),
     }
 }

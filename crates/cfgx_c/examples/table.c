@@ -1,12 +1,10 @@
 /* Prints the values of conditions on targets. Each line of the first file is a condition. Each
  * other file is what `rustc --print cfg --target TRIPLE` prints of a target. A line of the output
- * has a value for each target, and the condition.
+ * has a value for each target, and the condition. Needs POSIX.
  *
  * usage: table CONDITIONS CFG.. */
-#include "cfgx.h"
+#include "support.h"
 
-#include <stdio.h>
-#include <stdlib.h>
 #include <string.h>
 
 /* Texts, one behind the other, and their ends. */
@@ -19,23 +17,23 @@ struct list {
 
 static const char *const values[] = {"no", "yes", "unknown"};
 
-/* Returns the block with room for so many bytes, and one more. */
-static void *grown(void *block, size_t size)
+/* Returns the block with room for `count` items, and for one more. */
+static void *grown(void *block, size_t count, size_t size)
 {
-    block = realloc(block, size + 1);
+    block = count < SIZE_MAX / size ? realloc(block, (count + 1) * size) : NULL;
     if (block == NULL) {
-        fputs("out of memory\n", stderr);
-        exit(CFGX_STATUS_OUT_OF_MEMORY);
+        fail("out of memory");
     }
     return block;
 }
 
+/* Adds a text to the end of the list. */
 static void add_text(struct list *list, const char *bytes, size_t length)
 {
-    list->bytes = grown(list->bytes, list->length + length);
+    list->bytes = grown(list->bytes, list->length + length, 1);
     memcpy(list->bytes + list->length, bytes, length);
     list->length += length;
-    list->ends = grown(list->ends, (list->count + 1) * sizeof *list->ends);
+    list->ends = grown(list->ends, list->count, sizeof *list->ends);
     list->ends[list->count++] = list->length;
 }
 
@@ -50,8 +48,13 @@ static void add_lines(struct list *list, const char *path)
         perror(path);
         exit(CFGX_STATUS_WRONG_USE);
     }
+    /* Lines end at line feeds and nowhere else. */
     while ((length = getline(&line, &room, file)) > 0) {
         add_text(list, line, (size_t)length - (line[length - 1] == '\n'));
+    }
+    /* A read that fails, or memory that is refused, also ends the loop. */
+    if (ferror(file) || !feof(file)) {
+        fail("a file cannot be read");
     }
     free(line);
     fclose(file);
@@ -71,7 +74,20 @@ static void print_table(const struct list *conditions, const uint8_t *value, siz
         for (size_t target = 0; target < targets; target++) {
             printf("%s\t", values[*value++]);
         }
-        printf("%.*s\n", (int)(conditions->ends[i] - start), conditions->bytes + start);
+        fwrite(conditions->bytes + start, 1, conditions->ends[i] - start, stdout);
+        putchar('\n');
+    }
+}
+
+/* Prints a status, and which text or fact it is about. */
+static void print_failure(uint32_t status, size_t place)
+{
+    /* With every other status the call writes no place. */
+    if (status == CFGX_STATUS_FAULTY || status == CFGX_STATUS_NOT_UTF8
+        || status == CFGX_STATUS_FAULTY_FACT) {
+        fprintf(stderr, "%s, number %zu\n", meaning(status), place);
+    } else {
+        report(status);
     }
 }
 
@@ -81,15 +97,17 @@ int main(int count, char **word)
         fputs("usage: table CONDITIONS CFG..\n", stderr);
         return CFGX_STATUS_WRONG_USE;
     }
+    expect_version();
     struct list conditions = {0}, facts = {0};
-    size_t targets = (size_t)count - 2, *target_ends = grown(NULL, targets * sizeof *target_ends);
+    size_t targets = (size_t)count - 2, *target_ends = new_block(targets, sizeof *target_ends);
     add_lines(&conditions, word[1]);
     for (size_t target = 0; target < targets; target++) {
         add_lines(&facts, word[target + 2]);
         target_ends[target] = facts.count;
     }
+    /* The block is refused if the product does not fit in a size_t. */
+    uint8_t *found = new_block(conditions.count, targets);
     size_t needed, place = 0, room = conditions.count * targets;
-    uint8_t *found = grown(NULL, room);
     uint32_t status = cfgx_audit(conditions.bytes, conditions.length, conditions.ends,
                                  conditions.count, facts.bytes, facts.length, facts.ends,
                                  facts.count, target_ends, targets, CFGX_VALUE_UNKNOWN, found,
@@ -97,11 +115,11 @@ int main(int count, char **word)
     if (status == CFGX_STATUS_DONE) {
         print_table(&conditions, found, targets);
     } else {
-        fprintf(stderr, "status %u at %zu\n", (unsigned)status, place);
+        print_failure(status, place);
     }
     free_list(&conditions);
     free_list(&facts);
     free(target_ends);
     free(found);
-    return (int)status;
+    return finish(status);
 }

@@ -4,25 +4,23 @@ a value for each target, and the condition.
 
 usage: table.py CONDITIONS CFG..
 """
-import sys
-
-from cfgx import Cfgx
+from cfgx import Cfgx, run_example
 
 NAMES = {True: "yes", False: "no", None: "unknown"}
 
 
 def lines_of(path):
-    """Returns the lines of a file."""
+    """Returns the lines of a file, which end at line feeds and nowhere else."""
     with open(path, "rb") as file:
-        return file.read().splitlines()
+        return [line.rstrip(b"\n") for line in file]
 
 
-def main():
+def main(*paths):
     """Prints a line for each condition."""
-    conditions, *targets = [lines_of(path) for path in sys.argv[1:]]
+    conditions, *targets = [lines_of(path) for path in paths]
     for condition, row in zip(conditions, Cfgx().audit(conditions, targets, otherwise=None)):
         print(*(NAMES[value] for value in row), condition.decode(), sep="\t")
 
 
 if __name__ == "__main__":
-    main()
+    run_example(main, "table.py CONDITIONS CFG..")

@@ -5,10 +5,11 @@
 //! usage: table CONDITIONS CFG..
 mod cfgx;
 
-use cfgx::Value;
+use cfgx::{Failure, Texts, Value};
 use std::env::args;
-use std::error::Error;
 use std::fs::read_to_string;
+use std::io;
+use std::process::ExitCode;
 
 /// Returns what the table shows of a value.
 fn shown(value: Value) -> &'static str {
@@ -19,23 +20,42 @@ fn shown(value: Value) -> &'static str {
     }
 }
 
-fn main() -> Result<(), Box<dyn Error>> {
-    let mut paths = args().skip(1);
-    let conditions = read_to_string(paths.next().ok_or("usage: table CONDITIONS CFG..")?)?;
-    let targets = paths.map(read_to_string).collect::<Result<Vec<_>, _>>()?;
+/// Returns the lines of a text, which end at line feeds and nowhere else.
+fn lines_of(text: &str) -> Vec<&str> {
+    text.split_terminator('\n').collect()
+}
 
-    let mut target_ends = Vec::new();
-    let mut fact_count = 0;
-    for target in &targets {
-        fact_count += target.lines().count();
-        target_ends.push(fact_count);
+/// Prints a line for each condition.
+fn print_table(conditions: &str, targets: &[String]) -> Result<(), Failure> {
+    let conditions = lines_of(conditions);
+    let (mut facts, mut target_ends) = (Vec::new(), Vec::new());
+    for target in targets {
+        facts.extend(lines_of(target));
+        target_ends.push(facts.len());
     }
-    let facts = targets.iter().flat_map(|target| target.lines()).collect();
-    let rows = cfgx::audit(&conditions.lines().collect(), &facts, &target_ends)
-        .map_err(|status| format!("{status:?}"))?;
-    for (condition, row) in conditions.lines().zip(rows) {
-        let values: Vec<&str> = row.into_iter().map(shown).collect();
-        println!("{}\t{condition}", values.join("\t"));
+    let texts = conditions.iter().collect::<Texts>();
+    let rows = cfgx::audit(&texts, &facts.into_iter().collect(), &target_ends)?;
+    for (condition, row) in conditions.into_iter().zip(rows) {
+        let mut cells: Vec<&str> = row.into_iter().map(shown).collect();
+        cells.push(condition);
+        println!("{}", cells.join("\t"));
     }
     Ok(())
+}
+
+fn main() -> ExitCode {
+    let paths: Vec<String> = args().skip(1).collect();
+    if paths.is_empty() {
+        eprintln!("usage: table CONDITIONS CFG..");
+        return ExitCode::from(2);
+    }
+    cfgx::expect_version();
+    let files: io::Result<Vec<String>> = paths.iter().map(read_to_string).collect();
+    match files {
+        Ok(files) => cfgx::finish(print_table(&files[0], &files[1..])),
+        Err(error) => {
+            eprintln!("{error}");
+            ExitCode::from(2)
+        }
+    }
 }

@@ -1,27 +1,39 @@
-/* The engine of cfgx for C and C++. A condition is a text such as `all(unix, feature = "x")`, which
- * may stand in `cfg( )`; its predicates here are `unix` and `feature = "x"`. The calls check such
- * texts, list their predicates, and compute their values. docs/RULES.md has the rules of the
- * language, and docs/C.md says how to link the library and what its proof rests on.
+/* The engine of cfgx for C and C++. A condition is a text such as `all(unix, feature = "x")`, whose
+ * predicates are `unix` and `feature = "x"`. The calls check such texts, list their predicates, and
+ * compute their values. docs/RULES.md has the rules of the language. docs/C.md says how to link the
+ * library and what is proved of it.
  *
- * Texts are UTF-8. Lengths, ends and spans count bytes. A pointer before a length or a count points
- * to that many items, and may be null if the number is 0. Every other pointer points to one item,
- * and is never null. Through a pointer to a call, and from languages that do not read this header,
- * no pointer may be null. An array takes at most PTRDIFF_MAX bytes. What a call writes overlaps
- * nothing else that it is passed.
+ * Texts are UTF-8. Lengths, ends and spans count bytes. No byte is a terminator, so a text may
+ * contain zero bytes. If a text begins with `cfg(` and ends with `)`, the stripped text is what
+ * stands between; otherwise it is the whole text.
+ *
+ * A pointer before a length or a count points to that many items. A null pointer is allowed where
+ * its count is 0. In a language that does not read this header, pass any pointer that is not null.
+ * Every other pointer points to one item.
  *
  * A list of texts is passed as the bytes of all texts, one after another with nothing between them,
- * and an array of their ends: `ends[i]` is the number of bytes of the first i + 1 texts. So a text
- * may hold every byte, also zero bytes.
+ * and an array of their ends: `ends[i]` is the number of bytes of the first i + 1 texts. An empty
+ * list has no ends, and its length is 0.
  *
  * A buffer has a length `room`, in items, and a `*needed`. A call always writes `*needed`: the
  * number of items of the result, or 0 if there is no result. If `room` is at least `*needed`, the
- * result stands at the start of the buffer. Otherwise the buffer stays as it was, and the caller
- * can call again with more room. A call with two buffers fills both or neither.
+ * result stands at the start of the buffer, and the items behind it stay as they were. Otherwise
+ * the whole buffer stays as it was. A call with two buffers fills both or neither. A call with too
+ * little room does all the work too, so pass a buffer at once if you know how many items there are.
+ *
+ * If several statuses are true, a call returns the first of these: CFGX_STATUS_BAD_ENDS;
+ * CFGX_STATUS_TOO_LARGE; CFGX_STATUS_NOT_UTF8 or CFGX_STATUS_FAULTY, for the first text that is not
+ * UTF-8 or no condition; CFGX_STATUS_FAULTY_FACT; CFGX_STATUS_NO_TREE; CFGX_STATUS_MISCOUNTED.
+ * CFGX_STATUS_OUT_OF_MEMORY may stand in for every status but the first two.
  *
  * A call keeps no pointer and no memory. It takes memory from malloc and realloc, and returns it to
- * free; these three are one allocator, which aligns as the C standard asks. Several threads may
- * call at once, with arguments that no other thread writes meanwhile. A signal handler makes no
- * call, and neither does the child of a fork in a process with threads.
+ * free. Several threads may call at once. Nothing checks these duties of a caller:
+ *
+ * - Pass no array of more than PTRDIFF_MAX bytes.
+ * - Let nothing that a call writes overlap anything else that it is passed.
+ * - During a call, let no other thread write what it reads, and none touch what it writes.
+ * - Let malloc, realloc and free be one allocator, which aligns as the C standard asks.
+ * - Do not call from a signal handler, nor from the child of a fork in a process with threads.
  */
 #ifndef CFGX_H
 #define CFGX_H
@@ -41,27 +53,30 @@ extern "C" {
     (CFGX_VERSION_LANGUAGE * 1000000 + CFGX_VERSION_MAJOR * 1000 + CFGX_VERSION_MINOR)
 
 /* Returns the CFGX_VERSION of the library. The library suits this header if both have the same
- * language and the same major version, and the minor version of the library is not lower. */
+ * language and the same major version, and the minor version of the library is not lower.
+ *
+ * A new language may read a text differently, and may add kinds of predicates, reasons and lists of
+ * terms. A new major version may change calls and structs. A new minor version only adds calls. */
 uint32_t cfgx_version(void);
 
 /* The statuses that calls return. A status means the same in all calls. */
-#define CFGX_STATUS_DONE 0          /* the result is written */
-#define CFGX_STATUS_FAULTY 1        /* a text is no condition; cfgx_run: or its input is faulty */
+#define CFGX_STATUS_DONE 0          /* success; a buffer that is too small stays as it was */
+#define CFGX_STATUS_FAULTY 1        /* a text is no condition, or the input of cfgx_run is faulty */
 #define CFGX_STATUS_WRONG_USE 2     /* cfgx_run: wrong words, or a triple that is not built in */
 #define CFGX_STATUS_OUT_OF_MEMORY 3 /* memory was refused */
 #define CFGX_STATUS_NOT_UTF8 4      /* a text or a word is not UTF-8 */
 #define CFGX_STATUS_MISCOUNTED 5    /* the numbers of answers and predicates differ */
-#define CFGX_STATUS_BAD_ENDS 6      /* ends fall, or do not end at the number of items */
+#define CFGX_STATUS_BAD_ENDS 6      /* ends decrease, or the last is not the number of items */
 #define CFGX_STATUS_NO_TREE 7       /* no condition has these steps */
 #define CFGX_STATUS_TOO_LARGE 8     /* the number of values does not fit in a size_t */
 #define CFGX_STATUS_FAULTY_FACT 9   /* a fact is faulty or not UTF-8 */
 
-/* Answers and values. An answer of any other number is unknown too. */
+/* Answers and values. Every other number is an unknown answer too. */
 #define CFGX_VALUE_FALSE 0
 #define CFGX_VALUE_TRUE 1
 #define CFGX_VALUE_UNKNOWN 2
 
-/* The reasons of faults, which docs/RULES.md explains. No text has the reasons 2, 6 and 12. */
+/* The reasons of faults, which docs/RULES.md explains. No text has reason 2, 6 or 12. */
 #define CFGX_REASON_INVALID_NOT 1
 #define CFGX_REASON_INVALID_CHARACTERS 2
 #define CFGX_REASON_UNCLOSED_PARENS 3
@@ -77,11 +92,11 @@ uint32_t cfgx_version(void);
 
 /* What is wrong with a text, and where. */
 struct cfgx_fault {
-    /* where the stripped text, which is the text without an outer cfg( ), begins in the text: at 4
-     * if there is an outer cfg( ), and else at 0 */
+    /* where the stripped text begins in the text: at 4 if the text is in cfg( ), else at 0 */
     size_t offset;
     /* the bytes at fault, from `start` up to but not including `end` in the stripped text, so from
-     * `offset + start` up to but not including `offset + end` in the text */
+     * `offset + start` up to but not including `offset + end` in the text. There may be none, they
+     * may stand at the end of the text, and they may be the first byte of a longer character */
     size_t start;
     size_t end;
     /* the number of members of the `not`, for CFGX_REASON_INVALID_NOT; 0 for every other reason */
@@ -94,15 +109,15 @@ struct cfgx_fault {
 };
 
 /* Checks whether a text is a condition. Returns CFGX_STATUS_DONE if it is. Returns
- * CFGX_STATUS_FAULTY if it is not, and writes its first fault to `*fault`. Otherwise returns
- * CFGX_STATUS_NOT_UTF8 or CFGX_STATUS_OUT_OF_MEMORY. With every status but CFGX_STATUS_FAULTY,
- * `*fault` stays as it was. */
+ * CFGX_STATUS_FAULTY if it is UTF-8 but no condition, and writes its first fault to `*fault`.
+ * Otherwise returns CFGX_STATUS_NOT_UTF8 or CFGX_STATUS_OUT_OF_MEMORY. With every status but
+ * CFGX_STATUS_FAULTY, `*fault` stays as it was. */
 uint32_t cfgx_check(const char *text, size_t text_length, struct cfgx_fault *fault);
 
-/* Explains what is wrong with a text. Returns CFGX_STATUS_FAULTY if the text is no condition, and
- * fills `message` with the stripped text and, on the line below, marks under its first fault and
- * the reason, as cfgx prints them; no line feed and no zero byte stands at the end. Returns
- * CFGX_STATUS_DONE if the text is a condition. Otherwise returns CFGX_STATUS_NOT_UTF8 or
+/* Explains what is wrong with a text. Returns CFGX_STATUS_DONE if the text is a condition. Returns
+ * CFGX_STATUS_FAULTY if it is UTF-8 but no condition, and fills `message` with what cfgx prints:
+ * the stripped text and, on the line below, marks under its first fault and the reason. The message
+ * ends with neither a line feed nor a zero byte. Otherwise returns CFGX_STATUS_NOT_UTF8 or
  * CFGX_STATUS_OUT_OF_MEMORY. With every status but CFGX_STATUS_FAULTY, `*needed` is 0. */
 uint32_t cfgx_explain(const char *text, size_t text_length,
                       char *message, size_t room, size_t *needed);
@@ -115,7 +130,7 @@ uint32_t cfgx_explain(const char *text, size_t text_length,
 #define CFGX_PREDICATE_PROC_MACRO 5       /* proc_macro */
 #define CFGX_PREDICATE_FEATURE 6          /* feature */
 #define CFGX_PREDICATE_TARGET_FEATURE 7   /* target_feature */
-#define CFGX_PREDICATE_ABI 8              /* target_abi; the kinds from 8 to 17 are on the target */
+#define CFGX_PREDICATE_ABI 8              /* target_abi; the kinds from 8 to 17 test the target */
 #define CFGX_PREDICATE_ARCH 9             /* target_arch */
 #define CFGX_PREDICATE_ENDIAN 10          /* target_endian */
 #define CFGX_PREDICATE_ENV 11             /* target_env */
@@ -136,51 +151,56 @@ uint32_t cfgx_explain(const char *text, size_t text_length,
 struct cfgx_predicate {
     /* one of the kinds */
     uint32_t kind;
-    /* the number of bits of a pointer or of an atomic, CFGX_ATOMIC_POINTER, or the number of a byte
-     * order; 0 for every other kind */
+    /* CFGX_PREDICATE_POINTER_WIDTH: the number of bits
+     * CFGX_PREDICATE_HAS_ATOMIC: the number of bits, or CFGX_ATOMIC_POINTER
+     * CFGX_PREDICATE_ENDIAN: the number of a byte order
+     * every other kind: 0 */
     uint32_t number;
     /* the span of the key, if the kind is CFGX_PREDICATE_FLAG or CFGX_PREDICATE_KEY_VALUE; else 0
      * and 0 */
     size_t key_start;
     size_t key_end;
     /* the span of the value without its quotes, if the kind has one and `number` does not say it;
-     * for `unix` and `windows` that of the word; else 0 and 0 */
+     * for `unix` and `windows` that of the word; else 0 and 0. An empty value starts at its end */
     size_t value_start;
     size_t value_end;
 };
 
 /* Lists the predicates of a condition in the order in which they are asked: in each list first
- * those of its functions, one function after another, and then its own. A predicate that stands
- * twice is listed twice. Returns CFGX_STATUS_DONE, CFGX_STATUS_FAULTY, CFGX_STATUS_NOT_UTF8 or
- * CFGX_STATUS_OUT_OF_MEMORY. */
+ * those of its functions, one function after another, and then its own. So `all(a, any(b), c)` asks
+ * b, a and c. A predicate that stands twice is listed twice. Returns CFGX_STATUS_DONE,
+ * CFGX_STATUS_FAULTY, CFGX_STATUS_NOT_UTF8 or CFGX_STATUS_OUT_OF_MEMORY. */
 uint32_t cfgx_predicates(const char *text, size_t text_length,
                          struct cfgx_predicate *predicates, size_t room, size_t *needed);
 
 /* Computes the value of a condition from the answers to its predicates, which are in the order of
- * `cfgx_predicates`. Returns CFGX_STATUS_DONE, and writes the value to `*value`. Otherwise returns
- * CFGX_STATUS_FAULTY, CFGX_STATUS_NOT_UTF8, CFGX_STATUS_OUT_OF_MEMORY or CFGX_STATUS_MISCOUNTED,
- * and `*value` stays as it was. */
+ * `cfgx_predicates`. Two answers are independent, even those to equal predicates: with unknown
+ * answers `any(a, not(a))` is unknown. Returns CFGX_STATUS_DONE, and writes the value to `*value`.
+ * Otherwise returns CFGX_STATUS_FAULTY, CFGX_STATUS_NOT_UTF8, CFGX_STATUS_OUT_OF_MEMORY or
+ * CFGX_STATUS_MISCOUNTED, and `*value` stays as it was. */
 uint32_t cfgx_value(const char *text, size_t text_length,
                     const uint8_t *answers, size_t answer_count, uint8_t *value);
 
 /* Decides a condition: computes its value as `cfgx_value` does and, if the value is unknown, fills
  * `fillings` with two fillings, one behind the other. A filling has CFGX_VALUE_FALSE or
- * CFGX_VALUE_TRUE for each answer, and keeps the known answers. The condition is true with the
- * first filling and false with the second one. If the value is known, `*needed` is 0. Returns what
- * `cfgx_value` returns. With every status but CFGX_STATUS_DONE, `*value` stays as it was. */
+ * CFGX_VALUE_TRUE for each answer, and keeps the known answers; it may give equal predicates
+ * different values. The condition is true with the first filling and false with the second one. So
+ * `*needed` is 2 * answer_count, or 0 if the value is known. Returns what `cfgx_value` returns.
+ * With every status but CFGX_STATUS_DONE, `*value` stays as it was. */
 uint32_t cfgx_decide(const char *text, size_t text_length,
                      const uint8_t *answers, size_t answer_count,
                      uint8_t *fillings, size_t room, size_t *needed, uint8_t *value);
 
-/* Answers the predicates of a condition, in the order of `cfgx_predicates`, by the facts of a
- * target. A fact is a text such as a line of `rustc --print cfg`: the predicates in it are true. If
- * a fact begins with `?`, the predicates in the rest of it are unknown, except those that another
- * fact makes true. A predicate in no fact is unknown if it is not on the target and `otherwise` is
- * not CFGX_VALUE_FALSE, and else it is false.
+/* Answers the predicates of a condition by the facts of a target: one answer for each predicate, in
+ * the order of `cfgx_predicates`. A fact is a text such as a line of `rustc --print cfg`. The
+ * predicates in it are true: a fact `all(x, not(y))` makes x and y true. If a fact begins with `?`,
+ * the predicates in the rest of it are unknown, except those that another fact makes true. A
+ * predicate that no fact names is false. If `otherwise` is not 0 and the predicate does not test
+ * the target, it is unknown.
  *
- * Facts that no condition can ask are passed over: one with an unknown key that begins with
- * `target_`, and one with a key that needs a value and has none, as some compilers print them.
- * Every other fact that is no condition is faulty.
+ * A fact that is exactly `key` or `key = "value"` is passed over if its key starts with `target_`
+ * and is unknown, or needs a value and has none. Some compilers print such facts. Every other fact
+ * that is no condition is faulty, also a blank one.
  *
  * Returns CFGX_STATUS_DONE; CFGX_STATUS_FAULTY or CFGX_STATUS_NOT_UTF8, which are about the text;
  * CFGX_STATUS_FAULTY_FACT; CFGX_STATUS_OUT_OF_MEMORY; or CFGX_STATUS_BAD_ENDS. */
@@ -197,7 +217,8 @@ uint32_t cfgx_answers(const char *text, size_t text_length,
 #define CFGX_STEP_ALL 4   /* pops `count` values, and pushes whether all are true */
 #define CFGX_STEP_ANY 5   /* pops `count` values, and pushes whether any is true */
 
-/* A step of the evaluation of a condition with a stack. */
+/* A step of the evaluation of a condition with a stack. The padding between its members may hold
+ * anything, so compare and store the members. */
 struct cfgx_step {
     /* one of the kinds */
     uint32_t kind;
@@ -206,10 +227,10 @@ struct cfgx_step {
 };
 
 /* Compiles a condition to its steps and its predicates. A program can keep both, and evaluate the
- * steps in any language, with values of any logic: it takes one step after another, with a stack,
- * and at each CFGX_STEP_ASK the next answer, in the order of `predicates`. A step `all` begins with
- * true and joins to it by `and` each value that it pops; a step `any` begins with false and joins
- * by `or`. The one value that is left on the stack is that of the condition.
+ * steps in any language, with values of any logic. It takes one step after another, with a stack.
+ * The answers are in the order of `predicates`. `all`: acc = true; for each popped value v, acc =
+ * acc and v; acc is pushed. `any`: the same with false and or. At the end the stack has one value,
+ * which is that of the condition. The stack never has more values than there are steps.
  *
  * Both buffers are filled, or neither. Returns CFGX_STATUS_DONE, CFGX_STATUS_FAULTY,
  * CFGX_STATUS_NOT_UTF8 or CFGX_STATUS_OUT_OF_MEMORY. */
@@ -218,24 +239,25 @@ uint32_t cfgx_compile(const char *text, size_t text_length,
                       struct cfgx_predicate *predicates, size_t predicate_room,
                       size_t *predicates_needed);
 
-/* Computes the value of the condition that has these steps from the answers to its predicates. The
- * steps may be any whatever, such as those of a damaged file. Returns CFGX_STATUS_DONE, and writes
- * the value to `*value`. Otherwise returns CFGX_STATUS_NO_TREE if no condition has these steps,
- * CFGX_STATUS_MISCOUNTED if they ask more or fewer predicates than there are answers, or
- * CFGX_STATUS_OUT_OF_MEMORY, and `*value` stays as it was. */
+/* Computes the value of the condition that has these steps from the answers to its predicates. Any
+ * steps may be passed, such as those of a damaged file. Returns CFGX_STATUS_DONE, and writes the
+ * value to `*value`. Returns CFGX_STATUS_NO_TREE if no condition has these steps, also if only
+ * their order is wrong: ASK, ASK, NOT, ALL 2 asks before a function. Returns CFGX_STATUS_MISCOUNTED
+ * if they ask more or fewer predicates than there are answers, or CFGX_STATUS_OUT_OF_MEMORY. With
+ * every status but CFGX_STATUS_DONE, `*value` stays as it was. */
 uint32_t cfgx_apply(const struct cfgx_step *steps, size_t step_count,
                     const uint8_t *answers, size_t answer_count, uint8_t *value);
 
-/* Evaluates many conditions on many targets. Target j has the facts from number
- * `target_ends[j - 1]`, or from 0 for the first target, up to but not including `target_ends[j]`,
- * and answers by them as in `cfgx_answers`. Item `i * target_count + j` of `values` becomes the
- * value of condition i on target j. All numbers begin with 0.
+/* Evaluates many conditions on many targets. Numbering starts at 0. Target j has the facts from
+ * number `target_ends[j - 1]`, or from 0 for the first target, up to but not including
+ * `target_ends[j]`, and answers by them as in `cfgx_answers`. Item `i * target_count + j` of
+ * `values` becomes the value of condition i on target j, so `*needed` is text_count * target_count.
  *
  * Returns CFGX_STATUS_DONE. Returns CFGX_STATUS_FAULTY or CFGX_STATUS_NOT_UTF8, and writes the
  * number of the first such text to `*place`. Returns CFGX_STATUS_FAULTY_FACT, and writes the number
- * of the first such fact to `*place`. Otherwise returns CFGX_STATUS_OUT_OF_MEMORY,
- * CFGX_STATUS_BAD_ENDS or CFGX_STATUS_TOO_LARGE. With every status but the three that write it,
- * `*place` stays as it was. */
+ * of the first such fact, counted over all targets, to `*place`. Otherwise returns
+ * CFGX_STATUS_OUT_OF_MEMORY, CFGX_STATUS_BAD_ENDS or CFGX_STATUS_TOO_LARGE. With every other
+ * status, `*place` stays as it was. */
 uint32_t cfgx_audit(const char *texts, size_t texts_length,
                     const size_t *text_ends, size_t text_count,
                     const char *facts, size_t facts_length,
@@ -243,113 +265,161 @@ uint32_t cfgx_audit(const char *texts, size_t texts_length,
                     const size_t *target_ends, size_t target_count, uint8_t otherwise,
                     uint8_t *values, size_t room, size_t *needed, size_t *place);
 
-/* Runs the program cfgx with these words, which are the arguments after the program's name, and
- * with this standard input, of which only the command `pick` reads, and at most 16 MiB. Fills
+/* Runs the program cfgx with these words, which are the arguments after the program's name. `input`
+ * is its standard input. Only `pick` reads it, and an input over 16 MiB is faulty then. Fills
  * `output` with what cfgx prints, and returns the status with which cfgx ends: CFGX_STATUS_DONE,
  * CFGX_STATUS_FAULTY, CFGX_STATUS_WRONG_USE or CFGX_STATUS_OUT_OF_MEMORY. With the last of these
  * there is no output.
  *
- * Returns CFGX_STATUS_BAD_ENDS or CFGX_STATUS_NOT_UTF8 if these are not the ends of words in UTF-8.
- * Then cfgx is not run. */
+ * Returns CFGX_STATUS_BAD_ENDS if the ends are wrong, else CFGX_STATUS_NOT_UTF8 if a word is not
+ * UTF-8. Then cfgx is not run. */
 uint32_t cfgx_run(const char *words, size_t words_length,
                   const size_t *word_ends, size_t word_count,
                   const char *input, size_t input_length,
                   char *output, size_t room, size_t *needed);
 
-/* What follows lets a pointer before a length of 0 be null. A macro of each call's name passes such
- * pointers through a function that returns a pointer to some item in place of a null pointer. */
-static inline const char *cfgx_text_or_none(const char *text) {
+/* What follows allows a null pointer where its count is 0. The name of each call becomes that of a
+ * function here. It passes on what it is passed, with a pointer to some item in place of such a
+ * null pointer. A null pointer with another count stays null. */
+
+static inline const char *cfgx_given_text(const char *text, size_t count) {
     static const char none = 0;
-    return text != NULL ? text : &none;
+    return text == NULL && count == 0 ? &none : text;
 }
 
-static inline char *cfgx_chars_or_none(char *room) {
-    static char none;
-    return room != NULL ? room : &none;
-}
-
-static inline const size_t *cfgx_ends_or_none(const size_t *ends) {
+static inline const size_t *cfgx_given_ends(const size_t *ends, size_t count) {
     static const size_t none = 0;
-    return ends != NULL ? ends : &none;
+    return ends == NULL && count == 0 ? &none : ends;
 }
 
-static inline const uint8_t *cfgx_answers_or_none(const uint8_t *answers) {
+static inline const uint8_t *cfgx_given_answers(const uint8_t *answers, size_t count) {
     static const uint8_t none = 0;
-    return answers != NULL ? answers : &none;
+    return answers == NULL && count == 0 ? &none : answers;
 }
 
-static inline uint8_t *cfgx_values_or_none(uint8_t *room) {
-    static uint8_t none;
-    return room != NULL ? room : &none;
-}
-
-static inline struct cfgx_predicate *cfgx_predicates_or_none(struct cfgx_predicate *room) {
-    static struct cfgx_predicate none;
-    return room != NULL ? room : &none;
-}
-
-static inline const struct cfgx_step *cfgx_steps_or_none(const struct cfgx_step *steps) {
+static inline const struct cfgx_step *cfgx_given_steps(const struct cfgx_step *steps,
+                                                       size_t count) {
     static const struct cfgx_step none = {0, 0};
-    return steps != NULL ? steps : &none;
+    return steps == NULL && count == 0 ? &none : steps;
 }
 
-static inline struct cfgx_step *cfgx_step_room_or_none(struct cfgx_step *room) {
+static inline char *cfgx_room_for_text(char *text, size_t count) {
+    static char none;
+    return text == NULL && count == 0 ? &none : text;
+}
+
+static inline uint8_t *cfgx_room_for_values(uint8_t *values, size_t count) {
+    static uint8_t none;
+    return values == NULL && count == 0 ? &none : values;
+}
+
+static inline struct cfgx_predicate *cfgx_room_for_predicates(struct cfgx_predicate *predicates,
+                                                              size_t count) {
+    static struct cfgx_predicate none;
+    return predicates == NULL && count == 0 ? &none : predicates;
+}
+
+static inline struct cfgx_step *cfgx_room_for_steps(struct cfgx_step *steps, size_t count) {
     static struct cfgx_step none;
-    return room != NULL ? room : &none;
+    return steps == NULL && count == 0 ? &none : steps;
 }
 
-#define cfgx_check(text, text_length, fault) \
-    cfgx_check(cfgx_text_or_none(text), text_length, fault)
+static inline uint32_t cfgx_check_or_none(const char *text, size_t text_length,
+                                          struct cfgx_fault *fault) {
+    return cfgx_check(cfgx_given_text(text, text_length), text_length, fault);
+}
 
-#define cfgx_explain(text, text_length, message, room, needed) \
-    cfgx_explain(cfgx_text_or_none(text), text_length, cfgx_chars_or_none(message), room, needed)
+static inline uint32_t cfgx_explain_or_none(const char *text, size_t text_length, char *message,
+                                            size_t room, size_t *needed) {
+    return cfgx_explain(cfgx_given_text(text, text_length), text_length,
+                        cfgx_room_for_text(message, room), room, needed);
+}
 
-#define cfgx_predicates(text, text_length, predicates, room, needed) \
-    cfgx_predicates(cfgx_text_or_none(text), text_length, \
-                    cfgx_predicates_or_none(predicates), room, needed)
+static inline uint32_t cfgx_predicates_or_none(const char *text, size_t text_length,
+                                               struct cfgx_predicate *predicates, size_t room,
+                                               size_t *needed) {
+    return cfgx_predicates(cfgx_given_text(text, text_length), text_length,
+                           cfgx_room_for_predicates(predicates, room), room, needed);
+}
 
-#define cfgx_value(text, text_length, answers, answer_count, value) \
-    cfgx_value(cfgx_text_or_none(text), text_length, \
-               cfgx_answers_or_none(answers), answer_count, value)
+static inline uint32_t cfgx_value_or_none(const char *text, size_t text_length,
+                                          const uint8_t *answers, size_t answer_count,
+                                          uint8_t *value) {
+    return cfgx_value(cfgx_given_text(text, text_length), text_length,
+                      cfgx_given_answers(answers, answer_count), answer_count, value);
+}
 
-#define cfgx_decide(text, text_length, answers, answer_count, fillings, room, needed, value) \
-    cfgx_decide(cfgx_text_or_none(text), text_length, \
-                cfgx_answers_or_none(answers), answer_count, \
-                cfgx_values_or_none(fillings), room, needed, value)
+static inline uint32_t cfgx_decide_or_none(const char *text, size_t text_length,
+                                           const uint8_t *answers, size_t answer_count,
+                                           uint8_t *fillings, size_t room, size_t *needed,
+                                           uint8_t *value) {
+    return cfgx_decide(cfgx_given_text(text, text_length), text_length,
+                       cfgx_given_answers(answers, answer_count), answer_count,
+                       cfgx_room_for_values(fillings, room), room, needed, value);
+}
 
-#define cfgx_answers(text, text_length, facts, facts_length, fact_ends, fact_count, otherwise, \
-                     answers, room, needed) \
-    cfgx_answers(cfgx_text_or_none(text), text_length, \
-                 cfgx_text_or_none(facts), facts_length, \
-                 cfgx_ends_or_none(fact_ends), fact_count, otherwise, \
-                 cfgx_values_or_none(answers), room, needed)
+static inline uint32_t cfgx_answers_or_none(const char *text, size_t text_length, const char *facts,
+                                            size_t facts_length, const size_t *fact_ends,
+                                            size_t fact_count, uint8_t otherwise, uint8_t *answers,
+                                            size_t room, size_t *needed) {
+    return cfgx_answers(cfgx_given_text(text, text_length), text_length,
+                        cfgx_given_text(facts, facts_length), facts_length,
+                        cfgx_given_ends(fact_ends, fact_count), fact_count, otherwise,
+                        cfgx_room_for_values(answers, room), room, needed);
+}
 
-#define cfgx_compile(text, text_length, steps, step_room, steps_needed, \
-                     predicates, predicate_room, predicates_needed) \
-    cfgx_compile(cfgx_text_or_none(text), text_length, \
-                 cfgx_step_room_or_none(steps), step_room, steps_needed, \
-                 cfgx_predicates_or_none(predicates), predicate_room, predicates_needed)
+static inline uint32_t cfgx_compile_or_none(const char *text, size_t text_length,
+                                            struct cfgx_step *steps, size_t step_room,
+                                            size_t *steps_needed, struct cfgx_predicate *predicates,
+                                            size_t predicate_room, size_t *predicates_needed) {
+    return cfgx_compile(cfgx_given_text(text, text_length), text_length,
+                        cfgx_room_for_steps(steps, step_room), step_room, steps_needed,
+                        cfgx_room_for_predicates(predicates, predicate_room), predicate_room,
+                        predicates_needed);
+}
 
-#define cfgx_apply(steps, step_count, answers, answer_count, value) \
-    cfgx_apply(cfgx_steps_or_none(steps), step_count, \
-               cfgx_answers_or_none(answers), answer_count, value)
+static inline uint32_t cfgx_apply_or_none(const struct cfgx_step *steps, size_t step_count,
+                                          const uint8_t *answers, size_t answer_count,
+                                          uint8_t *value) {
+    return cfgx_apply(cfgx_given_steps(steps, step_count), step_count,
+                      cfgx_given_answers(answers, answer_count), answer_count, value);
+}
 
-#define cfgx_audit(texts, texts_length, text_ends, text_count, \
-                   facts, facts_length, fact_ends, fact_count, \
-                   target_ends, target_count, otherwise, values, room, needed, place) \
-    cfgx_audit(cfgx_text_or_none(texts), texts_length, \
-               cfgx_ends_or_none(text_ends), text_count, \
-               cfgx_text_or_none(facts), facts_length, \
-               cfgx_ends_or_none(fact_ends), fact_count, \
-               cfgx_ends_or_none(target_ends), target_count, otherwise, \
-               cfgx_values_or_none(values), room, needed, place)
+static inline uint32_t cfgx_audit_or_none(const char *texts, size_t texts_length,
+                                          const size_t *text_ends, size_t text_count,
+                                          const char *facts, size_t facts_length,
+                                          const size_t *fact_ends, size_t fact_count,
+                                          const size_t *target_ends, size_t target_count,
+                                          uint8_t otherwise, uint8_t *values, size_t room,
+                                          size_t *needed, size_t *place) {
+    return cfgx_audit(cfgx_given_text(texts, texts_length), texts_length,
+                      cfgx_given_ends(text_ends, text_count), text_count,
+                      cfgx_given_text(facts, facts_length), facts_length,
+                      cfgx_given_ends(fact_ends, fact_count), fact_count,
+                      cfgx_given_ends(target_ends, target_count), target_count, otherwise,
+                      cfgx_room_for_values(values, room), room, needed, place);
+}
 
-#define cfgx_run(words, words_length, word_ends, word_count, input, input_length, \
-                 output, room, needed) \
-    cfgx_run(cfgx_text_or_none(words), words_length, \
-             cfgx_ends_or_none(word_ends), word_count, \
-             cfgx_text_or_none(input), input_length, \
-             cfgx_chars_or_none(output), room, needed)
+static inline uint32_t cfgx_run_or_none(const char *words, size_t words_length,
+                                        const size_t *word_ends, size_t word_count,
+                                        const char *input, size_t input_length, char *output,
+                                        size_t room, size_t *needed) {
+    return cfgx_run(cfgx_given_text(words, words_length), words_length,
+                    cfgx_given_ends(word_ends, word_count), word_count,
+                    cfgx_given_text(input, input_length), input_length,
+                    cfgx_room_for_text(output, room), room, needed);
+}
+
+#define cfgx_check cfgx_check_or_none
+#define cfgx_explain cfgx_explain_or_none
+#define cfgx_predicates cfgx_predicates_or_none
+#define cfgx_value cfgx_value_or_none
+#define cfgx_decide cfgx_decide_or_none
+#define cfgx_answers cfgx_answers_or_none
+#define cfgx_compile cfgx_compile_or_none
+#define cfgx_apply cfgx_apply_or_none
+#define cfgx_audit cfgx_audit_or_none
+#define cfgx_run cfgx_run_or_none
 
 #ifdef __cplusplus
 }

@@ -64,10 +64,27 @@ static void call(const void *item, size_t room, uint32_t status)
     expect_filled(value, &row->value, status == CFGX_STATUS_DONE);
 }
 
+/* Tests that the name of the call is that of a function in the header: its address takes null
+ * pointers, it evaluates each argument once, and a comma may stand in braces. */
+static void test_name(void)
+{
+    static const struct text text = TEXT("all(a, b)");
+    uint32_t (*address)(const char *, size_t, const uint8_t *, size_t, uint8_t *) = &cfgx_value;
+    const char *bytes = text.bytes;
+    uint8_t value = CFGX_VALUE_UNKNOWN;
+    begin_row(text);
+    expect_number("the status of no text", address(NULL, 0, NULL, 0, &value), CFGX_STATUS_FAULTY);
+    expect_number("the status", cfgx_value(bytes++, text.length, (uint8_t[]){1, 1}, 2, &value),
+                  CFGX_STATUS_DONE);
+    expect_number("the value", value, CFGX_VALUE_TRUE);
+    expect_number("how often the text was evaluated", (size_t)(bytes - text.bytes), 1);
+}
+
 int main(void)
 {
     for (size_t i = 0; i < COUNT(rows); i++) {
         test_row(call, &rows[i], rows[i].text, 1, rows[i].status);
     }
+    test_name();
     return finish("cfgx_value", 1);
 }
