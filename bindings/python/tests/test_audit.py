@@ -89,7 +89,7 @@ class Rustc(unittest.TestCase):
     def test_a_target_that_it_does_not_know(self):
         with self.assertRaises(cfgx.RustcError) as caught:
             cfgx.rustc_facts("nowhere")
-        self.assertTrue(str(caught.exception).startswith("rustc does not know nowhere: error"))
+        self.assertTrue(str(caught.exception).startswith("rustc refused --print cfg --target nowhere: error"))
 
 
 class NoRustc(unittest.TestCase):

@@ -65,12 +65,17 @@ def rustc_facts(triple: str) -> List[str]:
     """Returns the facts of a target, for `audit`: the lines that `rustc --print cfg` prints for it.
     The `rustc` is that on the path. Raises `RustcError` if there is none, or if it does not know the
     target."""
-    command = ["rustc", "--print", "cfg", "--target", triple]
+    return rustc_lines("--print", "cfg", "--target", triple)
+
+
+def rustc_lines(*words: str) -> List[str]:
+    """Returns the lines that the `rustc` on the path prints with these words. Raises `RustcError`."""
+    pipe = subprocess.PIPE
     try:
-        run = subprocess.run(command, stdout=subprocess.PIPE, stderr=subprocess.PIPE, check=False)
+        run = subprocess.run(["rustc", *words], stdout=pipe, stderr=pipe, check=False)
     except OSError as error:
         raise RustcError(f"rustc could not be run: {error}") from error
     if run.returncode != 0:
         message = run.stderr.decode(errors="replace").rstrip()
-        raise RustcError(f"rustc does not know {triple}: {message}")
+        raise RustcError(f"rustc refused {' '.join(words)}: {message}")
     return lines_of(run.stdout.decode())

@@ -151,4 +151,4 @@ class FactError(ValueError):
 
 
 class RustcError(Exception):
-    """`rustc` could not be run, or does not know the target. The message says which."""
+    """`rustc` could not be run, or refused the target. The message says which."""
