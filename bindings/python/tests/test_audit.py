@@ -36,9 +36,10 @@ class Audits(unittest.TestCase):
         self.assertEqual(cfgx.audit(["unix"], ["", []]), [[False, False]])
 
     def test_lines_of_a_text(self):
-        facts = 'a="\u2028"\r\n\n\r\nb = "\x0b\x1c\x85"\n'
-        self.assertEqual(_audit.lines_of(facts), ['a="\u2028"', 'b = "\x0b\x1c\x85"'])
-        self.assertEqual(cfgx.audit(['a = "\u2028"', 'b = "\x0b\x1c\x85"'], [facts]), [[True], [True]])
+        lines = ['a = "\u2028"', 'b = "\x0b\x1c\x85"']
+        facts = f"{lines[0]}\r\n\n\r\n{lines[1]}\n"
+        self.assertEqual(_audit.lines_of(facts), lines)
+        self.assertEqual(cfgx.audit(lines, [facts]), [[True], [True]])
 
     def test_facts_with_zero_bytes_line_feeds_and_characters(self):
         facts = ['a = "\0"', 'a = "x\ny"', '?a = "日本𝄞"']
@@ -89,7 +90,8 @@ class Rustc(unittest.TestCase):
     def test_a_target_that_it_does_not_know(self):
         with self.assertRaises(cfgx.RustcError) as caught:
             cfgx.rustc_facts("nowhere")
-        self.assertTrue(str(caught.exception).startswith("rustc refused --print cfg --target nowhere: error"))
+        message = "rustc refused --print cfg --target nowhere: error"
+        self.assertTrue(str(caught.exception).startswith(message))
 
 
 class NoRustc(unittest.TestCase):

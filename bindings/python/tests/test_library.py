@@ -101,7 +101,8 @@ class Finding(unittest.TestCase):
         run = python("import cfgx", CFGX_LIBRARY="/nowhere/libcfgx.so.1")
         self.assertEqual(run.returncode, 1)
         line = run.stderr.decode().splitlines()[-1]
-        self.assertTrue(line.startswith("ImportError: cfgx cannot load /nowhere/libcfgx.so.1"), line)
+        begin = "ImportError: cfgx cannot load /nowhere/libcfgx.so.1 ("
+        self.assertTrue(line.startswith(begin), line)
         self.assertTrue(line.endswith("let CFGX_LIBRARY name the file libcfgx.so.1"), line)
 
     def test_another_library(self):

@@ -122,7 +122,8 @@ class Manifest(unittest.TestCase):
         dependency = _manifest.Dependency("a", "normal", False, "cfg(feature)")
         with self.assertRaises(_manifest.ManifestError) as caught:
             _manifest.verdict_on(dependency, _manifest.Target("", []))
-        wanted = 'the condition of a is faulty:\nfeature\n^^^^^^^ expected a `= "<feature_name>"` here'
+        marks = '^^^^^^^ expected a `= "<feature_name>"` here'
+        wanted = f"the condition of a is faulty:\nfeature\n{marks}"
         self.assertEqual(str(caught.exception), wanted)
 
     @unittest.skipUnless(shutil.which("cargo") and shutil.which("rustc"), "there is no Cargo here")

@@ -48,10 +48,15 @@ def audit(
     if status == _library.FAULTY:
         raise parse_error(texts[place], encoded[place])
     if status == _library.FAULTY_FACT:
-        target_number = bisect_right(ends, place)
-        first = ends[target_number - 1] if target_number > 0 else 0
-        raise FactError(target_number, place - first, facts[place])
+        raise fact_error(facts, ends, place)
     return [values[row * len(ends):(row + 1) * len(ends)] for row in range(len(texts))]
+
+
+def fact_error(facts: List[str], ends: List[int], place: int) -> FactError:
+    """Returns the error of the fact at a place among those of all targets."""
+    target = bisect_right(ends, place)
+    first = ends[target - 1] if target > 0 else 0
+    return FactError(target, place - first, facts[place])
 
 
 def lines_of(text: str) -> List[str]:
@@ -63,13 +68,14 @@ def lines_of(text: str) -> List[str]:
 
 def rustc_facts(triple: str) -> List[str]:
     """Returns the facts of a target, for `audit`: the lines that `rustc --print cfg` prints for it.
-    The `rustc` is that on the path. Raises `RustcError` if there is none, or if it does not know the
-    target."""
+    The `rustc` is that on the path. Raises `RustcError` if there is none, or if it does not know
+    the target."""
     return rustc_lines("--print", "cfg", "--target", triple)
 
 
 def rustc_lines(*words: str) -> List[str]:
-    """Returns the lines that the `rustc` on the path prints with these words. Raises `RustcError`."""
+    """Returns the lines that the `rustc` on the path prints with these words. Raises `RustcError`
+    if there is none, or if it fails."""
     pipe = subprocess.PIPE
     try:
         run = subprocess.run(["rustc", *words], stdout=pipe, stderr=pipe, check=False)

@@ -119,8 +119,8 @@ class Expression:
     - or a mapping from predicates to answers; a predicate that is not in it is unknown;
     - or a list with one answer for each of `predicates`, in order.
 
-    An answer is `True`, `False`, or `None` if it is unknown; any other raises `TypeError`. A list of
-    another length raises `ValueError`.
+    An answer is `True`, `False`, or `None` if it is unknown; any other raises `TypeError`. A list
+    of another length raises `ValueError`.
     """
 
     __slots__ = ("_text", "_encoded", "_predicates")

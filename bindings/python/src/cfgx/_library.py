@@ -79,8 +79,8 @@ def load(path: str) -> Any:
     language, major, minor = parts_of(library.cfgx_version())
     if (language, major) != (LANGUAGE, MAJOR) or minor < MINOR:
         raise ImportError(
-            f"cfgx needs version {LANGUAGE}.{MAJOR}.{MINOR} of {NAME}, or a later {LANGUAGE}.{MAJOR},"
-            f" and {path} has version {language}.{major}.{minor}"
+            f"cfgx needs version {LANGUAGE}.{MAJOR}.{MINOR} of {NAME} or a later"
+            f" {LANGUAGE}.{MAJOR}, and {path} has version {language}.{major}.{minor}"
         )
     return library
 
@@ -95,7 +95,7 @@ def version() -> str:
 
 
 def expect_done(status: int) -> None:
-    """Raises `MemoryError` if memory was refused, or if there is an error of this package."""
+    """Raises `MemoryError` if memory was refused. No other status but that of done can occur."""
     if status in (OUT_OF_MEMORY, TOO_LARGE):
         raise MemoryError("cfgx got no memory")
     if status != DONE:
@@ -139,8 +139,8 @@ def check(text: bytes) -> Optional[Fault]:
 
 
 def explain(text: bytes) -> bytes:
-    """Returns what the program cfgx prints of the fault of a faulty text, without a line feed at the
-    end."""
+    """Returns what the program cfgx prints of the fault of a faulty text, without the last line
+    feed."""
     status, message = filled(
         c_uint8, len(text) + 100, lambda *buffer: LIBRARY.cfgx_explain(text, len(text), *buffer)
     )
@@ -168,8 +168,8 @@ def value(text: bytes, answers: bytes) -> Optional[bool]:
 
 
 def decide(text: bytes, answers: bytes) -> Tuple[Optional[bool], List[bool]]:
-    """Returns the value of a condition over the numbers of as many answers as it has predicates, and
-    the two fillings, one behind the other. There are none if the value is known."""
+    """Returns the value of a condition over the numbers of as many answers as it has predicates,
+    and the two fillings, one behind the other. There are none if the value is known."""
     found, count = c_uint8(), len(answers)
     status, fillings = filled(
         c_uint8, 2 * count,

@@ -54,8 +54,8 @@ def dependencies_of(path: str) -> List[Dependency]:
 
 
 def listed_by_cargo(path: str) -> Iterator[Dependency]:
-    """Yields the dependencies that Cargo lists of the package with this manifest or, if that is of a
-    workspace alone, of all its packages."""
+    """Yields the dependencies that Cargo lists of the package with this manifest or, if that has no
+    package, of all packages of its workspace."""
     command = ["cargo", "metadata", "--no-deps", "--format-version", "1", "--manifest-path", path]
     pipe = subprocess.PIPE
     run = subprocess.run(command, stdout=pipe, stderr=pipe, check=False)
@@ -121,8 +121,9 @@ def verdict_on(dependency: Dependency, target: Target) -> Tuple[Optional[bool], 
         return value, ""
     unknown = [place for place, answer in enumerate(answers) if answer is None]
     asked = [expression.predicates[place] for place in unknown]
-    needs = [spelled(asked, [filling[place] for place in unknown]) for filling in (if_true, if_false)]
-    return None, f"yes if {needs[0]}; no if {needs[1]}"
+    if_taken = spelled(asked, [if_true[place] for place in unknown])
+    if_left = spelled(asked, [if_false[place] for place in unknown])
+    return None, f"yes if {if_taken}; no if {if_left}"
 
 
 def answers_on(expression: Expression, target: Target) -> List[Optional[bool]]:
