@@ -52,12 +52,15 @@ class Audits(unittest.TestCase):
             cfgx.audit(["unix", 'all(a = "é", 8)', "all("], [LINUX])
         error = caught.exception
         self.assertEqual((error.text, error.span), ('all(a = "é", 8)', (13, 14)))
+        with self.assertRaises(cfgx.ParseError):
+            cfgx.audit(["unix\0"], [])
 
     def test_a_faulty_fact(self):
         rows = [
             ([["all("]], (0, 0, "all(")),
             ([[], ["unix"], [], ["test", "é"], ["b)"]], (3, 1, "é")),
             ([["unix"], ["windows", "a", "b)", "a)"]], (1, 2, "b)")),
+            ([["unix"], ["b)"], []], (1, 0, "b)")),
             (["unix\n\nx y\n"], (0, 1, "x y")),
         ]
         for targets, wanted in rows:

@@ -7,6 +7,7 @@ import subprocess
 import sys
 import tempfile
 import unittest
+import unittest.mock
 
 from . import PACKAGE, ROOT
 
@@ -123,6 +124,26 @@ class Finding(unittest.TestCase):
             shutil.copy(_library.path_of(), os.path.join(folder, "libcfgx.so.1"))
             run = python("import cfgx; print(cfgx._library.path_of())", LD_LIBRARY_PATH=folder)
         self.assertEqual(run.stdout.decode(), "libcfgx.so.1\n", run.stderr)
+
+
+class Versions(unittest.TestCase):
+    """Which versions suit the package."""
+
+    def load(self, number):
+        """Loads a library with this version."""
+        library = unittest.mock.Mock()
+        library.cfgx_version.return_value = number
+        with unittest.mock.patch("ctypes.CDLL", return_value=library):
+            return _library.load("some.so")
+
+    def test_versions(self):
+        for number in (2001000, 2001007):
+            self.assertEqual(self.load(number).cfgx_version(), number)
+        for number, name in [(2002000, "2.2.0"), (2000999, "2.0.999"), (3001000, "3.1.0")]:
+            with self.assertRaises(ImportError) as caught:
+                self.load(number)
+            wanted = "cfgx needs version 2.1.0 of libcfgx.so.1 or a later 2.1, and some.so has"
+            self.assertEqual(str(caught.exception), f"{wanted} version {name}")
 
 
 class Memory(unittest.TestCase):

@@ -39,14 +39,14 @@ winapi = "0.3"
 [target.'cfg(all(target_vendor = "apple", not(loom)))'.dependencies]
 objc2 = "0.6"
 
-[target.'cfg(any(feature = "x", fuzzing, key = "é"))'.dev-dependencies]
+[target.'cfg(any(proc_macro, test, fuzzing, key = "é"))'.dev-dependencies]
 fuzz = { version = "1" }
 """
 # The lines of the table, without the spaces that align it.
 TABLE = """\
 dependency x86_64-unknown-linux-gnu x86_64-pc-windows-gnu aarch64-apple-ios condition
 cc (build, optional) yes yes yes
-fuzz (dev) unknown unknown unknown cfg(any(feature = "x", fuzzing, key = "é"))
+fuzz (dev) unknown unknown unknown cfg(any(proc_macro, test, fuzzing, key = "é"))
 unknown: yes if fuzzing and key = "é"; no if not(fuzzing) and not(key = "é")
 log yes yes yes
 objc2 no no unknown cfg(all(target_vendor = "apple", not(loom)))
