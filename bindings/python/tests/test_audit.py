@@ -74,8 +74,12 @@ class Audits(unittest.TestCase):
     def test_other_arguments(self):
         with self.assertRaises(ValueError):
             cfgx.audit(["unix"], [LINUX], otherwise=True)
-        for conditions, targets in [([b"unix"], []), ([1], []), ([], [[b"unix"]]), ([], [b"unix"])]:
-            with self.assertRaises(TypeError):
+        rows = [
+            ([b"unix"], []), ([1], []), ([], [[b"unix"]]), ([], [b"unix"]), ([], [None]),
+            ("unix", []), (cfgx.parse("unix"), []), ([], LINUX),
+        ]
+        for conditions, targets in rows:
+            with self.subTest(row=(conditions, targets)), self.assertRaises(TypeError):
                 cfgx.audit(conditions, targets)
 
 

@@ -33,6 +33,8 @@ def audit(
     >>> cfgx.audit(["not(test)"], ["unix"], otherwise=False)
     [[True]]
     """
+    if isinstance(conditions, str) or isinstance(targets, str):
+        raise TypeError("conditions and targets are lists")
     if otherwise not in (None, False):
         raise ValueError(f"otherwise is None or False, and not {otherwise!r}")
     texts = [item.text if isinstance(item, Expression) else item for item in conditions]

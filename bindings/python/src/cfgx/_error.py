@@ -136,7 +136,7 @@ class FactError(ValueError):
     target: int
     """The number of the target, from 0 on."""
     number: int
-    """The number of the fact among those of the target, from 0 on."""
+    """The number of the fact among those of the target, from 0 on. Empty lines have none."""
     fact: str
     """The fact."""
 

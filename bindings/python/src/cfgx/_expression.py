@@ -83,7 +83,7 @@ class Predicate:
     front."""
     span: Tuple[int, int] = dataclasses.field(default=(0, 0), compare=False)
     """The characters of the predicate in the text that was passed, from the key to the last quote:
-    from the first number up to but not including the second."""
+    from the first number up to but not including the second. A caller may leave it out."""
 
     def __str__(self) -> str:
         return self.key if self.value is None else f'{self.key} = "{self.value}"'
@@ -198,11 +198,14 @@ class Expression:
 
     def _answered(self, answers: Answers) -> bytes:
         """Returns the number of the answer to each predicate."""
+        given: Iterable[Answer]
         if isinstance(answers, AbstractMapping):
-            answers = map(answers.get, self._predicates)
+            given = map(answers.get, self._predicates)
         elif callable(answers):
-            answers = map(answers, self._predicates)
-        numbers = bytes(map(_library.number_of, answers))
+            given = map(answers, self._predicates)
+        else:
+            given = answers
+        numbers = bytes(map(_library.number_of, given))
         if len(numbers) != len(self._predicates):
             raise ValueError(
                 f"the condition has {len(self._predicates)} predicates, and there are"

@@ -1,4 +1,7 @@
-"""The calls of cfgx.h. A text is `bytes` here, and spans count bytes."""
+"""The calls of cfgx.h. A text is `bytes` here, and spans count bytes.
+
+No pointer is null: `ctypes` passes an address also for an array or `bytes` without items.
+"""
 import ctypes
 import os
 from ctypes import POINTER, c_char_p, c_size_t, c_uint8, c_uint32
