@@ -1,0 +1,64 @@
+"""Prints which dependencies of a Cargo.toml each target takes."""
+import argparse
+import sys
+from typing import Iterator, List, Sequence
+
+from ._error import RustcError
+from ._manifest import Dependency, ManifestError, Target, dependencies_of, host, target_of
+from ._manifest import verdict_on
+
+NAMES = {True: "yes", False: "no", None: "unknown"}
+
+
+def name_of(dependency: Dependency) -> str:
+    """Returns the name of a dependency, with its kind and whether it is optional."""
+    marks = [] if dependency.kind == "normal" else [dependency.kind]
+    marks += ["optional"] if dependency.is_optional else []
+    return f"{dependency.name} ({', '.join(marks)})" if marks else dependency.name
+
+
+def rows_of(dependencies: Sequence[Dependency], targets: Sequence[Target]) -> Iterator[List[str]]:
+    """Yields the cells of each line of the table. A line of one cell has the reason of an unknown
+    above it. Build-dependencies are judged on the machine that builds."""
+    yield ["dependency", *(target.triple for target in targets), "condition"]
+    is_host_needed = any(dependency.kind == "build" for dependency in dependencies)
+    builds = [target_of(host())] * len(targets) if is_host_needed else []
+    for dependency in dependencies:
+        judged = builds if dependency.kind == "build" else targets
+        verdicts = [verdict_on(dependency, target) for target in judged]
+        values = [NAMES[value] for value, _ in verdicts]
+        yield [name_of(dependency), *values, dependency.target or ""]
+        # Targets with the same reason share a line.
+        for reason in dict.fromkeys(reason for _, reason in verdicts if reason):
+            yield [f"    unknown: {reason}"]
+
+
+def aligned(rows: Sequence[List[str]]) -> Iterator[str]:
+    """Yields the lines of a table with columns of one width."""
+    cells = [row for row in rows if len(row) > 1]
+    widths = [max(map(len, column)) for column in zip(*cells)]
+    for row in rows:
+        if len(row) > 1:
+            yield "  ".join(map(str.ljust, row, widths)).rstrip()
+        else:
+            yield row[0]
+
+
+def main() -> None:
+    """Prints the table, or what is wrong."""
+    parser = argparse.ArgumentParser(prog="python3 -m cfgx", description=__doc__)
+    parser.add_argument("manifest", metavar="MANIFEST", help="the path of a Cargo.toml")
+    parser.add_argument(
+        "--target", metavar="TRIPLE", nargs="+", required=True, help="a target that rustc knows"
+    )
+    words = parser.parse_args()
+    try:
+        dependencies = dependencies_of(words.manifest)
+        targets = [target_of(triple) for triple in words.target]
+        print("\n".join(aligned(list(rows_of(dependencies, targets)))))
+    except (ManifestError, RustcError) as error:
+        sys.exit(str(error))
+
+
+if __name__ == "__main__":
+    main()

@@ -1,0 +1,293 @@
+"""Conditions, and the predicates that they ask."""
+import dataclasses
+import enum
+import re
+from collections.abc import Mapping as AbstractMapping
+from typing import Callable, Iterable, List, Mapping, NamedTuple, Optional, Tuple, Union
+
+from . import _library
+from ._error import parse_error
+
+
+class Kind(enum.Enum):
+    """The kinds of predicates. Those from `ABI` on are on the target."""
+
+    FLAG = 1
+    """A bare key without a meaning of its own, such as `loom`."""
+    KEY_VALUE = 2
+    """A key without a meaning of its own, and a value."""
+    TEST = 3
+    """`test`"""
+    DEBUG_ASSERTIONS = 4
+    """`debug_assertions`"""
+    PROC_MACRO = 5
+    """`proc_macro`"""
+    FEATURE = 6
+    """`feature`"""
+    TARGET_FEATURE = 7
+    """`target_feature`"""
+    ABI = 8
+    """`target_abi`"""
+    ARCH = 9
+    """`target_arch`"""
+    ENDIAN = 10
+    """`target_endian`"""
+    ENV = 11
+    """`target_env`"""
+    FAMILY = 12
+    """`target_family`, and the bare keys `unix` and `windows`"""
+    HAS_ATOMIC = 13
+    """`target_has_atomic`"""
+    OS = 14
+    """`target_os`"""
+    PANIC = 15
+    """`panic`"""
+    POINTER_WIDTH = 16
+    """`target_pointer_width`"""
+    VENDOR = 17
+    """`target_vendor`"""
+
+
+# The key of each kind that has one.
+KEYS = {
+    Kind.TEST: "test", Kind.DEBUG_ASSERTIONS: "debug_assertions", Kind.PROC_MACRO: "proc_macro",
+    Kind.FEATURE: "feature", Kind.TARGET_FEATURE: "target_feature", Kind.ABI: "target_abi",
+    Kind.ARCH: "target_arch", Kind.ENDIAN: "target_endian", Kind.ENV: "target_env",
+    Kind.FAMILY: "target_family", Kind.HAS_ATOMIC: "target_has_atomic", Kind.OS: "target_os",
+    Kind.PANIC: "panic", Kind.POINTER_WIDTH: "target_pointer_width", Kind.VENDOR: "target_vendor",
+}
+# The kind with each number, and its key.
+NUMBERED = {kind.value: (kind, KEYS.get(kind)) for kind in Kind}
+
+
+@dataclasses.dataclass(frozen=True)
+class Predicate:
+    """A predicate of a condition. Two are equal if they ask the same, wherever they stand, so a
+    predicate serves as a key of a mapping.
+
+    >>> import cfgx
+    >>> first, second = cfgx.parse('all(unix, target_family = "unix")').predicates
+    >>> first == second, first.span, second.span
+    (True, (4, 8), (10, 32))
+    >>> first == cfgx.Predicate(cfgx.Kind.FAMILY, "target_family", "unix")
+    True
+    """
+
+    kind: Kind
+    """The kind."""
+    key: str
+    """The key: that of the kind, also for the words `unix` and `windows`, or else as it stands in
+    the text."""
+    value: Optional[str] = None
+    """The value without its quotes, or `None` if there is none. A width has no sign and no zeros in
+    front."""
+    span: Tuple[int, int] = dataclasses.field(default=(0, 0), compare=False)
+    """The characters of the predicate in the text that was passed, from the key to the last quote:
+    from the first number up to but not including the second. A caller may leave it out."""
+
+    def __str__(self) -> str:
+        return self.key if self.value is None else f'{self.key} = "{self.value}"'
+
+
+Answer = Optional[bool]
+Answers = Union[Callable[[Predicate], Answer], Mapping[Predicate, Answer], Iterable[Answer]]
+
+
+class Decision(NamedTuple):
+    """What `Expression.decide` found."""
+
+    value: Optional[bool]
+    """The value, or `None` if it depends on the unknown answers."""
+    if_true: Optional[List[bool]]
+    """Answers with which the condition is true, if `value` is `None`, and otherwise `None`. They
+    keep each answer that is known."""
+    if_false: Optional[List[bool]]
+    """Answers with which the condition is false, if `value` is `None`, and otherwise `None`. They
+    keep each answer that is known."""
+
+
+class Expression:
+    """A condition, which may stand in `cfg( )`. It never changes.
+
+    Two expressions are equal if their texts are equal, without an outer `cfg( )`: `key` and `key,`
+    are not. `str` returns this text.
+
+    `answers` of the calls below is
+
+    - a callable, which is called with each occurrence of a predicate once, in the order of
+      `predicates`, and returns its answer;
+    - or a mapping from predicates to answers; a predicate that is not in it is unknown;
+    - or a list with one answer for each of `predicates`, in order.
+
+    An answer is `True`, `False`, or `None` if it is unknown; any other raises `TypeError`. A list
+    of another length raises `ValueError`.
+    """
+
+    __slots__ = ("_text", "_encoded", "_predicates")
+
+    def __init__(self, text: str) -> None:
+        """Parses a text, as `parse` does."""
+        self._text = text
+        self._encoded = _library.utf8_of(text)
+        found = _library.predicates(self._encoded)
+        if found is None:
+            raise parse_error(text, self._encoded)
+        spans = spans_of(text)
+        self._predicates = tuple(
+            predicate_of(self._encoded, described, spans[number])
+            for number, described in enumerate(found)
+        )
+
+    @property
+    def text(self) -> str:
+        """The text as it was passed, in which spans count."""
+        return self._text
+
+    @property
+    def original(self) -> str:
+        """The text without an outer `cfg( )`.
+
+        >>> import cfgx
+        >>> cfgx.parse("cfg(unix)").original
+        'unix'
+        """
+        offset, end = stripped(self._text)
+        return self._text[offset:end]
+
+    @property
+    def predicates(self) -> List[Predicate]:
+        """The predicates in the order in which they are asked: those of a list's functions, one
+        function after another, and then the list's own. A predicate that stands twice is listed
+        twice.
+
+        >>> import cfgx
+        >>> [predicate.key for predicate in cfgx.parse("all(a, any(b), c)").predicates]
+        ['b', 'a', 'c']
+        """
+        return list(self._predicates)
+
+    def eval(self, answers: Answers) -> Optional[bool]:
+        """Returns the value over these answers, or `None` if it depends on the unknown ones.
+
+        >>> import cfgx
+        >>> expression = cfgx.parse('any(unix, feature = "x")')
+        >>> expression.eval(lambda predicate: predicate.kind is cfgx.Kind.FEATURE)
+        True
+        >>> print(expression.eval({expression.predicates[0]: False}))
+        None
+        >>> expression.eval([None, True])
+        True
+        """
+        return _library.value(self._encoded, self._answered(answers))
+
+    def decide(self, answers: Answers) -> Decision:
+        """Returns the value over these answers and, if it depends on the unknown ones, answers with
+        which the condition is true, and answers with which it is false.
+
+        >>> import cfgx
+        >>> cfgx.parse("all(a, not(b))").decide([None, None])
+        Decision(value=None, if_true=[False, True], if_false=[True, False])
+        >>> cfgx.parse("all(a, not(b))").decide([True, None])
+        Decision(value=False, if_true=None, if_false=None)
+        """
+        given = self._answered(answers)
+        value, fillings = _library.decide(self._encoded, given)
+        if value is not None:
+            return Decision(value, None, None)
+        return Decision(None, fillings[:len(given)], fillings[len(given):])
+
+    def _answered(self, answers: Answers) -> bytes:
+        """Returns the number of the answer to each predicate."""
+        given: Iterable[Answer]
+        if isinstance(answers, AbstractMapping):
+            given = map(answers.get, self._predicates)
+        elif callable(answers):
+            given = map(answers, self._predicates)
+        else:
+            given = answers
+        numbers = bytes(map(_library.number_of, given))
+        if len(numbers) != len(self._predicates):
+            raise ValueError(
+                f"the condition has {len(self._predicates)} predicates, and there are"
+                f" {len(numbers)} answers"
+            )
+        return numbers
+
+    def __str__(self) -> str:
+        return self.original
+
+    def __repr__(self) -> str:
+        return f"cfgx.parse({self._text!r})"
+
+    def __eq__(self, other: object) -> bool:
+        if not isinstance(other, Expression):
+            return NotImplemented
+        return self.original == other.original
+
+    def __hash__(self) -> int:
+        return hash(self.original)
+
+
+def parse(text: str) -> Expression:
+    """Parses a condition, which may stand in `cfg( )`. Raises `ParseError` with the first fault if
+    the text is no condition.
+
+    >>> import cfgx
+    >>> cfgx.parse("all(unix, test)")
+    cfgx.parse('all(unix, test)')
+    >>> cfgx.parse("all(unix")
+    Traceback (most recent call last):
+    cfgx.ParseError: all(unix
+       - unclosed parens
+    """
+    return Expression(text)
+
+
+def stripped(text: str) -> Tuple[int, int]:
+    """Returns where the text without an outer `cfg( )` begins and ends."""
+    if text.startswith("cfg(") and text.endswith(")"):
+        return 4, len(text) - 1
+    return 0, len(text)
+
+
+def predicate_of(encoded: bytes, described: _library.Described, span: Tuple[int, int]) -> Predicate:
+    """Returns the predicate at a span, as the engine describes it."""
+    kind, key = NUMBERED[described.kind]
+    if key is None:
+        key = encoded[described.key_start:described.key_end].decode()
+    if described.value_end > 0:
+        value: Optional[str] = encoded[described.value_start:described.value_end].decode()
+    else:
+        value = numbered_value(kind, described.number)
+    return Predicate(kind, key, value, span)
+
+
+def numbered_value(kind: Kind, number: int) -> Optional[str]:
+    """Returns the value that stands for a number, or `None` if the kind has none."""
+    if kind is Kind.ENDIAN:
+        return _library.ENDIANS[number]
+    if kind in (Kind.HAS_ATOMIC, Kind.POINTER_WIDTH):
+        return "ptr" if number == _library.ATOMIC_POINTER else str(number)
+    return None
+
+
+# A word with its value if it has one, or the end of a list.
+TOKEN = re.compile(r'(\w+)(\s*=\s*"[^"]*")?|\)')
+FUNCTIONS = ("all", "any", "not")
+LITERALS = ("false", "true")
+
+
+def spans_of(text: str) -> List[Tuple[int, int]]:
+    """Returns the spans of the predicates of a condition, in the order in which they are asked. The
+    engine tells those of keys and values, and not of each predicate."""
+    spans: List[Tuple[int, int]] = []
+    lists: List[List[Tuple[int, int]]] = [[]]
+    for token in TOKEN.finditer(text, *stripped(text)):
+        word = token[1]
+        if word is None:
+            spans += lists.pop()
+        elif word in FUNCTIONS:
+            lists.append([])
+        elif word not in LITERALS:
+            lists[-1].append(token.span())
+    return spans + lists[0]

@@ -1,0 +1,207 @@
+"""The calls of cfgx.h. A text is `bytes` here, and spans count bytes.
+
+No pointer is null: `ctypes` passes an address also for an array or `bytes` without items.
+"""
+import ctypes
+import os
+from ctypes import POINTER, c_char_p, c_size_t, c_uint8, c_uint32
+from typing import Any, Callable, List, Optional, Sequence, Tuple
+
+NAME = "libcfgx.so.1"
+LANGUAGE, MAJOR, MINOR = 2, 1, 0
+
+# The statuses that calls return.
+DONE, FAULTY, OUT_OF_MEMORY, MISCOUNTED, TOO_LARGE, FAULTY_FACT = 0, 1, 3, 5, 8, 9
+
+# The numbers of byte orders, and of the width `ptr` of an atomic.
+ENDIANS = ("big", "little")
+ATOMIC_POINTER = 65536
+
+# The values that the numbers of answers and values stand for.
+VALUES = (False, True, None)
+NUMBERS = {value: number for number, value in enumerate(VALUES)}
+
+
+class Fault(ctypes.Structure):
+    """The struct cfgx_fault."""
+    _fields_ = [
+        ("offset", c_size_t), ("start", c_size_t), ("end", c_size_t), ("members", c_size_t),
+        ("reason", c_uint32), ("terms", c_uint32),
+    ]
+
+
+class Described(ctypes.Structure):
+    """The struct cfgx_predicate."""
+    _fields_ = [
+        ("kind", c_uint32), ("number", c_uint32), ("key_start", c_size_t), ("key_end", c_size_t),
+        ("value_start", c_size_t), ("value_end", c_size_t),
+    ]
+
+
+BYTES = POINTER(c_uint8)
+SIZES = POINTER(c_size_t)
+TEXT = (c_char_p, c_size_t)
+LIST = (c_char_p, c_size_t, SIZES, c_size_t)
+ARGUMENTS = {
+    "cfgx_version": (),
+    "cfgx_check": (*TEXT, POINTER(Fault)),
+    "cfgx_explain": (*TEXT, BYTES, c_size_t, SIZES),
+    "cfgx_predicates": (*TEXT, POINTER(Described), c_size_t, SIZES),
+    "cfgx_value": (*TEXT, c_char_p, c_size_t, BYTES),
+    "cfgx_decide": (*TEXT, c_char_p, c_size_t, BYTES, c_size_t, SIZES, BYTES),
+    "cfgx_audit": (*LIST, *LIST, SIZES, c_size_t, c_uint8, BYTES, c_size_t, SIZES, SIZES),
+}
+
+
+def parts_of(number: int) -> Tuple[int, int, int]:
+    """Returns the version of the language, the major and the minor version."""
+    return number // 1000000, number // 1000 % 1000, number % 1000
+
+
+def path_of() -> str:
+    """Returns what the loader is asked for."""
+    named = os.environ.get("CFGX_LIBRARY")
+    if named:
+        return os.path.abspath(named)
+    beside = os.path.join(os.path.dirname(os.path.abspath(__file__)), NAME)
+    return beside if os.path.exists(beside) else NAME
+
+
+def load(path: str) -> Any:
+    """Returns the library at a path, whose calls know their arguments."""
+    try:
+        library = ctypes.CDLL(path)
+        for name, arguments in ARGUMENTS.items():
+            call = getattr(library, name)
+            call.argtypes, call.restype = arguments, c_uint32
+    except (OSError, AttributeError) as error:
+        raise ImportError(
+            f"cfgx cannot load {path} ({error}): install the library by crates/cfgx_c/install of"
+            f" its repository, and let CFGX_LIBRARY name the file {NAME}"
+        ) from error
+    language, major, minor = parts_of(library.cfgx_version())
+    if (language, major) != (LANGUAGE, MAJOR) or minor < MINOR:
+        raise ImportError(
+            f"cfgx needs version {LANGUAGE}.{MAJOR}.{MINOR} of {NAME} or a later"
+            f" {LANGUAGE}.{MAJOR}, and {path} has version {language}.{major}.{minor}"
+        )
+    return library
+
+
+LIBRARY = load(path_of())
+
+
+def version() -> str:
+    """Returns the version of the library: that of the language of conditions, and the major and
+    minor version of the calls."""
+    return ".".join(map(str, parts_of(LIBRARY.cfgx_version())))
+
+
+def expect_done(status: int) -> None:
+    """Raises `MemoryError` if memory was refused. No other status but that of done can occur."""
+    if status in (OUT_OF_MEMORY, TOO_LARGE):
+        raise MemoryError("cfgx got no memory")
+    if status != DONE:
+        raise AssertionError(f"status {status} of libcfgx")
+
+
+def utf8_of(text: str) -> bytes:
+    """Returns a text in UTF-8."""
+    if not isinstance(text, str):
+        raise TypeError(f"a text is a str, and not {text!r}")
+    return text.encode()
+
+
+def number_of(answer: Optional[bool]) -> int:
+    """Returns the number of an answer."""
+    try:
+        return NUMBERS[answer]
+    except (KeyError, TypeError):
+        message = f"an answer is True, False or None, and not {answer!r}"
+        raise TypeError(message) from None
+
+
+def filled(item: Any, room: int, call: Callable[..., int]) -> Tuple[int, Any]:
+    """Calls with this room, and again if that is too small. Returns the status and the items."""
+    buffer, needed = (item * room)(), c_size_t()
+    status = call(buffer, room, needed)
+    if needed.value > room:
+        buffer = (item * needed.value)()
+        status = call(buffer, needed.value, needed)
+    return status, buffer[:needed.value]
+
+
+def check(text: bytes) -> Optional[Fault]:
+    """Returns the first fault of a text, or `None` if it is a condition."""
+    fault = Fault()
+    status = LIBRARY.cfgx_check(text, len(text), fault)
+    if status == FAULTY:
+        return fault
+    expect_done(status)
+    return None
+
+
+def explain(text: bytes) -> bytes:
+    """Returns what the program cfgx prints of the fault of a faulty text, without the last line
+    feed."""
+    status, message = filled(
+        c_uint8, len(text) + 100, lambda *buffer: LIBRARY.cfgx_explain(text, len(text), *buffer)
+    )
+    if status != FAULTY:
+        expect_done(status)
+    return bytes(message)
+
+
+def predicates(text: bytes) -> Optional[List[Described]]:
+    """Returns the predicates of a condition, or `None` if the text is faulty."""
+    status, found = filled(
+        Described, 8, lambda *buffer: LIBRARY.cfgx_predicates(text, len(text), *buffer)
+    )
+    if status == FAULTY:
+        return None
+    expect_done(status)
+    return found
+
+
+def value(text: bytes, answers: bytes) -> Optional[bool]:
+    """Returns the value of a condition over the numbers of as many answers as it has predicates."""
+    found = c_uint8()
+    expect_done(LIBRARY.cfgx_value(text, len(text), answers, len(answers), found))
+    return VALUES[found.value]
+
+
+def decide(text: bytes, answers: bytes) -> Tuple[Optional[bool], List[bool]]:
+    """Returns the value of a condition over the numbers of as many answers as it has predicates,
+    and the two fillings, one behind the other. There are none if the value is known."""
+    found, count = c_uint8(), len(answers)
+    status, fillings = filled(
+        c_uint8, 2 * count,
+        lambda *buffer: LIBRARY.cfgx_decide(text, len(text), answers, count, *buffer, found),
+    )
+    expect_done(status)
+    return VALUES[found.value], [bool(number) for number in fillings]
+
+
+def list_of(texts: Sequence[bytes]) -> Tuple[bytes, int, Any, int]:
+    """Returns a list of texts as a call takes it."""
+    ends, length = (c_size_t * len(texts))(), 0
+    for number, text in enumerate(texts):
+        length += len(text)
+        ends[number] = length
+    return b"".join(texts), length, ends, len(texts)
+
+
+def audit(
+    texts: Sequence[bytes], facts: Sequence[bytes], target_ends: Sequence[int], otherwise: int
+) -> Tuple[int, int, List[Optional[bool]]]:
+    """Returns the status, the place of what is faulty, and the values of the texts on the targets.
+    The status is that of done, of a faulty text or of a faulty fact."""
+    place, count = c_size_t(), len(target_ends)
+    ends = (c_size_t * count)(*target_ends)
+    given = (*list_of(texts), *list_of(facts), ends, count, otherwise)
+    status, values = filled(
+        c_uint8, len(texts) * count, lambda *buffer: LIBRARY.cfgx_audit(*given, *buffer, place)
+    )
+    if status not in (FAULTY, FAULTY_FACT):
+        expect_done(status)
+    return status, place.value, [VALUES[number] for number in values]

@@ -1,0 +1,143 @@
+"""The dependencies of a Cargo.toml, and on which targets Cargo takes them."""
+import json
+import os
+import shutil
+import subprocess
+from typing import Any, Dict, Iterator, List, NamedTuple, Optional, Tuple
+
+from ._audit import audit, rustc_lines
+from ._error import ParseError
+from ._expression import Expression, Kind, Predicate, parse
+
+# The tables of dependencies, and the kind of those in each.
+TABLES = {
+    "dependencies": "normal",
+    "dev-dependencies": "dev", "dev_dependencies": "dev",
+    "build-dependencies": "build", "build_dependencies": "build",
+}
+
+
+class ManifestError(Exception):
+    """The manifest cannot be read. The message says why."""
+
+
+class Dependency(NamedTuple):
+    """A dependency of a package."""
+
+    name: str
+    """The name that the manifest uses."""
+    kind: str
+    """`normal`, `dev` or `build`."""
+    is_optional: bool
+    """Whether a feature has to ask for it."""
+    target: Optional[str]
+    """A condition in `cfg( )`, a triple, or `None` if it serves all targets."""
+
+
+def dependencies_of(path: str) -> List[Dependency]:
+    """Returns the dependencies in the manifest at a path, as Cargo lists them, or without Cargo as
+    they stand in it. Raises `ManifestError`."""
+    if shutil.which("cargo"):
+        return list(listed_by_cargo(path))
+    try:
+        import tomllib
+    except ImportError:
+        raise ManifestError(
+            "there is no cargo on the path, and Python reads a manifest only since 3.11"
+        ) from None
+    try:
+        with open(path, "rb") as file:
+            manifest = tomllib.load(file)
+    except (OSError, ValueError) as error:
+        raise ManifestError(f"{path}: {error}") from error
+    return list(listed_in(manifest))
+
+
+def listed_by_cargo(path: str) -> Iterator[Dependency]:
+    """Yields the dependencies that Cargo lists of the package with this manifest or, if that has no
+    package, of all packages of its workspace."""
+    command = ["cargo", "metadata", "--no-deps", "--format-version", "1", "--manifest-path", path]
+    pipe = subprocess.PIPE
+    run = subprocess.run(command, stdout=pipe, stderr=pipe, check=False)
+    if run.returncode != 0:
+        raise ManifestError(run.stderr.decode(errors="replace").rstrip())
+    packages = json.loads(run.stdout)["packages"]
+    own = [one for one in packages if is_same_file(one["manifest_path"], path)]
+    for package in own or packages:
+        for found in package["dependencies"]:
+            name, kind = found["rename"] or found["name"], found["kind"] or "normal"
+            yield Dependency(name, kind, found["optional"], found["target"])
+
+
+def is_same_file(path: str, other: str) -> bool:
+    """Whether two paths lead to the same file."""
+    return os.path.realpath(path) == os.path.realpath(other)
+
+
+def listed_in(manifest: Dict[str, Any]) -> Iterator[Dependency]:
+    """Yields the dependencies that stand in a manifest."""
+    for target, tables in [(None, manifest), *manifest.get("target", {}).items()]:
+        for table, kind in TABLES.items():
+            for name, found in tables.get(table, {}).items():
+                is_optional = isinstance(found, dict) and bool(found.get("optional"))
+                yield Dependency(name, kind, is_optional, target)
+
+
+class Target(NamedTuple):
+    """A target, as Cargo sees it."""
+
+    triple: str
+    """The triple."""
+    facts: List[str]
+    """The facts."""
+
+
+def target_of(triple: str) -> Target:
+    """Returns a target. Cargo asks `rustc` with this type of crate among others, for which
+    `crt-static` is no target feature, and takes `proc_macro` for false."""
+    facts = rustc_lines("--print", "cfg", "--crate-type", "proc-macro", "--target", triple)
+    return Target(triple, [fact for fact in facts if fact != "proc_macro"])
+
+
+def host() -> str:
+    """Returns the triple of the machine that builds."""
+    return next(line[6:] for line in rustc_lines("-vV") if line.startswith("host: "))
+
+
+def verdict_on(dependency: Dependency, target: Target) -> Tuple[Optional[bool], str]:
+    """Returns whether Cargo takes a dependency on a target, or `None` and the reason why this is
+    unknown. Raises `ManifestError` if the condition is faulty."""
+    if dependency.target is None:
+        return True, ""
+    if not dependency.target.startswith("cfg("):
+        return dependency.target == target.triple, ""
+    try:
+        expression = parse(dependency.target)
+    except ParseError as error:
+        raise ManifestError(f"the condition of {dependency.name} is faulty:\n{error}") from error
+    answers = answers_on(expression, target)
+    value, if_true, if_false = expression.decide(answers)
+    if if_true is None or if_false is None:
+        return value, ""
+    unknown = [place for place, answer in enumerate(answers) if answer is None]
+    asked = [expression.predicates[place] for place in unknown]
+    if_taken = spelled(asked, [if_true[place] for place in unknown])
+    if_left = spelled(asked, [if_false[place] for place in unknown])
+    return None, f"yes if {if_taken}; no if {if_left}"
+
+
+def answers_on(expression: Expression, target: Target) -> List[Optional[bool]]:
+    """Returns the answers of Cargo to the predicates of a condition on a target. What `rustc` does
+    not print is unknown if RUSTFLAGS may set it by `--cfg`, and otherwise false."""
+    predicates = expression.predicates
+    named = audit(map(str, predicates), [target.facts])
+    return [
+        False if answer is None and predicate.kind not in (Kind.FLAG, Kind.KEY_VALUE) else answer
+        for predicate, (answer,) in zip(predicates, named)
+    ]
+
+
+def spelled(predicates: List[Predicate], answers: List[bool]) -> str:
+    """Returns the predicates, each in `not( )` if its answer is false."""
+    both = zip(predicates, answers)
+    return " and ".join(str(one) if answer else f"not({one})" for one, answer in both)

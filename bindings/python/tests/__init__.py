@@ -1,0 +1,38 @@
+"""The tests of the package. They take the library that CFGX_LIBRARY names, or else the one that
+`crates/cfgx_c/install out/cfgx` leaves in the repository, or else link the archive that `rt lib`
+leaves in crates/cfgx_c."""
+import atexit
+import os
+import shutil
+import subprocess
+import sys
+import tempfile
+
+HERE = os.path.dirname(os.path.abspath(__file__))
+PACKAGE = os.path.join(HERE, "..", "src")
+ROOT = os.path.abspath(os.path.join(HERE, "..", "..", ".."))
+ARCHIVE = os.path.join(ROOT, "crates", "cfgx_c", "out", "libcfgx_c.a")
+INSTALLED = os.path.join(ROOT, "out", "cfgx", "lib", "libcfgx.so.1")
+
+
+def linked() -> str:
+    """Returns the path of a library that is made of the archive and that of the kit, and removed at
+    the end."""
+    page = subprocess.run(["rt", "doc"], stdout=subprocess.PIPE, check=True).stdout.decode()
+    kit = os.path.join(os.path.dirname(page.strip()), "c", "liblibc_c.a")
+    folder = tempfile.mkdtemp()
+    atexit.register(shutil.rmtree, folder)
+    path = os.path.join(folder, "libcfgx.so.1")
+    whole = ["-Wl,--whole-archive", ARCHIVE, kit, "-Wl,--no-whole-archive"]
+    subprocess.run(["cc", "-shared", "-o", path, *whole], check=True)
+    return path
+
+
+if "CFGX_LIBRARY" not in os.environ:
+    if os.path.exists(INSTALLED):
+        os.environ["CFGX_LIBRARY"] = INSTALLED
+    elif os.path.exists(ARCHIVE):
+        os.environ["CFGX_LIBRARY"] = linked()
+sys.path.insert(0, PACKAGE)
+# The reader of conditions that the calls from C are compared with.
+sys.path.append(os.path.join(ROOT, "crates", "cfgx_c", "tests"))

@@ -1,0 +1,111 @@
+"""Values of conditions on targets."""
+import pickle
+import shutil
+import unittest
+import unittest.mock
+
+from . import PACKAGE  # noqa: F401
+
+import cfgx
+from cfgx import _audit
+
+LINUX = 'debug_assertions\npanic="unwind"\ntarget_os="linux"\ntarget_thread_local\nunix\n'
+
+
+class Audits(unittest.TestCase):
+    """Tables and errors."""
+
+    def test_a_table(self):
+        conditions = ["unix", cfgx.parse("cfg(windows)"), 'any(windows, feature = "x")', "test"]
+        targets = [LINUX, ["windows"], ["unix", '?feature = "x"', "test"], []]
+        wanted = [
+            [True, False, True, False],
+            [False, True, False, False],
+            [None, True, None, None],
+            [None, None, True, None],
+        ]
+        self.assertEqual(cfgx.audit(conditions, targets), wanted)
+        wanted[2] = [False, True, None, False]
+        wanted[3] = [False, False, True, False]
+        self.assertEqual(cfgx.audit(iter(conditions), iter(targets), otherwise=False), wanted)
+
+    def test_tables_without_rows_or_columns(self):
+        self.assertEqual(cfgx.audit([], []), [])
+        self.assertEqual(cfgx.audit([], [LINUX]), [])
+        self.assertEqual(cfgx.audit(["unix", "test"], []), [[], []])
+        self.assertEqual(cfgx.audit(["unix"], ["", []]), [[False, False]])
+
+    def test_lines_of_a_text(self):
+        lines = ['a = "\u2028"', 'b = "\x0b\x1c\x85"']
+        facts = f"{lines[0]}\r\n\n\r\n{lines[1]}\n"
+        self.assertEqual(_audit.lines_of(facts), lines)
+        self.assertEqual(cfgx.audit(lines, [facts]), [[True], [True]])
+
+    def test_facts_with_zero_bytes_line_feeds_and_characters(self):
+        facts = ['a = "\0"', 'a = "x\ny"', '?a = "日本𝄞"']
+        conditions = ['a = "\0"', 'a = "\0\0"', 'a = "x\ny"', 'a = "日本𝄞"', "a"]
+        values = cfgx.audit(conditions, [facts], otherwise=False)
+        self.assertEqual(values, [[True], [False], [True], [None], [False]])
+
+    def test_a_faulty_condition(self):
+        with self.assertRaises(cfgx.ParseError) as caught:
+            cfgx.audit(["unix", 'all(a = "é", 8)', "all("], [LINUX])
+        error = caught.exception
+        self.assertEqual((error.text, error.span), ('all(a = "é", 8)', (13, 14)))
+        with self.assertRaises(cfgx.ParseError):
+            cfgx.audit(["unix\0"], [])
+
+    def test_a_faulty_fact(self):
+        rows = [
+            ([["all("]], (0, 0, "all(")),
+            ([[], ["unix"], [], ["test", "é"], ["b)"]], (3, 1, "é")),
+            ([["unix"], ["windows", "a", "b)", "a)"]], (1, 2, "b)")),
+            ([["unix"], ["b)"], []], (1, 0, "b)")),
+            (["unix\n\nx y\n"], (0, 1, "x y")),
+        ]
+        for targets, wanted in rows:
+            with self.subTest(targets=targets), self.assertRaises(cfgx.FactError) as caught:
+                cfgx.audit(["unix"], targets)
+            error = pickle.loads(pickle.dumps(caught.exception))
+            self.assertEqual((error.target, error.number, error.fact), wanted)
+            number, target, fact = wanted[1], wanted[0], wanted[2]
+            self.assertEqual(str(error), f"fact {number} of target {target} is faulty: {fact}")
+
+    def test_other_arguments(self):
+        with self.assertRaises(ValueError):
+            cfgx.audit(["unix"], [LINUX], otherwise=True)
+        rows = [
+            ([b"unix"], []), ([1], []), ([], [[b"unix"]]), ([], [b"unix"]), ([], [None]),
+            ("unix", []), (cfgx.parse("unix"), []), ([], LINUX),
+        ]
+        for conditions, targets in rows:
+            with self.subTest(row=(conditions, targets)), self.assertRaises(TypeError):
+                cfgx.audit(conditions, targets)
+
+
+@unittest.skipUnless(shutil.which("rustc"), "there is no rustc on this machine")
+class Rustc(unittest.TestCase):
+    """What the `rustc` on the path says."""
+
+    def test_facts(self):
+        facts = [cfgx.rustc_facts(f"x86_64-{rest}") for rest in ("unknown-linux-gnu", "apple-ios")]
+        self.assertIn('target_arch="x86_64"', facts[0])
+        conditions = ["unix", 'target_os = "linux"', 'target_vendor = "apple"', "loom"]
+        wanted = [[True, True], [True, False], [False, True], [None, None]]
+        self.assertEqual(cfgx.audit(conditions, facts), wanted)
+
+    def test_a_target_that_it_does_not_know(self):
+        with self.assertRaises(cfgx.RustcError) as caught:
+            cfgx.rustc_facts("nowhere")
+        message = "rustc refused --print cfg --target nowhere: error"
+        self.assertTrue(str(caught.exception).startswith(message))
+
+
+class NoRustc(unittest.TestCase):
+    """What happens without a `rustc`."""
+
+    def test_it_is_not_there(self):
+        with unittest.mock.patch.dict("os.environ", PATH="/nowhere"):
+            with self.assertRaises(cfgx.RustcError) as caught:
+                cfgx.rustc_facts("x86_64-unknown-linux-gnu")
+        self.assertTrue(str(caught.exception).startswith("rustc could not be run: "))
