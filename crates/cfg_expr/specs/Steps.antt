@@ -86,7 +86,7 @@ pub record IsValueOfSteps {T : Type 0} (logic : Operations T) (steps : List Step
   pub every : (other : Tree Question) → HasSteps steps other
       → value ≡ tree_fold logic other answers
 
--- why steps have no value over so many answers
+-- why steps have no value over this number of answers
 abbrev pub HaveNoValue : List Step → ℕ → StepsError → Type 0
 HaveNoValue steps answers error.NoTree = (tree : Tree Question) → ¬ HasSteps steps tree
 HaveNoValue steps answers error.Miscounted =

@@ -35,6 +35,6 @@ module _ {F T : Type 0} (asker : Asker F T) where
     pub calls : Calls asker start (asked tree) answers after
     pub slots_are : slots ≡ with_answers initial (places 0 tree) answers
 
--- no answer yet at any of so many places
+-- no answer yet at any of this number of places
 abbrev pub no_answers : {T : Type 0} → ℕ → List (Slot T)
 no_answers count = replicate count slot.Empty

@@ -101,8 +101,8 @@ fn join_kinds<A: SmallAllocator>(count: usize, kinds: &mut SmallVec<bool, 33, &A
     true
 }
 
-/// Pushes the tree that ends with `step`, in the place of its members. Returns false if there is no
-/// such tree.
+/// Replaces the members of the tree that ends with `step` by that tree. Returns false if there is
+/// no such tree.
 fn push_kind<A: SmallAllocator>(step: Step, kinds: &mut SmallVec<bool, 33, &A>) -> bool
     requires { HasRoomFor kinds.old 1 }
     ensures kinds { kinds_after step kinds.old.items ≡ found_if result kinds.new.items }
