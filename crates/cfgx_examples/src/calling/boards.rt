@@ -1,5 +1,5 @@
-//! The verdicts of boards on sections, and the dependencies that boards may need.
-use super::manifests::{may_need, verdicts_on};
+//! The verdicts of boards on sections.
+use super::manifests::verdicts_on;
 use super::matcher::Board;
 use super::value_prints;
 use cfg_expr::error::Failure;
@@ -60,22 +60,4 @@ fn sections_are_picked_and_faults_refused(rt: HostRuntime) {
     let alloc = rt.alloc();
     assert!(rt; verdicts_are(alloc, &BARE, MANIFEST, "[Yes, No, Unknown, No]"));
     assert!(rt; is_fault(verdicts_on(alloc, &[("a", "b)")], &BARE)));
-    assert!(rt; is_fault(may_need(alloc, &[("libc", "cfg(unix")], &BARE)));
-}
-
-const DEPENDENCIES: &[(&str, &str)] = &[
-    ("libc", "cfg(unix)"),
-    ("notify", "cfg(any(windows, target_os = \"macos\"))"),
-    ("objc2", "cfg(all(target_vendor = \"apple\", not(loom)))"),
-    ("loom", "cfg(loom)"),
-    ("wide", "cfg(all(target_pointer_width = \"64\", not(loom)))"),
-];
-
-/// Returns whether the dependencies that a build for `board` may need print `names`. `board` is a
-/// system and the number of bits of a pointer.
-pub fn needed_names_are(alloc: Global, board: &str, names: &str) -> bool {
-    let (os, bits) = board.split_once(' ').unwrap_or((board, ""));
-    let pointer_width = bits.parse().unwrap_or(0);
-    let board = Board { os, pointer_width };
-    value_prints(alloc, may_need(alloc, DEPENDENCIES, &board), names)
 }
