@@ -11,20 +11,22 @@ NAMES = {True: "yes", False: "no", None: "unknown"}
 
 
 def name_of(dependency: Dependency) -> str:
-    """Returns the name of a dependency, with its kind and whether it is optional."""
+    """Returns the name of a dependency, with its kind, whether it is optional, and whether it is
+    judged on the machine that builds, which is clear of build-dependencies."""
     marks = [] if dependency.kind == "normal" else [dependency.kind]
     marks += ["optional"] if dependency.is_optional else []
+    marks += ["host"] if dependency.is_on_host and dependency.kind != "build" else []
     return f"{dependency.name} ({', '.join(marks)})" if marks else dependency.name
 
 
 def rows_of(dependencies: Sequence[Dependency], targets: Sequence[Target]) -> Iterator[List[str]]:
     """Yields the cells of each line of the table. A line of one cell has the reason of an unknown
-    above it. Build-dependencies are judged on the machine that builds."""
+    above it."""
     yield ["dependency", *(target.triple for target in targets), "condition"]
-    is_host_needed = any(dependency.kind == "build" for dependency in dependencies)
+    is_host_needed = any(dependency.is_on_host for dependency in dependencies)
     builds = [target_of(host())] * len(targets) if is_host_needed else []
     for dependency in dependencies:
-        judged = builds if dependency.kind == "build" else targets
+        judged = builds if dependency.is_on_host else targets
         verdicts = [verdict_on(dependency, target) for target in judged]
         values = [NAMES[value] for value, _ in verdicts]
         yield [name_of(dependency), *values, dependency.target or ""]
@@ -49,7 +51,8 @@ def main() -> None:
     parser = argparse.ArgumentParser(prog="python3 -m cfgx", description=__doc__)
     parser.add_argument("manifest", metavar="MANIFEST", help="the path of a Cargo.toml")
     parser.add_argument(
-        "--target", metavar="TRIPLE", nargs="+", required=True, help="a target that rustc knows"
+        "--target", metavar="TRIPLE", nargs="+", action="extend", required=True,
+        help="a target that rustc knows",
     )
     words = parser.parse_args()
     try:

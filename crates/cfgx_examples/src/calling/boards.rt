@@ -1,9 +1,10 @@
 //! The verdicts of boards on sections.
-use super::manifests::verdicts_on;
 use super::matcher::Board;
 use super::value_prints;
+use cfg_expr::Expression;
 use cfg_expr::error::Failure;
 use cfg_expr::expr::TargetMatcher;
+use cfgx_engine::resolve::{Section, Verdict, pick};
 use std::alloc::Global;
 
 /// A board of 16 bits without an operating system.
@@ -17,6 +18,25 @@ pub const LINUX: Board<'static> = Board {
     os: "linux",
     pointer_width: 64,
 };
+
+// Returns the verdict of `target` on each dependency, which is a name and a condition.
+fn verdicts_on<M: TargetMatcher>(
+    alloc: Global,
+    dependencies: &[(&str, &str)],
+    target: &M,
+) -> Result<Vec<Verdict>, Failure> {
+    let mut sections = Vec::new(alloc);
+    for (name, condition) in dependencies {
+        sections.push(section_of(alloc, name, condition)?)?;
+    }
+    Ok(pick(alloc, sections.as_slice(), target)?)
+}
+
+fn section_of(alloc: Global, name: &str, condition: &str) -> Result<Section, Failure> {
+    let name = String::from_str(alloc, name)?;
+    let condition = Expression::parse(alloc, condition)?;
+    Ok(Section { name, condition })
+}
 
 // Returns whether the verdicts of `board` on `manifest` print `verdicts`.
 fn verdicts_are<M: TargetMatcher>(

@@ -1,9 +1,7 @@
 //! The values of conditions on a target that a compiler describes, and what the pages show of a
 //! manifest.
-use cfg_expr::Expression;
 use cfg_expr::error::Failure;
-use cfg_expr::expr::TargetMatcher;
-use cfgx_engine::resolve::{AuditError, Facts, Otherwise, Section, Verdict, audit_facts, pick};
+use cfgx_engine::resolve::{AuditError, Facts, Otherwise, audit_facts};
 use std::alloc::Global;
 use std::slice::from_ref;
 
@@ -20,25 +18,6 @@ pub fn values_on(
         Ok(values) => Ok(values),
         Err(AuditError { failure, .. }) => Err(failure),
     }
-}
-
-/// Returns the verdict of `target` on each dependency.
-pub fn verdicts_on<M: TargetMatcher>(
-    alloc: Global,
-    dependencies: &[(&str, &str)],
-    target: &M,
-) -> Result<Vec<Verdict>, Failure> {
-    let mut sections = Vec::new(alloc);
-    for (name, condition) in dependencies {
-        sections.push(section_of(alloc, name, condition)?)?;
-    }
-    Ok(pick(alloc, sections.as_slice(), target)?)
-}
-
-fn section_of(alloc: Global, name: &str, condition: &str) -> Result<Section, Failure> {
-    let name = String::from_str(alloc, name)?;
-    let condition = Expression::parse(alloc, condition)?;
-    Ok(Section { name, condition })
 }
 
 /// The input on the page. `.ci/pages` compares the blocks of text there with these constants.
