@@ -97,7 +97,7 @@ def printed(*words):
     return ["host: x86_64-unknown-linux-gnu"] if words == ("-vV",) else FACTS[words[-1]].split()
 
 
-class Manifest(unittest.TestCase):
+class Folder(unittest.TestCase):
     """A manifest in a folder of its own."""
 
     def setUp(self):
@@ -119,6 +119,10 @@ class Manifest(unittest.TestCase):
         with unittest.mock.patch("sys.argv", ["cfgx", *words]), contextlib.redirect_stdout(output):
             __main__.main()
         return output.getvalue()
+
+
+class Manifest(Folder):
+    """The dependencies in a manifest, and their table."""
 
     @unittest.skipUnless(tomllib and shutil.which("cargo"), "one of the two readers is not here")
     def test_both_readers_list_the_same(self):
