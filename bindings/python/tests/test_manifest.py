@@ -147,6 +147,10 @@ class Manifest(Folder):
         lines = list(__main__.aligned(rows))
         self.assertEqual(lines, ["a    bcd", "  a reason", "abc  d    e"])
 
+    def test_a_row_is_one_line(self):
+        lines = list(__main__.aligned([["a", 'cfg(key = "\n\t\x1b")'], ['  "\n"']]))
+        self.assertEqual(lines, ["a  cfg(key = \"\\n\\t\\x1b\")", '  "\\n"'])
+
     def test_a_faulty_condition(self):
         dependency = _manifest.Dependency("a", "normal", False, "cfg(feature)", False)
         with self.assertRaises(_manifest.ManifestError) as caught:

@@ -1,5 +1,6 @@
 """Prints which dependencies of a Cargo.toml each target takes."""
 import argparse
+import re
 import sys
 from typing import Iterator, List, Sequence
 
@@ -35,8 +36,15 @@ def rows_of(dependencies: Sequence[Dependency], targets: Sequence[Target]) -> It
             yield [f"    unknown: {reason}"]
 
 
+def on_one_line(cell: str) -> str:
+    """Returns a cell with its line feeds and other control characters escaped: the value of a
+    condition may have some."""
+    return re.sub(r"[\x00-\x1f\x7f]", lambda found: repr(found[0])[1:-1], cell)
+
+
 def aligned(rows: Sequence[List[str]]) -> Iterator[str]:
     """Yields the lines of a table with columns of one width."""
+    rows = [list(map(on_one_line, row)) for row in rows]
     cells = [row for row in rows if len(row) > 1]
     widths = [max(map(len, column)) for column in zip(*cells)]
     for row in rows:
