@@ -2,7 +2,8 @@
 -- Source: include/cfgx.h.
 use Rattle.std.specs.Prelude.{◌≡◌, ◌≤◌, ℕ, List, [], ◌∷◌, length, slice_range}
 
--- from `begin` on, the ends do not fall, and the last of them is `len`
+-- each end is at least the one before it, or `begin` for the first one, and the last one is `len`;
+-- if there are none, `begin` is `len`
 abbrev pub AreEndsFrom : ℕ → List ℕ → ℕ → Type 0
 AreEndsFrom begin [] len = begin ≡ len
 AreEndsFrom begin (end ∷ ends) len = (begin ≤ end) × AreEndsFrom end ends len

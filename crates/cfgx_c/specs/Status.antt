@@ -2,7 +2,7 @@
 -- Source: include/cfgx.h.
 use Rattle.std.specs.Prelude.{ℕ}
 
--- the result is written
+-- the call did what it is asked for, and wrote its results
 abbrev pub done : ℕ
 done = 0
 
@@ -26,7 +26,7 @@ not_utf8 = 4
 abbrev pub miscounted : ℕ
 miscounted = 5
 
--- ends fall, or the last one is not the number of items
+-- an end is less than the one before it, or the last one is not the number of items
 abbrev pub bad_ends : ℕ
 bad_ends = 6
 

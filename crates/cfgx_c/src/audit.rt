@@ -53,7 +53,7 @@ fn find_values(
 /// of condition `i` on target `j`, 0 for false, 1 for true, 2 for unknown. Otherwise returns the
 /// first of these that is so:
 ///
-/// - `BAD_ENDS`: ends fall, or the last one is not the number of items.
+/// - `BAD_ENDS`: an end is less than the one before it, or the last one is not the number of items.
 /// - `TOO_LARGE`: the number of values does not fit in a `usize`.
 /// - `NOT_UTF8` or `FAULTY`: a text is no condition. `place` becomes the number of the first one.
 /// - `FAULTY_FACT`: a fact is faulty or not UTF-8. `place` becomes the number of the first one.

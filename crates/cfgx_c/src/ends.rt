@@ -10,7 +10,7 @@ use std::alloc::{AllocError, AllocFailed, Global};
 /// Why there are no texts.
 #[derive(Debug, Drop)]
 pub(crate) enum TextsError {
-    /// The ends fall, or the last one is not the number of bytes
+    /// An end is less than the one before it, or the last one is not the number of bytes
     Ends,
     /// The text with this number is not UTF-8, and those before it are
     NotUtf8(usize),

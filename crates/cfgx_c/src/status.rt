@@ -1,6 +1,6 @@
 // What the calls return. A number means the same in all calls.
 
-/// The result is written.
+/// The call did what it is asked for, and wrote its results.
 pub(crate) const DONE: u32 = 0;
 
 /// A text is no condition; of `cfgx_run`: a text or the input is faulty.
@@ -18,7 +18,7 @@ pub(crate) const NOT_UTF8: u32 = 4;
 /// There are more or fewer answers than predicates.
 pub(crate) const MISCOUNTED: u32 = 5;
 
-/// Ends fall, or the last one is not the number of items.
+/// An end is less than the one before it, or the last one is not the number of items.
 pub(crate) const BAD_ENDS: u32 = 6;
 
 /// The steps are those of no condition.
