@@ -29,8 +29,8 @@ use Rattle.cfgx_c.specs.Ends.{parts_from}
 use Rattle.cfgx_c.specs.Answers.{IsCondition, IsFact, IsFirstBad, IsFirstFaulty}
 use Rattle.cfgx_c.specs.Answers.{IsFirstFaultyFact, IsFirstNotUtf8}
 use Rattle.cfgx_c.specs.Reading.{FailsFor, FailsForFacts, FailsForText, FailsForTexts}
-use Rattle.cfgx_c.specs.Reading.{FactFits, IsUtf8Front, fact_error, place_of, status_of}
-use Rattle.cfgx_c.specs.Reading.{text_error, views}
+use Rattle.cfgx_c.specs.Reading.{FactFits, IsUtf8Front, RefusesFor, fact_error, place_of}
+use Rattle.cfgx_c.specs.Reading.{status_of, text_error, views}
 use Rattle.cfgx_c.specs.declared.reading.ReadError.{ReadError}
 use Rattle.cfgx_c.specs.declared.reading.ReadError.TheVariants as error
 
@@ -223,6 +223,26 @@ FailsFor-texts texts facts (error.Faulty number) fails = fails
 FailsFor-texts texts facts (error.NotUtf8 number) fails = fails
 FailsFor-texts texts facts (error.FaultyFact number) fails = absurd fails
 FailsFor-texts texts facts error.Memory fails = tt
+
+-- the status of the error of a text says what is wrong with it
+pub RefusesFor-from : (text answers : List ℕ) (failed : ReadError) → FailsForText 0 text failed
+    → RefusesFor text answers (status_of failed)
+RefusesFor-from text answers (error.Faulty number) fails = (
+  (λ is. fails.1, λ is. absurd (omega (arith, is)), λ other. fails.1.0),
+  λ is. absurd (omega (arith, is)),
+  search rules,
+)
+RefusesFor-from text answers (error.NotUtf8 number) fails = (
+  (λ is. absurd (omega (arith, is)), λ is. fails.1, λ other. absurd (other refl)),
+  λ is. absurd (omega (arith, is)),
+  search rules,
+)
+RefusesFor-from text answers (error.FaultyFact number) fails = absurd fails
+RefusesFor-from text answers error.Memory fails = (
+  (λ is. absurd (omega (arith, is)), λ is. absurd (omega (arith, is)), λ other. fails),
+  λ is. absurd (omega (arith, is)),
+  search rules,
+)
 
 -- so is the error of one text
 pub FailsFor-text : (text : List ℕ) (facts : List (List ℕ)) (failed : ReadError)

@@ -1,7 +1,7 @@
--- What `cfgx_answers` writes, and what is wrong with texts and facts.
+-- What is wrong with texts and facts, and what `cfgx_answers` writes.
 -- Source: include/cfgx.h.
-use Rattle.std.specs.Prelude.{◌≡◌, ◌==◌, ℕ, Bool, List, Option, Some, Err, map, slice_get, take}
-use Rattle.std.specs.Prelude.{if◌then◌else◌}
+use Rattle.std.specs.Prelude.{◌≡◌, ◌≢◌, ◌==◌, ℕ, Bool, List, Option, Some, Err, map, slice_get}
+use Rattle.std.specs.Prelude.{take, if◌then◌else◌}
 use Rattle.std.specs.List.{All, AllZip}
 use Rattle.std.specs.Str.{IsUtf8}
 use Rattle.cfgx_syntax.specs.Stripping.{strip}
@@ -12,6 +12,7 @@ use Rattle.cfgx_engine.specs.Facts.{IsAnswer, IsRustcFact, texts_of}
 use Rattle.cfgx_engine.specs.declared.resolve.facts.Otherwise.{Otherwise}
 use Rattle.cfgx_engine.specs.declared.resolve.facts.Otherwise.TheVariants as otherwise
 use Rattle.cfgx_c.specs.Buffer.{Fills}
+use Rattle.cfgx_c.specs.Status.{faulty, not_utf8}
 use Rattle.cfgx_c.specs.Value.{byte_of_value}
 
 -- a text that is a condition
@@ -21,6 +22,15 @@ IsCondition text = IsUtf8 text × HasOneTree (strip text)
 -- a text in UTF-8 that is no condition
 abbrev pub IsFaulty : List ℕ → Type 0
 IsFaulty text = IsUtf8 text × (fault : Fault) × ReadsAs (strip text) (Err fault)
+
+-- the status of a call says whether the text is UTF-8
+abbrev pub TellsUtf8 : List ℕ → ℕ → Type 0
+TellsUtf8 text status =
+    (status ≡ not_utf8 → ¬ IsUtf8 text) × (status ≢ not_utf8 → IsUtf8 text)
+
+-- the status of a call says that the text is faulty, that it is not UTF-8, or that it is UTF-8
+abbrev pub TellsOf : List ℕ → ℕ → Type 0
+TellsOf text status = (status ≡ faulty → IsFaulty text) × TellsUtf8 text status
 
 -- a fact that is read, or passed over
 abbrev pub IsFact : List ℕ → Type 0

@@ -1,15 +1,19 @@
 -- How lists of texts and of facts are read. No contract of a call cites these definitions.
-use Rattle.std.specs.Prelude.{◌≡◌, ◌+◌, ◌<◌, ◌^◌, ◌++◌, ℕ, List, Option, Some, None, map}
+use Rattle.std.specs.Prelude.{◌≡◌, ◌≢◌, ◌+◌, ◌<◌, ◌≤◌, ◌^◌, ◌++◌, ℕ, List, Option, Some, None}
+use Rattle.std.specs.Prelude.{map}
 use Rattle.std.specs.Borrow.{Bor}
 use Rattle.std.specs.List.{All, slice_get}
 use Rattle.std.specs.Str.{IsUtf8}
+use Rattle.cfgx_syntax.specs.Stripping.{strip}
 use Rattle.cfgx_syntax.specs.declared.error.Failure.{Failure}
 use Rattle.cfgx_syntax.specs.declared.error.Failure.TheVariants as failure
 use Rattle.cfgx_engine.specs.declared.resolve.facts.FactsError.{FactsError}
 use Rattle.cfgx_engine.specs.declared.resolve.facts.FactsError.TheVariants as facts_error
 use Rattle.cfgx_c.specs.Answers.{IsCondition, IsFaulty, IsFirstFaulty, IsFirstFaultyFact}
-use Rattle.cfgx_c.specs.Answers.{IsFirstNotUtf8}
-use Rattle.cfgx_c.specs.Status.{faulty, faulty_fact, not_utf8, out_of_memory}
+use Rattle.cfgx_c.specs.Answers.{IsFirstNotUtf8, TellsOf}
+use Rattle.cfgx_c.specs.Status.{done, faulty, faulty_fact, miscounted, not_utf8, out_of_memory}
+use Rattle.cfgx_c.specs.Status.{wrong_use}
+use Rattle.cfgx_c.specs.Value.{HasOtherCount}
 use Rattle.cfgx_c.specs.declared.reading.ReadError.{ReadError}
 use Rattle.cfgx_c.specs.declared.reading.ReadError.TheVariants as error
 
@@ -65,7 +69,18 @@ abbrev pub FailsForText : ℕ → List ℕ → ReadError → Type 0
 FailsForText at text (error.Faulty number) = (number ≡ at) × IsFaulty text
 FailsForText at text (error.NotUtf8 number) = (number ≡ at) × ¬ IsUtf8 text
 FailsForText at text (error.FaultyFact number) = ⊥
-FailsForText at text error.Memory = Unit {0}
+FailsForText at text error.Memory = IsUtf8 text
+
+-- the status of a call that cannot read its text
+abbrev pub Refuses : List ℕ → ℕ → Type 0
+Refuses text status = TellsOf text status × (status ≢ done) × (status ≢ wrong_use)
+    × (status ≤ not_utf8)
+
+-- the status of a call that cannot read its text, or has more or fewer answers than predicates
+abbrev pub RefusesFor : List ℕ → List ℕ → ℕ → Type 0
+RefusesFor text answers status = TellsOf text status
+    × (status ≡ miscounted → HasOtherCount (strip text) answers) × (status ≢ done)
+    × (status ≢ wrong_use) × (status ≤ miscounted)
 
 -- the error says which of the facts, whose numbers begin at `begin`, is the first faulty one
 abbrev pub FailsForFacts : ℕ → List (List ℕ) → ReadError → Type 0

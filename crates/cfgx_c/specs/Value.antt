@@ -1,7 +1,7 @@
 -- Answers and values as bytes.
 -- Source: include/cfgx.h.
-use Rattle.std.specs.Prelude.{◌≡◌, ◌==◌, ℕ, Bool, true, false, List, [], ◌∷◌, Option, Some, None}
-use Rattle.std.specs.Prelude.{length, map, if◌then◌else◌}
+use Rattle.std.specs.Prelude.{◌≡◌, ◌≢◌, ◌==◌, ℕ, Bool, true, false, List, [], ◌∷◌, Option, Some}
+use Rattle.std.specs.Prelude.{None, length, map, if◌then◌else◌}
 use Rattle.cfgx_grammar.specs.Answer.{HasOneTree}
 use Rattle.cfgx_grammar.specs.Filling.{three_valued}
 use Rattle.cfgx_grammar.specs.Fold.{tree_fold}
@@ -24,6 +24,11 @@ pub record HasValueOver (text answers : List ℕ) (value : ℕ) : Type 0 where
   pub one : HasOneTree text
   pub count : length answers ≡ length (asked one.tree)
   pub value_is : value ≡ byte_of_value (tree_fold three_valued one.tree (map answer_of answers))
+
+-- the text's one tree asks more or fewer predicates than there are answers
+abbrev pub HasOtherCount : List ℕ → List ℕ → Type 0
+HasOtherCount text answers =
+    (one : HasOneTree text) × (length answers ≢ length (asked one.tree))
 
 -- the answer in the first byte, and unknown if there is none
 abbrev pub first_answer : List ℕ → Option Bool

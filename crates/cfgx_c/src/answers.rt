@@ -37,7 +37,7 @@ fn answer_of(byte: u8) -> Option<bool>
 pub(crate) fn answers_of(alloc: Global, bytes: &[u8]) -> Result<Vec<Option<bool>>, AllocError>
     ensures { IfOk result (λ answers. answers.items ≡ map answer_of bytes.now) }
 {
-    let mut answers = Vec::new(alloc);
+    let mut answers = Vec::with_capacity(alloc, bytes.len())?;
     for byte in bytes {
         answers.push(answer_of(*byte))?;
     }

@@ -1,10 +1,10 @@
 // The check of a text.
 
 ghost use Rattle.std.specs.Prelude.{◌≡◌, ◌≢◌, ◌≤◌, Err};
-ghost use Rattle.std.specs.Str.{IsUtf8};
 ghost use Rattle.cfgx_syntax.specs.Error.{Fault};
 ghost use Rattle.cfgx_syntax.specs.Stripping.{strip};
 ghost use Rattle.cfgx_grammar.specs.Answer.{HasOneTree, ReadsAs};
+ghost use Rattle.cfgx_c.specs.Answers.{TellsUtf8};
 ghost use Rattle.cfgx_c.specs.Check.{c_fault};
 ghost use Rattle.cfgx_c.specs.Status.{done, faulty, not_utf8, wrong_use};
 
@@ -24,8 +24,7 @@ pub extern "C" fn cfgx_check(alloc: Global, text: &[u8], fault: &mut CfgxFault) 
     ensures done { result ≡ done → HasOneTree (strip text.now) }
     ensures faulty { result ≡ faulty → (found : Fault) × ReadsAs (strip text.now) (Err found)
         × (fault.new ≡ c_fault text.now found) }
-    ensures not_utf8 { result ≡ not_utf8 → ¬ IsUtf8 text.now }
-    ensures utf8 { result ≢ not_utf8 → IsUtf8 text.now }
+    ensures utf8 { TellsUtf8 text.now result }
     ensures kept { result ≢ faulty → fault.new ≡ fault.old }
     ensures status { (result ≤ not_utf8) × (result ≢ wrong_use) }
 {

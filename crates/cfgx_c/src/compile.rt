@@ -1,21 +1,19 @@
 // The steps and the predicates of a condition.
 
-ghost use Rattle.std.specs.Prelude.{◌≡◌, ◌≢◌, ◌≤◌, Err, IfOk, map};
-ghost use Rattle.std.specs.Str.{IsUtf8};
-ghost use Rattle.cfgx_syntax.specs.Error.{Fault};
-ghost use Rattle.cfgx_syntax.specs.Stripping.{strip};
-ghost use Rattle.cfgx_grammar.specs.Answer.{HasOneTree, ReadsAs};
+ghost use Rattle.std.specs.Prelude.{◌≡◌, ◌≢◌, ◌≤◌, IfOk, map};
+ghost use Rattle.cfgx_grammar.specs.Answer.{HasOneTree};
 ghost use Rattle.cfg_expr.specs.Steps.{steps_of};
-ghost use Rattle.cfgx_c.specs.Status.{done, faulty, not_utf8, wrong_use};
+ghost use Rattle.cfgx_c.specs.Answers.{TellsOf};
+ghost use Rattle.cfgx_c.specs.Status.{done, not_utf8, wrong_use};
 ghost use Rattle.cfgx_c.specs.Steps.{Compiles, c_step};
 
 use crate::buffer::fill_both;
 use crate::predicates::{CfgxPredicate, predicates_of};
-use crate::status::{DONE, FAULTY, NOT_UTF8, OUT_OF_MEMORY};
+use crate::reading::read_nodes;
+use crate::status::{DONE, OUT_OF_MEMORY};
 use crate::steps::{CfgxStep, c_steps};
 use cfg_expr::expr::steps_of;
-use cfgx_parser::parsed::{ParsedRef, parse};
-use cfgx_syntax::error::Failure;
+use cfgx_parser::parsed::ParsedRef;
 use std::alloc::{AllocError, Global};
 
 /// Returns the steps of a condition as C sees them.
@@ -47,22 +45,16 @@ pub extern "C" fn cfgx_compile(
 ) -> u32
     ensures done { result ≡ done → Compiles text.now steps.old steps.new steps_needed.new
         predicates.old predicates.new predicates_needed.new }
-    ensures faulty { result ≡ faulty → (found : Fault) × ReadsAs (strip text.now) (Err found) }
-    ensures not_utf8 { result ≡ not_utf8 → ¬ IsUtf8 text.now }
-    ensures utf8 { result ≢ not_utf8 → IsUtf8 text.now }
+    ensures read { TellsOf text.now result }
     ensures kept { result ≢ done → (steps.new ≡ steps.old) × (predicates.new ≡ predicates.old)
         × (steps_needed.new ≡ 0) × (predicates_needed.new ≡ 0) }
     ensures status { (result ≤ not_utf8) × (result ≢ wrong_use) }
 {
     *steps_needed = 0;
     *predicates_needed = 0;
-    let Ok(text) = str::from_utf8(text) else {
-        return NOT_UTF8;
-    };
-    let parsed = match parse(alloc, text) {
+    let parsed = match read_nodes(alloc, text) {
         Ok(parsed) => parsed,
-        Err(Failure::Parse(_)) => return FAULTY,
-        Err(Failure::Memory(_)) => return OUT_OF_MEMORY,
+        Err(status) => return status,
     };
     let Ok(step_list) = compiled(alloc, &parsed.as_ref()) else {
         return OUT_OF_MEMORY;

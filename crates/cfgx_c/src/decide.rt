@@ -1,21 +1,18 @@
 // The decision of a condition over answers.
 
-ghost use Rattle.std.specs.Prelude.{◌≡◌, ◌≢◌, ◌≤◌, ◌++◌, Err, IfOk, OnOk, length, map};
-ghost use Rattle.std.specs.Str.{IsUtf8};
-ghost use Rattle.cfgx_syntax.specs.Error.{Fault};
+ghost use Rattle.std.specs.Prelude.{◌≡◌, ◌≢◌, ◌≤◌, ◌++◌, IfOk, OnOk, map};
 ghost use Rattle.cfgx_syntax.specs.Stripping.{strip};
-ghost use Rattle.cfgx_grammar.specs.Answer.{HasOneTree, ReadsAs};
 ghost use Rattle.cfgx_grammar.specs.Given.{AreAnswersTo};
-ghost use Rattle.cfgx_grammar.specs.Tree.{asked};
 ghost use Rattle.cfg_expr.specs.Deciding.{Decides};
+ghost use Rattle.cfgx_c.specs.Answers.{TellsOf};
 ghost use Rattle.cfgx_c.specs.Decide.{DecidesOver, filling_bytes, fillings_in, value_in};
-ghost use Rattle.cfgx_c.specs.Status.{done, faulty, miscounted, not_utf8, wrong_use};
-ghost use Rattle.cfgx_c.specs.Value.{answer_of, byte_of_value};
+ghost use Rattle.cfgx_c.specs.Status.{done, miscounted, wrong_use};
+ghost use Rattle.cfgx_c.specs.Value.{HasOtherCount, answer_of, byte_of_value};
 
 use crate::answers::{answers_of, byte_of_value};
 use crate::buffer::fill;
-use crate::status::{DONE, FAULTY, MISCOUNTED, NOT_UTF8, OUT_OF_MEMORY};
-use cfg_expr::error::Failure;
+use crate::reading::read_for;
+use crate::status::{DONE, OUT_OF_MEMORY};
 use cfg_expr::{Decision, Expression};
 use std::alloc::{AllocError, Global};
 
@@ -87,27 +84,17 @@ pub extern "C" fn cfgx_decide(
     ensures done { result ≡ done → DecidesOver (strip text.now) answers.now fillings.old
         fillings.new needed.new value.new }
     ensures counted { result ≡ done → AreAnswersTo answers.now (strip text.now) }
-    ensures faulty { result ≡ faulty → (found : Fault) × ReadsAs (strip text.now) (Err found) }
-    ensures not_utf8 { result ≡ not_utf8 → ¬ IsUtf8 text.now }
-    ensures utf8 { result ≢ not_utf8 → IsUtf8 text.now }
-    ensures miscounted { result ≡ miscounted → (one : HasOneTree (strip text.now))
-        × (length answers.now ≢ length (asked one.tree)) }
+    ensures read { TellsOf text.now result }
+    ensures miscounted { result ≡ miscounted → HasOtherCount (strip text.now) answers.now }
     ensures kept { result ≢ done → (fillings.new ≡ fillings.old) × (needed.new ≡ 0)
         × (value.new ≡ value.old) }
     ensures status { (result ≤ miscounted) × (result ≢ wrong_use) }
 {
     *needed = 0;
-    let Ok(text) = str::from_utf8(text) else {
-        return NOT_UTF8;
-    };
-    let condition = match Expression::parse(alloc, text) {
+    let condition = match read_for(alloc, text, answers) {
         Ok(condition) => condition,
-        Err(Failure::Parse(_)) => return FAULTY,
-        Err(Failure::Memory(_)) => return OUT_OF_MEMORY,
+        Err(status) => return status,
     };
-    if condition.predicates().left() != answers.len() {
-        return MISCOUNTED;
-    }
     let Ok(decision) = decide_over_bytes(alloc, &condition, answers) else {
         return OUT_OF_MEMORY;
     };

@@ -1,10 +1,10 @@
 // What is wrong with a text, in words.
 
 ghost use Rattle.std.specs.Prelude.{◌≡◌, ◌≢◌, ◌≤◌, Err};
-ghost use Rattle.std.specs.Str.{IsUtf8};
 ghost use Rattle.cfgx_syntax.specs.Error.{Fault, error_text, fault_in};
 ghost use Rattle.cfgx_syntax.specs.Stripping.{strip};
 ghost use Rattle.cfgx_grammar.specs.Answer.{HasOneTree, ReadsAs};
+ghost use Rattle.cfgx_c.specs.Answers.{TellsUtf8};
 ghost use Rattle.cfgx_c.specs.Buffer.{Fills};
 ghost use Rattle.cfgx_c.specs.Status.{done, faulty, not_utf8, wrong_use};
 
@@ -30,8 +30,7 @@ pub extern "C" fn cfgx_explain(
     ensures done { result ≡ done → HasOneTree (strip text.now) }
     ensures faulty { result ≡ faulty → (found : Fault) × ReadsAs (strip text.now) (Err found)
         × Fills (error_text (fault_in (strip text.now) found)) message.old message.new needed.new }
-    ensures not_utf8 { result ≡ not_utf8 → ¬ IsUtf8 text.now }
-    ensures utf8 { result ≢ not_utf8 → IsUtf8 text.now }
+    ensures utf8 { TellsUtf8 text.now result }
     ensures kept { result ≢ faulty → (message.new ≡ message.old) × (needed.new ≡ 0) }
     ensures status { (result ≤ not_utf8) × (result ≢ wrong_use) }
 {

@@ -2,6 +2,7 @@
 
 ghost use Rattle.std.specs.Prelude.{◌≡◌, ◌<◌, ◌^◌, length, map};
 ghost use Rattle.cfgx_syntax.specs.Error.{cause_of, texts_eq};
+ghost use Rattle.cfgx_syntax.specs.Stripping.{strip};
 ghost use Rattle.cfgx_c.specs.Check.{c_fault, member_count, number_in, reason_number};
 ghost use Rattle.cfgx_c.specs.Check.{strip_offset, terms_number};
 
@@ -119,15 +120,12 @@ fn terms_number(reason: Reason) -> u32
     }
 }
 
-/// Returns the offset of the stripped text in `text`.
-pub(crate) fn strip_offset(text: &str) -> usize
+/// Returns the offset of `stripped`, the stripped text, in `text`.
+pub(crate) fn strip_offset(text: &[u8], stripped: &str) -> usize
+    requires { stripped.now ≡ strip text.now }
     ensures { result ≡ strip_offset text.now }
 {
-    if strip(text).len() == text.len() {
-        0
-    } else {
-        4
-    }
+    if stripped.len() == text.len() { 0 } else { 4 }
 }
 
 /// Returns the fault of `text` as C sees it.
@@ -139,7 +137,7 @@ pub(crate) fn c_fault(text: &str, error: &ParseError) -> CfgxFault
     }) }
 {
     CfgxFault {
-        offset: strip_offset(text),
+        offset: strip_offset(text.as_bytes(), strip(text)),
         start: error.span.start,
         end: error.span.end,
         members: member_count(error.reason),

@@ -1,26 +1,24 @@
 // The predicates of a condition as C sees them.
 
-ghost use Rattle.std.specs.Prelude.{◌≡◌, ◌≢◌, ◌≤◌, ◌<◌, ◌+◌, ◌^◌, ℕ, List, Err, IfOk, length};
-ghost use Rattle.std.specs.Str.{IsUtf8};
-ghost use Rattle.cfgx_syntax.specs.Error.{Fault};
+ghost use Rattle.std.specs.Prelude.{◌≡◌, ◌≢◌, ◌≤◌, ◌<◌, ◌+◌, ◌^◌, ℕ, List, IfOk, length};
 ghost use Rattle.cfgx_syntax.specs.Stripping.{strip};
-ghost use Rattle.cfgx_grammar.specs.Answer.{ReadsAs};
 ghost use Rattle.cfgx_parser.specs.nodes.KeepsTree.{predicate_at};
 ghost use Rattle.cfgx_parser.specs.nodes.Located.{HasCut, ValueHasCut, question_at};
 ghost use Rattle.cfgx_parser.specs.nodes.Located.{target_question_at};
+ghost use Rattle.cfgx_c.specs.Answers.{TellsOf};
 ghost use Rattle.cfgx_c.specs.Buffer.{Fills};
 ghost use Rattle.cfgx_c.specs.Predicates.{atomic_number, c_predicate, endian_number, key_span};
 ghost use Rattle.cfgx_c.specs.Predicates.{kind_of, moved, number_of, target_kind};
 ghost use Rattle.cfgx_c.specs.Predicates.{target_span, value_span, ListsPredicates};
-ghost use Rattle.cfgx_c.specs.Status.{done, faulty, not_utf8, wrong_use};
+ghost use Rattle.cfgx_c.specs.Status.{done, not_utf8, wrong_use};
 ghost use Rattle.cfgx_c.specs.declared.predicates.CfgxPredicate.{CfgxPredicate};
 
 use crate::buffer::fill;
 use crate::fault::strip_offset;
-use crate::status::{DONE, FAULTY, NOT_UTF8, OUT_OF_MEMORY};
+use crate::reading::read_nodes;
+use crate::status::{DONE, OUT_OF_MEMORY};
 use cfgx_parser::nodes::{ExprNode, InnerPredicate, InnerTarget, Span};
-use cfgx_parser::parsed::{ParsedRef, parse};
-use cfgx_syntax::error::Failure;
+use cfgx_parser::parsed::ParsedRef;
 use cfgx_targets::atomic::HasAtomic;
 use cfgx_targets::endian::Endian;
 use std::alloc::{AllocError, Global};
@@ -199,15 +197,15 @@ fn predicate_at(nodes: &[ExprNode], place: usize) -> Option<InnerPredicate>
 /// The error is that `alloc` refused the list.
 pub(crate) fn predicates_of(
     alloc: Global,
-    text: &str,
+    text: &[u8],
     parsed: &ParsedRef<'_>,
 ) -> Result<Vec<CfgxPredicate>, AllocError>
     requires { parsed.now ≡ strip text.now }
     ensures { IfOk result (λ list. ListsPredicates text.now list.items) }
 {
-    let offset = strip_offset(text);
+    let offset = strip_offset(text, parsed.original());
     let nodes = parsed.nodes();
-    let mut list = Vec::new(alloc);
+    let mut list = Vec::with_capacity(alloc, parsed.places().len())?;
     for place in parsed.places() {
         if let Some(predicate) = predicate_at(nodes, *place) {
             list.push(c_predicate(predicate, offset))?;
@@ -231,20 +229,14 @@ pub extern "C" fn cfgx_predicates(
 ) -> u32
     ensures done { result ≡ done → (list : List CfgxPredicate) × ListsPredicates text.now list
         × Fills list predicates.old predicates.new needed.new }
-    ensures faulty { result ≡ faulty → (found : Fault) × ReadsAs (strip text.now) (Err found) }
-    ensures not_utf8 { result ≡ not_utf8 → ¬ IsUtf8 text.now }
-    ensures utf8 { result ≢ not_utf8 → IsUtf8 text.now }
+    ensures read { TellsOf text.now result }
     ensures kept { result ≢ done → (predicates.new ≡ predicates.old) × (needed.new ≡ 0) }
     ensures status { (result ≤ not_utf8) × (result ≢ wrong_use) }
 {
     *needed = 0;
-    let Ok(text) = str::from_utf8(text) else {
-        return NOT_UTF8;
-    };
-    let parsed = match parse(alloc, text) {
+    let parsed = match read_nodes(alloc, text) {
         Ok(parsed) => parsed,
-        Err(Failure::Parse(_)) => return FAULTY,
-        Err(Failure::Memory(_)) => return OUT_OF_MEMORY,
+        Err(status) => return status,
     };
     let Ok(list) = predicates_of(alloc, text, &parsed.as_ref()) else {
         return OUT_OF_MEMORY;

@@ -2,19 +2,22 @@
 
 ghost use Rattle.std.specs.Prelude.{◌≡◌, ◌+◌, ◌<◌, ◌^◌, IfErr, IfOk, length, map, unwrap_or};
 ghost use Rattle.std.specs.List.{All, AllZip};
+ghost use Rattle.std.specs.Str.{IsUtf8};
 ghost use Rattle.cfgx_syntax.specs.Stripping.{strip};
+ghost use Rattle.cfgx_grammar.specs.Given.{AreAnswersTo};
 ghost use Rattle.cfgx_engine.specs.Facts.{NameAlike, texts_of};
 ghost use Rattle.cfgx_c.specs.Answers.{IsCondition, IsFact};
 ghost use Rattle.cfgx_c.specs.Ends.{AreEnds, parts};
 ghost use Rattle.cfgx_c.specs.Reading.{FailsForFacts, FailsForText, FailsForTexts, IsUtf8Front};
-ghost use Rattle.cfgx_c.specs.Reading.{FactFits, fact_error, place_of, status_of, text_error};
-ghost use Rattle.cfgx_c.specs.Reading.{views};
+ghost use Rattle.cfgx_c.specs.Reading.{FactFits, Refuses, RefusesFor, fact_error, place_of};
+ghost use Rattle.cfgx_c.specs.Reading.{status_of, text_error, views};
 
-use crate::status::{FAULTY, FAULTY_FACT, NOT_UTF8, OUT_OF_MEMORY};
+use crate::status::{FAULTY, FAULTY_FACT, MISCOUNTED, NOT_UTF8, OUT_OF_MEMORY};
 use cfg_expr::Expression;
 use cfg_expr::error::Failure;
 use cfg_expr::expr::ConditionReader;
 use cfgx_engine::resolve::{Facts, FactsError};
+use cfgx_parser::parsed::{Parsed, parse};
 use std::alloc::{AllocError, AllocFailed, Global};
 
 /// Why texts and facts give no result.
@@ -156,6 +159,41 @@ pub(crate) fn read_text(alloc: Global, text: &[u8]) -> Result<Expression, ReadEr
         Err(Failure::Parse(_)) => Err(ReadError::Faulty(0)),
         Err(Failure::Memory(_)) => Err(ReadError::Memory),
     }
+}
+
+/// Reads a text as the nodes of its tree.
+///
+/// The error is the status of the call.
+pub(crate) fn read_nodes(alloc: Global, text: &[u8]) -> Result<Parsed, u32>
+    ensures ok { IfOk result (λ parsed. (parsed ≡ strip text.now) × IsUtf8 text.now) }
+    ensures err { IfErr result (Refuses text.now) }
+{
+    let Ok(text) = str::from_utf8(text) else {
+        return Err(NOT_UTF8);
+    };
+    match parse(alloc, text) {
+        Ok(parsed) => Ok(parsed),
+        Err(Failure::Parse(_)) => Err(FAULTY),
+        Err(Failure::Memory(_)) => Err(OUT_OF_MEMORY),
+    }
+}
+
+/// Reads a condition, and counts its predicates: there must be one for each answer.
+///
+/// The error is the status of the call.
+pub(crate) fn read_for(alloc: Global, text: &[u8], answers: &[u8]) -> Result<Expression, u32>
+    ensures ok { IfOk result (λ condition. (condition ≡ strip text.now) × IsUtf8 text.now) }
+    ensures counted { IfOk result (AreAnswersTo answers.now) }
+    ensures err { IfErr result (RefusesFor text.now answers.now) }
+{
+    let condition = match read_text(alloc, text) {
+        Ok(condition) => condition,
+        Err(error) => return Err(error.status()),
+    };
+    if condition.predicates().left() != answers.len() {
+        return Err(MISCOUNTED);
+    }
+    Ok(condition)
 }
 
 /// Returns the texts before the first one that is not UTF-8.

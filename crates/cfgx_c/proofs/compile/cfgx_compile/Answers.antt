@@ -4,22 +4,20 @@ use Rattle.std.proofs.lemmas.List.{length-map}
 use Rattle.cfgx_syntax.specs.Stripping.{strip}
 use Rattle.cfgx_grammar.specs.Answer.{HasOneTree}
 use Rattle.cfg_expr.specs.Steps.{steps_of}
-use Rattle.cfgx_c.specs.{Buffer.FillsBoth, Predicates.ListsPredicates, Steps.c_step}
+use Rattle.cfgx_c.specs.{Buffer.FillsBoth, Steps.c_step}
 use Rattle.cfgx_c.proofs.compile.cfgx_compile.Goals as goal
 
 pub returns-clause-done : goal.returns-clause-done
 returns-clause-done c is =
     let steps = c.in-Ok-compiled.step_list in
     let list = c.in-Ok-predicates_of.list in
-    let same : c.as_ref.result ≡ strip c.args.text.now = c.as_ref.ensures ∙ c.in-Ok-parse.ensures.0
-    ∙ ap strip c.in-Ok.ensures.cases.0 in
+    let same : c.as_ref.result ≡ strip c.args.text.now = c.as_ref.ensures ∙ c.in-Ok.ensures.ok.0 in
     let found = subst (λ text. (one : HasOneTree text)
     × (steps.items ≡ map c_step (steps_of one.tree))) same c.in-Ok-compiled.ensures in
     record {
       one = found.0;
       predicates = list.items;
-      lists = subst (λ text. ListsPredicates text list.items) c.in-Ok.ensures.cases.0
-          c.in-Ok-predicates_of.ensures;
+      lists = c.in-Ok-predicates_of.ensures;
       fills = subst (λ items. FillsBoth items c.args.steps.now c.fill_both.new.buffer list.items
           c.args.predicates.now c.fill_both.new.other_buffer) (c.as_slice.ensures.value ∙ found.1)
           (subst (λ items. FillsBoth c.as_slice.result.now c.args.steps.now
