@@ -1,12 +1,17 @@
 -- Steps as C sees them stand for one list of steps.
-use Rattle.std.proofs.Common.{◌≡◌, ◌==◌, ◌<◌, ◌∙◌, ℕ, List, [], ◌∷◌, ap, false, get_or, length, map}
-use Rattle.std.proofs.Common.{arith, if◌then◌else◌, refl, sym, true}
-use Rattle.std.proofs.lemmas.List.{get_or-map, length-map}
-use Rattle.cfgx_grammar.specs.{Question.Question, Tree.Tree}
-use Rattle.cfg_expr.specs.Steps.{HasSteps}
+use Rattle.std.proofs.Common.{◌≡◌, ◌==◌, ◌<◌, ◌+◌, ◌∙◌, ℕ, List, [], ◌∷◌, ap, false, get_or}
+use Rattle.std.proofs.Common.{arith, if◌then◌else◌, length, map, refl, sym, take, true}
+use Rattle.std.proofs.Common.{Bool, Option}
+use Rattle.std.proofs.Math.ListN.{set}
+use Rattle.std.proofs.lemmas.List.{get_or-map, length-map, map-append, take_more, take_more_set}
+use Rattle.cfgx_grammar.specs.{Filling.three_valued, Question.Question, Tree.Tree}
+use Rattle.cfg_expr.specs.Steps.{HasSteps, HaveNoValue, IsValueOfSteps}
 use Rattle.cfg_expr.specs.declared.expr.steps.Step.{Step}
 use Rattle.cfg_expr.specs.declared.expr.steps.Step.TheVariants.{Ask, Literal, Not, All, Any}
-use Rattle.cfgx_c.specs.Steps.{HasCSteps, c_step}
+use Rattle.cfg_expr.specs.declared.expr.steps.StepsError.{StepsError}
+use Rattle.cfg_expr.specs.declared.expr.steps.StepsError.TheVariants as error
+use Rattle.cfgx_c.specs.{Value.answer_of, Value.byte_of_value, internal.Applying.DoNotApply}
+use Rattle.cfgx_c.specs.Steps.{Applies, HasCSteps, c_step}
 use Rattle.cfgx_c.specs.declared.steps.CfgxStep.{CfgxStep}
 
 -- the step, if there is one, that C sees so
@@ -46,3 +51,34 @@ no_steps seen i otherwise inside none steps are = none (get_or steps i Ask)
     (sym (get_or-map c_step steps i Ask otherwise
     (omega (arith, inside, ap length are, length-map steps c_step)))
     ∙ ap (λ l. get_or l i otherwise) are)
+
+-- one step more was read
+pub one-more : (room : List Step) (seen : List CfgxStep) (i : ℕ) (step : Step) (d : CfgxStep)
+    → i < length room → i < length seen → c_step step ≡ get_or seen i d
+    → map c_step (take i room) ≡ take i seen
+    → map c_step (take (i + 1) (set room i step)) ≡ take (i + 1) seen
+one-more room seen i step d inside below is so_far =
+    rw (take_more_set room i step inside, map-append, so_far, take_more seen i d below, is) refl
+
+module _ (steps : List Step) (seen : List CfgxStep) (are : map c_step steps ≡ seen)
+    (bytes : List ℕ) where
+  -- the value of steps, and why they have none, as C sees them
+  pub Applies-read : (value : Option Bool)
+      → IsValueOfSteps three_valued steps (map answer_of bytes) value
+      → Applies seen bytes (byte_of_value value)
+  Applies-read value of = record {
+    tree = of.tree;
+    has = has_c_steps steps seen are of.tree of.has;
+    count = sym (length-map bytes answer_of) ∙ of.count;
+    every = λ other has. ap byte_of_value (of.every other (has_steps steps seen are other has));
+  }
+
+  pub DoNotApply-read : (failed : StepsError)
+      → HaveNoValue steps (length (map answer_of bytes)) failed → DoNotApply seen bytes failed
+  DoNotApply-read error.NoTree fails = λ tree has. fails tree (has_steps steps seen are tree has)
+  DoNotApply-read error.Miscounted fails = (
+    fails.0,
+    has_c_steps steps seen are fails.0 fails.1,
+    rw (length-map bytes answer_of) at fails.2,
+  )
+  DoNotApply-read (error.Memory refused) fails = tt

@@ -1,11 +1,8 @@
 -- Ends, and the parts that have them.
 use Rattle.std.proofs.Common.{◌≡◌, ◌∙◌, ◌≤◌, ◌<◌, ◌+◌, ℕ, List, [], ◌∷◌, ◌++◌, add-one, ap, arith}
 use Rattle.std.proofs.Common.{drop, drop-cons, get_or, length}
-use Rattle.std.proofs.Common.{All, length-append}
-use Rattle.std.proofs.Math.Seq.{get_or-append_seam}
-use Rattle.std.specs.{Prelude.slice_range, Str.IsUtf8}
+use Rattle.std.specs.Prelude.{slice_range}
 use Rattle.cfgx_c.specs.Ends.{AreEndsFrom, parts, parts_from}
-use Rattle.cfgx_c.specs.Texts.{IsFirstNotUtf8}
 
 -- no end is behind the items
 pub begin-le : (begin : ℕ) (ends : List ℕ) (len : ℕ) → AreEndsFrom begin ends len → begin ≤ len
@@ -25,12 +22,3 @@ module _ (begin i : ℕ) (ends : List ℕ) where
       ∷ parts_from (get_or ends i 0) (drop (i + 1) ends) items)
   next_part items before below whole = whole ∙ ap (λ left. before ++ left)
       (rw add-one (ap (λ left. parts_from begin left items) (drop-cons ends i 0 below)))
-
--- not all texts are UTF-8 if one of them is not
-pub not_all_utf8 : (texts : List (List ℕ)) (number : ℕ) → IsFirstNotUtf8 texts number
-    → ¬ All IsUtf8 texts
-not_all_utf8 texts number first all =
-    let each = rw first.whole at all in
-    let here = length-append first.before (first.text ∷ first.after) in
-    first.not_utf8 (rw (get_or-append_seam first.before first.text first.after []) at
-    (each (length first.before) [] (omega arith)))

@@ -15,7 +15,7 @@ use Rattle.std.proofs.lemmas.List.Elements.{All-append, All-from_recursion, All-
 use Rattle.std.proofs.lemmas.List.Elements.{All-push, All-take}
 use Rattle.std.proofs.lemmas.Option.{same_Some, slice_get-get_or, slice_get-map}
 use Rattle.std.proofs.lemmas.Option.{get_or_from_slice_get, slice_get_within}
-use Rattle.std.proofs.Math.Seq.{take-append-add, take-append_seam}
+use Rattle.std.proofs.Math.Seq.{get_or-append_seam, take-append-add, take-append_seam}
 use Rattle.cfgx_syntax.specs.Error.{TextFault}
 use Rattle.cfgx_grammar.proofs.ListLemmas.{slice_get-append, slice_get-append-add}
 use Rattle.cfgx_grammar.proofs.ListLemmas.{slice_get-append_seam}
@@ -28,9 +28,9 @@ use Rattle.cfgx_engine.specs.declared.resolve.facts.FactsError.TheVariants as fa
 use Rattle.cfgx_c.specs.Ends.{parts_from}
 use Rattle.cfgx_c.specs.Answers.{IsCondition, IsFact, IsFirstBad, IsFirstFaulty}
 use Rattle.cfgx_c.specs.Answers.{IsFirstFaultyFact, IsFirstNotUtf8}
-use Rattle.cfgx_c.specs.Reading.{FailsFor, FailsForFacts, FailsForText, FailsForTexts}
-use Rattle.cfgx_c.specs.Reading.{FactFits, IsUtf8Front, RefusesFor, fact_error, place_of}
-use Rattle.cfgx_c.specs.Reading.{status_of, text_error, views}
+use Rattle.cfgx_c.specs.internal.Reading.{FailsFor, FailsForFacts, FailsForText, FailsForTexts}
+use Rattle.cfgx_c.specs.internal.Reading.{FactFits, IsUtf8Front, RefusesFor, fact_error, place_of}
+use Rattle.cfgx_c.specs.internal.Reading.{status_of, text_error, views}
 use Rattle.cfgx_c.specs.declared.reading.ReadError.{ReadError}
 use Rattle.cfgx_c.specs.declared.reading.ReadError.TheVariants as error
 
@@ -142,6 +142,26 @@ faulty-not_utf8 facts front short is accepted =
     let long = length-append front is.left in
     rw is.whole (faulty-behind front is.left (omega (arith, short, ap length is.whole, long))
     (facts-good front is.utf8 accepted) is.ends)
+
+-- nor are all texts in UTF-8 then
+not-utf8-behind : (front left : List (List ℕ)) → 0 < length left
+    → ((text : List ℕ) → slice_get left 0 ≡ Some text → ¬ IsUtf8 text)
+    → ¬ All IsUtf8 (front ++ left)
+not-utf8-behind front [] some ends all = absurd (omega (arith, some))
+not-utf8-behind front (text ∷ after) some ends all =
+    let long = length-append front (text ∷ after) in
+    ends text refl (rw (get_or-append_seam front text after []) at
+    (all (length front) [] (omega (arith, long))))
+
+pub not_all_utf8 : (texts front : List (List ℕ)) → length front < length texts
+    → IsUtf8Front texts front → ¬ All IsUtf8 texts
+not_all_utf8 texts front short is all =
+    not-utf8-behind front is.left (omega (
+      arith,
+      short,
+      ap length is.whole,
+      length-append front is.left,
+    )) is.ends (rw is.whole at all)
 
 -- all texts are in UTF-8 if as many are as there are
 pub front-whole : (facts front : List (List ℕ)) → length facts ≤ length front
@@ -309,14 +329,15 @@ FailsForFacts-piece facts begin end failed rises within good fails =
     (FailsForFacts-behind (take begin facts) (slice_range facts begin end) (drop end facts) failed
     good (rw front fails))
 
--- one byte more was written over the old ones
-pub written-more : {X : Type 0} (f : X → ℕ) (values : List X) (old buffer : List ℕ) (i : ℕ) (d : X)
+-- one item more was written over the old ones
+pub written-more : {X Y : Type 0} (f : X → Y) (values : List X) (old buffer : List Y) (i : ℕ)
+    (d : X)
     → i < length values → length values ≤ length old
     → buffer ≡ map f (take i values) ++ drop i old
     → set buffer i (f (get_or values i d)) ≡ map f (take (i + 1) values) ++ drop (i + 1) old
 written-more f values old buffer i d below fits is =
     let front = map f (take i values) in
-    let byte = f (get_or values i d) in
+    let item = f (get_or values i d) in
     let long : length front ≡ i = length-map (take i values) f
     ∙ length-take-le i values (omega (arith, below)) in
     let whole : i < length (front ++ drop i old) = omega (
@@ -334,7 +355,7 @@ written-more f values old buffer i d below fits is =
     ∙ ap (drop 1) (drop_at front (drop i old) i long) ∙ drop-drop 1 i old in
     rw (
       is,
-      set_split (front ++ drop i old) i byte whole,
+      set_split (front ++ drop i old) i item whole,
       take_at front (drop i old) i long,
       rest,
       map_more f values i d below,

@@ -1,6 +1,6 @@
 -- A list of parts as one list of items and the ends of the parts in it.
 -- Source: include/cfgx.h.
-use Rattle.std.specs.Prelude.{◌≡◌, ◌≤◌, ℕ, List, [], ◌∷◌, length, slice_range}
+use Rattle.std.specs.Prelude.{◌≡◌, ◌≤◌, ℕ, List, [], ◌∷◌, slice_range}
 
 -- each end is at least the one before it, or `begin` for the first one, and the last one is `len`;
 -- if there are none, `begin` is `len`

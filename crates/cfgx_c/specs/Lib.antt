@@ -5,10 +5,9 @@ pub mod Check
 pub mod Decide
 pub mod Ends
 pub mod Predicates
-pub mod Reading
 pub mod Run
 pub mod Status
 pub mod Steps
-pub mod Texts
 pub mod Value
 pub mod Version
+pub mod internal

@@ -1,6 +1,6 @@
 // Answers and values as bytes.
 
-ghost use Rattle.std.specs.Prelude.{◌≡◌, IfOk, drop, map};
+ghost use Rattle.std.specs.Prelude.{◌≡◌, IfOk, drop, length, map};
 ghost use Rattle.cfgx_grammar.specs.Answer.{HasOneTree};
 ghost use Rattle.cfgx_grammar.specs.Filling.{three_valued};
 ghost use Rattle.cfgx_grammar.specs.Fold.{tree_fold};
@@ -33,14 +33,22 @@ fn answer_of(byte: u8) -> Option<bool>
     }
 }
 
+/// Writes the answers in `bytes` to `room`.
+pub(crate) fn read_answers(bytes: &[u8], room: &mut [Option<bool>])
+    requires { length room.old ≡ length bytes.now }
+    ensures { room.new ≡ map answer_of bytes.now }
+{
+    for i in 0..bytes.len() {
+        room[i] = answer_of(bytes[i]);
+    }
+}
+
 /// Returns the answers in `bytes`.
 pub(crate) fn answers_of(alloc: Global, bytes: &[u8]) -> Result<Vec<Option<bool>>, AllocError>
     ensures { IfOk result (λ answers. answers.items ≡ map answer_of bytes.now) }
 {
-    let mut answers = Vec::with_capacity(alloc, bytes.len())?;
-    for byte in bytes {
-        answers.push(answer_of(*byte))?;
-    }
+    let mut answers = vec![in alloc; None; bytes.len()]?;
+    read_answers(bytes, answers.as_mut_slice());
     Ok(answers)
 }
 

@@ -1,18 +1,18 @@
 // The values of many conditions on many targets.
 
-ghost use Rattle.std.specs.Prelude.{◌≡◌, ◌≢◌, ◌↔◌, ◌≤◌, ◌*◌, ◌^◌, IfErr, IfOk, length, map};
+ghost use Rattle.std.specs.Prelude.{◌≡◌, ◌≢◌, ◌↔◌, ◌≤◌, ◌*◌, ◌^◌, IfErr, IfOk, length};
 ghost use Rattle.std.specs.List.{All};
 ghost use Rattle.cfgx_c.specs.Answers.{IsCondition, IsFact, IsFirstFaulty, IsFirstFaultyFact};
 ghost use Rattle.cfgx_c.specs.Answers.{IsFirstNotUtf8};
 ghost use Rattle.cfgx_c.specs.Audit.{AreAllEnds, FillsValues, ValuesBy};
-ghost use Rattle.cfgx_c.specs.Ends.{AreEnds, parts};
-ghost use Rattle.cfgx_c.specs.Reading.{FailsFor};
+ghost use Rattle.cfgx_c.specs.Ends.{parts};
+ghost use Rattle.cfgx_c.specs.internal.Reading.{FailsFor};
 ghost use Rattle.cfgx_c.specs.Status.{bad_ends, done, faulty, faulty_fact, miscounted, no_tree};
 ghost use Rattle.cfgx_c.specs.Status.{not_utf8, too_large, wrong_use};
 
-use crate::ends::are_ends;
+use crate::ends::{are_ends, parts};
 use crate::facts::{fill_values, otherwise_of};
-use crate::reading::{ReadError, check_texts, parts, read_targets, text_error};
+use crate::reading::{ReadError, check_texts, read_targets, text_error};
 use crate::status::{BAD_ENDS, DONE, TOO_LARGE};
 use cfgx_engine::resolve::{Otherwise, audit_facts};
 use std::alloc::Global;

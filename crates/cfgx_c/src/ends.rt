@@ -1,33 +1,11 @@
 // Texts that are passed as their bytes and their ends.
 
-ghost use Rattle.std.specs.Prelude.{◌≡◌, ◌↔◌, ◌∷◌, All, Err, IfErr, IfOk, IsTrue, length, map};
+ghost use Rattle.std.specs.Prelude.{◌≡◌, ◌↔◌, All, IfOk, IsTrue, MatchOption, length};
 ghost use Rattle.std.specs.Str.{IsUtf8};
 ghost use Rattle.cfgx_c.specs.Ends.{AreEnds, parts};
-ghost use Rattle.cfgx_c.specs.Texts.{FailsFor};
+ghost use Rattle.cfgx_c.specs.internal.Reading.{IsUtf8Front, views};
 
-use std::alloc::{AllocError, AllocFailed, Global};
-
-/// Why there are no texts.
-#[derive(Debug, Drop)]
-pub(crate) enum TextsError {
-    /// An end is less than the one before it, or the last one is not the number of bytes
-    Ends,
-    /// The text with this number is not UTF-8, and those before it are
-    NotUtf8(usize),
-    /// Memory was refused
-    Memory(AllocError),
-}
-
-impl<T: Drop> From<AllocFailed<T>> for TextsError {
-    ghost use Rattle.std.specs.Prelude.{◌≡◌, alloc_error};
-    ghost use Rattle.cfgx_c.specs.declared.ends.TextsError.TheVariants.{Memory};
-
-    ghost from_gives = { λ _ failure. failure ≡ Memory alloc_error };
-
-    fn from(_error: AllocFailed<T>) -> TextsError {
-        TextsError::Memory(AllocError)
-    }
-}
+use std::alloc::{AllocError, Global};
 
 /// Whether these are the ends of parts that make up `len` items.
 pub(crate) fn are_ends(ends: &[usize], len: usize) -> bool
@@ -43,34 +21,57 @@ pub(crate) fn are_ends(ends: &[usize], len: usize) -> bool
     begin == len
 }
 
-/// Returns the texts with these ends in `bytes`.
+/// Returns the parts of `bytes` with these ends.
 ///
-/// # Errors
+/// The error is that `alloc` refused the list.
+pub(crate) fn parts<'a>(
+    alloc: Global,
+    bytes: &'a [u8],
+    ends: &[usize],
+) -> Result<Vec<&'a [u8]>, AllocError>
+    requires { AreEnds ends.now (length bytes.now) }
+    ensures { IfOk result (λ found. views found.items ≡ parts ends.now bytes.now) }
+{
+    let mut parts = Vec::with_capacity(alloc, ends.len())?;
+    let mut begin = 0;
+    for &end in ends {
+        parts.push(&bytes[begin..end])?;
+        begin = end;
+    }
+    Ok(parts)
+}
+
+/// Returns the texts before the first one that is not UTF-8.
+pub(crate) fn utf8_front<'a>(alloc: Global, texts: &[&'a [u8]]) -> Result<Vec<&'a str>, AllocError>
+    ensures { IfOk result (λ front. IsUtf8Front (views texts.now) (views front.items)) }
+{
+    let mut front = Vec::with_capacity(alloc, texts.len())?;
+    for text in texts {
+        let Ok(text) = str::from_utf8(text) else {
+            return Ok(front);
+        };
+        front.push(text)?;
+    }
+    Ok(front)
+}
+
+/// Returns the parts of `bytes` with these ends as texts, or `None` if one of them is not UTF-8.
 ///
-/// `Ends`: they are not the ends of parts of `bytes`. `NotUtf8`: the number of the first part that
-/// is not UTF-8. `Memory`: `alloc` refused memory.
+/// The error is that `alloc` refused a list.
 pub(crate) fn texts<'a>(
     alloc: Global,
     bytes: &'a [u8],
     ends: &[usize],
-) -> Result<Vec<&'a str>, TextsError>
-    ensures texts { IfOk result (λ texts. (map (λ text. text.now) texts.items
-        ≡ parts ends.now bytes.now) × All IsUtf8 (parts ends.now bytes.now)) }
-    ensures ends { IfOk result (λ _. AreEnds ends.now (length bytes.now)) }
-    ensures error { IfErr result (FailsFor bytes.now ends.now) }
+) -> Result<Option<Vec<&'a str>>, AllocError>
+    requires { AreEnds ends.now (length bytes.now) }
+    ensures { IfOk result (λ found. MatchOption found (¬ All IsUtf8 (parts ends.now bytes.now))
+        (λ texts. (views texts.items ≡ parts ends.now bytes.now)
+        × All IsUtf8 (parts ends.now bytes.now))) }
 {
-    if !are_ends(ends, bytes.len()) {
-        return Err(TextsError::Ends);
+    let parts = parts(alloc, bytes, ends)?;
+    let texts = utf8_front(alloc, parts.as_slice())?;
+    if texts.len() < parts.len() {
+        return Ok(None);
     }
-    let mut texts = Vec::new(alloc);
-    let mut begin = 0;
-    for &end in ends {
-        let part = &bytes[begin..end];
-        let Ok(text) = str::from_utf8(part) else {
-            return Err(TextsError::NotUtf8(texts.len()));
-        };
-        texts.push(text)?;
-        begin = end;
-    }
-    Ok(texts)
+    Ok(Some(texts))
 }

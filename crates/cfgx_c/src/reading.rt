@@ -1,6 +1,6 @@
 // Conditions and facts that are passed as bytes.
 
-ghost use Rattle.std.specs.Prelude.{◌≡◌, ◌+◌, ◌<◌, ◌^◌, IfErr, IfOk, length, map, unwrap_or};
+ghost use Rattle.std.specs.Prelude.{◌≡◌, ◌+◌, ◌<◌, ◌^◌, IfErr, IfOk, length, unwrap_or};
 ghost use Rattle.std.specs.List.{All, AllZip};
 ghost use Rattle.std.specs.Str.{IsUtf8};
 ghost use Rattle.cfgx_syntax.specs.Stripping.{strip};
@@ -8,10 +8,11 @@ ghost use Rattle.cfgx_grammar.specs.Given.{AreAnswersTo};
 ghost use Rattle.cfgx_engine.specs.Facts.{NameAlike, texts_of};
 ghost use Rattle.cfgx_c.specs.Answers.{IsCondition, IsFact};
 ghost use Rattle.cfgx_c.specs.Ends.{AreEnds, parts};
-ghost use Rattle.cfgx_c.specs.Reading.{FailsForFacts, FailsForText, FailsForTexts, IsUtf8Front};
-ghost use Rattle.cfgx_c.specs.Reading.{FactFits, Refuses, RefusesFor, fact_error, place_of};
-ghost use Rattle.cfgx_c.specs.Reading.{status_of, text_error, views};
+ghost use Rattle.cfgx_c.specs.internal.Reading.{FactFits, FailsForFacts, FailsForText};
+ghost use Rattle.cfgx_c.specs.internal.Reading.{FailsForTexts, Refuses, RefusesFor, fact_error};
+ghost use Rattle.cfgx_c.specs.internal.Reading.{place_of, status_of, text_error, views};
 
+use crate::ends::utf8_front;
 use crate::status::{FAULTY, FAULTY_FACT, MISCOUNTED, NOT_UTF8, OUT_OF_MEMORY};
 use cfg_expr::Expression;
 use cfg_expr::error::Failure;
@@ -82,24 +83,6 @@ impl<T: Drop> From<AllocFailed<T>> for ReadError {
     fn from(_error: AllocFailed<T>) -> ReadError {
         ReadError::Memory
     }
-}
-
-/// Returns the parts of `bytes` with these ends.
-pub(crate) fn parts<'a>(
-    alloc: Global,
-    bytes: &'a [u8],
-    ends: &[usize],
-) -> Result<Vec<&'a [u8]>, AllocError>
-    requires { AreEnds ends.now (length bytes.now) }
-    ensures { IfOk result (λ found. views found.items ≡ parts ends.now bytes.now) }
-{
-    let mut parts = Vec::with_capacity(alloc, ends.len())?;
-    let mut begin = 0;
-    for &end in ends {
-        parts.push(&bytes[begin..end])?;
-        begin = end;
-    }
-    Ok(parts)
 }
 
 /// Returns the error of the text with this number.
@@ -194,20 +177,6 @@ pub(crate) fn read_for(alloc: Global, text: &[u8], answers: &[u8]) -> Result<Exp
         return Err(MISCOUNTED);
     }
     Ok(condition)
-}
-
-/// Returns the texts before the first one that is not UTF-8.
-fn utf8_front<'a>(alloc: Global, texts: &[&'a [u8]]) -> Result<Vec<&'a str>, AllocError>
-    ensures { IfOk result (λ front. IsUtf8Front (views texts.now) (views front.items)) }
-{
-    let mut front = Vec::with_capacity(alloc, texts.len())?;
-    for text in texts {
-        let Ok(text) = str::from_utf8(text) else {
-            return Ok(front);
-        };
-        front.push(text)?;
-    }
-    Ok(front)
 }
 
 /// Returns the error of facts whose numbers begin at `begin`.

@@ -7,7 +7,7 @@ ghost use Rattle.cfgx_c.specs.Run.{Runs};
 ghost use Rattle.cfgx_c.specs.Status.{bad_ends, not_utf8, out_of_memory};
 
 use crate::buffer::fill;
-use crate::ends::{TextsError, texts};
+use crate::ends::{are_ends, texts};
 use crate::status::{BAD_ENDS, NOT_UTF8, OUT_OF_MEMORY};
 use crate::streams::{SliceSource, VecSink};
 use cfgx_engine::engine::run;
@@ -38,11 +38,13 @@ pub extern "C" fn cfgx_run(
     ensures status { (result ≤ not_utf8) ⊎ (result ≡ bad_ends) }
 {
     *needed = 0;
+    if !are_ends(word_ends, words.len()) {
+        return BAD_ENDS;
+    }
     let words = match texts(alloc, words, word_ends) {
-        Ok(words) => words,
-        Err(TextsError::Ends) => return BAD_ENDS,
-        Err(TextsError::NotUtf8(_)) => return NOT_UTF8,
-        Err(TextsError::Memory(_)) => return OUT_OF_MEMORY,
+        Ok(Some(words)) => words,
+        Ok(None) => return NOT_UTF8,
+        Err(_) => return OUT_OF_MEMORY,
     };
     let mut reader = SliceSource { left: input };
     let mut writer = VecSink::new(alloc);

@@ -1,6 +1,6 @@
 // Steps as C sees them.
 
-ghost use Rattle.std.specs.Prelude.{◌≡◌, IfOk, List, MatchOption, map};
+ghost use Rattle.std.specs.Prelude.{◌≡◌, IfOk, List, MatchBool, MatchOption, length, map};
 ghost use Rattle.cfg_expr.specs.declared.expr.steps.Step.{Step};
 ghost use Rattle.cfgx_c.specs.Steps.{c_step};
 
@@ -37,7 +37,7 @@ fn c_step(step: Step) -> CfgxStep
 pub(crate) fn c_steps(alloc: Global, steps: &[Step]) -> Result<Vec<CfgxStep>, AllocError>
     ensures { IfOk result (λ list. list.items ≡ map c_step steps.now) }
 {
-    let mut list = Vec::new(alloc);
+    let mut list = Vec::with_capacity(alloc, steps.len())?;
     for step in steps {
         list.push(c_step(*step))?;
     }
@@ -59,20 +59,17 @@ fn step_of(step: CfgxStep) -> Option<Step>
     }
 }
 
-/// Returns the steps that C sees as `steps`, or `None` if there are none.
-///
-/// The error is that `alloc` refused the list.
-pub(crate) fn steps_in(alloc: Global, steps: &[CfgxStep]) -> Result<Option<Vec<Step>>, AllocError>
-    ensures { IfOk result (λ found. MatchOption found
-        ((list : List Step) → ¬ (map c_step list ≡ steps.now))
-        (λ list. map c_step list.items ≡ steps.now)) }
+/// Writes the steps that C sees as `steps` to `room`. Returns false if there are no such steps.
+pub(crate) fn read_steps(steps: &[CfgxStep], room: &mut [Step]) -> bool
+    requires { length room.old ≡ length steps.now }
+    ensures { MatchBool result (map c_step room.new ≡ steps.now)
+        ((list : List Step) → ¬ (map c_step list ≡ steps.now)) }
 {
-    let mut list = Vec::new(alloc);
-    for step in steps {
-        let Some(step) = step_of(*step) else {
-            return Ok(None);
+    for i in 0..steps.len() {
+        let Some(step) = step_of(steps[i]) else {
+            return false;
         };
-        list.push(step)?;
+        room[i] = step;
     }
-    Ok(Some(list))
+    true
 }

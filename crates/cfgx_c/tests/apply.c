@@ -1,5 +1,6 @@
 /* Tests `cfgx_apply`: rows, steps with each byte changed, steps at random, and the many steps that
- * `cfgx_compile` gives for long conditions. */
+ * `cfgx_compile` gives for long conditions. Up to 33 steps with up to 33 answers take no memory, so
+ * the growths that are refused are those of longer lists. */
 #include "harness.h"
 
 #include <stdio.h>
@@ -44,6 +45,8 @@ static const struct row rows[] = {
     {3, {ASK, ASK, ANY(2)}, TEXT("\xff\1"), VALUE(TRUE)},
     {4, {ASK, NOT, ASK, ALL(2)}, TEXT("\0\1"), VALUE(TRUE)},
     {4, {ASK, NOT, ASK, ALL(2)}, TEXT("\1\0"), VALUE(FALSE)},
+    {33, {ASK_8, ASK_8, ASK_8, ASK_8, ALL(32)},
+     TEXT("\1\1\1\1\1\1\1\1\1\1\1\1\1\1\1\1\1\1\1\1\1\1\1\1\1\1\1\1\1\1\1\0"), VALUE(FALSE)},
     {34, {ASK_8, ASK_8, ASK_8, ASK_8, ASK, ALL(33)},
      TEXT("\1\1\1\1\1\1\1\1\1\1\1\1\1\1\1\1\1\1\1\1\1\1\1\1\1\1\1\1\1\1\1\1\2"), VALUE(UNKNOWN)},
     {42, {ASK, NOT_8, NOT_8, NOT_8, NOT_8, NOT_8, NOT}, TEXT("\0"), VALUE(TRUE)},
@@ -52,6 +55,12 @@ static const struct row rows[] = {
     {1, {ASK}, TEXT("\1\1"), MISCOUNTED},
     {1, {TRUE}, TEXT("\1"), MISCOUNTED},
     {3, {ASK, ASK, ALL(2)}, TEXT("\1"), MISCOUNTED},
+    {1, {ASK},
+     TEXT("\1\1\1\1\1\1\1\1\1\1\1\1\1\1\1\1\1\1\1\1\1\1\1\1\1\1\1\1\1\1\1\1\1"), MISCOUNTED},
+    {1, {ASK},
+     TEXT("\1\1\1\1\1\1\1\1\1\1\1\1\1\1\1\1\1\1\1\1\1\1\1\1\1\1\1\1\1\1\1\1\1\1"), MISCOUNTED},
+    {33, {ASK_8, ASK_8, ASK_8, ASK_8, ALL(32)},
+     TEXT("\1\1\1\1\1\1\1\1\1\1\1\1\1\1\1\1\1\1\1\1\1\1\1\1\1\1\1\1\1\1\1\1\1"), MISCOUNTED},
 
     {0, {TRUE}, TEXT(""), NO_TREE},
     {2, {TRUE, TRUE}, TEXT(""), NO_TREE},

@@ -1,7 +1,7 @@
 use Rattle.std.proofs.Common.{◌≡◌, ◌∙◌, ◌++◌, ◌∷◌, [], Bor, List, ℕ, arith, ap, length, take}
 use Rattle.std.proofs.lemmas.List.{length-map, length-take-le, map-append, take_all}
 use Rattle.std.proofs.lemmas.Result.{err_from_is_err_and}
-use Rattle.cfgx_c.specs.{Answers.IsCondition, Reading.views}
+use Rattle.cfgx_c.specs.{Answers.IsCondition, internal.Reading.views}
 use Rattle.cfgx_c.proofs.InputLemmas.{FailsForTexts-here, good-more}
 use Rattle.cfgx_c.proofs.reading.check_texts.Goals as goal
 

@@ -1,5 +1,5 @@
 use Rattle.std.proofs.Common.{◌≡◌, All, take}
-use Rattle.cfgx_c.specs.{Answers.IsCondition, Reading.views}
+use Rattle.cfgx_c.specs.{Answers.IsCondition, internal.Reading.views}
 use Rattle.cfgx_c.proofs.reading.check_texts.Given as goal
 
 -- the texts so far are conditions, and were pushed

@@ -2,7 +2,7 @@ use Rattle.std.proofs.Common.{Bor, List, ℕ, arith, length, subst, sym}
 use Rattle.std.proofs.lemmas.List.{length-map}
 use Rattle.std.proofs.lemmas.List.Elements.{All-from_recursion}
 use Rattle.cfgx_engine.specs.Facts.{IsRustcFact}
-use Rattle.cfgx_c.specs.Reading.{IsUtf8Front, views}
+use Rattle.cfgx_c.specs.internal.Reading.{IsUtf8Front, views}
 use Rattle.cfgx_c.proofs.InputLemmas.{FailsForFacts-refused, fact-fits, facts-good}
 use Rattle.cfgx_c.proofs.InputLemmas.{faulty-not_utf8, front-whole}
 use Rattle.cfgx_c.proofs.reading.read_facts.Goals as goal

@@ -2,9 +2,9 @@ use Rattle.std.proofs.Common.{◌∙◌, ◌++◌, ◌∷◌, [], Bor, List, ℕ
 use Rattle.std.proofs.lemmas.List.{map-append, take_all}
 use Rattle.std.specs.Str.{IsUtf8}
 use Rattle.std.proofs.lemmas.Option.{none-some}
-use Rattle.cfgx_c.specs.Reading.{views}
+use Rattle.cfgx_c.specs.internal.Reading.{views}
 use Rattle.cfgx_c.proofs.InputLemmas.{IsUtf8Front-here, good-more}
-use Rattle.cfgx_c.proofs.reading.utf8_front.Goals as goal
+use Rattle.cfgx_c.proofs.ends.utf8_front.Goals as goal
 
 -- the text is not UTF-8
 pub returns-in_default : goal.returns-in_default

@@ -1,4 +1,4 @@
--- How lists of texts and of facts are read. No contract of a call cites these definitions.
+-- How lists of texts and of facts are read.
 use Rattle.std.specs.Prelude.{◌≡◌, ◌≢◌, ◌+◌, ◌<◌, ◌≤◌, ◌^◌, ◌++◌, ℕ, List, Option, Some, None}
 use Rattle.std.specs.Prelude.{map}
 use Rattle.std.specs.Borrow.{Bor}

@@ -2,7 +2,7 @@
 use Rattle.std.proofs.Common.{append_assoc, append-nil, rules, sym}
 use Rattle.std.proofs.lemmas.List.{drop_all, map-append}
 use Rattle.cfgx_c.proofs.EndsLemmas.{begin-le, next_end, next_part}
-use Rattle.cfgx_c.proofs.reading.parts.Goals as goal
+use Rattle.cfgx_c.proofs.ends.parts.Goals as goal
 
 pub slice_bounds-push-end : goal.slice_bounds-push-end
 slice_bounds-push-end c =

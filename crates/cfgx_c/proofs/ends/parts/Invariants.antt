@@ -1,6 +1,6 @@
 use Rattle.std.proofs.Common.{◌≡◌, ◌++◌, ℕ, List, drop, length}
-use Rattle.cfgx_c.specs.{Ends.{AreEndsFrom, parts, parts_from}, Reading.views}
-use Rattle.cfgx_c.proofs.reading.parts.Given as goal
+use Rattle.cfgx_c.specs.{Ends.{AreEndsFrom, parts, parts_from}, internal.Reading.views}
+use Rattle.cfgx_c.proofs.ends.parts.Given as goal
 
 -- the parts so far, and those that are left, are all the parts
 pub record Invariant (ends bytes left : List ℕ) (begin : ℕ) (found : List (List ℕ)) : Type 0 where

@@ -1,7 +1,0 @@
--- A step that is none makes the list that of no steps.
-use Rattle.cfgx_c.proofs.CSteps.{no_steps}
-use Rattle.cfgx_c.proofs.steps.steps_in.Goals as goal
-
-pub returns-in_default : goal.returns-in_default
-returns-in_default c = no_steps c.args.steps.now c.loop-step.step-index _ c.loop-step-test.true
-    c.in_default.ensures
