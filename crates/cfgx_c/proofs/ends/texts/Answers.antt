@@ -5,13 +5,13 @@ use Rattle.cfgx_c.specs.{Ends.parts, internal.Reading.views}
 use Rattle.cfgx_c.proofs.InputLemmas.{front-whole, not_all_utf8}
 use Rattle.cfgx_c.proofs.ends.texts.Goals as goal
 
-pub returns-then-len-len : goal.returns-then-len-len
-returns-then-len-len c =
+pub returns-then-len : goal.returns-then-len
+returns-then-len c =
     let is = rw (c.as_slice.ensures.value, c.in_ok-parts.ensures) at c.in_ok-texts.ensures in
     not_all_utf8 (parts c.args.ends.now c.args.bytes.now) (views c.in_ok-texts.texts.items)
     (omega (
       arith,
-      c.if-len-len.true,
+      c.if-len.true,
       c.len.ensures,
       c.len-2.ensures,
       c.in_ok-texts.texts.ok.0,
@@ -27,7 +27,7 @@ returns c =
     let whole = front-whole (parts c.args.ends.now c.args.bytes.now)
     (views c.in_ok-texts.texts.items) (omega (
       arith,
-      c.if-len-len.false,
+      c.if-len.false,
       c.len.ensures,
       c.len-2.ensures,
       c.in_ok-texts.texts.ok.0,
