@@ -248,19 +248,25 @@ FailsFor-texts texts facts error.Memory fails = tt
 pub RefusesFor-from : (text answers : List ℕ) (failed : ReadError) → FailsForText 0 text failed
     → RefusesFor text answers (status_of failed)
 RefusesFor-from text answers (error.Faulty number) fails = (
-  (λ is. fails.1, λ is. absurd (omega (arith, is)), λ other. fails.1.0),
+  (λ is. fails.1, (λ is. absurd (omega (arith, is)), λ other. fails.1.0)),
   λ is. absurd (omega (arith, is)),
+  search rules,
+  search rules,
   search rules,
 )
 RefusesFor-from text answers (error.NotUtf8 number) fails = (
-  (λ is. absurd (omega (arith, is)), λ is. fails.1, λ other. absurd (other refl)),
+  (λ is. absurd (omega (arith, is)), (λ is. fails.1, λ other. absurd (other refl))),
   λ is. absurd (omega (arith, is)),
+  search rules,
+  search rules,
   search rules,
 )
 RefusesFor-from text answers (error.FaultyFact number) fails = absurd fails
 RefusesFor-from text answers error.Memory fails = (
-  (λ is. absurd (omega (arith, is)), λ is. absurd (omega (arith, is)), λ other. fails),
+  (λ is. absurd (omega (arith, is)), (λ is. absurd (omega (arith, is)), λ other. fails)),
   λ is. absurd (omega (arith, is)),
+  search rules,
+  search rules,
   search rules,
 )
 

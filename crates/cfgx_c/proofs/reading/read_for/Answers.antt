@@ -18,7 +18,9 @@ returns-then-left-answers-clause-err c =
       λ same.
           omega (arith, c.if-left-answers.true, c.left.ensures, ap length asks.1, same),
     ) in (
-      (λ is. absurd (omega (arith, is)), λ is. absurd (omega (arith, is)), λ is. read.1.0),
+      (λ is. absurd (omega (arith, is)), (λ is. absurd (omega (arith, is)), λ is. read.1.0)),
       λ is. other,
+      search rules,
+      search rules,
       search rules,
     )
