@@ -4,8 +4,8 @@ use cfg_expr::{Expression, Predicate};
 use cfgx_engine::resolve::{Facts, Otherwise};
 use std::alloc::Global;
 
-/// Returns the value for a build. `rustc --print cfg` prints `lines` for its target, and `flags` name
-/// what else is true, such as features, or unknown.
+/// Returns the value for a build. `lines` are those that `rustc --print cfg` prints for its target.
+/// `flags` name what else is true, such as features, and what is unknown.
 pub fn value_for_build(
     alloc: Global,
     condition: &Expression,
