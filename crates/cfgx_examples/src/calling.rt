@@ -1,74 +1,54 @@
 //! The examples of `README.md`, `docs/CALLING.md` and `docs/MANIFESTS.md`. Each block of Rust on
 //! these pages stands in one of these files, and `.ci/pages` compares them.
 pub mod adapters;
+pub mod answering;
+pub mod auditing;
 mod boards;
 pub mod closures;
 pub mod comparing;
 pub mod comparing_conditions;
 mod compiled;
-pub mod features;
+pub mod counting;
 pub mod fillings;
 pub mod first;
-pub mod lexing;
-pub mod literals;
 pub mod logic;
 pub mod manifests;
 pub mod many;
 pub mod matcher;
-pub mod names;
 pub mod others;
 pub mod program;
-pub mod refusals;
 pub mod resolver;
 pub mod rows;
 pub mod running;
+pub mod stepping;
 pub mod streams;
 mod surface;
-pub mod tables;
-pub mod targets;
-pub mod unknown;
 
 use adapters::{asks_for_tests, first_flag};
-use boards::{BARE, LINUX, verdicts_of_both_are};
+use answering::value_for_build;
+use auditing::true_somewhere;
+use boards::{BARE, verdicts_of_both_are};
 use cfg_expr::error::Failure;
 use cfg_expr::{Expression, Predicate};
+use cfgx_engine::resolve::Facts;
 use cfgx_testing::answers::{eval_over_answers, lanes_match_digits};
 use cfgx_testing::checking::is_ok_true;
 use cfgx_testing::targets::builtin_rows;
 use cfgx_testing::triples::{DARWIN, IOS, SIM};
-use closures::{count_asked, if_all_true, with_features};
+use closures::if_all_true;
 use compiled::{value_on_linux, values_are};
 use fillings::decision_over;
-use literals::value_of_literals;
 use logic::Cost;
 use manifests::{ORDER, PREDICATES, SECTIONS, VERDICTS};
-use names::is_linux;
+use many::decided_on;
 use resolver::value_for;
 use std::alloc::{AllocError, Global};
-use std::slice::from_ref;
-use tables::table_of;
-use targets::value_on;
-use unknown::outside_tests;
+use stepping::first_true;
 
-/// A row names an example, or a target for the example with targets. The next fields are a text,
-/// and what the returned value prints. For `rows` the last field has the lanes as digits, and for
-/// `logic` the cost.
+/// A row names an example. The next fields are a text, and what the returned value prints. For
+/// `rows` the last field has the lanes as digits, and for `logic` the cost.
 pub const ANSWERS: &str = r#"
-// Names, tokens and features.
-names | linux | true
-names | Linux | false
-lexing | key = "v"\u{20} | 9
-features | all(feature = "a", any(feature = "b"), unix) | 2
-// Known answers and literals decide.
-unknown | any(unix, not(test)) | Some(true)
-unknown | any(unix, test) | None
-literals | any(unix, true) | Some(true)
-literals | all(unix, not(true)) | Some(false)
-literals | all(unix, true) | None
-// A condition has a value on each target, which is a lane if they are rows.
-aarch64-apple-ios | all(unix, not(target_abi = "sim")) | Some(true)
-aarch64-apple-ios-sim | all(unix, not(target_abi = "sim")) | Some(false)
-nowhere | all(unix, not(target_abi = "sim")) | None
+// The value on each row is a lane.
 rows | not(unix) | 00?
 rows | target_os = "macos" | 10?
 // Fillings show that a value is unknown. There is no decision over another number of answers.
@@ -80,8 +60,18 @@ asks_for_tests | any(a, not(test)) | true
 asks_for_tests | any(a, tests) | false
 first_flag | all(a, not(b), test) | b
 if_all_true | all(feature = "a", not(test)) | false
-with_features | all(feature = "a", not(test)) | true
-count_asked | all(feature = "a", not(test)) | 2
+// A build has the answers of a compiler and of flags. Its flags are `feature = "x"`, `?loom` and
+// `windows`, which the lines of the compiler say is false.
+answering | all(unix, target_os = "linux", feature = "x") | Some(true)
+answering | any(windows, target_os = "none", test, feature = "y") | Some(false)
+answering | all(unix, loom) | None
+// Conditions that are true on one of two targets. Semicolons separate the conditions.
+auditing | unix;x;all(unix, x);not(windows);any() | ["unix", "x", "not(windows)"]
+// The first of three lists of answers over which a condition is true. The predicate below `not`
+// is asked first.
+stepping | all(a, not(b), c) | Some(1)
+stepping | any(a, b, not(c)) | Some(0)
+stepping | all(not(a), not(b), not(c)) | None
 // Costs are joined. A board meets predicates.
 logic | all(a, not(test)) | 7
 logic | any(a, test) | 3
@@ -112,11 +102,9 @@ sections | true | [Yes] [Yes]
 sections | any(a, true) | [Yes] [Yes]
 sections | all(a, false) | [No] [No]
 sections | any() | [No] [No]
-// The verdicts of both boards in a table.
-tables | target_os = "none" | [[Yes, No]]
-tables | all(target_os = "linux", feature = "x") | [[No, Unknown]]
-// The number of conditions that a board decides. Semicolons separate the conditions.
-many | target_os = "none";any(a, unix);all(a, b, not(test), c, unix);test;not(unix);true | 4
+// The conditions that a board decides. It meets no family. Semicolons separate the conditions.
+many | unix;any(a, unix);all(a, b, not(test), c, unix);test;true | ["unix", \
+"all(a, b, not(test), c, unix)", "true"]
 // The values on a target that is known by the lines of a compiler. Semicolons separate the
 // conditions. What is not on the target is unknown, unless a line names it.
 windows | all(windows, target_env = "msvc", target_vendor = "pc") | [Some(true)]
@@ -159,7 +147,6 @@ fn bool_is(alloc: Global, example: &str, condition: &Expression, wanted: &str) -
     let value = match example {
         "asks_for_tests" => Ok(asks_for_tests(condition)),
         "if_all_true" => if_all_true(alloc, condition),
-        "with_features" => with_features(alloc, condition, &["b", "a"]),
         "matcher" => value_for(alloc, condition, &BARE, &[]),
         "linux" => value_on_linux(alloc, condition),
         _ => return None,
@@ -167,17 +154,22 @@ fn bool_is(alloc: Global, example: &str, condition: &Expression, wanted: &str) -
     Some(value_prints(alloc, value, wanted))
 }
 
-// Returns whether an example that returns an `Option<bool>` returns `wanted`, or `None` if no such
-// example has this name.
-fn option_is(alloc: Global, example: &str, condition: &Expression, wanted: &str) -> Option<bool> {
-    let value = match example {
-        "unknown" => outside_tests(alloc, condition),
-        "literals" => value_of_literals(alloc, condition),
-        IOS | SIM | "nowhere" => value_on(alloc, condition, example),
-        _ => return None,
-    };
-    Some(value_prints(alloc, value, wanted))
-}
+/// Lines as a compiler prints them. No condition can ask the third one.
+const LINES: &[&str] = &[
+    "panic=\"unwind\"",
+    "target_os=\"linux\"",
+    "target_thread_local",
+    "unix",
+];
+
+const FLAGS: &[&str] = &["feature = \"x\"", "?loom", "windows"];
+
+/// Answers for `stepping`.
+const LISTS: &[&[bool]] = &[
+    &[true, true, true],
+    &[false, true, true],
+    &[true, false, true],
+];
 
 fn first_flag_is(condition: &Expression, name: &str) -> bool {
     let found = first_flag(condition);
@@ -211,22 +203,17 @@ fn lanes_match(alloc: Global, condition: &Expression, digits: &str) -> Result<bo
 // has this name.
 fn value_is(alloc: Global, example: &str, condition: &Expression, wanted: &str) -> Option<bool> {
     Some(match example {
+        "answering" => {
+            let value = value_for_build(alloc, condition, LINES, FLAGS);
+            value_prints(alloc, value, wanted)
+        }
         "first_flag" => first_flag_is(condition, wanted),
-        "count_asked" => value_prints(alloc, count_asked(alloc, condition), wanted),
         "logic" => cost_is(alloc, condition, wanted),
         "rows" => is_ok_true(lanes_match(alloc, condition, wanted)),
-        "tables" => value_prints(
-            alloc,
-            table_of(alloc, from_ref(condition), &[BARE, LINUX]),
-            wanted,
-        ),
+        "stepping" => value_prints(alloc, first_true(alloc, condition, LISTS), wanted),
         "two answers" => value_prints(alloc, decision_over(alloc, condition, &[None; 2]), wanted),
         "one answer" => value_prints(alloc, decision_over(alloc, condition, &[None]), wanted),
-        _ => {
-            return bool_is(alloc, example, condition, wanted).or(option_is(
-                alloc, example, condition, wanted,
-            ));
-        }
+        _ => return bool_is(alloc, example, condition, wanted),
     })
 }
 
@@ -237,24 +224,27 @@ fn value_of_text_is(alloc: Global, example: &str, text: &str, wanted: &str) -> O
     }
 }
 
-fn is_name_of_linux(alloc: Global, text: &str) -> Result<bool, AllocError> {
-    Ok(is_linux(String::from_str(alloc, text)?))
+// Returns the conditions that a board decides. Semicolons separate the conditions.
+fn decided_conditions<'a>(alloc: Global, conditions: &'a str) -> Result<Vec<&'a str>, Failure> {
+    let texts: Vec<&str> = conditions.split(';').collect(alloc)?;
+    decided_on(alloc, texts.as_slice(), &BARE)
 }
 
-// Counts the conditions that a board decides. Semicolons separate the conditions.
-fn count_decided(alloc: Global, conditions: &str) -> Result<usize, Failure> {
+// Returns the conditions that are true on one of two targets. Semicolons separate the conditions.
+fn true_conditions<'a>(alloc: Global, conditions: &'a str) -> Result<Vec<&'a str>, Failure> {
     let texts: Vec<&str> = conditions.split(';').collect(alloc)?;
-    many::count_decided(alloc, texts.as_slice(), &BARE)
+    let mut targets = Vec::new(alloc);
+    targets.push(Facts::from_flags(alloc, &["unix"])?)?;
+    targets.push(Facts::from_flags(alloc, &["windows", "x"])?)?;
+    true_somewhere(alloc, texts.as_slice(), targets.as_slice())
 }
 
 // Returns whether an example returns `wanted`, or `None` if no example has this name.
 fn example_returns(alloc: Global, example: &str, text: &str, wanted: &str) -> Option<bool> {
     Some(match example {
-        "names" => value_prints(alloc, is_name_of_linux(alloc, text), wanted),
-        "lexing" => value_prints(alloc, lexing::end_of_tokens(alloc, text), wanted),
-        "features" => value_prints(alloc, features::count_features(alloc, text), wanted),
+        "auditing" => value_prints(alloc, true_conditions(alloc, text), wanted),
         "sections" => verdicts_of_both_are(alloc, text, wanted),
-        "many" => value_prints(alloc, count_decided(alloc, text), wanted),
+        "many" => value_prints(alloc, decided_conditions(alloc, text), wanted),
         "windows" => values_are(alloc, text, wanted),
         _ => return value_of_text_is(alloc, example, text, wanted),
     })
@@ -272,8 +262,7 @@ pub fn row_is_right(alloc: Global, row: &[String]) -> Option<bool> {
 }
 
 #[test]
-fn examples_print(rt: HostRuntime) {
-    assert!(rt; refusals::report(&rt, "all(a, b").is_ok());
+fn the_engine_runs(rt: HostRuntime) {
     assert!(rt; running::run_parse(&rt, "all(a, any(b), c)") == 0);
 }
 

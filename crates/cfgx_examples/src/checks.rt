@@ -13,7 +13,7 @@ use std::alloc::Global;
 
 /// The name of a check, its table, and the number of rows.
 const TABLES: &[TableToCheck<'static>] = &[
-    ("examples", ANSWERS, 64),
+    ("examples", ANSWERS, 55),
     ("verdicts on many targets", AUDITED, 6),
     ("values by facts", AUDITED_BY_FACTS, 9),
     ("values with flags", BY_FLAGS, 5),

@@ -1,19 +1,20 @@
 //! Callers of `Expression::eval`. What their contracts promise is proved by the contract of `eval`
 //! alone.
-ghost use Rattle.std.specs.Prelude.{◌≡◌, ◌+◌, ◌^◌, ◌*◌, ◌%◌, ◌-◌, length, min, IfOk};
+ghost use Rattle.std.specs.Prelude.{◌≡◌, ◌+◌, ◌^◌, ◌*◌, ◌%◌, IfOk};
 ghost use Rattle.cfg_expr.specs.Evaluation.{IsValueBy};
-ghost use Rattle.cfg_expr.specs.Words.{HasOneTree, asked, question_of};
+ghost use Rattle.cfg_expr.specs.Words.{question_of};
 ghost use Rattle.cfgx_examples.specs.Examples.{is_among, term_of};
 
 pub mod steps;
 pub mod terms;
 
+use crate::calling::counting::count_questions;
 use cfg_expr::expr::Logic;
 use cfg_expr::{Expression, Predicate};
 use cfgx_testing::answers::eval_over_answers;
 use cfgx_testing::checking::is_ok_true;
 use std::alloc::{AllocError, Global};
-use terms::Terms;
+use terms::Term;
 
 /// Returns whether a predicate is one of `flags`. A flag is a bare key without another meaning.
 fn is_among(flags: &[&str], predicate: &Predicate<'_>) -> bool
@@ -39,35 +40,21 @@ pub fn eval_with_flags(
 }
 
 /// Returns the term of a predicate: its name if it is a flag, and otherwise `?`.
-fn term_of(predicate: &Predicate<'_>) -> Terms
+fn term_of(predicate: &Predicate<'_>) -> Term
     ensures { result ≡ term_of (question_of predicate.now) }
 {
     match predicate {
-        Predicate::Flag(name) => Terms::new(name.as_bytes()),
-        _ => Terms::new(b"?"),
+        Predicate::Flag(name) => Term::new(name.as_bytes()),
+        _ => Term::new(b"?"),
     }
 }
 
 /// Returns the value of `expression` in the logic of terms, where each predicate has the value
 /// `term_of(predicate)`. For `all(a, b)` this is `((T&b)&a)`.
-pub fn joined_terms(alloc: Global, expression: &Expression) -> Result<Terms, AllocError>
-    ensures { IfOk result (IsValueBy ⟦<Terms as Logic>⟧ expression.now term_of) }
+pub fn joined_terms(alloc: Global, expression: &Expression) -> Result<Term, AllocError>
+    ensures { IfOk result (IsValueBy ⟦<Term as Logic>⟧ expression.now term_of) }
 {
     expression.eval(alloc, &mut |predicate: &Predicate<'_>| term_of(predicate))
-}
-
-/// Counts the questions that the evaluation of a condition asks.
-pub fn count_questions(alloc: Global, expression: &Expression) -> Result<usize, AllocError>
-    ensures { IfOk result (λ count. (one : HasOneTree expression.now)
-        × (count ≡ min (length (asked one.tree)) (2 ^ 64 - 1))) }
-{
-    let mut count = 0usize;
-    let mut answer = |_predicate: &Predicate<'_>| {
-        count = count.saturating_add(1);
-        true
-    };
-    let _value: bool = expression.eval(alloc, &mut answer)?;
-    Ok(count)
 }
 
 /// A logic without laws: `a.and(b)` is `3 * a + b`, and both `a.or(b)` and `a.not()` are `a`. All
@@ -147,7 +134,7 @@ all() | 0 | T | T
 
 // Returns the term that has each name followed by the number of its question. Also returns the
 // number of questions. No text here asks more than nine.
-fn numbered_term(alloc: Global, expression: &Expression) -> Result<(Terms, usize), AllocError> {
+fn numbered_term(alloc: Global, expression: &Expression) -> Result<(Term, usize), AllocError> {
     let mut count = 0u8;
     let mut answer = |predicate: &Predicate<'_>| {
         count = count.saturating_add(1);

@@ -10,32 +10,32 @@ const ROOM: usize = 64;
 
 /// A term: `T`, `F`, `(x&y)`, `(x|y)`, `!x`, or the bytes of a caller. Contracts see its bytes.
 #[derive(Debug, Drop)]
-pub struct Terms {
+pub struct Term {
     bytes: [u8; ROOM],
     length: usize,
 }
 
-impl Model for Terms {
+impl Model for Term {
     ghost use Rattle.std.specs.Prelude.{List, ℕ, ◌≤◌, take};
 
     ghost Value = { List ℕ };
 
-    ghost view = { λ terms. take terms.length terms.bytes };
+    ghost view = { λ term. take term.length term.bytes };
 
-    ghost invariant = { λ terms. terms.length ≤ 64 };
+    ghost invariant = { λ term. term.length ≤ 64 };
 }
 
-impl Terms {
+impl Term {
     /// Returns the term of `bytes`.
-    pub fn new(bytes: &[u8]) -> Terms
+    pub fn new(bytes: &[u8]) -> Term
         ensures { result ≡ cut bytes.now }
     {
-        let mut terms = Terms {
+        let mut term = Term {
             bytes: [0; ROOM],
             length: 0,
         };
-        terms.append(bytes);
-        terms
+        term.append(bytes);
+        term
     }
 
     /// Returns the bytes of the term.
@@ -66,19 +66,19 @@ impl Terms {
     }
 
     /// Returns both terms in parentheses, with `sign` between them.
-    fn join(&self, sign: u8, other: &Terms) -> Terms
+    fn join(&self, sign: u8, other: &Term) -> Term
         ensures { result ≡ in_parens sign self.now other.now }
     {
-        let mut terms = Terms::new(b"(");
-        terms.append(self.as_bytes());
-        terms.push(sign);
-        terms.append(other.as_bytes());
-        terms.push(b')');
-        terms
+        let mut term = Term::new(b"(");
+        term.append(self.as_bytes());
+        term.push(sign);
+        term.append(other.as_bytes());
+        term.push(b')');
+        term
     }
 }
 
-impl Logic for Terms {
+impl Logic for Term {
     ghost use Rattle.std.proofs.Common.{lit≤};
 
     ghost top = { codes "T" };
@@ -93,25 +93,25 @@ impl Logic for Terms {
 
     ghost small = { (lit≤ tt, lit≤ tt) };
 
-    fn top() -> Terms {
-        Terms::new(b"T")
+    fn top() -> Term {
+        Term::new(b"T")
     }
 
-    fn bottom() -> Terms {
-        Terms::new(b"F")
+    fn bottom() -> Term {
+        Term::new(b"F")
     }
 
-    fn and(self, other: Terms) -> Terms {
+    fn and(self, other: Term) -> Term {
         self.join(b'&', &other)
     }
 
-    fn or(self, other: Terms) -> Terms {
+    fn or(self, other: Term) -> Term {
         self.join(b'|', &other)
     }
 
-    fn not(self) -> Terms {
-        let mut terms = Terms::new(b"!");
-        terms.append(self.as_bytes());
-        terms
+    fn not(self) -> Term {
+        let mut term = Term::new(b"!");
+        term.append(self.as_bytes());
+        term
     }
 }

@@ -1,6 +1,6 @@
 use Rattle.std.proofs.{Common.{◌≡◌, ◌++◌, ◌∙◌, ap, sym, subst}, lemmas.List.{append-nil, take_more}}
 use Rattle.cfgx_examples.{specs.Terms.cut, proofs.Written.cut-short, proofs.Written.cut-next}
-use Rattle.cfgx_examples.proofs.evaluating.terms.Terms.append.Goals as goal
+use Rattle.cfgx_examples.proofs.evaluating.terms.Term.append.Goals as goal
 
 pub loop-byte-init : goal.loop-byte-init
 loop-byte-init c =

@@ -1,7 +1,7 @@
 -- Each call of the closure adds one to its first capture.
 use Rattle.std.proofs.Common.{refl, rules}
 use Rattle.cfg_expr.proofs.Chains.{Evaluates-count}
-use Rattle.cfgx_examples.proofs.evaluating.count_questions.Goals as goal
+use Rattle.cfgx_examples.proofs.calling.counting.count_questions.Goals as goal
 
 pub returns : goal.returns
 returns c =

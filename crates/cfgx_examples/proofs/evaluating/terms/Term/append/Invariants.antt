@@ -1,6 +1,6 @@
 use Rattle.std.proofs.Common.{◌≡◌, ◌++◌, take}
 use Rattle.cfgx_examples.specs.Terms.{cut}
-use Rattle.cfgx_examples.proofs.evaluating.terms.Terms.append.Given as goal
+use Rattle.cfgx_examples.proofs.evaluating.terms.Term.append.Given as goal
 
 -- the bytes before this one are written
 abbrev pub invariant-loop-byte : goal.invariant-loop-byte

@@ -1,6 +1,6 @@
 use Rattle.std.proofs.Common.{◌≡◌, arith, sym}
 use Rattle.cfgx_examples.proofs.Written.{cut-pushed, cut-full}
-use Rattle.cfgx_examples.proofs.evaluating.terms.Terms.push.Goals as goal
+use Rattle.cfgx_examples.proofs.evaluating.terms.Term.push.Goals as goal
 
 pub returns-then-self-lt-ROOM : goal.returns-then-self-lt-ROOM
 returns-then-self-lt-ROOM c =
