@@ -1,4 +1,5 @@
-//! Callers of `Expression::eval`. Each is proved by the contract of `eval` alone.
+//! Callers of `Expression::eval`. What their contracts promise is proved by the contract of `eval`
+//! alone.
 ghost use Rattle.std.specs.Prelude.{◌≡◌, ◌+◌, ◌^◌, ◌*◌, ◌%◌, ◌-◌, length, min, IfOk};
 ghost use Rattle.cfg_expr.specs.Evaluation.{IsValueBy};
 ghost use Rattle.cfg_expr.specs.Words.{HasOneTree, asked, question_of};
@@ -126,8 +127,8 @@ fn eval_with_flags_of_row(alloc: Global, expression: &Expression, flags: &str) -
 }
 
 /// A row is a text, the number of its questions, and two terms. The first term has the names of the
-/// predicates. The second has each name followed by the number of its question. The last member
-/// that is asked is joined first.
+/// predicates. The second has each name followed by the number of its question. The members are
+/// joined from the last to the first, those that are functions after the others.
 pub const TERMS: &str = r#"
 all(a, any(b), c) | 3 | (((T&c)&a)&(F|b)) | (((T&c3)&a2)&(F|b1))
 not(any(x)) | 1 | !(F|x) | !(F|x1)

@@ -18,10 +18,9 @@ const TABLES: &[TableToCheck<'static>] = &[
     ("lanes of members", MEMBERS, 1),
 ];
 
-// Returns whether the row passes the check with the name `table`, or `None` if there is no such
-// check.
-fn row_passes(alloc: Global, table: &str, row: &[String]) -> Option<bool> {
-    match table {
+// Returns whether the row passes the check with this name, or `None` if there is no such check.
+fn row_passes(alloc: Global, name: &str, row: &[String]) -> Option<bool> {
+    match name {
         "fault" => Some(has_fault(alloc, row)),
         "predicates" => Some(has_predicates(alloc, row)),
         "read" => Some(reads_texts(alloc, row)),
@@ -37,5 +36,5 @@ fn row_passes(alloc: Global, table: &str, row: &[String]) -> Option<bool> {
 #[test]
 fn rows_of_long_texts_pass(rt: HostRuntime) -> Result<(), String> {
     let alloc = rt.alloc();
-    check_tables(alloc, TABLES, |table, row| row_passes(alloc, table, row))
+    check_tables(alloc, TABLES, |name, row| row_passes(alloc, name, row))
 }

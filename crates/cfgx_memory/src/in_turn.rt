@@ -105,10 +105,9 @@ const TABLES: &[TableToCheck<'_>] = &[
     ("growths of a reader", reading::READ, 8),
 ];
 
-// Returns whether the row passes the check with the name `table`, or `None` if there is no such
-// check.
-fn row_passes(global: Global, table: &str, row: &[String]) -> Option<bool> {
-    match table {
+// Returns whether the row passes the check with this name, or `None` if there is no such check.
+fn row_passes(global: Global, name: &str, row: &[String]) -> Option<bool> {
+    match name {
         "each growth of a call on a text" => Some(texts::row_passes(global, row)),
         "each growth of each run" => Some(runs::row_passes(global, row)),
         "each growth of each other call" => Some(calls::row_passes(global, row)),
@@ -121,5 +120,5 @@ fn row_passes(global: Global, table: &str, row: &[String]) -> Option<bool> {
 #[test]
 fn each_growth_is_refused(rt: HostRuntime) -> Result<(), String> {
     let global = rt.alloc();
-    check_tables(global, TABLES, |table, row| row_passes(global, table, row))
+    check_tables(global, TABLES, |name, row| row_passes(global, name, row))
 }

@@ -1,8 +1,8 @@
 //! Tables of rows as text, one row per line, and the findings of their checks.
 //!
-//! Empty lines and lines that begin with `// ` or `# ` are skipped, unless they continue a row. A
-//! backslash at the end of a line continues the row on the next line. ` | ` separates the fields of
-//! a row.
+//! A backslash at the end of a line continues the row on the next line. Empty lines and lines that
+//! begin with `// ` or `# ` are skipped, unless they continue a row that has text so far. ` | `
+//! separates the fields of a row.
 //!
 //! In a field, `\n`, `\t`, `\r`, `\0` and `\\` are the escapes of Rust, `\u{a0}` is the character
 //! U+00A0, and `\e` is the empty text. `~piece~3~` is three copies of `piece`. A field that is
@@ -87,8 +87,8 @@ fn push_parts(text: &mut String, mut parts: Split<'_, char>) -> Option<()> {
     Some(())
 }
 
-// Returns `field` with each `~piece~3~` replaced by the copies of `piece`. Returns `None` if a
-// number of copies is missing or not a number, or if memory runs out.
+// Returns `field` with each `~piece~3~` replaced by the copies of `piece`. Returns `None` if the
+// number of copies or the `~` after it is missing, if the number is none, or if memory runs out.
 fn expanded(alloc: Global, field: &str) -> Option<String> {
     let mut parts = field.split('~');
     let mut text = String::from_str(alloc, parts.next()?).ok()?;
@@ -118,8 +118,8 @@ pub fn fields_of(alloc: Global, row: &str) -> Option<Vec<String>> {
     Some(fields)
 }
 
-// Pushes `line`, without a backslash at its end, to `row`. If there is no such backslash, moves
-// `row` to `rows`.
+// Pushes `line` to `row`, and leaves out a backslash at its end. If `line` does not end with one,
+// the row is complete, and is moved to `rows`.
 fn push_line(
     alloc: Global,
     rows: &mut Vec<String>,

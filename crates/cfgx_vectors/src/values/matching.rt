@@ -1,6 +1,7 @@
-//! Compares the values of conditions on targets with digits. The values are found by `eval`, in
-//! lanes, and by `pick`. The digit `1` is true, `0` is false, and `?`, which counts as a digit
-//! here, is unknown.
+//! Evaluates conditions on targets, and compares the values with given digits: `1` is true, `0` is
+//! false, and `?`, which counts as a digit here, is unknown. `eval` finds the value on one target
+//! at a time, and in lanes the values on all targets at once. `pick` finds those on the built-in
+//! targets.
 use cfg_expr::error::Failure;
 use cfg_expr::expr::logic::Kleene64;
 use cfg_expr::expr::{Predicates, TargetMatcher};
