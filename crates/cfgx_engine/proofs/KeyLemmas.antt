@@ -1,12 +1,12 @@
 -- Texts that are a key, or a key, `=` and a value, and what is at fault in them.
-use Rattle.std.proofs.Common.{◌≡◌, ◌↔◌, ◌⊎◌, inl, inr, ⊎_elim, ℕ, ◌+◌, ◌-◌, ◌<◌, Bool}
+use Rattle.std.proofs.Common.{◌≡◌, ◌↔◌, ◌⊎◌, inl, inr, ⊎_elim, ℕ, ◌+◌, ◌-◌, ◌<◌}
 use Rattle.std.proofs.Common.{List, [], ◌∷◌}
 use Rattle.std.proofs.Common.{map, refl, sym, ap, ◌∙◌, Option, Some, None, Result, Ok, Err, take}
 use Rattle.std.proofs.Common.{arith, rules}
 use Rattle.std.specs.{List.AllByRecursion, Option.option_or}
 use Rattle.cfgx_syntax.specs.{Error.Cause, Error.Fault, Error.TextFault, Error.fault_in}
 use Rattle.cfgx_syntax.specs.Token.{Token}
-use Rattle.cfgx_syntax.specs.Items.{AreItems, Ending, HasOneTokenList, Item, ItemsFrom, lexical}
+use Rattle.cfgx_syntax.specs.Items.{AreItems, Ending, HasOneTokenList, Item, lexical}
 use Rattle.cfgx_syntax.specs.{Lexer.GivesNext, Lexer.item_of, LexerState.LexerState}
 use Rattle.cfgx_syntax.specs.LexerState.{starting}
 use Rattle.cfgx_syntax.specs.{declared.error.Failure.Failure, declared.lexer.LexerToken.LexerToken}

@@ -1,6 +1,7 @@
 pub mod AuditLemmas
 pub mod FactLemmas
 pub mod KeyLemmas
+pub mod KindLemmas
 pub mod LaneAnswers
 pub mod OneOutput
 pub mod OutputLemmas

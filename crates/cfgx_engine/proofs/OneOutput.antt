@@ -1,6 +1,6 @@
 -- A request has at most one output, whose status is not that of a refused run. It has one if its
 -- words are UTF-8.
-use Rattle.std.proofs.Common.{◌≡◌, ℕ, ◌<◌, ◌+◌, ◌-◌, Bool, true, false, List, [], ◌∷◌, ◌++◌}
+use Rattle.std.proofs.Common.{◌≡◌, ℕ, ◌<◌, ◌+◌, ◌-◌, Bool, true, List, [], ◌∷◌, ◌++◌}
 use Rattle.std.proofs.Common.{Option, Some, None, Result, Ok, Err, MatchOption, ◌⊎◌, inl}
 use Rattle.std.proofs.Common.{◌≤◌, inr, ⊎_elim, refl, ap, sym, ◌∙◌, subst, arith, rules, map, take}
 use Rattle.std.proofs.Common.{length, drop, get_or, zero, suc, take_at, codes, bytes_eq}

@@ -1,9 +1,9 @@
 -- The verdict of a value.
-use Rattle.std.proofs.Common.{◌≡◌, ◌++◌, ◌∙◌, ℕ, Bool, true, false, List, [], ◌∷◌, Option, map}
+use Rattle.std.proofs.Common.{◌≡◌, ◌∙◌, ℕ, Bool, true, false, List, [], Option, map}
 use Rattle.std.proofs.Common.{ap, arith, sym}
 use Rattle.std.specs.List.{AllZip}
 use Rattle.std.proofs.{lemmas.List.length-map, lemmas.Slice.Zip.AllZip-map}
-use Rattle.cfgx_grammar.specs.{Question.Question, Question.TargetQuestion, Tree.asked}
+use Rattle.cfgx_grammar.specs.{Question.TargetQuestion, Tree.asked}
 use Rattle.cfgx_grammar.specs.{Filling.three_valued, Fold.tree_fold}
 use Rattle.cfgx_grammar.proofs.Exactness.{IsExact-fold}
 use Rattle.cfg_expr.specs.Evaluation.{IsValueBy}

@@ -12,6 +12,7 @@ ghost use Rattle.cfgx_engine.specs.Verdicts.{answer_by, IsVerdict};
 mod auditing;
 mod by_facts;
 mod facts;
+mod kinds;
 
 use auditing::{ByMatching, push_values};
 pub use by_facts::{AuditError, audit_facts};

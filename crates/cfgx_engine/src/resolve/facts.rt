@@ -1,5 +1,5 @@
 //! Facts of a target, and what they answer to predicates.
-ghost use Rattle.std.specs.Prelude.{◌≡◌, ◌↔◌, Err, IfErr, IsTrue, OnOk};
+ghost use Rattle.std.specs.Prelude.{◌≡◌, ◌↔◌, Err, IfErr, IfOk, IsTrue, OnOk, false};
 ghost use Rattle.cfgx_syntax.specs.Lexer.{item_of};
 ghost use Rattle.cfgx_syntax.specs.Stripping.{strip};
 ghost use Rattle.cfgx_parser.specs.Predicate.{question_of};
@@ -7,12 +7,14 @@ ghost use Rattle.cfgx_engine.specs.Facts.{IsAnswer, IsFlag, IsNamed, IsRustcFact
 ghost use Rattle.cfgx_engine.specs.Facts.{ReadsFacts, fact_text, unnamed_answer};
 ghost use Rattle.cfgx_engine.specs.internal.KeysAndValues.{AreLast, IsKey, IsKeyAt, TakesNext};
 ghost use Rattle.cfgx_engine.specs.internal.KeysAndValues.{kind_of};
+ghost use Rattle.cfgx_engine.specs.internal.Kinds.{LacksKind, kind_of_question};
 ghost use Rattle.cfgx_engine.specs.internal.ReadsFacts.{AddsFact, PushesText, ReadsText, accepts};
 ghost use Rattle.cfgx_engine.specs.internal.ReadsFacts.{error_at, passes_over};
 ghost use Rattle.cfgx_engine.specs.internal.Shows.{Fails};
 ghost use Rattle.cfgx_engine.specs.Readings.{ParsesAs};
 ghost use Rattle.cfgx_engine.specs.Request.{texts};
 
+use super::kinds::Kind;
 use cfg_expr::error::{Failure, ParseError};
 use cfg_expr::expr::lexer::{Lexer, LexerToken, Token};
 use cfg_expr::memory::SmallAllocator;
@@ -83,6 +85,8 @@ enum Unaskable {
 #[derive_where(Debug)]
 struct Fact<A: SmallAllocator> {
     condition: Expression<A>,
+    /// The kind of its predicate, or `None` if it has none or several
+    kind: Option<Kind>,
 }
 
 // A derived `Drop` drops the fields for any `A: Allocator`, and an `Expression` may be dropped only
@@ -92,16 +96,20 @@ impl<A: SmallAllocator> Drop for Fact<A> {
     fn drop(self) {
         let Fact {
             condition: _condition,
+            kind: _,
         } = self;
     }
 }
 
 impl<A: SmallAllocator> Model for Fact<A> {
     ghost use Rattle.std.specs.Prelude.{List, ℕ};
+    ghost use Rattle.cfgx_engine.specs.internal.Kinds.{TellsKind};
 
     ghost Value = { List ℕ };
 
     ghost view = { λ fact. fact.condition };
+
+    ghost invariant = { λ fact. TellsKind fact.condition fact.kind };
 }
 
 impl<A: SmallAllocator> Fact<A> {
@@ -110,11 +118,14 @@ impl<A: SmallAllocator> Fact<A> {
         ensures { ReadsText unaskable text.now result }
     {
         match Expression::parse(alloc, text) {
-            Ok(condition) => Ok(Some(Fact { condition })),
+            Ok(condition) => {
+                let kind = Kind::of_only(&condition);
+                Ok(Some(Fact { condition, kind }))
+            }
             Err(Failure::Parse(error)) => match unaskable {
                 Unaskable::Faulty => Err(Failure::Parse(error)),
                 Unaskable::PassedOver => {
-                    if is_key_at(alloc, text, error.span.start) {
+                    if is_key_at(alloc, text, error.span.start)? {
                         Ok(None)
                     } else {
                         Err(Failure::Parse(error))
@@ -125,8 +136,30 @@ impl<A: SmallAllocator> Fact<A> {
         }
     }
 
-    /// Whether this fact names `predicate`.
-    fn names(&self, predicate: &Predicate<'_>) -> bool
+    /// Whether this fact may name a predicate of this kind. A fact with one predicate names none of
+    /// another kind.
+    #[inline(always)]
+    fn may_name(&self, kind: Kind) -> bool
+        ensures { result ≡ false → LacksKind self.now kind }
+    {
+        match self.kind {
+            Some(own) => own == kind,
+            None => true,
+        }
+    }
+
+    /// Whether this fact names `predicate`, whose kind is `kind`. Most facts have another kind, and
+    /// their predicates are not compared.
+    #[inline(always)]
+    fn names(&self, predicate: &Predicate<'_>, kind: Kind) -> bool
+        requires { kind ≡ kind_of_question (question_of predicate.now) }
+        ensures { IsTrue result ↔ Names self.now (question_of predicate.now) }
+    {
+        self.may_name(kind) && self.has(predicate)
+    }
+
+    /// Whether one of the predicates of this fact is `predicate`.
+    fn has(&self, predicate: &Predicate<'_>) -> bool
         ensures { IsTrue result ↔ Names self.now (question_of predicate.now) }
     {
         for named in self.condition.predicates() {
@@ -263,7 +296,7 @@ enum Next {
     Value,
     /// Nothing: only white space is left
     End,
-    /// Another token, or a failure
+    /// Another token, or none: what is left has a fault
     Other,
 }
 
@@ -281,26 +314,31 @@ fn kind_of(found: &LexerToken<'_>) -> Next
 }
 
 /// Takes the next token, and returns what it is.
-fn take_next<A: SmallAllocator>(lexer: &mut Lexer<'_, A>) -> Next
-    ensures { TakesNext lexer.old result lexer.new }
+fn take_next<A: SmallAllocator>(lexer: &mut Lexer<'_, A>) -> Result<Next, AllocError>
+    ensures { IfOk result (λ next. TakesNext lexer.old next lexer.new) }
 {
     match lexer.next() {
-        Some(Ok(found)) => kind_of(&found),
-        Some(Err(_)) => Next::Other,
-        None => Next::End,
+        Some(Ok(found)) => Ok(kind_of(&found)),
+        Some(Err(Failure::Parse(_))) => Ok(Next::Other),
+        Some(Err(Failure::Memory(error))) => Err(error),
+        None => Ok(Next::End),
     }
 }
 
 /// Whether the stripped text is a key, or a key, `=` and a value, and the key starts at `place`.
-fn is_key_at<A: SmallAllocator>(alloc: A, text: &str, place: usize) -> bool
-    ensures { IsTrue result ↔ IsKeyAt (strip text.now) place }
+fn is_key_at<A: SmallAllocator>(alloc: A, text: &str, place: usize) -> Result<bool, AllocError>
+    ensures { IfOk result (λ is. IsTrue is ↔ IsKeyAt (strip text.now) place) }
 {
     let mut lexer = Lexer::new(alloc, text);
-    let first = take_next(&mut lexer);
-    let second = take_next(&mut lexer);
-    let third = take_next(&mut lexer);
-    let fourth = take_next(&mut lexer);
-    is_key(first, place) && are_last(second, third, fourth)
+    let first = take_next(&mut lexer)?;
+    let second = take_next(&mut lexer)?;
+    let third = take_next(&mut lexer)?;
+    let fourth = take_next(&mut lexer)?;
+    if is_key(first, place) {
+        Ok(are_last(second, third, fourth))
+    } else {
+        Ok(false)
+    }
 }
 
 /// Whether `first` is a key that starts at `place`.
@@ -322,7 +360,7 @@ fn are_last(second: Next, third: Next, fourth: Next) -> bool
 }
 
 /// Whether `named` and `asked` are the same predicate. `named` is dropped here: if the loop of
-/// `Fact::names` dropped it, the proof of the loop would have a case for each kind of predicate.
+/// `Fact::has` dropped it, the proof of the loop would have a case for each kind of predicate.
 fn is_same(named: Predicate<'_>, asked: &Predicate<'_>) -> bool
     ensures { IsTrue result ↔ (question_of named.entry ≡ question_of asked.now) }
 {
@@ -334,8 +372,9 @@ fn is_same(named: Predicate<'_>, asked: &Predicate<'_>) -> bool
 fn is_named<A: SmallAllocator>(facts: &[Fact<A>], predicate: &Predicate<'_>) -> bool
     ensures { IsTrue result ↔ IsNamed facts.now (question_of predicate.now) }
 {
+    let kind = Kind::of(predicate);
     for fact in facts {
-        if fact.names(predicate) {
+        if fact.names(predicate, kind) {
             return true;
         }
     }

@@ -1,4 +1,4 @@
-//! The program with which `README.md` begins.
+//! The program of `README.md`.
 use cfg_expr::{Expression, Predicate};
 use std::io;
 

@@ -8,11 +8,11 @@ returns-in-Some-Ok g c =
     rw c.kind_of.ensures (takes_next {A = g.row.A.Denot} c.args.lexer.now c.next.new.self
     (Some (Ok c.in-Some-Ok.found)) gives)
 
-pub returns-in-Some-Err : goal.returns-in-Some-Err
-returns-in-Some-Err g c =
-    let gives = rw c.in-Some-Err.field-0-is at c.in-Some-Err.ensures.steps in
+pub returns-in-Some-Err-Parse : goal.returns-in-Some-Err-Parse
+returns-in-Some-Err-Parse g c =
+    let gives = rw c.in-Some-Err-Parse.field-0-is at c.in-Some-Err-Parse.ensures.steps in
     takes_next {A = g.row.A.Denot} c.args.lexer.now c.next.new.self
-    (Some (Err c.in-Some-Err.field-0-0)) gives
+    (Some (Err c.in-Some-Err-Parse.field-0-0)) gives
 
 pub returns : goal.returns
 returns g c =

@@ -1,6 +1,6 @@
 use Rattle.std.{proofs.Common.◌↔◌, specs.List.Contains}
 use Rattle.cfgx_parser.specs.Predicate.{question_of}
-use Rattle.cfgx_engine.proofs.resolve.facts.Fact.names.Given as goal
+use Rattle.cfgx_engine.proofs.resolve.facts.Fact.has.Given as goal
 
 -- the predicate is among those to come exactly if it is among all
 abbrev pub invariant-loop-named : goal.invariant-loop-named
