@@ -2,8 +2,9 @@
 //! the crate is here.
 //!
 //! Each block rests on the same facts. A slice names as many items as its length says, so its
-//! pointer and its length may be passed. What a call writes is borrowed for this call alone. The
-//! structs are those of the header, and any bytes are a value of their fields.
+//! pointer and its length may be passed. What a call writes is borrowed for this call alone, and it
+//! does not read that first, so a buffer may be uninitialized. The structs are those of the header,
+//! and any bytes are a value of their fields.
 
 pub(crate) mod numbers;
 #[cfg(test)]
