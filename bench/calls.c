@@ -1,4 +1,5 @@
-/* Calls the library a number of times, so that a counter of instructions can tell what a call takes:
+/* Calls the library a number of times, so that a counter of instructions can tell what a call
+ * takes:
  *
  *     calls CALL TIMES CONDITIONS FACTS
  *

@@ -2,8 +2,9 @@
 //! the crate is here.
 //!
 //! Each block rests on the same facts. A slice names as many items as its length says, so its
-//! pointer and its length may be passed. What a call writes is borrowed for this call alone. The
-//! structs are those of the header, and any bytes are a value of their fields.
+//! pointer and its length may be passed. What a call writes is borrowed for this call alone, and it
+//! does not read that first, so a buffer may be uninitialized. The structs are those of the header,
+//! and any bytes are a value of their fields.
 
 pub(crate) mod numbers;
 #[cfg(test)]
@@ -156,35 +157,44 @@ fn end_without_memory(size: usize) -> ! {
     handle_alloc_error(Layout::array::<u8>(size).unwrap_or(Layout::new::<u8>()))
 }
 
-/// The greatest number of steps for which no memory is taken.
-const SHORT: usize = 128;
+/// A buffer for a call. Up to 128 items take no memory.
+struct Buffer<T> {
+    short: [MaybeUninit<T>; 128],
+    long: Vec<T>,
+}
+
+impl<T> Buffer<T> {
+    /// Returns a buffer without items.
+    fn new() -> Self {
+        Buffer {
+            short: [const { MaybeUninit::uninit() }; 128],
+            long: Vec::new(),
+        }
+    }
+
+    /// Returns room for at least `count` items.
+    fn room(&mut self, count: usize) -> &mut [MaybeUninit<T>] {
+        if count <= self.short.len() {
+            return &mut self.short;
+        }
+        self.long.reserve_exact(count);
+        self.long.spare_capacity_mut()
+    }
+}
 
 /// Passes the steps and the predicates of a text to `read`, and returns what it returns. Returns
 /// the fault of the text if it is no condition.
-///
-/// There is room for as many as a text of this length can have, so that one call is enough: a step
-/// stands for at least one byte of the text, and at least one more stands between two steps.
 pub(crate) fn compile<R>(
     text: &str,
     read: impl FnOnce(&[Step], &[Predicate]) -> R,
 ) -> Result<R, Fault> {
     ensure_version();
-    let room = text.len().div_ceil(2);
-    if room <= SHORT {
-        let mut steps = [const { MaybeUninit::uninit() }; SHORT];
-        let mut predicates = [const { MaybeUninit::uninit() }; SHORT];
-        let (steps, predicates) = fill_compiled(text, &mut steps, &mut predicates)?;
-        Ok(read(steps, predicates))
-    } else {
-        let mut steps = Vec::with_capacity(room);
-        let mut predicates = Vec::with_capacity(room);
-        let (steps, predicates) = fill_compiled(
-            text,
-            steps.spare_capacity_mut(),
-            predicates.spare_capacity_mut(),
-        )?;
-        Ok(read(steps, predicates))
-    }
+    // A step stands for at least one byte of the text, and one more stands between two steps. So
+    // there is room for all, and one call is enough.
+    let most = text.len().div_ceil(2);
+    let (mut steps, mut predicates) = (Buffer::new(), Buffer::new());
+    let (steps, predicates) = fill_compiled(text, steps.room(most), predicates.room(most))?;
+    Ok(read(steps, predicates))
 }
 
 /// Fills both buffers from their start, and returns what was filled.

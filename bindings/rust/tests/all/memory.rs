@@ -33,6 +33,7 @@ fn run_within(kib: usize) -> Output {
         .arg(env::current_exe().unwrap())
         .args(["--exact", CALLS, "--nocapture", "--test-threads=1"])
         .env(IS_LIMITED, "1")
+        .env("RUST_BACKTRACE", "0")
         .output()
         .unwrap()
 }
