@@ -33,6 +33,8 @@ if "CFGX_LIBRARY" not in os.environ:
         os.environ["CFGX_LIBRARY"] = INSTALLED
     elif os.path.exists(ARCHIVE):
         os.environ["CFGX_LIBRARY"] = linked()
+# The folder of other tests, below, stays as it is.
+sys.dont_write_bytecode = True
 sys.path.insert(0, PACKAGE)
 # The reader of conditions that the calls from C are compared with.
 sys.path.append(os.path.join(ROOT, "crates", "cfgx_c", "tests"))

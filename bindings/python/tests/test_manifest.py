@@ -3,6 +3,7 @@ import contextlib
 import io
 import os
 import shutil
+import subprocess
 import tempfile
 import unittest
 import unittest.mock
@@ -63,6 +64,29 @@ FACTS = {
 }
 
 
+# A package whose dependencies have these conditions, one each.
+CONDITIONS = (
+    'target_pointer_width = "064"', 'target_pointer_width = "64"', 'target_has_atomic = "+8"',
+    'target_has_atomic = "8"', 'not(target_has_atomic = "08")', 'target_feature = "crt-static"',
+    "debug_assertions", "any(proc_macro, test)", 'feature = "x"', "true", "all(false, unix)",
+    "windows", "unix", 'any(target_env = "musl", target_os = "macos")',
+)
+KINDS = ("dependencies", "dev-dependencies", "build-dependencies")
+
+
+def package_of(name):
+    """Returns the head of a manifest."""
+    return f'[package]\nname = "{name}"\nversion = "0.1.0"\nedition = "2021"\n'
+
+
+def tables_of(conditions):
+    """Yields for each condition and each kind a table of a manifest with one dependency."""
+    for number, condition in enumerate(conditions):
+        for kind in KINDS:
+            name = f"{kind[:3]}{number}"
+            yield f"[target.'cfg({condition})'.{kind}]\n{name} = {{ path = \"{name}\" }}\n"
+
+
 def no_cargo():
     """Returns what makes the package find no Cargo."""
     return unittest.mock.patch("shutil.which", lambda name: None)
@@ -73,7 +97,7 @@ def printed(*words):
     return ["host: x86_64-unknown-linux-gnu"] if words == ("-vV",) else FACTS[words[-1]].split()
 
 
-class Manifest(unittest.TestCase):
+class Folder(unittest.TestCase):
     """A manifest in a folder of its own."""
 
     def setUp(self):
@@ -96,6 +120,10 @@ class Manifest(unittest.TestCase):
             __main__.main()
         return output.getvalue()
 
+
+class Manifest(Folder):
+    """The dependencies in a manifest, and their table."""
+
     @unittest.skipUnless(tomllib and shutil.which("cargo"), "one of the two readers is not here")
     def test_both_readers_list_the_same(self):
         listed = _manifest.dependencies_of(self.path)
@@ -103,6 +131,7 @@ class Manifest(unittest.TestCase):
             self.assertEqual(sorted(map(str, _manifest.dependencies_of(self.path))),
                              sorted(map(str, listed)))
         self.assertEqual(len(listed), 7)
+        self.assertEqual({one.name for one in listed if one.is_on_host}, {"cc", "vcpkg"})
 
     @unittest.skipUnless(tomllib or shutil.which("cargo"), "there is no reader of manifests")
     def test_the_table(self):
@@ -118,8 +147,12 @@ class Manifest(unittest.TestCase):
         lines = list(__main__.aligned(rows))
         self.assertEqual(lines, ["a    bcd", "  a reason", "abc  d    e"])
 
+    def test_a_row_is_one_line(self):
+        lines = list(__main__.aligned([["a", 'cfg(key = "\n\t\x1b")'], ['  "\n"']]))
+        self.assertEqual(lines, ["a  cfg(key = \"\\n\\t\\x1b\")", '  "\\n"'])
+
     def test_a_faulty_condition(self):
-        dependency = _manifest.Dependency("a", "normal", False, "cfg(feature)")
+        dependency = _manifest.Dependency("a", "normal", False, "cfg(feature)", False)
         with self.assertRaises(_manifest.ManifestError) as caught:
             _manifest.verdict_on(dependency, _manifest.Target("", []))
         marks = '^^^^^^^ expected a `= "<feature_name>"` here'
@@ -135,6 +168,54 @@ class Manifest(unittest.TestCase):
             with self.assertRaises(SystemExit) as caught:
                 self.run_main(*words)
             self.assertIn("nowhere", caught.exception.code)
+
+    @unittest.skipUnless(shutil.which("cargo") and shutil.which("rustc"), "there is no Cargo here")
+    def test_it_says_what_cargo_says(self):
+        for library in ("", "[lib]\nproc-macro = true\n"):
+            self.write(self.path, package_of("a") + library + "".join(tables_of(CONDITIONS)))
+            for place in range(len(CONDITIONS)):
+                for kind in KINDS:
+                    self.write_package(f"{kind[:3]}{place}")
+            for triple in (*TRIPLES, "x86_64-unknown-linux-musl"):
+                with self.subTest(library=library, triple=triple):
+                    self.assertEqual(self.taken_on(triple), self.taken_by_cargo(triple))
+
+    def write_package(self, name):
+        """Writes a package in a folder of the package."""
+        source = os.path.join(os.path.dirname(self.path), name, "src")
+        os.makedirs(source, exist_ok=True)
+        self.write(os.path.join(source, "lib.rs"), "")
+        self.write(os.path.join(source, "..", "Cargo.toml"), package_of(name))
+
+    def taken_on(self, triple):
+        """Returns the names of the dependencies that the table says Cargo takes."""
+        dependencies = _manifest.dependencies_of(self.path)
+        rows = list(__main__.rows_of(dependencies, [_manifest.target_of(triple)]))
+        self.assertEqual(len(rows), len(CONDITIONS) * len(KINDS) + 1)
+        return {row[0].split()[0] for row in rows if row[1] == "yes"}
+
+    def taken_by_cargo(self, triple):
+        """Returns the names of the dependencies that Cargo takes."""
+        words = ["--offline", "--target", triple, "--prefix", "none", "--depth", "1"]
+        run = subprocess.run(
+            ["cargo", "tree", "--manifest-path", self.path, *words],
+            stdout=subprocess.PIPE, stderr=subprocess.PIPE, check=True,
+        )
+        lines = run.stdout.decode().splitlines()
+        return {line.split()[0] for line in lines[1:] if line and not line.startswith("[")}
+
+    def test_targets_may_be_named_one_by_one(self):
+        with unittest.mock.patch.object(_manifest, "rustc_lines", printed), \
+                unittest.mock.patch.object(__main__, "dependencies_of", lambda path: []):
+            table = self.run_main("", "--target", *TRIPLES[:2], "--target", TRIPLES[2])
+        self.assertEqual(table.split(), ["dependency", *TRIPLES, "condition"])
+
+    def test_something_else_than_a_table(self):
+        for manifest in ({"dependencies": 3}, {"target": []}, {"target": {"cfg(a)": ""}},
+                         {"lib": 1}, {"target": {"cfg(a)": {"build-dependencies": ["b"]}}}):
+            with self.subTest(manifest=manifest), self.assertRaises(ValueError) as caught:
+                list(_manifest.listed_in(manifest))
+            self.assertRegex(str(caught.exception), "^[a-z()-]* is no table$")
 
     @unittest.skipIf(tomllib, "Python reads a manifest")
     def test_no_reader(self):

@@ -11,7 +11,6 @@ pub use logic::Logic;
 use node::{Node, nodes_of};
 pub use predicate::{Predicate, TargetMatcher, TargetPredicate};
 use stack::Stack;
-use std::borrow::Cow;
 use std::fmt;
 use std::str::FromStr;
 
@@ -122,13 +121,16 @@ impl Expression {
     /// );
     /// ```
     pub fn predicates(&self) -> impl Iterator<Item = Predicate<'_>> {
-        self.asked().map(Cow::into_owned)
+        self.answers(Predicate::clone)
     }
 
-    /// Returns the predicates in the order in which they are asked, without copies.
-    fn asked(&self) -> impl Iterator<Item = Cow<'_, Predicate<'_>>> {
-        self.nodes.iter().filter_map(|node| match node {
-            Node::Ask(question) => Some(question.predicate(&self.original)),
+    /// Returns what `ask` answers to the predicates, in the order in which they are asked.
+    fn answers<'a, T>(
+        &'a self,
+        mut ask: impl FnMut(&Predicate<'a>) -> T,
+    ) -> impl Iterator<Item = T> {
+        self.nodes.iter().filter_map(move |node| match node {
+            Node::Ask(question) => Some(question.answer(&self.original, &mut ask)),
             _ => None,
         })
     }
@@ -159,7 +161,7 @@ impl Expression {
         let mut stack = Stack::<T>::new();
         for node in &self.nodes {
             let value = match node {
-                Node::Ask(question) => eval_predicate(&question.predicate(&self.original)),
+                Node::Ask(question) => question.answer(&self.original, &mut eval_predicate),
                 Node::Literal(true) => T::top(),
                 Node::Literal(false) => T::bottom(),
                 Node::Not => stack.pop().not(),
@@ -188,14 +190,11 @@ impl Expression {
     /// });
     /// assert_eq!(decision, Decision::Known(true));
     /// ```
-    pub fn decide<EP>(&self, mut eval_predicate: EP) -> Decision
+    pub fn decide<EP>(&self, eval_predicate: EP) -> Decision
     where
         EP: FnMut(&Predicate<'_>) -> Option<bool>,
     {
-        let answers: Vec<Option<bool>> = self
-            .asked()
-            .map(|predicate| eval_predicate(&predicate))
-            .collect();
+        let answers: Vec<Option<bool>> = self.answers(eval_predicate).collect();
         match ffi::decide(&self.original, &answers) {
             (Some(value), _) => Decision::Known(value),
             (None, fillings) => {

@@ -14,7 +14,9 @@ use numbers::{
     VALUE_UNKNOWN, VERSION_LANGUAGE, VERSION_MAJOR, VERSION_MINOR,
 };
 use std::alloc::{Layout, handle_alloc_error};
+use std::mem::MaybeUninit;
 use std::ptr::null_mut;
+use std::slice;
 
 /// The version of the header that these declarations are of.
 const VERSION: u32 = VERSION_LANGUAGE * 1_000_000 + VERSION_MAJOR * 1000 + VERSION_MINOR;
@@ -154,51 +156,77 @@ fn end_without_memory(size: usize) -> ! {
     handle_alloc_error(Layout::array::<u8>(size).unwrap_or(Layout::new::<u8>()))
 }
 
+/// The greatest number of steps for which no memory is taken.
+const SHORT: usize = 128;
+
 /// Passes the steps and the predicates of a text to `read`, and returns what it returns. Returns
 /// the fault of the text if it is no condition.
+///
+/// There is room for as many as a text of this length can have, so that one call is enough: a step
+/// stands for at least one byte of the text, and at least one more stands between two steps.
 pub(crate) fn compile<R>(
     text: &str,
     read: impl FnOnce(&[Step], &[Predicate]) -> R,
 ) -> Result<R, Fault> {
     ensure_version();
-    let mut steps = [Step::default(); 16];
-    let mut predicates = [Predicate::default(); 16];
-    let (step_count, predicate_count) = fill_compiled(text, &mut steps, &mut predicates)?;
-    if step_count <= steps.len() && predicate_count <= predicates.len() {
-        return Ok(read(&steps[..step_count], &predicates[..predicate_count]));
+    let room = text.len().div_ceil(2);
+    if room <= SHORT {
+        let mut steps = [const { MaybeUninit::uninit() }; SHORT];
+        let mut predicates = [const { MaybeUninit::uninit() }; SHORT];
+        let (steps, predicates) = fill_compiled(text, &mut steps, &mut predicates)?;
+        Ok(read(steps, predicates))
+    } else {
+        let mut steps = Vec::with_capacity(room);
+        let mut predicates = Vec::with_capacity(room);
+        let (steps, predicates) = fill_compiled(
+            text,
+            steps.spare_capacity_mut(),
+            predicates.spare_capacity_mut(),
+        )?;
+        Ok(read(steps, predicates))
     }
-    let mut steps = vec![Step::default(); step_count];
-    let mut predicates = vec![Predicate::default(); predicate_count];
-    fill_compiled(text, &mut steps, &mut predicates)?;
-    Ok(read(&steps, &predicates))
 }
 
-/// Fills both buffers if they have room, and returns how many steps and predicates there are.
-fn fill_compiled(
+/// Fills both buffers from their start, and returns what was filled.
+fn fill_compiled<'a>(
     text: &str,
-    steps: &mut [Step],
-    predicates: &mut [Predicate],
-) -> Result<(usize, usize), Fault> {
+    steps: &'a mut [MaybeUninit<Step>],
+    predicates: &'a mut [MaybeUninit<Predicate>],
+) -> Result<(&'a [Step], &'a [Predicate]), Fault> {
     let (mut step_count, mut predicate_count) = (0, 0);
     // SAFETY: the slices and the counts are as the head of this module says.
     let status = unsafe {
         cfgx_compile(
             text.as_ptr(),
             text.len(),
-            steps.as_mut_ptr(),
+            steps.as_mut_ptr().cast(),
             steps.len(),
             &mut step_count,
-            predicates.as_mut_ptr(),
+            predicates.as_mut_ptr().cast(),
             predicates.len(),
             &mut predicate_count,
         )
     };
     match status {
-        STATUS_DONE => Ok((step_count, predicate_count)),
+        STATUS_DONE => {
+            let (steps, predicates) = (&steps[..step_count], &predicates[..predicate_count]);
+            // SAFETY: both buffers had the room, so the call filled this part of each.
+            Ok(unsafe { (filled(steps), filled(predicates)) })
+        }
         STATUS_FAULTY => Err(fault_of(text)),
         STATUS_OUT_OF_MEMORY => end_without_memory(text.len()),
         _ => unreachable!("status {status}"),
     }
+}
+
+/// Returns the items of a buffer.
+///
+/// # Safety
+///
+/// All items were written.
+unsafe fn filled<T>(buffer: &[MaybeUninit<T>]) -> &[T] {
+    // SAFETY: a written item has the layout of its type, and the result borrows the buffer.
+    unsafe { slice::from_raw_parts(buffer.as_ptr().cast(), buffer.len()) }
 }
 
 /// Returns the fault of a text that is no condition.

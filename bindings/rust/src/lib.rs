@@ -45,7 +45,12 @@ pub use audit::{Audit, FactError, Facts, Otherwise, audit, audit_with};
 pub use error::ParseError;
 pub use expr::{Decision, Expression, Predicate, TargetPredicate};
 
-/// The examples of the README, which are tested with those of the pages.
+/// The example of the README, which is tested as those of the documentation are.
 #[cfg(doctest)]
 #[doc = include_str!("../README.md")]
 struct Readme;
+
+/// The example of `docs/RUST.md`, which is tested too.
+#[cfg(doctest)]
+#[doc = include_str!("../../../docs/RUST.md")]
+struct Page;

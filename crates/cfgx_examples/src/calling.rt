@@ -10,7 +10,6 @@ pub mod features;
 pub mod fillings;
 pub mod first;
 pub mod lexing;
-pub mod lines;
 pub mod literals;
 pub mod logic;
 pub mod manifests;
@@ -30,7 +29,7 @@ pub mod targets;
 pub mod unknown;
 
 use adapters::{asks_for_tests, first_flag};
-use boards::{BARE, LINUX, needed_names_are, verdicts_of_both_are};
+use boards::{BARE, LINUX, verdicts_of_both_are};
 use cfg_expr::error::Failure;
 use cfg_expr::{Expression, Predicate};
 use cfgx_testing::answers::{eval_over_answers, lanes_match_digits};
@@ -38,7 +37,7 @@ use cfgx_testing::checking::is_ok_true;
 use cfgx_testing::targets::builtin_rows;
 use cfgx_testing::triples::{DARWIN, IOS, SIM};
 use closures::{count_asked, if_all_true, with_features};
-use compiled::{value_on_linux, value_on_windows};
+use compiled::{value_on_linux, values_are};
 use fillings::decision_over;
 use literals::value_of_literals;
 use logic::Cost;
@@ -118,17 +117,17 @@ tables | target_os = "none" | [[Yes, No]]
 tables | all(target_os = "linux", feature = "x") | [[No, Unknown]]
 // The number of conditions that a board decides. Semicolons separate the conditions.
 many | target_os = "none";any(a, unix);all(a, b, not(test), c, unix);test;not(unix);true | 4
-// The dependencies that a board may need. Boards meet no family and no vendor, and flags are
-// unknown.
-manifests | macos 64 | ["notify", "loom", "wide"]
-manifests | macos 32 | ["notify", "loom"]
-manifests | none 16 | ["loom"]
-// Targets that are not built in: one from the lines of a compiler, one written by hand.
-windows | all(windows, target_env = "msvc", target_vendor = "pc") | true
-windows | any(unix, target_os = "linux", target_abi = "llvm") | false
-windows | all(target_arch = "x86_64", target_pointer_width = "64", panic = "unwind") | true
-windows | all(target_endian = "little", target_has_atomic = "128", target_abi = "") | true
-windows | any(target_has_atomic = "32", target_endian = "big") | false
+// The values on a target that is known by the lines of a compiler. Semicolons separate the
+// conditions. What is not on the target is unknown, unless a line names it.
+windows | all(windows, target_env = "msvc", target_vendor = "pc") | [Some(true)]
+windows | any(unix, target_os = "linux", target_abi = "llvm") | [Some(false)]
+windows | all(target_arch = "x86_64", target_pointer_width = "64", panic = "unwind") | [Some(true)]
+windows | all(target_endian = "little", target_has_atomic = "128", target_abi = "") | [Some(true)]
+windows | any(target_has_atomic = "32", target_endian = "big");true | [Some(false), Some(true)]
+windows | cfg(unix);cfg(loom);cfg(any(windows, loom)) | [Some(false), None, Some(true)]
+windows | cfg(all(target_vendor = "apple", not(loom)));not(test) | [Some(false), None]
+windows | debug_assertions;target_feature = "sse2";proc_macro | [Some(true), Some(true), None]
+// The value on a row that is written by hand, with the feature `x`.
 linux | all(unix, target_os = "linux", target_env = "gnu", target_vendor = "unknown") | true
 linux | all(unix, feature = "x", not(any(feature = "y", test))) | true
 linux | any(windows, target_has_atomic = "128", target_abi = "x32") | false
@@ -162,7 +161,6 @@ fn bool_is(alloc: Global, example: &str, condition: &Expression, wanted: &str) -
         "if_all_true" => if_all_true(alloc, condition),
         "with_features" => with_features(alloc, condition, &["b", "a"]),
         "matcher" => value_for(alloc, condition, &BARE, &[]),
-        "windows" => value_on_windows(alloc, condition),
         "linux" => value_on_linux(alloc, condition),
         _ => return None,
     };
@@ -257,7 +255,7 @@ fn example_returns(alloc: Global, example: &str, text: &str, wanted: &str) -> Op
         "features" => value_prints(alloc, features::count_features(alloc, text), wanted),
         "sections" => verdicts_of_both_are(alloc, text, wanted),
         "many" => value_prints(alloc, count_decided(alloc, text), wanted),
-        "manifests" => needed_names_are(alloc, text, wanted),
+        "windows" => values_are(alloc, text, wanted),
         _ => return value_of_text_is(alloc, example, text, wanted),
     })
 }

@@ -1,5 +1,6 @@
 """Prints which dependencies of a Cargo.toml each target takes."""
 import argparse
+import re
 import sys
 from typing import Iterator, List, Sequence
 
@@ -11,20 +12,22 @@ NAMES = {True: "yes", False: "no", None: "unknown"}
 
 
 def name_of(dependency: Dependency) -> str:
-    """Returns the name of a dependency, with its kind and whether it is optional."""
+    """Returns the name of a dependency, with its kind, whether it is optional, and whether it is
+    judged on the machine that builds, which is clear of build-dependencies."""
     marks = [] if dependency.kind == "normal" else [dependency.kind]
     marks += ["optional"] if dependency.is_optional else []
+    marks += ["host"] if dependency.is_on_host and dependency.kind != "build" else []
     return f"{dependency.name} ({', '.join(marks)})" if marks else dependency.name
 
 
 def rows_of(dependencies: Sequence[Dependency], targets: Sequence[Target]) -> Iterator[List[str]]:
     """Yields the cells of each line of the table. A line of one cell has the reason of an unknown
-    above it. Build-dependencies are judged on the machine that builds."""
+    above it."""
     yield ["dependency", *(target.triple for target in targets), "condition"]
-    is_host_needed = any(dependency.kind == "build" for dependency in dependencies)
+    is_host_needed = any(dependency.is_on_host for dependency in dependencies)
     builds = [target_of(host())] * len(targets) if is_host_needed else []
     for dependency in dependencies:
-        judged = builds if dependency.kind == "build" else targets
+        judged = builds if dependency.is_on_host else targets
         verdicts = [verdict_on(dependency, target) for target in judged]
         values = [NAMES[value] for value, _ in verdicts]
         yield [name_of(dependency), *values, dependency.target or ""]
@@ -33,8 +36,15 @@ def rows_of(dependencies: Sequence[Dependency], targets: Sequence[Target]) -> It
             yield [f"    unknown: {reason}"]
 
 
+def on_one_line(cell: str) -> str:
+    """Returns a cell with its line feeds and other control characters escaped: the value of a
+    condition may have some."""
+    return re.sub(r"[\x00-\x1f\x7f]", lambda found: repr(found[0])[1:-1], cell)
+
+
 def aligned(rows: Sequence[List[str]]) -> Iterator[str]:
     """Yields the lines of a table with columns of one width."""
+    rows = [list(map(on_one_line, row)) for row in rows]
     cells = [row for row in rows if len(row) > 1]
     widths = [max(map(len, column)) for column in zip(*cells)]
     for row in rows:
@@ -49,7 +59,8 @@ def main() -> None:
     parser = argparse.ArgumentParser(prog="python3 -m cfgx", description=__doc__)
     parser.add_argument("manifest", metavar="MANIFEST", help="the path of a Cargo.toml")
     parser.add_argument(
-        "--target", metavar="TRIPLE", nargs="+", required=True, help="a target that rustc knows"
+        "--target", metavar="TRIPLE", nargs="+", action="extend", required=True,
+        help="a target that rustc knows",
     )
     words = parser.parse_args()
     try:

@@ -32,6 +32,9 @@ class Dependency(NamedTuple):
     """Whether a feature has to ask for it."""
     target: Optional[str]
     """A condition in `cfg( )`, a triple, or `None` if it serves all targets."""
+    is_on_host: bool
+    """Whether Cargo judges it on the machine that builds, and not on the target: one that a build
+    script or a macro uses."""
 
 
 def dependencies_of(path: str) -> List[Dependency]:
@@ -47,10 +50,9 @@ def dependencies_of(path: str) -> List[Dependency]:
         ) from None
     try:
         with open(path, "rb") as file:
-            manifest = tomllib.load(file)
+            return list(listed_in(tomllib.load(file)))
     except (OSError, ValueError) as error:
         raise ManifestError(f"{path}: {error}") from error
-    return list(listed_in(manifest))
 
 
 def listed_by_cargo(path: str) -> Iterator[Dependency]:
@@ -64,9 +66,11 @@ def listed_by_cargo(path: str) -> Iterator[Dependency]:
     packages = json.loads(run.stdout)["packages"]
     own = [one for one in packages if is_same_file(one["manifest_path"], path)]
     for package in own or packages:
+        is_macro = any("proc-macro" in target["kind"] for target in package["targets"])
         for found in package["dependencies"]:
             name, kind = found["rename"] or found["name"], found["kind"] or "normal"
-            yield Dependency(name, kind, found["optional"], found["target"])
+            is_on_host = is_macro or kind == "build"
+            yield Dependency(name, kind, found["optional"], found["target"], is_on_host)
 
 
 def is_same_file(path: str, other: str) -> bool:
@@ -75,12 +79,24 @@ def is_same_file(path: str, other: str) -> bool:
 
 
 def listed_in(manifest: Dict[str, Any]) -> Iterator[Dependency]:
-    """Yields the dependencies that stand in a manifest."""
-    for target, tables in [(None, manifest), *manifest.get("target", {}).items()]:
+    """Yields the dependencies that stand in a manifest. Raises `ValueError` if something else
+    stands in the place of a table."""
+    library, targets = table_in(manifest, "lib"), table_in(manifest, "target")
+    is_macro = bool(library.get("proc-macro") or library.get("proc_macro"))
+    for target in (None, *targets):
+        tables = manifest if target is None else table_in(targets, target)
         for table, kind in TABLES.items():
-            for name, found in tables.get(table, {}).items():
+            for name, found in table_in(tables, table).items():
                 is_optional = isinstance(found, dict) and bool(found.get("optional"))
-                yield Dependency(name, kind, is_optional, target)
+                yield Dependency(name, kind, is_optional, target, is_macro or kind == "build")
+
+
+def table_in(table: Dict[str, Any], key: str) -> Dict[str, Any]:
+    """Returns the table with a key, or an empty one if there is none."""
+    found = table.get(key, {})
+    if not isinstance(found, dict):
+        raise ValueError(f"{key} is no table")
+    return found
 
 
 class Target(NamedTuple):
@@ -132,9 +148,17 @@ def answers_on(expression: Expression, target: Target) -> List[Optional[bool]]:
     predicates = expression.predicates
     named = audit(map(str, predicates), [target.facts])
     return [
-        False if answer is None and predicate.kind not in (Kind.FLAG, Kind.KEY_VALUE) else answer
+        False if is_false(predicate, expression.text, answer) else answer
         for predicate, (answer,) in zip(predicates, named)
     ]
+
+
+def is_false(predicate: Predicate, text: str, answer: Optional[bool]) -> bool:
+    """Whether a predicate of a text is false for Cargo, which has this answer by facts."""
+    if predicate.kind in (Kind.HAS_ATOMIC, Kind.POINTER_WIDTH):
+        # Cargo compares texts, so "064" is not the width "64" for it.
+        return f'"{predicate.value}"' not in text[slice(*predicate.span)]
+    return answer is None and predicate.kind not in (Kind.FLAG, Kind.KEY_VALUE)
 
 
 def spelled(predicates: List[Predicate], answers: List[bool]) -> str:

@@ -3,7 +3,6 @@
 use super::{Predicate, TargetPredicate};
 use crate::ffi::{self, numbers};
 use crate::targets::{Abi, Arch, Endian, Env, Family, HasAtomic, Os, Panic, Vendor};
-use std::borrow::Cow;
 use std::ops::Range;
 
 /// A step of an evaluation with a stack.
@@ -60,14 +59,16 @@ pub(super) fn nodes_of(
 
 impl Question {
     /// Returns the question for a predicate of the text in which `original` begins at the byte
-    /// `offset`.
+    /// `offset`. The text of a predicate on the target is copied.
     fn new(original: &str, offset: usize, found: &ffi::Predicate) -> Question {
-        let within = |start, end| start - offset..end - offset;
-        let value = || within(found.value_start, found.value_end);
+        let key = || found.key_start - offset..found.key_end - offset;
+        let value = || found.value_start - offset..found.value_end - offset;
+        let text = || &original[value()];
+        let target = |predicate| Question::Whole(Predicate::Target(predicate));
         match found.kind {
-            numbers::PREDICATE_FLAG => Question::Flag(within(found.key_start, found.key_end)),
+            numbers::PREDICATE_FLAG => Question::Flag(key()),
             numbers::PREDICATE_KEY_VALUE => Question::KeyValue {
-                key: within(found.key_start, found.key_end),
+                key: key(),
                 val: value(),
             },
             numbers::PREDICATE_TEST => Question::Whole(Predicate::Test),
@@ -75,41 +76,41 @@ impl Question {
             numbers::PREDICATE_PROC_MACRO => Question::Whole(Predicate::ProcMacro),
             numbers::PREDICATE_FEATURE => Question::Feature(value()),
             numbers::PREDICATE_TARGET_FEATURE => Question::TargetFeature(value()),
-            _ => Question::Whole(Predicate::Target(target_of(original, offset, found))),
+            numbers::PREDICATE_ABI => target(TargetPredicate::Abi(Abi::copied(text()))),
+            numbers::PREDICATE_ARCH => target(TargetPredicate::Arch(Arch::copied(text()))),
+            numbers::PREDICATE_ENDIAN => target(TargetPredicate::Endian(endian_of(found.number))),
+            numbers::PREDICATE_ENV => target(TargetPredicate::Env(Env::copied(text()))),
+            numbers::PREDICATE_FAMILY => target(TargetPredicate::Family(Family::copied(text()))),
+            numbers::PREDICATE_HAS_ATOMIC => {
+                target(TargetPredicate::HasAtomic(width_of(found.number)))
+            }
+            numbers::PREDICATE_OS => target(TargetPredicate::Os(Os::copied(text()))),
+            numbers::PREDICATE_PANIC => target(TargetPredicate::Panic(Panic::copied(text()))),
+            numbers::PREDICATE_POINTER_WIDTH => {
+                target(TargetPredicate::PointerWidth(found.number as u8))
+            }
+            numbers::PREDICATE_VENDOR => target(TargetPredicate::Vendor(Vendor::copied(text()))),
+            kind => unreachable!("predicate {kind}"),
         }
     }
 
-    /// Returns the predicate of `original`.
-    pub(super) fn predicate<'a>(&'a self, original: &'a str) -> Cow<'a, Predicate<'a>> {
+    /// Returns what `ask` answers to the predicate of `original`.
+    pub(super) fn answer<'a, T>(
+        &self,
+        original: &'a str,
+        ask: impl FnOnce(&Predicate<'a>) -> T,
+    ) -> T {
         let cut = |span: &Range<usize>| &original[span.clone()];
-        Cow::Owned(match self {
-            Question::Whole(predicate) => return Cow::Borrowed(predicate),
-            Question::Feature(span) => Predicate::Feature(cut(span)),
-            Question::TargetFeature(span) => Predicate::TargetFeature(cut(span)),
-            Question::Flag(span) => Predicate::Flag(cut(span)),
-            Question::KeyValue { key, val } => Predicate::KeyValue {
+        match self {
+            Question::Whole(predicate) => ask(predicate),
+            Question::Feature(span) => ask(&Predicate::Feature(cut(span))),
+            Question::TargetFeature(span) => ask(&Predicate::TargetFeature(cut(span))),
+            Question::Flag(span) => ask(&Predicate::Flag(cut(span))),
+            Question::KeyValue { key, val } => ask(&Predicate::KeyValue {
                 key: cut(key),
                 val: cut(val),
-            },
-        })
-    }
-}
-
-/// Returns the predicate on the target, with a copy of its text.
-fn target_of(original: &str, offset: usize, found: &ffi::Predicate) -> TargetPredicate {
-    let text = || &original[found.value_start - offset..found.value_end - offset];
-    match found.kind {
-        numbers::PREDICATE_ABI => TargetPredicate::Abi(Abi::copied(text())),
-        numbers::PREDICATE_ARCH => TargetPredicate::Arch(Arch::copied(text())),
-        numbers::PREDICATE_ENDIAN => TargetPredicate::Endian(endian_of(found.number)),
-        numbers::PREDICATE_ENV => TargetPredicate::Env(Env::copied(text())),
-        numbers::PREDICATE_FAMILY => TargetPredicate::Family(Family::copied(text())),
-        numbers::PREDICATE_HAS_ATOMIC => TargetPredicate::HasAtomic(width_of(found.number)),
-        numbers::PREDICATE_OS => TargetPredicate::Os(Os::copied(text())),
-        numbers::PREDICATE_PANIC => TargetPredicate::Panic(Panic::copied(text())),
-        numbers::PREDICATE_POINTER_WIDTH => TargetPredicate::PointerWidth(found.number as u8),
-        numbers::PREDICATE_VENDOR => TargetPredicate::Vendor(Vendor::copied(text())),
-        kind => unreachable!("predicate {kind}"),
+            }),
+        }
     }
 }
 

@@ -1,8 +1,8 @@
-//! Deep and wide texts of a megabyte.
+//! Deep and wide texts of a megabyte, and texts of every length up to some hundred bytes.
 
 use super::engine;
 use cfgx::error::Reason;
-use cfgx::{Decision, Expression};
+use cfgx::{Decision, Expression, Predicate};
 
 /// The least number of bytes of a long text.
 const LENGTH: usize = 1 << 20;
@@ -72,4 +72,17 @@ fn long_faults() {
     let error = Expression::parse(&text).unwrap_err();
     assert_eq!(error.reason, Reason::InvalidNot(LENGTH / 2));
     assert_eq!(Some(error.to_string()), engine::explain(&text));
+}
+
+#[test]
+fn texts_of_every_length() {
+    for length in 1..600 {
+        let key = "k".repeat(length);
+        let expression = Expression::parse(&key).unwrap();
+        assert!(expression.predicates().eq([Predicate::Flag(&key)]));
+        let text = format!("any({})", "k,".repeat(length));
+        let expression = Expression::parse(&text).unwrap();
+        assert_eq!(expression.predicates().count(), length);
+        assert!(!expression.eval(|_| false));
+    }
 }

@@ -7,6 +7,8 @@ mod generated;
 mod leaks;
 mod logics;
 mod long;
+mod memory;
+mod real;
 mod recorded;
 mod rows;
 mod rustc;

@@ -1,9 +1,10 @@
-//! The verdicts of boards on sections, and the dependencies that boards may need.
-use super::manifests::{may_need, verdicts_on};
+//! The verdicts of boards on sections.
 use super::matcher::Board;
 use super::value_prints;
+use cfg_expr::Expression;
 use cfg_expr::error::Failure;
 use cfg_expr::expr::TargetMatcher;
+use cfgx_engine::resolve::{Section, Verdict, pick};
 use std::alloc::Global;
 
 /// A board of 16 bits without an operating system.
@@ -17,6 +18,25 @@ pub const LINUX: Board<'static> = Board {
     os: "linux",
     pointer_width: 64,
 };
+
+// Returns the verdict of `target` on each dependency, which is a name and a condition.
+fn verdicts_on<M: TargetMatcher>(
+    alloc: Global,
+    dependencies: &[(&str, &str)],
+    target: &M,
+) -> Result<Vec<Verdict>, Failure> {
+    let mut sections = Vec::new(alloc);
+    for (name, condition) in dependencies {
+        sections.push(section_of(alloc, name, condition)?)?;
+    }
+    Ok(pick(alloc, sections.as_slice(), target)?)
+}
+
+fn section_of(alloc: Global, name: &str, condition: &str) -> Result<Section, Failure> {
+    let name = String::from_str(alloc, name)?;
+    let condition = Expression::parse(alloc, condition)?;
+    Ok(Section { name, condition })
+}
 
 // Returns whether the verdicts of `board` on `manifest` print `verdicts`.
 fn verdicts_are<M: TargetMatcher>(
@@ -60,22 +80,4 @@ fn sections_are_picked_and_faults_refused(rt: HostRuntime) {
     let alloc = rt.alloc();
     assert!(rt; verdicts_are(alloc, &BARE, MANIFEST, "[Yes, No, Unknown, No]"));
     assert!(rt; is_fault(verdicts_on(alloc, &[("a", "b)")], &BARE)));
-    assert!(rt; is_fault(may_need(alloc, &[("libc", "cfg(unix")], &BARE)));
-}
-
-const DEPENDENCIES: &[(&str, &str)] = &[
-    ("libc", "cfg(unix)"),
-    ("notify", "cfg(any(windows, target_os = \"macos\"))"),
-    ("objc2", "cfg(all(target_vendor = \"apple\", not(loom)))"),
-    ("loom", "cfg(loom)"),
-    ("wide", "cfg(all(target_pointer_width = \"64\", not(loom)))"),
-];
-
-/// Returns whether the dependencies that a build for `board` may need print `names`. `board` is a
-/// system and the number of bits of a pointer.
-pub fn needed_names_are(alloc: Global, board: &str, names: &str) -> bool {
-    let (os, bits) = board.split_once(' ').unwrap_or((board, ""));
-    let pointer_width = bits.parse().unwrap_or(0);
-    let board = Board { os, pointer_width };
-    value_prints(alloc, may_need(alloc, DEPENDENCIES, &board), names)
 }

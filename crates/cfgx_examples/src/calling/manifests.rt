@@ -1,44 +1,23 @@
-//! The dependencies of a manifest, each with the condition of its section.
-use cfg_expr::Expression;
+//! The values of conditions on a target that a compiler describes, and what the pages show of a
+//! manifest.
 use cfg_expr::error::Failure;
-use cfg_expr::expr::TargetMatcher;
-use cfgx_engine::resolve::{Section, Verdict, pick};
+use cfgx_engine::resolve::{AuditError, Facts, Otherwise, audit_facts};
 use std::alloc::Global;
+use std::slice::from_ref;
 
-/// Returns the names of the dependencies that a build for `target` may need: those whose verdict is
-/// not `No`. Each dependency is a name and a condition.
-pub fn may_need<'a, M: TargetMatcher>(
+/// Returns the value of each condition on the target of which `rustc --print cfg` prints `lines`.
+/// A feature or a flag that no line names is unknown, and `None` is an unknown value.
+pub fn values_on(
     alloc: Global,
-    dependencies: &[(&'a str, &str)],
-    target: &M,
-) -> Result<Vec<&'a str>, Failure> {
-    let verdicts = verdicts_on(alloc, dependencies, target)?;
-    let mut names = Vec::new(alloc);
-    for (dependency, verdict) in dependencies.iter().zip(verdicts.as_slice()) {
-        if *verdict != Verdict::No {
-            names.push(dependency.0)?;
-        }
+    conditions: &[&str],
+    lines: &str,
+) -> Result<Vec<Option<bool>>, Failure> {
+    let lines: Vec<&str> = lines.lines().collect(alloc)?;
+    let target = Facts::from_rustc(alloc, lines.as_slice())?;
+    match audit_facts(alloc, conditions, from_ref(&target), Otherwise::Unknown) {
+        Ok(values) => Ok(values),
+        Err(AuditError { failure, .. }) => Err(failure),
     }
-    Ok(names)
-}
-
-/// Returns the verdict of `target` on each dependency.
-pub fn verdicts_on<M: TargetMatcher>(
-    alloc: Global,
-    dependencies: &[(&str, &str)],
-    target: &M,
-) -> Result<Vec<Verdict>, Failure> {
-    let mut sections = Vec::new(alloc);
-    for (name, condition) in dependencies {
-        sections.push(section_of(alloc, name, condition)?)?;
-    }
-    Ok(pick(alloc, sections.as_slice(), target)?)
-}
-
-fn section_of(alloc: Global, name: &str, condition: &str) -> Result<Section, Failure> {
-    let name = String::from_str(alloc, name)?;
-    let condition = Expression::parse(alloc, condition)?;
-    Ok(Section { name, condition })
 }
 
 /// The input on the page. `.ci/pages` compares the blocks of text there with these constants.
@@ -64,10 +43,3 @@ pub const ORDER: &str = "b\na\nc\n";
 
 /// The predicates of the condition of `objc2`.
 pub const PREDICATES: &str = "loom\ntarget_vendor = \"apple\"\n";
-
-/// The value of each section of `SECTIONS` on a target with Windows.
-pub const VALUES: &str = "objc2\tfalse\n\
-    notify\ttrue\n\
-    loom\tunknown\n\
-    libc\tfalse\n\
-    signal-hook\tfalse\n";

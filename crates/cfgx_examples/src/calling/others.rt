@@ -28,23 +28,12 @@ pub fn builtins_and(
     alloc: Global,
     row: TargetInfo<'static>,
 ) -> Result<Option<TargetTable<'static>>, AllocError> {
-    let mut rows = with_one_more(builtin_rows(alloc), row)?;
+    let builtins = TargetTable::builtins(alloc)?;
+    let mut rows = Vec::new(alloc);
+    rows.push(row)?;
+    for builtin in builtins.rows() {
+        rows.push(builtin.try_clone(alloc)?)?;
+    }
     rows.sort()?;
     Ok(TargetTable::from_rows(rows).ok())
-}
-
-fn builtin_rows(alloc: Global) -> Result<Vec<TargetInfo<'static>>, AllocError> {
-    let table = TargetTable::builtins(alloc)?;
-    let mut rows = Vec::new(alloc);
-    for row in table.rows() {
-        rows.push(row.try_clone(alloc)?)?;
-    }
-    Ok(rows)
-}
-
-// Pushes `item` to the list.
-fn with_one_more<T: Drop>(list: Result<Vec<T>, AllocError>, item: T) -> Result<Vec<T>, AllocError> {
-    let mut list = list?;
-    list.push(item)?;
-    Ok(list)
 }
