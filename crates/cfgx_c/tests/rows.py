@@ -45,6 +45,8 @@ TERMS = (
     "`target_arch` `target_feature` `target_os` `target_family` `target_env` `target_endian`"
     " `target_has_atomic` `target_pointer_width` `target_vendor`",
 )
+# The place of the condition among the words of a command. `pick` has none there.
+PLACES = {"parse": 1, "eval": 1, "target": 2}
 VALUES = {"1": True, "0": False, "?": None}
 PRINTED = {True: b"true\n", False: b"false\n", None: b"unknown\n"}
 
@@ -107,10 +109,22 @@ def fields_of(struct):
     return struct and tuple(getattr(struct, name) for name, _ in struct._fields_)
 
 
+def conditions_of_runs():
+    """Returns the condition of each run that accepts it."""
+    texts = [
+        unescaped(words[PLACES[words[0]]])
+        for status, _, *words in rows_of("run") if status == "0" and words[0] in PLACES
+    ]
+    # At a wrong place stand the names of commands or triples, of which there are few.
+    assert len(texts) >= 79 and len(set(texts)) >= 50, texts
+    assert not any(text.decode() in PLACES for text in texts), texts
+    return texts
+
+
 def accepted_texts():
     """Returns each accepted text of the tables."""
-    texts = [unescaped(row[0]) for row in rows_of("predicates", "fillings")]
-    texts += [unescaped(row[2]) for row in rows_of("run") if row[0] == "0" and len(row) > 2]
+    texts = [unescaped(row[0]) for row in rows_of("predicates", "fillings", "spelling")]
+    texts += conditions_of_runs()
     return texts + [text for text, status, _ in rust_crate() if status == 0]
 
 
