@@ -15,7 +15,7 @@ FOLDER = os.path.dirname(os.path.abspath(__file__))
 DATA = os.path.join(FOLDER, "..", "..", "cfgx_vectors", "data")
 sys.path.insert(0, os.path.join(FOLDER, "..", "examples"))
 
-from cfgx import Cfgx  # noqa: E402
+from cfgx import Cfgx, CfgxError  # noqa: E402
 from conditions import Condition  # noqa: E402
 
 ESCAPES = {"n": "\n", "t": "\t", "r": "\r", "0": "\0", "\\": "\\", "e": ""}
@@ -47,6 +47,15 @@ TERMS = (
 )
 # The place of the condition among the words of a command. `pick` has none there.
 PLACES = {"parse": 1, "eval": 1, "target": 2}
+# Words and an input of which several statuses are true, the status that counts, and the output.
+MANY_STATUSES = (
+    ((b"eval", b"a)", b"\xff"), b"", 4, b""),
+    ((b"eval", b"a)", b"b)", b"\xff"), b"", 4, b""),
+    ((b"pick", b"nowhere", b"\xff"), b"\xff", 4, b""),
+    ((b"target", b"nowhere", b"a)"), b"", 2, b"unknown triple\n"),
+    ((b"pick", b"nowhere"), b"\xff", 2, b"unknown triple\n"),
+    ((b"parse", b"a)", b"b"), b"", 2, USAGE.encode()),
+)
 VALUES = {"1": True, "0": False, "?": None}
 PRINTED = {True: b"true\n", False: b"false\n", None: b"unknown\n"}
 
@@ -238,6 +247,16 @@ def check_run(cfgx):
             words = [b"pick", b"aarch64-apple-ios-sim"]
             found = cfgx.run(words, unescaped(text))
             yield text, found, (int(status), unescaped(output))
+    for words, text, status, output in MANY_STATUSES:
+        yield words, run_or_refusal(cfgx, words, text), (status, output)
+
+
+def run_or_refusal(cfgx, words, text):
+    """Returns the status and the output of a run, also if the program is not run."""
+    try:
+        return cfgx.run(words, text)
+    except CfgxError as error:
+        return error.status, b""
 
 
 CHECKS = {
