@@ -73,7 +73,7 @@ def expect_done(status, place=None):
 
 
 def run_example(main, usage, most=None):
-    """Runs an example with the words of the command line: at least one, and at most so many."""
+    """Runs an example with the words of the command line: at least one, and at most `most`."""
     words = sys.argv[1:]
     if not words or most is not None and len(words) > most:
         print("usage:", usage, file=sys.stderr)

@@ -64,8 +64,9 @@ void free_block(void *block);
 struct joined join(struct list list);
 void free_joined(struct joined joined);
 
-/* Calls `test` with ends that are wrong in each way: they fall, lie behind the bytes, or do not end
- * with them. The bytes are `a`, `ab` and so on. */
+/* Calls `test` with ends that are wrong in each way: an end is less than the one before it or more
+ * than the number of bytes, or the last one is not that number. The bytes are `a`, `ab` and so
+ * on. */
 void test_bad_ends(void (*test)(struct joined joined));
 
 /* Returns a buffer for `room` items. No byte of it is 0. */
