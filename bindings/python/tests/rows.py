@@ -7,6 +7,8 @@ from . import ROOT
 
 DATA = os.path.join(ROOT, "crates", "cfgx_vectors", "data")
 ESCAPES = {"n": "\n", "t": "\t", "r": "\r", "0": "\0", "\\": "\\", "e": ""}
+# The place of the condition among the words of a command. `pick` has none there.
+PLACES = {"parse": 1, "eval": 1, "target": 2}
 
 
 def lines_of(name: str) -> List[str]:
@@ -45,8 +47,20 @@ def rust_crate() -> Iterator[Tuple[str, int, str]]:
             yield unescaped(text), int(status), unescaped(output)
 
 
+def conditions_of_runs() -> List[str]:
+    """Returns the condition of each run that accepts it."""
+    texts = [
+        unescaped(words[PLACES[words[0]]])
+        for status, _, *words in rows_of("run") if status == "0" and words[0] in PLACES
+    ]
+    # At a wrong place stand the names of commands or triples, of which there are few.
+    assert len(texts) >= 79 and len(set(texts)) >= 50, texts
+    assert not any(text in PLACES for text in texts), texts
+    return texts
+
+
 def accepted_texts() -> List[str]:
     """Returns each accepted text of the rows."""
     texts = [unescaped(row[0]) for row in rows_of("predicates", "fillings", "spelling")]
-    texts += [unescaped(row[2]) for row in rows_of("run") if row[0] == "0" and len(row) > 2]
+    texts += conditions_of_runs()
     return texts + [text for text, status, _ in rust_crate() if status == 0]

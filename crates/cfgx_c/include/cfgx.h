@@ -24,7 +24,9 @@
  * If several statuses are true, a call returns the first of these: CFGX_STATUS_BAD_ENDS;
  * CFGX_STATUS_TOO_LARGE; CFGX_STATUS_NOT_UTF8 or CFGX_STATUS_FAULTY, for the first text that is not
  * UTF-8 or no condition; CFGX_STATUS_FAULTY_FACT; CFGX_STATUS_NO_TREE; CFGX_STATUS_MISCOUNTED.
- * CFGX_STATUS_OUT_OF_MEMORY may stand in for every status but the first two.
+ * The order of `cfgx_run` is: CFGX_STATUS_BAD_ENDS; CFGX_STATUS_NOT_UTF8, for any word;
+ * CFGX_STATUS_WRONG_USE; CFGX_STATUS_FAULTY. CFGX_STATUS_OUT_OF_MEMORY may stand in for every
+ * status but CFGX_STATUS_BAD_ENDS and CFGX_STATUS_TOO_LARGE.
  *
  * A call keeps no pointer and no memory. It takes memory from malloc and realloc, and returns it to
  * free. Several threads may call at once. Nothing checks these duties of a caller:
@@ -272,7 +274,7 @@ uint32_t cfgx_audit(const char *texts, size_t texts_length,
  * there is no output.
  *
  * Returns CFGX_STATUS_BAD_ENDS if the ends are wrong, else CFGX_STATUS_NOT_UTF8 if a word is not
- * UTF-8. Then cfgx is not run. */
+ * UTF-8. With both of these cfgx is not run, and there is no output. */
 uint32_t cfgx_run(const char *words, size_t words_length,
                   const size_t *word_ends, size_t word_count,
                   const char *input, size_t input_length,

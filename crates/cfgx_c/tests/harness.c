@@ -106,17 +106,17 @@ struct bad_ends {
 static const struct bad_ends bad_ends[] = {
     /* no end, though there are bytes */
     {1, 0, {0}},
-    /* the last end is not that of the bytes */
+    /* the last end is not the number of bytes */
     {2, 1, {1}},
     {2, 2, {0, 1}},
     {0, 1, {1}},
     {2, 2, {1, 3}},
     {2, 1, {SIZE_MAX}},
-    /* the ends fall */
+    /* an end is less than the one before it */
     {2, 2, {2, 1}},
     {2, 3, {2, 1, 2}},
     {3, 4, {1, 3, 2, 3}},
-    /* an end in the midst lies behind the bytes */
+    /* an end before the last one is greater than the number of bytes */
     {2, 2, {3, 2}},
     {2, 3, {1, SIZE_MAX, 2}},
 };

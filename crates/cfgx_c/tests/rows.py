@@ -15,7 +15,7 @@ FOLDER = os.path.dirname(os.path.abspath(__file__))
 DATA = os.path.join(FOLDER, "..", "..", "cfgx_vectors", "data")
 sys.path.insert(0, os.path.join(FOLDER, "..", "examples"))
 
-from cfgx import Cfgx  # noqa: E402
+from cfgx import Cfgx, CfgxError  # noqa: E402
 from conditions import Condition  # noqa: E402
 
 ESCAPES = {"n": "\n", "t": "\t", "r": "\r", "0": "\0", "\\": "\\", "e": ""}
@@ -44,6 +44,17 @@ TERMS = (
     "`<feature>`",
     "`target_arch` `target_feature` `target_os` `target_family` `target_env` `target_endian`"
     " `target_has_atomic` `target_pointer_width` `target_vendor`",
+)
+# The place of the condition among the words of a command. `pick` has none there.
+PLACES = {"parse": 1, "eval": 1, "target": 2}
+# Words and an input of which several statuses are true, the status that counts, and the output.
+MANY_STATUSES = (
+    ((b"eval", b"a)", b"\xff"), b"", 4, b""),
+    ((b"eval", b"a)", b"b)", b"\xff"), b"", 4, b""),
+    ((b"pick", b"nowhere", b"\xff"), b"\xff", 4, b""),
+    ((b"target", b"nowhere", b"a)"), b"", 2, b"unknown triple\n"),
+    ((b"pick", b"nowhere"), b"\xff", 2, b"unknown triple\n"),
+    ((b"parse", b"a)", b"b"), b"", 2, USAGE.encode()),
 )
 VALUES = {"1": True, "0": False, "?": None}
 PRINTED = {True: b"true\n", False: b"false\n", None: b"unknown\n"}
@@ -107,10 +118,22 @@ def fields_of(struct):
     return struct and tuple(getattr(struct, name) for name, _ in struct._fields_)
 
 
+def conditions_of_runs():
+    """Returns the condition of each run that accepts it."""
+    texts = [
+        unescaped(words[PLACES[words[0]]])
+        for status, _, *words in rows_of("run") if status == "0" and words[0] in PLACES
+    ]
+    # At a wrong place stand the names of commands or triples, of which there are few.
+    assert len(texts) >= 79 and len(set(texts)) >= 50, texts
+    assert not any(text.decode() in PLACES for text in texts), texts
+    return texts
+
+
 def accepted_texts():
     """Returns each accepted text of the tables."""
-    texts = [unescaped(row[0]) for row in rows_of("predicates", "fillings")]
-    texts += [unescaped(row[2]) for row in rows_of("run") if row[0] == "0" and len(row) > 2]
+    texts = [unescaped(row[0]) for row in rows_of("predicates", "fillings", "spelling")]
+    texts += conditions_of_runs()
     return texts + [text for text, status, _ in rust_crate() if status == 0]
 
 
@@ -224,6 +247,16 @@ def check_run(cfgx):
             words = [b"pick", b"aarch64-apple-ios-sim"]
             found = cfgx.run(words, unescaped(text))
             yield text, found, (int(status), unescaped(output))
+    for words, text, status, output in MANY_STATUSES:
+        yield words, run_or_refusal(cfgx, words, text), (status, output)
+
+
+def run_or_refusal(cfgx, words, text):
+    """Returns the status and the output of a run, also if the program is not run."""
+    try:
+        return cfgx.run(words, text)
+    except CfgxError as error:
+        return error.status, b""
 
 
 CHECKS = {
