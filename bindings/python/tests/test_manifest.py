@@ -165,6 +165,12 @@ class Folder(unittest.TestCase):
             __main__.main()
         return output.getvalue()
 
+    def verdict_of(self, condition):
+        """Returns what is found of a condition on the first target."""
+        dependency = _manifest.Dependency("a", "normal", False, f"cfg({condition})", False)
+        target = _manifest.Target(TRIPLES[0], FACTS[TRIPLES[0]].splitlines())
+        return _manifest.verdict_on(dependency, target)
+
 
 class Manifest(Folder):
     """The dependencies in a manifest, and their table."""
@@ -269,12 +275,6 @@ class Manifest(Folder):
         self.assertEqual(untried, (None, "it asks 9 unknown flags, and at most 8 are tried"))
         known = self.verdict_of(f"all(windows, any({', '.join(flags)}))")
         self.assertEqual(known, (False, ""))
-
-    def verdict_of(self, condition):
-        """Returns what is found of a condition on the first target."""
-        dependency = _manifest.Dependency("a", "normal", False, f"cfg({condition})", False)
-        target = _manifest.Target(TRIPLES[0], FACTS[TRIPLES[0]].splitlines())
-        return _manifest.verdict_on(dependency, target)
 
     @unittest.skipUnless(shutil.which("cargo"), "there is no Cargo here")
     def test_rows_of_a_workspace_name_their_package(self):

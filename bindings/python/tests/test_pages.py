@@ -33,6 +33,11 @@ class Page(Folder):
         self.assertEqual(command[:4], ["python3", "-m", "cfgx", "Cargo.toml"])
         self.assertEqual(self.run_main(self.path, *command[4:]), table)
 
+    def test_the_line_of_several_flags(self):
+        with open(MANIFESTS_PAGE, encoding="utf-8") as file:
+            [(condition, line)] = re.findall(r"For `(.*)` it says\n`(.*)`\.$", file.read(), re.M)
+        self.assertEqual(line, f"unknown: {self.verdict_of(condition)[1]}")
+
 
 def load_tests(loader, tests, pattern):
     """Adds the examples to the tests."""
