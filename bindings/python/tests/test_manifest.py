@@ -1,14 +1,17 @@
 """The table of the dependencies of a Cargo.toml."""
 import contextlib
 import io
+import itertools
 import os
+import re
 import shutil
 import subprocess
+import sys
 import tempfile
 import unittest
 import unittest.mock
 
-from . import PACKAGE  # noqa: F401
+from . import PACKAGE
 
 from cfgx import __main__, _manifest
 
@@ -48,7 +51,7 @@ TABLE = """\
 dependency x86_64-unknown-linux-gnu x86_64-pc-windows-gnu aarch64-apple-ios condition
 cc (build, optional) yes yes yes
 fuzz (dev) unknown unknown unknown cfg(any(proc_macro, test, fuzzing, key = "é"))
-unknown: yes if fuzzing and key = "é"; no if not(fuzzing) and not(key = "é")
+unknown: for example, yes if not(fuzzing) and key = "é"; no if not(fuzzing) and not(key = "é")
 log yes yes yes
 objc2 no no unknown cfg(all(target_vendor = "apple", not(loom)))
 unknown: yes if not(loom); no if loom
@@ -72,6 +75,48 @@ CONDITIONS = (
     "windows", "unix", 'any(target_env = "musl", target_os = "macos")',
 )
 KINDS = ("dependencies", "dev-dependencies", "build-dependencies")
+# Flags that RUSTFLAGS may set, conditions over them, and what the table says of each condition.
+FLAGS = ("loom", "tokio_unstable", 'key = "x"')
+FLAG_VERDICTS = {
+    "loom": "unknown", "any(loom, tokio_unstable)": "unknown",
+    "all(loom, not(tokio_unstable))": "unknown",
+    "any(loom, not(loom))": "yes", "all(loom, not(loom))": "no",
+    "any(all(loom, unix), all(not(loom), unix))": "yes",
+    "any(all(loom, windows), all(not(loom), windows))": "no",
+    'any(all(loom, key = "x"), all(not(loom), not(key = "x")))': "unknown",
+    'any(all(loom, not(loom)), all(tokio_unstable, not(key = "x")))': "unknown",
+    'not(any(not(loom), all(tokio_unstable, key = "x"), windows))': "unknown",
+}
+# A workspace with a macro.
+WORKSPACE = {
+    "Cargo.toml": '[workspace]\nmembers = ["one", "two"]\nresolver = "2"\n',
+    "one/Cargo.toml": """\
+[package]
+name = "one"
+version = "0.1.0"
+edition = "2021"
+
+[target.'cfg(windows)'.dependencies]
+winapi = "0.3"
+""",
+    "two/Cargo.toml": """\
+[package]
+name = "two"
+version = "0.1.0"
+edition = "2021"
+
+[lib]
+proc-macro = true
+
+[target.'cfg(unix)'.dependencies]
+winapi = "0.3"
+""",
+}
+WORKSPACE_TABLE = """\
+package dependency x86_64-pc-windows-gnu condition
+one winapi yes cfg(windows)
+two winapi (host) yes cfg(unix)
+"""
 
 
 def package_of(name):
@@ -79,10 +124,10 @@ def package_of(name):
     return f'[package]\nname = "{name}"\nversion = "0.1.0"\nedition = "2021"\n'
 
 
-def tables_of(conditions):
+def tables_of(conditions, kinds):
     """Yields for each condition and each kind a table of a manifest with one dependency."""
     for number, condition in enumerate(conditions):
-        for kind in KINDS:
+        for kind in kinds:
             name = f"{kind[:3]}{number}"
             yield f"[target.'cfg({condition})'.{kind}]\n{name} = {{ path = \"{name}\" }}\n"
 
@@ -120,6 +165,12 @@ class Folder(unittest.TestCase):
             __main__.main()
         return output.getvalue()
 
+    def verdict_of(self, condition):
+        """Returns what is found of a condition on the first target."""
+        dependency = _manifest.Dependency("a", "normal", False, f"cfg({condition})", False)
+        target = _manifest.Target(TRIPLES[0], FACTS[TRIPLES[0]].splitlines())
+        return _manifest.verdict_on(dependency, target)
+
 
 class Manifest(Folder):
     """The dependencies in a manifest, and their table."""
@@ -128,8 +179,7 @@ class Manifest(Folder):
     def test_both_readers_list_the_same(self):
         listed = _manifest.dependencies_of(self.path)
         with no_cargo():
-            self.assertEqual(sorted(map(str, _manifest.dependencies_of(self.path))),
-                             sorted(map(str, listed)))
+            self.assertEqual(_manifest.dependencies_of(self.path), listed)
         self.assertEqual(len(listed), 7)
         self.assertEqual({one.name for one in listed if one.is_on_host}, {"cc", "vcpkg"})
 
@@ -172,13 +222,102 @@ class Manifest(Folder):
     @unittest.skipUnless(shutil.which("cargo") and shutil.which("rustc"), "there is no Cargo here")
     def test_it_says_what_cargo_says(self):
         for library in ("", "[lib]\nproc-macro = true\n"):
-            self.write(self.path, package_of("a") + library + "".join(tables_of(CONDITIONS)))
-            for place in range(len(CONDITIONS)):
-                for kind in KINDS:
-                    self.write_package(f"{kind[:3]}{place}")
+            self.write_all(library, CONDITIONS, KINDS)
             for triple in (*TRIPLES, "x86_64-unknown-linux-musl"):
                 with self.subTest(library=library, triple=triple):
                     self.assertEqual(self.taken_on(triple), self.taken_by_cargo(triple))
+
+    @unittest.skipUnless(shutil.which("cargo") and shutil.which("rustc"), "there is no Cargo here")
+    def test_flags_decide_as_it_says(self):
+        self.write_all("", FLAG_VERDICTS, KINDS[:1])
+        table = self.run_main(self.path, "--target", TRIPLES[0])
+        found = self.verdicts_of(table)
+        self.assertEqual({key: verdict for key, (verdict, _) in found.items()}, FLAG_VERDICTS)
+        compared = 0
+        for given in itertools.product((False, True), repeat=len(FLAGS)):
+            setting = dict(zip(FLAGS, given))
+            flags = " ".join(f"--cfg {flag.replace(' ', '')}" for flag in FLAGS if setting[flag])
+            with unittest.mock.patch.dict("os.environ", RUSTFLAGS=flags):
+                taken = self.taken_by_cargo(TRIPLES[0])
+            for place, condition in enumerate(FLAG_VERDICTS):
+                for value, example in found[condition][1]:
+                    if example.items() <= setting.items():
+                        with self.subTest(condition=condition, setting=setting):
+                            self.assertEqual(f"dep{place}" in taken, value)
+                        compared += 1
+        # A verdict holds for all 8 settings of the flags. An example holds for each setting that
+        # agrees with it: for 4 if it names one flag, for 2 if two, and for 1 if three.
+        self.assertEqual(compared, 4 * 8 + 2 * (4 + 2 + 2 + 2 + 1 + 1))
+
+    def verdicts_of(self, table):
+        """Returns for each condition of a table over one target the verdict, and values with the
+        flags that lead to each: none for `yes` and `no`, and those of both examples otherwise."""
+        verdicts = {}
+        for line in table.splitlines()[1:]:
+            row = re.match(r"dep\d+ +(\w+) +cfg\((.*)\)$", line)
+            if row:
+                condition = row[2]
+                verdicts[condition] = row[1], [(row[1] == "yes", {})]
+                continue
+            reason = re.match("    unknown: (?:for example, )?yes if (.*); no if (.*)$", line)
+            examples = [
+                (value, {flag: f"not({flag})" not in text for flag in FLAGS if flag in text})
+                for value, text in zip((True, False), reason.groups())
+            ]
+            verdicts[condition] = "unknown", examples
+        return verdicts
+
+    def test_many_flags_are_not_tried(self):
+        flags = [f"a{number}" for number in range(_manifest.MOST_TRIED + 1)]
+        tried = self.verdict_of(f"any({', '.join(flags[1:])}, not(a1))")
+        self.assertEqual(tried, (True, ""))
+        untried = self.verdict_of(f"any({', '.join(flags)}, not(a0))")
+        self.assertEqual(untried, (None, "it asks 9 unknown flags, and at most 8 are tried"))
+        known = self.verdict_of(f"all(windows, any({', '.join(flags)}))")
+        self.assertEqual(known, (False, ""))
+
+    @unittest.skipUnless(shutil.which("cargo"), "there is no Cargo here")
+    def test_rows_of_a_workspace_name_their_package(self):
+        folder = os.path.dirname(self.path)
+        for name in ("one", "two"):
+            self.write_package(name)
+        for name, text in WORKSPACE.items():
+            self.write(os.path.join(folder, name), text)
+        with unittest.mock.patch.object(_manifest, "rustc_lines", printed):
+            table = self.run_main(self.path, "--target", TRIPLES[1])
+            one = self.run_main(os.path.join(folder, "one/Cargo.toml"), "--target", TRIPLES[1])
+        self.assertEqual([line.split() for line in table.splitlines()],
+                         [line.split() for line in WORKSPACE_TABLE.splitlines()])
+        self.assertEqual(one.split(), ["dependency", TRIPLES[1], "condition", "winapi", "yes",
+                                       "cfg(windows)"])
+
+    @unittest.skipUnless(tomllib, "Python cannot read a manifest")
+    def test_a_workspace_without_cargo(self):
+        self.write(self.path, WORKSPACE["Cargo.toml"])
+        with no_cargo(), self.assertRaises(_manifest.ManifestError) as caught:
+            _manifest.dependencies_of(self.path)
+        wanted = "it has no package, and only cargo finds those of a workspace"
+        self.assertEqual(str(caught.exception), f"{self.path}: {wanted}")
+
+    @unittest.skipUnless(shutil.which("cargo") and shutil.which("rustc"), "there is no Cargo here")
+    def test_an_output_that_nobody_reads(self):
+        reader, writer = os.pipe()
+        os.close(reader)
+        command = [sys.executable, "-m", "cfgx", self.path, "--target", TRIPLES[0]]
+        run = subprocess.run(
+            command, stdout=writer, stderr=subprocess.PIPE, check=False,
+            env={**os.environ, "PYTHONPATH": PACKAGE},
+        )
+        os.close(writer)
+        self.assertEqual((run.returncode, run.stderr), (0, b""))
+
+    def write_all(self, library, conditions, kinds):
+        """Writes a manifest with a dependency of each kind for each condition, and their
+        packages."""
+        self.write(self.path, package_of("a") + library + "".join(tables_of(conditions, kinds)))
+        for place in range(len(conditions)):
+            for kind in kinds:
+                self.write_package(f"{kind[:3]}{place}")
 
     def write_package(self, name):
         """Writes a package in a folder of the package."""

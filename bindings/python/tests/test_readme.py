@@ -14,6 +14,7 @@ def load_tests(loader, tests, pattern):
         blocks = re.findall(r"^```python\n(.*?)^```$", file.read(), re.M | re.S)
     if not blocks:
         raise ValueError(f"{README} has no block of Python")
-    examples = [doctest.DocTestParser().get_doctest(block, {}, README, README, 0) for block in blocks]
+    parser = doctest.DocTestParser()
+    examples = [parser.get_doctest(block, {}, README, README, 0) for block in blocks]
     tests.addTests(map(doctest.DocTestCase, examples))
     return tests

@@ -177,8 +177,9 @@ impl Expression {
     /// fillings of the unknown answers, one with which it is true and one with which it is false.
     ///
     /// Each occurrence of a predicate is asked once, in the order of
-    /// [`predicates`](Expression::predicates). The value is known exactly if every filling leads to
-    /// it.
+    /// [`predicates`](Expression::predicates), and is filled by itself. So a filling may make the
+    /// same predicate true in one place and false in another. The value is known exactly if every
+    /// filling leads to it.
     ///
     /// ```
     /// use cfgx::{Decision, Expression, Predicate};

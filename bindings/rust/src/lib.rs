@@ -1,12 +1,17 @@
 //! Conditions of `#[cfg(..)]`, such as `all(unix, feature = "x")`: parses them, lists their
 //! predicates and evaluates them.
 //!
-//! This crate has the surface of [`cfg-expr`](https://docs.rs/cfg-expr/0.20) over an engine whose
-//! calls are proved. A program that uses `cfg-expr` changes one line of its manifest:
+//! This crate has the names and signatures of [`cfg-expr`](https://docs.rs/cfg-expr/0.20), but for
+//! the table in `docs/RUST.md` of its repository. A program that uses nothing of this table changes
+//! one line of its manifest, in which `../cfgx` stands for the folder of the repository:
 //!
 //! ```toml
-//! cfg-expr = { package = "cfgx", path = "bindings/rust" }
+//! cfg-expr = { package = "cfgx", path = "../cfgx/bindings/rust" }
 //! ```
+//!
+//! The crate calls an engine that is proved: [`Expression::parse`], [`Expression::decide`] and
+//! [`audit()`] get their results from it. [`Expression::eval`] is code of this crate, which is
+//! tested, and not proved.
 //!
 //! ```
 //! use cfgx as cfg_expr;

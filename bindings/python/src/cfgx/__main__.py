@@ -1,5 +1,6 @@
 """Prints which dependencies of a Cargo.toml each target takes."""
 import argparse
+import os
 import re
 import sys
 from typing import Iterator, List, Sequence
@@ -23,14 +24,16 @@ def name_of(dependency: Dependency) -> str:
 def rows_of(dependencies: Sequence[Dependency], targets: Sequence[Target]) -> Iterator[List[str]]:
     """Yields the cells of each line of the table. A line of one cell has the reason of an unknown
     above it."""
-    yield ["dependency", *(target.triple for target in targets), "condition"]
+    first = ["package"] if any(dependency.package for dependency in dependencies) else []
+    yield [*first, "dependency", *(target.triple for target in targets), "condition"]
     is_host_needed = any(dependency.is_on_host for dependency in dependencies)
     builds = [target_of(host())] * len(targets) if is_host_needed else []
     for dependency in dependencies:
         judged = builds if dependency.is_on_host else targets
         verdicts = [verdict_on(dependency, target) for target in judged]
         values = [NAMES[value] for value, _ in verdicts]
-        yield [name_of(dependency), *values, dependency.target or ""]
+        first = [dependency.package] if dependency.package else []
+        yield [*first, name_of(dependency), *values, dependency.target or ""]
         # Targets with the same reason share a line.
         for reason in dict.fromkeys(reason for _, reason in verdicts if reason):
             yield [f"    unknown: {reason}"]
@@ -66,9 +69,14 @@ def main() -> None:
     try:
         dependencies = dependencies_of(words.manifest)
         targets = [target_of(triple) for triple in words.target]
-        print("\n".join(aligned(list(rows_of(dependencies, targets)))))
+        lines = list(aligned(list(rows_of(dependencies, targets))))
     except (ManifestError, RustcError) as error:
         sys.exit(str(error))
+    try:
+        print("\n".join(lines), flush=True)
+    except BrokenPipeError:
+        # Whoever reads has enough. Python writes what is left at its end, which must not fail too.
+        os.dup2(os.open(os.devnull, os.O_WRONLY), sys.stdout.fileno())
 
 
 if __name__ == "__main__":

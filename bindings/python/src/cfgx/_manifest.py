@@ -1,9 +1,10 @@
 """The dependencies of a Cargo.toml, and on which targets Cargo takes them."""
+import itertools
 import json
 import os
 import shutil
 import subprocess
-from typing import Any, Dict, Iterator, List, NamedTuple, Optional, Tuple
+from typing import Any, Dict, Iterator, List, NamedTuple, Optional, Sequence, Tuple
 
 from ._audit import audit, rustc_lines
 from ._error import ParseError
@@ -15,6 +16,8 @@ TABLES = {
     "dev-dependencies": "dev", "dev_dependencies": "dev",
     "build-dependencies": "build", "build_dependencies": "build",
 }
+# How many unknown predicates a condition may ask so that all their answers are tried.
+MOST_TRIED = 8
 
 
 class ManifestError(Exception):
@@ -35,11 +38,13 @@ class Dependency(NamedTuple):
     is_on_host: bool
     """Whether Cargo judges it on the machine that builds, and not on the target: one that a build
     script or a macro uses."""
+    package: str = ""
+    """The name of the package that has it, if the manifest stands for those of a workspace."""
 
 
 def dependencies_of(path: str) -> List[Dependency]:
     """Returns the dependencies in the manifest at a path, as Cargo lists them, or without Cargo as
-    they stand in it. Raises `ManifestError`."""
+    they stand in it, in the same order. Raises `ManifestError`."""
     if shutil.which("cargo"):
         return list(listed_by_cargo(path))
     try:
@@ -50,7 +55,10 @@ def dependencies_of(path: str) -> List[Dependency]:
         ) from None
     try:
         with open(path, "rb") as file:
-            return list(listed_in(tomllib.load(file)))
+            manifest = tomllib.load(file)
+        if "package" not in manifest:
+            raise ValueError("it has no package, and only cargo finds those of a workspace")
+        return list(listed_in(manifest))
     except (OSError, ValueError) as error:
         raise ManifestError(f"{path}: {error}") from error
 
@@ -70,7 +78,8 @@ def listed_by_cargo(path: str) -> Iterator[Dependency]:
         for found in package["dependencies"]:
             name, kind = found["rename"] or found["name"], found["kind"] or "normal"
             is_on_host = is_macro or kind == "build"
-            yield Dependency(name, kind, found["optional"], found["target"], is_on_host)
+            owner = "" if own else package["name"]
+            yield Dependency(name, kind, found["optional"], found["target"], is_on_host, owner)
 
 
 def is_same_file(path: str, other: str) -> bool:
@@ -83,10 +92,10 @@ def listed_in(manifest: Dict[str, Any]) -> Iterator[Dependency]:
     stands in the place of a table."""
     library, targets = table_in(manifest, "lib"), table_in(manifest, "target")
     is_macro = bool(library.get("proc-macro") or library.get("proc_macro"))
-    for target in (None, *targets):
+    for target in (None, *sorted(targets)):
         tables = manifest if target is None else table_in(targets, target)
         for table, kind in TABLES.items():
-            for name, found in table_in(tables, table).items():
+            for name, found in sorted(table_in(tables, table).items()):
                 is_optional = isinstance(found, dict) and bool(found.get("optional"))
                 yield Dependency(name, kind, is_optional, target, is_macro or kind == "build")
 
@@ -132,14 +141,28 @@ def verdict_on(dependency: Dependency, target: Target) -> Tuple[Optional[bool], 
     except ParseError as error:
         raise ManifestError(f"the condition of {dependency.name} is faulty:\n{error}") from error
     answers = answers_on(expression, target)
-    value, if_true, if_false = expression.decide(answers)
-    if if_true is None or if_false is None:
-        return value, ""
-    unknown = [place for place, answer in enumerate(answers) if answer is None]
-    asked = [expression.predicates[place] for place in unknown]
-    if_taken = spelled(asked, [if_true[place] for place in unknown])
-    if_left = spelled(asked, [if_false[place] for place in unknown])
-    return None, f"yes if {if_taken}; no if {if_left}"
+    value = expression.eval(answers)
+    return (value, "") if value is not None else tried(expression, answers)
+
+
+def tried(expression: Expression, answers: List[Optional[bool]]) -> Tuple[Optional[bool], str]:
+    """Returns the value of a condition if it is the same with all answers to the unknown
+    predicates, or else `None` and examples of answers. Cargo answers equal predicates alike, and
+    the engine answers each occurrence by itself."""
+    both = list(zip(expression.predicates, answers))
+    asked = list(dict.fromkeys(predicate for predicate, answer in both if answer is None))
+    if len(asked) > MOST_TRIED:
+        return None, f"it asks {len(asked)} unknown flags, and at most {MOST_TRIED} are tried"
+    examples: Dict[Optional[bool], Tuple[bool, ...]] = {}
+    for given in itertools.product((False, True), repeat=len(asked)):
+        filled = dict(zip(asked, given))
+        value = expression.eval([filled.get(predicate, answer) for predicate, answer in both])
+        examples.setdefault(value, given)
+    if len(examples) == 1:
+        return next(iter(examples)), ""
+    if_taken, if_left = spelled(asked, examples[True]), spelled(asked, examples[False])
+    start = "for example, " if len(asked) > 1 else ""
+    return None, f"{start}yes if {if_taken}; no if {if_left}"
 
 
 def answers_on(expression: Expression, target: Target) -> List[Optional[bool]]:
@@ -161,7 +184,7 @@ def is_false(predicate: Predicate, text: str, answer: Optional[bool]) -> bool:
     return answer is None and predicate.kind not in (Kind.FLAG, Kind.KEY_VALUE)
 
 
-def spelled(predicates: List[Predicate], answers: List[bool]) -> str:
+def spelled(predicates: Sequence[Predicate], answers: Sequence[bool]) -> str:
     """Returns the predicates, each in `not( )` if its answer is false."""
     both = zip(predicates, answers)
     return " and ".join(str(one) if answer else f"not({one})" for one, answer in both)

@@ -7,6 +7,7 @@ mod generated;
 mod leaks;
 mod logics;
 mod long;
+mod manifests;
 mod memory;
 mod real;
 mod recorded;
