@@ -72,8 +72,8 @@ left_to trees answers = record {
   leaves = left_after (asked_by is_function trees) answers;
 }
 
--- The tree with an answer in the place of each predicate. The answers are taken in the order in
--- which the tree asks; a predicate for which none is left has the answer `otherwise`.
+-- The tree in which an answer replaces each predicate. The answers are taken in the order in which
+-- the tree asks; a predicate for which none is left has the answer `otherwise`.
 abbrev mutual
   pub answered : {X T : Type 0} → T → Tree X → List T → Tree T
   answered otherwise (Tree.leaf x) answers = Tree.leaf (first_or otherwise answers)
