@@ -18,8 +18,8 @@ pub record AsksInOrder (text : List ℕ) (questions : List Question) : Type 0 wh
   pub well_formed : AllByRecursion IsWellFormed questions
 
 module _ {F T : Type 0} (logic : Operations T) (asker : Asker F T) where
-  -- the closure was asked what the text's one tree asks, one call each, and the value is that of
-  -- the tree over its answers
+  -- calls of the closure, one for each question of the text's one tree in order, lead from `before`
+  -- to `after`, and `value` is that of the tree over their answers
   pub record Evaluates (text : List ℕ) (before : F) (value : T) (after : F) : Type 0 where
     pub one : HasOneTree text
     pub answers : List T
@@ -41,12 +41,12 @@ pub record IsValueBy {T : Type 0} (logic : Operations T) (text : List ℕ)
 pub record EvaluatesTo {F T E : Type 0} (logic : Operations T) (asker : Asker F T) (text : List ℕ)
     (before after : F) (result : Result T E) : Type 0 where
   pub value : IfOk result (λ value. Evaluates logic asker text before value after)
-  -- what follows of a closure that no call changes, such as one without state
+  -- what follows if no call changes the closure and its answer is a function of the question
   pub by : IfOk result (λ value. (answer_to : Question → T) → AnswersBy asker before answer_to
       → IsValueBy logic text answer_to value)
-  -- nothing was asked
+  -- after an error the closure is as it was
   pub refused : OnErr result (after ≡ before)
-  -- a text of at most 32 bytes needs no memory
+  -- for a text of at most 32 bytes there is no error
   pub short : length text ≤ 32 → IsOk result
 
 -- the value of the text's one tree over the answers, in all lanes at once and in each by itself

@@ -172,12 +172,12 @@ impl<A: SmallAllocator> Expression<A> {
     /// of `all` are joined by `and` to `top`, and those of `any` by `or` to `bottom`: from the last
     /// back, first the predicates and literals of the list, and then its functions.
     ///
-    /// `ep` must be callable on each predicate, in every state in which earlier calls leave it. All
-    /// memory is taken before the first question, and none for a text of at most 32 bytes.
+    /// `ep` must be callable on each predicate, in every state in which earlier calls leave it.
     ///
     /// # Errors
     ///
-    /// `AllocError`: `alloc` refused memory. `ep` has not changed, so nothing was asked.
+    /// `AllocError`: `alloc` refused memory, which happens only for a text of more than 32 bytes.
+    /// `ep` is as it was.
     pub fn eval<EP, T>(&self, alloc: A, ep: &mut EP) -> Result<T, AllocError>
     where
         EP: FnMut(&Predicate<'_>) -> T,
@@ -231,11 +231,11 @@ impl<A: SmallAllocator> Expression<A> {
     ///
     /// `answers` has one answer for each occurrence of a predicate, in the order of `predicates`.
     /// They are joined as in `eval`, so each lane of the value is the value over this lane of the
-    /// answers. Takes no memory for a text of at most 32 bytes.
+    /// answers.
     ///
     /// # Errors
     ///
-    /// `AllocError`: `alloc` refused memory.
+    /// `AllocError`: `alloc` refused memory, which happens only for a text of more than 32 bytes.
     pub fn eval_lanes(&self, alloc: A, answers: &[Kleene64]) -> Result<Kleene64, AllocError>
         requires { AreAnswersTo answers.now self.now }
         // This also holds if the call is out of memory.
@@ -245,6 +245,7 @@ impl<A: SmallAllocator> Expression<A> {
     {
         self.condition().eval_lanes(alloc, answers)
     }
+
     /// Compiles the condition to steps, which ask its predicates in the order of `predicates`. Run
     /// with a stack, by `eval_steps` or by a loop in any language, they give what `eval` gives.
     ///

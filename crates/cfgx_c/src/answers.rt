@@ -9,6 +9,7 @@ ghost use Rattle.cfgx_grammar.specs.Tree.{asked};
 ghost use Rattle.cfgx_c.specs.Value.{answer_of, byte_of_value, first_answer};
 
 use cfg_expr::{Expression, Predicate};
+use smallvec::SmallVec;
 use std::alloc::{AllocError, Global};
 
 /// Returns the byte of a value.
@@ -33,22 +34,17 @@ fn answer_of(byte: u8) -> Option<bool>
     }
 }
 
-/// Writes the answers in `bytes` to `room`.
-pub(crate) fn read_answers(bytes: &[u8], room: &mut [Option<bool>])
-    requires { length room.old ≡ length bytes.now }
-    ensures { room.new ≡ map answer_of bytes.now }
-{
-    for i in 0..bytes.len() {
-        room[i] = answer_of(bytes[i]);
-    }
-}
-
-/// Returns the answers in `bytes`.
-pub(crate) fn answers_of(alloc: Global, bytes: &[u8]) -> Result<Vec<Option<bool>>, AllocError>
+/// Returns the answers in `bytes`. Takes no memory for up to 33 answers.
+pub(crate) fn answers_of<'a>(
+    alloc: &'a Global,
+    bytes: &[u8],
+) -> Result<SmallVec<Option<bool>, 33, &'a Global>, AllocError>
     ensures { IfOk result (λ answers. answers.items ≡ map answer_of bytes.now) }
 {
-    let mut answers = vec![in alloc; None; bytes.len()]?;
-    read_answers(bytes, answers.as_mut_slice());
+    let mut answers = SmallVec::with_capacity(alloc, bytes.len())?;
+    for byte in bytes {
+        answers.push_reserved(answer_of(*byte));
+    }
     Ok(answers)
 }
 

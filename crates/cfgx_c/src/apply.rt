@@ -1,6 +1,6 @@
 // The value of the condition that has some steps.
 
-ghost use Rattle.std.specs.Prelude.{◌≡◌, ◌≢◌, ◌≤◌, ◌⊎◌, IfErr, IfOk, length};
+ghost use Rattle.std.specs.Prelude.{◌≡◌, ◌≢◌, ◌⊎◌, IfErr, IfOk};
 ghost use Rattle.cfgx_grammar.specs.Question.{Question};
 ghost use Rattle.cfgx_grammar.specs.Tree.{Tree};
 ghost use Rattle.cfgx_c.specs.Status.{done, miscounted, no_tree, out_of_memory};
@@ -8,57 +8,12 @@ ghost use Rattle.cfgx_c.specs.Steps.{Applies, HasCSteps, IsMiscounted};
 ghost use Rattle.cfgx_c.specs.Value.{byte_of_value};
 ghost use Rattle.cfgx_c.specs.internal.Applying.{DoNotApply};
 
-use crate::answers::{byte_of_value, read_answers};
+use crate::answers::{answers_of, byte_of_value};
 use crate::status::{DONE, MISCOUNTED, NO_TREE, OUT_OF_MEMORY};
 use crate::steps::{CfgxStep, read_steps};
-use cfg_expr::expr::{Step, StepsError, eval_steps};
+use cfg_expr::expr::{StepsError, eval_steps};
+use smallvec::SmallVec;
 use std::alloc::Global;
-
-/// The most steps, and the most answers, that take no memory.
-const INLINE: usize = 33;
-
-/// Evaluates the condition that has these steps over `answers`. Reads the steps into `step_room`,
-/// and the answers into `answer_room`.
-fn eval_in(
-    alloc: Global,
-    steps: &[CfgxStep],
-    answers: &[u8],
-    step_room: &mut [Step],
-    answer_room: &mut [Option<bool>],
-) -> Result<Option<bool>, StepsError>
-    requires steps { length step_room.old ≡ length steps.now }
-    requires answers { length answer_room.old ≡ length answers.now }
-    ensures value { IfOk result (λ value. Applies steps.now answers.now (byte_of_value value)) }
-    ensures error { IfErr result (DoNotApply steps.now answers.now) }
-{
-    if !read_steps(steps, step_room) {
-        return Err(StepsError::NoTree);
-    }
-    read_answers(answers, answer_room);
-    eval_steps(alloc, &*step_room, &*answer_room)
-}
-
-/// Evaluates the condition that has these steps over `answers`, with no memory.
-fn eval_inline(
-    alloc: Global,
-    steps: &[CfgxStep],
-    answers: &[u8],
-) -> Result<Option<bool>, StepsError>
-    requires steps { length steps.now ≤ 33 }
-    requires answers { length answers.now ≤ 33 }
-    ensures value { IfOk result (λ value. Applies steps.now answers.now (byte_of_value value)) }
-    ensures error { IfErr result (DoNotApply steps.now answers.now) }
-{
-    let mut step_room = [Step::Ask; INLINE];
-    let mut answer_room = [None; INLINE];
-    eval_in(
-        alloc,
-        steps,
-        answers,
-        &mut step_room[..steps.len()],
-        &mut answer_room[..answers.len()],
-    )
-}
 
 /// Evaluates the condition that has these steps over `answers`. Takes no memory for up to 33 steps
 /// with up to 33 answers.
@@ -70,18 +25,12 @@ fn eval_c_steps(
     ensures value { IfOk result (λ value. Applies steps.now answers.now (byte_of_value value)) }
     ensures error { IfErr result (DoNotApply steps.now answers.now) }
 {
-    if steps.len() <= INLINE && answers.len() <= INLINE {
-        return eval_inline(alloc, steps, answers);
+    let mut list = SmallVec::with_capacity(&alloc, steps.len())?;
+    if !read_steps(steps, &mut list) {
+        return Err(StepsError::NoTree);
     }
-    let mut step_room = vec![in alloc; Step::Ask; steps.len()]?;
-    let mut answer_room = vec![in alloc; None; answers.len()]?;
-    eval_in(
-        alloc,
-        steps,
-        answers,
-        step_room.as_mut_slice(),
-        answer_room.as_mut_slice(),
-    )
+    let answers = answers_of(&alloc, answers)?;
+    eval_steps(alloc, list.as_slice(), answers.as_slice())
 }
 
 /// Evaluates the condition that has these steps over answers, which are as for `cfgx_value`. Any

@@ -58,7 +58,7 @@ fn decide_over_bytes(
     requires { AreAnswersTo answers.now condition.now }
     ensures { IfOk result (Decides condition.now (map answer_of answers.now)) }
 {
-    let answers = answers_of(alloc, answers)?;
+    let answers = answers_of(&alloc, answers)?;
     condition.decide(alloc, answers.as_slice())
 }
 

@@ -1,10 +1,12 @@
 // Steps as C sees them.
 
-ghost use Rattle.std.specs.Prelude.{◌≡◌, IfOk, List, MatchBool, MatchOption, length, map};
+ghost use Rattle.std.specs.Prelude.{◌≡◌, [], IfOk, List, MatchBool, MatchOption, length, map};
+ghost use Rattle.smallvec.specs.SmallVec.{HasRoomFor};
 ghost use Rattle.cfg_expr.specs.declared.expr.steps.Step.{Step};
 ghost use Rattle.cfgx_c.specs.Steps.{c_step};
 
 use cfg_expr::expr::Step;
+use smallvec::SmallVec;
 use std::alloc::{AllocError, Global};
 
 /// A step of the evaluation of a condition with a stack.
@@ -59,17 +61,19 @@ fn step_of(step: CfgxStep) -> Option<Step>
     }
 }
 
-/// Writes the steps that C sees as `steps` to `room`. Returns false if there are no such steps.
-pub(crate) fn read_steps(steps: &[CfgxStep], room: &mut [Step]) -> bool
-    requires { length room.old ≡ length steps.now }
-    ensures { MatchBool result (map c_step room.new ≡ steps.now)
+/// Pushes the steps that C sees as `steps` to `list`, which is empty and has room for them. Returns
+/// false if there are no such steps.
+pub(crate) fn read_steps(steps: &[CfgxStep], list: &mut SmallVec<Step, 33, &Global>) -> bool
+    requires empty { list.old.items ≡ [] }
+    requires room { HasRoomFor list.old (length steps.now) }
+    ensures { MatchBool result (map c_step list.new.items ≡ steps.now)
         ((list : List Step) → ¬ (map c_step list ≡ steps.now)) }
 {
-    for i in 0..steps.len() {
-        let Some(step) = step_of(steps[i]) else {
+    for step in steps {
+        let Some(step) = step_of(*step) else {
             return false;
         };
-        room[i] = step;
+        list.push_reserved(step);
     }
     true
 }

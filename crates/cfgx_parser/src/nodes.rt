@@ -139,7 +139,7 @@ const MIN_CAPACITY: usize = 3;
 /// grows where it stands, and is not copied.
 const MAX_CAPACITY: usize = 2560;
 
-/// The capacity that a reader reserves on its first text.
+/// The capacity that a reader reserves before its second text.
 pub(crate) const KEPT_CAPACITY: usize = 8;
 
 /// Returns the capacity to reserve for the nodes of a text of `len` bytes.
@@ -199,9 +199,9 @@ impl<A: SmallAllocator> Writer<A> {
         self.first_capacity = capacity_for(len);
     }
 
-    /// Whether the nodes are inline.
-    pub(crate) fn is_inline(&self) -> bool {
-        !self.nodes.spilled()
+    /// Whether nodes were written since the last restart, and places are still inline.
+    pub(crate) fn is_used_inline(&self) -> bool {
+        self.node_count > 0 && !self.leaves.spilled()
     }
 
     /// Moves the vectors to the heap.

@@ -254,17 +254,18 @@ impl<'a, A: SmallAllocator> Parser<'a, A> {
         self.writer.move_to_heap()
     }
 
-    /// Clears the state for a text of `len` bytes, and keeps the memory. No fault is left from the
-    /// last text: `failure` has taken it.
+    /// Clears the state for a text of `len` bytes, and keeps the memory. After a first text moves
+    /// the vectors to the heap. No fault is left from the last text: `failure` has taken it.
     #[inline(always)]
     pub(crate) fn restart(&mut self, len: usize) -> Result<(), AllocError>
         ensures { state_of self.new ≡ initial }
     {
+        let is_second = self.writer.is_used_inline();
         self.func_stack.clear();
         self.list = OpenList::new();
         self.pending = None;
         self.writer.restart(len);
-        if self.writer.is_inline() {
+        if is_second {
             self.move_to_heap()?;
         }
         Ok(())

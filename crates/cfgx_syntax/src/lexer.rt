@@ -76,6 +76,8 @@ fn after_blanks(text: &str) -> &str
 
 /// Returns `text` without its leading white space, and the class of the first byte that is left, or
 /// `None` if none is left.
+// As calls, this and `first_token` would add a third to the instructions of parsing a short text.
+#[inline(always)]
 #[tactic(auto, using(crate::proofs::Blanks::trimmed_already))]
 fn trimmed(text: &str) -> (&str, Option<Class>)
     ensures trimmed { IsTrimStart text.now result.0.now }
@@ -136,6 +138,7 @@ fn value_token(text: &str) -> Result<(Token<'_>, usize), (Reason, usize)>
 ///
 /// If no token starts there, the error has the reason and the number of bytes at fault: all of them
 /// after a quote that is never closed, else one, even of a longer character.
+#[inline(always)]
 fn first_token(text: &str, class: Class) -> Result<(Token<'_>, usize), (Reason, usize)>
     requires { BeginsWithClass text.now (Some class) }
     ensures { BeginsAs text.now result }

@@ -66,8 +66,8 @@ abbrev pub joined_list : {T : Type 0} → Operations T → Connective → ℕ �
 joined_list logic connective count stack = let present = min count (length stack) in
     slot.Function (joined logic connective (take present stack)) ∷ drop present stack
 
--- the stack with a predicate's answer, with a literal, or with a function in the place of its
--- members
+-- the stack onto which a predicate's answer or a literal is pushed, or in which a function replaces
+-- its members
 abbrev pub put : {T : Type 0} → Operations T → Shape → Slot T → List (Slot T) → List (Slot T)
 put logic Shape.predicate answer stack = answer ∷ stack
 put logic (Shape.literal truth) answer stack = slot.Leaf (literal_value logic truth) ∷ stack

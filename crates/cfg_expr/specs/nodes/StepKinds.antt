@@ -13,8 +13,8 @@ functions_first behind_leaf (true ∷ kinds) =
     if behind_leaf then false else functions_first false kinds
 functions_first behind_leaf (false ∷ kinds) = functions_first true kinds
 
--- the stack with the tree of a function in the place of its `count` members, if the stack has at
--- least `count` trees and these members are arranged
+-- the stack in which the tree of a function replaces its `count` members, if the stack has at least
+-- `count` trees and these members are arranged
 abbrev pub joined_kinds : ℕ → List Bool → Option (List Bool)
 joined_kinds count kinds =
     if nat_le count (length kinds) && functions_first false (last_values count kinds)

@@ -61,7 +61,8 @@ impl<'a> Condition<'a> {
     ///
     /// # Errors
     ///
-    /// `AllocError`: `alloc` refused memory. `ep` has not changed, so nothing was asked.
+    /// `AllocError`: `alloc` refused memory, which happens only for a text of more than 32 bytes.
+    /// `ep` is as it was.
     pub fn eval<EP, T, A>(&self, alloc: A, ep: &mut EP) -> Result<T, AllocError>
     where
         EP: FnMut(&Predicate<'_>) -> T,
@@ -120,7 +121,7 @@ impl<'a> Condition<'a> {
     ///
     /// # Errors
     ///
-    /// `AllocError`: `alloc` refused memory.
+    /// `AllocError`: `alloc` refused memory, which happens only for a text of more than 32 bytes.
     pub fn eval_lanes<A: SmallAllocator>(
         &self,
         alloc: A,
@@ -155,8 +156,8 @@ impl fmt::Debug for Condition<'_> {
     }
 }
 
-/// Reads one condition after another in the same memory. Only the first read, one that needs more
-/// room than any before, and a faulty text allocate.
+/// Reads one condition after another in the same memory. Only the first two reads, one that needs
+/// more room than any before, and a faulty text allocate.
 #[derive(Drop)]
 pub struct ConditionReader<'a, A: SmallAllocator = Global> {
     texts: TextReader<'a, A>,

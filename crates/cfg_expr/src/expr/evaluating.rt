@@ -313,7 +313,7 @@ fn put_each<T: Logic + Copy>(places: &[usize], answers: &[T], slots: &mut [Slot<
 
 /// Returns the value of the condition, and asks `ep` for the answer to each predicate.
 ///
-/// Returns an error if `alloc` refuses memory for the slots. In that case, `ep` is not called.
+/// Returns an error if `alloc` refuses memory for the slots. `ep` is as it was then.
 pub(crate) fn eval<EP, T, A>(alloc: A, parsed: &ParsedRef<'_>, ep: &mut EP) -> Result<T, AllocError>
 where
     EP: FnMut(&Predicate<'_>) -> T,

@@ -30,9 +30,10 @@ use smallvec::SmallVec;
 use std::alloc::AllocError;
 
 /// A step of the evaluation of a condition.
-#[derive(Clone, Copy, PartialEq, Eq, Debug)]
+#[derive(Clone, Copy, Default, PartialEq, Eq, Debug)]
 pub enum Step {
     /// Pushes the next answer
+    #[default]
     Ask,
     /// Pushes `top` for true, and `bottom` for false
     Literal(bool),

@@ -1,7 +1,7 @@
 -- The trees that have the steps are those that have them as C sees them.
 use Rattle.std.proofs.lemmas.Result.{IfErr-weaker, IfOk-weaker}
 use Rattle.cfgx_c.proofs.CSteps.{Applies-read, DoNotApply-read}
-use Rattle.cfgx_c.proofs.apply.eval_in.Goals as goal
+use Rattle.cfgx_c.proofs.apply.eval_c_steps.Goals as goal
 
 pub returns-then-not-read_steps-clause-error : goal.returns-then-not-read_steps-clause-error
 returns-then-not-read_steps-clause-error c tree has =
@@ -10,13 +10,13 @@ returns-then-not-read_steps-clause-error c tree has =
 pub returns-clause-value : goal.returns-clause-value
 returns-clause-value c =
     let read = rw c.if-not-read_steps.false at c.read_steps.ensures in
-    let value = rw c.read_answers.ensures at c.eval_steps.ensures.value in
+    let value = rw c.in_ok-answers.ensures at c.eval_steps.ensures.value in
     IfOk-weaker c.eval_steps.result _ _
     (Applies-read _ c.args.steps.now read c.args.answers.now) value
 
 pub returns-clause-error : goal.returns-clause-error
 returns-clause-error c =
     let read = rw c.if-not-read_steps.false at c.read_steps.ensures in
-    let error = rw c.read_answers.ensures at c.eval_steps.ensures.error in
+    let error = rw c.in_ok-answers.ensures at c.eval_steps.ensures.error in
     IfErr-weaker c.eval_steps.result _ _
     (DoNotApply-read _ c.args.steps.now read c.args.answers.now) error
