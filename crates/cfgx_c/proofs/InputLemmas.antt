@@ -371,16 +371,18 @@ written-more f values old buffer i d below fits is =
 -- Texts that are read one after another.
 
 module _ (Good : List ℕ → Type 0) (texts : List (Bor (List ℕ))) (i : ℕ) (d : Bor (List ℕ))
-    (front : List (List ℕ)) (below : i < length texts)
-    (so_far : (front ≡ views (take i texts)) × All Good (views (take i texts))) where
-  -- one good text more
-  pub good-more : (new : List (List ℕ)) → new ≡ front ++ (get_or texts i d).now ∷ []
-      → Good (get_or texts i d).now
-      → (new ≡ views (take (i + 1) texts)) × All Good (views (take (i + 1) texts))
-  good-more new more good =
+    (front : List (Bor (List ℕ))) (below : i < length texts)
+    (so_far : (views front ≡ views (take i texts)) × All Good (views (take i texts))) where
+  -- one good text more was pushed
+  pub good-more : (new : List (Bor (List ℕ))) (text : Bor (List ℕ)) → new ≡ front ++ text ∷ []
+      → text.now ≡ (get_or texts i d).now → Good (get_or texts i d).now
+      → (views new ≡ views (take (i + 1) texts)) × All Good (views (take (i + 1) texts))
+  good-more new text more is good =
       let all : views (take (i + 1) texts) ≡ views (take i texts) ++ (get_or texts i d).now ∷ [] =
       ap views (take_more texts i d below) ∙ map-append _ _ _ in (
-        more ∙ ap (λ xs. xs ++ (get_or texts i d).now ∷ []) so_far.0 ∙ sym all,
+        ap views more ∙ map-append _ front (text ∷ [])
+            ∙ ap (λ shown. views front ++ shown ∷ []) is
+            ∙ ap (λ xs. xs ++ (get_or texts i d).now ∷ []) so_far.0 ∙ sym all,
         rw all (All-push Good (views (take i texts)) (get_or texts i d).now so_far.1 good),
       )
 

@@ -8,7 +8,8 @@ ghost use Rattle.cfgx_grammar.specs.Given.{AreAnswersTo};
 ghost use Rattle.cfgx_grammar.specs.Tree.{asked};
 ghost use Rattle.cfgx_c.specs.Value.{answer_of, byte_of_value, first_answer};
 
-use cfg_expr::{Expression, Predicate};
+use cfg_expr::Predicate;
+use cfg_expr::expr::Condition;
 use smallvec::SmallVec;
 use std::alloc::{AllocError, Global};
 
@@ -64,7 +65,7 @@ fn take_answer(left: &mut &[u8]) -> Option<bool>
 /// Evaluates a condition over `answers`, which are in the order of its predicates.
 pub(crate) fn eval_over_bytes(
     alloc: Global,
-    condition: &Expression,
+    condition: &Condition<'_>,
     answers: &[u8],
 ) -> Result<Option<bool>, AllocError>
     requires { AreAnswersTo answers.now condition.now }

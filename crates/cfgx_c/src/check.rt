@@ -10,8 +10,8 @@ ghost use Rattle.cfgx_c.specs.Status.{done, faulty, not_utf8, wrong_use};
 
 use crate::fault::{CfgxFault, c_fault};
 use crate::status::{DONE, FAULTY, NOT_UTF8, OUT_OF_MEMORY};
-use cfg_expr::Expression;
 use cfg_expr::error::Failure;
+use cfg_expr::expr::ConditionReader;
 use std::alloc::Global;
 
 /// Checks whether a text is a condition. Returns the status `DONE` if it is. Returns `FAULTY` if
@@ -31,7 +31,8 @@ pub extern "C" fn cfgx_check(alloc: Global, text: &[u8], fault: &mut CfgxFault) 
     let Ok(text) = str::from_utf8(text) else {
         return NOT_UTF8;
     };
-    match Expression::parse(alloc, text) {
+    let mut reader = ConditionReader::new(alloc);
+    match reader.read(text) {
         Ok(_) => DONE,
         Err(Failure::Parse(error)) => {
             *fault = c_fault(text, &error);

@@ -13,7 +13,7 @@ use crate::reading::read_nodes;
 use crate::status::{DONE, OUT_OF_MEMORY};
 use crate::steps::{CfgxStep, c_steps};
 use cfg_expr::expr::steps_of;
-use cfgx_parser::parsed::ParsedRef;
+use cfgx_parser::parsed::{ParsedRef, TextReader};
 use std::alloc::{AllocError, Global};
 
 /// Returns the steps of a condition as C sees them.
@@ -52,14 +52,15 @@ pub extern "C" fn cfgx_compile(
 {
     *steps_needed = 0;
     *predicates_needed = 0;
-    let parsed = match read_nodes(alloc, text) {
+    let mut reader = TextReader::new(alloc);
+    let parsed = match read_nodes(&mut reader, text) {
         Ok(parsed) => parsed,
         Err(status) => return status,
     };
-    let Ok(step_list) = compiled(alloc, &parsed.as_ref()) else {
+    let Ok(step_list) = compiled(alloc, &parsed) else {
         return OUT_OF_MEMORY;
     };
-    let Ok(list) = predicates_of(alloc, text, &parsed.as_ref()) else {
+    let Ok(list) = predicates_of(alloc, text, &parsed) else {
         return OUT_OF_MEMORY;
     };
     *steps_needed = step_list.len();

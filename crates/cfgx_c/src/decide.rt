@@ -13,7 +13,8 @@ use crate::answers::{answers_of, byte_of_value};
 use crate::buffer::fill;
 use crate::reading::read_for;
 use crate::status::{DONE, OUT_OF_MEMORY};
-use cfg_expr::{Decision, Expression};
+use cfg_expr::Decision;
+use cfg_expr::expr::{Condition, ConditionReader};
 use std::alloc::{AllocError, Global};
 
 /// Returns the value of a decision.
@@ -52,14 +53,16 @@ fn fillings_in(alloc: Global, decision: &Decision) -> Result<Vec<u8>, AllocError
 /// Decides a condition over `answers`, which are in the order of its predicates.
 fn decide_over_bytes(
     alloc: Global,
-    condition: &Expression,
+    condition: &Condition<'_>,
     answers: &[u8],
 ) -> Result<Decision, AllocError>
     requires { AreAnswersTo answers.now condition.now }
     ensures { IfOk result (Decides condition.now (map answer_of answers.now)) }
 {
     let answers = answers_of(&alloc, answers)?;
-    condition.decide(alloc, answers.as_slice())
+    let mut decision = Decision::default();
+    condition.decide(alloc, answers.as_slice(), &mut decision)?;
+    Ok(decision)
 }
 
 /// Decides a condition over answers to its predicates, which are as for `cfgx_value`.
@@ -91,7 +94,8 @@ pub extern "C" fn cfgx_decide(
     ensures status { (result ≤ miscounted) × (result ≢ wrong_use) }
 {
     *needed = 0;
-    let condition = match read_for(alloc, text, answers) {
+    let mut reader = ConditionReader::new(alloc);
+    let condition = match read_for(&mut reader, text, answers) {
         Ok(condition) => condition,
         Err(status) => return status,
     };

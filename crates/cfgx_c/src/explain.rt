@@ -10,8 +10,8 @@ ghost use Rattle.cfgx_c.specs.Status.{done, faulty, not_utf8, wrong_use};
 
 use crate::buffer::fill;
 use crate::status::{DONE, FAULTY, NOT_UTF8, OUT_OF_MEMORY};
-use cfg_expr::Expression;
 use cfg_expr::error::Failure;
+use cfg_expr::expr::ConditionReader;
 use std::alloc::Global;
 
 /// Explains what is wrong with a text. Returns the status `FAULTY` if the text has a fault, and
@@ -38,7 +38,8 @@ pub extern "C" fn cfgx_explain(
     let Ok(text) = str::from_utf8(text) else {
         return NOT_UTF8;
     };
-    let error = match Expression::parse(alloc, text) {
+    let mut reader = ConditionReader::new(alloc);
+    let error = match reader.read(text) {
         Ok(_) => return DONE,
         Err(Failure::Parse(error)) => error,
         Err(Failure::Memory(_)) => return OUT_OF_MEMORY,

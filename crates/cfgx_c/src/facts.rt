@@ -21,7 +21,8 @@ use crate::answers::byte_of_value;
 use crate::ends::{are_ends, parts};
 use crate::reading::{ReadError, read_facts, read_text};
 use crate::status::{BAD_ENDS, DONE};
-use cfg_expr::{Expression, Predicate};
+use cfg_expr::Predicate;
+use cfg_expr::expr::{Condition, ConditionReader};
 use cfgx_engine::resolve::{Facts, Otherwise};
 use std::alloc::{AllocError, Global};
 
@@ -69,7 +70,7 @@ fn ask(facts: &Facts, predicate: Predicate<'_>, otherwise: Otherwise) -> Option<
 /// asked.
 fn answers_to(
     alloc: Global,
-    condition: &Expression,
+    condition: &Condition<'_>,
     facts: &Facts,
     otherwise: Otherwise,
 ) -> Result<Vec<Option<bool>>, AllocError>
@@ -99,7 +100,8 @@ fn find_answers(
         × AnswersBy text.now (parts fact_ends.now facts.now) otherwise answers.items) }
     ensures err { IfErr result (FailsFor (text.now ∷ []) (parts fact_ends.now facts.now)) }
 {
-    let condition = read_text(alloc, text)?;
+    let mut reader = ConditionReader::new(alloc);
+    let condition = read_text(&mut reader, text)?;
     let facts = parts(alloc, facts, fact_ends)?;
     let facts = read_facts(alloc, 0, facts.as_slice())?;
     Ok(answers_to(alloc, &condition, &facts, otherwise)?)

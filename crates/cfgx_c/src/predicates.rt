@@ -18,7 +18,7 @@ use crate::fault::strip_offset;
 use crate::reading::read_nodes;
 use crate::status::{DONE, OUT_OF_MEMORY};
 use cfgx_parser::nodes::{ExprNode, InnerPredicate, InnerTarget, Span};
-use cfgx_parser::parsed::ParsedRef;
+use cfgx_parser::parsed::{ParsedRef, TextReader};
 use cfgx_targets::atomic::HasAtomic;
 use cfgx_targets::endian::Endian;
 use std::alloc::{AllocError, Global};
@@ -234,11 +234,12 @@ pub extern "C" fn cfgx_predicates(
     ensures status { (result ≤ not_utf8) × (result ≢ wrong_use) }
 {
     *needed = 0;
-    let parsed = match read_nodes(alloc, text) {
+    let mut reader = TextReader::new(alloc);
+    let parsed = match read_nodes(&mut reader, text) {
         Ok(parsed) => parsed,
         Err(status) => return status,
     };
-    let Ok(list) = predicates_of(alloc, text, &parsed.as_ref()) else {
+    let Ok(list) = predicates_of(alloc, text, &parsed) else {
         return OUT_OF_MEMORY;
     };
     *needed = fill(predicates, list.as_slice());

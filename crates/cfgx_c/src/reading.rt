@@ -14,11 +14,10 @@ ghost use Rattle.cfgx_c.specs.internal.Reading.{place_of, status_of, text_error,
 
 use crate::ends::utf8_front;
 use crate::status::{FAULTY, FAULTY_FACT, MISCOUNTED, NOT_UTF8, OUT_OF_MEMORY};
-use cfg_expr::Expression;
 use cfg_expr::error::Failure;
-use cfg_expr::expr::ConditionReader;
+use cfg_expr::expr::{Condition, ConditionReader};
 use cfgx_engine::resolve::{Facts, FactsError};
-use cfgx_parser::parsed::{Parsed, parse};
+use cfgx_parser::parsed::{ParsedRef, TextReader};
 use std::alloc::{AllocError, AllocFailed, Global};
 
 /// Why texts and facts give no result.
@@ -119,42 +118,64 @@ fn check_text<'a>(
     ensures ok { IfOk result (λ condition. (condition.now ≡ text.now) × IsCondition text.now) }
     ensures err { IfErr result (FailsForText number text.now) }
 {
-    let Ok(text) = str::from_utf8(text) else {
-        return Err(ReadError::NotUtf8(number));
-    };
+    let text = utf8_text(number, text)?;
+    read_utf8(reader, number, text)?;
+    Ok(text)
+}
+
+/// Returns the text with this number if it is UTF-8.
+fn utf8_text(number: usize, text: &[u8]) -> Result<&str, ReadError>
+    ensures ok { IfOk result (λ found. (found.now ≡ text.now) × IsUtf8 text.now) }
+    ensures err { IfErr result (FailsForText number text.now) }
+{
+    match str::from_utf8(text) {
+        Ok(text) => Ok(text),
+        Err(_) => Err(ReadError::NotUtf8(number)),
+    }
+}
+
+/// Reads the text with this number.
+fn read_utf8<'r, 'a>(
+    reader: &'r mut ConditionReader<'a>,
+    number: usize,
+    text: &'a str,
+) -> Result<Condition<'r>, ReadError>
+    ensures ok { IfOk result (λ condition. (condition ≡ strip text.now) × IsCondition text.now) }
+    ensures err { IfErr result (FailsForText number text.now) }
+{
     match reader.read(text) {
-        Ok(_) => Ok(text),
+        Ok(condition) => Ok(condition),
         Err(Failure::Parse(_)) => Err(ReadError::Faulty(number)),
         Err(Failure::Memory(_)) => Err(ReadError::Memory),
     }
 }
 
 /// Reads a text, whose number is 0.
-pub(crate) fn read_text(alloc: Global, text: &[u8]) -> Result<Expression, ReadError>
+pub(crate) fn read_text<'r, 'a>(
+    reader: &'r mut ConditionReader<'a>,
+    text: &'a [u8],
+) -> Result<Condition<'r>, ReadError>
     ensures ok { IfOk result (λ condition. (condition ≡ strip text.now) × IsCondition text.now) }
     ensures err { IfErr result (FailsForText 0 text.now) }
 {
-    let Ok(text) = str::from_utf8(text) else {
-        return Err(ReadError::NotUtf8(0));
-    };
-    match Expression::parse(alloc, text) {
-        Ok(condition) => Ok(condition),
-        Err(Failure::Parse(_)) => Err(ReadError::Faulty(0)),
-        Err(Failure::Memory(_)) => Err(ReadError::Memory),
-    }
+    let text = utf8_text(0, text)?;
+    read_utf8(reader, 0, text)
 }
 
 /// Reads a text as the nodes of its tree.
 ///
 /// The error is the status of the call.
-pub(crate) fn read_nodes(alloc: Global, text: &[u8]) -> Result<Parsed, u32>
+pub(crate) fn read_nodes<'r, 'a>(
+    reader: &'r mut TextReader<'a, Global>,
+    text: &'a [u8],
+) -> Result<ParsedRef<'r>, u32>
     ensures ok { IfOk result (λ parsed. (parsed ≡ strip text.now) × IsUtf8 text.now) }
     ensures err { IfErr result (Refuses text.now) }
 {
     let Ok(text) = str::from_utf8(text) else {
         return Err(NOT_UTF8);
     };
-    match parse(alloc, text) {
+    match reader.read(text) {
         Ok(parsed) => Ok(parsed),
         Err(Failure::Parse(_)) => Err(FAULTY),
         Err(Failure::Memory(_)) => Err(OUT_OF_MEMORY),
@@ -164,12 +185,16 @@ pub(crate) fn read_nodes(alloc: Global, text: &[u8]) -> Result<Parsed, u32>
 /// Reads a condition, and counts its predicates: there must be one for each answer.
 ///
 /// The error is the status of the call.
-pub(crate) fn read_for(alloc: Global, text: &[u8], answers: &[u8]) -> Result<Expression, u32>
+pub(crate) fn read_for<'r, 'a>(
+    reader: &'r mut ConditionReader<'a>,
+    text: &'a [u8],
+    answers: &[u8],
+) -> Result<Condition<'r>, u32>
     ensures ok { IfOk result (λ condition. (condition ≡ strip text.now) × IsUtf8 text.now) }
     ensures counted { IfOk result (AreAnswersTo answers.now) }
     ensures err { IfErr result (RefusesFor text.now answers.now) }
 {
-    let condition = match read_text(alloc, text) {
+    let condition = match read_text(reader, text) {
         Ok(condition) => condition,
         Err(error) => return Err(error.status()),
     };

@@ -9,6 +9,7 @@ ghost use Rattle.cfgx_c.specs.Value.{HasOtherCount, HasValueOver};
 use crate::answers::{byte_of_value, eval_over_bytes};
 use crate::reading::read_for;
 use crate::status::{DONE, OUT_OF_MEMORY};
+use cfg_expr::expr::ConditionReader;
 use std::alloc::Global;
 
 /// Evaluates a condition over answers to its predicates. `answers` has a byte for each predicate,
@@ -26,7 +27,8 @@ pub extern "C" fn cfgx_value(alloc: Global, text: &[u8], answers: &[u8], value: 
     ensures kept { result ≢ done → value.new ≡ value.old }
     ensures status { (result ≤ miscounted) × (result ≢ wrong_use) }
 {
-    let condition = match read_for(alloc, text, answers) {
+    let mut reader = ConditionReader::new(alloc);
+    let condition = match read_for(&mut reader, text, answers) {
         Ok(condition) => condition,
         Err(status) => return status,
     };

@@ -1,8 +1,7 @@
-use Rattle.std.proofs.Common.{◌∙◌, ◌++◌, ◌∷◌, [], Bor, List, ℕ, append-nil, ap, sym}
-use Rattle.std.proofs.lemmas.List.{map-append, take_all}
+use Rattle.std.proofs.Common.{◌∙◌, [], append-nil, sym}
+use Rattle.std.proofs.lemmas.List.{take_all}
 use Rattle.std.specs.Str.{IsUtf8}
 use Rattle.std.proofs.lemmas.Option.{none-some}
-use Rattle.cfgx_c.specs.internal.Reading.{views}
 use Rattle.cfgx_c.proofs.InputLemmas.{IsUtf8Front-here, good-more}
 use Rattle.cfgx_c.proofs.ends.utf8_front.Goals as goal
 
@@ -17,12 +16,8 @@ returns-in_default c =
 pub loop-text-preserved : goal.loop-text-preserved
 loop-text-preserved c =
     let cases = c.in-Ok.ensures.cases in
-    let front = c.loop-text.front.items in
     good-more IsUtf8 c.args.texts.now c.loop-text.text-index _ _ c.loop-text-test.true
-    c.loop-text.invariant _
-    (ap views c.in_ok-push.ensures.items
-    ∙ map-append (λ (text : Bor (List ℕ)). text.now) front (c.in-Ok.text ∷ [])
-    ∙ ap (λ text. views front ++ text ∷ []) cases.0) cases.1
+    c.loop-text.invariant _ _ c.in_ok-push.ensures.items cases.0 cases.1
 
 -- no text is left
 pub returns : goal.returns

@@ -1,7 +1,7 @@
-use Rattle.std.proofs.Common.{◌≡◌, ◌∙◌, ◌++◌, ◌∷◌, [], Bor, List, ℕ, arith, ap, length, take}
-use Rattle.std.proofs.lemmas.List.{length-map, length-take-le, map-append, take_all}
+use Rattle.std.proofs.Common.{◌≡◌, arith, ap, length, take}
+use Rattle.std.proofs.lemmas.List.{length-map, length-take-le, take_all}
 use Rattle.std.proofs.lemmas.Result.{err_from_is_err_and}
-use Rattle.cfgx_c.specs.{Answers.IsCondition, internal.Reading.views}
+use Rattle.cfgx_c.specs.Answers.{IsCondition}
 use Rattle.cfgx_c.proofs.InputLemmas.{FailsForTexts-here, good-more}
 use Rattle.cfgx_c.proofs.reading.check_texts.Goals as goal
 
@@ -28,12 +28,8 @@ returns-in_err-condition-clause-err c =
 pub loop-text-preserved : goal.loop-text-preserved
 loop-text-preserved c =
     let checked = c.in_ok-condition.ensures.ok in
-    let conditions = c.loop-text.conditions.items in
     good-more IsCondition c.args.texts.now c.loop-text.text-index _ _ c.loop-text-test.true
-    c.loop-text.invariant _
-    (ap views c.in_ok-push.ensures.items
-    ∙ map-append (λ (text : Bor (List ℕ)). text.now) conditions (c.in_ok-condition.condition ∷ [])
-    ∙ ap (λ text. views conditions ++ text ∷ []) checked.0) checked.1
+    c.loop-text.invariant _ _ c.in_ok-push.ensures.items checked.0 checked.1
 
 pub returns-clause-ok : goal.returns-clause-ok
 returns-clause-ok c = rw (take_all _ _ c.loop-text-test.false) at c.loop-text.invariant
