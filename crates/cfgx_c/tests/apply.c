@@ -1,12 +1,14 @@
 /* Tests `cfgx_apply`: rows, steps with each byte changed, steps at random, and the many steps that
- * `cfgx_compile` gives for long conditions. Up to 33 steps with up to 33 answers take no memory, so
- * the growths that are refused are those of longer lists. */
+ * `cfgx_compile` gives for long conditions. */
 #include "harness.h"
 
 #include <stdio.h>
 #include <string.h>
 
 #define MOST 64
+
+/* The most steps, and the most answers, that take no memory. */
+#define INLINE 33
 
 struct row {
     size_t step_count;
@@ -181,12 +183,23 @@ static void evaluate(struct row *row)
     }
 }
 
+/* Expects that a short row takes no memory, and that a longer one takes some. A longer row without a
+ * tree may end before it takes any. */
+static void expect_growths(const struct row *row, size_t growths)
+{
+    if (row->step_count <= INLINE && row->answers.length <= INLINE) {
+        expect_number("the number of growths", growths, 0);
+    } else if (row->status != CFGX_STATUS_NO_TREE) {
+        expect_number("whether a growth was counted", growths > 0, 1);
+    }
+}
+
 /* Tests the row, for which this test computes status and value. Returns whether it has a value. */
 static size_t test_computed(struct row *row)
 {
     evaluate(row);
     begin_row(steps_of(row));
-    call(row, 0, row->status);
+    expect_growths(row, test_growths(call, row, 1, row->status));
     return row->status == CFGX_STATUS_DONE;
 }
 
@@ -281,7 +294,8 @@ static void test_long(const char *open, const char *member, const char *close, u
 int main(void)
 {
     for (size_t i = 0; i < COUNT(rows); i++) {
-        test_row(call, &rows[i], steps_of(&rows[i]), 1, rows[i].status);
+        size_t growths = test_row(call, &rows[i], steps_of(&rows[i]), 1, rows[i].status);
+        expect_growths(&rows[i], growths);
     }
     for (size_t i = 0; i < COUNT(rows); i++) {
         if (rows[i].status == CFGX_STATUS_DONE && rows[i].step_count / 3 == 1) {

@@ -285,7 +285,7 @@ static void call_once(call_of_row *call, const void *row, size_t room, uint32_t 
     refused = NONE;
 }
 
-void test_growths(call_of_row *call, const void *row, size_t room, uint32_t status)
+size_t test_growths(call_of_row *call, const void *row, size_t room, uint32_t status)
 {
     call_once(call, row, room, status, NONE);
     size_t count = growths;
@@ -293,10 +293,11 @@ void test_growths(call_of_row *call, const void *row, size_t room, uint32_t stat
         call_once(call, row, room, CFGX_STATUS_OUT_OF_MEMORY, number);
     }
     refusals += count;
+    return count;
 }
 
-void test_row(call_of_row *call, const void *row, struct text text, size_t needed,
-              uint32_t status)
+size_t test_row(call_of_row *call, const void *row, struct text text, size_t needed,
+                uint32_t status)
 {
     begin_row(text);
     for (size_t room = 0; room <= needed + 1; room++) {
@@ -304,7 +305,7 @@ void test_row(call_of_row *call, const void *row, struct text text, size_t neede
             call_once(call, row, room, status, NONE);
         }
     }
-    test_growths(call, row, needed, status);
+    return test_growths(call, row, needed, status);
 }
 
 int finish(const char *call, int takes_memory)

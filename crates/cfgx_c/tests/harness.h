@@ -82,13 +82,13 @@ void expect_number(const char *what, size_t found, size_t wanted);
 void begin_row(struct text text);
 
 /* Tests a row: with each room up to one more than `needed`, and then with each growth refused in
- * turn. */
-void test_row(call_of_row *call, const void *row, struct text text, size_t needed,
-              uint32_t status);
+ * turn. Returns the number of growths in a call. */
+size_t test_row(call_of_row *call, const void *row, struct text text, size_t needed,
+                uint32_t status);
 
-/* Tests a row with no room and with each growth refused in turn, for results that are not kept in a
- * buffer of many items. */
-void test_growths(call_of_row *call, const void *row, size_t room, uint32_t status);
+/* Tests a row with this room and with each growth refused in turn. Returns the number of growths in
+ * a call. */
+size_t test_growths(call_of_row *call, const void *row, size_t room, uint32_t status);
 
 /* Prints what was tested, and returns the status of the program. No growth at all is a failure if
  * the call takes memory. */
