@@ -183,8 +183,8 @@ static void evaluate(struct row *row)
     }
 }
 
-/* Expects that a short row takes no memory, and that a longer one takes some. A longer row without a
- * tree may end before it takes any. */
+/* Expects that a short row takes no memory, and that a longer one takes some. A longer row without
+ * a tree may end before it takes any. */
 static void expect_growths(const struct row *row, size_t growths)
 {
     if (row->step_count <= INLINE && row->answers.length <= INLINE) {
