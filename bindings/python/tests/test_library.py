@@ -90,9 +90,12 @@ class Header(unittest.TestCase):
             section = page.read().split("## The lists of terms")[1].split("\n## ")[0]
         lists = re.findall(r"^\| \d+ \| (.*?) \|", section, re.MULTILINE)
         self.assertEqual(len(lists), len(_error.TERM_LISTS))
+        named = re.findall(r"^#define CFGX_TERMS_\w+ \d+ +/\* (.*?) \*/$", header(), re.MULTILINE)
+        self.assertEqual(list(numbers_of("TERMS").values()), list(range(1, len(lists) + 1)))
         for number in range(1, 14):
             found = " ".join(f"`{term}`" for term in _error.TERM_LISTS[number])
             self.assertEqual(found, lists[number])
+            self.assertEqual(named[number], lists[number])
 
 
 class Finding(unittest.TestCase):

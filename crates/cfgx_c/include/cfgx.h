@@ -78,19 +78,41 @@ uint32_t cfgx_version(void);
 #define CFGX_VALUE_TRUE 1
 #define CFGX_VALUE_UNKNOWN 2
 
-/* The reasons of faults, which docs/RULES.md explains. No text has reason 2, 6 or 12. */
-#define CFGX_REASON_INVALID_NOT 1
-#define CFGX_REASON_INVALID_CHARACTERS 2
-#define CFGX_REASON_UNCLOSED_PARENS 3
-#define CFGX_REASON_UNOPENED_PARENS 4
-#define CFGX_REASON_UNCLOSED_QUOTES 5
-#define CFGX_REASON_UNOPENED_QUOTES 6
-#define CFGX_REASON_EMPTY 7
-#define CFGX_REASON_UNEXPECTED 8
-#define CFGX_REASON_INVALID_INTEGER 9
-#define CFGX_REASON_MULTIPLE_ROOT_PREDICATES 10
-#define CFGX_REASON_INVALID_HAS_ATOMIC 11
-#define CFGX_REASON_UNKNOWN_BUILTIN 12
+/* The reasons of faults. No text has reason 2, 6 or 12. docs/RULES.md says which reason a text
+ * has. */
+#define CFGX_REASON_INVALID_NOT 1               /* a `not` has no member, or several */
+#define CFGX_REASON_INVALID_CHARACTERS 2        /* characters that no condition has */
+#define CFGX_REASON_UNCLOSED_PARENS 3           /* a `(` is never closed */
+#define CFGX_REASON_UNOPENED_PARENS 4           /* a `)` closes nothing */
+#define CFGX_REASON_UNCLOSED_QUOTES 5           /* a quote is never closed */
+#define CFGX_REASON_UNOPENED_QUOTES 6           /* a quote closes nothing */
+#define CFGX_REASON_EMPTY 7                     /* the stripped text is empty or blank */
+#define CFGX_REASON_UNEXPECTED 8                /* other terms were expected, or none */
+#define CFGX_REASON_INVALID_INTEGER 9           /* target_pointer_width is no number up to 255, or
+                                                 * target_endian is neither big nor little */
+#define CFGX_REASON_MULTIPLE_ROOT_PREDICATES 10 /* several conditions stand side by side */
+#define CFGX_REASON_INVALID_HAS_ATOMIC 11       /* target_has_atomic is neither a number up to 65535
+                                                 * nor ptr */
+#define CFGX_REASON_UNKNOWN_BUILTIN 12          /* a built-in name is unknown */
+
+/* The lists of terms that were expected. docs/RULES.md says where each list is expected. */
+#define CFGX_TERMS_NONE 1            /* no term */
+#define CFGX_TERMS_START 2           /* `<key>` `all` `any` `not` */
+#define CFGX_TERMS_OPEN 3            /* `<key>` `)` `all` `any` `not` */
+#define CFGX_TERMS_COMMA 4           /* `)` `<key>` */
+#define CFGX_TERMS_KEY 5             /* `=` `,` `)` */
+#define CFGX_TERMS_EQUALS 6          /* `"` */
+#define CFGX_TERMS_VALUE 7           /* `,` `)` */
+#define CFGX_TERMS_FUNCTION 8        /* `(` */
+#define CFGX_TERMS_CLOSE 9           /* `)` `,` */
+#define CFGX_TERMS_END 10            /* `"<value>"` */
+#define CFGX_TERMS_FEATURE_NAME 11   /* `= "<feature_name>"` */
+#define CFGX_TERMS_PANIC_STRATEGY 12 /* `= "<panic_strategy>"` */
+#define CFGX_TERMS_TARGET_VALUE 13   /* `= "<target_cfg_value>"` */
+#define CFGX_TERMS_TARGET_FEATURE 14 /* `<feature>` */
+#define CFGX_TERMS_TARGET_KEY 15     /* `target_arch` `target_feature` `target_os` `target_family`
+                                      * `target_env` `target_endian` `target_has_atomic`
+                                      * `target_pointer_width` `target_vendor` */
 
 /* What is wrong with a text, and where. */
 struct cfgx_fault {
@@ -105,8 +127,7 @@ struct cfgx_fault {
     size_t members;
     /* one of the reasons */
     uint32_t reason;
-    /* the number of the list of the terms that were expected, for CFGX_REASON_UNEXPECTED; 0 for
-     * every other reason; docs/RULES.md numbers the lists from 1 on */
+    /* one of the lists of terms, for CFGX_REASON_UNEXPECTED; 0 for every other reason */
     uint32_t terms;
 };
 

@@ -1,25 +1,6 @@
 /* Tests `cfgx_check`. */
 #include "harness.h"
 
-/* The numbers of lists of terms in docs/RULES.md. */
-enum {
-    TERMS_NONE = 1,
-    TERMS_START,
-    TERMS_OPEN,
-    TERMS_COMMA,
-    TERMS_KEY,
-    TERMS_EQUALS,
-    TERMS_VALUE,
-    TERMS_FUNCTION,
-    TERMS_CLOSE,
-    TERMS_END,
-    TERMS_FEATURE_NAME,
-    TERMS_PANIC_STRATEGY,
-    TERMS_TARGET_VALUE,
-    TERMS_TARGET_FEATURE,
-    TERMS_TARGET_KEY
-};
-
 struct row {
     struct text text;
     uint32_t status;
@@ -35,7 +16,7 @@ struct row {
      {offset, start, end, members, CFGX_REASON_INVALID_NOT, 0}}
 #define TERMS(literal, offset, start, end, terms)                                                  \
     {TEXT(literal), CFGX_STATUS_FAULTY,                                                            \
-     {offset, start, end, 0, CFGX_REASON_UNEXPECTED, TERMS_##terms}}
+     {offset, start, end, 0, CFGX_REASON_UNEXPECTED, CFGX_TERMS_##terms}}
 
 static const struct row rows[] = {
     GOOD("cfg(all(unix, not(windows)))"),
