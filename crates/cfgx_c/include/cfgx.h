@@ -218,12 +218,13 @@ uint32_t cfgx_decide(const char *text, size_t text_length,
  * the order of `cfgx_predicates`. A fact is a text such as a line of `rustc --print cfg`. The
  * predicates in it are true: a fact `all(x, not(y))` makes x and y true. If a fact begins with `?`,
  * the predicates in the rest of it are unknown, except those that another fact makes true. A
- * predicate that no fact names is false. If `otherwise` is not 0 and the predicate does not test
- * the target, it is unknown.
+ * predicate that no fact names is unknown if `otherwise` is not 0 and the predicate does not test
+ * the target. Otherwise it is false.
  *
- * A fact that is exactly `key` or `key = "value"` is passed over if its key starts with `target_`
- * and is unknown, or needs a value and has none. Some compilers print such facts. Every other fact
- * that is no condition is faulty, also a blank one.
+ * Some compilers print facts that no condition can ask. These are passed over. Without a `?` at the
+ * start and then an outer `cfg( )`, the tokens of such a fact are a key alone, or a key, `=` and a
+ * value. Its key starts with `target_` and is unknown, or needs a value and has none. Every other
+ * fact that is no condition is faulty, also a blank one.
  *
  * Returns CFGX_STATUS_DONE; CFGX_STATUS_FAULTY or CFGX_STATUS_NOT_UTF8, which are about the text;
  * CFGX_STATUS_FAULTY_FACT; CFGX_STATUS_OUT_OF_MEMORY; or CFGX_STATUS_BAD_ENDS. */
@@ -265,9 +266,9 @@ uint32_t cfgx_compile(const char *text, size_t text_length,
 /* Computes the value of the condition that has these steps from the answers to its predicates. Any
  * steps may be passed, such as those of a damaged file. Returns CFGX_STATUS_DONE, and writes the
  * value to `*value`. Returns CFGX_STATUS_NO_TREE if no condition has these steps, also if only
- * their order is wrong: ASK, ASK, NOT, ALL 2 asks before a function. Returns CFGX_STATUS_MISCOUNTED
- * if they ask more or fewer predicates than there are answers, or CFGX_STATUS_OUT_OF_MEMORY. With
- * every status but CFGX_STATUS_DONE, `*value` stays as it was. */
+ * their order is wrong. No condition has ASK, ASK, NOT, ALL 2: a list asks its functions first.
+ * Returns CFGX_STATUS_MISCOUNTED if they ask more or fewer predicates than there are answers, or
+ * CFGX_STATUS_OUT_OF_MEMORY. With every status but CFGX_STATUS_DONE, `*value` stays as it was. */
 uint32_t cfgx_apply(const struct cfgx_step *steps, size_t step_count,
                     const uint8_t *answers, size_t answer_count, uint8_t *value);
 
