@@ -3,6 +3,8 @@
 // Each program uses a part of this.
 #![allow(dead_code)]
 
+use std::error::Error;
+use std::ffi::OsString;
 use std::fmt;
 use std::process::ExitCode;
 
@@ -120,6 +122,8 @@ impl fmt::Display for Failure {
     }
 }
 
+impl Error for Failure {}
+
 /// The value of a condition.
 #[derive(Clone, Copy, Debug, PartialEq)]
 pub enum Value {
@@ -169,13 +173,23 @@ fn done_at(status: u32, place: usize) -> Result<(), Failure> {
     }
 }
 
-/// Ends an example that had this result.
-pub fn finish(result: Result<(), Failure>) -> ExitCode {
-    let Err(failure) = result else {
-        return ExitCode::SUCCESS;
-    };
-    eprintln!("{failure}");
-    ExitCode::from(failure.status as u8)
+/// Returns the text of a word of the command line.
+pub fn text_of(word: OsString) -> Result<String, Failure> {
+    word.into_string().map_err(|_| Failure { status: NOT_UTF8, place: None })
+}
+
+/// Ends an example that had this result. An error that is no `Failure` is that of a write.
+pub fn finish(result: Result<ExitCode, Box<dyn Error>>) -> ExitCode {
+    result.unwrap_or_else(|error| match error.downcast::<Failure>() {
+        Ok(failure) => {
+            eprintln!("{failure}");
+            ExitCode::from(failure.status as u8)
+        }
+        Err(error) => {
+            eprintln!("the output cannot be written: {error}");
+            ExitCode::from(3)
+        }
+    })
 }
 
 /// Panics unless the library has these calls.

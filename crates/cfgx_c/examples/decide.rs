@@ -6,7 +6,10 @@
 mod cfgx;
 
 use cfgx::{Decision, Failure, Texts};
-use std::env::args;
+use std::env::args_os;
+use std::error::Error;
+use std::ffi::OsString;
+use std::io::{self, Write};
 use std::process::ExitCode;
 
 /// Returns a digit for each answer of a filling.
@@ -15,24 +18,31 @@ fn digits(filling: &[u8]) -> String {
 }
 
 /// Prints the value that the facts give to the condition.
-fn print_decision(text: &str, facts: &Texts) -> Result<(), Failure> {
-    let answers = cfgx::answers(text, facts)?;
-    match cfgx::decide(text, &answers)? {
-        Decision::Known(value) => println!("{value}"),
+fn print_decision(
+    text: OsString,
+    facts: impl Iterator<Item = OsString>,
+) -> Result<ExitCode, Box<dyn Error>> {
+    let text = cfgx::text_of(text)?;
+    let facts = facts.map(cfgx::text_of).collect::<Result<Texts, Failure>>()?;
+    let answers = cfgx::answers(&text, &facts)?;
+    let mut output = io::stdout().lock();
+    match cfgx::decide(&text, &answers)? {
+        Decision::Known(value) => writeln!(output, "{value}")?,
         Decision::Unknown { if_true, if_false } => {
-            println!("unknown");
-            println!("true with {}", digits(&if_true));
-            println!("false with {}", digits(&if_false));
+            writeln!(output, "unknown")?;
+            writeln!(output, "true with {}", digits(&if_true))?;
+            writeln!(output, "false with {}", digits(&if_false))?;
         }
     }
-    Ok(())
+    Ok(ExitCode::SUCCESS)
 }
 
 fn main() -> ExitCode {
-    let Some(text) = args().nth(1) else {
+    let mut words = args_os().skip(1);
+    let Some(text) = words.next() else {
         eprintln!("usage: decide TEXT FACT..");
         return ExitCode::from(2);
     };
     cfgx::expect_version();
-    cfgx::finish(print_decision(&text, &args().skip(2).collect()))
+    cfgx::finish(print_decision(text, words))
 }

@@ -3,8 +3,11 @@
 //! usage: predicates TEXT
 mod cfgx;
 
-use cfgx::{Failure, Predicate};
-use std::env::args;
+use cfgx::Predicate;
+use std::env::args_os;
+use std::error::Error;
+use std::ffi::OsString;
+use std::io::{self, Write};
 use std::process::ExitCode;
 
 /// The names of the kinds, from 1 on.
@@ -38,27 +41,26 @@ fn describe(text: &str, predicate: &Predicate) -> String {
     shown.join(" ")
 }
 
-/// Prints each predicate of the text.
-fn print_predicates(text: &str) -> Result<(), Failure> {
-    for predicate in cfgx::predicates(text)? {
-        println!("{}", describe(text, &predicate));
+/// Prints each predicate of the text, or what is wrong with it.
+fn print_predicates(text: OsString) -> Result<ExitCode, Box<dyn Error>> {
+    let text = cfgx::text_of(text)?;
+    if let Some(message) = cfgx::explain(&text)? {
+        eprintln!("{message}");
+        return Ok(ExitCode::FAILURE);
     }
-    Ok(())
+    let mut output = io::stdout().lock();
+    for predicate in cfgx::predicates(&text)? {
+        writeln!(output, "{}", describe(&text, &predicate))?;
+    }
+    Ok(ExitCode::SUCCESS)
 }
 
 fn main() -> ExitCode {
-    let words: Vec<String> = args().skip(1).collect();
-    let [text] = words.as_slice() else {
+    let mut words = args_os().skip(1);
+    let (Some(text), None) = (words.next(), words.next()) else {
         eprintln!("usage: predicates TEXT");
         return ExitCode::from(2);
     };
     cfgx::expect_version();
-    match cfgx::explain(text) {
-        Ok(None) => cfgx::finish(print_predicates(text)),
-        Ok(Some(message)) => {
-            eprintln!("{message}");
-            ExitCode::FAILURE
-        }
-        Err(failure) => cfgx::finish(Err(failure)),
-    }
+    cfgx::finish(print_predicates(text))
 }

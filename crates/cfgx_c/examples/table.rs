@@ -5,10 +5,12 @@
 //! usage: table CONDITIONS CFG..
 mod cfgx;
 
-use cfgx::{Failure, Texts, Value};
-use std::env::args;
+use cfgx::{Texts, Value};
+use std::env::args_os;
+use std::error::Error;
+use std::ffi::OsString;
 use std::fs::read_to_string;
-use std::io;
+use std::io::{self, Write};
 use std::process::ExitCode;
 
 /// Returns what the table shows of a value.
@@ -26,7 +28,7 @@ fn lines_of(text: &str) -> Vec<&str> {
 }
 
 /// Prints a line for each condition.
-fn print_table(conditions: &str, targets: &[String]) -> Result<(), Failure> {
+fn print_table(conditions: &str, targets: &[String]) -> Result<ExitCode, Box<dyn Error>> {
     let conditions = lines_of(conditions);
     let (mut facts, mut target_ends) = (Vec::new(), Vec::new());
     for target in targets {
@@ -35,16 +37,17 @@ fn print_table(conditions: &str, targets: &[String]) -> Result<(), Failure> {
     }
     let texts = conditions.iter().collect::<Texts>();
     let rows = cfgx::audit(&texts, &facts.into_iter().collect(), &target_ends)?;
+    let mut output = io::stdout().lock();
     for (condition, row) in conditions.into_iter().zip(rows) {
         let mut cells: Vec<&str> = row.into_iter().map(shown).collect();
         cells.push(condition);
-        println!("{}", cells.join("\t"));
+        writeln!(output, "{}", cells.join("\t"))?;
     }
-    Ok(())
+    Ok(ExitCode::SUCCESS)
 }
 
 fn main() -> ExitCode {
-    let paths: Vec<String> = args().skip(1).collect();
+    let paths: Vec<OsString> = args_os().skip(1).collect();
     if paths.is_empty() {
         eprintln!("usage: table CONDITIONS CFG..");
         return ExitCode::from(2);
