@@ -1,0 +1,40 @@
+/* Tests CFGX_STATUS_TOO_LARGE: 2^32 texts on 2^32 targets have 2^64 values. The arrays of ends are
+ * one mapping of zeros, which takes address space and hardly any memory. */
+#define _DEFAULT_SOURCE
+#include "harness.h"
+
+#include <stdio.h>
+#include <stdlib.h>
+#include <sys/mman.h>
+
+#define ENDS ((size_t)1 << 32)
+
+/* Returns ENDS ends that are 0. Ends the test if the system refuses the mapping. */
+static const size_t *map_ends(void)
+{
+    size_t size = ENDS * sizeof(size_t);
+    void *ends = mmap(NULL, size, PROT_READ, MAP_PRIVATE | MAP_ANONYMOUS | MAP_NORESERVE, -1, 0);
+    if (ends == MAP_FAILED) {
+        perror("FAILED: too many values: the system refuses a mapping of 32 GiB");
+        exit(1);
+    }
+    /* Large pages are faster. Without them the test is slower. */
+    madvise(ends, size, MADV_HUGEPAGE);
+    return ends;
+}
+
+int main(void)
+{
+    struct text name = TEXT("2^32 texts on 2^32 targets");
+    const size_t *ends = map_ends();
+    struct buffer values = make_buffer(&BYTES, 4);
+    size_t needed = 12345, place = 54321;
+    begin_row(name);
+    uint32_t status = cfgx_audit(NULL, 0, ends, ENDS, NULL, 0, NULL, 0, ends, ENDS, 0,
+                                 values.bytes, values.room, &needed, &place);
+    expect_number("the status", status, CFGX_STATUS_TOO_LARGE);
+    expect_number("the number of values", needed, 0);
+    expect_number("the place", place, 54321);
+    expect_filled(values, NULL, 0);
+    return finish("too many values", 0);
+}
