@@ -1,5 +1,6 @@
-/* Tests long texts, many words, and inputs of 16 MiB and of one byte more, each also out of memory.
- * The calls are `cfgx_check`, `cfgx_value` and `cfgx_run`. */
+/* Tests long texts, many words, and inputs of 16 MiB and of one byte more. The calls are
+ * `cfgx_check`, `cfgx_value` and `cfgx_run`. All but the runs with many words are also tested out
+ * of memory. Such a run takes memory for each word. */
 #include "harness.h"
 
 #include <string.h>
