@@ -197,8 +197,9 @@ static void expect_growths(const struct row *row, size_t growths)
 /* Tests the row, for which this test computes status and value. Returns whether it has a value. */
 static size_t test_computed(struct row *row)
 {
+    struct list name = LIST(steps_of(row), row->answers);
     evaluate(row);
-    begin_row(steps_of(row));
+    begin_row_of(name);
     expect_growths(row, test_growths(call, row, 1, row->status));
     return row->status == CFGX_STATUS_DONE;
 }
@@ -258,6 +259,8 @@ static void test_random(size_t lists)
         row.answers.length = random_below(8) ? asked : random_below(MOST);
         values += test_computed(&row);
     }
+    struct text name = TEXT("lists at random");
+    begin_row(name);
     printf("cfgx_apply: %zu of %zu lists at random have a value\n", values, lists);
     expect_number("whether a twentieth of these lists has a value", values * 20 >= lists, 1);
 }
@@ -294,8 +297,9 @@ static void test_long(const char *open, const char *member, const char *close, u
 int main(void)
 {
     for (size_t i = 0; i < COUNT(rows); i++) {
-        size_t growths = test_row(call, &rows[i], steps_of(&rows[i]), 1, rows[i].status);
-        expect_growths(&rows[i], growths);
+        struct list name = LIST(steps_of(&rows[i]), rows[i].answers);
+        begin_row_of(name);
+        expect_growths(&rows[i], test_rooms(call, &rows[i], 1, rows[i].status));
     }
     for (size_t i = 0; i < COUNT(rows); i++) {
         if (rows[i].status == CFGX_STATUS_DONE && rows[i].step_count / 3 == 1) {

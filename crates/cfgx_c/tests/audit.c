@@ -130,8 +130,8 @@ static void test_target_ends(struct joined bad)
 int main(void)
 {
     for (size_t i = 0; i < COUNT(rows); i++) {
-        struct text first = rows[i].texts.count > 0 ? rows[i].texts.texts[0] : rows[i].values;
-        test_row(call, &rows[i], first, rows[i].values.length, rows[i].status);
+        begin_row_of(rows[i].texts);
+        test_rooms(call, &rows[i], rows[i].values.length, rows[i].status);
     }
     test_bad_ends(test_ends);
     test_bad_ends(test_target_ends);

@@ -61,7 +61,9 @@ static void call(const void *item, size_t room, uint32_t status)
 int main(void)
 {
     for (size_t i = 0; i < COUNT(rows); i++) {
-        test_row(call, &rows[i], rows[i].text, rows[i].fillings.length, rows[i].status);
+        struct list name = LIST(rows[i].text, rows[i].answers);
+        begin_row_of(name);
+        test_rooms(call, &rows[i], rows[i].fillings.length, rows[i].status);
     }
     return finish("cfgx_decide", 1);
 }

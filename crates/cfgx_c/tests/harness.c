@@ -14,6 +14,7 @@
 
 static size_t rows = 0, refusals = 0, failures = 0;
 static struct text row_text;
+static struct list row_texts;
 
 /* The number of growths in a call, the one that is refused, and the blocks that are not freed. */
 static _Thread_local size_t growths = 0, refused = NONE, blocks = 0;
@@ -203,8 +204,11 @@ const struct kind STEPS = {sizeof(struct cfgx_step), is_same_step, print_steps};
 static void begin_failure(const char *what)
 {
     failures++;
-    printf("FAILED: the row ");
-    print_bytes(row_text.bytes, row_text.length);
+    printf("FAILED: row %zu", rows);
+    for (size_t i = 0; i < row_texts.count; i++) {
+        printf(", ");
+        print_bytes(row_texts.texts[i].bytes, row_texts.texts[i].length);
+    }
     if (refused != NONE) {
         printf(", growth %zu refused", refused);
     }
@@ -268,10 +272,17 @@ void expect_filled(struct buffer buffer, const void *items, size_t count)
     free_block(buffer.bytes);
 }
 
-void begin_row(struct text text)
+void begin_row_of(struct list texts)
 {
     rows++;
+    row_texts = texts;
+}
+
+void begin_row(struct text text)
+{
+    struct list texts = {&row_text, 1};
     row_text = text;
+    begin_row_of(texts);
 }
 
 /* Makes one call with the growth of this number refused. */
@@ -296,16 +307,21 @@ size_t test_growths(call_of_row *call, const void *row, size_t room, uint32_t st
     return count;
 }
 
-size_t test_row(call_of_row *call, const void *row, struct text text, size_t needed,
-                uint32_t status)
+size_t test_rooms(call_of_row *call, const void *row, size_t needed, uint32_t status)
 {
-    begin_row(text);
     for (size_t room = 0; room <= needed + 1; room++) {
         if (room < 2 || room + 1 >= needed || needed < MOST_ROOMS) {
             call_once(call, row, room, status, NONE);
         }
     }
     return test_growths(call, row, needed, status);
+}
+
+void test_row(call_of_row *call, const void *row, struct text text, size_t needed,
+              uint32_t status)
+{
+    begin_row(text);
+    test_rooms(call, row, needed, status);
 }
 
 int finish(const char *call, int takes_memory)

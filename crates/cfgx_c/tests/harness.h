@@ -78,16 +78,20 @@ void expect_filled(struct buffer buffer, const void *items, size_t count);
 
 void expect_number(const char *what, size_t found, size_t wanted);
 
-/* Begins a row. A failure is printed with the text. */
+/* Begins a row. A failure is printed with the number of the row, from 1 on, and with its texts. */
 void begin_row(struct text text);
+void begin_row_of(struct list texts);
 
-/* Tests a row: with each room up to one more than `needed`, and then with each growth refused in
- * turn. Returns the number of growths in a call. */
-size_t test_row(call_of_row *call, const void *row, struct text text, size_t needed,
-                uint32_t status);
+/* Tests the row that was begun: with each room up to one more than `needed`, and then with each
+ * growth refused in turn. Returns the number of growths in a call. */
+size_t test_rooms(call_of_row *call, const void *row, size_t needed, uint32_t status);
 
-/* Tests a row with this room and with each growth refused in turn. Returns the number of growths in
- * a call. */
+/* Begins a row with this text, and tests it. */
+void test_row(call_of_row *call, const void *row, struct text text, size_t needed,
+              uint32_t status);
+
+/* Tests the row that was begun with this room and with each growth refused in turn. Returns the
+ * number of growths in a call. */
 size_t test_growths(call_of_row *call, const void *row, size_t room, uint32_t status);
 
 /* Prints what was tested, and returns the status of the program. No growth at all is a failure if

@@ -95,9 +95,8 @@ static void test_ends(struct joined words)
 int main(void)
 {
     for (size_t i = 0; i < COUNT(rows); i++) {
-        const struct list *words = &rows[i].words;
-        struct text last = words->count > 0 ? words->texts[words->count - 1] : none;
-        test_row(call, &rows[i], last, rows[i].output.length, rows[i].status);
+        begin_row_of(rows[i].words);
+        test_rooms(call, &rows[i], rows[i].output.length, rows[i].status);
     }
     test_bad_ends(test_ends);
     return finish("cfgx_run", 1);

@@ -83,7 +83,9 @@ static void test_name(void)
 int main(void)
 {
     for (size_t i = 0; i < COUNT(rows); i++) {
-        test_row(call, &rows[i], rows[i].text, 1, rows[i].status);
+        struct list name = LIST(rows[i].text, rows[i].answers);
+        begin_row_of(name);
+        test_rooms(call, &rows[i], 1, rows[i].status);
     }
     test_name();
     return finish("cfgx_value", 1);
