@@ -5,6 +5,7 @@
 #include <string.h>
 
 #define TURNS 2000
+#define ROOM 100
 
 /* What a thread asks, and what its calls have to return. */
 struct task {
@@ -13,29 +14,43 @@ struct task {
     uint8_t value;
     struct text faulty;
     struct text message;
-    /* the number of calls that returned something else */
-    size_t wrong;
 };
 
-static struct task tasks[] = {
+/* A task, and what the last calls for it returned. */
+struct run {
+    const struct task *task;
+    uint8_t value;
+    size_t needed;
+    struct buffer message;
+};
+
+static const struct task tasks[] = {
     {TEXT("all(a, any(b, not(c)), d)"), TEXT("\0\0\1\1"), CFGX_VALUE_TRUE, TEXT("not(a, b)"),
-     TEXT("not(a, b)\n^^^^^^^^^ not() takes 1 predicate, found 2"), 0},
+     TEXT("not(a, b)\n^^^^^^^^^ not() takes 1 predicate, found 2")},
     {TEXT("cfg(any(unix, not(windows)))"), TEXT("\2\0"), CFGX_VALUE_UNKNOWN, TEXT("cfg(key))"),
-     TEXT("key)\n   ^ unopened parens"), 0},
+     TEXT("key)\n   ^ unopened parens")},
 };
 
-static void *run_task(void *argument)
+/* Makes the calls. Returns whether all results are right. */
+static int make_calls(struct run *run)
 {
-    struct task *task = argument;
-    char message[100];
-    for (size_t turn = 0; turn < TURNS; turn++) {
-        uint8_t value = 77;
-        size_t needed = 0;
-        cfgx_value(task->text.bytes, task->text.length, (const uint8_t *)task->answers.bytes,
-                   task->answers.length, &value);
-        cfgx_explain(task->faulty.bytes, task->faulty.length, message, sizeof message, &needed);
-        task->wrong += value != task->value || needed != task->message.length
-            || memcmp(message, task->message.bytes, needed) != 0;
+    const struct task *task = run->task;
+    run->value = 77;
+    run->needed = 0;
+    cfgx_value(task->text.bytes, task->text.length, (const uint8_t *)task->answers.bytes,
+               task->answers.length, &run->value);
+    cfgx_explain(task->faulty.bytes, task->faulty.length, (char *)run->message.bytes, ROOM,
+                 &run->needed);
+    return run->value == task->value && run->needed == task->message.length
+        && memcmp(run->message.bytes, task->message.bytes, run->needed) == 0;
+}
+
+/* Makes the calls many times, but stops if a result is wrong. */
+static void *make_turns(void *run)
+{
+    size_t turn = 0;
+    while (turn < TURNS && make_calls(run)) {
+        turn++;
     }
     return NULL;
 }
@@ -43,13 +58,19 @@ static void *run_task(void *argument)
 int main(void)
 {
     pthread_t threads[COUNT(tasks)];
+    struct run runs[COUNT(tasks)];
     for (size_t i = 0; i < COUNT(tasks); i++) {
-        expect_number("a thread", pthread_create(&threads[i], NULL, run_task, &tasks[i]), 0);
+        struct run run = {&tasks[i], 0, 0, make_buffer(&BYTES, ROOM)};
+        runs[i] = run;
+        expect_number("a thread", pthread_create(&threads[i], NULL, make_turns, &runs[i]), 0);
     }
     for (size_t i = 0; i < COUNT(tasks); i++) {
         begin_row(tasks[i].text);
         expect_number("a thread", pthread_join(threads[i], NULL), 0);
-        expect_number("wrong results beside another thread", tasks[i].wrong, 0);
+        expect_number("the value", runs[i].value, tasks[i].value);
+        expect_number("the number of bytes that are needed", runs[i].needed,
+                      tasks[i].message.length);
+        expect_filled(runs[i].message, tasks[i].message.bytes, tasks[i].message.length);
     }
     return finish("two threads", 0);
 }
