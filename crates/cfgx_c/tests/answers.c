@@ -44,6 +44,8 @@ static const struct row rows[] = {
          "\1"),
     DONE("a", LIST(TEXT("?target_new = \"x\""), TEXT("target_has_atomic"), TEXT("panic")), 0, "\0"),
     DONE("a", LIST(TEXT("target_thread_local"), TEXT("feature"), TEXT("?a")), 0, "\2"),
+    /* A `?` and then an outer `cfg( )` are taken off first. */
+    DONE("a", LIST(TEXT("?cfg(target_new)"), TEXT("cfg( target_new=\"x\" )")), 2, "\2"),
 
     STATUS("all(a", NO_TEXTS, FAULTY),
     STATUS("a = \"\xff\"", NO_TEXTS, NOT_UTF8),
@@ -57,6 +59,9 @@ static const struct row rows[] = {
     STATUS("a", LIST(TEXT("target_feature = \"\"")), FAULTY_FACT),
     STATUS("a", LIST(TEXT("all(target_new = \"x\")")), FAULTY_FACT),
     STATUS("a", LIST(TEXT("target_new 8")), FAULTY_FACT),
+    STATUS("a", LIST(TEXT("target_new,")), FAULTY_FACT),
+    STATUS("a", LIST(TEXT("cfg(?target_new)")), FAULTY_FACT),
+    STATUS("a", LIST(TEXT("cfg(cfg(target_new))")), FAULTY_FACT),
     STATUS("a", LIST(TEXT("a"), TEXT("k = \"\xff\"")), FAULTY_FACT),
     /* The character is whole only if two facts are read as one. */
     STATUS("a", LIST(TEXT("k = \"\xc3"), TEXT("\xa9\"")), FAULTY_FACT),
