@@ -78,7 +78,8 @@ void expect_filled(struct buffer buffer, const void *items, size_t count);
 
 void expect_number(const char *what, size_t found, size_t wanted);
 
-/* Begins a row. A failure is printed with the number of the row, from 1 on, and with its texts. */
+/* Begins a row. A failure is printed with the number of the row, from 1 on, and with its texts,
+ * which have to stay until the next row begins. */
 void begin_row(struct text text);
 void begin_row_of(struct list texts);
 

@@ -18,7 +18,7 @@ static const size_t *map_ends(void)
         perror("FAILED: too many values: the system refuses a mapping of 32 GiB");
         exit(1);
     }
-    /* Large pages are faster. Without them the test is slower. */
+    /* Large pages make the test faster. It does not need them. */
     madvise(ends, size, MADV_HUGEPAGE);
     return ends;
 }
