@@ -139,7 +139,7 @@ const MIN_CAPACITY: usize = 3;
 /// grows where it stands, and is not copied.
 const MAX_CAPACITY: usize = 2560;
 
-/// The capacity that a reader reserves before its second text.
+/// The capacity that `move_to_heap` reserves for each vector.
 pub(crate) const KEPT_CAPACITY: usize = 8;
 
 /// Returns the capacity to reserve for the nodes of a text of `len` bytes.
@@ -199,7 +199,7 @@ impl<A: SmallAllocator> Writer<A> {
         self.first_capacity = capacity_for(len);
     }
 
-    /// Whether nodes were written since the last restart, and places are still inline.
+    /// Whether a node was written since the last restart and `leaves` is inline.
     pub(crate) fn is_used_inline(&self) -> bool {
         self.node_count > 0 && !self.leaves.spilled()
     }

@@ -254,18 +254,19 @@ impl<'a, A: SmallAllocator> Parser<'a, A> {
         self.writer.move_to_heap()
     }
 
-    /// Clears the state for a text of `len` bytes, and keeps the memory. After a first text moves
-    /// the vectors to the heap. No fault is left from the last text: `failure` has taken it.
+    /// Clears the state for a text of `len` bytes, and keeps the memory. Moves the vectors to the
+    /// heap if the last text wrote a node and left `leaves` inline. No fault is left from the last
+    /// text: `failure` has taken it.
     #[inline(always)]
     pub(crate) fn restart(&mut self, len: usize) -> Result<(), AllocError>
         ensures { state_of self.new ≡ initial }
     {
-        let is_second = self.writer.is_used_inline();
+        let must_move = self.writer.is_used_inline();
         self.func_stack.clear();
         self.list = OpenList::new();
         self.pending = None;
         self.writer.restart(len);
-        if is_second {
+        if must_move {
             self.move_to_heap()?;
         }
         Ok(())

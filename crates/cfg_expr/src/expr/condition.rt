@@ -156,8 +156,8 @@ impl fmt::Debug for Condition<'_> {
     }
 }
 
-/// Reads one condition after another in the same memory. Only the first two reads, one that needs
-/// more room than any before, and a faulty text allocate.
+/// Reads one condition after another in the same memory. A read allocates only for a faulty text,
+/// for one that needs more room than any before, and once after the first text that has a node.
 #[derive(Drop)]
 pub struct ConditionReader<'a, A: SmallAllocator = Global> {
     texts: TextReader<'a, A>,

@@ -1,7 +1,6 @@
 -- The text that is read is the one that was passed.
 use Rattle.std.proofs.Common.{◌≡◌, ◌∙◌, ap, length, map, subst}
 use Rattle.std.proofs.lemmas.List.{length-map}
-use Rattle.cfgx_syntax.specs.Stripping.{strip}
 use Rattle.cfgx_grammar.specs.Answer.{HasOneTree}
 use Rattle.cfg_expr.specs.Steps.{steps_of}
 use Rattle.cfgx_c.specs.{Buffer.FillsBoth, Steps.c_step}
@@ -11,9 +10,9 @@ pub returns-clause-done : goal.returns-clause-done
 returns-clause-done c is =
     let steps = c.in-Ok-compiled.step_list in
     let list = c.in-Ok-predicates_of.list in
-    let same : c.as_ref.result ≡ strip c.args.text.now = c.as_ref.ensures ∙ c.in-Ok.ensures.ok.0 in
     let found = subst (λ text. (one : HasOneTree text)
-    × (steps.items ≡ map c_step (steps_of one.tree))) same c.in-Ok-compiled.ensures in
+    × (steps.items ≡ map c_step (steps_of one.tree))) c.in-Ok.ensures.ok.0
+    c.in-Ok-compiled.ensures in
     record {
       one = found.0;
       predicates = list.items;
