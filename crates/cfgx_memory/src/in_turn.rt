@@ -102,7 +102,7 @@ const TABLES: &[TableToCheck<'_>] = &[
     ("each growth of each run", runs::RUNS, 31),
     ("each growth of each other call", calls::CALLS, 36),
     ("growths of decisions", decisions::DECISIONS, 8),
-    ("growths of a reader", reading::READ, 8),
+    ("growths of a reader", reading::READ, 10),
 ];
 
 // Returns whether the row passes the check with this name, or `None` if there is no such check.

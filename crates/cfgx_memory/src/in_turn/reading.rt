@@ -68,9 +68,9 @@ pub(super) fn check_reader<A: SmallAllocator>(alloc: A, text: &str, expected: &P
 /// Texts that one reader reads one after another, each with the number of growths that it takes. An
 /// `any()` with its comma and spaces has ten bytes.
 pub(super) const READ: &str = r#"
-// Before the second text a reader makes room for eight nodes, eight predicates of open lists, eight
-// asked predicates and eight open functions. A text that needs more of one of them makes more room
-// for it.
+// After the first text with a node, a reader makes room for eight nodes, eight predicates of open
+// lists, eight asked predicates and eight open functions. A text that needs more of one of them makes
+// more room for it.
 a | 0 | ~not(~7~a~)~7~ | 4 | any(a,b,c,d,e,f,g) | 0 | any(a,b,c,d,e,f,g,h) | 1
 a | 0 | a | 4 | any(~a,~9~) | 3 | any(~a,~9~) | 0
 a | 0 | a | 4 | ~not(~9~a~)~9~ | 2 | ~not(~9~a~)~9~ | 0
@@ -82,6 +82,9 @@ any(~any(),    ~60~) | 1 | a | 3 | any(~any(),    ~600~) | 1
 ~k~1000~ | 0 | ~k~1000~ | 4 | any(~any(),    ~11~) | 1 | any(~any(),    ~60~) | 1
 // A fault takes a copy of its text.
 a | 0 | a | 4 | key) | 1 | a | 0
+) | 1 | a | 0 | a | 4
+// A first text with five predicates in one list leaves the inline room itself.
+any(~a,~5~) | 4 | a | 0 | a | 0
 "#;
 
 // Returns whether reading the text returns what parsing it returns, and takes `growths` growths.

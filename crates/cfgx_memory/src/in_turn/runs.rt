@@ -102,7 +102,7 @@ pub(super) fn run_survives(global: Global, words: &[&str], status: u8) -> bool {
 /// - `without memory`: the words. Every growth is refused.
 pub(super) const RUNS: &str = r#"
 each refused | 1 | parse | \e
-each refused | 0 | eval | a
+each refused | 0 | eval | all(a)
 each refused | 0 | eval | all(a, any(b), c) | a | ?b | c
 each refused | 0 | eval | any(target_os = "linux", feature = "a", not(a), not(b))\
  | ?any(target_os = "linux", key = "v") | all(feature = "b", a, b, c, d, e, f)
@@ -127,20 +127,22 @@ pick | 0 | m\tany(not(feature = "x"), target_os = "linux", test)\
 pick | 0 | \u{e9}\ttrue\r\n\r\n | \u{e9}\tyes\n
 pick | 0 | \e | \e
 // In a row `pick alike` each field begins on a line of its own.
-// A line takes no memory if a line of at least its length was read before it and the output has
-// room. The first name has 20 bytes, so the block of the output has 20 and then 40. The output of
-// all lines has 34 bytes.
+// The first line leaves the inline room of the reader. After it, a line of at most its length takes
+// no memory if the output has room. The first name has 20 bytes, so the block of the output has 20
+// and then 40. The output of all lines has 34 bytes.
 pick alike | 0 | ~n~20~\tall(a, b, c, d, e, not(any(not(f))), windows)\n\
  | ~n~20~\tno\n\
  | ~n~20~\tall(a, b, c, d, e, not(any(not(f))), windows)\n\
 b\tall(a, b, c, d, e, not(any(not(f))), windows)\nc\twindows\n\
  | ~n~20~\tno\nb\tno\nc\tno\n
-// Each later unknown section is decided in the memory of the first one. The first name has 400
-// bytes, so the block of the output has 400 and then 800. The output of all lines has fewer bytes.
+// Each later unknown section is decided in the memory of the first two, since the reader leaves the
+// inline room before the second line. The first name has 400 bytes, so the block of the output has
+// 400 and then 800. The output of all lines has fewer bytes.
 // The functions of a list are asked before its other predicates. In `any(a, not(a))` the first
 // digit is therefore that of the `a` inside `not`.
-pick alike | 0 | ~n~400~\tany(a, not(a))\n\
+pick alike | 0 | ~n~400~\tany(a, not(a))\nb\tall(c, d)\n\
  | ~n~400~\tunknown\n\ttrue with 01\n\tfalse with 10\n\
+b\tunknown\n\ttrue with 11\n\tfalse with 00\n\
  | ~n~400~\tany(a, not(a))\nb\tall(c, d)\nc\tnot(test)\nd\tall(unix, e)\nf\tany(g, windows)\n\
  | ~n~400~\tunknown\n\ttrue with 01\n\tfalse with 10\n\
 b\tunknown\n\ttrue with 11\n\tfalse with 00\nc\tunknown\n\ttrue with 0\n\tfalse with 1\n\
@@ -153,7 +155,7 @@ without memory | 2 | pick
 without memory | 2 | pick | a | b
 without memory | 2 | target | nowhere
 without memory | 3 | parse | a
-without memory | 3 | eval | a
+without memory | 3 | eval | all(a)
 without memory | 3 | target | nowhere | )
 "#;
 

@@ -56,7 +56,7 @@ fn equality_with_text_is<A: SmallAllocator>(
     equality_is(expression, &parse_with_memory(heap, alloc, TEXT), wanted)
 }
 
-// A text with more nodes than a reader makes room for at first.
+// A text for which every vector of a reader leaves its inline room.
 const LONG: &str = "all(a, b, c, d, e, not(any(not(f))))";
 
 // Returns whether reading the text returns what parsing it in `global` returns.
