@@ -1,9 +1,8 @@
 -- Steps as C sees them stand for one list of steps.
-use Rattle.std.proofs.Common.{◌≡◌, ◌==◌, ◌<◌, ◌+◌, ◌∙◌, ℕ, List, [], ◌∷◌, ap, false, get_or}
-use Rattle.std.proofs.Common.{arith, if◌then◌else◌, length, map, refl, sym, take, true}
+use Rattle.std.proofs.Common.{◌≡◌, ◌==◌, ◌<◌, ◌∙◌, ℕ, List, [], ◌∷◌, ap, false, get_or}
+use Rattle.std.proofs.Common.{arith, if◌then◌else◌, length, map, refl, sym, true}
 use Rattle.std.proofs.Common.{Bool, Option}
-use Rattle.std.proofs.Math.ListN.{set}
-use Rattle.std.proofs.lemmas.List.{get_or-map, length-map, map-append, take_more, take_more_set}
+use Rattle.std.proofs.lemmas.List.{get_or-map, length-map}
 use Rattle.cfgx_grammar.specs.{Filling.three_valued, Question.Question, Tree.Tree}
 use Rattle.cfg_expr.specs.Steps.{HasSteps, HaveNoValue, IsValueOfSteps}
 use Rattle.cfg_expr.specs.declared.expr.steps.Step.{Step}
@@ -51,14 +50,6 @@ no_steps seen i otherwise inside none steps are = none (get_or steps i Ask)
     (sym (get_or-map c_step steps i Ask otherwise
     (omega (arith, inside, ap length are, length-map steps c_step)))
     ∙ ap (λ l. get_or l i otherwise) are)
-
--- one step more was read
-pub one-more : (room : List Step) (seen : List CfgxStep) (i : ℕ) (step : Step) (d : CfgxStep)
-    → i < length room → i < length seen → c_step step ≡ get_or seen i d
-    → map c_step (take i room) ≡ take i seen
-    → map c_step (take (i + 1) (set room i step)) ≡ take (i + 1) seen
-one-more room seen i step d inside below is so_far =
-    rw (take_more_set room i step inside, map-append, so_far, take_more seen i d below, is) refl
 
 module _ (steps : List Step) (seen : List CfgxStep) (are : map c_step steps ≡ seen)
     (bytes : List ℕ) where

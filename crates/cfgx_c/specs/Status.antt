@@ -2,7 +2,7 @@
 -- Source: include/cfgx.h.
 use Rattle.std.specs.Prelude.{ℕ}
 
--- the call did what it is asked for, and wrote its results
+-- the call succeeded; a buffer that is too small stays as it was
 abbrev pub done : ℕ
 done = 0
 

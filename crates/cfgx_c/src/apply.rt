@@ -38,8 +38,8 @@ fn eval_c_steps(
 ///
 /// Returns the status `DONE`, and writes the value to `value`: 0 for false, 1 for true, 2 for
 /// unknown. Returns `NO_TREE` if no condition has these steps, `MISCOUNTED` if they ask more or
-/// fewer predicates than there are answers, and `OUT_OF_MEMORY` if memory was refused. With any
-/// status but `DONE` `value` stays as it was.
+/// fewer predicates than there are answers, and `OUT_OF_MEMORY` if memory was refused. Unless the
+/// status is `DONE`, `value` is unchanged.
 #[unsafe(no_mangle)]
 pub extern "C" fn cfgx_apply(
     alloc: Global,

@@ -115,7 +115,7 @@ fn find_answers(
 /// for true, 2 for unknown. Returns `BAD_ENDS` if `fact_ends` are not the ends of texts in `facts`.
 /// If they are, returns `NOT_UTF8` or `FAULTY` if the text is no condition. If it is one, returns
 /// `FAULTY_FACT` if a fact is faulty or not UTF-8. Returns `OUT_OF_MEMORY` if memory was refused.
-/// With any status but `DONE` `needed` becomes 0, and `answers` stays as it was.
+/// Unless the status is `DONE`, `needed` becomes 0 and `answers` is unchanged.
 #[unsafe(no_mangle)]
 pub extern "C" fn cfgx_answers(
     alloc: Global,

@@ -124,16 +124,14 @@ fn target_span(target: InnerTarget) -> Option<Span>
     ensures { result ≡ target_span target }
 {
     match target {
-        InnerTarget::Abi(span) => Some(span),
-        InnerTarget::Arch(span) => Some(span),
-        InnerTarget::Endian(_) => None,
-        InnerTarget::Env(span) => Some(span),
-        InnerTarget::Family(span) => Some(span),
-        InnerTarget::HasAtomic(_) => None,
-        InnerTarget::Os(span) => Some(span),
-        InnerTarget::Panic(span) => Some(span),
-        InnerTarget::PointerWidth(_) => None,
-        InnerTarget::Vendor(span) => Some(span),
+        InnerTarget::Abi(span)
+        | InnerTarget::Arch(span)
+        | InnerTarget::Env(span)
+        | InnerTarget::Family(span)
+        | InnerTarget::Os(span)
+        | InnerTarget::Panic(span)
+        | InnerTarget::Vendor(span) => Some(span),
+        InnerTarget::Endian(_) | InnerTarget::HasAtomic(_) | InnerTarget::PointerWidth(_) => None,
     }
 }
 
@@ -143,8 +141,7 @@ fn value_span(predicate: InnerPredicate) -> Option<Span>
 {
     match predicate {
         InnerPredicate::Target(target) => target_span(target),
-        InnerPredicate::Feature(span) => Some(span),
-        InnerPredicate::TargetFeature(span) => Some(span),
+        InnerPredicate::Feature(span) | InnerPredicate::TargetFeature(span) => Some(span),
         InnerPredicate::Other { value, .. } => value,
         _ => None,
     }

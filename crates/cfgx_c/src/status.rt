@@ -1,6 +1,6 @@
 // What the calls return. A number means the same in all calls.
 
-/// The call did what it is asked for, and wrote its results.
+/// The call succeeded. A buffer that is too small stays as it was.
 pub(crate) const DONE: u32 = 0;
 
 /// A text is no condition; of `cfgx_run`: a text or the input is faulty.

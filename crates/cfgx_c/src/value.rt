@@ -18,7 +18,7 @@ use std::alloc::Global;
 /// Returns the status `DONE`, and writes the value to `value`: 0 for false, 1 for true, 2 for
 /// unknown. Returns `FAULTY` if the text has a fault, `NOT_UTF8` if it is not UTF-8,
 /// `OUT_OF_MEMORY` if memory was refused, and `MISCOUNTED` if there are more or fewer answers than
-/// predicates. With any status but `DONE` `value` stays as it was.
+/// predicates. Unless the status is `DONE`, `value` is unchanged.
 #[unsafe(no_mangle)]
 pub extern "C" fn cfgx_value(alloc: Global, text: &[u8], answers: &[u8], value: &mut u8) -> u32
     ensures done { result ≡ done → HasValueOver (strip text.now) answers.now value.new }
