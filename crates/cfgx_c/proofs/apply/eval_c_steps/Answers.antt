@@ -10,13 +10,15 @@ returns-then-not-read_steps-clause-error c tree has =
 pub returns-clause-value : goal.returns-clause-value
 returns-clause-value c =
     let read = rw c.if-not-read_steps.false at c.read_steps.ensures in
-    let value = rw c.in_ok-answers.ensures at c.eval_steps.ensures.value in
+    let value = rw (c.as_slice.ensures, c.as_slice-2.ensures, c.in_ok-answers.ensures) at
+    c.eval_steps.ensures.value in
     IfOk-weaker c.eval_steps.result _ _
     (Applies-read _ c.args.steps.now read c.args.answers.now) value
 
 pub returns-clause-error : goal.returns-clause-error
 returns-clause-error c =
     let read = rw c.if-not-read_steps.false at c.read_steps.ensures in
-    let error = rw c.in_ok-answers.ensures at c.eval_steps.ensures.error in
+    let error = rw (c.as_slice.ensures, c.as_slice-2.ensures, c.in_ok-answers.ensures) at
+    c.eval_steps.ensures.error in
     IfErr-weaker c.eval_steps.result _ _
     (DoNotApply-read _ c.args.steps.now read c.args.answers.now) error
