@@ -1,22 +1,22 @@
 -- The first item that is bad.
-use Rattle.std.proofs.Common.{◌≡◌, ◌≢◌, ◌∙◌, ◌+◌, ◌<◌, ◌≤◌, ℕ, zero, suc, All, Bor, List, []}
+use Rattle.std.proofs.Common.{◌≡◌, ◌≢◌, ◌∙◌, ◌+◌, ◌<◌, ◌≤◌, ℕ, suc, All, Bor, List, []}
 use Rattle.std.proofs.Common.{◌∷◌, ◌++◌, Some, ap, rules, unwrap_or}
 use Rattle.std.proofs.Common.{◌-◌, append_assoc, append-nil, arith, drop, get_or, length, map}
-use Rattle.std.proofs.Common.{◌^◌, Err, IfSome, Ok, refl, sym, take}
+use Rattle.std.proofs.Common.{◌^◌, Err, IfSome, refl, sym, take}
 use Rattle.std.proofs.Math.ListN.{set}
 use Rattle.std.proofs.lemmas.List.{drop-drop, drop_at, length-drop, length-map, map_more}
 use Rattle.std.proofs.lemmas.List.{drop_more, map-append, set_split, take_at, take_more}
-use Rattle.std.specs.List.{slice_get, slice_range}
+use Rattle.std.specs.List.{AllByRecursion, slice_get, slice_range}
 use Rattle.std.specs.Str.{IsUtf8}
 use Rattle.std.proofs.lemmas.List.{drop-map, length-append, length-take-le, nil_from_length}
 use Rattle.std.proofs.lemmas.List.{take-append-drop, take-append-le, take-map}
 use Rattle.std.proofs.lemmas.List.Folds.{drop_split}
 use Rattle.std.proofs.lemmas.List.Elements.{All-append, All-from_recursion, All-nil}
 use Rattle.std.proofs.lemmas.List.Elements.{All-push, All-take}
-use Rattle.std.proofs.lemmas.Option.{same_Some, slice_get-get_or, slice_get-map}
-use Rattle.std.proofs.lemmas.Option.{get_or_from_slice_get, slice_get_within}
-use Rattle.std.proofs.Math.Seq.{get_or-append_seam, take-append-add, take-append_seam}
-use Rattle.cfgx_syntax.specs.Error.{TextFault}
+use Rattle.std.proofs.lemmas.Option.{get_or_from_slice_get, same_Some, slice_get_within}
+use Rattle.std.proofs.Math.Seq.{take-append-add, take-append_seam}
+use Rattle.cfgx_syntax.specs.{Error.TextFault, Stripping.strip}
+use Rattle.cfgx_grammar.specs.Answer.{HasOneTree}
 use Rattle.cfgx_grammar.proofs.ListLemmas.{slice_get-append, slice_get-append-add}
 use Rattle.cfgx_grammar.proofs.ListLemmas.{slice_get-append_seam}
 use Rattle.cfgx_syntax.specs.{Error.failure_of, Error.fault_of, declared.error.Failure.Failure}
@@ -26,7 +26,7 @@ use Rattle.cfgx_engine.specs.Facts.{IsFirstFaulty as IsFirstRefused, IsRustcFact
 use Rattle.cfgx_engine.specs.declared.resolve.facts.FactsError.{FactsError}
 use Rattle.cfgx_engine.specs.declared.resolve.facts.FactsError.TheVariants as facts_error
 use Rattle.cfgx_c.specs.Ends.{parts_from}
-use Rattle.cfgx_c.specs.Answers.{IsCondition, IsFact, IsFirstBad, IsFirstFaulty}
+use Rattle.cfgx_c.specs.Answers.{IsCondition, IsFact, IsFaulty, IsFirstBad, IsFirstFaulty}
 use Rattle.cfgx_c.specs.Answers.{IsFirstFaultyFact, IsFirstNotUtf8}
 use Rattle.cfgx_c.specs.internal.Reading.{FailsFor, FailsForFacts, FailsForText, FailsForTexts}
 use Rattle.cfgx_c.specs.internal.Reading.{FactFits, IsUtf8Front, RefusesFor, fact_error, place_of}
@@ -68,25 +68,6 @@ module _ (Good Bad : List ℕ → Type 0) where
     bad = first.bad;
   }
 
--- the text at `i` is the first that is no condition
-pub FailsForTexts-here : (texts : List (Bor (List ℕ))) (i : ℕ) (d : Bor (List ℕ))
-    (failed : ReadError) → i < length texts → All IsCondition (views (take i texts))
-    → FailsForText i (get_or texts i d).now failed → FailsForTexts (views texts) failed
-FailsForTexts-here texts i d (error.Faulty number) below good fails = record {
-  item = (get_or texts i d).now;
-  stands = rw (fails.0, slice_get-map, slice_get-get_or texts i d below) refl;
-  before = rw (fails.0, take-map) good;
-  bad = fails.1;
-}
-FailsForTexts-here texts i d (error.NotUtf8 number) below good fails = record {
-  item = (get_or texts i d).now;
-  stands = rw (fails.0, slice_get-map, slice_get-get_or texts i d below) refl;
-  before = rw (fails.0, take-map) good;
-  bad = fails.1;
-}
-FailsForTexts-here texts i d (error.FaultyFact number) below good fails = absurd fails
-FailsForTexts-here texts i d error.Memory below good fails = tt
-
 -- facts that are read from texts in UTF-8
 pub facts-good : (front : List (List ℕ)) → All IsUtf8 front → All IsRustcFact front
     → All IsFact front
@@ -127,41 +108,36 @@ FailsForFacts-refused begin facts front (facts_error.Faulty index fault) is firs
     (index, refl, faulty-refused facts front index (fault_of fault) is first)
 FailsForFacts-refused begin facts front (facts_error.Memory refused) is first = tt
 
--- the first text behind those in UTF-8 is the first faulty fact
-faulty-behind : (front left : List (List ℕ)) → 0 < length left → All IsFact front
-    → ((text : List ℕ) → slice_get left 0 ≡ Some text → ¬ IsUtf8 text)
-    → IsFirstFaultyFact (front ++ left) (length front)
-faulty-behind front [] some good ends = absurd (omega (arith, some))
-faulty-behind front (text ∷ after) some good ends =
-    IsFirstBad-seam IsFact (λ fact. ¬ IsFact fact) front text after good
-    (λ fact. ends text refl fact.0)
+-- the first text behind those in UTF-8 is the first that is bad
+module _ (Good Bad : List ℕ → Type 0) (bad : (text : List ℕ) → ¬ IsUtf8 text → Bad text) where
+  bad-behind : (front left : List (List ℕ)) → 0 < length left → All Good front
+      → ((text : List ℕ) → slice_get left 0 ≡ Some text → ¬ IsUtf8 text)
+      → IsFirstBad Good Bad (front ++ left) (length front)
+  bad-behind front [] some good ends = absurd (omega (arith, some))
+  bad-behind front (text ∷ after) some good ends =
+      IsFirstBad-seam Good Bad front text after good (bad text (ends text refl))
+
+  pub bad-not_utf8 : (texts front : List (List ℕ)) → length front < length texts
+      → IsUtf8Front texts front → All Good front → IsFirstBad Good Bad texts (length front)
+  bad-not_utf8 texts front short is good =
+      let long = length-append front is.left in
+      rw is.whole
+      (bad-behind front is.left (omega (arith, short, ap length is.whole, long)) good is.ends)
 
 pub faulty-not_utf8 : (facts front : List (List ℕ)) → length front < length facts
     → IsUtf8Front facts front → All IsRustcFact front → IsFirstFaultyFact facts (length front)
 faulty-not_utf8 facts front short is accepted =
-    let long = length-append front is.left in
-    rw is.whole (faulty-behind front is.left (omega (arith, short, ap length is.whole, long))
-    (facts-good front is.utf8 accepted) is.ends)
+    bad-not_utf8 IsFact (λ fact. ¬ IsFact fact) (λ fact not good. not good.0) facts front short is
+    (facts-good front is.utf8 accepted)
 
 -- nor are all texts in UTF-8 then
-not-utf8-behind : (front left : List (List ℕ)) → 0 < length left
-    → ((text : List ℕ) → slice_get left 0 ≡ Some text → ¬ IsUtf8 text)
-    → ¬ All IsUtf8 (front ++ left)
-not-utf8-behind front [] some ends all = absurd (omega (arith, some))
-not-utf8-behind front (text ∷ after) some ends all =
-    let long = length-append front (text ∷ after) in
-    ends text refl (rw (get_or-append_seam front text after []) at
-    (all (length front) [] (omega (arith, long))))
-
 pub not_all_utf8 : (texts front : List (List ℕ)) → length front < length texts
     → IsUtf8Front texts front → ¬ All IsUtf8 texts
 not_all_utf8 texts front short is all =
-    not-utf8-behind front is.left (omega (
-      arith,
-      short,
-      ap length is.whole,
-      length-append front is.left,
-    )) is.ends (rw is.whole at all)
+    let first = bad-not_utf8 IsUtf8 (λ text. ¬ IsUtf8 text) (λ text not. not) texts front short is
+    is.utf8 in
+    let same = get_or_from_slice_get texts (length front) first.item first.item first.stands in
+    first.bad (rw same at (all (length front) first.item short))
 
 -- all texts are in UTF-8 if as many are as there are
 pub front-whole : (facts front : List (List ℕ)) → length facts ≤ length front
@@ -188,12 +164,6 @@ FailsForFacts-behind front piece after (error.FaultyFact number) good fails = (
   rw fails.1 (IsFirstBad-behind IsFact (λ fact. ¬ IsFact fact) front (piece ++ after) fails.0 good
       (IsFirstBad-front IsFact (λ fact. ¬ IsFact fact) piece after fails.0 fails.2)),
 )
-
--- the item of a list of one item is bad
-pub only-bad : (Good Bad : List ℕ → Type 0) (item : List ℕ) (number : ℕ)
-    → IsFirstBad Good Bad (item ∷ []) number → Bad item
-only-bad Good Bad item zero first = rw (same_Some item first.item first.stands) first.bad
-only-bad Good Bad item (suc number) first = absurd (grind (arith, first.stands))
 
 -- What a call with a status reports of texts and facts, and what it writes to a place.
 pub record Reports (texts facts : List (List ℕ)) (status old new : ℕ) : Type 0 where
@@ -236,16 +206,8 @@ Reports-from texts facts error.Memory old fails = record {
   fails = search rules;
 }
 
--- the error of the texts is that of texts and facts
-pub FailsFor-texts : (texts facts : List (List ℕ)) (failed : ReadError)
-    → FailsForTexts texts failed → FailsFor texts facts failed
-FailsFor-texts texts facts (error.Faulty number) fails = fails
-FailsFor-texts texts facts (error.NotUtf8 number) fails = fails
-FailsFor-texts texts facts (error.FaultyFact number) fails = absurd fails
-FailsFor-texts texts facts error.Memory fails = tt
-
 -- the status of the error of a text says what is wrong with it
-pub RefusesFor-from : (text answers : List ℕ) (failed : ReadError) → FailsForText 0 text failed
+pub RefusesFor-from : (text answers : List ℕ) (failed : ReadError) → FailsForText text failed
     → RefusesFor text answers (status_of failed)
 RefusesFor-from text answers (error.Faulty number) fails = (
   (λ is. fails.1, (λ is. absurd (omega (arith, is)), λ other. fails.1.0)),
@@ -272,7 +234,7 @@ RefusesFor-from text answers error.Memory fails = (
 
 -- so is the error of one text
 pub FailsFor-text : (text : List ℕ) (facts : List (List ℕ)) (failed : ReadError)
-    → FailsForText 0 text failed → FailsFor (text ∷ []) facts failed
+    → FailsForText text failed → FailsFor (text ∷ []) facts failed
 FailsFor-text text facts (error.Faulty number) fails =
     record {
       item = text;
@@ -400,21 +362,28 @@ IsUtf8Front-here texts i d front below so_far not = record {
       (rw (drop_more texts i d below) at first)) not;
 }
 
--- texts that are conditions have no fault
-no-fault : (texts : List (List ℕ)) (index : ℕ) (fault : TextFault) → All IsCondition texts
-    → IsFirstFault texts index fault → ⊥
-no-fault texts index fault good first =
-    let below = slice_get_within texts index first.text first.stands in
-    let same = get_or_from_slice_get texts index first.text first.text first.stands in
-    let one = (rw same at (good index first.text below)).1 in
-    absurd (cc (first.parses.1.only (Ok one.tree) one.reads.has))
+-- texts in UTF-8 that have one tree each
+pub conditions-good : (front : List (List ℕ)) → All IsUtf8 front
+    → AllByRecursion (λ text. HasOneTree (strip text)) front → All IsCondition front
+conditions-good front utf8 one i d below =
+    (utf8 i d below, All-from_recursion (λ text. HasOneTree (strip text)) front one i d below)
 
-pub FailsFor-audit : {A : Type 0} (texts facts : List (List ℕ)) (index : ℕ) (failed : Failure A)
-    → All IsCondition texts → IfSome (failure_of {A = A} failed) (IsFirstFault texts index)
-    → FailsFor texts facts (text_error {A = A} index failed)
-FailsFor-audit texts facts index (failure.Parse fault) good first =
-    absurd (no-fault texts index (fault_of fault) good first)
-FailsFor-audit texts facts index (failure.Memory refused) good first = tt
+-- the first of the texts in UTF-8 that has a fault is the first that is no condition
+pub FailsForTexts-audit : {A : Type 0} (texts front : List (List ℕ)) (index : ℕ)
+    (failed : Failure A) → IsUtf8Front texts front
+    → IfSome (failure_of {A = A} failed) (IsFirstFault front index)
+    → FailsForTexts texts (text_error {A = A} index failed)
+FailsForTexts-audit texts front index (failure.Parse fault) is first =
+    let below = slice_get_within front index first.text first.stands in
+    let same = get_or_from_slice_get front index first.text first.text first.stands in
+    rw is.whole (IsFirstBad-front IsCondition IsFaulty front is.left index (record {
+      item = first.text;
+      stands = first.stands;
+      before = conditions-good (take index front) (All-take IsUtf8 index front is.utf8)
+          first.before;
+      bad = (rw same at (is.utf8 index first.text below), first.parses.0, first.parses.1);
+    }))
+FailsForTexts-audit texts front index (failure.Memory refused) is first = tt
 
 -- there are as many parts as ends
 pub length-parts : {T : Type 0} (begin : ℕ) (ends : List ℕ) (items : List T)

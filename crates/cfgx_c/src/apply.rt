@@ -25,7 +25,9 @@ fn eval_c_steps(
     ensures value { IfOk result (λ value. Applies steps.now answers.now (byte_of_value value)) }
     ensures error { IfErr result (DoNotApply steps.now answers.now) }
 {
-    let mut list = SmallVec::with_capacity(&alloc, steps.len())?;
+    // `SmallVec::with_capacity` would copy the vector out of its `Result`.
+    let mut list = SmallVec::new(&alloc);
+    list.reserve_exact(steps.len())?;
     if !read_steps(steps, &mut list) {
         return Err(StepsError::NoTree);
     }

@@ -1,24 +1,51 @@
 // The values of many conditions on many targets.
 
-ghost use Rattle.std.specs.Prelude.{◌≡◌, ◌≢◌, ◌↔◌, ◌≤◌, ◌*◌, ◌^◌, IfErr, IfOk, length};
+ghost use Rattle.std.specs.Prelude.{◌≡◌, ◌≢◌, ◌↔◌, ◌≤◌, ◌*◌, ◌^◌, IfErr, IfOk, length, map};
 ghost use Rattle.std.specs.List.{All};
+ghost use Rattle.cfgx_syntax.specs.Stripping.{strip};
+ghost use Rattle.cfgx_engine.specs.Audits.{AreValues};
+ghost use Rattle.cfgx_engine.specs.Facts.{IsAnswer};
 ghost use Rattle.cfgx_c.specs.Answers.{IsCondition, IsFact, IsFirstFaulty, IsFirstFaultyFact};
 ghost use Rattle.cfgx_c.specs.Answers.{IsFirstNotUtf8};
 ghost use Rattle.cfgx_c.specs.Audit.{AreAllEnds, FillsValues, ValuesBy};
 ghost use Rattle.cfgx_c.specs.Ends.{parts};
-ghost use Rattle.cfgx_c.specs.internal.Reading.{FailsFor};
+ghost use Rattle.cfgx_c.specs.internal.Reading.{FailsFor, FailsForTexts, views};
 ghost use Rattle.cfgx_c.specs.Status.{bad_ends, done, faulty, faulty_fact, miscounted, no_tree};
 ghost use Rattle.cfgx_c.specs.Status.{not_utf8, too_large, wrong_use};
 
-use crate::ends::{are_ends, parts};
+use crate::ends::{are_ends, parts, utf8_front};
 use crate::facts::{fill_values, otherwise_of};
-use crate::reading::{ReadError, check_texts, read_targets, text_error};
+use crate::reading::{ReadError, read_targets, text_error};
 use crate::status::{BAD_ENDS, DONE, TOO_LARGE};
-use cfgx_engine::resolve::{Otherwise, audit_facts};
+use cfgx_engine::resolve::{Facts, Otherwise, audit_facts};
 use std::alloc::Global;
 
-/// Reads the texts and then the facts, and returns the values of the texts on the targets. Target
-/// `j` has the facts up to `target_ends[j]`.
+/// Reads each text once, and returns the values of the texts on the targets.
+fn audit_texts(
+    alloc: Global,
+    texts: &[&[u8]],
+    targets: &[Facts],
+    otherwise: Otherwise,
+) -> Result<Vec<Option<bool>>, ReadError>
+    ensures ok { IfOk result (λ values. All IsCondition (views texts.now)
+        × AreValues (λ facts. IsAnswer facts otherwise) (map strip (views texts.now)) targets.now
+        values.items) }
+    ensures err { IfErr result (FailsForTexts (views texts.now)) }
+{
+    let front = utf8_front(alloc, texts)?;
+    let values = match audit_facts(alloc, front.as_slice(), targets, otherwise) {
+        Ok(values) => values,
+        Err(error) => return Err(text_error(error.index, error.failure)),
+    };
+    if front.len() < texts.len() {
+        return Err(ReadError::NotUtf8(front.len()));
+    }
+    Ok(values)
+}
+
+/// Returns the values of the texts on the targets. Target `j` has the facts up to `target_ends[j]`.
+///
+/// The error is what is wrong with the texts, or else with the facts.
 fn find_values(
     alloc: Global,
     texts: &[u8],
@@ -37,12 +64,15 @@ fn find_values(
         (parts fact_ends.now facts.now)) }
 {
     let texts = parts(alloc, texts, text_ends)?;
-    let conditions = check_texts(alloc, texts.as_slice())?;
     let facts = parts(alloc, facts, fact_ends)?;
-    let targets = read_targets(alloc, facts.as_slice(), target_ends)?;
-    match audit_facts(alloc, conditions.as_slice(), targets.as_slice(), otherwise) {
-        Ok(values) => Ok(values),
-        Err(error) => Err(text_error(error.index, error.failure)),
+    match read_targets(alloc, facts.as_slice(), target_ends) {
+        Ok(targets) => audit_texts(alloc, texts.as_slice(), targets.as_slice(), otherwise),
+        Err(ReadError::Memory) => Err(ReadError::Memory),
+        Err(error) => {
+            // A faulty text comes first. Without targets the texts are only checked.
+            audit_texts(alloc, texts.as_slice(), &[], otherwise)?;
+            Err(error)
+        }
     }
 }
 

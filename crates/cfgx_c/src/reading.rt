@@ -9,8 +9,8 @@ ghost use Rattle.cfgx_engine.specs.Facts.{NameAlike, texts_of};
 ghost use Rattle.cfgx_c.specs.Answers.{IsCondition, IsFact};
 ghost use Rattle.cfgx_c.specs.Ends.{AreEnds, parts};
 ghost use Rattle.cfgx_c.specs.internal.Reading.{FactFits, FailsForFacts, FailsForText};
-ghost use Rattle.cfgx_c.specs.internal.Reading.{FailsForTexts, Refuses, RefusesFor, fact_error};
-ghost use Rattle.cfgx_c.specs.internal.Reading.{place_of, status_of, text_error, views};
+ghost use Rattle.cfgx_c.specs.internal.Reading.{Refuses, RefusesFor, fact_error, place_of};
+ghost use Rattle.cfgx_c.specs.internal.Reading.{status_of, text_error, views};
 
 use crate::ends::utf8_front;
 use crate::status::{FAULTY, FAULTY_FACT, MISCOUNTED, NOT_UTF8, OUT_OF_MEMORY};
@@ -53,9 +53,9 @@ impl ReadError {
         ensures place { place.new ≡ unwrap_or (place_of self.now) place.old }
     {
         match self {
-            ReadError::Faulty(number) => *place = *number,
-            ReadError::NotUtf8(number) => *place = *number,
-            ReadError::FaultyFact(number) => *place = *number,
+            ReadError::Faulty(number)
+            | ReadError::NotUtf8(number)
+            | ReadError::FaultyFact(number) => *place = *number,
             ReadError::Memory => {}
         }
         self.status()
@@ -94,72 +94,21 @@ pub(crate) fn text_error(number: usize, failure: Failure) -> ReadError
     }
 }
 
-/// Checks that each text is a condition, and returns the texts.
-pub(crate) fn check_texts<'a>(alloc: Global, texts: &[&'a [u8]]) -> Result<Vec<&'a str>, ReadError>
-    ensures ok { IfOk result (λ conditions. (views conditions.items ≡ views texts.now)
-        × All IsCondition (views texts.now)) }
-    ensures err { IfErr result (FailsForTexts (views texts.now)) }
-{
-    let mut reader = ConditionReader::new(alloc);
-    let mut conditions = Vec::with_capacity(alloc, texts.len())?;
-    for text in texts {
-        let condition = check_text(&mut reader, conditions.len(), text)?;
-        conditions.push(condition)?;
-    }
-    Ok(conditions)
-}
-
-/// Checks that the text with this number is a condition, and returns the text.
-fn check_text<'a>(
-    reader: &mut ConditionReader<'a>,
-    number: usize,
-    text: &'a [u8],
-) -> Result<&'a str, ReadError>
-    ensures ok { IfOk result (λ condition. (condition.now ≡ text.now) × IsCondition text.now) }
-    ensures err { IfErr result (FailsForText number text.now) }
-{
-    let text = utf8_text(number, text)?;
-    read_utf8(reader, number, text)?;
-    Ok(text)
-}
-
-/// Returns the text with this number if it is UTF-8.
-fn utf8_text(number: usize, text: &[u8]) -> Result<&str, ReadError>
-    ensures ok { IfOk result (λ found. (found.now ≡ text.now) × IsUtf8 text.now) }
-    ensures err { IfErr result (FailsForText number text.now) }
-{
-    match str::from_utf8(text) {
-        Ok(text) => Ok(text),
-        Err(_) => Err(ReadError::NotUtf8(number)),
-    }
-}
-
-/// Reads the text with this number.
-fn read_utf8<'r, 'a>(
-    reader: &'r mut ConditionReader<'a>,
-    number: usize,
-    text: &'a str,
-) -> Result<Condition<'r>, ReadError>
-    ensures ok { IfOk result (λ condition. (condition ≡ strip text.now) × IsCondition text.now) }
-    ensures err { IfErr result (FailsForText number text.now) }
-{
-    match reader.read(text) {
-        Ok(condition) => Ok(condition),
-        Err(Failure::Parse(_)) => Err(ReadError::Faulty(number)),
-        Err(Failure::Memory(_)) => Err(ReadError::Memory),
-    }
-}
-
 /// Reads a text, whose number is 0.
 pub(crate) fn read_text<'r, 'a>(
     reader: &'r mut ConditionReader<'a>,
     text: &'a [u8],
 ) -> Result<Condition<'r>, ReadError>
     ensures ok { IfOk result (λ condition. (condition ≡ strip text.now) × IsCondition text.now) }
-    ensures err { IfErr result (FailsForText 0 text.now) }
+    ensures err { IfErr result (FailsForText text.now) }
 {
-    let text = utf8_text(0, text)?;
-    read_utf8(reader, 0, text)
+    let Ok(text) = str::from_utf8(text) else {
+        return Err(ReadError::NotUtf8(0));
+    };
+    match reader.read(text) {
+        Ok(condition) => Ok(condition),
+        Err(failure) => Err(text_error(0, failure)),
+    }
 }
 
 /// Reads a text as the nodes of its tree.

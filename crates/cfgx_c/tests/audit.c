@@ -54,6 +54,10 @@ static const struct row rows[] = {
     {LIST(TEXT("a")), LIST(LINUX, TEXT("a"), TEXT("\xff")), 2, {2, 5}, 0, FAULTY(FAULTY_FACT, 4)},
     {LIST(TEXT("a")), LIST(TEXT("unix = \"x\"")), 1, {1}, 0, FAULTY(FAULTY_FACT, 0)},
     {NO_TEXTS, LIST(TEXT("a"), TEXT("a)")), 1, {2}, 0, FAULTY(FAULTY_FACT, 1)},
+    /* A faulty text comes before a faulty fact. */
+    {LIST(TEXT("a"), TEXT("b)")), LIST(TEXT("a)")), 1, {1}, 0, FAULTY(FAULTY, 1)},
+    {LIST(TEXT("a"), TEXT("\xff")), LIST(TEXT("a"), TEXT("\xff")), 2, {1, 2}, 0,
+     FAULTY(NOT_UTF8, 1)},
 };
 
 /* What a call is passed beside its buffer. */

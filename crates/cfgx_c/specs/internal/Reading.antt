@@ -64,12 +64,12 @@ FailsForTexts texts (error.NotUtf8 number) = IsFirstNotUtf8 texts number
 FailsForTexts texts (error.FaultyFact number) = ⊥
 FailsForTexts texts error.Memory = Unit {0}
 
--- the error says why the text with this number is no condition
-abbrev pub FailsForText : ℕ → List ℕ → ReadError → Type 0
-FailsForText at text (error.Faulty number) = (number ≡ at) × IsFaulty text
-FailsForText at text (error.NotUtf8 number) = (number ≡ at) × ¬ IsUtf8 text
-FailsForText at text (error.FaultyFact number) = ⊥
-FailsForText at text error.Memory = IsUtf8 text
+-- the error says why the text, whose number is 0, is no condition
+abbrev pub FailsForText : List ℕ → ReadError → Type 0
+FailsForText text (error.Faulty number) = (number ≡ 0) × IsFaulty text
+FailsForText text (error.NotUtf8 number) = (number ≡ 0) × ¬ IsUtf8 text
+FailsForText text (error.FaultyFact number) = ⊥
+FailsForText text error.Memory = IsUtf8 text
 
 -- the status of a call that cannot read its text
 abbrev pub Refuses : List ℕ → ℕ → Type 0

@@ -1,0 +1,50 @@
+use Rattle.std.proofs.Common.{◌≡◌, arith, length}
+use Rattle.std.proofs.lemmas.List.{length-map}
+use Rattle.std.specs.Str.{IsUtf8}
+use Rattle.cfgx_c.specs.{Answers.IsCondition, internal.Reading.views}
+use Rattle.cfgx_c.proofs.InputLemmas.{FailsForTexts-audit, bad-not_utf8, conditions-good}
+use Rattle.cfgx_c.proofs.InputLemmas.{front-whole}
+use Rattle.cfgx_c.proofs.audit.audit_texts.Goals as goal
+
+-- a text in UTF-8 is faulty
+pub returns-in-Err-clause-err : goal.returns-in-Err-clause-err
+returns-in-Err-clause-err c =
+    rw c.text_error.ensures (FailsForTexts-audit (views c.args.texts.now)
+    (views c.in_ok-front.front.items) c.in-Err.error.index c.in-Err.error.failure
+    c.in_ok-front.ensures (rw c.as_slice.ensures.value at c.in-Err.ensures.err))
+
+-- the first text that is not UTF-8
+pub returns-then-len-texts-clause-err : goal.returns-then-len-texts-clause-err
+returns-then-len-texts-clause-err c =
+    let front = views c.in_ok-front.front.items in
+    let is = c.in_ok-front.ensures in
+    let one = rw c.as_slice.ensures.value at c.in-Ok.ensures.conditions in
+    let count = length-map c.in_ok-front.front.items (λ text. text.now) in
+    let at : c.len-then-len-texts.result ≡ length front =
+    omega (arith, c.len-then-len-texts.ensures, c.in_ok-front.front.ok.0, count) in
+    rw at (bad-not_utf8 IsCondition (λ text. ¬ IsUtf8 text) (λ text not. not)
+    (views c.args.texts.now) front (omega (
+      arith,
+      c.if-len-texts.true,
+      c.len.ensures,
+      c.in_ok-front.front.ok.0,
+      count,
+      length-map c.args.texts.now (λ text. text.now),
+    )) is (conditions-good front is.utf8 one))
+
+-- all texts are in UTF-8
+pub returns-clause-ok : goal.returns-clause-ok
+returns-clause-ok c =
+    let front = views c.in_ok-front.front.items in
+    let is = c.in_ok-front.ensures in
+    let one = rw c.as_slice.ensures.value at c.in-Ok.ensures.conditions in
+    let values = rw c.as_slice.ensures.value at c.in-Ok.ensures.ok in
+    let whole = front-whole (views c.args.texts.now) front (omega (
+      arith,
+      c.if-len-texts.false,
+      c.len.ensures,
+      c.in_ok-front.front.ok.0,
+      length-map c.in_ok-front.front.items (λ text. text.now),
+      length-map c.args.texts.now (λ text. text.now),
+    )) is in
+    rw whole (conditions-good front is.utf8 one, values)
