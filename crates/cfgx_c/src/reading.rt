@@ -94,7 +94,7 @@ pub(crate) fn text_error(number: usize, failure: Failure) -> ReadError
     }
 }
 
-/// Reads a text, whose number is 0.
+/// Reads the only text of a call. Its number in an error is 0.
 pub(crate) fn read_text<'r, 'a>(
     reader: &'r mut ConditionReader<'a>,
     text: &'a [u8],
