@@ -1,35 +1,36 @@
 /* The engine of cfgx for C and C++. A condition is a text such as `all(unix, feature = "x")`, whose
  * predicates are `unix` and `feature = "x"`. The calls check such texts, list their predicates, and
- * compute their values. docs/RULES.md has the rules of the language. docs/C.md says how to link the
- * library and what is proved of it.
+ * compute their values. In the repository of cfgx, docs/RULES.md has the rules of the language, and
+ * docs/C.md says how to link the library and what is proved of it.
  *
  * Texts are UTF-8. Lengths, ends and spans count bytes. No byte is a terminator, so a text may
- * contain zero bytes. If a text begins with `cfg(` and ends with `)`, the stripped text is what
- * stands between; otherwise it is the whole text.
+ * contain zero bytes. A condition has them only in its values. If a text begins with `cfg(` and
+ * ends with `)`, the stripped text is what stands between; otherwise it is the whole text.
  *
  * A pointer before a length or a count points to that many items. A null pointer is allowed where
  * its count is 0. In a language that does not read this header, pass any pointer that is not null.
- * Every other pointer points to one item.
+ * Every other pointer points to one item, and is not null.
  *
- * A list of texts is passed as the bytes of all texts, one after another with nothing between them,
- * and an array of their ends: `ends[i]` is the number of bytes of the first i + 1 texts. An empty
- * list has no ends, and its length is 0.
+ * A list of texts is passed as the bytes of all texts, one after another with nothing between
+ * them, and an array of their ends: `ends[i]` is the number of bytes of the first i + 1 texts. An
+ * empty list has no ends, and its length is 0.
  *
  * A buffer has a length `room`, in items, and a `*needed`. A call always writes `*needed`: the
  * number of items of the result, or 0 if there is no result. If `room` is at least `*needed`, the
  * result stands at the start of the buffer, and the items behind it stay as they were. Otherwise
- * the whole buffer stays as it was. A call with two buffers fills both or neither. A call with too
- * little room does all the work too, so pass a buffer at once if you know how many items there are.
+ * the whole buffer stays as it was. A call with two buffers fills both or neither. Too little room
+ * changes neither the status nor another result, so compare `*needed` with `room`. Such a call does
+ * all the work too, so pass a buffer at once if you know how many items there are.
  *
- * If several statuses are true, a call returns the first of these: CFGX_STATUS_BAD_ENDS;
+ * If several statuses apply, a call returns the first of these: CFGX_STATUS_BAD_ENDS;
  * CFGX_STATUS_TOO_LARGE; CFGX_STATUS_NOT_UTF8 or CFGX_STATUS_FAULTY, for the first text that is not
- * UTF-8 or no condition; CFGX_STATUS_FAULTY_FACT; CFGX_STATUS_NO_TREE; CFGX_STATUS_MISCOUNTED.
- * The order of `cfgx_run` is: CFGX_STATUS_BAD_ENDS; CFGX_STATUS_NOT_UTF8, for any word;
- * CFGX_STATUS_WRONG_USE; CFGX_STATUS_FAULTY. CFGX_STATUS_OUT_OF_MEMORY may stand in for every
- * status but CFGX_STATUS_BAD_ENDS and CFGX_STATUS_TOO_LARGE.
+ * UTF-8 or no condition; CFGX_STATUS_FAULTY_FACT; CFGX_STATUS_NO_TREE; CFGX_STATUS_MISCOUNTED. The
+ * order of `cfgx_run` is: CFGX_STATUS_BAD_ENDS; CFGX_STATUS_NOT_UTF8, for any word;
+ * CFGX_STATUS_WRONG_USE; CFGX_STATUS_FAULTY. A call may return CFGX_STATUS_OUT_OF_MEMORY in place
+ * of every status but CFGX_STATUS_BAD_ENDS and CFGX_STATUS_TOO_LARGE.
  *
- * A call keeps no pointer and no memory. It takes memory from malloc and realloc, and returns it to
- * free. Several threads may call at once. Nothing checks these duties of a caller:
+ * A call keeps no pointer and no memory. It takes memory from malloc and realloc, and returns it
+ * to free. Several threads may call at once. Nothing checks these duties of a caller:
  *
  * - Pass no array of more than PTRDIFF_MAX bytes.
  * - Let nothing that a call writes overlap anything else that it is passed.
@@ -54,8 +55,9 @@ extern "C" {
 #define CFGX_VERSION \
     (CFGX_VERSION_LANGUAGE * 1000000 + CFGX_VERSION_MAJOR * 1000 + CFGX_VERSION_MINOR)
 
-/* Returns the CFGX_VERSION of the library. The library suits this header if both have the same
- * language and the same major version, and the minor version of the library is not lower.
+/* Returns the CFGX_VERSION of the library. The library suits this header if it has the same
+ * language and the same major version, and its minor version is not lower. For its version v, this
+ * is `v / 1000 == CFGX_VERSION / 1000 && v >= CFGX_VERSION`.
  *
  * A new language may read a text differently, and may add kinds of predicates, reasons and lists of
  * terms. A new major version may change calls and structs. A new minor version only adds calls. */
@@ -78,24 +80,24 @@ uint32_t cfgx_version(void);
 #define CFGX_VALUE_TRUE 1
 #define CFGX_VALUE_UNKNOWN 2
 
-/* The reasons of faults. No text has reason 2, 6 or 12. docs/RULES.md says which reason a text
- * has. */
+/* The reasons of faults. docs/RULES.md says which reason a text has. */
 #define CFGX_REASON_INVALID_NOT 1               /* a `not` has no member, or several */
-#define CFGX_REASON_INVALID_CHARACTERS 2        /* characters that no condition has */
+#define CFGX_REASON_INVALID_CHARACTERS 2        /* no text has this reason */
 #define CFGX_REASON_UNCLOSED_PARENS 3           /* a `(` is never closed */
 #define CFGX_REASON_UNOPENED_PARENS 4           /* a `)` closes nothing */
 #define CFGX_REASON_UNCLOSED_QUOTES 5           /* a quote is never closed */
-#define CFGX_REASON_UNOPENED_QUOTES 6           /* a quote closes nothing */
-#define CFGX_REASON_EMPTY 7                     /* the stripped text is empty or blank */
-#define CFGX_REASON_UNEXPECTED 8                /* other terms were expected, or none */
+#define CFGX_REASON_UNOPENED_QUOTES 6           /* no text has this reason */
+#define CFGX_REASON_EMPTY 7                     /* the stripped text is empty or white space */
+#define CFGX_REASON_UNEXPECTED 8                /* `terms` is the list of those expected */
 #define CFGX_REASON_INVALID_INTEGER 9           /* target_pointer_width is no number up to 255, or
                                                  * target_endian is neither big nor little */
-#define CFGX_REASON_MULTIPLE_ROOT_PREDICATES 10 /* several conditions stand side by side */
+#define CFGX_REASON_MULTIPLE_ROOT_PREDICATES 10 /* several conditions with commas between */
 #define CFGX_REASON_INVALID_HAS_ATOMIC 11       /* target_has_atomic is neither a number up to 65535
                                                  * nor ptr */
-#define CFGX_REASON_UNKNOWN_BUILTIN 12          /* a built-in name is unknown */
+#define CFGX_REASON_UNKNOWN_BUILTIN 12          /* no text has this reason */
 
-/* The lists of terms that were expected. docs/RULES.md says where each list is expected. */
+/* The lists of expected terms, as messages name them. A list may lack terms that are accepted
+ * there, and may have terms that are not. docs/RULES.md says where each list is named. */
 #define CFGX_TERMS_NONE 1            /* no term */
 #define CFGX_TERMS_START 2           /* `<key>` `all` `any` `not` */
 #define CFGX_TERMS_OPEN 3            /* `<key>` `)` `all` `any` `not` */
@@ -125,9 +127,9 @@ struct cfgx_fault {
     size_t end;
     /* the number of members of the `not`, for CFGX_REASON_INVALID_NOT; 0 for every other reason */
     size_t members;
-    /* one of the reasons */
+    /* one of CFGX_REASON_.. */
     uint32_t reason;
-    /* one of the lists of terms, for CFGX_REASON_UNEXPECTED; 0 for every other reason */
+    /* one of CFGX_TERMS_.., for CFGX_REASON_UNEXPECTED; 0 for every other reason */
     uint32_t terms;
 };
 
@@ -139,9 +141,10 @@ uint32_t cfgx_check(const char *text, size_t text_length, struct cfgx_fault *fau
 
 /* Explains what is wrong with a text. Returns CFGX_STATUS_DONE if the text is a condition. Returns
  * CFGX_STATUS_FAULTY if it is UTF-8 but no condition, and fills `message` with what cfgx prints:
- * the stripped text and, on the line below, marks under its first fault and the reason. The message
- * ends with neither a line feed nor a zero byte. Otherwise returns CFGX_STATUS_NOT_UTF8 or
- * CFGX_STATUS_OUT_OF_MEMORY. With every status but CFGX_STATUS_FAULTY, `*needed` is 0. */
+ * the stripped text, a line feed, a space for each byte before the first fault, marks, and the
+ * reason. The message ends with neither a line feed nor a zero byte, but has the zero bytes of the
+ * text. Otherwise returns CFGX_STATUS_NOT_UTF8 or CFGX_STATUS_OUT_OF_MEMORY. With every status but
+ * CFGX_STATUS_FAULTY, `*needed` is 0. */
 uint32_t cfgx_explain(const char *text, size_t text_length,
                       char *message, size_t room, size_t *needed);
 
@@ -152,7 +155,7 @@ uint32_t cfgx_explain(const char *text, size_t text_length,
 #define CFGX_PREDICATE_DEBUG_ASSERTIONS 4 /* debug_assertions */
 #define CFGX_PREDICATE_PROC_MACRO 5       /* proc_macro */
 #define CFGX_PREDICATE_FEATURE 6          /* feature */
-#define CFGX_PREDICATE_TARGET_FEATURE 7   /* target_feature */
+#define CFGX_PREDICATE_TARGET_FEATURE 7   /* target_feature, which does not test the target */
 #define CFGX_PREDICATE_ABI 8              /* target_abi; the kinds from 8 to 17 test the target */
 #define CFGX_PREDICATE_ARCH 9             /* target_arch */
 #define CFGX_PREDICATE_ENDIAN 10          /* target_endian */
@@ -172,7 +175,7 @@ uint32_t cfgx_explain(const char *text, size_t text_length,
 /* A predicate of a condition. Spans are those in the text as it was passed, from the start up to
  * but not including the end. */
 struct cfgx_predicate {
-    /* one of the kinds */
+    /* one of CFGX_PREDICATE_.. */
     uint32_t kind;
     /* CFGX_PREDICATE_POINTER_WIDTH: the number of bits
      * CFGX_PREDICATE_HAS_ATOMIC: the number of bits, or CFGX_ATOMIC_POINTER
@@ -191,13 +194,16 @@ struct cfgx_predicate {
 
 /* Lists the predicates of a condition in the order in which they are asked: in each list first
  * those of its functions, one function after another, and then its own. So `all(a, any(b), c)` asks
- * b, a and c. A predicate that stands twice is listed twice. Returns CFGX_STATUS_DONE,
- * CFGX_STATUS_FAULTY, CFGX_STATUS_NOT_UTF8 or CFGX_STATUS_OUT_OF_MEMORY. */
+ * b, a and c. A predicate that stands twice is listed twice. The literals `true` and `false` are
+ * neither asked nor listed. Returns CFGX_STATUS_DONE, CFGX_STATUS_FAULTY, CFGX_STATUS_NOT_UTF8 or
+ * CFGX_STATUS_OUT_OF_MEMORY. */
 uint32_t cfgx_predicates(const char *text, size_t text_length,
                          struct cfgx_predicate *predicates, size_t room, size_t *needed);
 
 /* Computes the value of a condition from the answers to its predicates, which are in the order of
- * `cfgx_predicates`. Two answers are independent, even those to equal predicates: with unknown
+ * `cfgx_predicates`. `all` is false if a member is false, else unknown if a member is unknown, else
+ * true. `any` is true if a member is true, else unknown if a member is unknown, else false. `not`
+ * of unknown is unknown. Two answers are independent, even those to equal predicates: with unknown
  * answers `any(a, not(a))` is unknown. Returns CFGX_STATUS_DONE, and writes the value to `*value`.
  * Otherwise returns CFGX_STATUS_FAULTY, CFGX_STATUS_NOT_UTF8, CFGX_STATUS_OUT_OF_MEMORY or
  * CFGX_STATUS_MISCOUNTED, and `*value` stays as it was. */
@@ -217,14 +223,17 @@ uint32_t cfgx_decide(const char *text, size_t text_length,
 /* Answers the predicates of a condition by the facts of a target: one answer for each predicate, in
  * the order of `cfgx_predicates`. A fact is a text such as a line of `rustc --print cfg`. The
  * predicates in it are true: a fact `all(x, not(y))` makes x and y true. If a fact begins with `?`,
- * the predicates in the rest of it are unknown, except those that another fact makes true. A
- * predicate that no fact names is unknown if `otherwise` is not 0 and the predicate does not test
- * the target. Otherwise it is false.
+ * the predicates in the rest of it are unknown, except those that another fact makes true. Two
+ * predicates are the same if their kinds, keys, values and numbers are: `unix` is the same as
+ * `target_family = "unix"`. A predicate that is in no fact is unknown if `otherwise` is not 0 and
+ * its kind is less than CFGX_PREDICATE_ABI, which says that it does not test the target. Otherwise
+ * it is false.
  *
- * Some compilers print facts that no condition can ask. These are passed over. Without a `?` at the
- * start and then an outer `cfg( )`, the tokens of such a fact are a key alone, or a key, `=` and a
- * value. Its key starts with `target_` and is unknown, or needs a value and has none. Every other
- * fact that is no condition is faulty, also a blank one.
+ * Some compilers print facts that no condition can ask. These are passed over. To find out
+ * whether a fact is one of them, take off a `?` at its start and strip the rest. A key alone is
+ * passed over if it needs a value, as `feature`, `panic` and each key that begins with `target_`
+ * do. A key with a value is passed over if it begins with `target_` and is unknown. Every other
+ * fact that is no condition is faulty, such as a blank one.
  *
  * Returns CFGX_STATUS_DONE; CFGX_STATUS_FAULTY or CFGX_STATUS_NOT_UTF8, which are about the text;
  * CFGX_STATUS_FAULTY_FACT; CFGX_STATUS_OUT_OF_MEMORY; or CFGX_STATUS_BAD_ENDS. */
@@ -244,17 +253,18 @@ uint32_t cfgx_answers(const char *text, size_t text_length,
 /* A step of the evaluation of a condition with a stack. The padding between its members may hold
  * anything, so compare and store the members. */
 struct cfgx_step {
-    /* one of the kinds */
+    /* one of CFGX_STEP_.. */
     uint32_t kind;
     /* the number of values that the step pops: 0 for the first three kinds, and 1 for `not` */
     size_t count;
 };
 
 /* Compiles a condition to its steps and its predicates. A program can keep both, and evaluate the
- * steps in any language, with values of any logic. It takes one step after another, with a stack.
- * The answers are in the order of `predicates`. `all`: acc = true; for each popped value v, acc =
- * acc and v; acc is pushed. `any`: the same with false and or. At the end the stack has one value,
- * which is that of the condition. The stack never has more values than there are steps.
+ * steps in any language, with values of any logic. It takes one step after another, with a stack,
+ * from which the value that was pushed last is popped first. The answers are in the order of
+ * `predicates`. `all`: acc = true; for each popped value v, acc = acc and v; acc is pushed. `any`:
+ * the same with false and or. At the end the stack has one value, which is that of the condition.
+ * The stack never has more values than there are steps.
  *
  * Both buffers are filled, or neither. Returns CFGX_STATUS_DONE, CFGX_STATUS_FAULTY,
  * CFGX_STATUS_NOT_UTF8 or CFGX_STATUS_OUT_OF_MEMORY. */
@@ -265,8 +275,8 @@ uint32_t cfgx_compile(const char *text, size_t text_length,
 
 /* Computes the value of the condition that has these steps from the answers to its predicates. Any
  * steps may be passed, such as those of a damaged file. Returns CFGX_STATUS_DONE, and writes the
- * value to `*value`. Returns CFGX_STATUS_NO_TREE if no condition has these steps, also if only
- * their order is wrong. No condition has ASK, ASK, NOT, ALL 2: a list asks its functions first.
+ * value to `*value`. Returns CFGX_STATUS_NO_TREE if no condition has these steps. A list asks its
+ * functions first, so no condition has ASK, ASK, NOT, ALL 2. None has an empty array of steps.
  * Returns CFGX_STATUS_MISCOUNTED if they ask more or fewer predicates than there are answers, or
  * CFGX_STATUS_OUT_OF_MEMORY. With every status but CFGX_STATUS_DONE, `*value` stays as it was. */
 uint32_t cfgx_apply(const struct cfgx_step *steps, size_t step_count,
@@ -290,21 +300,22 @@ uint32_t cfgx_audit(const char *texts, size_t texts_length,
                     uint8_t *values, size_t room, size_t *needed, size_t *place);
 
 /* Runs the program cfgx with these words, which are the arguments after the program's name. `input`
- * is its standard input. Only `pick` reads it, and an input over 16 MiB is faulty then. Fills
- * `output` with what cfgx prints, and returns the status with which cfgx ends: CFGX_STATUS_DONE,
- * CFGX_STATUS_FAULTY, CFGX_STATUS_WRONG_USE or CFGX_STATUS_OUT_OF_MEMORY. With the last of these
- * there is no output.
+ * is its standard input. Only `pick` reads it. An input that is not UTF-8, or has more than 16 MiB,
+ * is faulty then. Fills `output` with what cfgx prints, and returns the status with which cfgx
+ * ends: CFGX_STATUS_DONE, CFGX_STATUS_FAULTY, CFGX_STATUS_WRONG_USE or CFGX_STATUS_OUT_OF_MEMORY.
+ * With the last of these there is no output.
  *
  * Returns CFGX_STATUS_BAD_ENDS if the ends are wrong, else CFGX_STATUS_NOT_UTF8 if a word is not
- * UTF-8. With both of these cfgx is not run, and there is no output. */
+ * UTF-8, for which cfgx itself ends with 3. With both of these there is no output. */
 uint32_t cfgx_run(const char *words, size_t words_length,
                   const size_t *word_ends, size_t word_count,
                   const char *input, size_t input_length,
                   char *output, size_t room, size_t *needed);
 
-/* What follows allows a null pointer where its count is 0. The name of each call becomes that of a
- * function here. It passes on what it is passed, with a pointer to some item in place of such a
- * null pointer. A null pointer with another count stays null. */
+/* What follows allows a null pointer where its count is 0. The name of each call but `cfgx_version`
+ * becomes that of a static function here. It passes on what it is passed, with a pointer to some
+ * item in place of such a null pointer. A null pointer with another count stays null. In C, a
+ * function that is inline and not static cannot call a static function. */
 
 static inline const char *cfgx_given_text(const char *text, size_t count) {
     static const char none = 0;
