@@ -8,5 +8,6 @@ pub mod Logic
 pub mod Size
 pub mod Stripping
 pub mod Token
+pub mod TokenEquality
 pub mod laws
 pub mod lexing

@@ -21,9 +21,8 @@ use std::fmt;
 use std::marker::Model;
 use std::ops::Range;
 
-/// One lexical unit of a condition. Tokens of one kind with equal texts are equal, wherever the
-/// texts lie.
-#[derive(Clone, Copy, Debug, PartialEq, Eq)]
+/// One lexical unit of a condition.
+#[derive(Clone, Copy, Debug)]
 pub enum Token<'a> {
     /// A word that names no function.
     Key(&'a str),
@@ -43,6 +42,42 @@ pub enum Token<'a> {
     CloseParen,
     /// `,`.
     Comma,
+}
+
+/// Two tokens are equal if they are of one kind and have equal texts, wherever these lie.
+impl PartialEq for Token<'_> {
+    ghost use Rattle.std.specs.Prelude.{◌↔◌, IsTrue};
+    ghost use Rattle.std.specs.{Cmp.on_per, Cmp.partial_equiv_from_equiv, Ordering.on};
+    ghost use Rattle.cfgx_syntax.specs.TokenEquality.{token_eq, token_eq-equiv};
+
+    ghost eq = { on token_of token_eq };
+
+    ghost laws = { on_per token_of (partial_equiv_from_equiv token_eq-equiv) };
+
+    fn eq(&self, other: &Self) -> bool
+        ensures value { result ≡ token_eq (token_of self.now) (token_of other.now) }
+        ensures same { IsTrue result ↔ (token_of self.now ≡ token_of other.now) }
+    {
+        match (self, other) {
+            (Token::Key(word), Token::Key(other)) => word == other,
+            (Token::Value(inside), Token::Value(other)) => inside == other,
+            (Token::Equals, Token::Equals) => true,
+            (Token::All, Token::All) => true,
+            (Token::Any, Token::Any) => true,
+            (Token::Not, Token::Not) => true,
+            (Token::OpenParen, Token::OpenParen) => true,
+            (Token::CloseParen, Token::CloseParen) => true,
+            (Token::Comma, Token::Comma) => true,
+            _ => false,
+        }
+    }
+}
+
+impl Eq for Token<'_> {
+    ghost use Rattle.std.specs.Cmp.{on_equiv};
+    ghost use Rattle.cfgx_syntax.specs.TokenEquality.{token_eq-equiv};
+
+    ghost laws = { on_equiv token_of token_eq-equiv };
 }
 
 /// Prints what `Debug` prints.

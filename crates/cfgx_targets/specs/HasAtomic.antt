@@ -30,6 +30,11 @@ abbrev pub IsWidth : HasAtomic → Type 0
 IsWidth (IntegerSize bits) = bits < 2 ^ 16
 IsWidth Pointer = Unit {0}
 
+-- the text of a failure that has one
+abbrev pub refused_text : {A : Type 0} → HasAtomicFailure A → Option (List ℕ)
+refused_text (Parse error) = Some error
+refused_text (Memory _) = None
+
 -- A read of a width returns the width that `text` names. Only if it names none, the result is the
 -- error with `text`, or `Memory`.
 abbrev pub ReadsAtomic : {A : Type 0} → List ℕ → Result HasAtomic (HasAtomicFailure A) → Type 0

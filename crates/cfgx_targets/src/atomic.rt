@@ -18,12 +18,46 @@ pub enum HasAtomic {
 
 /// The error of `HasAtomic::read`.
 #[derive(Drop)]
-#[derive_where(Debug, PartialEq, Eq)]
+#[derive_where(Debug)]
 pub enum HasAtomicFailure<A: Allocator = Global> {
     /// The text names no width.
     Parse(HasAtomicParseError<A>),
     /// The text names no width, and there is no memory for the copy of it.
     Memory(AllocError),
+}
+
+/// Two failures are equal if both have the same text, or both are out of memory.
+impl<A: Allocator> PartialEq for HasAtomicFailure<A> {
+    ghost use Rattle.std.specs.Prelude.{◌≡◌, ◌↔◌, IsTrue, nat_eq};
+    ghost use Rattle.std.specs.{Cmp.on_per, Cmp.partial_equiv_from_equiv, Ordering.on};
+    ghost use Rattle.std.specs.{Cmp.Lexicographic.options_equiv, Option.option_eq};
+    ghost use Rattle.std.specs.Cmp.Lexicographic.{nat_list_eq_equiv, pointwise};
+    ghost use Rattle.cfgx_targets.specs.HasAtomic.{refused_text};
+
+    ghost eq = { on refused_text (option_eq (pointwise nat_eq)) };
+
+    ghost laws = { on_per refused_text
+        (partial_equiv_from_equiv (options_equiv nat_list_eq_equiv)) };
+
+    fn eq(&self, other: &Self) -> bool
+        ensures value { result
+            ≡ option_eq (pointwise nat_eq) (refused_text self.now) (refused_text other.now) }
+        ensures same { IsTrue result ↔ (self.now ≡ other.now) }
+    {
+        match (self, other) {
+            (HasAtomicFailure::Parse(one), HasAtomicFailure::Parse(other)) => *one == *other,
+            (HasAtomicFailure::Memory(_), HasAtomicFailure::Memory(_)) => true,
+            _ => false,
+        }
+    }
+}
+
+impl<A: Allocator> Eq for HasAtomicFailure<A> {
+    ghost use Rattle.std.specs.{Cmp.on_equiv, Cmp.Lexicographic.options_equiv};
+    ghost use Rattle.std.specs.Cmp.Lexicographic.{nat_list_eq_equiv};
+    ghost use Rattle.cfgx_targets.specs.HasAtomic.{refused_text};
+
+    ghost laws = { on_equiv refused_text (options_equiv nat_list_eq_equiv) };
 }
 
 impl<A: Allocator> From<HasAtomicParseError<A>> for HasAtomicFailure<A> {

@@ -13,7 +13,7 @@ struct WidthKind;
 
 /// A text that names no width of atomics. Contracts see it as that text.
 #[derive(Drop)]
-#[derive_where(Debug, PartialEq, Eq)]
+#[derive_where(Debug)]
 pub struct HasAtomicParseError<A: Allocator = Global> {
     text: Field<'static, WidthKind, A>,
 }
@@ -26,6 +26,30 @@ impl<A: Allocator> Model for HasAtomicParseError<A> {
     ghost view = { λ error. error.text };
 
     ghost inverse = { λ bytes. record { text = bytes } };
+}
+
+/// Two errors are equal if their texts are.
+impl<A: Allocator> PartialEq for HasAtomicParseError<A> {
+    ghost use Rattle.std.specs.Prelude.{◌↔◌, IsTrue, nat_eq};
+    ghost use Rattle.std.specs.Cmp.{partial_equiv_from_equiv};
+    ghost use Rattle.std.specs.Cmp.Lexicographic.{nat_list_eq_equiv, pointwise};
+
+    ghost eq = { pointwise nat_eq };
+
+    ghost laws = { partial_equiv_from_equiv nat_list_eq_equiv };
+
+    fn eq(&self, other: &Self) -> bool
+        ensures value { result ≡ pointwise nat_eq self.now other.now }
+        ensures same { IsTrue result ↔ (self.now ≡ other.now) }
+    {
+        self.text == other.text
+    }
+}
+
+impl<A: Allocator> Eq for HasAtomicParseError<A> {
+    ghost use Rattle.std.specs.Cmp.Lexicographic.{nat_list_eq_equiv};
+
+    ghost laws = { nat_list_eq_equiv };
 }
 
 impl<A: Allocator> HasAtomicParseError<A> {
