@@ -8,6 +8,15 @@ use Rattle.cfgx_grammar.specs.Filling.{IsExact, PolarFillings, polar, three_valu
 use Rattle.cfg_expr.specs.declared.expr.Decision.{Decision}
 use Rattle.cfg_expr.specs.declared.expr.Decision.TheVariants as decision
 
+-- what a decision holds, whatever the capacity of its vectors: the value, or both fillings
+pub data Held : Type 0 where
+  known : Bool → Held
+  unknown : List Bool → List Bool → Held
+
+abbrev pub held : {A : Type 0} → Decision A → Held
+held (decision.Known value) = Held.known value
+held (decision.Unknown if_true if_false) = Held.unknown if_true.items if_false.items
+
 -- the value is unknown, and these are the fillings
 abbrev pub HoldsFillings : {A : Type 0} → Decision A → List Bool → List Bool → Type 0
 HoldsFillings (decision.Known value) with_true with_false = ⊥

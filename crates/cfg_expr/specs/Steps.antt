@@ -1,7 +1,8 @@
 -- A condition as steps, and how they are run with a stack of values.
 -- Source: reverse Polish notation, in which a function stands behind its members.
 use Rattle.std.specs.Prelude.{◌≡◌, ◌≢◌, ◌<◌, ◌-◌, ◌++◌, ℕ, Bool, List, [], ◌∷◌, length, drop}
-use Rattle.std.specs.Prelude.{if◌then◌else◌, take}
+use Rattle.std.specs.Prelude.{if◌then◌else◌, take, true, false, nat_eq}
+use Rattle.std.specs.{Cmp.Lexicographic.pointwise, Ordering.on}
 use Rattle.cfgx_grammar.specs.Answer.{HasOneTree}
 use Rattle.cfgx_grammar.specs.Fold.{Operations, first_or, list_value, literal_value, tree_fold}
 use Rattle.cfgx_grammar.specs.Question.{Question}
@@ -10,6 +11,19 @@ use Rattle.cfg_expr.specs.declared.expr.steps.Step.{Step}
 use Rattle.cfg_expr.specs.declared.expr.steps.Step.TheVariants.{Ask, Literal, Not, All, Any}
 use Rattle.cfg_expr.specs.declared.expr.steps.StepsError.{StepsError}
 use Rattle.cfg_expr.specs.declared.expr.steps.StepsError.TheVariants as error
+
+-- a list that no other step has: the number of the case, and then the number that the step has
+abbrev pub step_code : Step → List ℕ
+step_code Ask = 0 ∷ []
+step_code (Literal false) = 1 ∷ []
+step_code (Literal true) = 2 ∷ []
+step_code Not = 3 ∷ []
+step_code (All n) = 4 ∷ n ∷ []
+step_code (Any n) = 5 ∷ n ∷ []
+
+-- whether two steps are the same
+abbrev pub step_eq : Step → Step → Bool
+step_eq = on step_code (pointwise nat_eq)
 
 -- the step of `all` or `any` with `n` members
 abbrev pub list_step : ListFunction → ℕ → Step

@@ -17,7 +17,6 @@ use Rattle.cfg_expr.specs.Steps.{list_step, steps_by, steps_of}
 use Rattle.cfg_expr.specs.nodes.StepValues.{Expands, Makes, is_of, node_len, node_step, nodes_in}
 use Rattle.cfg_expr.specs.nodes.StepValues.{trees_by}
 use Rattle.cfg_expr.specs.declared.expr.evaluating.Kind.{Kind}
-use Rattle.cfg_expr.specs.declared.expr.evaluating.Kind.TheVariants as kind
 use Rattle.cfg_expr.specs.declared.expr.steps.Step.{Step}
 use Rattle.cfg_expr.specs.declared.expr.steps.Step.TheVariants as step
 

@@ -1,9 +1,9 @@
 //! Borrowed conditions, and a reader that reads one condition after another.
-ghost use Rattle.std.specs.Prelude.{◌≡◌, ◌≤◌, length, IfOk, IsOk, OnOk};
+ghost use Rattle.std.specs.Prelude.{◌≡◌, ◌≤◌, length, IfOk, IsOk, OnErr, OnOk};
 ghost use Rattle.cfgx_syntax.specs.Stripping.{strip};
 ghost use Rattle.cfgx_grammar.specs.Given.{AreAnswersTo};
 ghost use Rattle.cfgx_grammar.specs.Answer.{Answers};
-ghost use Rattle.cfg_expr.specs.Deciding.{AreFillings, Decides, IsExactOverAll};
+ghost use Rattle.cfg_expr.specs.Deciding.{AreFillings, Decides, IsExactOverAll, held};
 ghost use Rattle.cfg_expr.specs.Evaluation.{AsksInOrder, EvaluatesTo, MayEvaluate};
 ghost use Rattle.cfg_expr.specs.Evaluation.{IsByLaneOverAll, IsValueInLanes};
 ghost use Rattle.cfg_expr.specs.Steps.{AreSteps};
@@ -79,7 +79,8 @@ impl<'a> Condition<'a> {
     ///
     /// # Errors
     ///
-    /// `AllocError`: `alloc` refused memory. Nothing is known of `decision` then.
+    /// `AllocError`: `alloc` refused memory. `decision` keeps the value or the fillings that it
+    /// holds.
     pub fn decide<A: SmallAllocator>(
         &self,
         alloc: A,
@@ -90,6 +91,7 @@ impl<'a> Condition<'a> {
         // This also holds if the call is out of memory.
         ensures exact { IsExactOverAll self.now }
         ensures decision { OnOk result (Decides self.now answers.now decision.new) }
+        ensures refused { OnErr result (held decision.new ≡ held decision.old) }
     {
         filling::decide(alloc, &self.parsed, answers, decision)
     }

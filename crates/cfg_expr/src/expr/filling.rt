@@ -14,12 +14,12 @@
 //!
 //! Each subtree has a node of its own, so there are never more entries than nodes. Both lists hold
 //! 33 entries inline, so up to 33 nodes take no memory.
-ghost use Rattle.std.specs.Prelude.{◌≡◌, ◌++◌, ◌∷◌, true, false, length, map};
-ghost use Rattle.std.specs.Prelude.{replicate, reverse, List, OnOk};
+ghost use Rattle.std.specs.Prelude.{◌≡◌, ◌≤◌, ◌++◌, ◌∷◌, true, false, length, map};
+ghost use Rattle.std.specs.Prelude.{replicate, reverse, List, OnErr, OnOk, vec_capacity};
 ghost use Rattle.cfgx_grammar.specs.Given.{AreAnswersTo};
 ghost use Rattle.cfgx_grammar.specs.Answer.{HasOneTree};
 ghost use Rattle.cfgx_parser.specs.nodes.Shape.{Shape, shape};
-ghost use Rattle.cfg_expr.specs.Deciding.{HoldsFillings, IsDecision};
+ghost use Rattle.cfg_expr.specs.Deciding.{HoldsFillings, IsDecision, held};
 ghost use Rattle.cfg_expr.specs.nodes.Parity.{arity, filled_at, pass};
 
 use super::{Decision, Func, evaluating};
@@ -27,7 +27,7 @@ use crate::memory::SmallAllocator;
 use cfgx_parser::nodes::ExprNode;
 use cfgx_parser::parsed::ParsedRef;
 use smallvec::SmallVec;
-use std::alloc::AllocError;
+use std::alloc::{AllocError, Allocator};
 
 /// Returns the number of members of a function.
 fn arity(func: &Func) -> usize
@@ -98,9 +98,19 @@ fn push_odds<A: SmallAllocator>(
     Ok(())
 }
 
+/// Makes room in `filling` for `count` items in all. Its items stay.
+fn reserve_in_all<A: Allocator>(filling: &mut Vec<bool, A>, count: usize) -> Result<(), AllocError>
+    ensures items { filling.new.items ≡ filling.old.items }
+    ensures room { OnOk result (count ≤ vec_capacity filling.new) }
+{
+    filling.reserve(count.saturating_sub(filling.len()))
+}
+
 /// Replaces the items of `if_true` and `if_false` by the two fillings of `answers`. `places` has,
 /// for each answer, the place of its predicate among the nodes. `odds` says of each node whether it
 /// is a predicate below an odd number of `not`.
+///
+/// Room is made before anything is cleared. So both keep their items if `alloc` refuses memory.
 fn fill<A: SmallAllocator>(
     if_true: &mut Vec<bool, A>,
     if_false: &mut Vec<bool, A>,
@@ -113,21 +123,23 @@ fn fill<A: SmallAllocator>(
         (if_true.new.items ≡ filled_at odds.now places.now answers.now true) }
     ensures if_false { OnOk result
         (if_false.new.items ≡ filled_at odds.now places.now answers.now false) }
+    ensures refused { OnErr result
+        ((if_true.new.items ≡ if_true.old.items) × (if_false.new.items ≡ if_false.old.items)) }
 {
+    reserve_in_all(if_true, places.len())?;
+    reserve_in_all(if_false, places.len())?;
     if_true.clear();
     if_false.clear();
-    if_true.reserve(places.len())?;
-    if_false.reserve(places.len())?;
     for (place, answer) in places.iter().zip(answers) {
         let odd = odds.get(*place).copied().unwrap_or(false);
-        if_true.push(answer.unwrap_or(!odd))?;
-        if_false.push(answer.unwrap_or(odd))?;
+        if_true.push_reserved(answer.unwrap_or(!odd));
+        if_false.push_reserved(answer.unwrap_or(odd));
     }
     Ok(())
 }
 
 /// Replaces `decision` by the two fillings of `answers`. Reuses the memory of the fillings that it
-/// has. If `alloc` refuses memory, `decision` may hold anything.
+/// has. If `alloc` refuses memory, `decision` keeps what it holds.
 fn set_unknown<A: SmallAllocator>(
     alloc: A,
     decision: &mut Decision<A>,
@@ -136,27 +148,25 @@ fn set_unknown<A: SmallAllocator>(
     answers: &[Option<bool>],
 ) -> Result<(), AllocError>
     requires { length places.now ≡ length answers.now }
-    ensures { OnOk result (HoldsFillings decision.new
+    ensures unknown { OnOk result (HoldsFillings decision.new
         (filled_at odds.now places.now answers.now true)
         (filled_at odds.now places.now answers.now false)) }
+    ensures refused { OnErr result (held decision.new ≡ held decision.old) }
 {
-    if let Decision::Known(_) = decision {
-        *decision = Decision::Unknown {
-            if_true: Vec::new(alloc),
-            if_false: Vec::new(alloc),
-        };
-    }
-    // `decision` is `Decision::Unknown` here.
     if let Decision::Unknown { if_true, if_false } = decision {
-        fill(if_true, if_false, odds, places, answers)?;
+        return fill(if_true, if_false, odds, places, answers);
     }
+    let mut if_true = Vec::new(alloc);
+    let mut if_false = Vec::new(alloc);
+    fill(&mut if_true, &mut if_false, odds, places, answers)?;
+    *decision = Decision::Unknown { if_true, if_false };
     Ok(())
 }
 
 /// Replaces `decision` by what `answers` decide. New fillings reuse the memory of those that it
 /// holds.
 ///
-/// Returns an error if `alloc` refuses memory. `decision` may then hold anything.
+/// Returns an error if `alloc` refuses memory. `decision` then keeps what it holds.
 pub(crate) fn decide<A: SmallAllocator>(
     alloc: A,
     parsed: &ParsedRef<'_>,
@@ -167,6 +177,7 @@ pub(crate) fn decide<A: SmallAllocator>(
     ensures one { HasOneTree parsed.now }
     ensures decision { OnOk result ((one : HasOneTree parsed.now)
         × IsDecision one.tree answers.now decision.new) }
+    ensures refused { OnErr result (held decision.new ≡ held decision.old) }
 {
     if let Some(value) = evaluating::eval_over_answers(alloc, parsed, answers)? {
         *decision = Decision::Known(value);

@@ -6,6 +6,8 @@
 ghost use Rattle.std.specs.Prelude.{◌≡◌, ◌↔◌, ◌<◌, ◌≤◌, ◌+◌, ◌++◌, [], false, ℕ, List};
 ghost use Rattle.std.specs.Prelude.{IfErr, IfNone, IfOk, IfSome, IsTrue, OnErr, OnOk, OnSome};
 ghost use Rattle.std.specs.Prelude.{count_by, drop, length, map};
+ghost use Rattle.std.specs.Cmp.Rules.{comparing};
+ghost use Rattle.std.proofs.Common.{rules};
 ghost use Rattle.smallvec.specs.SmallVec.{HasRoomFor};
 ghost use Rattle.cfgx_grammar.specs.Fold.{first_or, from_last};
 ghost use Rattle.cfgx_grammar.specs.Question.{Question};
@@ -13,7 +15,7 @@ ghost use Rattle.cfgx_grammar.specs.Tree.{Tree, Trees};
 ghost use Rattle.cfgx_parser.specs.nodes.Prefix.{node_at, prefix, prefix_each};
 ghost use Rattle.cfg_expr.specs.Steps.{AreSteps, HasSteps, HaveNoValue, IsValueOfSteps};
 ghost use Rattle.cfg_expr.specs.Steps.{answers_after, last_values, popped, run_steps, step_value};
-ghost use Rattle.cfg_expr.specs.Steps.{without_last};
+ghost use Rattle.cfg_expr.specs.Steps.{step_eq, without_last};
 ghost use Rattle.cfg_expr.specs.nodes.Reading.{identity_of, join_of};
 ghost use Rattle.cfg_expr.specs.nodes.StepKinds.{found_if, functions_first, is_ask, joined_kinds};
 ghost use Rattle.cfg_expr.specs.nodes.StepKinds.{kinds_after};
@@ -29,8 +31,9 @@ use cfgx_syntax::logic::Logic;
 use smallvec::SmallVec;
 use std::alloc::AllocError;
 
-/// A step of the evaluation of a condition.
-#[derive(Clone, Copy, Default, PartialEq, Eq, Debug)]
+/// A step of the evaluation of a condition. Equal steps have the same variant, and the same truth
+/// value or number.
+#[derive(Clone, Copy, Default, Debug)]
 pub enum Step {
     /// Pushes the next answer
     #[default]
@@ -45,6 +48,27 @@ pub enum Step {
     /// Pops this number of values, and pushes `bottom`, joined by `or` with each value in the order
     /// of popping
     Any(usize),
+}
+
+impl PartialEq for Step {
+    ghost eq = { step_eq };
+
+    ghost laws = { Prim.search (comparing, rules) };
+
+    fn eq(&self, other: &Self) -> bool
+        ensures { IsTrue result ↔ (self.now ≡ other.now) }
+    {
+        match (self, other) {
+            (Step::Ask, Step::Ask) | (Step::Not, Step::Not) => true,
+            (Step::Literal(one), Step::Literal(other)) => one == other,
+            (Step::All(one), Step::All(other)) | (Step::Any(one), Step::Any(other)) => one == other,
+            _ => false,
+        }
+    }
+}
+
+impl Eq for Step {
+    ghost laws = { Prim.search (comparing, rules) };
 }
 
 /// Why steps have no value over answers.

@@ -34,4 +34,4 @@ returns-clause-decision g c =
       one,
       IsDecision-unknown one.tree c.args.answers.now c.set_unknown.new.decision
           unknown (is true) (is false) found,
-    )) c.set_unknown.ensures
+    )) c.set_unknown.ensures.unknown

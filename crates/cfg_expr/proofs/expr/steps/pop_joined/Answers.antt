@@ -1,5 +1,5 @@
 -- The last slots have the last values.
-use Rattle.std.proofs.Common.{◌-◌, ◌∙◌, ap, arith, drop}
+use Rattle.std.proofs.Common.{◌∙◌, ap, arith, drop}
 use Rattle.std.proofs.lemmas.List.{take_rest}
 use Rattle.cfgx_grammar.specs.Fold.{from_last}
 use Rattle.cfg_expr.specs.nodes.{Reading.identity_of, Reading.join_of, StepValues.values}
