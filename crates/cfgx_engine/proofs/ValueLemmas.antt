@@ -8,13 +8,13 @@ use Rattle.std.specs.{List.AllZip, List.slice_get, Option.IsSomeAnd}
 use Rattle.std.proofs.{Math.Nat.suc-mul, lemmas.List.length-append, lemmas.Nat.mul-add-lt}
 use Rattle.std.proofs.lemmas.Option.{MatchOption-at_some, same_Some, slice_get_cases}
 use Rattle.std.proofs.lemmas.{Option.slice_get_within, Slice.Zip.AllZip-left, Slice.Zip.AllZip-long}
-use Rattle.std.proofs.lemmas.{List.{map-append, take-map, take_more}, Option.slice_get-get_or}
+use Rattle.std.proofs.lemmas.{List.{length-map, map-append, take-map, take_more}, Option.slice_get-get_or}
 use Rattle.std.proofs.lemmas.Option.{slice_get-map}
 use Rattle.cfgx_syntax.specs.{Stripping.strip, Error.TextFault}
 use Rattle.cfgx_grammar.specs.{Answer.HasOneTree, Question.Question, Tree.asked}
 use Rattle.cfgx_grammar.proofs.ListLemmas.{all_of_both, slice_get-append, slice_get-append-add}
 use Rattle.cfgx_grammar.proofs.ListLemmas.{slice_get-append_seam}
-use Rattle.cfgx_engine.specs.Audits.{AreValues, HasValueOver, IsFirstFault}
+use Rattle.cfgx_engine.specs.Audits.{AreValues, FollowsConditions, HasValueOver, IsFirstFault}
 use Rattle.cfgx_engine.specs.{Readings.ParsesAs, Request.texts}
 use Rattle.cfgx_engine.{specs.internal.InLanes.AddsEach, specs.internal.InLanes.TellsValue}
 use Rattle.cfgx_engine.proofs.AuditLemmas.{AllZip-weaker}
@@ -98,6 +98,16 @@ values-more Answers targets conditions i d old new below before one adds =
       AreValues-more Answers (strip (get_or conditions i d).now) targets
           (map strip (texts (take i conditions))) old new before.1 adds,
     )
+
+-- each text before that at `index` is a condition
+pub FollowsConditions-here : (conditions : List (Bor (List ℕ))) (index : ℕ)
+    → index < length conditions
+    → AllByRecursion (λ text. HasOneTree (strip text)) (texts (take index conditions))
+    → FollowsConditions (texts conditions) index
+FollowsConditions-here conditions index below each = record {
+  below = simp length-map below;
+  before = rw take-map each;
+}
 
 -- the text at `index` is the first that is faulty
 pub IsFirstFault-here : (conditions : List (Bor (List ℕ))) (index : ℕ) (d : Bor (List ℕ))

@@ -1,6 +1,6 @@
 -- The values of many conditions on many targets.
 -- Source: Kleene's strong logic.
-use Rattle.std.specs.Prelude.{◌≡◌, ◌+◌, ◌*◌, ℕ, Bool, List, Option, Some, Err, IsSomeAnd, length}
+use Rattle.std.specs.Prelude.{◌≡◌, ◌<◌, ◌+◌, ◌*◌, ℕ, Bool, List, Option, Some, Err, IsSomeAnd, length}
 use Rattle.std.specs.Prelude.{take}
 use Rattle.std.specs.List.{AllByRecursion, AllZip, slice_get}
 use Rattle.cfgx_syntax.specs.Stripping.{strip}
@@ -29,6 +29,11 @@ pub record AreValues {T : Type 0} (Answers : T → Question → Option Bool → 
       → slice_get conditions i ≡ Some condition → slice_get targets j ≡ Some target
       → IsSomeAnd (slice_get values (i * length targets + j))
       (HasValueOver (Answers target) condition)
+
+-- there is a text at `index`, and each text before it is a condition
+pub record FollowsConditions (texts : List (List ℕ)) (index : ℕ) : Type 0 where
+  pub below : index < length texts
+  pub before : AllByRecursion (λ text. HasOneTree (strip text)) (take index texts)
 
 -- the text at `index` has this fault, and each text before it is a condition
 pub record IsFirstFault (texts : List (List ℕ)) (index : ℕ) (fault : TextFault) : Type 0 where

@@ -3,7 +3,8 @@
 -- Source of the rules: docs/RULES.md.
 use Rattle.std.specs.Prelude.{◌≡◌, ◌⊎◌, ◌↔◌, ℕ, Bool, true, false, List, codes, take, drop, map}
 use Rattle.std.specs.Prelude.{Option, Some, None, Result, Ok, Err, is_some, unwrap_or, slice_get}
-use Rattle.std.specs.Prelude.{if◌then◌else◌}
+use Rattle.std.specs.Prelude.{if◌then◌else◌, nat_eq}
+use Rattle.std.specs.Ordering.{on}
 use Rattle.std.specs.List.{AllByRecursion, Any, Contains, filter_map}
 use Rattle.std.specs.Str.{bytes_eq}
 use Rattle.cfgx_syntax.specs.Stripping.{strip}
@@ -52,6 +53,15 @@ Names text question = (tree : Tree Question) × HasTree text tree × Contains (a
 -- one of the texts names the question
 abbrev pub IsNamed : List (List ℕ) → Question → Type 0
 IsNamed texts question = Any (λ text. Names text question) texts
+
+-- the number of an answer to what no fact names
+abbrev pub otherwise_number : Otherwise → ℕ
+otherwise_number otherwise.False = 0
+otherwise_number otherwise.Unknown = 1
+
+-- whether two answers to what no fact names are the same
+abbrev pub otherwise_eq : Otherwise → Otherwise → Bool
+otherwise_eq = on otherwise_number nat_eq
 
 -- the answer to a question that no text names: false, or unknown if `otherwise` says so and the
 -- question is not on the target

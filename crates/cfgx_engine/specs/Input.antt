@@ -2,7 +2,8 @@
 -- Source of the rules for one call: the documentation of `std::io::Read::read`. Source of the
 -- limit: docs/RULES.md.
 use Rattle.std.specs.Prelude.{◌≡◌, ◌≤◌, ℕ, ◌+◌, ◌^◌, List, length}
-use Rattle.std.specs.Prelude.{Option, Result, Ok, Err}
+use Rattle.std.specs.Prelude.{Option, Result, Ok, Err, Bool, nat_eq}
+use Rattle.std.specs.Ordering.{on}
 use Rattle.std.specs.Io.KnownBytes.{Consumes, IsAtEnd}
 use Rattle.cfgx_engine.specs.declared.engine.reading.Input.{Input}
 use Rattle.cfgx_engine.specs.declared.engine.reading.Input.TheVariants as input
@@ -12,6 +13,15 @@ use Rattle.cfgx_engine.specs.declared.engine.reading.Stop.TheVariants as stop
 -- the most bytes that an input may have: 16 MiB
 abbrev pub input_limit : ℕ
 input_limit = 2 ^ 24
+
+-- the number of a reason to stop
+abbrev pub stop_number : Stop → ℕ
+stop_number stop.Memory = 0
+stop_number stop.Device = 1
+
+-- whether two reasons to stop are the same
+abbrev pub stop_eq : Stop → Stop → Bool
+stop_eq = on stop_number nat_eq
 
 -- the number of calls of the source that failed if reading ended with this result
 abbrev pub stop_failures : {T : Type 0} → Result T Stop → ℕ

@@ -2,6 +2,7 @@
 -- others. Source: Kleene's strong logic, in which a value is known if every way to fill what is
 -- unknown leads to it.
 use Rattle.std.specs.Prelude.{◌≡◌, ◌↔◌, ℕ, Bool, true, false, List, Option, Some, None, map}
+use Rattle.std.specs.{Prelude.nat_eq, Ordering.on}
 use Rattle.cfgx_grammar.specs.Question.{Question, TargetQuestion}
 use Rattle.cfgx_grammar.specs.Tree.{asked}
 use Rattle.cfgx_grammar.specs.Answer.{HasOneTree}
@@ -14,6 +15,16 @@ use Rattle.cfgx_engine.specs.declared.resolve.Verdict.TheVariants as verdict
 abbrev pub answer_by : (TargetQuestion → Bool) → Question → Option Bool
 answer_by answer (Question.target question) = Some (answer question)
 answer_by answer question = None
+
+-- the number of a verdict
+abbrev pub verdict_number : Verdict → ℕ
+verdict_number verdict.Yes = 0
+verdict_number verdict.No = 1
+verdict_number verdict.Unknown = 2
+
+-- whether two verdicts are the same
+abbrev pub verdict_eq : Verdict → Verdict → Bool
+verdict_eq = on verdict_number nat_eq
 
 -- the verdict of a value
 abbrev pub verdict_of : Option Bool → Verdict

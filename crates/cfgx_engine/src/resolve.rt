@@ -1,13 +1,15 @@
 //! Sections of a manifest, each with a condition, and what a target says of them.
-ghost use Rattle.std.specs.Prelude.{◌≡◌, [], IfOk, OnErr, OnOk, map};
+ghost use Rattle.std.specs.Prelude.{◌≡◌, ◌↔◌, [], IfOk, IsTrue, OnErr, OnOk, map};
+ghost use Rattle.std.specs.Cmp.Rules.{comparing};
 ghost use Rattle.std.specs.List.{AllZip};
-ghost use Rattle.cfg_expr.specs.Deciding.{DecidesExactly};
+ghost use Rattle.std.proofs.Common.{rules};
+ghost use Rattle.cfg_expr.specs.Deciding.{DecidesExactly, held};
 ghost use Rattle.cfg_expr.specs.Evaluation.{IsValueBy};
 ghost use Rattle.cfgx_grammar.specs.Answer.{HasOneTree};
 ghost use Rattle.cfgx_grammar.specs.Filling.{three_valued};
 ghost use Rattle.cfgx_grammar.specs.Tree.{asked};
 ghost use Rattle.cfgx_parser.specs.Predicate.{question_of};
-ghost use Rattle.cfgx_engine.specs.Verdicts.{answer_by, IsVerdict};
+ghost use Rattle.cfgx_engine.specs.Verdicts.{answer_by, IsVerdict, verdict_eq};
 
 mod auditing;
 mod by_facts;
@@ -42,7 +44,7 @@ impl<A: SmallAllocator> Drop for Section<A> {
 }
 
 /// Whether a section counts on a target.
-#[derive(Clone, Copy, PartialEq, Eq, Debug)]
+#[derive(Clone, Copy, Debug)]
 pub enum Verdict {
     /// It counts, whatever the unknown answers are
     Yes,
@@ -50,6 +52,27 @@ pub enum Verdict {
     No,
     /// The unknown answers decide
     Unknown,
+}
+
+impl PartialEq for Verdict {
+    ghost eq = { verdict_eq };
+
+    ghost laws = { Prim.search (comparing, rules) };
+
+    fn eq(&self, other: &Self) -> bool
+        ensures { IsTrue result ↔ (self.now ≡ other.now) }
+    {
+        matches!(
+            (self, other),
+            (Verdict::Yes, Verdict::Yes)
+                | (Verdict::No, Verdict::No)
+                | (Verdict::Unknown, Verdict::Unknown)
+        )
+    }
+}
+
+impl Eq for Verdict {
+    ghost laws = { Prim.search (comparing, rules) };
 }
 
 /// Returns the verdict of a value.
@@ -96,6 +119,8 @@ fn ask_each<A: SmallAllocator, M: TargetMatcher>(
 
 /// Replaces `answers` by the answers of `matcher` to the predicates of the condition, and
 /// `decision` by what they decide. The memory of both is reused.
+///
+/// Returns an error if `alloc` refuses memory. `decision` then keeps what it holds.
 pub(crate) fn decide_into<A: SmallAllocator, M: TargetMatcher>(
     alloc: A,
     condition: &Condition<'_>,
@@ -108,6 +133,7 @@ pub(crate) fn decide_into<A: SmallAllocator, M: TargetMatcher>(
         (map (answer_by (M.answer matcher.now)) (asked one.tree)) decision.new) }
     ensures answers { OnOk result ((one : HasOneTree condition.now)
         × (answers.new.items ≡ map (answer_by (M.answer matcher.now)) (asked one.tree))) }
+    ensures refused { OnErr result (held decision.new ≡ held decision.old) }
 {
     ask_each(matcher, condition.predicates(), answers)?;
     condition.decide(alloc, answers.as_slice(), decision)

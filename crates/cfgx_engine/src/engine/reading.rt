@@ -1,8 +1,10 @@
 //! An input that is read to its end, up to a limit.
 ghost use Rattle.std.specs.Prelude.{◌≡◌, ◌+◌, ◌<◌, ◌≤◌, length, take, is_some};
-ghost use Rattle.std.specs.Prelude.{IfSome, IfNone, IsTrue, if◌then◌else◌};
+ghost use Rattle.std.specs.Prelude.{IfSome, IfNone, IsTrue, if◌then◌else◌, ◌↔◌};
+ghost use Rattle.std.specs.Cmp.Rules.{comparing};
 ghost use Rattle.std.specs.Io.KnownBytes.{Keeps};
-ghost use Rattle.cfgx_engine.specs.Input.{input_limit, ReadsInput, stop_failures};
+ghost use Rattle.std.proofs.Common.{rules};
+ghost use Rattle.cfgx_engine.specs.Input.{input_limit, ReadsInput, stop_eq, stop_failures};
 ghost use Rattle.cfgx_engine.specs.internal.ReadsMore.{IsRoom, ReadsMore};
 
 use super::streams::Source;
@@ -26,12 +28,31 @@ pub enum Input<A: Allocator = Global> {
 }
 
 /// Why an input was not read to its end.
-#[derive(Clone, Copy, PartialEq, Eq, Debug)]
+#[derive(Clone, Copy, Debug)]
 pub enum Stop {
     /// The allocator refused memory
     Memory,
     /// A call of the source failed
     Device,
+}
+
+impl PartialEq for Stop {
+    ghost eq = { stop_eq };
+
+    ghost laws = { Prim.search (comparing, rules) };
+
+    fn eq(&self, other: &Self) -> bool
+        ensures { IsTrue result ↔ (self.now ≡ other.now) }
+    {
+        matches!(
+            (self, other),
+            (Stop::Memory, Stop::Memory) | (Stop::Device, Stop::Device)
+        )
+    }
+}
+
+impl Eq for Stop {
+    ghost laws = { Prim.search (comparing, rules) };
 }
 
 impl From<AllocError> for Stop {

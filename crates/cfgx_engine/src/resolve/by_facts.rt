@@ -6,7 +6,7 @@ ghost use Rattle.cfgx_syntax.specs.Error.{failure_of};
 ghost use Rattle.cfgx_syntax.specs.Stripping.{strip};
 ghost use Rattle.cfgx_grammar.specs.Answer.{HasOneTree};
 ghost use Rattle.cfgx_parser.specs.Predicate.{question_of};
-ghost use Rattle.cfgx_engine.specs.Audits.{AreValues, IsFirstFault};
+ghost use Rattle.cfgx_engine.specs.Audits.{AreValues, FollowsConditions, IsFirstFault};
 ghost use Rattle.cfgx_engine.specs.Facts.{IsAnswer};
 ghost use Rattle.cfgx_engine.specs.Readings.{ParsesAs};
 ghost use Rattle.cfgx_engine.specs.Request.{texts};
@@ -80,7 +80,7 @@ fn with_lane_0(answer: Option<bool>, planes: (u64, u64)) -> (u64, u64)
 #[derive(Drop)]
 #[derive_where(Debug)]
 pub struct AuditError<A: Allocator = Global> {
-    /// The index of the text at which it ended
+    /// The index of the text at which it ended. Each text before it is a condition
     pub index: usize,
     /// What is wrong with this text, or that the allocator refused memory
     pub failure: Failure<A>,
@@ -95,7 +95,8 @@ pub struct AuditError<A: Allocator = Global> {
 ///
 /// # Errors
 ///
-/// `Failure::Parse`: the first faulty condition. `Failure::Memory`: `alloc` refused memory.
+/// `Failure::Parse`: the first faulty condition. `Failure::Memory`: `alloc` refused memory. Either
+/// way each condition before that at `index` has no fault.
 pub fn audit_facts<A: SmallAllocator>(
     alloc: A,
     conditions: &[&str],
@@ -108,6 +109,8 @@ pub fn audit_facts<A: SmallAllocator>(
         (texts conditions.now)) }
     ensures err { IfErr result (λ error. IfSome (failure_of error.failure)
         (IsFirstFault (texts conditions.now) error.index)) }
+    // This also holds if the call is out of memory.
+    ensures index { IfErr result (λ error. FollowsConditions (texts conditions.now) error.index) }
 {
     let mut reader = ConditionReader::new(alloc);
     let mut values = Vec::new(alloc);

@@ -1,10 +1,12 @@
 //! Facts of a target, and what they answer to predicates.
 ghost use Rattle.std.specs.Prelude.{◌≡◌, ◌↔◌, Err, IfErr, IfOk, IsTrue, OnOk, false};
+ghost use Rattle.std.specs.Cmp.Rules.{comparing};
+ghost use Rattle.std.proofs.Common.{rules};
 ghost use Rattle.cfgx_syntax.specs.Lexer.{item_of};
 ghost use Rattle.cfgx_syntax.specs.Stripping.{strip};
 ghost use Rattle.cfgx_parser.specs.Predicate.{question_of};
 ghost use Rattle.cfgx_engine.specs.Facts.{IsAnswer, IsFlag, IsNamed, IsRustcFact, Names};
-ghost use Rattle.cfgx_engine.specs.Facts.{ReadsFacts, fact_text, unnamed_answer};
+ghost use Rattle.cfgx_engine.specs.Facts.{ReadsFacts, fact_text, otherwise_eq, unnamed_answer};
 ghost use Rattle.cfgx_engine.specs.internal.KeysAndValues.{AreLast, IsKey, IsKeyAt, TakesNext};
 ghost use Rattle.cfgx_engine.specs.internal.KeysAndValues.{kind_of};
 ghost use Rattle.cfgx_engine.specs.internal.Kinds.{LacksKind, kind_of_question};
@@ -23,12 +25,31 @@ use std::alloc::{AllocError, Allocator, Global};
 use std::marker::Model;
 
 /// The answer to a predicate that no fact names.
-#[derive(Clone, Copy, PartialEq, Eq, Debug)]
+#[derive(Clone, Copy, Debug)]
 pub enum Otherwise {
     /// False
     False,
     /// False if the predicate is on the target, and otherwise unknown
     Unknown,
+}
+
+impl PartialEq for Otherwise {
+    ghost eq = { otherwise_eq };
+
+    ghost laws = { Prim.search (comparing, rules) };
+
+    fn eq(&self, other: &Self) -> bool
+        ensures { IsTrue result ↔ (self.now ≡ other.now) }
+    {
+        matches!(
+            (self, other),
+            (Otherwise::False, Otherwise::False) | (Otherwise::Unknown, Otherwise::Unknown)
+        )
+    }
+}
+
+impl Eq for Otherwise {
+    ghost laws = { Prim.search (comparing, rules) };
 }
 
 /// The error of a call that reads facts.

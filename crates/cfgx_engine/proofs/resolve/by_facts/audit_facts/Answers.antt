@@ -1,7 +1,8 @@
 use Rattle.std.proofs.lemmas.{List.take_all, Option.IfSome_then}
 use Rattle.cfgx_syntax.specs.Error.{failure_of}
 use Rattle.cfgx_engine.specs.Facts.{FactTexts, IsAnswer}
-use Rattle.cfgx_engine.proofs.ValueLemmas.{AreValues-none, IsFirstFault-here, values-more}
+use Rattle.cfgx_engine.proofs.ValueLemmas.{AreValues-none, FollowsConditions-here}
+use Rattle.cfgx_engine.proofs.ValueLemmas.{IsFirstFault-here, values-more}
 use Rattle.cfgx_engine.proofs.resolve.by_facts.audit_facts.Goals as goal
 
 pub loop-index-init : goal.loop-index-init
@@ -17,6 +18,11 @@ returns-in-Err-clause-err g c =
     IfSome_then (failure_of c.in-Err.failure) c.in-Err.ensures.err (λ fault.
     IsFirstFault-here c.args.conditions.now c.loop-index.index _ fault c.loop-index-test.true
     c.loop-index.invariant.0)
+
+pub returns-in-Err-clause-index : goal.returns-in-Err-clause-index
+returns-in-Err-clause-index g c =
+    FollowsConditions-here c.args.conditions.now c.loop-index.index c.loop-index-test.true
+    c.loop-index.invariant.0
 
 -- the values of one condition more
 pub loop-index-preserved : goal.loop-index-preserved
