@@ -96,8 +96,8 @@ fn main() {
     match found {
         Some(archives) => archives.link(),
         None => println!(
-            "cargo::error=no archive of cfgx was found: run `rt lib` in crates/cfgx_c of its \
-             repository, or set CFGX_LIB_DIR to a folder with libcfgx.a"
+            "cargo::error=no archive of cfgx was found: run `crates/cfgx_c/install out/cfgx` at \
+             the top of its repository, or set CFGX_LIB_DIR to a folder with libcfgx.a"
         ),
     }
 }

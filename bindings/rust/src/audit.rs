@@ -142,8 +142,16 @@ impl Audit {
     /// assert_eq!(values.row(0), [Some(true)]);
     /// ```
     pub fn row(&self, condition: usize) -> &[Option<bool>] {
-        let start = condition * self.target_count;
-        &self.values[start..start + self.target_count]
+        self.found_row(condition)
+            .unwrap_or_else(|| panic!("no condition has the number {condition}"))
+    }
+
+    /// Returns the values of the condition with this number, if there is one or there are no
+    /// targets.
+    fn found_row(&self, condition: usize) -> Option<&[Option<bool>]> {
+        let start = condition.checked_mul(self.target_count)?;
+        self.values
+            .get(start..start.checked_add(self.target_count)?)
     }
 
     /// Returns the value of the condition with the first number on the target with the second.
@@ -160,7 +168,9 @@ impl Audit {
     /// assert_eq!(values.value(0, 0), Some(false));
     /// ```
     pub fn value(&self, condition: usize, target: usize) -> Option<bool> {
-        self.row(condition)[target]
+        let row = self.row(condition);
+        *row.get(target)
+            .unwrap_or_else(|| panic!("no target has the number {target}"))
     }
 }
 

@@ -2,9 +2,10 @@
 //! the crate is here.
 //!
 //! Each block rests on the same facts. A slice names as many items as its length says, so its
-//! pointer and its length may be passed. What a call writes is borrowed for this call alone, and it
-//! does not read that first, so a buffer may be uninitialized. The structs are those of the header,
-//! and any bytes are a value of their fields.
+//! pointer and its length may be passed. No pointer is null, not even that of an empty slice: only
+//! a language that reads the header may pass a null pointer. What a call writes is borrowed for
+//! this call alone, and it does not read that first, so a buffer may be uninitialized. The structs
+//! are those of the header, and any bytes are a value of their fields.
 
 pub(crate) mod numbers;
 #[cfg(test)]
@@ -16,7 +17,7 @@ use numbers::{
 };
 use std::alloc::{Layout, handle_alloc_error};
 use std::mem::MaybeUninit;
-use std::ptr::null_mut;
+use std::ptr::NonNull;
 use std::slice;
 
 /// The version of the header that these declarations are of.
@@ -190,7 +191,7 @@ pub(crate) fn compile<R>(
 ) -> Result<R, Fault> {
     ensure_version();
     // A step stands for at least one byte of the text, and one more stands between two steps. So
-    // there is room for all, and one call is enough.
+    // there is room for all, and one call is enough. With less room the slices below would panic.
     let most = text.len().div_ceil(2);
     let (mut steps, mut predicates) = (Buffer::new(), Buffer::new());
     let (steps, predicates) = fill_compiled(text, steps.room(most), predicates.room(most))?;
@@ -297,7 +298,7 @@ pub(crate) fn is_fact(fact: &str) -> bool {
     let condition = "true";
     let mut needed = 0;
     // SAFETY: the texts and the count are as the head of this module says. There is one text, so
-    // its end is one number. The buffer has no room, so its pointer may be null.
+    // its end is one number. The buffer has no room, so any pointer will do that is not null.
     let status = unsafe {
         cfgx_answers(
             condition.as_ptr(),
@@ -307,7 +308,7 @@ pub(crate) fn is_fact(fact: &str) -> bool {
             &fact.len(),
             1,
             byte_of(None),
-            null_mut(),
+            NonNull::dangling().as_ptr(),
             0,
             &mut needed,
         )

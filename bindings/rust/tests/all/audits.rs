@@ -1,7 +1,8 @@
 //! Audits.
 
 use super::engine;
-use cfgx::{Expression, Facts, Otherwise, audit, audit_with};
+use cfgx::{Audit, Expression, FactError, Facts, Otherwise, audit, audit_with};
+use std::panic::catch_unwind;
 
 #[test]
 fn values_are_those_of_each_condition_on_each_target() {
@@ -35,18 +36,120 @@ fn values_are_those_of_each_condition_on_each_target() {
     }
 }
 
+/// A condition, facts that a comma separates, and the value by the rules of `docs/RULES.md`: 1 for
+/// true, 0 for false, ? for unknown. The first value is that if other predicates are unknown, and
+/// the second one that if they are false.
+const VALUES: &[(&str, &str, &str)] = &[
+    ("unix", "unix", "11"),
+    ("unix", "target_family = \"unix\"", "11"),
+    ("unix", "windows", "00"),
+    ("unix", "", "00"),
+    ("unix", "?unix", "??"),
+    ("unix", "?unix,unix", "11"),
+    ("not(unix)", "?unix", "??"),
+    ("test", "", "?0"),
+    ("not(test)", "", "?1"),
+    ("target_feature = \"sse\"", "", "?0"),
+    ("target_feature = \"sse\"", "target_feature=\"sse\"", "11"),
+    ("feature = \"x\"", "feature", "?0"),
+    ("panic = \"abort\"", "panic", "00"),
+    ("panic = \"abort\"", "panic=\"abort\"", "11"),
+    ("target_has_atomic = \"8\"", "target_has_atomic", "00"),
+    (
+        "target_has_atomic = \"8\"",
+        "target_has_atomic=\"+08\"",
+        "11",
+    ),
+    ("any(a, not(a))", "", "?1"),
+    ("any(a, not(a))", "?a", "??"),
+    ("all(a, b)", "a", "?0"),
+    ("all(a, b)", "not(any(a, b))", "11"),
+    ("all()", "", "11"),
+    ("any()", "a", "00"),
+];
+
+/// Returns the digit of a value.
+fn digit(value: Option<bool>) -> &'static str {
+    match value {
+        Some(false) => "0",
+        Some(true) => "1",
+        None => "?",
+    }
+}
+
 #[test]
-fn what_no_fact_names() {
-    let conditions = ["feature = \"x\"", "unix"].map(|text| Expression::parse(text).unwrap());
-    let targets = [Facts::default()];
-    let unknown = audit_with(&conditions, &targets, Otherwise::Unknown).unwrap();
-    assert_eq!(
-        [unknown.value(0, 0), unknown.value(1, 0)],
-        [None, Some(false)]
-    );
-    assert_eq!(unknown, audit(&conditions, &targets).unwrap());
-    let known = audit_with(&conditions, &targets, Otherwise::False).unwrap();
-    assert_eq!([known.value(0, 0), known.value(1, 0)], [Some(false); 2]);
+fn values_over_facts() {
+    for (text, facts, expected) in VALUES {
+        let conditions = [Expression::parse(text).unwrap()];
+        let targets = [Facts::new(facts.split(',').filter(|fact| !fact.is_empty()))];
+        let known = audit_with(&conditions, &targets, Otherwise::False).unwrap();
+        let unknown = audit_with(&conditions, &targets, Otherwise::Unknown).unwrap();
+        let found = digit(unknown.value(0, 0)).to_string() + digit(known.value(0, 0));
+        assert_eq!(found, *expected, "{text} over {facts}");
+        assert_eq!(audit(&conditions, &targets), Ok(unknown));
+    }
+}
+
+#[test]
+fn other_predicates_are_unknown_by_default() {
+    assert_eq!(Otherwise::default(), Otherwise::Unknown);
+}
+
+/// The number of facts of each target, one of which is faulty in turn.
+const COUNTS: [usize; 9] = [0, 2, 0, 0, 3, 1, 0, 5, 0];
+
+/// Texts that are no facts.
+const NO_FACTS: [&str; 8] = [
+    "",
+    " ",
+    "?",
+    "all(",
+    " ?all( ",
+    "a b\n",
+    "é",
+    "\ttarget_os,",
+];
+
+/// Returns targets with these numbers of facts, of which one is `fact`.
+fn targets_with(fact: &str, target: usize, number: usize) -> Vec<Facts> {
+    let text = |place: (usize, usize)| {
+        if place == (target, number) {
+            fact.to_string()
+        } else {
+            format!("key{}", place.1)
+        }
+    };
+    let facts = |(target, count): (usize, &usize)| -> Facts {
+        let texts: Vec<String> = (0..*count).map(|number| text((target, number))).collect();
+        Facts::new(texts)
+    };
+    COUNTS.iter().enumerate().map(facts).collect()
+}
+
+#[test]
+fn each_faulty_fact_is_named() {
+    let places = COUNTS
+        .iter()
+        .enumerate()
+        .flat_map(|(target, count)| (0..*count).map(move |number| (target, number)));
+    let texts = NO_FACTS.iter().cycle();
+    let mut seen = 0;
+    for ((target, number), text) in places.cycle().zip(texts).take(11 * NO_FACTS.len()) {
+        let fact = text.to_string();
+        let error = audit(&[], &targets_with(text, target, number)).unwrap_err();
+        assert_eq!(
+            error.to_string(),
+            format!("fact {number} of target {target} is faulty: {text}")
+        );
+        let expected = FactError {
+            target,
+            number,
+            fact,
+        };
+        assert_eq!(error, expected);
+        seen += 1;
+    }
+    assert_eq!(seen, 88);
 }
 
 #[test]
@@ -69,6 +172,56 @@ fn the_first_faulty_fact_is_named() {
 #[test]
 fn nothing_to_audit() {
     let condition = Expression::parse("unix").unwrap();
-    assert_eq!(audit(&[condition], &[]).unwrap().row(0), []);
+    let values = audit(&[condition], &[]).unwrap();
+    assert_eq!(values.row(0), []);
+    assert_eq!(values.row(usize::MAX), []);
     assert!(audit(&[], &[Facts::new(["unix"])]).is_ok());
+    assert!(audit(&[], &[]).is_ok());
+}
+
+/// Lists of facts. The last one has the texts of the one before it in one fact.
+const LISTS: [&[&str]; 5] = [&[], &[""], &["", "", "a"], &["a", "", "é "], &["aé "]];
+
+#[test]
+fn facts_are_the_texts_in_order() {
+    for list in LISTS {
+        let facts = Facts::new(list);
+        let found: Vec<&str> = (0..facts.len()).filter_map(|one| facts.get(one)).collect();
+        assert_eq!(found, list);
+        assert_eq!(facts.get(list.len()), None);
+        assert_eq!(facts.is_empty(), list.is_empty(), "{list:?}");
+        let equal = LISTS.map(|other| Facts::new(other) == facts);
+        assert_eq!(equal, LISTS.map(|other| other == list));
+    }
+}
+
+/// Returns the values of two conditions on two targets.
+fn two_by_two() -> Audit {
+    let conditions = ["unix", "a"].map(|text| Expression::parse(text).unwrap());
+    audit(&conditions, &["unix", "a"].map(|fact| Facts::new([fact]))).unwrap()
+}
+
+/// Returns what the call says when it panics, or an empty text if it does not.
+fn panic_of(call: impl Fn(&Audit) -> Option<bool>) -> String {
+    let values = two_by_two();
+    let call = std::panic::AssertUnwindSafe(|| call(&values));
+    let payload = catch_unwind(call).err();
+    let text = payload.and_then(|payload| payload.downcast::<String>().ok());
+    text.map_or(String::new(), |text| *text)
+}
+
+#[test]
+fn numbers_that_are_not_there_panic() {
+    assert_eq!(panic_of(|values| values.row(1)[1]), "");
+    let half = usize::MAX / 2 + 1;
+    for condition in [2, 3, half, half + 1, usize::MAX] {
+        let expected = format!("no condition has the number {condition}");
+        assert_eq!(panic_of(|values| values.row(condition)[0]), expected);
+        assert_eq!(panic_of(|values| values.value(condition, 0)), expected);
+    }
+    for target in [2, 3, half, usize::MAX] {
+        let expected = format!("no target has the number {target}");
+        assert_eq!(panic_of(|values| values.value(0, target)), expected);
+        assert_eq!(panic_of(|values| values.value(1, target)), expected);
+    }
 }

@@ -71,7 +71,12 @@ fn filled(mut fill: impl FnMut(&mut [u8], &mut usize) -> u32) -> (u32, Vec<u8>) 
 
 /// Returns the answer with this number.
 fn answer_of(number: u8) -> Option<bool> {
-    [Some(false), Some(true), None][usize::from(number)]
+    match number {
+        0 => Some(false),
+        1 => Some(true),
+        2 => None,
+        other => panic!("{other}"),
+    }
 }
 
 /// Returns the number of an answer.

@@ -5,6 +5,7 @@ use super::logics::Term;
 use super::spelling::spelled;
 use super::trees::{Numbers, Tree};
 use cfgx::{Decision, Expression};
+use std::cell::Cell;
 
 /// Calls `check` with 10,000 conditions, which are the same each time.
 fn for_each(check: impl Fn(&Tree, &Expression, &mut Numbers)) {
@@ -74,6 +75,7 @@ fn check_filling(expression: &Expression, answers: &[Option<bool>], filling: &[b
 
 #[test]
 fn fillings_show_what_depends_on_unknown_answers() {
+    let unknown = Cell::new(0);
     for_each(|_, expression, numbers| {
         let answers = answers_to(expression, numbers);
         let mut left = answers.iter();
@@ -83,8 +85,11 @@ fn fillings_show_what_depends_on_unknown_answers() {
             (Decision::Unknown { if_true, if_false }, None) => {
                 check_filling(expression, &answers, &if_true, true);
                 check_filling(expression, &answers, &if_false, false);
+                unknown.set(unknown.get() + 1);
             }
             (decision, value) => panic!("{expression}: {decision:?}, {value:?}"),
         }
     });
+    // Both kinds are common.
+    assert!((1000..9000).contains(&unknown.get()), "{unknown:?}");
 }

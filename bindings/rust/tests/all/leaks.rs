@@ -1,39 +1,46 @@
 //! A run under valgrind, which finds no leak and no wrong access.
 
+use super::child;
 use cfgx::targets::TargetInfo;
 use cfgx::{Expression, Facts, audit};
 use std::env;
 use std::process::Command;
 use std::slice;
 
+/// Makes each call that takes a condition.
+fn call_with(expression: Expression) {
+    assert!(expression.clone().eval(|_| None::<bool>).is_none());
+    let _ = expression.decide(|_| None);
+    let targets = [
+        Facts::new(["unix", "target_thread_local"]),
+        Facts::new(["a b"]),
+    ];
+    assert!(audit(slice::from_ref(&expression), &targets[..1]).is_ok());
+    assert!(audit(&[expression], &targets).is_err());
+}
+
 /// Makes each call of the crate that calls the engine. The test below runs it under valgrind.
 #[test]
 fn calls_that_are_watched() {
     let long = format!("all({})", "unix, any(key = \"x\"), ".repeat(100));
-    for text in [
-        "cfg(all(unix, not(feature = \"x\")))",
-        "not()",
-        "all(",
-        "a b",
-        &long,
-    ] {
-        if let Ok(expression) = Expression::parse(text) {
-            assert!(expression.clone().eval(|_| None::<bool>).is_none());
-            let _ = expression.decide(|_| None);
-            let targets = [
-                Facts::new(["unix", "target_thread_local"]),
-                Facts::new(["a b"]),
-            ];
-            assert!(audit(slice::from_ref(&expression), &targets[..1]).is_ok());
-            assert!(audit(&[expression], &targets).is_err());
-        }
+    for text in ["cfg(all(unix, not(feature = \"x\")))", &long] {
+        call_with(Expression::parse(text).unwrap());
+    }
+    for text in ["not()", "all(", "a b"] {
+        assert!(Expression::parse(text).is_err());
     }
     assert!(TargetInfo::from_rustc_cfg("mine", "unix\ntarget_thread_local").is_err());
 }
 
 #[test]
 fn valgrind_finds_nothing() {
-    let Ok(output) = Command::new("valgrind")
+    if !child::is_there(
+        "valgrind",
+        "neither leaks nor wrong accesses were looked for",
+    ) {
+        return;
+    }
+    let output = Command::new("valgrind")
         .args(["-q", "--leak-check=full", "--error-exitcode=9"])
         .args(["--show-leak-kinds=definite,indirect"])
         .args(["--errors-for-leak-kinds=definite,indirect"])
@@ -44,10 +51,7 @@ fn valgrind_finds_nothing() {
             "--test-threads=1",
         ])
         .output()
-    else {
-        println!("there is no valgrind on this machine, so no leak was looked for");
-        return;
-    };
+        .unwrap();
     let said = String::from_utf8_lossy(&output.stderr);
     assert!(output.status.success(), "{said}");
     let printed = String::from_utf8_lossy(&output.stdout);

@@ -60,6 +60,35 @@ fn terms_show_the_order_of_questions_and_of_joining() {
     );
 }
 
+/// Returns the term of a list of this many flags, which begins with `first` and is joined from the
+/// last flag back.
+fn joined(first: &str, sign: char, count: usize) -> String {
+    let numbers = (1..=count).rev();
+    numbers.fold(first.to_string(), |term, number| {
+        format!("({term}{sign}a{number})")
+    })
+}
+
+#[test]
+fn members_of_wide_lists_are_joined_from_the_last_back() {
+    for count in 0..=130 {
+        let flags = vec!["a"; count].join(",");
+        assert_eq!(term(&format!("all({flags})")), joined("T", '&', count));
+        assert_eq!(term(&format!("any({flags})")), joined("F", '|', count));
+    }
+}
+
+#[test]
+fn values_of_outer_lists_wait_for_those_of_inner_ones() {
+    for depth in 0..=130 {
+        let text = "any(not(a),".repeat(depth) + "a" + &")".repeat(depth);
+        let innermost = format!("a{}", depth + 1);
+        let levels = (1..=depth).rev();
+        let expected = levels.fold(innermost, |inner, level| format!("((F|{inner})|!a{level})"));
+        assert_eq!(term(&text), expected);
+    }
+}
+
 /// A number of questions that cannot be copied.
 struct Asked(u32);
 

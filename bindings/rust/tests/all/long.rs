@@ -47,6 +47,27 @@ fn wide_texts() {
     assert!(value_of(&format!("key = \"{}\"", "é".repeat(LENGTH / 2))));
 }
 
+/// Returns the value of a list of `count` flags, where the answer to the flag at `place` is `odd`,
+/// and that to each other one is not.
+fn value_with_one(name: &str, count: usize, place: usize, odd: bool) -> bool {
+    let expression = Expression::parse(&format!("{name}({})", "a,".repeat(count))).unwrap();
+    let mut numbers = 0..count;
+    let value = expression.eval(|_| odd == (numbers.next().unwrap() == place));
+    assert!(numbers.is_empty());
+    value
+}
+
+#[test]
+fn one_member_decides_a_wide_list() {
+    for count in [1, 2, 9, 64, 65, 130, 1000, 65_537, LENGTH / 2] {
+        for place in [0, 1, 9, count / 2, count - 1] {
+            let is_there = place < count;
+            assert_eq!(value_with_one("all", count, place, false), !is_there);
+            assert_eq!(value_with_one("any", count, place, true), is_there);
+        }
+    }
+}
+
 #[test]
 fn long_decisions() {
     let text = format!("all({})", "a,".repeat(LENGTH / 2));
@@ -84,5 +105,10 @@ fn texts_of_every_length() {
         let expression = Expression::parse(&text).unwrap();
         assert_eq!(expression.predicates().count(), length);
         assert!(!expression.eval(|_| false));
+        // No text of this length has more steps.
+        let text = format!("all({})", vec!["k"; length].join(","));
+        let expression = Expression::parse(&text).unwrap();
+        assert_eq!(expression.predicates().count(), length);
+        assert!(expression.eval(|_| true));
     }
 }

@@ -1,18 +1,27 @@
 //! Tests of the crate against recorded answers and against the calls of the engine.
 
 mod audits;
+mod child;
+mod compiler;
 mod documentation;
 mod engine;
 mod generated;
 mod leaks;
+mod lines;
+mod linked;
 mod logics;
 mod long;
 mod manifests;
+mod matching;
 mod memory;
+mod named;
+mod predicates;
+mod programs;
 mod real;
 mod recorded;
 mod rows;
 mod rustc;
+mod script;
 mod spelling;
 mod tables;
 mod targets;

@@ -1,28 +1,23 @@
 //! Calls in a process that gets little memory.
 
-use cfgx::Expression;
+use super::child;
+use cfgx::{Decision, Expression};
 use std::env;
 use std::process::{Command, Output};
 
-/// The name of the test below that a process of its own runs.
-const CALLS: &str = "memory::calls_that_may_lack_memory";
-
-/// What says that this is that process.
-const IS_LIMITED: &str = "CFGX_IS_LIMITED";
-
-/// The number of bytes of the text of that process.
+/// The number of bytes of a long text.
 const LENGTH: usize = 1 << 20;
 
-/// Parses and decides a long text, and says so. It only does so in a process of its own.
+/// Parses and decides a long text, and says so.
 #[test]
+#[ignore = "the test below runs it in a process that gets little memory"]
 fn calls_that_may_lack_memory() {
-    if env::var_os(IS_LIMITED).is_some() {
-        println!("begun");
-        let text = format!("all({})", "a,".repeat(LENGTH / 2));
-        let expression = Expression::parse(&text).unwrap();
-        let _ = expression.decide(|_| None);
-        println!("done");
-    }
+    println!("begun");
+    let text = format!("all({})", "a,".repeat(LENGTH / 2));
+    let expression = Expression::parse(&text).unwrap();
+    let decision = expression.decide(|_| None);
+    assert!(matches!(decision, Decision::Unknown { .. }));
+    println!("done");
 }
 
 /// Runs those calls in a process that may have this number of KiB of addresses.
@@ -31,8 +26,7 @@ fn run_within(kib: usize) -> Output {
     Command::new("sh")
         .args(["-c", &command])
         .arg(env::current_exe().unwrap())
-        .args(["--exact", CALLS, "--nocapture", "--test-threads=1"])
-        .env(IS_LIMITED, "1")
+        .args(child::arguments("memory::calls_that_may_lack_memory"))
         .env("RUST_BACKTRACE", "0")
         .output()
         .unwrap()

@@ -11,6 +11,7 @@ fn each_has_the_value_that_the_program_prints() {
     let path = Path::new(env!("CARGO_MANIFEST_DIR")).join("../../bench/conditions.txt");
     let conditions = fs::read_to_string(path).unwrap();
     assert_eq!(conditions.lines().count(), 197);
+    assert_eq!(ALL_BUILTINS.len(), 5);
     for target in ALL_BUILTINS {
         for text in conditions.lines() {
             let value: bool = Expression::parse(text)

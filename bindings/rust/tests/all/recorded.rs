@@ -19,27 +19,27 @@ fn parsed(text: &str) -> (u32, String) {
     }
 }
 
+/// Returns the recorded rows: a text, a status, and an output.
+fn rows() -> Vec<[String; 3]> {
+    let file = read_file("rust_crate.tsv");
+    let lines = file.lines().filter(|line| !line.starts_with("# "));
+    let fields = |line: &str| -> Vec<String> { line.split('\t').map(unescape).collect() };
+    let rows: Vec<[String; 3]> = lines.map(|line| fields(line).try_into().unwrap()).collect();
+    assert_eq!(rows.len(), 1962);
+    rows
+}
+
 #[test]
 fn each_text_has_the_recorded_answer() {
-    let file = read_file("rust_crate.tsv");
-    let mut count = 0;
-    for line in file.lines().filter(|line| !line.starts_with("# ")) {
-        let fields: Vec<String> = line.split('\t').map(unescape).collect();
-        let [text, status, output] = &fields[..] else {
-            panic!("{line}")
-        };
-        let expected = (status.parse().unwrap(), output.clone());
-        assert_eq!(parsed(text), expected, "{text}");
-        count += 1;
+    for [text, status, output] in rows() {
+        let expected = (status.parse().unwrap(), output);
+        assert_eq!(parsed(&text), expected, "{text}");
     }
-    assert_eq!(count, 1962);
 }
 
 #[test]
 fn each_fault_prints_what_the_engine_prints() {
-    let file = read_file("rust_crate.tsv");
-    for line in file.lines().filter(|line| !line.starts_with("# ")) {
-        let text = unescape(line.split('\t').next().unwrap());
+    for [text, _, _] in rows() {
         let printed = Expression::parse(&text)
             .err()
             .map(|error| error.to_string());

@@ -26,10 +26,11 @@ fn located(error: &ParseError) -> String {
 /// Returns the reason that the tables write so.
 fn reason_named(name: &str) -> Reason {
     if let Some(count) = name.strip_prefix("InvalidNot(") {
-        return Reason::InvalidNot(count.trim_end_matches(')').parse().unwrap());
+        return Reason::InvalidNot(count.strip_suffix(')').unwrap().parse().unwrap());
     }
     if let Some(list) = name.strip_prefix("U[") {
-        let terms = list.trim_end_matches(']').split('`').skip(1).step_by(2);
+        let list = list.strip_suffix(']').unwrap();
+        let terms = list.split('`').skip(1).step_by(2);
         let terms: Vec<&str> = terms.map(|term| &*String::from(term).leak()).collect();
         return Reason::Unexpected(terms.leak());
     }
@@ -47,6 +48,25 @@ fn reason_named(name: &str) -> Reason {
     ];
     let is_named = |reason: &Reason| named(reason) == name;
     simple.into_iter().find(is_named).unwrap()
+}
+
+/// Returns the answer with this digit.
+fn answer_of(digit: char) -> Option<bool> {
+    match digit {
+        '0' => Some(false),
+        '1' => Some(true),
+        '?' => None,
+        other => panic!("{other}"),
+    }
+}
+
+/// Returns whether a row says that two conditions are equal.
+fn is_equal(word: &str) -> bool {
+    match word {
+        "equal" => true,
+        "different" => false,
+        other => panic!("{other}"),
+    }
 }
 
 #[test]
@@ -99,20 +119,43 @@ fn stripped_texts_and_equality() {
     }
     for row in table("stripping.txt", "equality") {
         let [one, other] = [0, 1].map(|place| Expression::parse(&row[place]).unwrap());
-        assert_eq!(one == other, row[2] == "equal", "{row:?}");
+        assert_eq!(one == other, is_equal(&row[2]), "{row:?}");
     }
     assert_ne!(Expression::parse("a"), Expression::parse("b"));
+}
+
+/// Texts that are not equal, in pairs: the texts of conditions are compared byte for byte.
+const DIFFERENT: [[&str; 2]; 7] = [
+    ["a", " a"],
+    ["a", "a "],
+    ["a", "a,"],
+    ["a", "A"],
+    ["all(a,b)", "all(a, b)"],
+    ["cfg( a)", "cfg(a)"],
+    ["unix", "target_family = \"unix\""],
+];
+
+#[test]
+fn texts_are_read_and_compared_byte_for_byte() {
+    for pair in DIFFERENT {
+        let [one, other] = pair.map(|text| Expression::parse(text).unwrap());
+        assert_ne!(one, other);
+    }
+    for text in DIFFERENT.as_flattened().iter().chain(&["\tall( ", ""]) {
+        let (parsed, read) = (Expression::parse(text), text.parse::<Expression>());
+        let texts = [parsed, read].map(|result| match result {
+            Ok(expression) => expression.original().to_string(),
+            Err(error) => error.to_string(),
+        });
+        assert_eq!(texts[0], texts[1]);
+    }
 }
 
 #[test]
 fn fillings() {
     for row in table("values.txt", "fillings") {
         let expression = Expression::parse(&row[0]).unwrap();
-        let mut answers = row[1].chars().map(|answer| match answer {
-            '0' => Some(false),
-            '1' => Some(true),
-            _ => None,
-        });
+        let mut answers = row[1].chars().map(answer_of);
         let found = match expression.decide(|_| answers.next().unwrap()) {
             Decision::Known(value) => value.to_string(),
             Decision::Unknown { if_true, if_false } => {

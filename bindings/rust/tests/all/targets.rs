@@ -2,10 +2,10 @@
 
 use super::engine;
 use super::rows::table;
+use cfgx::error::Reason;
 use cfgx::expr::{Predicate, TargetPredicate};
 use cfgx::targets::{
-    ALL_BUILTINS, Endian, Env, HasAtomic, Os, RustcCfgError, TargetInfo, Vendor,
-    get_builtin_target_by_triple,
+    ALL_BUILTINS, Endian, Env, HasAtomic, Os, TargetInfo, Vendor, get_builtin_target_by_triple,
 };
 use cfgx::{Expression, targets};
 
@@ -74,7 +74,8 @@ fn recorded_values_on_the_five_rows() {
             None => '?',
         };
         let found: String = ALL_BUILTINS.iter().map(digit).collect();
-        assert_eq!(found, row[1][..ALL_BUILTINS.len()], "{}", row[0]);
+        // The last digit is that of the lanes past the targets.
+        assert_eq!(found, row[1][..row[1].len() - 1], "{}", row[0]);
     }
 }
 
@@ -96,56 +97,52 @@ fn built_in_targets_are_found_by_their_triples() {
         let triple = found.map_or("nowhere", |target| target.triple.as_str());
         assert_eq!(triple, row[1]);
     }
+    for row in table("triples.txt", "all built-in targets") {
+        let triples: Vec<&str> = ALL_BUILTINS.iter().map(|one| one.triple.as_str()).collect();
+        assert_eq!(triples.join(" "), row[0]);
+    }
     assert!(ALL_BUILTINS.is_sorted_by(|one, other| one.triple < other.triple));
 }
 
-/// Lines of a target without an operating system, with lines that no condition can ask.
-const BARE: &str = "panic=\"abort\"\ntarget_abi=\"\"\ntarget_arch=\"arm\"\ntarget_endian=\"big\"\n\
-    target_env=\"\"\ntarget_has_atomic\ntarget_has_atomic=\"32\"\ntarget_has_atomic=\"8\"\n\
-    target_has_atomic_load_store=\"8\"\ntarget_os=\"none\"\r\n\ntarget_pointer_width=\"32\"\n\
-    target_vendor=\"unknown\"\n";
-
 #[test]
-fn lines_of_rustc() {
-    let target = TargetInfo::from_rustc_cfg("arm-none", BARE).unwrap();
-    assert_eq!(
-        (target.os.as_ref(), target.abi.as_ref(), target.env.as_ref()),
-        (None, None, None)
-    );
-    assert_eq!(target.vendor, Some(Vendor::unknown));
-    assert_eq!((target.endian, target.pointer_width), (Endian::big, 32));
-    assert!(target.families.is_empty());
-    let widths = [HasAtomic::IntegerSize(8), HasAtomic::IntegerSize(32)];
-    assert_eq!(*target.has_atomics, widths);
-}
-
-#[test]
-fn lines_that_are_of_no_target() {
-    let error = |lines: &str| TargetInfo::from_rustc_cfg("mine", lines).unwrap_err();
-    let twice = error(&format!("{BARE}target_arch=\"x86\"\n"));
-    let key = "target_arch";
-    assert_eq!(twice, RustcCfgError::Twice { line: 14, key });
-    assert_eq!(error("unix"), RustcCfgError::Missing { key });
-    for faulty in [
-        "unix windows",
-        "?unix",
-        "all(",
-        "target_os = \"linux\", unix",
-    ] {
-        let lines = format!("unix\n{faulty}\n");
-        assert!(
-            matches!(error(&lines), RustcCfgError::Faulty { line: 2, .. }),
-            "{faulty}"
-        );
+fn a_triple_is_compared_byte_for_byte() {
+    for target in ALL_BUILTINS {
+        let triple = target.triple.as_str();
+        assert_eq!(get_builtin_target_by_triple(triple), Some(target));
+        for other in [
+            format!(" {triple}"),
+            format!("{triple}\n"),
+            format!("{triple}\0"),
+            triple.to_uppercase(),
+            triple.replace('-', "_"),
+        ] {
+            assert_eq!(get_builtin_target_by_triple(&other), None, "{other:?}");
+        }
     }
 }
 
 #[test]
 fn texts_of_byte_orders() {
+    assert_eq!("big".parse(), Ok(Endian::big));
     assert_eq!("little".parse(), Ok(Endian::little));
+    for other in [
+        "", " ", "Big", "big ", " big", "bigger", "LITTLE", "little\n", "l", "middle",
+    ] {
+        let reason = Reason::Unexpected(&["big", "little"]);
+        assert_eq!(other.parse::<Endian>(), Err(reason), "{other:?}");
+    }
     assert_eq!(
         "Little".parse::<Endian>().unwrap_err().to_string(),
         "expected one of `big`, `little` here"
     );
     assert_eq!(targets::rustc_version(), "1.99.0");
+}
+
+/// The order of `cfg-expr`: that in which its documentation lists the variants.
+#[test]
+fn byte_orders_and_widths_are_in_order() {
+    assert!(Endian::big < Endian::little);
+    let widths = [0, 8, 16, 65_535].map(HasAtomic::IntegerSize);
+    assert!(widths.is_sorted());
+    assert!(widths[3] < HasAtomic::Pointer);
 }

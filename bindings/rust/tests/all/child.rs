@@ -1,0 +1,41 @@
+//! Tests that run in a process of their own, and what tests say of what they leave out.
+
+use std::env;
+use std::process::Command;
+
+/// Returns the arguments with which this program runs one ignored test alone.
+pub fn arguments(test: &str) -> [&str; 5] {
+    [
+        "--exact",
+        test,
+        "--ignored",
+        "--nocapture",
+        "--test-threads=1",
+    ]
+}
+
+/// Returns the command that runs an ignored test in a process of its own.
+pub fn command_of(test: &str) -> Command {
+    let mut command = Command::new(env::current_exe().unwrap());
+    command.args(arguments(test)).env("RUST_BACKTRACE", "0");
+    command
+}
+
+/// Panics unless the process runs its one test, which passes. Returns what it prints.
+pub fn pass(command: &mut Command) -> String {
+    let output = command.output().unwrap();
+    let said = String::from_utf8_lossy(&output.stderr);
+    let printed = String::from_utf8(output.stdout).unwrap();
+    assert!(output.status.success(), "{printed}{said}");
+    assert!(printed.contains("1 passed"), "{printed}{said}");
+    printed
+}
+
+/// Returns whether this machine has a program. If not, says which tests are left out.
+pub fn is_there(program: &str, untested: &str) -> bool {
+    let is_there = Command::new(program).arg("--version").output().is_ok();
+    if !is_there {
+        println!("skipped: there is no {program} on the path, so {untested}");
+    }
+    is_there
+}

@@ -1,0 +1,119 @@
+//! The crate over a library that stands in for that of cfgx, `tests/fake/cfgx.c`: what the crate
+//! passes, and which versions it takes.
+
+use super::{child, programs};
+use std::fs;
+use std::path::{Path, PathBuf};
+use std::process::{Command, Output};
+
+/// What the program `tests/fake/calls.rs` prints, with the calls that it makes.
+const PRINTED: &str = "\
+cfgx_compile
+cfgx_decide
+decided Known(true)
+cfgx_compile
+cfgx_check
+parsed false
+cfgx_compile
+cfgx_check
+cfgx_answers
+read false
+cfgx_audit
+audited true
+cfgx_audit
+audited true
+cfgx_audit
+audited true
+cfgx_audit
+audited true
+cfgx_audit
+audited true
+";
+
+/// The versions of libraries, and whether this crate takes them: those of the same language and the
+/// same major version, whose minor version is no lower.
+const VERSIONS: &[(&str, bool)] = &[
+    ("2001000", true),
+    ("2001001", true),
+    ("2001999", true),
+    ("2000999", false),
+    ("2000000", false),
+    ("2002000", false),
+    ("2010000", false),
+    ("1001000", false),
+    ("1999999", false),
+    ("3001000", false),
+    ("1000", false),
+    ("0", false),
+];
+
+/// Returns a file of this folder's neighbour.
+fn fake(name: &str) -> PathBuf {
+    Path::new(env!("CARGO_MANIFEST_DIR"))
+        .join("tests/fake")
+        .join(name)
+}
+
+/// Panics unless the command succeeds.
+fn succeed(command: &mut Command) {
+    let output = command.output().unwrap();
+    let said = String::from_utf8_lossy(&output.stderr);
+    assert!(output.status.success(), "{command:?}: {said}");
+}
+
+/// Makes the archive of the library in `room`.
+fn make_archive(room: &Path) {
+    let header = Path::new(env!("CARGO_MANIFEST_DIR")).join("../../crates/cfgx_c/include");
+    let object = room.join("cfgx.o");
+    let mut compiler = Command::new("cc");
+    compiler.args(["-c", "-std=c99", "-Wall", "-Wextra", "-Werror", "-I"]);
+    compiler
+        .arg(header)
+        .arg("-o")
+        .arg(&object)
+        .arg(fake("cfgx.c"));
+    succeed(&mut compiler);
+    let _ = fs::remove_file(room.join("libcfgx.a"));
+    succeed(
+        Command::new("ar")
+            .arg("rcs")
+            .arg(room.join("libcfgx.a"))
+            .arg(object),
+    );
+}
+
+/// Runs the program over the library.
+fn run(room: &Path, version: &str) -> Output {
+    let folder = programs::folder_in(room);
+    let dependencies =
+        "[dependencies]\ncfg-expr = { package = \"cfgx\", path = \"../cfgx/bindings/rust\" }\n";
+    let code = fs::read_to_string(fake("calls.rs")).unwrap();
+    let mut command = programs::run(&folder, dependencies, &code);
+    command
+        .env("CFGX_LIB_DIR", room)
+        .env("CFGX_TEST_VERSION", version);
+    command.env("RUST_BACKTRACE", "0").output().unwrap()
+}
+
+#[test]
+fn no_pointer_is_null_and_versions_are_compared() {
+    let untested = "neither null pointers nor versions were looked at";
+    if !child::is_there("cc", untested) || !child::is_there("ar", untested) {
+        return;
+    }
+    let room = programs::room("linked");
+    make_archive(&room);
+    for (version, is_taken) in VERSIONS {
+        let output = run(&room, version);
+        let printed = String::from_utf8_lossy(&output.stdout);
+        let said = String::from_utf8_lossy(&output.stderr);
+        let expected = if *is_taken { PRINTED } else { "" };
+        assert_eq!(printed, expected, "{version}: {said}");
+        assert_eq!(output.status.success(), *is_taken, "{version}: {said}");
+        assert_eq!(
+            said.contains(&format!("is {version}, and")),
+            !is_taken,
+            "{said}"
+        );
+    }
+}

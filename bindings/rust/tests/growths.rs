@@ -1,0 +1,166 @@
+//! Each growth of each call refused in turn: the process ends, as it does for `Vec`.
+//!
+//! This program has a `malloc` of its own, which the library and the crate both call.
+
+#![cfg(target_env = "gnu")]
+
+use cfgx::targets::TargetInfo;
+use cfgx::{Expression, Facts, Otherwise, Predicate, audit, audit_with};
+use std::cell::Cell;
+use std::collections::BTreeSet;
+use std::env;
+use std::ffi::c_void;
+use std::os::unix::process::ExitStatusExt;
+use std::process::{Command, Output};
+use std::ptr::null_mut;
+
+unsafe extern "C" {
+    fn __libc_malloc(size: usize) -> *mut c_void;
+    fn __libc_calloc(count: usize, size: usize) -> *mut c_void;
+    fn __libc_realloc(block: *mut c_void, size: usize) -> *mut c_void;
+}
+
+thread_local! {
+    /// The number of growths that are granted before one is refused.
+    static GRANTED: Cell<usize> = const { Cell::new(usize::MAX) };
+}
+
+/// Returns whether this growth is the one that is refused. Those behind it are granted.
+fn is_refused() -> bool {
+    let granted = GRANTED.get();
+    GRANTED.set(granted.wrapping_sub(1));
+    granted == 0
+}
+
+/// Takes a block of memory, unless it is refused.
+#[unsafe(no_mangle)]
+extern "C" fn malloc(size: usize) -> *mut c_void {
+    if is_refused() {
+        return null_mut();
+    }
+    // SAFETY: the call is passed on.
+    unsafe { __libc_malloc(size) }
+}
+
+/// Takes a block of zeros, unless it is refused.
+#[unsafe(no_mangle)]
+extern "C" fn calloc(count: usize, size: usize) -> *mut c_void {
+    if is_refused() {
+        return null_mut();
+    }
+    // SAFETY: the call is passed on.
+    unsafe { __libc_calloc(count, size) }
+}
+
+/// Makes a block longer, unless it is refused.
+#[unsafe(no_mangle)]
+unsafe extern "C" fn realloc(block: *mut c_void, size: usize) -> *mut c_void {
+    if is_refused() {
+        return null_mut();
+    }
+    // SAFETY: the call is passed on, and its caller passes a block of `malloc`.
+    unsafe { __libc_realloc(block, size) }
+}
+
+/// A condition of which each call takes memory. `cfg( )` makes it longer than what is kept of it.
+const CONDITION: &str = "cfg(all(unix, any(key = \"value\", not(target_os = \"no named one\"))))";
+
+/// A text that is no condition.
+const FAULTY: &str = "cfg(all(unix, any(key = \"value\", not(a, b))))";
+
+/// A line that no condition can ask.
+const PASSED_OVER: &str = "target_something_that_no_condition_can_ask_for=\"x\"";
+
+/// Calls the function with this name. `granted` is the number of growths that it gets, after what it
+/// is passed was made.
+fn call(name: &str, granted: usize) {
+    let expression = Expression::parse(CONDITION).unwrap();
+    let conditions = [expression];
+    let targets = [Facts::new(["unix", PASSED_OVER, "?a"]), Facts::default()];
+    let no_targets = [Facts::new(["unix"]), Facts::new(["test", "all( "])];
+    GRANTED.set(granted);
+    match name {
+        "parse" => drop(Expression::parse(CONDITION)),
+        "parse a faulty text" => drop(Expression::parse(FAULTY)),
+        "decide" => drop(conditions[0].decide(|_| None)),
+        "audit" => drop(audit(&conditions, &targets)),
+        "audit_with" => drop(audit_with(&conditions, &targets, Otherwise::False)),
+        "audit over a faulty fact" => drop(audit(&conditions, &no_targets)),
+        "read a line" => drop(TargetInfo::from_rustc_cfg("mine", PASSED_OVER)),
+        "eval" => assert_eq!(conditions[0].eval(|_| None::<bool>), None),
+        "predicates" => assert_eq!(conditions[0].predicates().filter(is_key).count(), 1),
+        other => panic!("{other}"),
+    }
+    GRANTED.set(usize::MAX);
+}
+
+/// Returns whether a predicate is a key with a value.
+fn is_key(predicate: &Predicate<'_>) -> bool {
+    matches!(predicate, Predicate::KeyValue { .. })
+}
+
+#[test]
+#[ignore = "the test below runs it in a process of its own"]
+fn a_call_with_a_refused_growth() {
+    let granted = env::var("CFGX_TEST_GRANTED").unwrap();
+    call(
+        &env::var("CFGX_TEST_CALL").unwrap(),
+        granted.parse().unwrap(),
+    );
+    println!("returned");
+}
+
+/// Makes the call in a process of its own.
+fn output_of(name: &str, granted: usize) -> Output {
+    Command::new(env::current_exe().unwrap())
+        .args(["--exact", "a_call_with_a_refused_growth"])
+        .args(["--ignored", "--nocapture", "--test-threads=1"])
+        .env("CFGX_TEST_CALL", name)
+        .env("CFGX_TEST_GRANTED", granted.to_string())
+        .env("RUST_BACKTRACE", "0")
+        .output()
+        .unwrap()
+}
+
+/// Returns the number of bytes that the end of a process names, or `None` if the call returned.
+/// Panics if neither happened.
+fn bytes_named(name: &str, granted: usize) -> Option<usize> {
+    let output = output_of(name, granted);
+    let printed = String::from_utf8_lossy(&output.stdout);
+    let said = String::from_utf8_lossy(&output.stderr);
+    if printed.contains("returned\n") {
+        assert!(output.status.success(), "{name}, {granted}: {said}");
+        return None;
+    }
+    assert_eq!(output.status.signal(), Some(6), "{name}, {granted}: {said}");
+    let (_, behind) = said.split_once("memory allocation of ").unwrap();
+    let (bytes, _) = behind.split_once(" bytes failed").unwrap();
+    Some(bytes.parse().unwrap())
+}
+
+/// Each call, and the number of bytes that is named if the library gets no memory: that of the text
+/// or of the facts which it was passed. `None` if the call takes no memory.
+const CALLS: &[(&str, Option<usize>)] = &[
+    ("parse", Some(CONDITION.len())),
+    ("parse a faulty text", Some(FAULTY.len())),
+    ("decide", Some(CONDITION.len() - 5)),
+    ("audit", Some(PASSED_OVER.len() + 6)),
+    ("audit_with", Some(PASSED_OVER.len() + 6)),
+    ("audit over a faulty fact", Some(13)),
+    ("read a line", Some(PASSED_OVER.len())),
+    ("eval", None),
+    ("predicates", None),
+];
+
+#[test]
+fn each_refused_growth_ends_the_process() {
+    for (name, of_library) in CALLS {
+        let named = |granted| bytes_named(name, granted);
+        let bytes: BTreeSet<usize> = (0..).map_while(named).collect();
+        assert_eq!(bytes.is_empty(), of_library.is_none(), "{name}: {bytes:?}");
+        assert!(
+            of_library.is_none_or(|one| bytes.contains(&one)),
+            "{name}: {bytes:?}"
+        );
+    }
+}
