@@ -26,6 +26,8 @@ fn rows() -> Vec<[String; 3]> {
     let fields = |line: &str| -> Vec<String> { line.split('\t').map(unescape).collect() };
     let rows: Vec<[String; 3]> = lines.map(|line| fields(line).try_into().unwrap()).collect();
     assert_eq!(rows.len(), 1962);
+    let faults = rows.iter().filter(|[_, status, _]| status == "1");
+    assert_eq!(faults.count(), 1443);
     rows
 }
 

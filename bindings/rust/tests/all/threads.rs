@@ -2,21 +2,45 @@
 
 use super::engine;
 use super::trees::{Numbers, Tree};
-use cfgx::targets::{Rustc, TargetInfo};
-use cfgx::{Audit, Decision, Expression, Facts, ParseError};
+use cfgx::error::{HasAtomicParseError, Reason};
+use cfgx::expr::{Predicate, TargetPredicate};
+use cfgx::targets::{
+    Abi, Arch, Endian, Env, Families, Family, HasAtomic, HasAtomics, Os, Panic, Rustc,
+    RustcCfgError, RustcError, TargetInfo, Triple, Vendor,
+};
+use cfgx::{Audit, Decision, Expression, FactError, Facts, Otherwise, ParseError};
+use std::error::Error;
 use std::thread;
 
 fn is_shared<T: Send + Sync>() {}
 
+/// Does not compile unless all types may be shared by threads.
+macro_rules! are_shared {
+    ($($name:ty),* $(,)?) => {
+        $(is_shared::<$name>();)*
+    };
+}
+
 #[test]
 fn types_are_send_and_sync() {
-    is_shared::<Expression>();
-    is_shared::<ParseError>();
-    is_shared::<Decision>();
-    is_shared::<TargetInfo>();
-    is_shared::<Facts>();
-    is_shared::<Audit>();
-    is_shared::<Rustc>();
+    are_shared!(Expression, Predicate<'_>, TargetPredicate, Decision);
+    are_shared!(Audit, Facts, FactError, Otherwise);
+    are_shared!(ParseError, Reason, HasAtomicParseError);
+    are_shared!(
+        TargetInfo, Triple, Abi, Arch, Env, Family, Os, Panic, Vendor
+    );
+    are_shared!(Endian, HasAtomic, Families, HasAtomics);
+    are_shared!(Rustc, RustcError, RustcCfgError);
+}
+
+#[test]
+fn errors_are_errors() {
+    fn is_error<T: Error + 'static>() {}
+    is_error::<ParseError>();
+    is_error::<HasAtomicParseError>();
+    is_error::<FactError>();
+    is_error::<RustcCfgError>();
+    is_error::<RustcError>();
 }
 
 /// Parses and evaluates 1,000 conditions.
