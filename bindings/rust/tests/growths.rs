@@ -71,8 +71,8 @@ const FAULTY: &str = "cfg(all(unix, any(key = \"value\", not(a, b))))";
 /// A line that no condition can ask.
 const PASSED_OVER: &str = "target_something_that_no_condition_can_ask_for=\"x\"";
 
-/// Calls the function with this name. `granted` is the number of growths that it gets, after what it
-/// is passed was made.
+/// Calls the function with this name. `granted` is the number of growths that it gets. What it is
+/// passed is made before.
 fn call(name: &str, granted: usize) {
     let expression = Expression::parse(CONDITION).unwrap();
     let conditions = [expression];

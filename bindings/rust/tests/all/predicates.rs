@@ -107,7 +107,7 @@ fn keys_alone() {
 }
 
 #[test]
-fn byte_orders_and_numbers() {
+fn byte_orders() {
     for endian in [Endian::big, Endian::little] {
         let condition = format!("target_endian = \"{endian:?}\"");
         check(
@@ -115,11 +115,19 @@ fn byte_orders_and_numbers() {
             &Predicate::Target(TargetPredicate::Endian(endian)),
         );
     }
+}
+
+#[test]
+fn widths_of_pointers() {
     for bits in 0..=u8::MAX {
         let expected = Predicate::Target(TargetPredicate::PointerWidth(bits));
         check(&format!("target_pointer_width = \"{bits}\""), &expected);
         check(&format!("target_pointer_width = \"+0{bits}\""), &expected);
     }
+}
+
+#[test]
+fn widths_of_atomics() {
     let widths = (0..16).map(|power| (1 << power) - 1);
     for bits in widths.chain([8, 16, 32, 64, 128, 32_768, 65_535]) {
         let width = HasAtomic::IntegerSize(bits);

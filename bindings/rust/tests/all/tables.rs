@@ -204,6 +204,20 @@ fn what_reasons_and_faults_print() {
     assert_eq!(error.to_string(), "ab\n^ unopened quotes");
 }
 
+/// The page on calls from Rust says so. Fields are looked at beside the named values.
+#[test]
+fn a_width_in_a_format_does_not_count() {
+    let expression = Expression::parse("cfg(a)").unwrap();
+    assert_eq!(format!("{expression:9}{expression:.0}"), "aa");
+    let width = HasAtomic::IntegerSize(8);
+    assert_eq!(format!("{width:9}{:9}", HasAtomic::Pointer), "8ptr");
+    assert_eq!(format!("{:99}", Families::unix), "{unix}");
+    assert_eq!(format!("{:99}", HasAtomics::new([width])), "{8}");
+    assert_eq!(format!("{:99}", Reason::Empty), "empty expression");
+    let error = Expression::parse("all(").unwrap_err();
+    assert_eq!(format!("{error:99}"), error.to_string());
+}
+
 #[test]
 fn lists_widths_and_fields() {
     for row in table("lists.txt", "list of families") {

@@ -1,6 +1,6 @@
-/* A library for tests in place of that of cfgx. It ends the process if a pointer is null, prints the
- * name of each call, and returns some result. Each text is a condition without predicates, unless it
- * has a `!`. The version is that of the header, or what CFGX_TEST_VERSION says. */
+/* A library for tests in place of that of cfgx. It ends the process if a pointer is null, prints
+ * the name of each call, and returns some result. Each text is a condition without predicates,
+ * unless it has a `!`. The version is that of the header, or what CFGX_TEST_VERSION says. */
 #include "cfgx.h"
 #include <stdio.h>
 #include <stdlib.h>
