@@ -36,16 +36,16 @@ fn values_are_those_of_each_condition_on_each_target() {
     }
 }
 
-/// A condition, facts that a comma separates, and the value by the rules of `docs/RULES.md`: 1 for
-/// true, 0 for false, ? for unknown. The first value is that if other predicates are unknown, and
-/// the second one that if they are false.
+/// A condition, facts that a semicolon separates, and two values by the rules of `docs/RULES.md`: 1
+/// for true, 0 for false, ? for unknown. The first value is that if other predicates are unknown,
+/// and the second one that if they are false.
 const VALUES: &[(&str, &str, &str)] = &[
     ("unix", "unix", "11"),
     ("unix", "target_family = \"unix\"", "11"),
     ("unix", "windows", "00"),
     ("unix", "", "00"),
     ("unix", "?unix", "??"),
-    ("unix", "?unix,unix", "11"),
+    ("unix", "?unix;unix", "11"),
     ("not(unix)", "?unix", "??"),
     ("test", "", "?0"),
     ("not(test)", "", "?1"),
@@ -81,7 +81,7 @@ fn digit(value: Option<bool>) -> &'static str {
 fn values_over_facts() {
     for (text, facts, expected) in VALUES {
         let conditions = [Expression::parse(text).unwrap()];
-        let targets = [Facts::new(facts.split(',').filter(|fact| !fact.is_empty()))];
+        let targets = [Facts::new(facts.split(';').filter(|fact| !fact.is_empty()))];
         let known = audit_with(&conditions, &targets, Otherwise::False).unwrap();
         let unknown = audit_with(&conditions, &targets, Otherwise::Unknown).unwrap();
         let found = digit(unknown.value(0, 0)).to_string() + digit(known.value(0, 0));

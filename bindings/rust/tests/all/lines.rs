@@ -158,9 +158,8 @@ fn fields_that_are_missing() {
 }
 
 /// Lines that say nothing of a target.
-const PASSED_OVER: [&str; 18] = [
+const PASSED_OVER: [&str; 17] = [
     "",
-    "\r",
     "debug_assertions",
     "test",
     "loom",
