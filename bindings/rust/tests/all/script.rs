@@ -17,11 +17,16 @@ struct Row {
     archives: &'static [&'static str],
     searched: &'static [&'static str],
     linked: &'static [&'static str],
+    /// What Cargo watches beside the script: the archives that are linked, and the folders of the
+    /// repository if archives are looked for there.
+    watched: &'static [&'static str],
 }
 
 /// Where the repository has archives.
 const OWN: &str = "repository/out/cfgx/lib/libcfgx.a";
+const OWN_FOLDER: &str = "repository/out/cfgx/lib";
 const OWN_BUILT: &str = "repository/crates/cfgx_c/out/libcfgx_c.a";
+const OWN_BUILT_FOLDER: &str = "repository/crates/cfgx_c/out";
 
 /// The rows, by the README of the crate: `CFGX_LIB_DIR`, `pkg-config`, `out/cfgx/lib` and
 /// `crates/cfgx_c/out` in this order, and no other place if the first is set.
@@ -37,6 +42,7 @@ const ROWS: &[Row] = &[
         ],
         searched: &["named"],
         linked: &["cfgx"],
+        watched: &["named/libcfgx.a"],
     },
     Row {
         named: Some("named"),
@@ -44,6 +50,7 @@ const ROWS: &[Row] = &[
         archives: &["named/libcfgx_c.a", "named/liblibc_c.a", "known/libcfgx.a"],
         searched: &["named"],
         linked: &["cfgx_c", "libc_c"],
+        watched: &["named/libcfgx_c.a", "named/liblibc_c.a"],
     },
     Row {
         named: Some("named"),
@@ -51,6 +58,7 @@ const ROWS: &[Row] = &[
         archives: &["named/libcfgx_c.a"],
         searched: &["named", "kit/c"],
         linked: &["cfgx_c", "libc_c"],
+        watched: &["named/libcfgx_c.a"],
     },
     Row {
         named: Some("named"),
@@ -58,6 +66,7 @@ const ROWS: &[Row] = &[
         archives: &["named/libcfgx_c.a"],
         searched: &["named"],
         linked: &["cfgx_c", "libc_c"],
+        watched: &["named/libcfgx_c.a"],
     },
     Row {
         named: Some("named"),
@@ -65,6 +74,7 @@ const ROWS: &[Row] = &[
         archives: &["named/cfgx.a", "known/libcfgx.a", OWN, OWN_BUILT],
         searched: &[],
         linked: &[],
+        watched: &[],
     },
     Row {
         named: Some(""),
@@ -72,6 +82,7 @@ const ROWS: &[Row] = &[
         archives: &["known/libcfgx.a", OWN],
         searched: &[],
         linked: &[],
+        watched: &[],
     },
     Row {
         named: None,
@@ -79,27 +90,31 @@ const ROWS: &[Row] = &[
         archives: &["named/libcfgx.a", "known/libcfgx.a", OWN, OWN_BUILT],
         searched: &["known"],
         linked: &["cfgx"],
+        watched: &["known/libcfgx.a"],
     },
     Row {
         named: None,
         programs: &["pkg-config", "rt"],
         archives: &["known/libcfgx_c.a", OWN, OWN_BUILT],
-        searched: &["repository/out/cfgx/lib"],
+        searched: &[OWN_FOLDER],
         linked: &["cfgx"],
+        watched: &[OWN_BUILT_FOLDER, OWN_FOLDER, OWN],
     },
     Row {
         named: None,
         programs: &["rt"],
         archives: &["known/libcfgx.a", OWN, OWN_BUILT],
-        searched: &["repository/out/cfgx/lib"],
+        searched: &[OWN_FOLDER],
         linked: &["cfgx"],
+        watched: &[OWN_BUILT_FOLDER, OWN_FOLDER, OWN],
     },
     Row {
         named: None,
         programs: &["rt"],
         archives: &["known/libcfgx.a", OWN_BUILT],
-        searched: &["repository/crates/cfgx_c/out", "kit/c"],
+        searched: &[OWN_BUILT_FOLDER, "kit/c"],
         linked: &["cfgx_c", "libc_c"],
+        watched: &[OWN_BUILT_FOLDER, OWN_FOLDER, OWN_BUILT],
     },
     Row {
         named: None,
@@ -107,6 +122,7 @@ const ROWS: &[Row] = &[
         archives: &["named/libcfgx.a", "kit/c/liblibc_c.a"],
         searched: &[],
         linked: &[],
+        watched: &[OWN_BUILT_FOLDER, OWN_FOLDER],
     },
 ];
 
@@ -153,11 +169,11 @@ fn told<'a>(printed: &'a str, before: &str) -> Vec<&'a str> {
     lines.filter_map(|line| line.strip_prefix(before)).collect()
 }
 
-/// Returns the path of a place in a room, without `..` in it.
+/// Returns a path without its front up to a room, and without `..`.
 fn plain(room: &Path, path: &str) -> String {
     let path = path.replace("/bindings/rust/../..", "");
-    let path = Path::new(&path).strip_prefix(room);
-    path.map_or(String::new(), |path| path.display().to_string())
+    let front = format!("{}/", room.display());
+    path.strip_prefix(&front).unwrap_or(&path).to_string()
 }
 
 /// Panics unless the script does in a room what the row says.
@@ -182,14 +198,7 @@ fn check(room: &Path, script: &Path, row: &Row) {
     assert_eq!(watched, ["CFGX_LIB_DIR", "PKG_CONFIG_PATH"], "{printed}");
 
     let watched = paths("cargo::rerun-if-changed=");
-    let is_linked = |archive: &&&str| {
-        let (folder, file) = archive.rsplit_once('/').unwrap();
-        row.searched.first() == Some(&folder)
-            && row.linked.iter().any(|name| file == format!("lib{name}.a"))
-    };
-    for archive in row.archives.iter().filter(is_linked) {
-        assert!(watched.iter().any(|path| path == archive), "{printed}");
-    }
+    assert_eq!(watched, [&["build.rs"], row.watched].concat(), "{printed}");
     let errors = told(&printed, "cargo::error=");
     assert_eq!(
         errors.len(),
