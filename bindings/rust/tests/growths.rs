@@ -63,7 +63,10 @@ unsafe extern "C" fn realloc(block: *mut c_void, size: usize) -> *mut c_void {
 }
 
 /// A condition of which each call takes memory. `cfg( )` makes it longer than what is kept of it.
-const CONDITION: &str = "cfg(all(unix, any(key = \"value\", not(target_os = \"no named one\"))))";
+const CONDITION: &str = "cfg(all(unix, any(key = \"value\", not(target_os = \"not named\"))))";
+
+/// The value of its last predicate, of which a predicate has a copy.
+const COPIED: &str = "not named";
 
 /// A text that is no condition.
 const FAULTY: &str = "cfg(all(unix, any(key = \"value\", not(a, b))))";
@@ -138,8 +141,9 @@ fn bytes_named(name: &str, granted: usize) -> Option<usize> {
     Some(bytes.parse().unwrap())
 }
 
-/// Each call, and the number of bytes that is named if the library gets no memory: that of the text
-/// or of the facts which it was passed. `None` if the call takes no memory.
+/// Each call, and a number of bytes that is named if a growth is refused: if it is one of the
+/// library, that of the text or of the facts which the library was passed. `None` if the call takes
+/// no memory.
 const CALLS: &[(&str, Option<usize>)] = &[
     ("parse", Some(CONDITION.len())),
     ("parse a faulty text", Some(FAULTY.len())),
@@ -149,17 +153,17 @@ const CALLS: &[(&str, Option<usize>)] = &[
     ("audit over a faulty fact", Some(13)),
     ("read a line", Some(PASSED_OVER.len())),
     ("eval", None),
-    ("predicates", None),
+    ("predicates", Some(COPIED.len())),
 ];
 
 #[test]
 fn each_refused_growth_ends_the_process() {
-    for (name, of_library) in CALLS {
+    for (name, expected) in CALLS {
         let named = |granted| bytes_named(name, granted);
         let bytes: BTreeSet<usize> = (0..).map_while(named).collect();
-        assert_eq!(bytes.is_empty(), of_library.is_none(), "{name}: {bytes:?}");
+        assert_eq!(bytes.is_empty(), expected.is_none(), "{name}: {bytes:?}");
         assert!(
-            of_library.is_none_or(|one| bytes.contains(&one)),
+            expected.is_none_or(|one| bytes.contains(&one)),
             "{name}: {bytes:?}"
         );
     }
