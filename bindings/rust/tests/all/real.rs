@@ -1,19 +1,25 @@
 //! The real conditions of `bench/conditions.txt`, which a target decides.
 
-use super::engine;
+use super::{engine, programs};
 use cfgx::targets::ALL_BUILTINS;
 use cfgx::{Expression, Predicate};
-use std::fs;
+use std::fs::{self, File};
 use std::path::Path;
+use std::process::Command;
 
-#[test]
-fn each_has_the_value_that_the_program_prints() {
+/// Returns the conditions, one on each line.
+fn conditions() -> String {
     let path = Path::new(env!("CARGO_MANIFEST_DIR")).join("../../bench/conditions.txt");
     let conditions = fs::read_to_string(path).unwrap();
     assert_eq!(conditions.lines().count(), 197);
+    conditions
+}
+
+#[test]
+fn each_has_the_value_that_the_program_prints() {
     assert_eq!(ALL_BUILTINS.len(), 5);
     for target in ALL_BUILTINS {
-        for text in conditions.lines() {
+        for text in conditions().lines() {
             let value: bool = Expression::parse(text)
                 .unwrap()
                 .eval(|predicate| match predicate {
@@ -24,4 +30,30 @@ fn each_has_the_value_that_the_program_prints() {
             assert_eq!((0, format!("{value}\n")), printed, "{text}");
         }
     }
+}
+
+/// Returns what the example prints of an input.
+fn printed_by_the_example(input: &str) -> String {
+    let room = programs::room("example");
+    let file = room.join("input");
+    fs::write(&file, input).unwrap();
+    let output = Command::new(env!("CARGO"))
+        .args(["run", "--quiet", "--offline", "--example", "values"])
+        .env("CARGO_TARGET_DIR", &room)
+        .current_dir(env!("CARGO_MANIFEST_DIR"))
+        .stdin(File::open(file).unwrap())
+        .output()
+        .unwrap();
+    assert!(output.status.success(), "{output:?}");
+    String::from_utf8(output.stdout).unwrap()
+}
+
+#[test]
+fn the_example_prints_the_values_on_macos() {
+    let conditions = conditions();
+    let value = |text| engine::run(&["target", "aarch64-apple-darwin", text]).1;
+    let values: String = conditions.lines().map(value).collect();
+    let input = conditions + "not(test)\nfoo (\n";
+    let fault = "foo (\n    ^ expected one of `=`, `,`, `)` here\n";
+    assert_eq!(printed_by_the_example(&input), values + "true\n" + fault);
 }
