@@ -8,7 +8,7 @@ use std::path::{Path, PathBuf};
 use std::process::Command;
 
 /// Which archives there are, the places from which Cargo links, and the names of what it links. A
-/// place is a folder of the room, in which the repository is `repository`.
+/// place is a folder of a room, in which the folder `repository` stands for that of cfgx.
 struct Row {
     /// What `CFGX_LIB_DIR` is.
     named: Option<&'static str>,
@@ -148,15 +148,12 @@ fn printed_in(room: &Path, script: &Path, row: &Row) -> String {
         .env("CFGX_TEST_ROOM", room)
         .env("CARGO_MANIFEST_DIR", room.join("repository/bindings/rust"));
     if let Some(named) = row.named {
-        let folder = room.join(named);
-        command.env(
-            "CFGX_LIB_DIR",
-            if named.is_empty() {
-                "".as_ref()
-            } else {
-                folder.as_os_str()
-            },
-        );
+        let front = if named.is_empty() {
+            Path::new("")
+        } else {
+            room
+        };
+        command.env("CFGX_LIB_DIR", front.join(named));
     }
     let output = command.output().unwrap();
     assert!(output.status.success(), "{output:?}");
