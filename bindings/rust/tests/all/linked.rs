@@ -4,7 +4,7 @@
 use super::{child, programs};
 use std::fs;
 use std::path::{Path, PathBuf};
-use std::process::{Command, Output};
+use std::process::Command;
 
 /// What the program `tests/fake/calls.rs` prints, with the calls that it makes.
 const PRINTED: &str = "\
@@ -47,18 +47,11 @@ const VERSIONS: &[(&str, bool)] = &[
     ("0", false),
 ];
 
-/// Returns a file of this folder's neighbour.
+/// Returns the path of a file of `tests/fake`.
 fn fake(name: &str) -> PathBuf {
     Path::new(env!("CARGO_MANIFEST_DIR"))
         .join("tests/fake")
         .join(name)
-}
-
-/// Panics unless the command succeeds.
-fn succeed(command: &mut Command) {
-    let output = command.output().unwrap();
-    let said = String::from_utf8_lossy(&output.stderr);
-    assert!(output.status.success(), "{command:?}: {said}");
 }
 
 /// Makes the archive of the library in `room`.
@@ -72,9 +65,9 @@ fn make_archive(room: &Path) {
         .arg("-o")
         .arg(&object)
         .arg(fake("cfgx.c"));
-    succeed(&mut compiler);
+    programs::succeed(&mut compiler);
     let _ = fs::remove_file(room.join("libcfgx.a"));
-    succeed(
+    programs::succeed(
         Command::new("ar")
             .arg("rcs")
             .arg(room.join("libcfgx.a"))
@@ -82,17 +75,13 @@ fn make_archive(room: &Path) {
     );
 }
 
-/// Runs the program over the library.
-fn run(room: &Path, version: &str) -> Output {
-    let folder = programs::folder_in(room);
+/// Builds the program over the library in `room`.
+fn built(room: &Path) -> PathBuf {
+    make_archive(room);
     let dependencies =
         "[dependencies]\ncfg-expr = { package = \"cfgx\", path = \"../cfgx/bindings/rust\" }\n";
     let code = fs::read_to_string(fake("calls.rs")).unwrap();
-    let mut command = programs::run(&folder, dependencies, &code);
-    command
-        .env("CFGX_LIB_DIR", room)
-        .env("CFGX_TEST_VERSION", version);
-    command.env("RUST_BACKTRACE", "0").output().unwrap()
+    programs::built(&programs::folder_in(room), dependencies, &code, Some(room))
 }
 
 #[test]
@@ -101,10 +90,11 @@ fn no_pointer_is_null_and_versions_are_compared() {
     if !child::is_there("cc", untested) || !child::is_there("ar", untested) {
         return;
     }
-    let room = programs::room("linked");
-    make_archive(&room);
+    let program = built(&programs::room("linked"));
     for (version, is_taken) in VERSIONS {
-        let output = run(&room, version);
+        let mut command = Command::new(&program);
+        command.env("CFGX_TEST_VERSION", version);
+        let output = command.env("RUST_BACKTRACE", "0").output().unwrap();
         let printed = String::from_utf8_lossy(&output.stdout);
         let said = String::from_utf8_lossy(&output.stderr);
         let expected = if *is_taken { PRINTED } else { "" };

@@ -3,6 +3,7 @@
 use super::programs;
 use std::fs;
 use std::path::Path;
+use std::process::Command;
 
 /// Returns the blocks of the page that are manifests.
 fn blocks() -> Vec<String> {
@@ -17,9 +18,9 @@ fn blocks() -> Vec<String> {
 fn check(folder: &Path, manifest: &str, name: &str) {
     let call = format!("{name}::Expression::parse(\"cfg(a)\").unwrap()");
     let code = format!("fn main() {{ println!(\"{{}}\", {call}) }}");
-    let output = programs::run(folder, manifest, &code).output().unwrap();
-    let errors = String::from_utf8_lossy(&output.stderr);
-    assert_eq!(output.stdout, b"a\n", "{manifest}{errors}");
+    let program = programs::built(folder, manifest, &code, None);
+    let output = Command::new(program).output().unwrap();
+    assert_eq!(output.stdout, b"a\n", "{manifest}");
 }
 
 #[test]

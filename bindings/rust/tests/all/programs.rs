@@ -31,18 +31,29 @@ pub fn folder_in(room: &Path) -> PathBuf {
     folder
 }
 
-/// Writes a program with these dependencies, and returns the command that builds and runs it.
-pub fn run(folder: &Path, dependencies: &str, code: &str) -> Command {
+/// Builds a program with these dependencies, and returns its path. `library` is the folder of the
+/// library, if it is not the one that is linked here.
+pub fn built(folder: &Path, dependencies: &str, code: &str, library: Option<&Path>) -> PathBuf {
     fs::write(folder.join("src/main.rs"), code).unwrap();
     fs::write(
         folder.join("Cargo.toml"),
         format!("{PACKAGE}{dependencies}"),
     )
     .unwrap();
+    let target = folder.join("target");
     let mut command = Command::new(env!("CARGO"));
     command
-        .args(["run", "--quiet", "--offline"])
-        .env("CARGO_TARGET_DIR", folder.join("target"))
+        .args(["build", "--quiet", "--offline"])
+        .env("CARGO_TARGET_DIR", &target)
+        .envs(library.map(|library| ("CFGX_LIB_DIR", library)))
         .current_dir(folder);
-    command
+    succeed(&mut command);
+    target.join("debug/mine")
+}
+
+/// Panics unless the command succeeds.
+pub fn succeed(command: &mut Command) {
+    let output = command.output().unwrap();
+    let said = String::from_utf8_lossy(&output.stderr);
+    assert!(output.status.success(), "{command:?}: {said}");
 }
