@@ -117,39 +117,50 @@ module _ (Good Bad : List ℕ → Type 0) (bad : (text : List ℕ) → ¬ IsUtf8
   bad-behind front (text ∷ after) some good ends =
       IsFirstBad-seam Good Bad front text after good (bad text (ends text refl))
 
-  pub bad-not_utf8 : (texts front : List (List ℕ)) → length front < length texts
-      → IsUtf8Front texts front → All Good front → IsFirstBad Good Bad texts (length front)
+  pub bad-not_utf8 : (texts front : List (Bor (List ℕ))) → length front < length texts
+      → IsUtf8Front (views texts) (views front) → All Good (views front)
+      → IsFirstBad Good Bad (views texts) (length front)
   bad-not_utf8 texts front short is good =
-      let long = length-append front is.left in
-      rw is.whole
-      (bad-behind front is.left (omega (arith, short, ap length is.whole, long)) good is.ends)
+      let count = length-map front (λ text. text.now) in
+      rw (is.whole, ← count) (bad-behind (views front) is.left (omega (
+        arith,
+        short,
+        count,
+        length-map texts (λ text. text.now),
+        ap length is.whole,
+        length-append (views front) is.left,
+      )) good is.ends)
 
-pub faulty-not_utf8 : (facts front : List (List ℕ)) → length front < length facts
-    → IsUtf8Front facts front → All IsRustcFact front → IsFirstFaultyFact facts (length front)
+pub faulty-not_utf8 : (facts front : List (Bor (List ℕ))) → length front < length facts
+    → IsUtf8Front (views facts) (views front) → All IsRustcFact (views front)
+    → IsFirstFaultyFact (views facts) (length front)
 faulty-not_utf8 facts front short is accepted =
     bad-not_utf8 IsFact (λ fact. ¬ IsFact fact) (λ fact not good. not good.0) facts front short is
-    (facts-good front is.utf8 accepted)
+    (facts-good (views front) is.utf8 accepted)
 
 -- nor are all texts in UTF-8 then
-pub not_all_utf8 : (texts front : List (List ℕ)) → length front < length texts
-    → IsUtf8Front texts front → ¬ All IsUtf8 texts
+pub not_all_utf8 : (texts front : List (Bor (List ℕ))) → length front < length texts
+    → IsUtf8Front (views texts) (views front) → ¬ All IsUtf8 (views texts)
 not_all_utf8 texts front short is all =
     let first = bad-not_utf8 IsUtf8 (λ text. ¬ IsUtf8 text) (λ text not. not) texts front short is
     is.utf8 in
-    let same = get_or_from_slice_get texts (length front) first.item first.item first.stands in
-    first.bad (rw same at (all (length front) first.item short))
+    let same = get_or_from_slice_get (views texts) (length front) first.item first.item first.stands
+    in first.bad (rw same at (all (length front) first.item
+    (rw (length-map texts (λ text. text.now)) short)))
 
 -- all texts are in UTF-8 if as many are as there are
-pub front-whole : (facts front : List (List ℕ)) → length facts ≤ length front
-    → IsUtf8Front facts front → facts ≡ front
-front-whole facts front long is =
+pub front-whole : (texts front : List (Bor (List ℕ))) → length texts ≤ length front
+    → IsUtf8Front (views texts) (views front) → views texts ≡ views front
+front-whole texts front long is =
     let none = nil_from_length is.left (omega (
       arith,
       long,
       ap length is.whole,
-      length-append front is.left,
+      length-append (views front) is.left,
+      length-map texts (λ text. text.now),
+      length-map front (λ text. text.now),
     )) in
-    is.whole ∙ ap (λ left. front ++ left) none ∙ append-nil front
+    is.whole ∙ ap (λ left. views front ++ left) none ∙ append-nil (views front)
 
 -- the error of a piece of the facts is that of all
 pub FailsForFacts-behind : (front piece after : List (List ℕ)) (failed : ReadError)

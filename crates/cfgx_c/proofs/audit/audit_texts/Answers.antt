@@ -1,5 +1,4 @@
 use Rattle.std.proofs.Common.{◌≡◌, arith, length}
-use Rattle.std.proofs.lemmas.List.{length-map}
 use Rattle.std.specs.Str.{IsUtf8}
 use Rattle.cfgx_c.specs.{Answers.IsCondition, internal.Reading.views}
 use Rattle.cfgx_c.proofs.InputLemmas.{FailsForTexts-audit, bad-not_utf8, conditions-good}
@@ -16,21 +15,14 @@ returns-in-Err-clause-err c =
 -- the first text that is not UTF-8
 pub returns-then-len-texts-clause-err : goal.returns-then-len-texts-clause-err
 returns-then-len-texts-clause-err c =
-    let front = views c.in_ok-front.front.items in
+    let front = c.in_ok-front.front.items in
     let is = c.in_ok-front.ensures in
     let one = rw c.as_slice.ensures.value at c.in-Ok.ensures.conditions in
-    let count = length-map c.in_ok-front.front.items (λ text. text.now) in
     let at : c.len-then-len-texts.result ≡ length front =
-    omega (arith, c.len-then-len-texts.ensures, c.in_ok-front.front.ok.0, count) in
-    rw at (bad-not_utf8 IsCondition (λ text. ¬ IsUtf8 text) (λ text not. not)
-    (views c.args.texts.now) front (omega (
-      arith,
-      c.if-len-texts.true,
-      c.len.ensures,
-      c.in_ok-front.front.ok.0,
-      count,
-      length-map c.args.texts.now (λ text. text.now),
-    )) is (conditions-good front is.utf8 one))
+    omega (arith, c.len-then-len-texts.ensures, c.in_ok-front.front.ok.0) in
+    rw at (bad-not_utf8 IsCondition (λ text. ¬ IsUtf8 text) (λ text not. not) c.args.texts.now
+    front (omega (arith, c.if-len-texts.true, c.len.ensures, c.in_ok-front.front.ok.0)) is
+    (conditions-good (views front) is.utf8 one))
 
 -- all texts are in UTF-8
 pub returns-clause-ok : goal.returns-clause-ok
@@ -39,12 +31,6 @@ returns-clause-ok c =
     let is = c.in_ok-front.ensures in
     let one = rw c.as_slice.ensures.value at c.in-Ok.ensures.conditions in
     let values = rw c.as_slice.ensures.value at c.in-Ok.ensures.ok in
-    let whole = front-whole (views c.args.texts.now) front (omega (
-      arith,
-      c.if-len-texts.false,
-      c.len.ensures,
-      c.in_ok-front.front.ok.0,
-      length-map c.in_ok-front.front.items (λ text. text.now),
-      length-map c.args.texts.now (λ text. text.now),
-    )) is in
+    let whole = front-whole c.args.texts.now c.in_ok-front.front.items
+    (omega (arith, c.if-len-texts.false, c.len.ensures, c.in_ok-front.front.ok.0)) is in
     rw whole (conditions-good front is.utf8 one, values)

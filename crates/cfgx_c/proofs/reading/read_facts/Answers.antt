@@ -12,14 +12,8 @@ returns-clause-ok c =
     let front = views c.in_ok-front.front.items in
     let is = c.in_ok-front.ensures in
     let read = rw c.as_slice.ensures.value at c.in-Ok.ensures in
-    let whole = front-whole (views c.args.facts.now) front (omega (
-      arith,
-      c.if-len-facts.false,
-      c.len.ensures,
-      c.in_ok-front.front.ok.0,
-      length-map c.in_ok-front.front.items (λ text. text.now),
-      length-map c.args.facts.now (λ text. text.now),
-    )) is in
+    let whole = front-whole c.args.facts.now c.in_ok-front.front.items
+    (omega (arith, c.if-len-facts.false, c.len.ensures, c.in_ok-front.front.ok.0)) is in
     rw whole
     (facts-good front is.utf8 (All-from_recursion IsRustcFact front read.each), read.alike)
 
@@ -41,19 +35,11 @@ returns-in-Err-clause-err c =
 -- the first fact that is not UTF-8
 pub returns-then-len-facts-clause-err : goal.returns-then-len-facts-clause-err
 returns-then-len-facts-clause-err c =
-    let front = views c.in_ok-front.front.items in
-    let read = rw c.as_slice.ensures.value at c.in-Ok.ensures in
-    let long = length-map c.in_ok-front.front.items (λ text. text.now) in
-    let all = length-map c.args.facts.now (λ text. text.now) in (
+    let front = c.in_ok-front.front.items in
+    let read = rw c.as_slice.ensures.value at c.in-Ok.ensures in (
       length front,
-      omega (arith, c.len.ensures, c.in_ok-front.front.ok.0, long),
-      faulty-not_utf8 (views c.args.facts.now) front (omega (
-        arith,
-        c.if-len-facts.true,
-        c.len.ensures,
-        c.in_ok-front.front.ok.0,
-        long,
-        all,
-      )) c.in_ok-front.ensures
-          (All-from_recursion IsRustcFact front read.each),
+      omega (arith, c.len.ensures, c.in_ok-front.front.ok.0),
+      faulty-not_utf8 c.args.facts.now front
+          (omega (arith, c.if-len-facts.true, c.len.ensures, c.in_ok-front.front.ok.0))
+          c.in_ok-front.ensures (All-from_recursion IsRustcFact (views front) read.each),
     )
