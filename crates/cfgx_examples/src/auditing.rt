@@ -170,7 +170,7 @@ fn verdict_agrees(
     verdict: Verdict,
     digit: Option<u8>,
 ) -> bool {
-    digit.map(|digit| verdict_of(answer_of(digit))) == Some(verdict)
+    digit.and_then(answer_of).map(verdict_of) == Some(verdict)
         && value_on(alloc, expression, target).map(verdict_of) == Ok(verdict)
 }
 

@@ -54,7 +54,7 @@ fn are_values(values: Option<&[Answer]>, count: usize, digits: &[u8]) -> bool {
     };
     for (number, value) in values.iter().enumerate() {
         let digit = digits.get(number % 3).copied();
-        if digit.map(answer_of) != Some(*value) {
+        if digit.and_then(answer_of) != Some(*value) {
             return false;
         }
     }

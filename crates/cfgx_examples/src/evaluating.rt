@@ -1,17 +1,17 @@
 //! Callers of `Expression::eval`. What their contracts promise is proved by the contract of `eval`
 //! alone.
-ghost use Rattle.std.specs.Prelude.{◌≡◌, ◌+◌, ◌^◌, ◌*◌, ◌%◌, IfOk};
+ghost use Rattle.std.specs.Prelude.{◌≡◌, IfOk};
 ghost use Rattle.cfg_expr.specs.Evaluation.{IsValueBy};
 ghost use Rattle.cfg_expr.specs.Words.{question_of};
 ghost use Rattle.cfgx_examples.specs.Examples.{is_among, term_of};
 
+pub mod numbers;
 pub mod steps;
 pub mod terms;
 
 use crate::calling::counting::count_questions;
 use cfg_expr::expr::Logic;
 use cfg_expr::{Expression, Predicate};
-use cfgx_testing::answers::eval_over_answers;
 use cfgx_testing::checking::is_ok_true;
 use std::alloc::{AllocError, Global};
 use terms::Term;
@@ -55,47 +55,6 @@ pub fn joined_terms(alloc: Global, expression: &Expression) -> Result<Term, Allo
     ensures { IfOk result (IsValueBy ⟦<Term as Logic>⟧ expression.now term_of) }
 {
     expression.eval(alloc, &mut |predicate: &Predicate<'_>| term_of(predicate))
-}
-
-/// A logic without laws: `a.and(b)` is `3 * a + b`, and both `a.or(b)` and `a.not()` are `a`. All
-/// arithmetic wraps.
-#[derive(Clone, Copy, Debug, PartialEq, Eq)]
-pub struct Lawless(pub u64);
-
-impl Logic for Lawless {
-    ghost use Rattle.std.proofs.Common.{lit≤};
-
-    ghost top = { record { 0 = 1 } };
-
-    ghost bottom = { record { 0 = 2 } };
-
-    ghost and = { λ one other. record { 0 = ((one.0 * 3) % 2 ^ 64 + other.0) % 2 ^ 64 } };
-
-    ghost or = { λ one other. one };
-
-    ghost not = { λ one. one };
-
-    ghost small = { (lit≤ tt, lit≤ tt) };
-
-    fn top() -> Lawless {
-        Lawless(1)
-    }
-
-    fn bottom() -> Lawless {
-        Lawless(2)
-    }
-
-    fn and(self, other: Lawless) -> Lawless {
-        Lawless(self.0.wrapping_mul(3).wrapping_add(other.0))
-    }
-
-    fn or(self, _other: Lawless) -> Lawless {
-        self
-    }
-
-    fn not(self) -> Lawless {
-        self
-    }
 }
 
 /// A row is a text, the flags that are true, and the value.
@@ -167,12 +126,11 @@ pub fn value_is_right(alloc: Global, row: &[String]) -> bool {
     let [text, flags, value] = row else {
         return false;
     };
-    match Expression::parse(alloc, text.as_str()) {
-        Ok(expression) => {
-            eval_with_flags_of_row(alloc, &expression, flags.as_str())
-                == Some(value.as_str() == "true")
+    match (Expression::parse(alloc, text.as_str()), value.parse::<bool>()) {
+        (Ok(expression), Ok(value)) => {
+            eval_with_flags_of_row(alloc, &expression, flags.as_str()) == Some(value)
         }
-        Err(_) => false,
+        _ => false,
     }
 }
 
@@ -187,30 +145,4 @@ pub fn terms_are_right(alloc: Global, row: &[String]) -> bool {
         Ok(expression) => is_ok_true(terms_are(alloc, &expression, questions, named, numbered)),
         Err(_) => false,
     }
-}
-
-// Returns the value of `text` and the number of its questions. `answers` are the answers to these
-// questions, in order.
-fn eval_and_count(alloc: Global, text: &str, answers: &[Lawless]) -> Option<(Lawless, usize)> {
-    let expression = Expression::parse(alloc, text).ok()?;
-    let value = eval_over_answers(alloc, &expression, answers);
-    value.zip(count_questions(alloc, &expression).ok())
-}
-
-// `all` starts from `top`, which is 1, and first joins the member that is asked last. `any` is
-// `bottom`, which is 2. The predicates in `any` are asked too, but their values never count here.
-//
-// - `all(a, any(b), c)`: 3 * 1 + 30 = 33, 3 * 33 + 10 = 109, 3 * 109 + 2 = 329
-// - `all(a, b)`: 3 * 1 + 7 = 10, 3 * 10 + 5 = 35
-// - `all(a, b, c)`: 3 * 1 + 9 = 12, 3 * 12 + 7 = 43, 3 * 43 + 5 = 134
-#[test]
-fn the_last_member_is_joined_first(rt: HostRuntime) {
-    let alloc = rt.alloc();
-    let answers = [Lawless(20), Lawless(10), Lawless(30)];
-    assert!(rt; eval_and_count(alloc, "all(a, any(b), c)", &answers) == Some((Lawless(329), 3)));
-    let answers = [Lawless(5), Lawless(7)];
-    assert!(rt; eval_and_count(alloc, "all(a, b)", &answers) == Some((Lawless(35), 2)));
-    assert!(rt; eval_and_count(alloc, "any(a, b)", &answers) == Some((Lawless(2), 2)));
-    let answers = [Lawless(5), Lawless(7), Lawless(9)];
-    assert!(rt; eval_and_count(alloc, "all(a, b, c)", &answers) == Some((Lawless(134), 3)));
 }

@@ -81,8 +81,24 @@ true;any();?false | all(a, test) | 00 | ??
 target_x;target_x="a";?feature | all(a, feature = "") | 00 | ??
 "#;
 
-// Returns the facts of `LINUX` and of `facts`, read by the constructor of this name.
-fn read_facts(alloc: Global, constructor: &str, facts: &str) -> Result<Facts, FactsError> {
+/// A call that reads facts.
+#[derive(Clone, Copy)]
+enum Constructor {
+    FromFlags,
+    FromRustc,
+}
+
+// Returns the constructor that rows write as `name`.
+fn constructor_named(name: &str) -> Option<Constructor> {
+    match name {
+        "flags" => Some(Constructor::FromFlags),
+        "rustc" => Some(Constructor::FromRustc),
+        _ => None,
+    }
+}
+
+// Returns the facts of `LINUX` and of `facts`.
+fn read_facts(alloc: Global, constructor: Constructor, facts: &str) -> Result<Facts, FactsError> {
     let lines = match format!(in alloc; "{LINUX}{facts}") {
         Ok(lines) => lines,
         Err(error) => return Err(FactsError::Memory(error)),
@@ -92,8 +108,8 @@ fn read_facts(alloc: Global, constructor: &str, facts: &str) -> Result<Facts, Fa
         Err(_) => return Err(FactsError::Memory(AllocError)),
     };
     match constructor {
-        "flags" => Facts::from_flags(alloc, lines.as_slice()),
-        _ => Facts::from_rustc(alloc, lines.as_slice()),
+        Constructor::FromFlags => Facts::from_flags(alloc, lines.as_slice()),
+        Constructor::FromRustc => Facts::from_rustc(alloc, lines.as_slice()),
     }
 }
 
@@ -111,7 +127,7 @@ fn outcome_text(alloc: Global, outcome: &Result<Facts, FactsError>) -> Result<St
 
 fn outcome_is(
     alloc: Global,
-    constructor: &str,
+    constructor: Constructor,
     facts: &str,
     wanted: &str,
 ) -> Result<bool, AllocError> {
@@ -121,14 +137,14 @@ fn outcome_is(
 
 /// Returns whether the facts of `row` have the outcome of `row`.
 pub fn outcome_is_right(alloc: Global, row: &[String]) -> bool {
-    match row {
-        [constructor, facts, wanted] => is_ok_true(outcome_is(
-            alloc,
-            constructor.as_str(),
-            facts.as_str(),
-            wanted.as_str(),
-        )),
-        _ => false,
+    let [constructor, facts, wanted] = row else {
+        return false;
+    };
+    match constructor_named(constructor.as_str()) {
+        Some(constructor) => {
+            is_ok_true(outcome_is(alloc, constructor, facts.as_str(), wanted.as_str()))
+        }
+        None => false,
     }
 }
 
@@ -145,7 +161,7 @@ fn answers_match(
         let Some((digit, others)) = left.split_first() else {
             return false;
         };
-        if facts.answer(&predicate, otherwise) != answer_of(*digit) {
+        if Some(facts.answer(&predicate, otherwise)) != answer_of(*digit) {
             return false;
         }
         left = others;
@@ -172,7 +188,7 @@ pub fn answers_are_right(alloc: Global, row: &[String]) -> bool {
     let [facts, text, if_false, if_unknown] = row else {
         return false;
     };
-    match read_facts(alloc, "rustc", facts.as_str()) {
+    match read_facts(alloc, Constructor::FromRustc, facts.as_str()) {
         Ok(facts) => is_ok_true(both_match(
             alloc,
             &facts,

@@ -2,6 +2,8 @@
 #![tactic(auto)]
 
 #[cfg(test)]
+mod asking;
+#[cfg(test)]
 pub mod auditing;
 #[cfg(test)]
 pub mod auditing_by_facts;

@@ -50,33 +50,46 @@ all(a,~true,~100000~) | 1 | 10?
 ~not(~100001~true~)~100001~ | 0 | 000
 "#;
 
-// Returns whether the value over `bool` is that of the digit, if each of `count` answers is
-// `answer`.
+// Returns whether the value over `bool` is `value`, if each of `count` answers is `answer`.
 fn bool_value_is(
     alloc: Global,
     expression: &Expression,
     answer: bool,
-    digit: u8,
+    value: Answer,
     count: usize,
 ) -> Result<bool, AllocError> {
     let answers = vec![in alloc; answer; count]?;
-    Ok(eval_over_answers(alloc, expression, answers.as_slice()) == Some(digit == b'1'))
+    Ok(eval_over_answers(alloc, expression, answers.as_slice()) == value)
 }
 
-// Returns whether each call finds the value of the digit, if each of `count` answers is `answer`. A
-// known answer is also tried as a `bool`.
+// Returns whether each call finds `value`, if each of `count` answers is `answer`. A known answer
+// is also tried as a `bool`.
 fn value_is(
+    alloc: Global,
+    expression: &Expression,
+    answer: Answer,
+    value: Answer,
+    count: usize,
+) -> Result<bool, AllocError> {
+    let answers = vec![in alloc; answer; count]?;
+    let is_right = each_call_finds(alloc, expression, answers.as_slice(), value);
+    match answer {
+        Some(answer) if is_right => bool_value_is(alloc, expression, answer, value, count),
+        _ => Ok(is_right),
+    }
+}
+
+// Returns whether each call finds the value of the digit, if each of `count` answers is `answer`.
+fn digit_is_right(
     alloc: Global,
     expression: &Expression,
     answer: Answer,
     digit: u8,
     count: usize,
-) -> Result<bool, AllocError> {
-    let answers = vec![in alloc; answer; count]?;
-    let is_right = each_call_finds(alloc, expression, answers.as_slice(), answer_of(digit));
-    match answer {
-        Some(answer) if is_right => bool_value_is(alloc, expression, answer, digit, count),
-        _ => Ok(is_right),
+) -> bool {
+    match answer_of(digit) {
+        Some(value) => is_ok_true(value_is(alloc, expression, answer, value, count)),
+        None => false,
     }
 }
 
@@ -112,7 +125,7 @@ fn lanes_are(
 // all are unknown.
 fn values_are(alloc: Global, expression: &Expression, digits: &[u8], count: usize) -> bool {
     for (digit, answer) in digits.iter().zip([Some(true), Some(false), None]) {
-        if !is_ok_true(value_is(alloc, expression, answer, *digit, count)) {
+        if !digit_is_right(alloc, expression, answer, *digit, count) {
             return false;
         }
     }

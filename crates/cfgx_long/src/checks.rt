@@ -1,8 +1,9 @@
 //! Tables of rows, and the check of each table.
 use crate::alike::{ALIKE, has_values};
-use crate::asking::{ASKED, asks_target};
+use crate::asking::ASKED;
 use crate::deep::{ACCEPTED, FAR, FAULTS, READ, has_fault, has_predicates, reads_texts};
 use crate::many::{LARGE, MEMBERS, decides, first_member_decides};
+use cfgx_testing::asking::asks_target;
 use cfgx_testing::rows::{TableToCheck, check_tables};
 use cfgx_testing::words::run_matches_row;
 use std::alloc::Global;
@@ -14,7 +15,7 @@ const TABLES: &[TableToCheck<'static>] = &[
     ("run", FAR, 1),
     ("answers that are alike", ALIKE, 37),
     ("fillings", LARGE, 6),
-    ("targets that are asked", ASKED, 28),
+    ("targets that are asked", ASKED, 10),
     ("lanes of members", MEMBERS, 1),
 ];
 

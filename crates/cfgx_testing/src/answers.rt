@@ -1,18 +1,20 @@
 //! The value of a condition over one list of answers, by each call that computes it.
 use crate::checking::is_ok_true;
-use cfg_expr::expr::Logic;
 use cfg_expr::expr::logic::Kleene64;
+use cfg_expr::expr::{Logic, StepsError, eval_steps};
 use cfg_expr::{Expression, Predicate};
 use std::alloc::{AllocError, Global};
 
 /// True, false, or unknown.
 pub type Answer = Option<bool>;
 
-/// Returns the answer of a digit: true for `1`, false for `0`, and unknown for any other byte.
-pub fn answer_of(digit: u8) -> Answer {
+/// Returns the answer of a digit: true for `1`, false for `0`, and unknown for `?`, which counts as
+/// a digit here. Returns `None` for any other byte.
+pub fn answer_of(digit: u8) -> Option<Answer> {
     match digit {
-        b'1' => Some(true),
-        b'0' => Some(false),
+        b'1' => Some(Some(true)),
+        b'0' => Some(Some(false)),
+        b'?' => Some(None),
         _ => None,
     }
 }
@@ -31,7 +33,7 @@ pub fn in_each_lane(answer: Answer) -> Kleene64 {
 pub fn lanes_match_digits(lanes: Kleene64, digits: &[u8]) -> bool {
     for i in 0..64 {
         let digit = digits.get(i).or(digits.last());
-        if lanes.lane(i) != digit.copied().and_then(answer_of) {
+        if digit.copied().and_then(answer_of) != Some(lanes.lane(i)) {
             return false;
         }
     }
@@ -131,7 +133,19 @@ fn lanes_return(
     Ok(eval_in_lanes(alloc, expression, lanes.as_slice()) == Some(in_each_lane(value)))
 }
 
-/// Returns whether `eval`, `eval_lanes` and `polar_fillings` all find `value` over `answers`.
+// Returns whether the steps of the expression have the value `value`.
+fn steps_have(
+    alloc: Global,
+    expression: &Expression,
+    answers: &[Answer],
+    value: Answer,
+) -> Result<bool, StepsError> {
+    let steps = expression.steps(alloc)?;
+    Ok(eval_steps(alloc, steps.as_slice(), answers)? == value)
+}
+
+/// Returns whether `eval`, `eval_lanes`, `polar_fillings` and `eval_steps` all find `value` over
+/// `answers`.
 pub fn each_call_finds(
     alloc: Global,
     expression: &Expression,
@@ -141,4 +155,5 @@ pub fn each_call_finds(
     eval_over_answers(alloc, expression, answers) == Some(value)
         && is_ok_true(lanes_return(alloc, expression, answers, value))
         && is_ok_true(polar_fillings_show(alloc, expression, answers, value))
+        && is_ok_true(steps_have(alloc, expression, answers, value))
 }

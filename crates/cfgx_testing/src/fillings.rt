@@ -6,19 +6,19 @@ use cfg_expr::expr::{Condition, ConditionReader};
 use cfg_expr::{Decision, Expression};
 use std::alloc::{AllocError, Allocator, Global};
 
-/// Returns the answers of `digits`.
-pub fn answers_of(alloc: Global, digits: &str) -> Result<Vec<Answer>, AllocError> {
-    let mut answers = Vec::with_capacity(alloc, digits.len())?;
+/// Returns the answers of `digits`, or `None` if a byte is no digit or memory runs out.
+pub fn answers_of(alloc: Global, digits: &str) -> Option<Vec<Answer>> {
+    let mut answers = Vec::with_capacity(alloc, digits.len()).ok()?;
     for digit in digits.as_bytes() {
-        answers.push(answer_of(*digit))?;
+        answers.push(answer_of(*digit)?).ok()?;
     }
-    Ok(answers)
+    Some(answers)
 }
 
 // Returns whether `filling` is the filling of `digits`.
 fn filling_matches(filling: &[bool], digits: &str) -> bool {
     for (value, digit) in filling.iter().zip(digits.as_bytes()) {
-        if answer_of(*digit) != Some(*value) {
+        if answer_of(*digit) != Some(Some(*value)) {
             return false;
         }
     }
@@ -109,6 +109,24 @@ fn condition_decides(
     Ok(is_first_right && decision_matches(&decision, row))
 }
 
+// Returns whether the expression equals its copy.
+fn equals_copy(alloc: Global, expression: &Expression) -> bool {
+    let copy = expression.try_clone(alloc);
+    match &copy {
+        Ok(copy) => *copy == *expression,
+        Err(_) => false,
+    }
+}
+
+// Returns whether `from_str` returns the expression for `text`.
+fn equals_from_str(alloc: Global, expression: &Expression, text: &str) -> bool {
+    let read = Expression::from_str(alloc, text);
+    match &read {
+        Ok(read) => *read == *expression,
+        Err(_) => false,
+    }
+}
+
 // Reads the text, and checks the calls of the condition.
 fn reader_decides<'a>(
     alloc: Global,
@@ -135,14 +153,17 @@ fn new_reader_decides(
 }
 
 /// Returns whether each call of the expression and of the condition of `text` returns what `row`
-/// says, over the answers of `digits`. Returns `None` if the text is faulty or memory runs out.
+/// says, over the answers of `digits`, and the expression equals its copies. Returns `None` if the
+/// text or a digit is faulty, or memory runs out.
 pub fn each_call_decides(alloc: Global, text: &str, digits: &str, row: &str) -> Option<bool> {
-    let answers = answers_of(alloc, digits).ok()?;
+    let answers = answers_of(alloc, digits)?;
     let expression = Expression::parse(alloc, text).ok()?;
     let answers = answers.as_slice();
     Some(
         each_call_finds(alloc, &expression, answers, row.parse().ok())
             && is_ok_true(expression_matches(alloc, &expression, answers, row))
+            && equals_copy(alloc, &expression)
+            && equals_from_str(alloc, &expression, text)
             && new_reader_decides(alloc, &expression, (text, answers, row)),
     )
 }

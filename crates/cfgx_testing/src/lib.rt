@@ -2,11 +2,12 @@
 //! that fail on demand, tables of rows as text, faults as rows write them, values and fillings, and
 //! rows of targets.
 //!
-//! Tests own predicates, rows and faults in small functions, and some call `drop` on them. "Tests"
-//! in `docs/DECISIONS.md` gives the reason.
+//! Tests own predicates, rows and faults in small functions, and some call `drop` on them. "Owned
+//! values" in `docs/PROVING.md` gives the reason.
 #![tactic(auto)]
 
 pub mod answers;
+pub mod asking;
 pub mod checking;
 pub mod faults;
 pub mod fillings;

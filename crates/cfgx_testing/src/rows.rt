@@ -265,50 +265,66 @@ where
     )?;
     let found = rows.len();
     if found != count {
-        let line = format!(in alloc; "{found} rows in place of {count}")?;
+        let line = format!(in alloc; "{found} rows in place of {count}\n")?;
         report.push_str(line.as_str())?;
     }
     Ok(report)
 }
 
-// Checks the rows of a table. The error is the name of the check and the report.
-fn check_table<F>(alloc: Global, table: TableToCheck<'_>, check: &F) -> Finding
+// Pushes the name of the check and the report of a table, if anything is wrong in it.
+fn push_report<F>(
+    alloc: Global,
+    reports: &mut String,
+    table: TableToCheck<'_>,
+    check: &F,
+) -> Result<(), AllocError>
 where
     F: Fn(&str, &[String]) -> Option<bool>,
     requires { F.IsAlwaysCallable check.now }
 {
-    match report_of(alloc, table, check) {
-        Ok(report) => {
-            if report.is_empty() {
-                return Ok(());
-            }
-            Err(with_name(alloc, table.0, report))
-        }
-        Err(_) => fail(alloc, "out of memory"),
+    let report = report_of(alloc, table, check)?;
+    if report.is_empty() {
+        return Ok(());
     }
+    let (name, report) = (table.0, report.as_str());
+    reports.push_str(format!(in alloc; "{name}: {report}")?.as_str())
 }
 
-// Returns `report` with `name` before it, or `report` alone if memory runs out.
-fn with_name(alloc: Global, name: &str, report: String) -> String {
-    match format!(in alloc; "{name}: {report}") {
-        Ok(text) => text,
-        Err(_) => report,
+// Returns the reports of all tables in which something is wrong.
+fn reports_of<F>(
+    alloc: Global,
+    tables: &[TableToCheck<'_>],
+    check: &F,
+) -> Result<String, AllocError>
+where
+    F: Fn(&str, &[String]) -> Option<bool>,
+    requires { F.IsAlwaysCallable check.now }
+{
+    let mut reports = String::new(alloc);
+    for table in tables {
+        push_report(alloc, &mut reports, *table, check)?;
     }
+    Ok(reports)
 }
 
 /// Checks the rows of each table. `check` gets the name of the check and the fields of a row, and
 /// returns whether the row is right, or `None` if no check has this name.
 ///
-/// The error describes the first table that has a wrong row or a wrong number of rows.
+/// The error describes each table that has a wrong row or a wrong number of rows.
 pub fn check_tables<F>(alloc: Global, tables: &[TableToCheck<'_>], check: F) -> Finding
 where
     F: Fn(&str, &[String]) -> Option<bool>,
     requires { F.IsAlwaysCallable check }
 {
-    for table in tables {
-        check_table(alloc, *table, &check)?;
+    match reports_of(alloc, tables, &check) {
+        Ok(reports) => {
+            if reports.is_empty() {
+                return Ok(());
+            }
+            Err(reports)
+        }
+        Err(_) => fail(alloc, "out of memory"),
     }
-    Ok(())
 }
 
 /// Returns `prefix`, `times` copies of `piece`, and `suffix`.

@@ -167,7 +167,7 @@ pub struct Recorder {
     pub writes: u64,
     /// The number of flushes
     pub flushes: u64,
-    /// Whether a write had an empty slice, or a call followed a failed one
+    /// Whether a write had an empty slice or followed a flush, or a call followed a failed one
     pub is_misused: bool,
 }
 
@@ -198,7 +198,7 @@ impl Sink for Recorder {
 
     fn write(&mut self, bytes: &[u8]) -> io::Result<usize> {
         self.writes = self.writes.saturating_add(1);
-        self.is_misused |= bytes.is_empty() || self.failures > 0;
+        self.is_misused |= bytes.is_empty() || self.failures > 0 || self.flushes > 0;
         if bytes.is_empty() {
             return Ok(0);
         }
@@ -236,7 +236,7 @@ pub fn has_written(sink: &Recorder, output: &[u8]) -> bool {
 }
 
 /// Returns whether `output` was written by these numbers of writes and flushes, of which `failures`
-/// failed. No write had an empty slice, and no call followed a failed one.
+/// failed. No write had an empty slice or followed a flush, and no call followed a failed one.
 pub fn sink_matches(sink: &Recorder, output: &[u8], calls: (u64, u64), failures: u64) -> bool {
     sink.bytes.as_slice() == output
         && (sink.writes, sink.flushes) == calls

@@ -1,5 +1,5 @@
 //! Conditions as steps, and the values of steps.
-use super::Lawless;
+use super::numbers::Lawless;
 use cfg_expr::Expression;
 use cfg_expr::expr::{Step, StepsError, eval_steps};
 use cfgx_testing::checking::is_ok_true;
@@ -120,7 +120,12 @@ fn outcome_of(value: Result<bool, StepsError>) -> &'static str {
     }
 }
 
-/// Returns whether the steps of `row` have its outcome over its number of answers, at most three.
+// Returns as many true answers as `count` says, or `None` if it is no number or memory runs out.
+fn true_answers(alloc: Global, count: &str) -> Option<Vec<bool>> {
+    vec![in alloc; true; count.parse::<usize>().ok()?].ok()
+}
+
+/// Returns whether the steps of `row` have its outcome over its number of answers.
 pub fn value_is_right(alloc: Global, row: &[String]) -> bool {
     let [names, count, outcome] = row else {
         return false;
@@ -128,11 +133,11 @@ pub fn value_is_right(alloc: Global, row: &[String]) -> bool {
     let Some(steps) = steps_named(alloc, names.as_str()) else {
         return false;
     };
-    let answers: &[bool] = match count.as_str() {
-        "0" => &[],
-        "1" => &[true],
-        "2" => &[true, true],
-        _ => &[true, true, true],
-    };
-    outcome_of(eval_steps(alloc, steps.as_slice(), answers)) == outcome.as_str()
+    match true_answers(alloc, count.as_str()) {
+        Some(answers) => {
+            let value = eval_steps(alloc, steps.as_slice(), answers.as_slice());
+            outcome_of(value) == outcome.as_str()
+        }
+        None => false,
+    }
 }

@@ -62,7 +62,7 @@ fn sections_of(alloc: Global, rows: Rows<'_>) -> Result<Vec<Section>, Failure> {
 
 // Returns the verdict of a digit, if there is one.
 fn verdict_of(digit: Option<&u8>) -> Option<Verdict> {
-    Some(match answer_of(*digit?) {
+    Some(match answer_of(*digit?)? {
         Some(true) => Verdict::Yes,
         Some(false) => Verdict::No,
         None => Verdict::Unknown,

@@ -62,17 +62,17 @@ pub(super) fn check_call<A: SmallAllocator>(
     text: &str,
 ) -> Outcome {
     let (kind, name) = call.split_once(' ').unwrap_or((call, ""));
-    match kind {
-        "field" => check_field(alloc, name, text),
-        "predicate" => check_predicate(alloc, name, text),
-        "plain" => check_plain_predicate(alloc, name),
-        "families" => check_families(global, alloc, name, text),
-        "widths" => check_widths(global, alloc, name, text),
-        "many" => check_long_list(alloc, name, text),
-        "width" => check_width_error(global, alloc, text),
-        "row" => check_builtin_row(alloc),
-        "input" => check_input(global, alloc, text.as_bytes()),
-        "failed" => Ok(stops_at_failed_read(alloc, text)),
+    match (kind, name) {
+        ("field", _) => check_field(alloc, name, text),
+        ("predicate", _) => check_predicate(alloc, name, text),
+        ("plain", _) => check_plain_predicate(alloc, name),
+        ("families", _) => check_families(global, alloc, name, text),
+        ("widths", _) => check_widths(global, alloc, name, text),
+        ("many", _) => check_long_list(alloc, name, text),
+        ("width", "error") => check_width_error(global, alloc, text),
+        ("row", "") => check_builtin_row(alloc),
+        ("input", "") => check_input(global, alloc, text.as_bytes()),
+        ("failed", "read") => Ok(stops_at_failed_read(alloc, text)),
         _ => Ok(false),
     }
 }

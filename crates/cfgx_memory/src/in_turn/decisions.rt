@@ -82,7 +82,7 @@ pub(super) fn row_passes(global: Global, row: &[String]) -> bool {
         return false;
     };
     match (answers_of(global, digits.as_str()), growths.parse::<u64>()) {
-        (Ok(answers), Ok(growths)) => {
+        (Some(answers), Ok(growths)) => {
             let wanted = (decision.as_str(), growths);
             decides_text(global, text.as_str(), answers.as_slice(), wanted)
         }

@@ -46,13 +46,8 @@ fn compares_widths<A: SmallAllocator>(heap: Heap<'_>, alloc: A) -> bool {
     is_made_and_ordered(&list, &same, &above)
 }
 
-// Returns whether the list contains the family with the name `name`: `unix`, `wasm` or `windows`.
-fn contains_named<A: SmallAllocator>(list: &Families<'_, A>, name: &str) -> bool {
-    let family: Family<'_> = match name {
-        "unix" => Family::unix(),
-        "wasm" => Family::wasm(),
-        _ => Family::windows(),
-    };
+// Returns whether the list contains the family.
+fn contains_family<A: SmallAllocator>(list: &Families<'_, A>, family: Family<'_>) -> bool {
     let is_member = list.contains(&family);
     drop(family);
     is_member
@@ -74,9 +69,9 @@ fn is_unix_wasm<A: SmallAllocator>(
         Ok(list) => {
             list.as_slice().len() == 2
                 && equals_copy_of_borrowed(alloc, list)
-                && contains_named(list, "unix")
-                && contains_named(list, "wasm")
-                && !contains_named(list, "windows")
+                && contains_family(list, Family::unix())
+                && contains_family(list, Family::wasm())
+                && !contains_family(list, Family::windows())
                 && prints(global, list, "{unix, wasm}")
         }
         Err(_) => false,

@@ -37,19 +37,27 @@ fn counts_reads() -> bool {
     first_wrong_read(&mut source).is_none()
 }
 
+/// A call on a sink.
+#[derive(Clone, Copy)]
+enum Call {
+    Write,
+    Flush,
+    WriteWhole,
+}
+
 /// A call, its bytes, the number of bytes that it takes if it succeeds, and the number of failed
 /// calls after it.
-type Step = (&'static str, &'static [u8], Option<usize>, u64);
+type Step = (Call, &'static [u8], Option<usize>, u64);
 
 // Returns the number of bytes that the call takes, if it succeeds.
-fn taken<S: io::Write>(sink: &mut Counted<S>, call: &str, bytes: &[u8]) -> Option<usize> {
+fn taken<S: io::Write>(sink: &mut Counted<S>, call: Call, bytes: &[u8]) -> Option<usize> {
     if sink.failures() == u64::MAX {
         return None;
     }
     let is_done = match call {
-        "write" => return Sink::write(sink, bytes).ok(),
-        "flush" => Sink::flush(sink).is_ok(),
-        _ => write_whole(sink, bytes),
+        Call::Write => return Sink::write(sink, bytes).ok(),
+        Call::Flush => Sink::flush(sink).is_ok(),
+        Call::WriteWhole => write_whole(sink, bytes),
     };
     if is_done { Some(bytes.len()) } else { None }
 }
@@ -57,7 +65,7 @@ fn taken<S: io::Write>(sink: &mut Counted<S>, call: &str, bytes: &[u8]) -> Optio
 // Returns the index of the first step with another result.
 fn first_wrong_step<S: io::Write>(sink: &mut Counted<S>, steps: &[Step]) -> Option<usize> {
     for (i, (call, bytes, wanted, failures)) in steps.iter().enumerate() {
-        if taken(sink, call, bytes) != *wanted || sink.failures() != *failures {
+        if taken(sink, *call, bytes) != *wanted || sink.failures() != *failures {
             return Some(i);
         }
     }
@@ -69,11 +77,11 @@ fn counts_writes() -> bool {
     let mut room = [0u8; 4];
     let mut sink = Counted::new(&mut room[..]);
     let steps: &[Step] = &[
-        ("write", b"abc", Some(3), 0),
-        ("write", b"", Some(0), 0),
-        ("write", b"de", Some(1), 0),
-        ("write", b"e", Some(0), 1),
-        ("flush", b"", Some(0), 1),
+        (Call::Write, b"abc", Some(3), 0),
+        (Call::Write, b"", Some(0), 0),
+        (Call::Write, b"de", Some(1), 0),
+        (Call::Write, b"e", Some(0), 1),
+        (Call::Flush, b"", Some(0), 1),
     ];
     first_wrong_step(&mut sink, steps).is_none()
 }
@@ -83,8 +91,8 @@ fn writes_whole() -> bool {
     let mut room = [0u8; 6];
     let mut sink = Counted::new(&mut room[..]);
     let steps: &[Step] = &[
-        ("whole", b"hello\n", Some(6), 0),
-        ("whole", b"more", None, 1),
+        (Call::WriteWhole, b"hello\n", Some(6), 0),
+        (Call::WriteWhole, b"more", None, 1),
     ];
     first_wrong_step(&mut sink, steps).is_none() && room == *b"hello\n"
 }
@@ -150,10 +158,10 @@ impl io::Write for FirstFail {
 fn counts_errors() -> bool {
     let mut sink = first_fail(u64::MAX, false);
     let steps: &[Step] = &[
-        ("write", b"a", None, 1),
-        ("flush", b"", None, 2),
-        ("whole", b"a", None, 3),
-        ("whole", b"", None, 4),
+        (Call::Write, b"a", None, 1),
+        (Call::Flush, b"", None, 2),
+        (Call::WriteWhole, b"a", None, 3),
+        (Call::WriteWhole, b"", None, 4),
     ];
     first_wrong_step(&mut sink, steps).is_none()
 }
@@ -161,8 +169,8 @@ fn counts_errors() -> bool {
 fn makes_failed_call_once() -> bool {
     let mut stream = first_fail(1, false);
     let mut bytes = [0u8; 4];
-    let failing: &[Step] = &[("write", b"ab", None, 2), ("flush", b"", None, 3)];
-    let going: &[Step] = &[("write", b"ab", Some(2), 3), ("flush", b"", Some(0), 3)];
+    let failing: &[Step] = &[(Call::Write, b"ab", None, 2), (Call::Flush, b"", None, 3)];
+    let going: &[Step] = &[(Call::Write, b"ab", Some(2), 3), (Call::Flush, b"", Some(0), 3)];
     read(&mut stream, &mut bytes) == (None, 1)
         && first_wrong_step(&mut stream, failing).is_none()
         && calls(&stream) == (1, 1, 1)
@@ -174,8 +182,8 @@ fn makes_failed_call_once() -> bool {
 fn makes_empty_write_once() -> bool {
     let mut sink = first_fail(1, true);
     let (failing, going): (&[Step], &[Step]) = (
-        &[("write", b"ab", Some(0), 1)],
-        &[("write", b"ab", Some(2), 1)],
+        &[(Call::Write, b"ab", Some(0), 1)],
+        &[(Call::Write, b"ab", Some(2), 1)],
     );
     first_wrong_step(&mut sink, failing).is_none()
         && calls(&sink) == (0, 1, 0)

@@ -16,7 +16,7 @@ fn apply(sink: &mut Recorder, setting: &str) -> Option<()> {
         "room" => sink.room = number,
         "failing" => sink.failing_write = number as u64,
         "empty" => sink.empty_write = number as u64,
-        "flush" => sink.is_flush_failing = true,
+        "flush" if number == 1 => sink.is_flush_failing = true,
         _ => return None,
     }
     Some(())

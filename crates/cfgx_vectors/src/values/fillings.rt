@@ -46,9 +46,11 @@ fn decided_text(
 
 // Returns the decision of `text` over the answers of `digits`, as rows write it.
 fn decision_of(alloc: Global, text: &str, digits: &str) -> Result<String, Failure> {
-    let answers = answers_of(alloc, digits)?;
     let expression = Expression::parse(alloc, text)?;
-    Ok(decided_text(alloc, &expression, answers.as_slice())?)
+    Ok(match answers_of(alloc, digits) {
+        Some(answers) => decided_text(alloc, &expression, answers.as_slice())?,
+        None => String::from_str(alloc, "a digit that is no answer, or out of memory")?,
+    })
 }
 
 /// Compares the decision of `Expression::decide` with that of a row. Every other call must agree.

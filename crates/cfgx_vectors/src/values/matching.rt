@@ -54,7 +54,7 @@ fn lanes_on(predicate: &Predicate<'_>, targets: Targets<'_>) -> Kleene64 {
 // Returns what `lanes_on` returns for `predicate`, and drops `predicate`.
 fn lanes_on_owned(predicate: Predicate<'_>, targets: Targets<'_>) -> Kleene64 {
     let lanes = lanes_on(&predicate, targets);
-    // `drop` is called explicitly; `docs/DECISIONS.md` says why, under "Tests".
+    // `drop` is called explicitly; `docs/PROVING.md` says why, under "Owned values".
     drop(predicate);
     lanes
 }
@@ -213,7 +213,7 @@ pub(super) fn finding_on_built_in(alloc: Global, text: &str, digits: &str) -> Fi
 fn rows_by_hand(alloc: Global) -> Result<Vec<TargetInfo<'static>>, AllocError> {
     let mut rows: Vec<TargetInfo<'static>> = Vec::new(alloc);
     let pushed = push_rows(alloc, &mut rows, BY_HAND);
-    // No `?` here: docs/DECISIONS.md says why, under "Tests".
+    // No `?` here: `docs/PROVING.md` says why, under "Owned values".
     pushed.and(Ok(rows))
 }
 
