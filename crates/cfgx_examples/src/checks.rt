@@ -57,14 +57,10 @@ fn each_wrong_table_is_told(rt: HostRuntime) {
         ("right", "a", 1),
         ("unnamed", "a", 1),
     ];
-    let found = check_tables(
-        alloc,
-        &tables,
-        |check, row| match check {
-            "unnamed" => None,
-            _ => Some(matches!(row, [field] if field.as_str() == "a")),
-        },
-    );
+    let found = check_tables(alloc, &tables, |check, row| match check {
+        "unnamed" => None,
+        _ => Some(matches!(row, [field] if field.as_str() == "a")),
+    });
     let wanted = "one: wrong: b\nfound: something else\n\
         other: wrong: c\nfound: something else\n\
         miscounted: 1 rows in place of 2\n\

@@ -126,7 +126,10 @@ pub fn value_is_right(alloc: Global, row: &[String]) -> bool {
     let [text, flags, value] = row else {
         return false;
     };
-    match (Expression::parse(alloc, text.as_str()), value.parse::<bool>()) {
+    match (
+        Expression::parse(alloc, text.as_str()),
+        value.parse::<bool>(),
+    ) {
         (Ok(expression), Ok(value)) => {
             eval_with_flags_of_row(alloc, &expression, flags.as_str()) == Some(value)
         }

@@ -160,9 +160,7 @@ fn pick_is_right<M: TargetMatcher>(
     let target = Counting::new(target);
     let name = String::new(alloc);
     let verdicts = pick(alloc, &[Section { name, condition }], &target)?;
-    Ok(
-        verdicts.as_slice() == [wanted.verdict].as_slice() && target.asked.get() == wanted.count,
-    )
+    Ok(verdicts.as_slice() == [wanted.verdict].as_slice() && target.asked.get() == wanted.count)
 }
 
 // Returns the verdict with the name `name`.

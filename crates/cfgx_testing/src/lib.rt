@@ -1,5 +1,5 @@
 //! What the tests of several crates share: an allocator that refuses on demand, streams in memory
-//! that fail on demand, tables of rows as text, faults as rows write them, values and fillings, and
+//! that fail on demand, a runtime that keeps what is printed, tables of rows as text, faults as rows write them, values and fillings, and
 //! rows of targets.
 //!
 //! Tests own predicates, rows and faults in small functions, and some call `drop` on them. "Owned
@@ -12,6 +12,7 @@ pub mod checking;
 pub mod faults;
 pub mod fillings;
 pub mod heap;
+pub mod printing;
 pub mod refusing;
 pub mod rows;
 pub mod streams;

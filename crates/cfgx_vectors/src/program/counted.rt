@@ -170,7 +170,10 @@ fn makes_failed_call_once() -> bool {
     let mut stream = first_fail(1, false);
     let mut bytes = [0u8; 4];
     let failing: &[Step] = &[(Call::Write, b"ab", None, 2), (Call::Flush, b"", None, 3)];
-    let going: &[Step] = &[(Call::Write, b"ab", Some(2), 3), (Call::Flush, b"", Some(0), 3)];
+    let going: &[Step] = &[
+        (Call::Write, b"ab", Some(2), 3),
+        (Call::Flush, b"", Some(0), 3),
+    ];
     read(&mut stream, &mut bytes) == (None, 1)
         && first_wrong_step(&mut stream, failing).is_none()
         && calls(&stream) == (1, 1, 1)
