@@ -3,6 +3,7 @@
 //! The check of a call returns `Ok(true)` if the call returned its usual result, `AllocError` if it
 //! was out of memory and left all else as it was, and `Ok(false)` in every other case. After each
 //! refused growth the call is made again with memory, and every block has to be freed.
+mod audits;
 mod calls;
 mod decisions;
 pub(crate) mod expressions;
@@ -103,6 +104,7 @@ const TABLES: &[TableToCheck<'_>] = &[
     ("each growth of each other call", calls::CALLS, 36),
     ("growths of decisions", decisions::DECISIONS, 8),
     ("growths of a reader", reading::READ, 10),
+    ("index of a refused growth", audits::AUDITED, 3),
 ];
 
 // Returns whether the row passes the check with this name, or `None` if there is no such check.
@@ -113,6 +115,7 @@ fn row_passes(global: Global, name: &str, row: &[String]) -> Option<bool> {
         "each growth of each other call" => Some(calls::row_passes(global, row)),
         "growths of decisions" => Some(decisions::row_passes(global, row)),
         "growths of a reader" => Some(reading::row_passes(global, row)),
+        "index of a refused growth" => Some(audits::row_passes(global, row)),
         _ => None,
     }
 }

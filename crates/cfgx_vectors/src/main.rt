@@ -7,6 +7,7 @@ mod program;
 mod reading;
 mod rules;
 mod rust_crate;
+mod sizes;
 mod tables;
 mod values;
 

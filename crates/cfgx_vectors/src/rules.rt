@@ -7,6 +7,7 @@ mod printing;
 mod spelling;
 mod stripping;
 mod tokens;
+mod typed;
 
 use cfgx_testing::faults::fault_of;
 use cfgx_testing::rows::{Finding, compare, compare_pair, fail, require};
@@ -88,9 +89,15 @@ fn finding_of_three(
 /// Returns the finding of the check `check` in `row`, or `None` if no check with this name takes as
 /// many fields as `row` has.
 pub(crate) fn finding(alloc: Global, check: &str, row: &[String]) -> Option<Finding> {
-    if check == "items" {
-        return Some(tokens::finding(alloc, row));
+    match check {
+        "items" => Some(tokens::finding(alloc, row)),
+        "typed predicates" => Some(typed::finding(alloc, row)),
+        _ => finding_by_number(alloc, check, row),
     }
+}
+
+// Returns the finding of the check `check` in `row`, by the number of its fields.
+fn finding_by_number(alloc: Global, check: &str, row: &[String]) -> Option<Finding> {
     match row {
         [name] => finding_of_one(alloc, check, name.as_str()),
         [one, other] => finding_of_two(alloc, check, one.as_str(), other.as_str()),

@@ -2,6 +2,7 @@
 //! columns. A last column such as `word ..` stands for any number of fields.
 use crate::finding;
 use crate::reading::first_misread_line;
+use crate::sizes::{COUNT, row_of_size, size_at};
 use cfgx_testing::rows::{Finding, fail, fields_of, rows_of, wrong_rows};
 use std::alloc::{AllocError, Global};
 
@@ -34,20 +35,62 @@ fn has_columns(fields: usize, columns: &str) -> bool {
     fields == names || (columns.ends_with(" ..") && fields.saturating_add(1) >= names)
 }
 
-// Returns the finding of the check of the table in the fields of a row.
-fn finding_of_fields(alloc: Global, table: &Table<'_>, fields: &[String]) -> Finding {
+// Returns the finding of `check` in the fields of a row of the table.
+fn finding_of_fields(alloc: Global, table: &Table<'_>, check: &str, fields: &[String]) -> Finding {
     if has_columns(fields.len(), table.columns) {
-        finding(alloc, table.check, fields)
+        finding(alloc, check, fields)
     } else {
         fail(alloc, "another number of fields than columns")
     }
 }
 
+// Returns the finding of `check` in a row of the table.
+fn finding_of_check(alloc: Global, table: &Table<'_>, check: &str, row: &str) -> Finding {
+    match fields_of(alloc, row) {
+        Some(fields) => finding_of_fields(alloc, table, check, fields.as_slice()),
+        None => fail(alloc, "a field without a meaning, or out of memory"),
+    }
+}
+
+// Returns the finding of `check` in a row of the table, with `size` for each `$`.
+fn finding_at_size(
+    alloc: Global,
+    table: &Table<'_>,
+    check: &str,
+    row: &str,
+    size: usize,
+) -> Finding {
+    match row_of_size(alloc, row, size) {
+        Ok(row) => finding_of_check(alloc, table, check, row.as_str()),
+        Err(_) => fail(alloc, "out of memory"),
+    }
+}
+
+// Returns `found` with the size at which it was found, or `found` alone if memory runs out.
+fn with_size(alloc: Global, found: String, size: usize) -> String {
+    match format!(in alloc; "at size {size}: {found}") {
+        Ok(text) => text,
+        Err(_) => found,
+    }
+}
+
+// Returns the first finding of `check` in a row of the table, with each size for each `$`.
+fn finding_at_each_size(alloc: Global, table: &Table<'_>, check: &str, row: &str) -> Finding {
+    for index in 0..COUNT {
+        let size = size_at(index).unwrap_or(0);
+        if let Err(found) = finding_at_size(alloc, table, check, row, size) {
+            return Err(with_size(alloc, found, size));
+        }
+    }
+    Ok(())
+}
+
 // Returns the finding of the check of the table in a row.
 fn finding_of_row(alloc: Global, table: &Table<'_>, row: &str) -> Finding {
-    match fields_of(alloc, row) {
-        Some(fields) => finding_of_fields(alloc, table, fields.as_slice()),
-        None => fail(alloc, "a field without a meaning, or out of memory"),
+    match table.check.strip_prefix("each size of ") {
+        Some(check) if row.contains('$') => finding_at_each_size(alloc, table, check, row),
+        Some(_) => fail(alloc, "a row without a size"),
+        None => finding_of_check(alloc, table, table.check, row),
     }
 }
 

@@ -1,11 +1,12 @@
 //! What lists of families and of widths, single widths, and fields print.
-use cfg_expr::targets::{
-    Abi, Arch, Env, Families, Family, HasAtomic, HasAtomicFailure, HasAtomics, Os, Panic, Triple,
-    Vendor,
+use cfg_expr::targets::{Families, Family, HasAtomic, HasAtomicFailure, HasAtomics, TargetInfo};
+use cfgx_fields::{
+    AbiKind, ArchKind, EnvKind, FamilyKind, Field, OsKind, PanicKind, TripleKind, VendorKind,
 };
-use cfgx_testing::rows::{Finding, compare};
+use cfgx_testing::checking::{assign_ok, is_ok_true, value_equals};
+use cfgx_testing::rows::{Finding, compare, require};
+use cfgx_testing::targets::bare;
 use std::alloc::{AllocError, Global};
-use std::fmt::Display;
 
 fn families_of<'a>(alloc: Global, names: &'a str) -> Result<Vec<Family<'a>>, AllocError> {
     let mut families = Vec::new(alloc);
@@ -15,10 +16,14 @@ fn families_of<'a>(alloc: Global, names: &'a str) -> Result<Vec<Family<'a>>, All
     Ok(families)
 }
 
+fn list_of_families<'a>(alloc: Global, names: &'a str) -> Result<Families<'a>, AllocError> {
+    let families = families_of(alloc, names)?;
+    Families::new(alloc, families.into_iter())
+}
+
 /// Returns what the list of the families with `names` prints.
 pub(super) fn families_text(alloc: Global, names: &str) -> Result<String, AllocError> {
-    let families = families_of(alloc, names)?;
-    let list = Families::new(alloc, families.into_iter())?;
+    let list = list_of_families(alloc, names)?;
     format!(in alloc; "{list}")
 }
 
@@ -35,10 +40,14 @@ fn widths_of(alloc: Global, texts: &str) -> Result<Vec<HasAtomic>, AllocError> {
     Ok(widths)
 }
 
+fn list_of_widths(alloc: Global, texts: &str) -> Result<HasAtomics, AllocError> {
+    let widths = widths_of(alloc, texts)?;
+    HasAtomics::new(alloc, widths.into_iter())
+}
+
 /// Returns what the list of the widths of `texts` prints.
 pub(super) fn widths_text(alloc: Global, texts: &str) -> Result<String, AllocError> {
-    let widths = widths_of(alloc, texts)?;
-    let list = HasAtomics::new(alloc, widths.into_iter())?;
+    let list = list_of_widths(alloc, texts)?;
     format!(in alloc; "{list}")
 }
 
@@ -51,37 +60,45 @@ pub(super) fn width_text(alloc: Global, text: &str) -> Result<String, AllocError
     }
 }
 
-// Returns what the field prints.
-fn printed<T: Display + Drop>(alloc: Global, field: T) -> Result<String, AllocError> {
-    let text = format!(in alloc; "{field}");
-    drop(field);
-    text
+// Returns what a field of the kind `K` that owns its text prints, if it equals its copy and a field
+// that borrows the text.
+fn printed_field<K: Drop>(alloc: Global, text: &str) -> Result<String, AllocError> {
+    let owned: Field<'_, K> = Field::new(String::from_str(alloc, text)?);
+    let copy = owned.try_clone(alloc)?;
+    if owned != Field::new_const(text) || owned != copy {
+        return String::from_str(alloc, "another copy");
+    }
+    format!(in alloc; "{copy}")
 }
 
 /// Compares what a field of each type prints with its text.
 pub(super) fn finding_of_field(alloc: Global, text: &str) -> Finding {
-    compare(
-        alloc,
-        printed(alloc, Triple::<Global>::new_const(text)),
-        text,
-    )?;
-    compare(alloc, printed(alloc, Abi::<Global>::new_const(text)), text)?;
-    compare(alloc, printed(alloc, Arch::<Global>::new_const(text)), text)?;
-    compare(
-        alloc,
-        printed(alloc, Vendor::<Global>::new_const(text)),
-        text,
-    )?;
-    compare(alloc, printed(alloc, Os::<Global>::new_const(text)), text)?;
-    compare(
-        alloc,
-        printed(alloc, Family::<Global>::new_const(text)),
-        text,
-    )?;
-    compare(alloc, printed(alloc, Env::<Global>::new_const(text)), text)?;
-    compare(
-        alloc,
-        printed(alloc, Panic::<Global>::new_const(text)),
-        text,
-    )
+    compare(alloc, printed_field::<TripleKind>(alloc, text), text)?;
+    compare(alloc, printed_field::<AbiKind>(alloc, text), text)?;
+    compare(alloc, printed_field::<ArchKind>(alloc, text), text)?;
+    compare(alloc, printed_field::<VendorKind>(alloc, text), text)?;
+    compare(alloc, printed_field::<OsKind>(alloc, text), text)?;
+    compare(alloc, printed_field::<FamilyKind>(alloc, text), text)?;
+    compare(alloc, printed_field::<EnvKind>(alloc, text), text)?;
+    compare(alloc, printed_field::<PanicKind>(alloc, text), text)
+}
+
+// Gives the row these lists. Returns whether the row then equals its copy.
+fn equals_copy<'a>(
+    alloc: Global,
+    row: &mut TargetInfo<'a>,
+    families: &'a str,
+    widths: &str,
+) -> Result<bool, AllocError> {
+    assign_ok(&mut row.families, list_of_families(alloc, families))?;
+    assign_ok(&mut row.has_atomics, list_of_widths(alloc, widths))?;
+    value_equals(row.try_clone(alloc), row)
+}
+
+/// Checks that a row with these families and widths equals its copy.
+pub(super) fn finding_of_row(alloc: Global, families: &str, widths: &str) -> Finding {
+    let mut row = bare("bare");
+    let is_right = is_ok_true(equals_copy(alloc, &mut row, families, widths));
+    drop(row);
+    require(alloc, is_right, "another copy, no width, or out of memory")
 }
