@@ -19,7 +19,7 @@ const TABLES: &[TableToCheck<'static>] = &[
     ("examples", ANSWERS, 55),
     ("verdicts on many targets", AUDITED, 6),
     ("values by facts", AUDITED_BY_FACTS, 9),
-    ("values with flags", BY_FLAGS, 5),
+    ("values with flags", BY_FLAGS, 6),
     ("terms and questions", TERMS, 12),
     ("values in logics without laws", JOINED, 14),
     ("steps and their values", STEPS, 9),

@@ -64,12 +64,13 @@ all(a, not(test)) | test | false
 any(a, b) | c b | true
 any(a, feature = "b") | b feature | false
 all(a, b) | a | false
+all(a, b, c) | c a b | true
 "#;
 
-// Returns the value of `expression` if the names in `flags`, at most two, are true.
+// Returns the value of `expression` if the names in `flags` are true. Spaces separate the names.
 fn eval_with_flags_of_row(alloc: Global, expression: &Expression, flags: &str) -> Option<bool> {
-    let (one, other) = flags.split_once(' ').unwrap_or((flags, ""));
-    eval_with_flags(alloc, expression, &[one, other]).ok()
+    let flags: Vec<&str> = flags.split(' ').collect(alloc).ok()?;
+    eval_with_flags(alloc, expression, flags.as_slice()).ok()
 }
 
 /// A row is a text, the number of its questions, and two terms. The first term has the names of the

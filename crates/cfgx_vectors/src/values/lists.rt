@@ -1,4 +1,5 @@
 //! What lists of families and of widths, single widths, and fields print.
+use cfg_expr::error::HasAtomicParseError;
 use cfg_expr::targets::{Families, Family, HasAtomic, HasAtomicFailure, HasAtomics, TargetInfo};
 use cfgx_fields::{
     AbiKind, ArchKind, EnvKind, FamilyKind, Field, OsKind, PanicKind, TripleKind, VendorKind,
@@ -51,11 +52,20 @@ pub(super) fn widths_text(alloc: Global, texts: &str) -> Result<String, AllocErr
     format!(in alloc; "{list}")
 }
 
+// Returns what the fault prints, if it equals its copy.
+fn fault_text(alloc: Global, error: &HasAtomicParseError) -> Result<String, AllocError> {
+    let copy = error.try_clone(alloc)?;
+    if copy != *error {
+        return String::from_str(alloc, "another copy");
+    }
+    format!(in alloc; "{error}")
+}
+
 /// Returns what the width of `text` prints, or the fault of a text that is no width.
 pub(super) fn width_text(alloc: Global, text: &str) -> Result<String, AllocError> {
     match HasAtomic::read(alloc, text) {
         Ok(width) => format!(in alloc; "{width}"),
-        Err(HasAtomicFailure::Parse(error)) => format!(in alloc; "{error}"),
+        Err(HasAtomicFailure::Parse(error)) => fault_text(alloc, &error),
         Err(HasAtomicFailure::Memory(error)) => Err(error),
     }
 }
