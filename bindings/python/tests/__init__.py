@@ -2,11 +2,13 @@
 `crates/cfgx_c/install out/cfgx` leaves in the repository, or else link the archive that `rt lib`
 leaves in crates/cfgx_c."""
 import atexit
+import functools
 import os
 import shutil
 import subprocess
 import sys
 import tempfile
+import unittest
 
 HERE = os.path.dirname(os.path.abspath(__file__))
 PACKAGE = os.path.join(HERE, "..", "src")
@@ -26,6 +28,32 @@ def linked() -> str:
     whole = ["-Wl,--whole-archive", ARCHIVE, kit, "-Wl,--no-whole-archive"]
     subprocess.run(["cc", "-shared", "-o", path, *whole], check=True)
     return path
+
+
+@functools.lru_cache(maxsize=None)
+def is_there(name):
+    """Whether something that tests need is there: a file by its path, or a tool by its name."""
+    if name.startswith("/"):
+        return os.path.exists(name)
+    if name == "Python 3.11":
+        return sys.version_info >= (3, 11)
+    if name not in ("cargo", "rustc"):
+        raise ValueError(name)
+    # A tool that rustup stands in for may lack its toolchain.
+    pipe = subprocess.PIPE
+    return shutil.which(name) is not None and subprocess.run(
+        [name, "--version"], stdout=pipe, stderr=pipe, check=False
+    ).returncode == 0
+
+
+def needs(*names, untested):
+    """Returns what skips a test if something that it needs is missing, and prints what is missing
+    and what is therefore not tested, in a line that begins with `skipped: `."""
+    missing = [name for name in names if not is_there(name)]
+    reason = f"there is no {' and no '.join(missing)} here, so this was not tested: {untested}"
+    if missing:
+        print(f"skipped: {reason}", file=sys.stderr, flush=True)
+    return unittest.skipIf(missing, reason)
 
 
 if "CFGX_LIBRARY" not in os.environ:

@@ -7,8 +7,11 @@ from . import ROOT
 
 DATA = os.path.join(ROOT, "crates", "cfgx_vectors", "data")
 ESCAPES = {"n": "\n", "t": "\t", "r": "\r", "0": "\0", "\\": "\\", "e": ""}
+HEAD = re.compile(r"\[(.*): (\d+) rows?\]$")
+# The name of the check of a table, and the fields of its rows.
+Table = Tuple[str, List[List[str]]]
 # The place of the condition among the words of a command. `pick` has none there.
-PLACES = {"parse": 1, "eval": 1, "target": 2}
+PLACES = {"parse": 1, "eval": 1, "target": 2, "pick": None}
 
 
 def lines_of(name: str) -> List[str]:
@@ -25,18 +28,38 @@ def unescaped(field: str) -> str:
     return re.sub(r"\\(.)", lambda escape: ESCAPES[escape[1]], field)
 
 
-def rows_of(*checks: str) -> Iterator[List[str]]:
-    """Yields the fields of the rows with these checks."""
+def rows_below(lines: List[str], head: int) -> Iterator[List[str]]:
+    """Yields the fields of the rows of the table whose head is the line at a place. Its columns
+    stand in the next line."""
+    for line in lines[head + 2:]:
+        if HEAD.match(line):
+            return
+        if line and not line.startswith("# "):
+            yield line.split(" | ")
+
+
+def tables_in(lines: List[str]) -> List[Table]:
+    """Returns the tables of a file. Fails at a table that has other rows than its head counts."""
+    heads = [(place, HEAD.match(line)) for place, line in enumerate(lines)]
+    tables = [(head, list(rows_below(lines, place))) for place, head in heads if head]
+    wrong = [(head[0], len(rows)) for head, rows in tables if len(rows) != int(head[2])]
+    assert not wrong, f"these tables have other numbers of rows: {wrong}"
+    return [(head[1], rows) for head, rows in tables]
+
+
+def tables() -> Iterator[Table]:
+    """Yields the tables of all files."""
     for name in sorted(os.listdir(DATA)):
-        check = None
-        lines = iter(lines_of(name) if name.endswith(".txt") else ())
-        for line in lines:
-            head = re.match(r"\[(.*): \d+ rows?\]$", line)
-            if head:
-                check = head[1]
-                next(lines)
-            elif check in checks and line and not line.startswith("# "):
-                yield line.split(" | ")
+        if name.endswith(".txt"):
+            yield from tables_in(lines_of(name))
+
+
+def rows_of(*checks: str) -> List[List[str]]:
+    """Returns the fields of the rows with these checks. Fails if one of them has no row."""
+    found = [(check, row) for check, rows in tables() if check in checks for row in rows]
+    missing = set(checks) - {check for check, _ in found}
+    assert checks and not missing, f"no row has the check {missing}"
+    return [row for _, row in found]
 
 
 def rust_crate() -> Iterator[Tuple[str, int, str]]:
@@ -49,10 +72,9 @@ def rust_crate() -> Iterator[Tuple[str, int, str]]:
 
 def conditions_of_runs() -> List[str]:
     """Returns the condition of each run that accepts it."""
-    texts = [
-        unescaped(words[PLACES[words[0]]])
-        for status, _, *words in rows_of("run") if status == "0" and words[0] in PLACES
-    ]
+    accepted = [words for status, _, *words in rows_of("run") if int(status) == 0]
+    places = [(words, PLACES[words[0]]) for words in accepted]
+    texts = [unescaped(words[place]) for words, place in places if place is not None]
     # At a wrong place stand the names of commands or triples, of which there are few.
     assert len(texts) >= 79 and len(set(texts)) >= 50, texts
     assert not any(text in PLACES for text in texts), texts

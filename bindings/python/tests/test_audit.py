@@ -1,10 +1,9 @@
 """Values of conditions on targets."""
 import pickle
-import shutil
 import unittest
 import unittest.mock
 
-from . import PACKAGE  # noqa: F401
+from . import needs
 
 import cfgx
 from cfgx import _audit
@@ -41,6 +40,16 @@ class Audits(unittest.TestCase):
         self.assertEqual(_audit.lines_of(facts), lines)
         self.assertEqual(cfgx.audit(lines, [facts]), [[True], [True]])
 
+    def test_ends_of_lines(self):
+        rows = [
+            ("", []), ("\n", []), ("\r\n", []), ("\r", []), ("a", ["a"]), ("a\n\nb", ["a", "b"]),
+            ("a\r\n", ["a"]), ("a\r\r\n", ["a\r"]), ("\r\r", ["\r"]), ("a\rb", ["a\rb"]),
+            (" \n", [" "]), ("\t\r\n\u3000", ["\t", "\u3000"]), (" a \n", [" a "]),
+        ]
+        for text, lines in rows:
+            with self.subTest(text=text):
+                self.assertEqual(_audit.lines_of(text), lines)
+
     def test_facts_with_zero_bytes_line_feeds_and_characters(self):
         facts = ['a = "\0"', 'a = "x\ny"', '?a = "日本𝄞"']
         conditions = ['a = "\0"', 'a = "\0\0"', 'a = "x\ny"', 'a = "日本𝄞"', "a"]
@@ -62,18 +71,23 @@ class Audits(unittest.TestCase):
             ([["unix"], ["windows", "a", "b)", "a)"]], (1, 2, "b)")),
             ([["unix"], ["b)"], []], (1, 0, "b)")),
             (["unix\n\nx y\n"], (0, 1, "x y")),
+            (["unix\n \n"], (0, 1, " ")), ([[""]], (0, 0, "")), (["a\nx y\r\r\n"], (0, 1, "x y\r")),
         ]
         for targets, wanted in rows:
             with self.subTest(targets=targets), self.assertRaises(cfgx.FactError) as caught:
                 cfgx.audit(["unix"], targets)
             error = pickle.loads(pickle.dumps(caught.exception))
             self.assertEqual((error.target, error.number, error.fact), wanted)
+            self.assertEqual(vars(cfgx.FactError(*error.args)), vars(error))
             number, target, fact = wanted[1], wanted[0], wanted[2]
             self.assertEqual(str(error), f"fact {number} of target {target} is faulty: {fact}")
 
     def test_other_arguments(self):
         with self.assertRaises(ValueError):
             cfgx.audit(["unix"], [LINUX], otherwise=True)
+        for otherwise in (0, 1, 0.0, 1.0, "", "false", b"", [], ()):
+            with self.subTest(otherwise=otherwise), self.assertRaises(TypeError):
+                cfgx.audit(["unix"], [LINUX], otherwise=otherwise)
         rows = [
             ([b"unix"], []), ([1], []), ([], [[b"unix"]]), ([], [b"unix"]), ([], [None]),
             ("unix", []), (cfgx.parse("unix"), []), ([], LINUX),
@@ -83,7 +97,7 @@ class Audits(unittest.TestCase):
                 cfgx.audit(conditions, targets)
 
 
-@unittest.skipUnless(shutil.which("rustc"), "there is no rustc on this machine")
+@needs("rustc", untested="the facts of a real rustc")
 class Rustc(unittest.TestCase):
     """What the `rustc` on the path says."""
 

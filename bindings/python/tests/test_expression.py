@@ -2,6 +2,8 @@
 import collections
 import copy
 import dataclasses
+import decimal
+import itertools
 import pickle
 import unittest
 
@@ -22,6 +24,13 @@ def error_of(text):
     except cfgx.ParseError as error:
         return error
     raise AssertionError(f"{text!r} is a condition")
+
+
+class Asked(dict):
+    """A mapping that can be called."""
+
+    def __call__(self, predicate):
+        raise AssertionError("it was called")
 
 
 class Predicates(unittest.TestCase):
@@ -114,9 +123,19 @@ class Expressions(unittest.TestCase):
 
     def test_copies(self):
         expression = cfgx.parse('cfg(any(test, a = "é"))')
-        for other in (pickle.loads(pickle.dumps(expression)), copy.deepcopy(expression)):
+        for protocol in range(pickle.HIGHEST_PROTOCOL + 1):
+            other = pickle.loads(pickle.dumps(expression, protocol))
+            self.assertEqual(other.text, expression.text)
+        for other in (other, copy.copy(expression), copy.deepcopy(expression)):
             self.assertEqual(other.predicates, expression.predicates)
+            self.assertEqual(other.text, expression.text)
             self.assertIs(other.eval([None, True]), True)
+
+    def test_a_copy_is_parsed(self):
+        kept = pickle.dumps(cfgx.parse("unix"))
+        self.assertEqual(pickle.loads(kept.replace(b"unix", b"loom")).predicates[0].key, "loom")
+        with self.assertRaises(cfgx.ParseError):
+            pickle.loads(kept.replace(b"unix", b"all("))
 
     def test_a_callable_is_asked_in_order(self):
         asked = []
@@ -130,6 +149,8 @@ class Expressions(unittest.TestCase):
         forms = [
             known, known.get, collections.OrderedDict(known), [False, True, None],
             (False, True, None), iter([False, True, None]), collections.ChainMap({}, known),
+            Asked(known), collections.defaultdict(int, known),
+            {**known, Predicate(Kind.FEATURE, "featre", "x"): True},
         ]
         for answers in forms:
             with self.subTest(answers=answers):
@@ -150,9 +171,20 @@ class Expressions(unittest.TestCase):
 
     def test_other_answers(self):
         expression = cfgx.parse("all(a, b)")
-        for answers in ["01", [True, "false"], [[], 1], lambda predicate: 2, b"\0\2"]:
-            with self.subTest(answers=answers), self.assertRaises(TypeError):
-                expression.eval(answers)
+        a, b = expression.predicates
+        rows = [
+            "01", [True, "false"], [[], 1], lambda predicate: 2, b"\0\2", b"\0\1", range(2), [0, 1],
+            [True, 1], [False, 0], [0.0, 1.0], [True, 1.0], [1 + 0j, True], [decimal.Decimal(1), None],
+            lambda predicate: 0, lambda predicate: 1, {a: 1}, {a: True, b: 0}, [NotImplemented] * 2,
+        ]
+        for answers, call in itertools.product(rows, (expression.eval, expression.decide)):
+            with self.subTest(answers=answers), self.assertRaises(TypeError) as caught:
+                call(answers)
+            message = "^an answer is True, False or None, and not "
+            self.assertRegex(str(caught.exception), message)
+
+    def test_lists_of_other_lengths(self):
+        expression = cfgx.parse("all(a, b)")
         for answers in [[], [True], [True] * 3]:
             for call in (expression.eval, expression.decide):
                 with self.subTest(answers=answers), self.assertRaises(ValueError) as caught:
@@ -219,3 +251,8 @@ class ParseErrors(unittest.TestCase):
         error = pickle.loads(pickle.dumps(error_of('all(a = "é", 8)')))
         self.assertEqual(vars(error), vars(error_of('all(a = "é", 8)')))
         self.assertEqual(str(error), error.message)
+
+    def test_they_are_made_of_their_arguments(self):
+        for text in ("all(a, 8)", "not(a, b)", "all("):
+            error = error_of(text)
+            self.assertEqual(vars(cfgx.ParseError(*error.args)), vars(error))

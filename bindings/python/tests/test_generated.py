@@ -43,6 +43,19 @@ class Generated(unittest.TestCase):
                 with self.subTest(text=text):
                     self.compare(source, text)
 
+    def test_literals_at_each_depth(self):
+        source = random.Random(3)
+        for depth in range(131):
+            text = "any(a, " * depth + "all(b, true, false, c)" + ", false, d)" * depth
+            with self.subTest(depth=depth):
+                self.compare(source, text)
+
+    def test_lists_of_each_length(self):
+        source = random.Random(4)
+        for length in range(131):
+            with self.subTest(length=length):
+                self.compare(source, f"any({'true, a, ' * length}{'unix,' * length})")
+
     def compare(self, source, text):
         """Compares the predicates, their spans and the values over answers at random."""
         expression, other = cfgx.parse(text), Condition(text.encode())

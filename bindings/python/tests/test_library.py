@@ -9,11 +9,12 @@ import tempfile
 import unittest
 import unittest.mock
 
-from . import PACKAGE, ROOT
+from . import HERE, PACKAGE, ROOT, needs
 
 import cfgx
 from cfgx import _error, _library
 
+PROJECT = os.path.join(HERE, "..", "pyproject.toml")
 HEADER = os.path.join(ROOT, "crates", "cfgx_c", "include", "cfgx.h")
 # Parses a text of 2.5 MB, and evaluates it with as much memory as is there and a little more.
 WITH_LITTLE_MEMORY = """
@@ -42,13 +43,28 @@ def numbers_of(prefix):
     return {name: int(number) for name, number in macros}
 
 
-def python(program, folder=PACKAGE, **variables):
+def declared(kind):
+    """Returns the type of `ctypes` for a parameter of the header. What a call only reads is passed
+    as `bytes`."""
+    scalars = {"size_t": ctypes.c_size_t, "uint8_t": ctypes.c_uint8, "uint32_t": ctypes.c_uint32}
+    pointers = {
+        "const char *": ctypes.c_char_p, "const uint8_t *": ctypes.c_char_p,
+        "const size_t *": _library.SIZES, "size_t *": _library.SIZES,
+        "char *": _library.BYTES, "uint8_t *": _library.BYTES,
+        "struct cfgx_fault *": ctypes.POINTER(_library.Fault),
+        "struct cfgx_predicate *": ctypes.POINTER(_library.Described),
+    }
+    return {**scalars, **pointers}[kind]
+
+
+def python(program, folder=PACKAGE, cwd=None, **variables):
     """Returns the run of a program in a Python of its own, in which the package is looked for in a
     folder."""
     kept = {name: os.environ[name] for name in ("PATH", "LD_LIBRARY_PATH") if name in os.environ}
     variables = {**kept, "PYTHONPATH": folder, "PYTHONDONTWRITEBYTECODE": "1", **variables}
     pipe = subprocess.PIPE
-    return subprocess.run([sys.executable, "-c", program], env=variables, stdout=pipe, stderr=pipe)
+    command = [sys.executable, "-c", program]
+    return subprocess.run(command, env=variables, cwd=cwd, stdout=pipe, stderr=pipe)
 
 
 class Header(unittest.TestCase):
@@ -79,11 +95,14 @@ class Header(unittest.TestCase):
             found = [(types[kind], field) for field, kind in struct._fields_]
             self.assertEqual(found, fields)
 
-    def test_numbers_of_arguments(self):
+    def test_arguments(self):
         for name, arguments in _library.ARGUMENTS.items():
-            declared = re.search(rf"^uint32_t {name}\((.*?)\);$", header(), re.M | re.S)[1]
-            count = 0 if declared == "void" else declared.count(",") + 1
-            self.assertEqual(len(arguments), count, name)
+            text = re.search(rf"^uint32_t {name}\((.*?)\);$", header(), re.M | re.S)[1]
+            parameters = [] if text == "void" else text.split(",")
+            kinds = [re.match(r"\s*(.*?)\w+$", one)[1].strip() for one in parameters]
+            self.assertEqual(list(arguments), list(map(declared, kinds)), name)
+            call = getattr(_library.LIBRARY, name)
+            self.assertEqual((call.argtypes, call.restype), (arguments, ctypes.c_uint32))
 
     def test_lists_of_terms(self):
         with open(os.path.join(ROOT, "docs", "RULES.md"), encoding="utf-8") as page:
@@ -113,6 +132,24 @@ class Finding(unittest.TestCase):
         for path in (sys.executable, __file__):
             run = python("import cfgx", CFGX_LIBRARY=path)
             self.assertIn(b"ImportError: cfgx cannot load", run.stderr)
+
+    def test_a_library_without_the_calls(self):
+        fewer = unittest.mock.Mock(spec=["cfgx_version", "cfgx_check"])
+        for library in (object(), fewer):
+            with unittest.mock.patch("ctypes.CDLL", return_value=library), \
+                    self.subTest(library=library), self.assertRaises(ImportError) as caught:
+                _library.load("some.so")
+            self.assertRegex(str(caught.exception), r"^cfgx cannot load some.so \(.*\): install")
+            self.assertEqual(caught.exception.name, "cfgx")
+
+    def test_a_library_by_a_relative_path(self):
+        with tempfile.TemporaryDirectory() as folder:
+            shutil.copy(_library.path_of(), os.path.join(folder, "some.so"))
+            for name in ("some.so", "./some.so"):
+                program = "import cfgx; print(cfgx._library.path_of())"
+                run = python(program, os.path.abspath(PACKAGE), folder, CFGX_LIBRARY=name)
+                wanted = os.path.join(os.path.realpath(folder), "some.so")
+                self.assertEqual(run.stdout.decode(), f"{wanted}\n", run.stderr)
 
     def test_a_library_beside_the_package(self):
         with tempfile.TemporaryDirectory() as folder:
@@ -149,10 +186,23 @@ class Versions(unittest.TestCase):
             self.assertEqual(str(caught.exception), f"{wanted} version {name}")
 
 
+class Refusing:
+    """The library, but for one call, which returns this status alone."""
+
+    def __init__(self, name, status):
+        self.name, self.status = name, status
+
+    def __getattr__(self, name):
+        call = getattr(Refusing.LIBRARY, name)
+        return (lambda *arguments: self.status) if name == self.name else call
+
+    LIBRARY = _library.LIBRARY
+
+
 class Memory(unittest.TestCase):
     """What happens without memory."""
 
-    @unittest.skipUnless(os.path.exists("/proc/self/statm"), "this machine tells no size")
+    @needs("/proc/self/statm", untested="calls with little memory")
     def test_memory_that_is_refused(self):
         run = python(WITH_LITTLE_MEMORY, CFGX_LIBRARY=_library.path_of())
         self.assertEqual(run.stdout.decode(), "cfgx got no memory\n" * 2, run.stderr)
@@ -161,5 +211,73 @@ class Memory(unittest.TestCase):
         for status in (3, 8):
             with self.assertRaises(MemoryError):
                 _library.expect_done(status)
-        with self.assertRaises(AssertionError):
-            _library.expect_done(4)
+        for status in (1, 2, 4, 5, 6, 7, 9, 10):
+            with self.subTest(status=status), self.assertRaises(AssertionError):
+                _library.expect_done(status)
+
+    def test_each_call(self):
+        expression = cfgx.parse("all(a, b)")
+        rows = [
+            ("cfgx_predicates", lambda: cfgx.parse("a")),
+            ("cfgx_check", lambda: cfgx.parse("all(")),
+            ("cfgx_explain", lambda: cfgx.parse("all(")),
+            ("cfgx_value", lambda: expression.eval([True, None])),
+            ("cfgx_decide", lambda: expression.decide([True, None])),
+            ("cfgx_audit", lambda: cfgx.audit(["a"], [["b"]])),
+            ("cfgx_check", lambda: cfgx.audit(["all("], [["b"]])),
+            ("cfgx_explain", lambda: cfgx.audit(["all("], [["b"]])),
+        ]
+        # The version takes no memory.
+        self.assertEqual({name for name, _ in rows}, {*_library.ARGUMENTS} - {"cfgx_version"})
+        for name, call in rows:
+            with unittest.mock.patch.object(_library, "LIBRARY", Refusing(name, 3)), \
+                    self.subTest(name=name), self.assertRaises(MemoryError) as caught:
+                call()
+            self.assertEqual(str(caught.exception), "cfgx got no memory")
+
+    def test_a_table_that_is_too_large(self):
+        with unittest.mock.patch.object(_library, "LIBRARY", Refusing("cfgx_audit", 8)), \
+                self.assertRaises(MemoryError):
+            cfgx.audit(["a"], [["b"]])
+
+
+class Project(unittest.TestCase):
+    """What pip is told of the package, and what it exports."""
+
+    def fields(self, name):
+        """Returns what stands in quotes in a line of the project."""
+        with open(PROJECT, encoding="utf-8") as file:
+            line, = re.findall(rf"^{name} = (.*)$", file.read(), re.MULTILINE)
+        return re.findall(r'"(.*?)"', line)
+
+    def test_its_version_is_that_of_the_calls(self):
+        numbers = numbers_of("VERSION")
+        version = ".".join(str(numbers[part]) for part in ("LANGUAGE", "MAJOR", "MINOR"))
+        self.assertEqual(self.fields("version"), [version])
+
+    def test_its_files(self):
+        numbers = numbers_of("VERSION")
+        self.assertEqual(_library.NAME, f"libcfgx.so.{numbers['LANGUAGE']}.{numbers['MAJOR']}")
+        self.assertEqual(self.fields("cfgx"), ["py.typed", _library.NAME])
+        self.assertTrue(os.path.exists(os.path.join(PACKAGE, "cfgx", "py.typed")))
+
+    def test_the_python_that_it_needs(self):
+        least, = self.fields("requires-python")
+        with open(os.path.join(ROOT, "docs", "PYTHON.md"), encoding="utf-8") as page:
+            version, = re.findall(r"\bPython (\S+) or later, and calls", page.read())
+        self.assertEqual(least, f">={version}")
+        with open(os.path.join(HERE, "..", "README.md"), encoding="utf-8") as page:
+            self.assertIn(f"needs Python {version},", page.read())
+
+    def test_exported_names(self):
+        public = {
+            name for name, found in vars(cfgx).items()
+            if not name.startswith("_") and not isinstance(found, type(cfgx))
+        }
+        self.assertEqual(set(cfgx.__all__), public)
+        self.assertEqual(len(cfgx.__all__), len(public))
+        exported = {}
+        exec("from cfgx import *", exported)
+        self.assertEqual({name: exported[name] for name in public},
+                         {name: getattr(cfgx, name) for name in public})
+        self.assertEqual({getattr(cfgx, name).__module__ for name in public}, {"cfgx"})

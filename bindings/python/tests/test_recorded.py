@@ -1,6 +1,7 @@
 """The recorded rows."""
 import re
 import unittest
+import unittest.mock
 
 from . import rows
 
@@ -8,6 +9,24 @@ import cfgx
 
 VALUES = {"1": True, "0": False, "?": None}
 PRINTED = {"true\n": True, "false\n": False, "unknown\n": None}
+EQUAL = {"equal": True, "different": False}
+# The checks whose rows are tested here.
+TESTED = {
+    "equality", "fault", "fault in the stripped text", "fillings", "predicates", "run", "spelling",
+    "stripped text",
+}
+# The checks of what the package does not have: parts of the parser, targets that are built in or
+# made by hand, what a `Debug` of Rust prints, the streams of the program; its long rows; and the
+# tables of a page, whose rows are not texts alone.
+OTHERS = {
+    "all built-in targets", "built-in target", "calls for the next predicate", "counted stream",
+    "ending", "failed read", "fault of the page", "field", "items", "length of an input",
+    "list of families", "list of widths", "long run", "long spelling", "nodes", "not UTF-8", "pick",
+    "pick of the page", "pick on a target", "printed fault", "property", "reads", "reason",
+    "run on each target", "spelling of the page", "streams of pick", "table", "type",
+    "values on built-in targets", "values on no target", "values on targets made by hand",
+    "whole input", "width",
+}
 
 
 def answers_of(field):
@@ -19,7 +38,8 @@ def decision_of(field):
     """Returns the decision that a field states."""
     if field in ("true", "false"):
         return cfgx.Decision(field == "true", None, None)
-    return cfgx.Decision(None, *(answers_of(filling) for filling in field.split(" ")))
+    if_true, if_false = field.split(" ")
+    return cfgx.Decision(None, answers_of(if_true), answers_of(if_false))
 
 
 def name_of(reason):
@@ -41,6 +61,43 @@ def fault_of(text):
     return None
 
 
+def parsed(text):
+    """Returns what the program `cfgx parse` returns and prints of a text."""
+    try:
+        return 0, "".join(f"{asked}\n" for asked in cfgx.parse(text).predicates)
+    except cfgx.ParseError as error:
+        assert error.message == str(error), error.message
+        return 1, f"{error}\n"
+
+
+class Tables(unittest.TestCase):
+    """The files of rows, and how they are read."""
+
+    def test_each_table_is_known(self):
+        self.assertEqual({check for check, _ in rows.tables()}, TESTED | OTHERS)
+
+    def test_a_table_without_rows(self):
+        for checks in ((), ("predicate",), ("predicates", "faults")):
+            with self.subTest(checks=checks), self.assertRaises(AssertionError):
+                rows.rows_of(*checks)
+
+    def test_other_rows_than_the_head_counts(self):
+        for head in ("[run: 0 rows]", "[run: 2 rows]"):
+            with self.subTest(head=head), self.assertRaises(AssertionError):
+                rows.tables_in([head, "status | words", "# a comment", "", "0 | parse | a"])
+        table = "[run: 1 row]", "status | words", "0 | parse | a"
+        self.assertEqual(rows.tables_in([*table, "", *table]), [("run", [["0", "parse", "a"]])] * 2)
+
+    def test_a_word_that_is_misspelt(self):
+        for row in (["0", "", "pasre", "a"], ["O", "", "parse", "a"]):
+            with unittest.mock.patch.object(rows, "rows_of", lambda check: [row]), \
+                    self.subTest(row=row), self.assertRaises((KeyError, ValueError)):
+                rows.conditions_of_runs()
+        for field in ("ture", "1 0 1", "1", "2 0"):
+            with self.subTest(field=field), self.assertRaises((KeyError, ValueError)):
+                decision_of(field)
+
+
 class Recorded(unittest.TestCase):
     """The rows of files, and what the package finds."""
 
@@ -49,13 +106,17 @@ class Recorded(unittest.TestCase):
         for text, status, output in rows.rust_crate():
             count += 1
             with self.subTest(text=text):
-                try:
-                    found = (0, "".join(f"{asked}\n" for asked in cfgx.parse(text).predicates))
-                except cfgx.ParseError as error:
-                    self.assertEqual(error.message, str(error))
-                    found = (1, f"{error}\n")
-                self.assertEqual(found, (status, output))
+                self.assertEqual(parsed(text), (status, output))
         self.assertEqual(count, 1962)
+
+    def test_runs_of_parse(self):
+        runs = [(int(status), *fields) for status, *fields in rows.rows_of("run")]
+        runs = [run for run in runs if run[2] == "parse" and run[0] in (0, 1)]
+        for status, output, _, *texts in runs:
+            with self.subTest(texts=texts):
+                text, = map(rows.unescaped, texts)
+                self.assertEqual(parsed(text), (status, rows.unescaped(output)))
+        self.assertEqual({status for status, *_ in runs}, {0, 1})
 
     def test_faults(self):
         for text, fault, *_ in rows.rows_of("fault", "fault in the stripped text"):
@@ -81,6 +142,18 @@ class Recorded(unittest.TestCase):
                 found = cfgx.parse(rows.unescaped(text)).predicates
                 self.assertEqual("".join(map(str, found)), rows.unescaped(spellings))
 
+    def test_stripped_texts(self):
+        for text, stripped in rows.rows_of("stripped text"):
+            with self.subTest(text=text):
+                expression = cfgx.parse(rows.unescaped(text))
+                self.assertEqual(expression.original, rows.unescaped(stripped))
+
+    def test_equality(self):
+        for text, other, wanted in rows.rows_of("equality"):
+            with self.subTest(text=text, other=other):
+                one, another = cfgx.parse(rows.unescaped(text)), cfgx.parse(rows.unescaped(other))
+                self.assertIs(one == another, EQUAL[wanted])
+
     def test_decisions(self):
         for text, answers, wanted in rows.rows_of("fillings"):
             expression, answers = cfgx.parse(rows.unescaped(text)), answers_of(answers)
@@ -95,7 +168,7 @@ class Recorded(unittest.TestCase):
     def test_values_on_facts(self):
         conditions, targets, values = [], [], []
         for status, output, *words in rows.rows_of("run"):
-            if status == "0" and words[0] == "eval":
+            if int(status) == 0 and words[0] == "eval":
                 condition, *facts = map(rows.unescaped, words[1:])
                 conditions.append(condition)
                 targets.append(facts)

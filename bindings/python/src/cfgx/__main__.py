@@ -1,15 +1,17 @@
 """Prints which dependencies of a Cargo.toml each target takes."""
 import argparse
 import os
-import re
 import sys
 from typing import Iterator, List, Sequence
 
-from ._error import RustcError
-from ._manifest import Dependency, ManifestError, Target, dependencies_of, host, target_of
-from ._manifest import verdict_on
+from ._error import FactError, RustcError
+from ._manifest import Dependency, ManifestError, Target, dependencies_of, host, on_one_line
+from ._manifest import target_of, verdict_on
 
 NAMES = {True: "yes", False: "no", None: "unknown"}
+# The statuses of what is refused, and of memory that is refused or an output that fails. That of
+# wrong arguments is 2, and comes from `argparse`.
+REFUSED, FAILED = 1, 3
 
 
 def name_of(dependency: Dependency) -> str:
@@ -39,12 +41,6 @@ def rows_of(dependencies: Sequence[Dependency], targets: Sequence[Target]) -> It
             yield [f"    unknown: {reason}"]
 
 
-def on_one_line(cell: str) -> str:
-    """Returns a cell with its line feeds and other control characters escaped: the value of a
-    condition may have some."""
-    return re.sub(r"[\x00-\x1f\x7f]", lambda found: repr(found[0])[1:-1], cell)
-
-
 def aligned(rows: Sequence[List[str]]) -> Iterator[str]:
     """Yields the lines of a table with columns of one width."""
     rows = [list(map(on_one_line, row)) for row in rows]
@@ -57,6 +53,34 @@ def aligned(rows: Sequence[List[str]]) -> Iterator[str]:
             yield row[0]
 
 
+def table_of(path: str, triples: Sequence[str]) -> str:
+    """Returns the table of a manifest on these targets."""
+    dependencies = dependencies_of(path)
+    targets = [target_of(triple) for triple in triples]
+    return "\n".join(aligned(list(rows_of(dependencies, targets))))
+
+
+class OutputError(Exception):
+    """The output does not take the table. The message says why."""
+
+
+def write(text: str) -> None:
+    """Prints a text. Raises `OutputError`."""
+    if sys.stdout is None:
+        raise OutputError("the output is closed")
+    try:
+        print(text, flush=True)
+    except UnicodeEncodeError as error:
+        character = ascii(error.object[error.start])
+        raise OutputError(f"the output is {error.encoding}, which has no {character}") from error
+    except OSError as error:
+        # Python writes what is left at its end, which must not fail too.
+        os.dup2(os.open(os.devnull, os.O_WRONLY), sys.stdout.fileno())
+        # If the pipe is broken, whoever reads has enough.
+        if not isinstance(error, BrokenPipeError):
+            raise OutputError(f"the output could not be written: {error.strerror}") from error
+
+
 def main() -> None:
     """Prints the table, or what is wrong."""
     parser = argparse.ArgumentParser(prog="python3 -m cfgx", description=__doc__)
@@ -67,16 +91,16 @@ def main() -> None:
     )
     words = parser.parse_args()
     try:
-        dependencies = dependencies_of(words.manifest)
-        targets = [target_of(triple) for triple in words.target]
-        lines = list(aligned(list(rows_of(dependencies, targets))))
-    except (ManifestError, RustcError) as error:
-        sys.exit(str(error))
-    try:
-        print("\n".join(lines), flush=True)
-    except BrokenPipeError:
-        # Whoever reads has enough. Python writes what is left at its end, which must not fail too.
-        os.dup2(os.open(os.devnull, os.O_WRONLY), sys.stdout.fileno())
+        write(table_of(words.manifest, words.target))
+    except (ManifestError, RustcError, FactError) as error:
+        status, message = REFUSED, str(error)
+    except OutputError as error:
+        status, message = FAILED, str(error)
+    except MemoryError:
+        status, message = FAILED, "there is not enough memory"
+    else:
+        return
+    parser.exit(status, "\n".join(map(on_one_line, message.split("\n"))) + "\n")
 
 
 if __name__ == "__main__":

@@ -25,7 +25,8 @@ def audit(
     which is `None` for unknown, or `False`.
 
     Raises `ParseError` for the first text that is no condition, or else `FactError` for the first
-    faulty fact.
+    faulty fact. If `otherwise` is something else, raises `ValueError` for `True`, and `TypeError`
+    for what is no answer, such as 0.
 
     >>> import cfgx
     >>> cfgx.audit(['any(windows, feature = "x")', "unix"], ["unix", ["windows", "?test"]])
@@ -35,8 +36,9 @@ def audit(
     """
     if isinstance(conditions, str) or isinstance(targets, str):
         raise TypeError("conditions and targets are lists")
-    if otherwise not in (None, False):
-        raise ValueError(f"otherwise is None or False, and not {otherwise!r}")
+    if otherwise is not None and otherwise is not False:
+        error = ValueError if otherwise is True else TypeError
+        raise error(f"otherwise is None or False, and not {otherwise!r}")
     texts = [item.text if isinstance(item, Expression) else item for item in conditions]
     encoded = [_library.utf8_of(text) for text in texts]
     facts: List[str] = []
@@ -86,4 +88,7 @@ def rustc_lines(*words: str) -> List[str]:
     if run.returncode != 0:
         message = run.stderr.decode(errors="replace").rstrip()
         raise RustcError(f"rustc refused {' '.join(words)}: {message}")
-    return lines_of(run.stdout.decode())
+    try:
+        return lines_of(run.stdout.decode())
+    except UnicodeDecodeError as error:
+        raise RustcError(f"rustc printed what is not UTF-8: {error}") from error

@@ -3,7 +3,7 @@ import dataclasses
 import enum
 import re
 from collections.abc import Mapping as AbstractMapping
-from typing import Callable, Iterable, List, Mapping, NamedTuple, Optional, Tuple, Union
+from typing import Any, Callable, Iterable, List, Mapping, NamedTuple, Optional, Tuple, Union
 
 from . import _library
 from ._error import parse_error
@@ -114,13 +114,15 @@ class Expression:
 
     `answers` of the calls below is
 
-    - a callable, which is called with each occurrence of a predicate once, in the order of
+    - a mapping from predicates to answers, even one that can be called. A predicate that is not in
+      it is unknown. One that the condition does not ask is passed over, so nothing tells that its
+      key is misspelt;
+    - or a callable, which is called with each occurrence of a predicate once, in the order of
       `predicates`, and returns its answer;
-    - or a mapping from predicates to answers; a predicate that is not in it is unknown;
     - or a list with one answer for each of `predicates`, in order.
 
-    An answer is `True`, `False`, or `None` if it is unknown; any other raises `TypeError`. A list
-    of another length raises `ValueError`.
+    An answer is `True`, `False`, or `None` if it is unknown. Any other raises `TypeError`, also 0
+    and 1. A list of another length raises `ValueError`.
     """
 
     __slots__ = ("_text", "_encoded", "_predicates")
@@ -212,6 +214,10 @@ class Expression:
                 f" {len(numbers)} answers"
             )
         return numbers
+
+    def __reduce__(self) -> Tuple[Any, ...]:
+        """What `pickle` and `copy` keep is the text, which is parsed again."""
+        return type(self), (self._text,)
 
     def __str__(self) -> str:
         return self.original

@@ -19,7 +19,6 @@ ATOMIC_POINTER = 65536
 
 # The values that the numbers of answers and values stand for.
 VALUES = (False, True, None)
-NUMBERS = {value: number for number, value in enumerate(VALUES)}
 
 
 class Fault(ctypes.Structure):
@@ -67,6 +66,12 @@ def path_of() -> str:
     return beside if os.path.exists(beside) else NAME
 
 
+def import_error(message: str) -> ImportError:
+    """Returns an error that names the package. So `python3 -m cfgx` prints it in a line, and no
+    traceback."""
+    return ImportError(message, name=__package__)
+
+
 def load(path: str) -> Any:
     """Returns the library at a path, whose calls know their arguments."""
     try:
@@ -75,13 +80,13 @@ def load(path: str) -> Any:
             call = getattr(library, name)
             call.argtypes, call.restype = arguments, c_uint32
     except (OSError, AttributeError) as error:
-        raise ImportError(
+        raise import_error(
             f"cfgx cannot load {path} ({error}): install the library by crates/cfgx_c/install of"
             f" its repository, and let CFGX_LIBRARY name the file {NAME}"
         ) from error
     language, major, minor = parts_of(library.cfgx_version())
     if (language, major) != (LANGUAGE, MAJOR) or minor < MINOR:
-        raise ImportError(
+        raise import_error(
             f"cfgx needs version {LANGUAGE}.{MAJOR}.{MINOR} of {NAME} or a later"
             f" {LANGUAGE}.{MAJOR}, and {path} has version {language}.{major}.{minor}"
         )
@@ -113,12 +118,11 @@ def utf8_of(text: str) -> bytes:
 
 
 def number_of(answer: Optional[bool]) -> int:
-    """Returns the number of an answer."""
-    try:
-        return NUMBERS[answer]
-    except (KeyError, TypeError):
-        message = f"an answer is True, False or None, and not {answer!r}"
-        raise TypeError(message) from None
+    """Returns the number of an answer. What only equals one, such as 0, is none."""
+    for number, value in enumerate(VALUES):
+        if answer is value:
+            return number
+    raise TypeError(f"an answer is True, False or None, and not {answer!r}")
 
 
 def filled(item: Any, room: int, call: Callable[..., int]) -> Tuple[int, Any]:

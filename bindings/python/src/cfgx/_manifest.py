@@ -7,15 +7,11 @@ import subprocess
 from typing import Any, Dict, Iterator, List, NamedTuple, Optional, Sequence, Tuple
 
 from ._audit import audit, rustc_lines
-from ._error import ParseError
-from ._expression import Expression, Kind, Predicate, parse
+from ._error import ParseError, RustcError
+from ._expression import Expression, Kind, Predicate, parse, stripped
 
 # The tables of dependencies, and the kind of those in each.
-TABLES = {
-    "dependencies": "normal",
-    "dev-dependencies": "dev", "dev_dependencies": "dev",
-    "build-dependencies": "build", "build_dependencies": "build",
-}
+TABLES = {"dependencies": "normal", "dev-dependencies": "dev", "build-dependencies": "build"}
 # How many unknown predicates a condition may ask so that all their answers are tried.
 MOST_TRIED = 8
 
@@ -59,6 +55,8 @@ def dependencies_of(path: str) -> List[Dependency]:
         if "package" not in manifest:
             raise ValueError("it has no package, and only cargo finds those of a workspace")
         return list(listed_in(manifest))
+    except RecursionError:
+        raise ManifestError(f"{path}: it is nested too deep for Python") from None
     except (OSError, ValueError) as error:
         raise ManifestError(f"{path}: {error}") from error
 
@@ -68,9 +66,14 @@ def listed_by_cargo(path: str) -> Iterator[Dependency]:
     package, of all packages of its workspace."""
     command = ["cargo", "metadata", "--no-deps", "--format-version", "1", "--manifest-path", path]
     pipe = subprocess.PIPE
-    run = subprocess.run(command, stdout=pipe, stderr=pipe, check=False)
+    try:
+        run = subprocess.run(command, stdout=pipe, stderr=pipe, check=False)
+    except OSError as error:
+        raise ManifestError(f"cargo could not be run: {error}") from error
     if run.returncode != 0:
-        raise ManifestError(run.stderr.decode(errors="replace").rstrip())
+        # Cargo quotes the manifest. A line feed there starts no line that looks like ours.
+        message = run.stderr.decode(errors="replace").rstrip().replace("\n", "\n    ")
+        raise ManifestError(f"cargo refused {path}:\n    {message}")
     packages = json.loads(run.stdout)["packages"]
     own = [one for one in packages if is_same_file(one["manifest_path"], path)]
     for package in own or packages:
@@ -91,7 +94,8 @@ def listed_in(manifest: Dict[str, Any]) -> Iterator[Dependency]:
     """Yields the dependencies that stand in a manifest. Raises `ValueError` if something else
     stands in the place of a table."""
     library, targets = table_in(manifest, "lib"), table_in(manifest, "target")
-    is_macro = bool(library.get("proc-macro") or library.get("proc_macro"))
+    usual = ["proc-macro"] if value_in(library, "proc-macro", False) is True else []
+    is_macro = value_in(library, "crate-type", usual) == ["proc-macro"]
     for target in (None, *sorted(targets)):
         tables = manifest if target is None else table_in(targets, target)
         for table, kind in TABLES.items():
@@ -100,12 +104,36 @@ def listed_in(manifest: Dict[str, Any]) -> Iterator[Dependency]:
                 yield Dependency(name, kind, is_optional, target, is_macro or kind == "build")
 
 
+def value_in(table: Dict[str, Any], key: str, default: Any) -> Any:
+    """Returns the value of a key, which may be spelled with `_` for `-` if it stands only so."""
+    return table.get(key, table.get(key.replace("-", "_"), default))
+
+
 def table_in(table: Dict[str, Any], key: str) -> Dict[str, Any]:
     """Returns the table with a key, or an empty one if there is none."""
-    found = table.get(key, {})
+    found = value_in(table, key, {})
     if not isinstance(found, dict):
-        raise ValueError(f"{key} is no table")
+        raise ValueError(f"{on_one_line(key)} is no table")
     return found
+
+
+def on_one_line(text: str) -> str:
+    """Returns a text with each character escaped that Python does not call printable, such as a
+    line feed or a mark of direction."""
+    return "".join(one if one.isprintable() else repr(one)[1:-1] for one in text)
+
+
+def explained(error: ParseError) -> str:
+    """Returns the message of an error with the text on one line, and the marks below what is at
+    fault there."""
+    text, marks = error.message.rsplit("\n", 1)
+    offset, _ = stripped(error.text)
+    start, end = (place - offset for place in error.span)
+    before, at_fault = on_one_line(text[:start]), on_one_line(text[start:end])
+    marks = marks.lstrip(" ")
+    reason = marks.lstrip("^-").lstrip(" ")
+    mark = "-" if marks.startswith("-") else "^" * len(at_fault)
+    return f"{on_one_line(text)}\n{' ' * len(before)}{mark} {reason}"
 
 
 class Target(NamedTuple):
@@ -126,7 +154,10 @@ def target_of(triple: str) -> Target:
 
 def host() -> str:
     """Returns the triple of the machine that builds."""
-    return next(line[6:] for line in rustc_lines("-vV") if line.startswith("host: "))
+    for line in rustc_lines("-vV"):
+        if line.startswith("host: "):
+            return line[6:]
+    raise RustcError("rustc -vV names no host")
 
 
 def verdict_on(dependency: Dependency, target: Target) -> Tuple[Optional[bool], str]:
@@ -139,7 +170,8 @@ def verdict_on(dependency: Dependency, target: Target) -> Tuple[Optional[bool], 
     try:
         expression = parse(dependency.target)
     except ParseError as error:
-        raise ManifestError(f"the condition of {dependency.name} is faulty:\n{error}") from error
+        name = on_one_line(dependency.name)
+        raise ManifestError(f"the condition of {name} is faulty:\n{explained(error)}") from error
     answers = answers_on(expression, target)
     value = expression.eval(answers)
     return (value, "") if value is not None else tried(expression, answers)
