@@ -32,7 +32,10 @@ def linked() -> str:
 
 @functools.lru_cache(maxsize=None)
 def is_there(name):
-    """Whether something that tests need is there: a file by its path, or a tool by its name."""
+    """Whether something that tests need is there: a file by its path, a tool by its name, or one of
+    several."""
+    if " or " in name:
+        return any(map(is_there, name.split(" or ")))
     if name.startswith("/"):
         return os.path.exists(name)
     if name == "Python 3.11":

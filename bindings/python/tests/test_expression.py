@@ -174,7 +174,8 @@ class Expressions(unittest.TestCase):
         a, b = expression.predicates
         rows = [
             "01", [True, "false"], [[], 1], lambda predicate: 2, b"\0\2", b"\0\1", range(2), [0, 1],
-            [True, 1], [False, 0], [0.0, 1.0], [True, 1.0], [1 + 0j, True], [decimal.Decimal(1), None],
+            [True, 1], [False, 0], [0.0, 1.0], [True, 1.0], [1 + 0j, True],
+            [decimal.Decimal(1), None],
             lambda predicate: 0, lambda predicate: 1, {a: 1}, {a: True, b: 0}, [NotImplemented] * 2,
         ]
         for answers, call in itertools.product(rows, (expression.eval, expression.decide)):

@@ -4,21 +4,14 @@ import io
 import itertools
 import os
 import re
-import shutil
 import subprocess
-import sys
 import tempfile
 import unittest
 import unittest.mock
 
-from . import PACKAGE
+from . import needs
 
 from cfgx import __main__, _manifest
-
-try:
-    import tomllib
-except ImportError:
-    tomllib = None
 
 MANIFEST = """
 [package]
@@ -27,6 +20,9 @@ version = "0.1.0"
 
 [dependencies]
 log = "0.4"
+
+[dev-dependencies]
+bench = "1"
 
 [build-dependencies]
 cc = { version = "1", optional = true }
@@ -45,26 +41,72 @@ objc2 = "0.6"
 
 [target.'cfg(any(proc_macro, test, fuzzing, key = "é"))'.dev-dependencies]
 fuzz = { version = "1" }
+
+[target.'cfg(all(unix, target_feature = "sse2"))'.dependencies]
+simd = { version = "1", optional = false }
 """
 # The lines of the table, without the spaces that align it.
 TABLE = """\
 dependency x86_64-unknown-linux-gnu x86_64-pc-windows-gnu aarch64-apple-ios condition
+bench (dev) yes yes yes
 cc (build, optional) yes yes yes
 fuzz (dev) unknown unknown unknown cfg(any(proc_macro, test, fuzzing, key = "é"))
 unknown: for example, yes if not(fuzzing) and key = "é"; no if not(fuzzing) and not(key = "é")
 log yes yes yes
 objc2 no no unknown cfg(all(target_vendor = "apple", not(loom)))
 unknown: yes if not(loom); no if loom
+simd yes no no cfg(all(unix, target_feature = "sse2"))
 vcpkg (build) no no no cfg(windows)
 watch no yes no cfg(any(windows, target_os = "macos"))
 winapi no yes no x86_64-pc-windows-gnu
 """
 TRIPLES = ("x86_64-unknown-linux-gnu", "x86_64-pc-windows-gnu", "aarch64-apple-ios")
 FACTS = {
-    TRIPLES[0]: 'target_os="linux"\ntarget_vendor="unknown"\nunix\nproc_macro\n',
-    TRIPLES[1]: 'target_os="windows"\ntarget_vendor="pc"\nwindows\nproc_macro\n',
-    TRIPLES[2]: 'target_os="ios"\ntarget_vendor="apple"\nunix\ndebug_assertions\n',
+    TRIPLES[0]: 'target_os="linux"\ntarget_vendor="unknown"\nunix\nproc_macro\n'
+                'target_feature="fxsr"\ntarget_feature="sse2"\n',
+    TRIPLES[1]: 'target_os="windows"\ntarget_vendor="pc"\nwindows\nproc_macro\n'
+                'target_feature="sse2"\n',
+    TRIPLES[2]: 'target_os="ios"\ntarget_vendor="apple"\nunix\ndebug_assertions\n'
+                'target_feature="neon"\n',
 }
+# What Cargo 1.95 lists of a package of the edition 2021 with these tables: the name, the kind,
+# whether it is optional, the target, and whether a macro or a build script uses it.
+LISTED = [
+    ('[dependencies]\nz = "1"\na = "1"\n[dev-dependencies]\nb = "1"\n'
+     '[target."cfg(unix)".dependencies]\nq = "1"\n[target."cfg(any(unix))".build-dependencies]\n'
+     'r = "1"\n[target.aarch64-apple-ios.dev-dependencies]\ns = "1"\n'
+     '[target."cfg(unix)".dev-dependencies]\nt = "1"\n[build-dependencies]\nc = "1"\n',
+     [("a", "normal", False, None, False), ("z", "normal", False, None, False),
+      ("b", "dev", False, None, False), ("c", "build", False, None, True),
+      ("s", "dev", False, "aarch64-apple-ios", False),
+      ("r", "build", False, "cfg(any(unix))", True), ("q", "normal", False, "cfg(unix)", False),
+      ("t", "dev", False, "cfg(unix)", False)]),
+    ('[dependencies]\nz = { version = "1", package = "a" }\nb = { version = "1", package = "z" }\n',
+     [("b", "normal", False, None, False), ("z", "normal", False, None, False)]),
+    ('[dependencies]\na = { version = "1", optional = false }\n'
+     'b = { version = "1", optional = true }\n',
+     [("a", "normal", False, None, False), ("b", "normal", True, None, False)]),
+    ('[dev_dependencies]\na = "1"\n[build_dependencies]\nb = "1"\n',
+     [("a", "dev", False, None, False), ("b", "build", False, None, True)]),
+    ('[target."cfg(a)".dev_dependencies]\na = "1"\n[target."cfg(a)".build_dependencies]\nb = "1"\n',
+     [("a", "dev", False, "cfg(a)", False), ("b", "build", False, "cfg(a)", True)]),
+    ('[dev_dependencies]\na = "1"\n[dev-dependencies]\nb = "1"\n[build-dependencies]\nc = "1"\n'
+     '[build_dependencies]\nd = "1"\n',
+     [("b", "dev", False, None, False), ("c", "build", False, None, True)]),
+    ('[dependencies]\na = "1"\n[dev-dependencies]\nb = "1"\n[lib]\nproc-macro = true\n',
+     [("a", "normal", False, None, True), ("b", "dev", False, None, True)]),
+]
+# Whether Cargo 1.95 takes a library for a macro that has these lines.
+MACROS = [
+    ("", False), ("proc-macro = true\n", True), ("proc_macro = true\n", True),
+    ("proc-macro = false\n", False), ("proc-macro = false\nproc_macro = true\n", False),
+    ("proc-macro = true\nproc_macro = false\n", True),
+    ('crate-type = ["proc-macro"]\n', True), ('crate_type = ["proc-macro"]\n', True),
+    ('proc-macro = false\ncrate-type = ["proc-macro"]\n', True),
+    ('crate-type = ["rlib"]\n', False), ('proc-macro = true\ncrate-type = ["rlib"]\n', False),
+    ('proc-macro = true\ncrate-type = []\n', False),
+    ('crate-type = ["rlib"]\ncrate_type = ["proc-macro"]\n', False),
+]
 
 
 # A package whose dependencies have these conditions, one each.
@@ -73,6 +115,7 @@ CONDITIONS = (
     'target_has_atomic = "8"', 'not(target_has_atomic = "08")', 'target_feature = "crt-static"',
     "debug_assertions", "any(proc_macro, test)", 'feature = "x"', "true", "all(false, unix)",
     "windows", "unix", 'any(target_env = "musl", target_os = "macos")',
+    'target_feature = "sse2"', None,
 )
 KINDS = ("dependencies", "dev-dependencies", "build-dependencies")
 # Flags that RUSTFLAGS may set, conditions over them, and what the table says of each condition.
@@ -126,10 +169,10 @@ def package_of(name):
 
 def tables_of(conditions, kinds):
     """Yields for each condition and each kind a table of a manifest with one dependency."""
-    for number, condition in enumerate(conditions):
-        for kind in kinds:
-            name = f"{kind[:3]}{number}"
-            yield f"[target.'cfg({condition})'.{kind}]\n{name} = {{ path = \"{name}\" }}\n"
+    for (number, condition), kind in itertools.product(enumerate(conditions), kinds):
+        target = "" if condition is None else f"target.'cfg({condition})'."
+        name = f"{kind[:3]}{number}"
+        yield f"[{target}{kind}]\n{name} = {{ path = \"{name}\" }}\n"
 
 
 def no_cargo():
@@ -139,7 +182,12 @@ def no_cargo():
 
 def printed(*words):
     """Stands for `rustc`."""
-    return ["host: x86_64-unknown-linux-gnu"] if words == ("-vV",) else FACTS[words[-1]].split()
+    if words == ("-vV",):
+        return ["host: x86_64-unknown-linux-gnu"]
+    *options, triple = words
+    if options != ["--print", "cfg", "--crate-type", "proc-macro", "--target"]:
+        raise ValueError(words)
+    return FACTS[triple].split()
 
 
 class Folder(unittest.TestCase):
@@ -165,25 +213,81 @@ class Folder(unittest.TestCase):
             __main__.main()
         return output.getvalue()
 
-    def verdict_of(self, condition):
-        """Returns what is found of a condition on the first target."""
-        dependency = _manifest.Dependency("a", "normal", False, f"cfg({condition})", False)
-        target = _manifest.Target(TRIPLES[0], FACTS[TRIPLES[0]].splitlines())
+    def refusal_of(self, *words):
+        """Returns what the program prints on stderr if it ends with status 1."""
+        errors = io.StringIO()
+        with contextlib.redirect_stderr(errors), self.assertRaises(SystemExit) as caught:
+            self.run_main(*words)
+        self.assertEqual(caught.exception.code, 1)
+        return errors.getvalue()
+
+    def verdict_of(self, condition, triple=TRIPLES[0]):
+        """Returns what is found of a condition on a target."""
+        target = _manifest.Target(triple, FACTS[triple].split())
+        return self.verdict_below(f"cfg({condition})", target)
+
+    def verdict_below(self, key, target):
+        """Returns what is found on a target of a dependency in the table with this key."""
+        dependency = _manifest.Dependency("a", "normal", False, key, False)
         return _manifest.verdict_on(dependency, target)
 
 
 class Manifest(Folder):
     """The dependencies in a manifest, and their table."""
 
-    @unittest.skipUnless(tomllib and shutil.which("cargo"), "one of the two readers is not here")
+    @needs("cargo", "Python 3.11", untested="that both readers list the same")
     def test_both_readers_list_the_same(self):
         listed = _manifest.dependencies_of(self.path)
         with no_cargo():
             self.assertEqual(_manifest.dependencies_of(self.path), listed)
-        self.assertEqual(len(listed), 7)
+        self.assertEqual(len(listed), 9)
         self.assertEqual({one.name for one in listed if one.is_on_host}, {"cc", "vcpkg"})
 
-    @unittest.skipUnless(tomllib or shutil.which("cargo"), "there is no reader of manifests")
+    @needs("Python 3.11", untested="a manifest without cargo")
+    def test_lists_without_cargo(self):
+        with no_cargo():
+            self.compare_lists()
+            self.compare_macros()
+
+    @needs("cargo", untested="what Cargo lists of a manifest")
+    def test_lists_of_cargo(self):
+        self.compare_lists()
+        self.compare_macros()
+
+    def compare_lists(self):
+        """Compares what is listed of manifests, in order."""
+        for text, wanted in LISTED:
+            with self.subTest(text=text):
+                self.write(self.path, package_of("a") + 'build = false\n' + text)
+                self.assertEqual([one[:5] for one in _manifest.dependencies_of(self.path)], wanted)
+
+    def compare_macros(self):
+        """Compares which libraries are macros."""
+        for lines, wanted in MACROS:
+            with self.subTest(lines=lines):
+                self.write(self.path, f'{package_of("a")}[lib]\n{lines}[dependencies]\nb = "1"\n')
+                found, = _manifest.dependencies_of(self.path)
+                self.assertIs(found.is_on_host, wanted)
+
+    @needs("Python 3.11", untested="manifests without cargo that have no package, or are nested")
+    def test_refusals_without_cargo(self):
+        workspace = "it has no package, and only cargo finds those of a workspace"
+        rows = [
+            (WORKSPACE["Cargo.toml"], workspace), ('[dependencies]\na = "1"\n', workspace),
+            ("", workspace), ("[package", "Expected ']' at the end of a table declaration"),
+            (package_of("a") + "b = " + "[" * 100_000, "it is nested too deep for Python"),
+            (package_of("a") + '[target."cfg(\\n\\u009b)"]\ndependencies = 1\n',
+             "dependencies is no table"),
+            (package_of("a") + '[target]\n"cfg(\\n\\u009b)" = 1\n', r"cfg(\n\x9b) is no table"),
+        ]
+        for text, message in rows:
+            self.write(self.path, text)
+            with no_cargo(), self.subTest(text=text[:100]):
+                found = self.refusal_of(self.path, "--target", TRIPLES[0])
+                self.assertTrue(found.startswith(f"{self.path}: {message}"), found)
+                self.assertEqual(found.count("\n"), 1)
+
+    @needs("cargo or Python 3.11", untested="the table of a manifest")
     def test_the_table(self):
         dependencies = sorted(_manifest.dependencies_of(self.path))
         with unittest.mock.patch.object(_manifest, "rustc_lines", printed):
@@ -201,6 +305,32 @@ class Manifest(Folder):
         lines = list(__main__.aligned([["a", 'cfg(key = "\n\t\x1b")'], ['  "\n"']]))
         self.assertEqual(lines, ["a  cfg(key = \"\\n\\t\\x1b\")", '  "\\n"'])
 
+    def test_what_is_printable(self):
+        # The control characters C0 and C1, and what sets a direction or ends a line.
+        escaped = {*range(0x20), *range(0x7F, 0xA0), *range(0x202A, 0x202F), *range(0x2066, 0x206A),
+                   0x200E, 0x200F, 0x061C, 0x2028, 0x2029}
+        for number in sorted(escaped):
+            found = _manifest.on_one_line(f"a{chr(number)}b")
+            self.assertRegex(found, r"\Aa\\([nrt]|x[0-9a-f]{2}|u[0-9a-f]{4})b\Z")
+        shown = "".join(map(chr, range(0x20, 0x7F))) + "é日𝄞"
+        self.assertEqual(_manifest.on_one_line(shown), shown)
+
+    def test_keys_of_targets(self):
+        triple, longer = "x86_64-pc-windows-gnu", "x86_64-pc-windows-gnullvm"
+        target = _manifest.Target(triple, [])
+        for key, value in [(triple, True), (longer, False), ("x86_64", False), ("", False)]:
+            self.assertEqual(self.verdict_below(key, target), (value, ""))
+        self.assertEqual(self.verdict_below(triple, _manifest.Target(longer, [])), (False, ""))
+        for key in ("cfg(unix", "cfg(unix) ", "cfg(unix)x", "cfg(", "cfg()"):
+            with self.subTest(key=key), self.assertRaises(_manifest.ManifestError):
+                self.verdict_below(key, target)
+
+    def test_features_of_the_target(self):
+        for triple, feature in zip(TRIPLES, ("sse2", "sse2", "neon")):
+            for name in ("sse2", "neon"):
+                found = self.verdict_of(f'target_feature = "{name}"', triple)
+                self.assertEqual(found, (name == feature, ""))
+
     def test_a_faulty_condition(self):
         dependency = _manifest.Dependency("a", "normal", False, "cfg(feature)", False)
         with self.assertRaises(_manifest.ManifestError) as caught:
@@ -209,17 +339,15 @@ class Manifest(Folder):
         wanted = f"the condition of a is faulty:\nfeature\n{marks}"
         self.assertEqual(str(caught.exception), wanted)
 
-    @unittest.skipUnless(shutil.which("cargo") and shutil.which("rustc"), "there is no Cargo here")
+    @needs("cargo", "rustc", untested="the command over a real cargo and rustc")
     def test_the_program(self):
         lines = self.run_main(self.path, "--target", *TRIPLES[:2]).splitlines()
         self.assertEqual(lines[0].split(), ["dependency", *TRIPLES[:2], "condition"])
-        self.assertEqual(len(lines), 9)
+        self.assertEqual(len(lines), 11)
         for words in [("/nowhere", "--target", TRIPLES[0]), (self.path, "--target", "nowhere")]:
-            with self.assertRaises(SystemExit) as caught:
-                self.run_main(*words)
-            self.assertIn("nowhere", caught.exception.code)
+            self.assertIn("nowhere", self.refusal_of(*words))
 
-    @unittest.skipUnless(shutil.which("cargo") and shutil.which("rustc"), "there is no Cargo here")
+    @needs("cargo", "rustc", untested="the table beside `cargo tree`")
     def test_it_says_what_cargo_says(self):
         for library in ("", "[lib]\nproc-macro = true\n"):
             self.write_all(library, CONDITIONS, KINDS)
@@ -227,7 +355,7 @@ class Manifest(Folder):
                 with self.subTest(library=library, triple=triple):
                     self.assertEqual(self.taken_on(triple), self.taken_by_cargo(triple))
 
-    @unittest.skipUnless(shutil.which("cargo") and shutil.which("rustc"), "there is no Cargo here")
+    @needs("cargo", "rustc", untested="examples of flags beside `cargo tree`")
     def test_flags_decide_as_it_says(self):
         self.write_all("", FLAG_VERDICTS, KINDS[:1])
         table = self.run_main(self.path, "--target", TRIPLES[0])
@@ -276,7 +404,7 @@ class Manifest(Folder):
         known = self.verdict_of(f"all(windows, any({', '.join(flags)}))")
         self.assertEqual(known, (False, ""))
 
-    @unittest.skipUnless(shutil.which("cargo"), "there is no Cargo here")
+    @needs("cargo", untested="the rows of a real workspace")
     def test_rows_of_a_workspace_name_their_package(self):
         folder = os.path.dirname(self.path)
         for name in ("one", "two"):
@@ -291,33 +419,36 @@ class Manifest(Folder):
         self.assertEqual(one.split(), ["dependency", TRIPLES[1], "condition", "winapi", "yes",
                                        "cfg(windows)"])
 
-    @unittest.skipUnless(tomllib, "Python cannot read a manifest")
-    def test_a_workspace_without_cargo(self):
-        self.write(self.path, WORKSPACE["Cargo.toml"])
-        with no_cargo(), self.assertRaises(_manifest.ManifestError) as caught:
-            _manifest.dependencies_of(self.path)
-        wanted = "it has no package, and only cargo finds those of a workspace"
-        self.assertEqual(str(caught.exception), f"{self.path}: {wanted}")
+    @needs("cargo", untested="ways to a manifest, and a workspace with one member, by a real cargo")
+    def test_ways_to_a_manifest(self):
+        folder = os.path.dirname(self.path)
+        for name in ("winapi", "one"):
+            self.write_package(name)
+        member = package_of("one") + '[dependencies]\nwinapi = { path = "../winapi" }\n'
+        self.write(os.path.join(folder, "one/Cargo.toml"), member)
+        root = '[workspace]\nmembers = ["one"]\n'
+        self.write(self.path, root)
+        os.symlink(folder, os.path.join(folder, "link"))
+        from_here = os.path.relpath(folder)
+        for prefix in (folder, from_here, os.path.join(folder, "link")):
+            with self.subTest(prefix=prefix):
+                self.assertEqual(self.rows_at(os.path.join(prefix, "Cargo.toml")),
+                                 [["one", "winapi", "yes"]])
+                self.assertEqual(self.rows_at(os.path.join(prefix, "one", "Cargo.toml")),
+                                 [["winapi", "yes"]])
 
-    @unittest.skipUnless(shutil.which("cargo") and shutil.which("rustc"), "there is no Cargo here")
-    def test_an_output_that_nobody_reads(self):
-        reader, writer = os.pipe()
-        os.close(reader)
-        command = [sys.executable, "-m", "cfgx", self.path, "--target", TRIPLES[0]]
-        run = subprocess.run(
-            command, stdout=writer, stderr=subprocess.PIPE, check=False,
-            env={**os.environ, "PYTHONPATH": PACKAGE},
-        )
-        os.close(writer)
-        self.assertEqual((run.returncode, run.stderr), (0, b""))
+    def rows_at(self, path):
+        """Returns the words of each row of the table of the manifest at a path."""
+        with unittest.mock.patch.object(_manifest, "rustc_lines", printed):
+            table = self.run_main(path, "--target", TRIPLES[1])
+        return [line.split() for line in table.splitlines()[1:]]
 
     def write_all(self, library, conditions, kinds):
         """Writes a manifest with a dependency of each kind for each condition, and their
         packages."""
         self.write(self.path, package_of("a") + library + "".join(tables_of(conditions, kinds)))
-        for place in range(len(conditions)):
-            for kind in kinds:
-                self.write_package(f"{kind[:3]}{place}")
+        for place, kind in itertools.product(range(len(conditions)), kinds):
+            self.write_package(f"{kind[:3]}{place}")
 
     def write_package(self, name):
         """Writes a package in a folder of the package."""
@@ -356,9 +487,9 @@ class Manifest(Folder):
                 list(_manifest.listed_in(manifest))
             self.assertRegex(str(caught.exception), "^[a-z()-]* is no table$")
 
-    @unittest.skipIf(tomllib, "Python reads a manifest")
     def test_no_reader(self):
-        with no_cargo(), self.assertRaises(_manifest.ManifestError) as caught:
+        with no_cargo(), unittest.mock.patch.dict("sys.modules", tomllib=None), \
+                self.assertRaises(_manifest.ManifestError) as caught:
             _manifest.dependencies_of(self.path)
         wanted = "there is no cargo on the path, and Python reads a manifest only since 3.11"
         self.assertEqual(str(caught.exception), wanted)

@@ -2,10 +2,8 @@
 import doctest
 import os
 import re
-import shutil
-import unittest
 
-from . import ROOT
+from . import ROOT, needs
 from .test_manifest import Folder
 
 import cfgx
@@ -23,15 +21,21 @@ def blocks(page):
 class Page(Folder):
     """The table on the page for manifests."""
 
-    @unittest.skipUnless(shutil.which("cargo") and shutil.which("rustc"), "there is no Cargo here")
+    @needs("cargo", "rustc", untested="the table on the page MANIFESTS")
     def test_the_table(self):
         shown = blocks(MANIFESTS_PAGE)
         [manifest] = [text for language, text in shown if language == "toml"]
-        [place] = [place for place, (_, text) in enumerate(shown) if "python3 -m cfgx" in text]
+        [place] = [place for place, (_, text) in enumerate(shown) if "-m cfgx" in text]
         command, table = shown[place][1].split(), shown[place + 1][1]
         self.write(self.path, manifest)
-        self.assertEqual(command[:4], ["python3", "-m", "cfgx", "Cargo.toml"])
-        self.assertEqual(self.run_main(self.path, *command[4:]), table)
+        self.assertEqual(command[:5], ["python3", "-P", "-m", "cfgx", "Cargo.toml"])
+        self.assertEqual(self.run_main(self.path, *command[5:]), table)
+
+    def test_commands_take_no_module_of_the_folder(self):
+        for page in (PAGE, MANIFESTS_PAGE):
+            commands = [text for _, text in blocks(page) if "cfgx " in text and "-m" in text]
+            self.assertTrue(commands, page)
+            self.assertTrue(all(text.startswith("python3 -P -m cfgx ") for text in commands), page)
 
     def test_the_line_of_several_flags(self):
         with open(MANIFESTS_PAGE, encoding="utf-8") as file:
