@@ -239,28 +239,29 @@ class Terminal(Made):
 class Folders(Made):
     """What a folder with modules of its own makes the command run."""
 
-    def setUp(self):
-        super().setUp()
-        for name in ("json.py", "argparse.py", "cfgx/__init__.py"):
-            text = f"open({os.path.join(self.folder, 'ran')!r}, 'w').close()\n"
-            self.write(os.path.join(self.folder, name), text)
+    MODULES = ("json.py", "argparse.py", "cfgx/__init__.py")
 
-    def has_run(self):
-        """Whether a module of the folder was run."""
-        return os.path.exists(os.path.join(self.folder, "ran"))
+    def runs(self, name, **options):
+        """Whether the command runs a module of the folder. If not, it prints the table."""
+        self.setUp()
+        mark = os.path.join(self.folder, "mark")
+        self.write(os.path.join(self.folder, name), f"open({mark!r}, 'w').close()\n")
+        found = self.on_target(**options)
+        is_run = os.path.exists(mark)
+        self.assertTrue(is_run or found == (0, TABLE, ""), found)
+        return is_run
 
     def test_python_takes_modules_of_the_folder(self):
-        self.on_target()
-        self.assertTrue(self.has_run())
+        self.assertEqual([self.runs(name) for name in self.MODULES], [True] * 3)
 
     @needs("Python 3.11", untested="python3 -P in a folder with modules")
     def test_safe_path(self):
-        self.assertEqual(self.on_target(options=["-P"]), (0, TABLE, ""))
-        self.assertFalse(self.has_run())
+        found = [self.runs(name, options=["-P"]) for name in self.MODULES]
+        self.assertEqual(found, [False] * 3)
 
     def test_another_folder(self):
-        found = self.on_target(shell='cd / && exec "$@"')
-        self.assertEqual((found, self.has_run()), ((0, TABLE, ""), False))
+        found = [self.runs(name, shell='cd / && exec "$@"') for name in self.MODULES]
+        self.assertEqual(found, [False] * 3)
 
 
 class Listed(Made):

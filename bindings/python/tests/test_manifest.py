@@ -89,7 +89,11 @@ LISTED = [
     ('[dev_dependencies]\na = "1"\n[build_dependencies]\nb = "1"\n',
      [("a", "dev", False, None, False), ("b", "build", False, None, True)]),
     ('[target."cfg(a)".dev_dependencies]\na = "1"\n[target."cfg(a)".build_dependencies]\nb = "1"\n',
-     [("a", "dev", False, "cfg(a)", False), ("b", "build", False, "cfg(a)", True)]),
+     [("b", "build", False, "cfg(a)", True), ("a", "dev", False, "cfg(a)", False)]),
+    ('[target.t.dev-dependencies]\na = "1"\n[target.t.build-dependencies]\na = "1"\n'
+     '[target.t.dependencies]\nz = "1"\na = { version = "1", optional = true }\n',
+     [("a", "normal", True, "t", False), ("z", "normal", False, "t", False),
+      ("a", "build", False, "t", True), ("a", "dev", False, "t", False)]),
     ('[dev_dependencies]\na = "1"\n[dev-dependencies]\nb = "1"\n[build-dependencies]\nc = "1"\n'
      '[build_dependencies]\nd = "1"\n',
      [("b", "dev", False, None, False), ("c", "build", False, None, True)]),

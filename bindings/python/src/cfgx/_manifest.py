@@ -10,8 +10,13 @@ from ._audit import audit, rustc_lines
 from ._error import ParseError, RustcError
 from ._expression import Expression, Kind, Predicate, parse, stripped
 
-# The tables of dependencies, and the kind of those in each.
-TABLES = {"dependencies": "normal", "dev-dependencies": "dev", "build-dependencies": "build"}
+# The tables of dependencies and the kind of those in each, in the order in which Cargo lists those
+# of a package, and those of a target.
+NORMAL = "dependencies", "normal"
+DEV = "dev-dependencies", "dev"
+BUILD = "build-dependencies", "build"
+TABLES = (NORMAL, DEV, BUILD)
+TABLES_OF_TARGET = (NORMAL, BUILD, DEV)
 # How many unknown predicates a condition may ask so that all their answers are tried.
 MOST_TRIED = 8
 
@@ -96,12 +101,22 @@ def listed_in(manifest: Dict[str, Any]) -> Iterator[Dependency]:
     library, targets = table_in(manifest, "lib"), table_in(manifest, "target")
     usual = ["proc-macro"] if value_in(library, "proc-macro", False) is True else []
     is_macro = value_in(library, "crate-type", usual) == ["proc-macro"]
-    for target in (None, *sorted(targets)):
-        tables = manifest if target is None else table_in(targets, target)
-        for table, kind in TABLES.items():
-            for name, found in sorted(table_in(tables, table).items()):
-                is_optional = isinstance(found, dict) and bool(found.get("optional"))
-                yield Dependency(name, kind, is_optional, target, is_macro or kind == "build")
+    yield from listed_below(manifest, None, is_macro)
+    for target in sorted(targets):
+        yield from listed_below(table_in(targets, target), target, is_macro)
+
+
+def listed_below(
+    tables: Dict[str, Any], target: Optional[str], is_macro: bool
+) -> Iterator[Dependency]:
+    """Yields the dependencies in the tables of a package or of one of its targets."""
+    entries = (
+        (kind, name, found) for table, kind in (TABLES if target is None else TABLES_OF_TARGET)
+        for name, found in sorted(table_in(tables, table).items())
+    )
+    for kind, name, found in entries:
+        is_optional = isinstance(found, dict) and bool(found.get("optional"))
+        yield Dependency(name, kind, is_optional, target, is_macro or kind == "build")
 
 
 def value_in(table: Dict[str, Any], key: str, default: Any) -> Any:
