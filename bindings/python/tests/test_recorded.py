@@ -111,7 +111,7 @@ class Recorded(unittest.TestCase):
 
     def test_runs_of_parse(self):
         runs = [(int(status), *fields) for status, *fields in rows.rows_of("run")]
-        runs = [run for run in runs if run[2] == "parse" and run[0] in (0, 1)]
+        runs = [run for run in runs if run[2:3] == ("parse",) and run[0] in (0, 1)]
         for status, output, _, *texts in runs:
             with self.subTest(texts=texts):
                 text, = map(rows.unescaped, texts)
