@@ -82,12 +82,14 @@ class Audits(unittest.TestCase):
             number, target, fact = wanted[1], wanted[0], wanted[2]
             self.assertEqual(str(error), f"fact {number} of target {target} is faulty: {fact}")
 
-    def test_other_arguments(self):
-        with self.assertRaises(ValueError):
-            cfgx.audit(["unix"], [LINUX], otherwise=True)
+    def test_what_is_no_answer(self):
         for otherwise in (0, 1, 0.0, 1.0, "", "false", b"", [], ()):
             with self.subTest(otherwise=otherwise), self.assertRaises(TypeError):
                 cfgx.audit(["unix"], [LINUX], otherwise=otherwise)
+
+    def test_other_arguments(self):
+        with self.assertRaises(ValueError):
+            cfgx.audit(["unix"], [LINUX], otherwise=True)
         rows = [
             ([b"unix"], []), ([1], []), ([], [[b"unix"]]), ([], [b"unix"]), ([], [None]),
             ("unix", []), (cfgx.parse("unix"), []), ([], LINUX),

@@ -123,10 +123,9 @@ class Expressions(unittest.TestCase):
 
     def test_copies(self):
         expression = cfgx.parse('cfg(any(test, a = "é"))')
-        for protocol in range(pickle.HIGHEST_PROTOCOL + 1):
-            other = pickle.loads(pickle.dumps(expression, protocol))
-            self.assertEqual(other.text, expression.text)
-        for other in (other, copy.copy(expression), copy.deepcopy(expression)):
+        protocols = range(pickle.HIGHEST_PROTOCOL + 1)
+        kept = [pickle.loads(pickle.dumps(expression, protocol)) for protocol in protocols]
+        for other in (*kept, copy.copy(expression), copy.deepcopy(expression)):
             self.assertEqual(other.predicates, expression.predicates)
             self.assertEqual(other.text, expression.text)
             self.assertIs(other.eval([None, True]), True)

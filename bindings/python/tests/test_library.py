@@ -211,6 +211,8 @@ class Memory(unittest.TestCase):
         for status in (3, 8):
             with self.assertRaises(MemoryError):
                 _library.expect_done(status)
+
+    def test_statuses_that_cannot_be(self):
         for status in (1, 2, 4, 5, 6, 7, 9, 10):
             with self.subTest(status=status), self.assertRaises(AssertionError):
                 _library.expect_done(status)

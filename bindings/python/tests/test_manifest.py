@@ -325,15 +325,18 @@ class Manifest(Folder):
         for key, value in [(triple, True), (longer, False), ("x86_64", False), ("", False)]:
             self.assertEqual(self.verdict_below(key, target), (value, ""))
         self.assertEqual(self.verdict_below(triple, _manifest.Target(longer, [])), (False, ""))
+
+    def test_keys_that_are_neither_a_condition_nor_a_triple(self):
+        target = _manifest.Target("x86_64-pc-windows-gnu", [])
         for key in ("cfg(unix", "cfg(unix) ", "cfg(unix)x", "cfg(", "cfg()"):
             with self.subTest(key=key), self.assertRaises(_manifest.ManifestError):
                 self.verdict_below(key, target)
 
     def test_features_of_the_target(self):
-        for triple, feature in zip(TRIPLES, ("sse2", "sse2", "neon")):
-            for name in ("sse2", "neon"):
-                found = self.verdict_of(f'target_feature = "{name}"', triple)
-                self.assertEqual(found, (name == feature, ""))
+        features = zip(TRIPLES, ("sse2", "sse2", "neon"))
+        for (triple, feature), name in itertools.product(features, ("sse2", "neon")):
+            found = self.verdict_of(f'target_feature = "{name}"', triple)
+            self.assertEqual(found, (name == feature, ""))
 
     def test_a_faulty_condition(self):
         dependency = _manifest.Dependency("a", "normal", False, "cfg(feature)", False)
@@ -426,8 +429,8 @@ class Manifest(Folder):
     @needs("cargo", untested="ways to a manifest, and a workspace with one member, by a real cargo")
     def test_ways_to_a_manifest(self):
         folder = os.path.dirname(self.path)
-        for name in ("winapi", "one"):
-            self.write_package(name)
+        self.write_package("winapi")
+        self.write_package("one")
         member = package_of("one") + '[dependencies]\nwinapi = { path = "../winapi" }\n'
         self.write(os.path.join(folder, "one/Cargo.toml"), member)
         root = '[workspace]\nmembers = ["one"]\n'

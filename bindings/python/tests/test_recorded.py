@@ -93,6 +93,8 @@ class Tables(unittest.TestCase):
             with unittest.mock.patch.object(rows, "rows_of", lambda check: [row]), \
                     self.subTest(row=row), self.assertRaises((KeyError, ValueError)):
                 rows.conditions_of_runs()
+
+    def test_an_answer_that_is_misspelt(self):
         for field in ("ture", "1 0 1", "1", "2 0"):
             with self.subTest(field=field), self.assertRaises((KeyError, ValueError)):
                 decision_of(field)

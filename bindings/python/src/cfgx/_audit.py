@@ -25,8 +25,7 @@ def audit(
     which is `None` for unknown, or `False`.
 
     Raises `ParseError` for the first text that is no condition, or else `FactError` for the first
-    faulty fact. If `otherwise` is something else, raises `ValueError` for `True`, and `TypeError`
-    for what is no answer, such as 0.
+    faulty fact; and for another `otherwise` `ValueError` if it is `True`, or else `TypeError`.
 
     >>> import cfgx
     >>> cfgx.audit(['any(windows, feature = "x")', "unix"], ["unix", ["windows", "?test"]])
@@ -36,9 +35,7 @@ def audit(
     """
     if isinstance(conditions, str) or isinstance(targets, str):
         raise TypeError("conditions and targets are lists")
-    if otherwise is not None and otherwise is not False:
-        error = ValueError if otherwise is True else TypeError
-        raise error(f"otherwise is None or False, and not {otherwise!r}")
+    number = number_of(otherwise)
     texts = [item.text if isinstance(item, Expression) else item for item in conditions]
     encoded = [_library.utf8_of(text) for text in texts]
     facts: List[str] = []
@@ -47,13 +44,20 @@ def audit(
         facts += lines_of(target) if isinstance(target, str) else target
         ends.append(len(facts))
     status, place, values = _library.audit(
-        encoded, [_library.utf8_of(fact) for fact in facts], ends, _library.number_of(otherwise)
+        encoded, [_library.utf8_of(fact) for fact in facts], ends, number
     )
     if status == _library.FAULTY:
         raise parse_error(texts[place], encoded[place])
     if status == _library.FAULTY_FACT:
         raise fact_error(facts, ends, place)
     return [values[row * len(ends):(row + 1) * len(ends)] for row in range(len(texts))]
+
+
+def number_of(otherwise: Optional[bool]) -> int:
+    """Returns the number of what predicates are that no fact names."""
+    if otherwise is True:
+        raise ValueError("otherwise is None or False, and not True")
+    return _library.number_of(otherwise)
 
 
 def fact_error(facts: List[str], ends: List[int], place: int) -> FactError:
