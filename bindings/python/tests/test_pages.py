@@ -11,6 +11,13 @@ import cfgx
 PAGE = os.path.join(ROOT, "docs", "PYTHON.md")
 MANIFESTS_PAGE = os.path.join(ROOT, "docs", "MANIFESTS.md")
 
+# What has examples.
+SHOWN = {
+    "PYTHON.md", "cfgx", "cfgx.Expression.decide", "cfgx.Expression.eval", "cfgx.FactError",
+    "cfgx.Expression.original", "cfgx.Expression.predicates", "cfgx.ParseError", "cfgx.Predicate",
+    "cfgx.audit", "cfgx.parse",
+}
+
 
 def blocks(page):
     """Returns the language and the text of each block of a page."""
@@ -46,8 +53,12 @@ class Page(Folder):
 def load_tests(loader, tests, pattern):
     """Adds the examples to the tests."""
     page = "".join(text for language, text in blocks(PAGE) if language == "python")
-    examples = [doctest.DocTestParser().get_doctest(page, {}, "PYTHON.md", PAGE, 0)]
+    found = [doctest.DocTestParser().get_doctest(page, {}, "PYTHON.md", PAGE, 0)]
     # Without `module=False` the finder leaves out what another module defines.
-    examples += doctest.DocTestFinder().find(cfgx, "cfgx", module=False, globs={})
-    tests.addTests(doctest.DocTestCase(example) for example in examples if example.examples)
+    found += doctest.DocTestFinder().find(cfgx, "cfgx", module=False, globs={})
+    examples = [one for one in found if one.examples]
+    missing = SHOWN - {one.name for one in examples}
+    if missing:
+        raise ValueError(f"there is no example of {missing}")
+    tests.addTests(map(doctest.DocTestCase, examples))
     return tests
