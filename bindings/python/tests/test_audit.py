@@ -78,7 +78,7 @@ class Audits(unittest.TestCase):
                 cfgx.audit(["unix"], targets)
             error = pickle.loads(pickle.dumps(caught.exception))
             self.assertEqual((error.target, error.number, error.fact), wanted)
-            self.assertEqual(vars(cfgx.FactError(*error.args)), vars(error))
+            self.assertEqual((caught.exception.args, error.args), (wanted, wanted))
             number, target, fact = wanted[1], wanted[0], wanted[2]
             self.assertEqual(str(error), f"fact {number} of target {target} is faulty: {fact}")
 
