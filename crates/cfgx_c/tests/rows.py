@@ -4,7 +4,8 @@
 usage: rows.py LIBRARY CALL..   The calls are those that the library has.
 
 A row that is wrong is printed with what was wanted and found. Predicates and steps are compared
-with those that conditions.py finds.
+with those that conditions.py finds. A table that is missing, or whose head has another number of
+rows, ends the test.
 """
 import os
 import random
@@ -18,6 +19,16 @@ sys.path.insert(0, os.path.join(FOLDER, "..", "examples"))
 from cfgx import Cfgx, CfgxError  # noqa: E402
 from conditions import Condition  # noqa: E402
 
+# The files in which each check that is used here has a table.
+TABLES = {
+    "fault": {"faults.txt", "neighbours.txt", "predicates.txt", "tokens.txt"},
+    "fault in the stripped text": {"stripping.txt"},
+    "fillings": {"values.txt"},
+    "pick": {"long.txt", "pick.txt"},
+    "predicates": {"grammar.txt", "order.txt", "predicates.txt", "tokens.txt"},
+    "run": {"eval.txt", "parse.txt", "target.txt", "usage.txt"},
+    "spelling": {"spelling.txt"},
+}
 ESCAPES = {"n": "\n", "t": "\t", "r": "\r", "0": "\0", "\\": "\\", "e": ""}
 USAGE = "usage: cfgx parse TEXT | eval TEXT FLAG.. | target TRIPLE TEXT | pick TRIPLE\n"
 REASONS = (
@@ -57,6 +68,7 @@ MANY_STATUSES = (
     ((b"parse", b"a)", b"b"), b"", 2, USAGE.encode()),
 )
 VALUES = {"1": True, "0": False, "?": None}
+KNOWN = {"true": True, "false": False}
 PRINTED = {True: b"true\n", False: b"false\n", None: b"unknown\n"}
 
 
@@ -67,33 +79,42 @@ def unescaped(field):
     return re.sub(r"\\(.)", lambda escape: ESCAPES[escape[1]], field).encode()
 
 
+def rows_below(head):
+    """Returns the rows of a table, given its head and all that stands below it."""
+    _, count, below = re.match(r"\[(.*): (\d+) rows?\]\n.*\n((?s:.*))", head).groups()
+    rows = [line for line in below.split("\n") if line and not line.startswith("# ")]
+    if len(rows) != int(count):
+        raise ValueError(f"this table has {len(rows)} rows: {head[:200]}")
+    return [line.split(" | ") for line in rows]
+
+
 def tables():
-    """Yields the name of the check and the fields of each row of the tables."""
+    """Yields the file, the name of the check and the rows of each table."""
     for name in sorted(os.listdir(DATA)):
-        check = None
-        with open(os.path.join(DATA, name), encoding="utf-8") as file:
-            lines = iter(file.read().split("\n"))
-        for line in lines if name.endswith(".txt") else ():
-            head = re.fullmatch(r"\[(.*): \d+ rows?\]", line)
-            if head:
-                check = head[1]
-                next(lines)
-            elif check and line and not line.startswith("# "):
-                yield check, line.split(" | ")
+        if name.endswith(".txt"):
+            with open(os.path.join(DATA, name), encoding="utf-8") as file:
+                heads = re.split(r"^(?=\[.*: \d+ rows?\]$)", file.read(), flags=re.M)
+            for head in heads[1:]:
+                yield name, head[1:head.index(": ")], rows_below(head)
 
 
 def rust_crate():
     """Yields the text, the status and the output of each row of the Rust crate."""
     with open(os.path.join(DATA, "rust_crate.tsv"), encoding="utf-8") as file:
-        for line in file.read().split("\n"):
-            if line.count("\t") == 2:
+        for line in file.read().rstrip("\n").split("\n"):
+            if not line.startswith("# "):
                 text, status, output = line.split("\t")
                 yield unescaped(text), int(status), unescaped(output)
 
 
 def rows_of(*checks):
-    """Returns the fields of the rows with these checks."""
-    return [fields for check, fields in tables() if check in checks]
+    """Returns the fields of the rows with these checks, which have the tables that they should."""
+    found = [(file, check, rows) for file, check, rows in tables() if check in checks]
+    for check in checks:
+        missing = TABLES[check] - {file for file, other, _ in found if other == check}
+        if missing:
+            raise ValueError(f"no table {check} is in {missing}")
+    return [fields for _, _, rows in found for fields in rows]
 
 
 def offset_of(text):
@@ -159,11 +180,25 @@ def check_predicates(cfgx):
         yield text, found, Condition(text).predicates()
 
 
+def answers_in(digits):
+    """Returns the answers that a field has."""
+    return [VALUES[digit] for digit in digits.replace("\\e", "")]
+
+
+def decisions():
+    """Yields the text and the answers of each row with fillings, its value and both fillings."""
+    for text, answers, wanted in rows_of("fillings"):
+        if wanted in KNOWN:
+            decision = KNOWN[wanted], [], []
+        else:
+            if_true, if_false = wanted.split(" ")
+            decision = None, answers_in(if_true), answers_in(if_false)
+        yield unescaped(text), answers_in(answers), decision
+
+
 def check_value(cfgx):
     """Compares the values over the answers of the rows, and over others."""
-    for text, answers, wanted in rows_of("fillings"):
-        text, answers = unescaped(text), [VALUES[answer] for answer in answers.replace("\\e", "")]
-        value = {"true": True, "false": False}.get(wanted)
+    for text, answers, (value, _, _) in decisions():
         yield (text, answers), cfgx.value(text, answers), value
     for text, answers in answered_texts():
         yield (text, answers), cfgx.value(text, answers), Condition(text).value(answers)
@@ -180,13 +215,8 @@ def answered_texts():
 
 def check_decide(cfgx):
     """Compares the fillings of the rows, and the values over fillings at other answers."""
-    for text, answers, wanted in rows_of("fillings"):
-        text, answers = unescaped(text), [VALUES[answer] for answer in answers.replace("\\e", "")]
-        value = {"true": True, "false": False}.get(wanted)
-        fillings = [[], []]
-        if value is None:
-            fillings = [[VALUES[answer] for answer in filling] for filling in wanted.split(" ")]
-        yield (text, answers), cfgx.decide(text, answers), (value, *fillings)
+    for text, answers, decision in decisions():
+        yield (text, answers), cfgx.decide(text, answers), decision
     for text, answers in answered_texts():
         value, if_true, if_false = cfgx.decide(text, answers)
         condition = Condition(text)
@@ -286,10 +316,11 @@ def failures_of(name, cfgx):
 
 
 def main():
-    """Runs the checks of the calls."""
+    """Runs the checks of the calls. No row is about `cfgx_version`."""
     cfgx = Cfgx(sys.argv[1])
-    names = [name for name in sys.argv[2:] if name in CHECKS]
-    sys.exit(1 if sum(failures_of(name, cfgx) for name in names) else 0)
+    if {*sys.argv[2:]} != {*CHECKS, "version"}:
+        sys.exit(f"rows.py: these are not the calls that it knows: {sys.argv[2:]}")
+    sys.exit(1 if sum(failures_of(name, cfgx) for name in CHECKS) else 0)
 
 
 if __name__ == "__main__":
