@@ -9,11 +9,10 @@
 #include <string.h>
 
 /* Up to this size each one is tested. */
-#define ONE_BY_ONE 520
+#define ONE_BY_ONE 2050
 #define MOST 65537
 
-static const size_t larger[] = {700,  1000, 1023, 1024, 1025, 1500, 1999,  2000,  2001,  2047,
-                                2048, 2049, 4095, 4096, 4097, 9999, 10000, 65535, 65536, MOST};
+static const size_t larger[] = {3000, 4095, 4096, 4097, 9999, 10000, 65535, 65536, MOST};
 
 /* A condition of a size: `start`, `piece` as often as the size says, `middle`, `closing` as often,
  * and `end`. */
