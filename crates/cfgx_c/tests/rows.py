@@ -88,14 +88,19 @@ def rows_below(head):
     return [line.split(" | ") for line in rows]
 
 
+def tables_of(name):
+    """Yields the file, the name of the check and the rows of each table of a file."""
+    with open(os.path.join(DATA, name), encoding="utf-8") as file:
+        _, *heads = re.split(r"^(?=\[.*: \d+ rows?\]$)", file.read(), flags=re.M)
+    for head in heads:
+        yield name, head[1:head.index(": ")], rows_below(head)
+
+
 def tables():
     """Yields the file, the name of the check and the rows of each table."""
     for name in sorted(os.listdir(DATA)):
         if name.endswith(".txt"):
-            with open(os.path.join(DATA, name), encoding="utf-8") as file:
-                heads = re.split(r"^(?=\[.*: \d+ rows?\]$)", file.read(), flags=re.M)
-            for head in heads[1:]:
-                yield name, head[1:head.index(": ")], rows_below(head)
+            yield from tables_of(name)
 
 
 def rust_crate():

@@ -431,12 +431,10 @@ static void test_size(size_t size)
 int main(int count, char **words)
 {
     size_t most = count > 1 ? strtoul(words[1], NULL, 10) : MOST;
-    for (size_t size = 0; size <= ONE_BY_ONE && size <= most; size++) {
-        test_size(size);
-    }
-    for (size_t i = 0; i < COUNT(larger); i++) {
-        if (larger[i] <= most) {
-            test_size(larger[i]);
+    for (size_t i = 0; i <= ONE_BY_ONE + COUNT(larger); i++) {
+        size_t size = i <= ONE_BY_ONE ? i : larger[i - ONE_BY_ONE - 1];
+        if (size <= most) {
+            test_size(size);
         }
     }
     return finish("sizes", 0);
