@@ -15,17 +15,17 @@ TESTED = {
     "equality", "fault", "fault in the stripped text", "fillings", "predicates", "run", "spelling",
     "stripped text",
 }
-# The checks of what the package does not have: parts of the parser, targets that are built in or
-# made by hand, what a `Debug` of Rust prints, the streams of the program; its long rows; and the
-# tables of a page, whose rows are not texts alone.
+# The checks of what the package does not have: parts of the parser, the predicates of Rattle,
+# targets that are built in or made by hand, what a `Debug` of Rust prints, the streams of the
+# program; its long rows; and the tables of a page, whose rows are not texts alone.
 OTHERS = {
     "all built-in targets", "built-in target", "calls for the next predicate", "counted stream",
     "ending", "failed read", "fault of the page", "field", "items", "length of an input",
     "list of families", "list of widths", "long run", "long spelling", "nodes", "not UTF-8", "pick",
     "pick of the page", "pick on a target", "printed fault", "property", "reads", "reason",
     "run on each target", "spelling of the page", "streams of pick", "table", "type",
-    "values on built-in targets", "values on no target", "values on targets made by hand",
-    "whole input", "width",
+    "typed predicates", "values on built-in targets", "values on no target",
+    "values on targets made by hand", "whole input", "width",
 }
 
 
@@ -74,7 +74,9 @@ class Tables(unittest.TestCase):
     """The files of rows, and how they are read."""
 
     def test_each_table_is_known(self):
-        self.assertEqual({check for check, _ in rows.tables()}, TESTED | OTHERS)
+        """Rows that stand for one of each size are for the calls of Rattle."""
+        checks = {check for check, _ in rows.tables() if not check.startswith("each size of ")}
+        self.assertEqual(checks, TESTED | OTHERS)
 
     def test_a_table_without_rows(self):
         for checks in ((), ("predicate",), ("predicates", "faults")):
