@@ -5,7 +5,7 @@ use std::alloc::{AllocError, Global};
 const LAST: usize = 130;
 
 // The sizes beyond.
-const BEYOND: [usize; 7] = [254, 255, 256, 257, 511, 1_000, 2_000];
+const BEYOND: [usize; 6] = [255, 256, 257, 511, 1_000, 2_000];
 
 /// The number of sizes.
 pub(crate) const COUNT: usize = LAST + 1 + BEYOND.len();
