@@ -210,16 +210,23 @@ fn panic_of(call: impl Fn(&Audit) -> Option<bool>) -> String {
     text.map_or(String::new(), |text| *text)
 }
 
+/// A number that twice is more than the largest one.
+const HALF: usize = usize::MAX / 2 + 1;
+
 #[test]
-fn numbers_that_are_not_there_panic() {
+fn conditions_that_are_not_there_panic() {
     assert_eq!(panic_of(|values| values.row(1)[1]), "");
-    let half = usize::MAX / 2 + 1;
-    for condition in [2, 3, half, half + 1, usize::MAX] {
+    for condition in [2, 3, HALF, HALF + 1, usize::MAX] {
         let expected = format!("no condition has the number {condition}");
         assert_eq!(panic_of(|values| values.row(condition)[0]), expected);
         assert_eq!(panic_of(|values| values.value(condition, 0)), expected);
     }
-    for target in [2, 3, half, usize::MAX] {
+}
+
+#[test]
+fn targets_that_are_not_there_panic() {
+    assert_eq!(panic_of(|values| values.value(1, 1)), "");
+    for target in [2, 3, HALF, usize::MAX] {
         let expected = format!("no target has the number {target}");
         assert_eq!(panic_of(|values| values.value(0, target)), expected);
         assert_eq!(panic_of(|values| values.value(1, target)), expected);

@@ -31,11 +31,13 @@ pub fn pass(command: &mut Command) -> String {
     printed
 }
 
-/// Returns whether this machine has a program. If not, says which tests are left out.
+/// Returns whether a program runs on this machine. If not, says which tests are left out. A program
+/// that rustup stands in for may be on the path without its toolchain.
 pub fn is_there(program: &str, untested: &str) -> bool {
-    let is_there = Command::new(program).arg("--version").output().is_ok();
+    let output = Command::new(program).arg("--version").output();
+    let is_there = output.is_ok_and(|output| output.status.success());
     if !is_there {
-        println!("skipped: there is no {program} on the path, so {untested}");
+        println!("skipped: {program} does not run here, so {untested}");
     }
     is_there
 }

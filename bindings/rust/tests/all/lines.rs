@@ -157,6 +157,15 @@ fn fields_that_are_missing() {
     assert_eq!(read_instead("target_vendor=\"\""), target);
 }
 
+/// Returns each of the texts with each place at which it is read: before all lines, among them, and
+/// behind them.
+fn at_each_place<'a>(texts: &'a [&'a str]) -> impl Iterator<Item = (&'a str, usize)> {
+    let places = [0, 5, LINES.len()];
+    texts
+        .iter()
+        .flat_map(move |text| places.map(|place| (*text, place)))
+}
+
 /// Lines that say nothing of a target.
 const PASSED_OVER: [&str; 17] = [
     "",
@@ -180,10 +189,8 @@ const PASSED_OVER: [&str; 17] = [
 
 #[test]
 fn lines_that_are_passed_over() {
-    for line in PASSED_OVER {
-        for place in [0, 5, LINES.len()] {
-            assert_eq!(read_with(place, line), Ok(expected()), "{line:?}");
-        }
+    for (line, place) in at_each_place(&PASSED_OVER) {
+        assert_eq!(read_with(place, line), Ok(expected()), "{line:?}");
     }
 }
 
@@ -211,17 +218,15 @@ const FAULTY: [&str; 18] = [
 
 #[test]
 fn lines_that_are_faulty() {
-    for text in FAULTY {
-        for place in [0, 5, LINES.len()] {
-            let error = Expression::parse(text).unwrap_err();
-            let line = place + 1;
-            let printed = format!("line {line}:\n{error}");
-            let source = error.to_string();
-            let found = read_with(place, text).unwrap_err();
-            assert_eq!(found.to_string(), printed);
-            assert_eq!(found.source().unwrap().to_string(), source);
-            assert_eq!(found, RustcCfgError::Faulty { line, error });
-        }
+    for (text, place) in at_each_place(&FAULTY) {
+        let error = Expression::parse(text).unwrap_err();
+        let line = place + 1;
+        let printed = format!("line {line}:\n{error}");
+        let source = error.to_string();
+        let found = read_with(place, text).unwrap_err();
+        assert_eq!(found.to_string(), printed);
+        assert_eq!(found.source().unwrap().to_string(), source);
+        assert_eq!(found, RustcCfgError::Faulty { line, error });
     }
 }
 

@@ -59,12 +59,12 @@ fn value_with_one(name: &str, count: usize, place: usize, odd: bool) -> bool {
 
 #[test]
 fn one_member_decides_a_wide_list() {
-    for count in [1, 2, 9, 64, 65, 130, 1000, 65_537, LENGTH / 2] {
-        for place in [0, 1, 9, count / 2, count - 1] {
-            let is_there = place < count;
-            assert_eq!(value_with_one("all", count, place, false), !is_there);
-            assert_eq!(value_with_one("any", count, place, true), is_there);
-        }
+    let counts = [1, 2, 9, 64, 65, 130, 1000, 65_537, LENGTH / 2];
+    let places = |count| [0, 1, 9, count / 2, count - 1].map(|place| (count, place));
+    for (count, place) in counts.into_iter().flat_map(places) {
+        let is_there = place < count;
+        assert_eq!(value_with_one("all", count, place, false), !is_there);
+        assert_eq!(value_with_one("any", count, place, true), is_there);
     }
 }
 

@@ -62,23 +62,36 @@ fn on_target(text: &str) -> [(&'static str, TargetPredicate); 7] {
 
 #[test]
 fn texts_on_the_target() {
-    for text in TEXTS {
-        for (key, asked) in on_target(text) {
-            let condition = format!("{key} = \"{text}\"");
-            check(&condition, &Predicate::Target(asked));
-        }
+    let keys = TEXTS
+        .iter()
+        .flat_map(|text| on_target(text).map(|(key, asked)| (text, key, asked)));
+    for (text, key, asked) in keys {
+        let condition = format!("{key} = \"{text}\"");
+        check(&condition, &Predicate::Target(asked));
     }
 }
 
 #[test]
-fn other_texts() {
-    for val in TEXTS {
-        check(&format!("feature = \"{val}\""), &Predicate::Feature(val));
-        for key in ["key", "_", "Unix", "features", "Panic"] {
-            let expected = Predicate::KeyValue { key, val };
-            check(&format!("{key}\n=\t\"{val}\""), &expected);
-        }
+fn texts_of_features() {
+    for name in TEXTS {
+        check(&format!("feature = \"{name}\""), &Predicate::Feature(name));
     }
+}
+
+#[test]
+fn texts_of_other_keys() {
+    let keys = ["key", "_", "Unix", "features", "Panic"];
+    for (key, val) in keys
+        .iter()
+        .flat_map(|key| TEXTS.iter().map(move |val| (key, val)))
+    {
+        let expected = Predicate::KeyValue { key, val };
+        check(&format!("{key}\n=\t\"{val}\""), &expected);
+    }
+}
+
+#[test]
+fn texts_of_target_features() {
     for name in &TEXTS[1..] {
         let condition = format!("target_feature = \"{name}\"");
         check(&condition, &Predicate::TargetFeature(name));

@@ -16,21 +16,27 @@ fn conditions() -> String {
     conditions
 }
 
+/// Panics unless each condition has the value on a target that the program prints.
+fn check(conditions: &str, triple: &str) {
+    let target = get_builtin_target_by_triple(triple).unwrap();
+    for text in conditions.lines() {
+        let value: bool = Expression::parse(text)
+            .unwrap()
+            .eval(|predicate| match predicate {
+                Predicate::Target(asked) => asked.matches(target),
+                other => panic!("{other:?} of {text}"),
+            });
+        let printed = engine::run(&["target", triple, text]);
+        assert_eq!((0, format!("{value}\n")), printed, "{text}");
+    }
+}
+
 #[test]
 fn each_has_the_value_that_the_program_prints() {
+    let conditions = conditions();
     let triples = &table("triples.txt", "all built-in targets")[0][0];
     for triple in triples.split(' ') {
-        let target = get_builtin_target_by_triple(triple).unwrap();
-        for text in conditions().lines() {
-            let value: bool = Expression::parse(text)
-                .unwrap()
-                .eval(|predicate| match predicate {
-                    Predicate::Target(asked) => asked.matches(target),
-                    other => panic!("{other:?} of {text}"),
-                });
-            let printed = engine::run(&["target", triple, text]);
-            assert_eq!((0, format!("{value}\n")), printed, "{text}");
-        }
+        check(&conditions, triple);
     }
 }
 

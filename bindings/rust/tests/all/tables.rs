@@ -136,11 +136,15 @@ const DIFFERENT: [[&str; 2]; 7] = [
 ];
 
 #[test]
-fn texts_are_read_and_compared_byte_for_byte() {
+fn texts_are_compared_byte_for_byte() {
     for pair in DIFFERENT {
         let [one, other] = pair.map(|text| Expression::parse(text).unwrap());
         assert_ne!(one, other);
     }
+}
+
+#[test]
+fn from_str_reads_what_parse_reads() {
     for text in DIFFERENT.as_flattened().iter().chain(&["\tall( ", ""]) {
         let (parsed, read) = (Expression::parse(text), text.parse::<Expression>());
         let texts = [parsed, read].map(|result| match result {
