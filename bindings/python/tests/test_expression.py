@@ -185,12 +185,12 @@ class Expressions(unittest.TestCase):
 
     def test_lists_of_other_lengths(self):
         expression = cfgx.parse("all(a, b)")
-        for answers in [[], [True], [True] * 3]:
-            for call in (expression.eval, expression.decide):
-                with self.subTest(answers=answers), self.assertRaises(ValueError) as caught:
-                    call(answers)
-                wanted = f"the condition has 2 predicates, and there are {len(answers)} answers"
-                self.assertEqual(str(caught.exception), wanted)
+        rows = ([], [True], [True] * 3)
+        for answers, call in itertools.product(rows, (expression.eval, expression.decide)):
+            with self.subTest(answers=answers), self.assertRaises(ValueError) as caught:
+                call(answers)
+            wanted = f"the condition has 2 predicates, and there are {len(answers)} answers"
+            self.assertEqual(str(caught.exception), wanted)
 
     def test_an_error_of_a_callable_comes_through(self):
         with self.assertRaises(ZeroDivisionError):

@@ -29,6 +29,14 @@ static std::vector<std::string> flags_of(const std::string &text)
     return flags;
 }
 
+// Prints the numbers of values, one behind another.
+static void print_numbers(const std::vector<std::uint8_t> &values)
+{
+    for (std::uint8_t value : values) {
+        std::cout << int(value);
+    }
+}
+
 int main()
 {
     const std::string text = "all(a, any(b), c)";
@@ -45,8 +53,6 @@ int main()
     expect_done(cfgx_decide(text.data(), text.size(), answers.data(), answers.size(),
                             fillings.data(), fillings.size(), &needed, &value));
     std::cout << int(value) << ' ';
-    for (std::uint8_t filling : fillings) {
-        std::cout << int(filling);
-    }
+    print_numbers(fillings);
     std::cout << (cfgx_version() == CFGX_VERSION ? "\n" : " another version\n");
 }
