@@ -51,6 +51,7 @@ const VALUES: &[(&str, &str, &str)] = &[
     ("not(test)", "", "?1"),
     ("target_feature = \"sse\"", "", "?0"),
     ("target_feature = \"sse\"", "target_feature=\"sse\"", "11"),
+    ("feature = \"x\"", "", "?0"),
     ("feature = \"x\"", "feature", "?0"),
     ("panic = \"abort\"", "panic", "00"),
     ("panic = \"abort\"", "panic=\"abort\"", "11"),
