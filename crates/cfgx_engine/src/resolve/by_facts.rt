@@ -95,8 +95,8 @@ pub struct AuditError<A: Allocator = Global> {
 ///
 /// # Errors
 ///
-/// `Failure::Parse`: the first faulty condition. `Failure::Memory`: `alloc` refused memory. Either
-/// way each condition before that at `index` has no fault.
+/// `Failure::Parse`: the first faulty condition. `Failure::Memory`: `alloc` refused memory. With
+/// both, each condition before the one at `index` has no fault.
 pub fn audit_facts<A: SmallAllocator>(
     alloc: A,
     conditions: &[&str],
