@@ -8,7 +8,8 @@ use Rattle.std.specs.{List.AllZip, List.slice_get, Option.IsSomeAnd}
 use Rattle.std.proofs.{Math.Nat.suc-mul, lemmas.List.length-append, lemmas.Nat.mul-add-lt}
 use Rattle.std.proofs.lemmas.Option.{MatchOption-at_some, same_Some, slice_get_cases}
 use Rattle.std.proofs.lemmas.{Option.slice_get_within, Slice.Zip.AllZip-left, Slice.Zip.AllZip-long}
-use Rattle.std.proofs.lemmas.{List.{length-map, map-append, take-map, take_more}, Option.slice_get-get_or}
+use Rattle.std.proofs.lemmas.List.{length-map, map-append, take-map, take_more}
+use Rattle.std.proofs.lemmas.Option.{slice_get-get_or}
 use Rattle.std.proofs.lemmas.Option.{slice_get-map}
 use Rattle.cfgx_syntax.specs.{Stripping.strip, Error.TextFault}
 use Rattle.cfgx_grammar.specs.{Answer.HasOneTree, Question.Question, Tree.asked}

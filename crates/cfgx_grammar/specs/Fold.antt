@@ -1,4 +1,4 @@
--- The value of a tree, if each of its predicates has an answer of some logic.
+-- The value of a tree whose predicates have answers in some logic.
 -- Source: the crate cfg-expr's `Expression::eval`, where `all` begins with `top` and `any` with
 -- `bottom`, and the members are joined from the last back to the first; the Rust Reference's
 -- conditional compilation, where `all()` is true and `any()` is false.
@@ -12,7 +12,7 @@ abbrev pub from_last : {T : Type 0} → (T → T → T) → T → List T → T
 from_last join begin [] = begin
 from_last join begin (value ∷ values) = join (from_last join begin values) value
 
--- the value of a function, by the values of its arranged members
+-- the value of `all` or `any` over the values of its members, functions first
 abbrev pub list_value : {T : Type 0} → Operations T → ListFunction → List T → T
 list_value logic ListFunction.all values = from_last logic.and logic.top values
 list_value logic ListFunction.any values = from_last logic.or logic.bottom values
@@ -22,7 +22,7 @@ abbrev pub literal_value : {T : Type 0} → Operations T → Bool → T
 literal_value logic true = logic.top
 literal_value logic false = logic.bottom
 
--- the value of a tree of answers; the members of a function are arranged, functions first
+-- the value of a tree of answers, in which the functions of a list come before its leaves
 abbrev mutual
   pub tree_value : {T : Type 0} → Operations T → Tree T → T
   tree_value logic (Tree.leaf answer) = answer
@@ -31,7 +31,7 @@ abbrev mutual
       (values_by logic is_function trees ++ values_by logic is_leaf trees)
   tree_value logic (Tree.not tree) = logic.not (tree_value logic tree)
 
-  -- the values of those trees of a list that pass the test
+  -- the values of the trees of a list that pass the test
   pub values_by : {T : Type 0} → Operations T → (Tree T → Bool) → Trees T → List T
   values_by logic test Trees.none = []
   values_by logic test (Trees.more tree trees) = if test tree
@@ -46,26 +46,26 @@ abbrev pub first_or : {T : Type 0} → T → List T → T
 first_or otherwise [] = otherwise
 first_or otherwise (answer ∷ answers) = answer
 
--- the answers that are left when each of the questions has taken one
+-- the answers that are left after each question has taken one
 abbrev pub left_after : {X T : Type 0} → List X → List T → List T
 left_after questions answers = drop (length questions) answers
 
--- the answers that are left to deal to the members of a list: to its functions, and to its leaves
+-- the answers that no member of a list has taken yet: those for its functions and for its leaves
 pub record Left (T : Type 0) : Type 0 where
   pub functions : List T
   pub leaves : List T
 
--- the answers from which a member takes its own
+-- the list from which a member takes its answers
 abbrev pub left_for : {X T : Type 0} → Tree X → Left T → List T
 left_for tree left = if is_function tree then left.functions else left.leaves
 
--- the answers that are left when a member has taken its own
+-- what is left after a member has taken its answers
 abbrev pub left_by : {X T : Type 0} → Tree X → Left T → Left T
 left_by tree left = if is_function tree
     then record left { functions = left_after (asked tree) left.functions }
     else record left { leaves = left_after (asked tree) left.leaves }
 
--- the answers for the functions and for the leaves of a list, whose functions ask first
+-- The answers for the functions and for the leaves of a list. The functions take theirs first.
 abbrev pub left_to : {X T : Type 0} → Trees X → List T → Left T
 left_to trees answers = record {
   functions = answers;

@@ -1,6 +1,6 @@
 //! What is wrong with a cfg text, where, and how it prints.
 
-ghost use Rattle.std.specs.Prelude.{◌≡◌, ◌↔◌, ◌-◌, ◌<◌, IsTrue, Some, codes, map, replicate};
+ghost use Rattle.std.specs.Prelude.{◌≡◌, ◌↔◌, IsTrue, Some, codes, map, replicate};
 ghost use Rattle.std.specs.List.{repeat};
 ghost use Rattle.std.specs.Fmt.{DisplaysOnOk};
 ghost use Rattle.cfgx_syntax.specs.Error.{cause_of, fault_in, marks, more_terms_text, only_byte};

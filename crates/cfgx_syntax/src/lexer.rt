@@ -61,13 +61,13 @@ impl PartialEq for Token<'_> {
         match (self, other) {
             (Token::Key(word), Token::Key(other)) => word == other,
             (Token::Value(inside), Token::Value(other)) => inside == other,
-            (Token::Equals, Token::Equals) => true,
-            (Token::All, Token::All) => true,
-            (Token::Any, Token::Any) => true,
-            (Token::Not, Token::Not) => true,
-            (Token::OpenParen, Token::OpenParen) => true,
-            (Token::CloseParen, Token::CloseParen) => true,
-            (Token::Comma, Token::Comma) => true,
+            (Token::Equals, Token::Equals)
+            | (Token::All, Token::All)
+            | (Token::Any, Token::Any)
+            | (Token::Not, Token::Not)
+            | (Token::OpenParen, Token::OpenParen)
+            | (Token::CloseParen, Token::CloseParen)
+            | (Token::Comma, Token::Comma) => true,
             _ => false,
         }
     }

@@ -1,7 +1,6 @@
 // Evaluates a text for the command `eval`, whose flags are facts. A predicate that no flag names is
 // false.
 
-ghost use Rattle.std.specs.Prelude.{◌≡◌};
 ghost use Rattle.cfgx_engine.specs.internal.Shows.{FitsResult};
 ghost use Rattle.cfgx_engine.specs.Output.{HasValue};
 ghost use Rattle.cfgx_engine.specs.Request.{texts};

@@ -1,5 +1,5 @@
 //! A closure that changes, and a contract on what it counts.
-ghost use Rattle.std.specs.Prelude.{◌≡◌, ◌^◌, ◌*◌, ◌-◌, length, min, IfOk};
+ghost use Rattle.std.specs.Prelude.{◌≡◌, ◌^◌, ◌-◌, length, min, IfOk};
 ghost use Rattle.cfg_expr.specs.Words.{HasOneTree, asked};
 
 use cfg_expr::{Expression, Predicate};

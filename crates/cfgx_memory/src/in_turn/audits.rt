@@ -1,5 +1,5 @@
-//! Audits by facts. The index of one that is out of memory is that of the text at which a growth was
-//! refused.
+//! Audits by facts. If an audit is out of memory, its index is that of the text at which a growth
+//! was refused.
 use super::Outcome;
 use cfg_expr::error::Failure;
 use cfg_expr::memory::SmallAllocator;

@@ -31,9 +31,9 @@ fn targets_with(alloc: Global, facts: &[&str], count: usize) -> Option<Vec<Facts
 }
 
 // Returns whether there are `count` values, and each is `wanted`.
-fn are_all(values: &[Answer], wanted: Answer, count: usize) -> bool {
+fn are_all<T: PartialEq>(values: &[T], wanted: &T, count: usize) -> bool {
     for value in values {
-        if *value != wanted {
+        if value != wanted {
             return false;
         }
     }
@@ -53,7 +53,7 @@ fn audit_finds(
     let wanted = answer_of(*digit.as_bytes().first()?)?;
     let targets = targets_with(alloc, facts, count)?;
     let values = audit_facts(alloc, texts, targets.as_slice(), Otherwise::False).ok()?;
-    Some(are_all(values.as_slice(), wanted, count.checked_mul(texts.len())?))
+    Some(are_all(values.as_slice(), &wanted, count.checked_mul(texts.len())?))
 }
 
 /// Checks an audit of the conditions on targets with these facts.
@@ -97,16 +97,6 @@ fn section_with(alloc: Global, text: &str) -> Result<Section, Failure> {
     Ok(Section { name, condition })
 }
 
-// Returns whether there are `count` verdicts, and each is `wanted`.
-fn are_verdicts(verdicts: &[Verdict], wanted: Verdict, count: usize) -> bool {
-    for verdict in verdicts {
-        if *verdict != wanted {
-            return false;
-        }
-    }
-    verdicts.len() == count
-}
-
 // Returns whether each of `count` sections has the verdict of `digit` on the target.
 fn pick_finds(
     alloc: Global,
@@ -119,7 +109,7 @@ fn pick_finds(
     let wanted = Verdict::from(answer_of(*digit.as_bytes().first()?)?);
     let sections = sections_with(alloc, text, count)?;
     let verdicts = pick(alloc, sections.as_slice(), target).ok()?;
-    Some(are_verdicts(verdicts.as_slice(), wanted, count))
+    Some(are_all(verdicts.as_slice(), &wanted, count))
 }
 
 /// Checks `pick` of sections with one condition, on a bare target.
