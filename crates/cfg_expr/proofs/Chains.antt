@@ -2,7 +2,9 @@
 use Rattle.std.proofs.Common.{◌≡◌, ◌≤◌, ◌+◌, ℕ, min, suc, List, length, refl, ap, ◌∙◌, arith, sym}
 use Rattle.std.{proofs.lemmas.Slice.Zip.AllZip-map, specs.Borrow.MutBor, specs.List.AllZip}
 use Rattle.cfgx_grammar.specs.Question.{Question}
-use Rattle.cfgx_grammar.specs.{Answer.HasOneTree, Tree.asked, Fold.Operations, Fold.tree_fold}
+use Rattle.cfgx_grammar.specs.Answer.{HasOneTree}
+use Rattle.cfgx_grammar.specs.Tree.{asked}
+use Rattle.cfg_expr.specs.Fold.{Operations, tree_fold}
 use Rattle.cfg_expr.specs.Asking.{AnswersBy, Asker, Asks, Calls}
 use Rattle.cfg_expr.specs.Evaluation.{Evaluates, IsValueBy}
 

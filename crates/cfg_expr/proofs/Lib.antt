@@ -1,6 +1,14 @@
+pub mod Arranging
+pub mod AskedPredicates
 pub mod Chains
+pub mod Dealing
+pub mod Exactness
+pub mod MappedValues
+pub mod Matched
+pub mod MatchedLanes
 pub mod Parities
 pub mod Parts
 pub mod Rooms
+pub mod SameShapes
 pub mod evaluated
 pub mod stepped

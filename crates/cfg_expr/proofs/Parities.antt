@@ -3,9 +3,10 @@ use Rattle.std.proofs.Common.{◌≡◌, ℕ, Bool, true, false, not, List, [], 
 use Rattle.std.proofs.Common.{replicate, Option, None, sym, refl, ap, ◌∙◌, append_assoc, map-id}
 use Rattle.std.proofs.{lemmas.Slice.Zip.AllZip-map, lemmas.List.append-nil, lemmas.List.map-append}
 use Rattle.cfgx_grammar.specs.{Question.Question, Tree.{ListFunction, Tree, Trees, asked, count}}
-use Rattle.cfgx_grammar.specs.Filling.{filled_by, polar, polarities, polarities_each, three_valued}
-use Rattle.cfgx_grammar.specs.Fold.{tree_fold}
-use Rattle.cfgx_grammar.proofs.Alike.{Alike, AlikeEach, asked-alike, polarities-shape}
+use Rattle.cfg_expr.specs.Filling.{filled_by, polar, polarities, polarities_each, three_valued}
+use Rattle.cfg_expr.specs.Fold.{tree_fold}
+use Rattle.cfgx_grammar.proofs.Alike.{Alike, AlikeEach, asked-alike}
+use Rattle.cfg_expr.proofs.SameShapes.{polarities-shape}
 use Rattle.cfgx_parser.specs.nodes.Prefix.{Node, list_func, prefix, prefix_each, places}
 use Rattle.cfgx_parser.specs.nodes.Shape.{Shape, shape, shape_of}
 use Rattle.cfgx_parser.{specs.declared.nodes.ExprNode.ExprNode, proofs.Shapes.places-shape}

@@ -4,8 +4,8 @@ use Rattle.std.specs.Fn.{Mut, Called}
 use Rattle.std.specs.declared.alloc.Global.{Global}
 use denote.Ref.{Bor}
 use Rattle.cfgx_grammar.specs.Question.{Question}
-use Rattle.cfgx_parser.specs.Predicate.{question_of}
-use Rattle.cfgx_parser.specs.declared.predicates.Predicate.{Predicate}
+use Rattle.cfg_expr.specs.Predicate.{question_of}
+use Rattle.cfg_expr.specs.declared.expr.predicates.Predicate.{Predicate}
 
 -- what a closure of type F promises of its calls, which answer a predicate by a T
 abbrev pub Asker : Type 0 → Type 0 → Type 1

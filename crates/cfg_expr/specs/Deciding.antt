@@ -3,8 +3,8 @@
 use Rattle.std.specs.Prelude.{◌≡◌, ℕ, Bool, true, false, List, Option, Some, None, Vec, length}
 use Rattle.cfgx_grammar.specs.Answer.{HasOneTree}
 use Rattle.cfgx_grammar.specs.Tree.{Tree, asked}
-use Rattle.cfgx_grammar.specs.Fold.{tree_fold}
-use Rattle.cfgx_grammar.specs.Filling.{IsExact, PolarFillings, polar, three_valued}
+use Rattle.cfg_expr.specs.Fold.{tree_fold}
+use Rattle.cfg_expr.specs.Filling.{IsExact, PolarFillings, polar, three_valued}
 use Rattle.cfg_expr.specs.declared.expr.Decision.{Decision}
 use Rattle.cfg_expr.specs.declared.expr.Decision.TheVariants as decision
 

@@ -6,9 +6,9 @@ use Rattle.cfgx_grammar.specs.Question.{Question}
 use Rattle.cfgx_grammar.specs.Tree.{Tree, asked}
 use Rattle.cfgx_grammar.specs.Grammar.{HasTree}
 use Rattle.cfgx_grammar.specs.Answer.{HasOneTree}
-use Rattle.cfgx_grammar.specs.Filling.{three_valued}
-use Rattle.cfgx_grammar.specs.Fold.{Operations, tree_fold}
-use Rattle.cfgx_grammar.specs.Homomorphism.{IsByLane, lane_valued}
+use Rattle.cfg_expr.specs.Filling.{three_valued}
+use Rattle.cfg_expr.specs.Fold.{Operations, tree_fold}
+use Rattle.cfg_expr.specs.Homomorphism.{IsByLane, lane_valued}
 use Rattle.cfgx_grammar.specs.WellFormed.{IsWellFormed}
 use Rattle.cfg_expr.specs.Asking.{AnswersBy, Asker, Calls, MayAskEach}
 

@@ -1,6 +1,13 @@
 pub mod Asking
 pub mod Deciding
+pub mod Equality
 pub mod Evaluation
+pub mod Filling
+pub mod Fold
+pub mod Given
+pub mod Homomorphism
+pub mod Matching
+pub mod Predicate
 pub mod Steps
 pub mod Words
 pub mod Writing

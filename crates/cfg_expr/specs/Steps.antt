@@ -4,7 +4,7 @@ use Rattle.std.specs.Prelude.{◌≡◌, ◌≢◌, ◌<◌, ◌-◌, ◌++◌, 
 use Rattle.std.specs.Prelude.{if◌then◌else◌, take, true, false, nat_eq}
 use Rattle.std.specs.{Cmp.Lexicographic.pointwise, Ordering.on}
 use Rattle.cfgx_grammar.specs.Answer.{HasOneTree}
-use Rattle.cfgx_grammar.specs.Fold.{Operations, first_or, list_value, literal_value, tree_fold}
+use Rattle.cfg_expr.specs.Fold.{Operations, first_or, list_value, literal_value, tree_fold}
 use Rattle.cfgx_grammar.specs.Question.{Question}
 use Rattle.cfgx_grammar.specs.Tree.{ListFunction, Tree, Trees, asked, count, is_function, is_leaf}
 use Rattle.cfg_expr.specs.declared.expr.steps.Step.{Step}

@@ -1,7 +1,7 @@
 //! Conditions, and the predicates that they ask.
 ghost use Rattle.std.specs.Prelude.{◌≡◌, ◌≤◌, length, IfOk, IsOk};
 ghost use Rattle.cfgx_syntax.specs.Stripping.{strip};
-ghost use Rattle.cfgx_grammar.specs.Given.{AreAnswersTo};
+ghost use Rattle.cfg_expr.specs.Given.{AreAnswersTo};
 ghost use Rattle.cfgx_grammar.specs.Answer.{Answers};
 ghost use Rattle.cfg_expr.specs.Deciding.{AreFillings, Decides, IsExactOverAll};
 ghost use Rattle.cfg_expr.specs.Evaluation.{AsksInOrder, EvaluatesTo, MayEvaluate};
@@ -12,19 +12,24 @@ mod condition;
 mod evaluating;
 mod filling;
 pub mod laws;
+mod matcher;
+mod predicates;
 mod spelling;
 mod steps;
 
 use crate::error::Failure;
 use crate::memory::SmallAllocator;
 pub use cfgx_parser::function::Func;
-pub use cfgx_parser::matcher::TargetMatcher;
-use cfgx_parser::parsed::{Parsed, parse};
-pub use cfgx_parser::predicates::{Predicate, Predicates, TargetPredicate};
+use cfgx_parser::nodes::ExprNode;
+use cfgx_parser::parser::Parser;
+use cfgx_syntax::lexer::Lexer;
 use cfgx_syntax::logic::Kleene64;
 pub use cfgx_syntax::logic::Logic;
 pub use cfgx_syntax::{lexer, logic};
 pub use condition::{Condition, ConditionReader};
+pub use matcher::TargetMatcher;
+pub use predicates::{Predicate, Predicates, TargetPredicate};
+use smallvec::SmallVec;
 pub use spelling::spell;
 use std::alloc::{AllocError, Allocator, Global};
 use std::fmt;
@@ -34,15 +39,22 @@ pub use steps::{Step, StepsError, eval_steps, steps_of};
 /// A parsed condition. Contracts see it as its stripped text.
 #[derive(Drop)]
 pub struct Expression<A: Allocator = Global> {
-    parsed: Parsed<A>,
+    original: String<A>,
+    /// In source order
+    nodes: SmallVec<ExprNode, 1, A>,
+    /// The places of the predicates among the nodes, in the order in which they are asked
+    places: SmallVec<usize, 4, A>,
 }
 
 impl<A: Allocator> Model for Expression<A> {
-    ghost use Rattle.std.specs.Prelude.{List, ℕ};
+    ghost use Rattle.std.specs.Prelude.{List, ℕ, string_bytes};
+    ghost use Rattle.cfgx_parser.specs.nodes.KeepsTree.{KeepsOneTree};
 
     ghost Value = { List ℕ };
 
-    ghost view = { λ e. e.parsed };
+    ghost view = { λ e. string_bytes e.original };
+
+    ghost invariant = { λ e. KeepsOneTree (string_bytes e.original) e.nodes.items e.places.items };
 }
 
 /// What `decide` found.
@@ -78,7 +90,7 @@ impl<A: Allocator> Expression<A> {
     pub fn original(&self) -> &str
         ensures { result.now ≡ self.now }
     {
-        self.parsed.original()
+        self.original.as_str()
     }
 }
 
@@ -122,7 +134,11 @@ impl<A: SmallAllocator> Expression<A> {
     pub fn condition(&self) -> Condition<'_>
         ensures { result ≡ self.now }
     {
-        Condition::new(self.parsed.as_ref())
+        Condition {
+            original: self.original.as_str(),
+            nodes: self.nodes.as_slice(),
+            places: self.places.as_slice(),
+        }
     }
 
     /// Parses a text, which may stand in `cfg( )`.
@@ -133,8 +149,16 @@ impl<A: SmallAllocator> Expression<A> {
     pub fn parse(alloc: A, original: &str) -> Result<Self, Failure<A>>
         ensures { Answers (strip original.now) result }
     {
+        let lexer = Lexer::new(alloc, original);
+        let text = lexer.original();
+        let mut parser = Parser::new(alloc, text.len());
+        parser.read_all(alloc, lexer)?;
+        let original = String::from_str(alloc, text)?;
+        let (nodes, places) = parser.into_parts();
         Ok(Expression {
-            parsed: parse(alloc, original)?,
+            original,
+            nodes,
+            places,
         })
     }
 
@@ -154,7 +178,9 @@ impl<A: SmallAllocator> Expression<A> {
         ensures { IfOk result (λ copy. copy ≡ self.now) }
     {
         Ok(Expression {
-            parsed: self.parsed.try_clone(alloc)?,
+            original: String::from_str(alloc, self.original.as_str())?,
+            nodes: SmallVec::from_slice(alloc, self.nodes.as_slice())?,
+            places: SmallVec::from_slice(alloc, self.places.as_slice())?,
         })
     }
 

@@ -3,7 +3,9 @@ use Rattle.std.proofs.Common.{◌≡◌, ◌==◌, ◌<◌, ◌∙◌, ℕ, List
 use Rattle.std.proofs.Common.{arith, if◌then◌else◌, length, map, refl, sym, true}
 use Rattle.std.proofs.Common.{Bool, Option}
 use Rattle.std.proofs.lemmas.List.{get_or-map, length-map}
-use Rattle.cfgx_grammar.specs.{Filling.three_valued, Question.Question, Tree.Tree}
+use Rattle.cfg_expr.specs.Filling.{three_valued}
+use Rattle.cfgx_grammar.specs.Question.{Question}
+use Rattle.cfgx_grammar.specs.Tree.{Tree}
 use Rattle.cfg_expr.specs.Steps.{HasSteps, HaveNoValue, IsValueOfSteps}
 use Rattle.cfg_expr.specs.declared.expr.steps.Step.{Step}
 use Rattle.cfg_expr.specs.declared.expr.steps.Step.TheVariants.{Ask, Literal, Not, All, Any}

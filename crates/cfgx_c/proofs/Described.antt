@@ -11,7 +11,7 @@ use Rattle.std.specs.Prelude.{codes, slice_range, ◌==◌, if◌then◌else◌}
 use Rattle.std.specs.List.{AllByRecursion, AllZip, cons_option}
 use Rattle.cfgx_syntax.specs.Stripping.{strip}
 use Rattle.cfgx_grammar.specs.{Answer.HasOneTree, Question.Question}
-use Rattle.cfgx_parser.proofs.AskedPredicates.{questions_at-kept}
+use Rattle.cfg_expr.proofs.AskedPredicates.{questions_at-kept}
 use Rattle.cfgx_parser.specs.nodes.KeepsTree.{KeepsTree, predicate_at, questions_at}
 use Rattle.cfgx_parser.specs.nodes.Located.{HasCut, ValueHasCut, at, question_at}
 use Rattle.cfgx_parser.specs.nodes.ReadFrom.{AreRead, inner_node}

@@ -8,7 +8,7 @@ use Rattle.cfgx_syntax.specs.Stripping.{strip}
 use Rattle.cfgx_grammar.proofs.Alike.{Alike, AlikeEach}
 use Rattle.cfgx_grammar.specs.Answer.{HasOneTree}
 use Rattle.cfgx_grammar.specs.Tree.{Tree, Trees, asked, count}
-use Rattle.cfgx_parser.proofs.AskedPredicates.{filter_map-some}
+use Rattle.cfg_expr.proofs.AskedPredicates.{filter_map-some}
 use Rattle.cfgx_parser.proofs.Places.{read-places}
 use Rattle.cfgx_parser.proofs.Shapes.{places-shape}
 use Rattle.cfgx_parser.specs.nodes.KeepsTree.{predicate_at}

@@ -3,8 +3,8 @@
 use Rattle.std.specs.Prelude.{◌≡◌, ◌≢◌, ℕ, true, false, List, length, map}
 use Rattle.cfgx_syntax.specs.Stripping.{strip}
 use Rattle.cfgx_grammar.specs.Answer.{HasOneTree}
-use Rattle.cfgx_grammar.specs.Filling.{three_valued}
-use Rattle.cfgx_grammar.specs.Fold.{tree_fold}
+use Rattle.cfg_expr.specs.Filling.{three_valued}
+use Rattle.cfg_expr.specs.Fold.{tree_fold}
 use Rattle.cfgx_grammar.specs.Question.{Question}
 use Rattle.cfgx_grammar.specs.Tree.{Tree, asked}
 use Rattle.cfg_expr.specs.Steps.{steps_of}

@@ -2,9 +2,9 @@
 
 ghost use Rattle.std.specs.Prelude.{◌≡◌, IfOk, drop, map};
 ghost use Rattle.cfgx_grammar.specs.Answer.{HasOneTree};
-ghost use Rattle.cfgx_grammar.specs.Filling.{three_valued};
-ghost use Rattle.cfgx_grammar.specs.Fold.{tree_fold};
-ghost use Rattle.cfgx_grammar.specs.Given.{AreAnswersTo};
+ghost use Rattle.cfg_expr.specs.Filling.{three_valued};
+ghost use Rattle.cfg_expr.specs.Fold.{tree_fold};
+ghost use Rattle.cfg_expr.specs.Given.{AreAnswersTo};
 ghost use Rattle.cfgx_c.specs.Value.{answer_of, byte_of_value, first_answer};
 
 use cfg_expr::Predicate;

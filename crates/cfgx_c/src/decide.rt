@@ -2,7 +2,7 @@
 
 ghost use Rattle.std.specs.Prelude.{◌≡◌, ◌≢◌, ◌≤◌, ◌++◌, IfOk, OnOk, map};
 ghost use Rattle.cfgx_syntax.specs.Stripping.{strip};
-ghost use Rattle.cfgx_grammar.specs.Given.{AreAnswersTo};
+ghost use Rattle.cfg_expr.specs.Given.{AreAnswersTo};
 ghost use Rattle.cfg_expr.specs.Deciding.{Decides};
 ghost use Rattle.cfgx_c.specs.Answers.{TellsOf};
 ghost use Rattle.cfgx_c.specs.Decide.{DecidesOver, filling_bytes, fillings_in, value_in};

@@ -6,7 +6,7 @@ ghost use Rattle.std.specs.List.{All, AllZip};
 ghost use Rattle.std.specs.Str.{IsUtf8};
 ghost use Rattle.cfgx_grammar.specs.Answer.{HasOneTree};
 ghost use Rattle.cfgx_grammar.specs.Tree.{asked};
-ghost use Rattle.cfgx_parser.specs.Predicate.{question_of};
+ghost use Rattle.cfg_expr.specs.Predicate.{question_of};
 ghost use Rattle.cfgx_engine.specs.Facts.{IsAnswer};
 ghost use Rattle.cfgx_c.specs.Answers.{AnswersBy, FillsAnswers, IsCondition, IsFact, IsFaulty};
 ghost use Rattle.cfgx_c.specs.Answers.{IsFirstFaultyFact, otherwise_of};

@@ -4,7 +4,7 @@ ghost use Rattle.std.specs.Prelude.{◌≡◌, ◌+◌, ◌<◌, ◌^◌, IfErr,
 ghost use Rattle.std.specs.List.{All, AllZip};
 ghost use Rattle.std.specs.Str.{IsUtf8};
 ghost use Rattle.cfgx_syntax.specs.Stripping.{strip};
-ghost use Rattle.cfgx_grammar.specs.Given.{AreAnswersTo};
+ghost use Rattle.cfg_expr.specs.Given.{AreAnswersTo};
 ghost use Rattle.cfgx_engine.specs.Facts.{NameAlike, texts_of};
 ghost use Rattle.cfgx_c.specs.Answers.{IsCondition, IsFact};
 ghost use Rattle.cfgx_c.specs.Ends.{AreEnds, parts};

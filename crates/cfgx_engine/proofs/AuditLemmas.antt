@@ -6,7 +6,10 @@ use Rattle.std.specs.List.{AllZip, slice_get}
 use Rattle.std.proofs.{Math.Seq.take-suc, lemmas.List.take_all, lemmas.Slice.Zip.all_zipped_more}
 use Rattle.std.proofs.lemmas.Option.{slice_get_cases, slice_get_within}
 use Rattle.cfgx_syntax.specs.Kleene.{EachLane, Planes, lane}
-use Rattle.cfgx_grammar.specs.{Answer.HasOneTree, Tree.asked, Filling.three_valued, Fold.tree_fold}
+use Rattle.cfgx_grammar.specs.Answer.{HasOneTree}
+use Rattle.cfgx_grammar.specs.Tree.{asked}
+use Rattle.cfg_expr.specs.Filling.{three_valued}
+use Rattle.cfg_expr.specs.Fold.{tree_fold}
 use Rattle.cfgx_grammar.specs.Question.{Question}
 use Rattle.cfgx_grammar.proofs.{Alike.AllZip-append, Answering.only_tree}
 use Rattle.cfgx_engine.specs.Audits.{HasValueOver}

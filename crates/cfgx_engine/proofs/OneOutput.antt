@@ -15,7 +15,9 @@ use Rattle.cfgx_syntax.specs.{Stripping.strip, Error.TextFault, Error.fault_in}
 use Rattle.cfgx_targets.specs.{Builtins.builtin_rows, Table.row_with}
 use Rattle.cfgx_targets.specs.declared.info.TargetInfo.{TargetInfo}
 use Rattle.cfgx_grammar.specs.{Question.Question, Spelling.spelling, Tree.Tree, Tree.asked}
-use Rattle.cfgx_grammar.specs.{WellFormed.IsWellFormed, Filling.three_valued, Fold.tree_fold}
+use Rattle.cfgx_grammar.specs.WellFormed.{IsWellFormed}
+use Rattle.cfg_expr.specs.Filling.{three_valued}
+use Rattle.cfg_expr.specs.Fold.{tree_fold}
 use Rattle.cfgx_grammar.{specs.Answer.ReadsAs, proofs.alone.spelling_alone}
 use Rattle.cfgx_grammar.proofs.{Answering.only_tree, Answering.same_fault, alone.well_formed_tree}
 use Rattle.cfgx_engine.specs.Facts.{FactTexts, IsAnswer, Names, fact_text, texts_of}

@@ -4,7 +4,8 @@ use Rattle.std.proofs.Common.{bytes_eq, refl, ap, sym, ◌∙◌}
 use Rattle.std.{proofs.Math.Path.fun_ext, specs.declared.alloc.Global.Global}
 use Rattle.cfgx_targets.specs.Builtins.{builtin_rows}
 use Rattle.cfgx_targets.specs.{Table.row_with, declared.info.TargetInfo.TargetInfo}
-use Rattle.cfgx_grammar.specs.{Question.TargetQuestion, Matching.meets}
+use Rattle.cfgx_grammar.specs.Question.{TargetQuestion}
+use Rattle.cfg_expr.specs.Matching.{meets}
 use Rattle.cfgx_engine.specs.{Output.answer_on, Verdicts.answer_by}
 
 -- the same target over `Global`

@@ -4,8 +4,9 @@ use Rattle.std.proofs.Common.{ap, arith, sym}
 use Rattle.std.specs.List.{AllZip}
 use Rattle.std.proofs.{lemmas.List.length-map, lemmas.Slice.Zip.AllZip-map}
 use Rattle.cfgx_grammar.specs.{Question.TargetQuestion, Tree.asked}
-use Rattle.cfgx_grammar.specs.{Filling.three_valued, Fold.tree_fold}
-use Rattle.cfgx_grammar.proofs.Exactness.{IsExact-fold}
+use Rattle.cfg_expr.specs.Filling.{three_valued}
+use Rattle.cfg_expr.specs.Fold.{tree_fold}
+use Rattle.cfg_expr.proofs.Exactness.{IsExact-fold}
 use Rattle.cfg_expr.specs.Evaluation.{IsValueBy}
 use Rattle.cfgx_engine.specs.Verdicts.{answer_by, verdict_of, IsVerdict}
 use Rattle.cfgx_engine.specs.internal.InLanes.{AddsEach, TellsValue}

@@ -8,8 +8,8 @@ use Rattle.cfgx_syntax.specs.Error.{TextFault}
 use Rattle.cfgx_grammar.specs.Question.{Question}
 use Rattle.cfgx_grammar.specs.Tree.{asked}
 use Rattle.cfgx_grammar.specs.Answer.{HasOneTree}
-use Rattle.cfgx_grammar.specs.Filling.{three_valued}
-use Rattle.cfgx_grammar.specs.Fold.{tree_fold}
+use Rattle.cfg_expr.specs.Filling.{three_valued}
+use Rattle.cfg_expr.specs.Fold.{tree_fold}
 use Rattle.cfgx_engine.specs.Readings.{ParsesAs}
 
 -- the value of the text's one tree over answers to its questions

@@ -8,9 +8,9 @@ use Rattle.cfgx_syntax.specs.Error.{TextFault, error_text}
 use Rattle.cfgx_targets.specs.declared.info.TargetInfo.{TargetInfo}
 use Rattle.cfgx_grammar.specs.Question.{Question}
 use Rattle.cfgx_grammar.specs.Tree.{Tree, asked}
-use Rattle.cfgx_grammar.specs.Filling.{three_valued}
-use Rattle.cfgx_grammar.specs.Fold.{tree_fold}
-use Rattle.cfgx_grammar.specs.Matching.{meets}
+use Rattle.cfg_expr.specs.Filling.{three_valued}
+use Rattle.cfg_expr.specs.Fold.{tree_fold}
+use Rattle.cfg_expr.specs.Matching.{meets}
 use Rattle.cfgx_grammar.specs.Spelling.{spelling}
 use Rattle.cfgx_engine.specs.Facts.{IsAnswer, fact_text, texts_of}
 use Rattle.cfgx_engine.specs.Readings.{GivesAll, ParsesAs}

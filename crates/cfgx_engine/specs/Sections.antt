@@ -10,8 +10,8 @@ use Rattle.std.specs.Str.Lines.{strip_carriage_return}
 use Rattle.cfgx_syntax.specs.Error.{TextFault, error_text}
 use Rattle.cfgx_grammar.specs.Question.{Question}
 use Rattle.cfgx_grammar.specs.Tree.{Tree, asked}
-use Rattle.cfgx_grammar.specs.Filling.{polar, three_valued}
-use Rattle.cfgx_grammar.specs.Fold.{tree_fold}
+use Rattle.cfg_expr.specs.Filling.{polar, three_valued}
+use Rattle.cfg_expr.specs.Fold.{tree_fold}
 use Rattle.cfgx_engine.specs.Output.{Output, faulty_output}
 use Rattle.cfgx_engine.specs.Readings.{GivesAll, ParsesAs}
 

@@ -6,8 +6,8 @@ use Rattle.std.specs.{Prelude.nat_eq, Ordering.on}
 use Rattle.cfgx_grammar.specs.Question.{Question, TargetQuestion}
 use Rattle.cfgx_grammar.specs.Tree.{asked}
 use Rattle.cfgx_grammar.specs.Answer.{HasOneTree}
-use Rattle.cfgx_grammar.specs.Filling.{IsFilling, two_valued, three_valued}
-use Rattle.cfgx_grammar.specs.Fold.{tree_fold}
+use Rattle.cfg_expr.specs.Filling.{IsFilling, two_valued, three_valued}
+use Rattle.cfg_expr.specs.Fold.{tree_fold}
 use Rattle.cfgx_engine.specs.declared.resolve.Verdict.{Verdict}
 use Rattle.cfgx_engine.specs.declared.resolve.Verdict.TheVariants as verdict
 

@@ -6,9 +6,9 @@ ghost use Rattle.std.proofs.Common.{rules};
 ghost use Rattle.cfg_expr.specs.Deciding.{DecidesExactly, held};
 ghost use Rattle.cfg_expr.specs.Evaluation.{IsValueBy};
 ghost use Rattle.cfgx_grammar.specs.Answer.{HasOneTree};
-ghost use Rattle.cfgx_grammar.specs.Filling.{three_valued};
+ghost use Rattle.cfg_expr.specs.Filling.{three_valued};
 ghost use Rattle.cfgx_grammar.specs.Tree.{asked};
-ghost use Rattle.cfgx_parser.specs.Predicate.{question_of};
+ghost use Rattle.cfg_expr.specs.Predicate.{question_of};
 ghost use Rattle.cfgx_engine.specs.Verdicts.{answer_by, IsVerdict, verdict_eq};
 
 mod auditing;

@@ -1,7 +1,7 @@
 //! A caller that spells a predicate and parses the spelling.
 ghost use Rattle.std.specs.Prelude.{IfSome};
 ghost use Rattle.cfgx_grammar.specs.WellFormed.{IsAlone, IsWellFormed};
-ghost use Rattle.cfgx_parser.specs.Predicate.{question_of};
+ghost use Rattle.cfg_expr.specs.Predicate.{question_of};
 ghost use Rattle.cfgx_examples.specs.Examples.{IsReadAlone};
 
 use cfg_expr::error::Failure;

@@ -1,12 +1,7 @@
 pub mod Alike
 pub mod Answering
-pub mod Arranging
 pub mod Continuing
-pub mod Dealing
-pub mod Exactness
 pub mod ListLemmas
-pub mod MappedValues
-pub mod Matched
 pub mod Stripped
 pub mod accepted
 pub mod alone

@@ -1,15 +1,10 @@
 pub mod Answer
 pub mod Classification
 pub mod Depth
-pub mod Filling
 pub mod FirstFault
-pub mod Fold
 pub mod FollowSet
-pub mod Given
 pub mod Grammar
-pub mod Homomorphism
 pub mod LastPredicate
-pub mod Matching
 pub mod Question
 pub mod Spelling
 pub mod Tree

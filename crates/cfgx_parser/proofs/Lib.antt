@@ -1,7 +1,5 @@
-pub mod AskedPredicates
 pub mod Innermost
 pub mod Kept
-pub mod MatchedLanes
 pub mod NodeSizes
 pub mod Places
 pub mod ReadTokens

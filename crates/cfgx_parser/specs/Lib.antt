@@ -1,5 +1,3 @@
-pub mod Equality
 pub mod Order
-pub mod Predicate
 pub mod nodes
 pub mod parsing

@@ -1,4 +1,4 @@
-//! The nodes in which a `Parsed` or a `ParsedRef` keeps its tree.
+//! The nodes of a tree, as they are written.
 ghost use Rattle.std.specs.Prelude.{◌≡◌, ◌<◌, ◌≤◌, ◌-◌, ◌^◌, length, OnErr, OnOk, IfOk};
 
 use crate::function::Func;
@@ -24,7 +24,7 @@ impl Span {
 
     /// Returns the bytes of `text` at this span.
     #[inline(always)]
-    pub(crate) fn cut(self, text: &str) -> &str
+    pub fn cut(self, text: &str) -> &str
         requires { IsSpan text.now self }
         ensures { result.now ≡ at text.now self }
     {

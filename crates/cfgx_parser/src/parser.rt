@@ -20,6 +20,7 @@ use cfgx_syntax::lexer::{Lexer, LexerToken, Token};
 use cfgx_syntax::memory::SmallAllocator;
 use smallvec::SmallVec;
 use std::alloc::AllocError;
+use std::fmt;
 
 /// A list that has not ended: the members of a function, or the root.
 #[derive(Clone, Copy)]
@@ -122,9 +123,9 @@ impl From<AllocError> for Halt {
     }
 }
 
-/// The state of the parser between two tokens.
+/// The parser of one text after another. Its state is that between two tokens.
 #[derive(Drop)]
-pub(crate) struct Parser<'a, A: SmallAllocator> {
+pub struct Parser<'a, A: SmallAllocator> {
     /// The functions that are open, the innermost last
     func_stack: SmallVec<OpenFunc, 2, A>,
     /// The innermost open list. It is not on the stack, so that counting a member is cheap
@@ -232,7 +233,7 @@ impl<'a, A: SmallAllocator> Parser<'a, A> {
     ghost use Rattle.cfgx_parser.specs.parsing.Parser.{closed_at, concluded, HaltsAs, ReadsAll};
 
     /// Returns a parser that has read nothing of a text of `len` bytes.
-    pub(crate) fn new(alloc: A, len: usize) -> Self
+    pub fn new(alloc: A, len: usize) -> Self
         ensures { state_of result ≡ initial }
     {
         Parser {
@@ -258,7 +259,7 @@ impl<'a, A: SmallAllocator> Parser<'a, A> {
     /// heap if the last text wrote a node and left `leaves` inline. No fault is left from the last
     /// text: `failure` has taken it.
     #[inline(always)]
-    pub(crate) fn restart(&mut self, len: usize) -> Result<(), AllocError>
+    pub fn restart(&mut self, len: usize) -> Result<(), AllocError>
         ensures { state_of self.new ≡ initial }
     {
         let must_move = self.writer.is_used_inline();
@@ -472,7 +473,7 @@ impl<'a, A: SmallAllocator> Parser<'a, A> {
     /// Reads all tokens of the lexer, to the end of the text.
     ///
     /// The error is the first fault of the text, or that the call is out of memory.
-    pub(crate) fn read_all(&mut self, alloc: A, lexer: Lexer<'a, A>) -> Result<(), Failure<A>>
+    pub fn read_all(&mut self, alloc: A, lexer: Lexer<'a, A>) -> Result<(), Failure<A>>
         ensures { ReadsAll lexer.entry self.old self.new result }
     {
         let text = lexer.original();
@@ -492,26 +493,33 @@ impl<'a, A: SmallAllocator> Parser<'a, A> {
     }
 
     /// Returns the nodes that were written.
-    pub(crate) fn nodes(&self) -> &[ExprNode]
+    pub fn nodes(&self) -> &[ExprNode]
         ensures { result.now ≡ self.now.writer.nodes.items }
     {
         self.writer.nodes.as_slice()
     }
 
     /// Returns the places of the predicates among the nodes, in the order in which they are asked.
-    pub(crate) fn places(&self) -> &[usize]
+    pub fn places(&self) -> &[usize]
         ensures { result.now ≡ self.now.writer.places.items }
     {
         self.writer.places.as_slice()
     }
 
     /// Returns the nodes that were written, and the places of the predicates among them.
-    pub(crate) fn into_parts(self) -> (SmallVec<ExprNode, 1, A>, SmallVec<usize, 4, A>)
+    pub fn into_parts(self) -> (SmallVec<ExprNode, 1, A>, SmallVec<usize, 4, A>)
         ensures nodes { result.0 ≡ self.entry.writer.nodes }
         ensures places { result.1 ≡ self.entry.writer.places }
     {
         let Parser { writer, .. } = self;
         let Writer { nodes, places, .. } = writer;
         (nodes, places)
+    }
+}
+
+/// Prints the name alone.
+impl<A: SmallAllocator> fmt::Debug for Parser<'_, A> {
+    fn fmt<W: fmt::Write>(&self, f: &mut fmt::Formatter<W>) -> fmt::Result {
+        f.debug_struct("Parser").finish_non_exhaustive()
     }
 }

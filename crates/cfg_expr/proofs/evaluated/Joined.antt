@@ -3,7 +3,7 @@ use Rattle.std.proofs.Common.{◌≡◌, ◌+◌, ◌<◌, ◌++◌, ℕ, List, 
 use Rattle.std.proofs.Common.{take, drop, set, get_or, refl, sym, ap, ◌∙◌, append_assoc, arith}
 use Rattle.std.proofs.{Common.Some, Common.None, Math.Seq.get_or-append_seam}
 use Rattle.std.proofs.lemmas.List.{drop_more, length-take-le, set_at, take_more}
-use Rattle.cfgx_grammar.specs.Fold.{Operations, from_last}
+use Rattle.cfg_expr.specs.Fold.{Operations, from_last}
 use Rattle.cfg_expr.specs.nodes.Reading.{Slot, identity_of, join_of, value_in, values_in}
 use Rattle.cfg_expr.specs.nodes.Reading.{without, joined}
 use Rattle.cfg_expr.specs.declared.expr.evaluating.Connective.{Connective}

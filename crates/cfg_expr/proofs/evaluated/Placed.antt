@@ -8,8 +8,9 @@ use Rattle.std.proofs.lemmas.List.{get_or_append_left, get_or_past, length-map, 
 use Rattle.std.proofs.lemmas.List.{length-replicate, length-set, map-append}
 use Rattle.std.specs.List.{AllByRecursion}
 use Rattle.cfgx_grammar.specs.Tree.{Tree, Trees, is_function, is_leaf, asked}
-use Rattle.cfgx_grammar.specs.Fold.{Operations, answered}
-use Rattle.cfgx_grammar.proofs.{Alike.answered-shape, Dealing.asked-answered}
+use Rattle.cfg_expr.specs.Fold.{Operations, answered}
+use Rattle.cfg_expr.proofs.SameShapes.{answered-shape}
+use Rattle.cfg_expr.proofs.Dealing.{asked-answered}
 use Rattle.cfgx_grammar.proofs.ListLemmas.{all_of_first, all_of_second}
 use Rattle.cfgx_parser.specs.nodes.Prefix.{Node, prefix, prefix_each, places, places_by}
 use Rattle.cfgx_parser.specs.{nodes.Shape.{shape, shape_of}, declared.nodes.ExprNode.ExprNode}

@@ -4,7 +4,7 @@ use Rattle.std.proofs.Common.{take, drop, get_or, suc, sym, refl, ap, ◌∙◌,
 use Rattle.std.proofs.{Common.length-append, Math.Seq.drop-append_seam, Math.Seq.take-append_seam}
 use Rattle.std.proofs.lemmas.List.{get_or-take, map-append, drop_more, take-take}
 use Rattle.cfgx_grammar.specs.Tree.{ListFunction, Tree, Trees, is_function, is_leaf, count}
-use Rattle.cfgx_grammar.specs.Fold.{Operations, literal_value, from_last, tree_value, values_by}
+use Rattle.cfg_expr.specs.Fold.{Operations, literal_value, from_last, tree_value, values_by}
 use Rattle.cfgx_parser.specs.nodes.Prefix.{Node, list_func, prefix, prefix_each}
 use Rattle.cfgx_parser.specs.nodes.Shape.{Shape, shape_of}
 use Rattle.cfg_expr.specs.nodes.Reading.{Slot, identity_of, join_of, values_in, top_value}

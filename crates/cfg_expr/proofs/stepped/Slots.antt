@@ -3,7 +3,7 @@ use Rattle.std.proofs.Common.{◌≡◌, ◌+◌, ◌-◌, ◌<◌, ◌≤◌, �
 use Rattle.std.proofs.Common.{take, drop, Option, Some, get_or, refl, sym, ap, ◌∙◌, arith}
 use Rattle.std.proofs.lemmas.List.{at_drop_more, drop-map, length-map, length-take, map-append}
 use Rattle.std.proofs.lemmas.List.{take-map}
-use Rattle.cfgx_grammar.specs.Fold.{Operations}
+use Rattle.cfg_expr.specs.Fold.{Operations}
 use Rattle.cfg_expr.specs.Steps.{answers_after, last_values, popped, run_steps, step_value}
 use Rattle.cfg_expr.specs.Steps.{without_last}
 use Rattle.cfg_expr.specs.nodes.StepValues.{values}

@@ -6,10 +6,11 @@ use Rattle.std.proofs.lemmas.List.{append-nil, drop_at, take_all, take_at}
 use Rattle.cfgx_grammar.specs.Question.{Question}
 use Rattle.cfgx_grammar.specs.Tree.{ListFunction, Tree, Trees, asked, asked_by, count, is_function}
 use Rattle.cfgx_grammar.specs.Tree.{is_leaf}
-use Rattle.cfgx_grammar.specs.Fold.{Operations, answered, list_value, tree_fold, tree_value}
-use Rattle.cfgx_grammar.specs.Fold.{values_by, first_or}
-use Rattle.cfgx_grammar.proofs.Alike.{Alike, AlikeEach, answered-shape}
-use Rattle.cfgx_grammar.proofs.Dealing.{asked-answered}
+use Rattle.cfg_expr.specs.Fold.{Operations, answered, list_value, tree_fold, tree_value}
+use Rattle.cfg_expr.specs.Fold.{values_by, first_or}
+use Rattle.cfgx_grammar.proofs.Alike.{Alike, AlikeEach}
+use Rattle.cfg_expr.proofs.SameShapes.{answered-shape}
+use Rattle.cfg_expr.proofs.Dealing.{asked-answered}
 use Rattle.cfg_expr.specs.Steps.{HasSteps, last_values, list_step, run_steps, steps_by, steps_of}
 use Rattle.cfg_expr.specs.Steps.{without_last}
 use Rattle.cfg_expr.specs.declared.expr.steps.Step.{Step}

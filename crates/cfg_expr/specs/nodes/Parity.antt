@@ -2,7 +2,7 @@
 -- that follow from it.
 use Rattle.std.specs.Prelude.{◌++◌, ℕ, Bool, true, false, not, List, [], ◌∷◌, get_or, map}
 use Rattle.std.specs.Prelude.{replicate, Option}
-use Rattle.cfgx_grammar.specs.Filling.{filled_by}
+use Rattle.cfg_expr.specs.Filling.{filled_by}
 use Rattle.cfgx_parser.specs.nodes.Shape.{Shape}
 use Rattle.cfgx_parser.specs.declared.function.Func.{Func}
 use Rattle.cfgx_parser.specs.declared.function.Func.TheVariants.{Not, All, Any}

@@ -4,7 +4,7 @@
 use Rattle.std.specs.Prelude.{◌++◌, ℕ, List, [], ◌∷◌, length, min, take, drop}
 use Rattle.std.specs.Prelude.{Option, Some, None}
 use Rattle.std.specs.List.{filter_map}
-use Rattle.cfgx_grammar.specs.Fold.{Operations, literal_value, from_last}
+use Rattle.cfg_expr.specs.Fold.{Operations, literal_value, from_last}
 use Rattle.cfgx_parser.specs.nodes.Shape.{Shape}
 use Rattle.cfgx_parser.specs.declared.function.Func.TheVariants.{Not, All, Any}
 use Rattle.cfg_expr.specs.declared.expr.evaluating.Connective.{Connective}

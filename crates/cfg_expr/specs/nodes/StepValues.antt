@@ -2,7 +2,8 @@
 use Rattle.std.specs.Prelude.{◌≡◌, ◌<◌, ◌++◌, ℕ, Bool, List, [], ◌∷◌, Option, if◌then◌else◌, map}
 use Rattle.std.specs.Prelude.{flat_map, length, reverse, unwrap_or}
 use denote.Ref.{Bor}
-use Rattle.cfgx_grammar.specs.{Answer.HasOneTree, Fold.Operations}
+use Rattle.cfgx_grammar.specs.Answer.{HasOneTree}
+use Rattle.cfg_expr.specs.Fold.{Operations}
 use Rattle.cfgx_grammar.specs.Question.{Question}
 use Rattle.cfgx_grammar.specs.Tree.{Tree, Trees, is_function, is_leaf}
 use Rattle.cfgx_parser.specs.nodes.Prefix.{Node, node_at, prefix}

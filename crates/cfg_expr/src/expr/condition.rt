@@ -1,18 +1,23 @@
 //! Borrowed conditions, and a reader that reads one condition after another.
-ghost use Rattle.std.specs.Prelude.{◌≡◌, ◌≤◌, length, IfOk, IsOk, OnErr, OnOk};
+ghost use Rattle.std.specs.List.{AllByRecursion};
+ghost use Rattle.std.specs.Prelude.{◌≡◌, ◌≤◌, length, map, IfOk, IsOk, OnErr, OnOk};
 ghost use Rattle.cfgx_syntax.specs.Stripping.{strip};
-ghost use Rattle.cfgx_grammar.specs.Given.{AreAnswersTo};
-ghost use Rattle.cfgx_grammar.specs.Answer.{Answers};
+ghost use Rattle.cfg_expr.specs.Given.{AreAnswersTo};
+ghost use Rattle.cfgx_grammar.specs.Answer.{Answers, HasOneTree};
+ghost use Rattle.cfgx_parser.specs.nodes.Prefix.{node_at, prefix, places};
+ghost use Rattle.cfgx_parser.specs.nodes.ReadFrom.{AreRead, inner_node};
+ghost use Rattle.cfgx_parser.specs.nodes.WritesNodes.{NodeHasCut};
 ghost use Rattle.cfg_expr.specs.Deciding.{AreFillings, Decides, IsExactOverAll, held};
 ghost use Rattle.cfg_expr.specs.Evaluation.{AsksInOrder, EvaluatesTo, MayEvaluate};
 ghost use Rattle.cfg_expr.specs.Evaluation.{IsByLaneOverAll, IsValueInLanes};
 ghost use Rattle.cfg_expr.specs.Steps.{AreSteps};
 
-use super::{Decision, Logic, Predicate, Step, evaluating, filling, steps};
+use super::{Decision, Logic, Predicate, Predicates, Step, evaluating, filling, steps};
 use crate::error::Failure;
 use crate::memory::SmallAllocator;
-use cfgx_parser::parsed::{ParsedRef, TextReader};
-use cfgx_parser::predicates::Predicates;
+use cfgx_parser::nodes::ExprNode;
+use cfgx_parser::parser::Parser;
+use cfgx_syntax::lexer::Lexer;
 use cfgx_syntax::logic::Kleene64;
 use cfgx_syntax::logic::laws::are_disjoint;
 use std::alloc::{AllocError, Global};
@@ -23,30 +28,49 @@ use std::marker::Model;
 /// Contracts see it as its stripped text.
 #[derive(Drop)]
 pub struct Condition<'a> {
-    parsed: ParsedRef<'a>,
+    pub(super) original: &'a str,
+    /// In source order
+    pub(super) nodes: &'a [ExprNode],
+    /// The places of the predicates among the nodes, in the order in which they are asked
+    pub(super) places: &'a [usize],
 }
 
 impl<'a> Model for Condition<'a> {
     ghost use Rattle.std.specs.Prelude.{List, ℕ};
+    ghost use Rattle.cfgx_parser.specs.nodes.KeepsTree.{KeepsOneTree};
 
     ghost Value = { List ℕ };
 
-    ghost view = { λ c. c.parsed };
+    ghost view = { λ c. c.original.now };
+
+    ghost invariant = { λ c. KeepsOneTree c.original.now c.nodes.now c.places.now };
 }
 
 impl<'a> Condition<'a> {
-    /// Makes the condition of a parsed text.
-    pub(super) fn new(parsed: ParsedRef<'a>) -> Self
-        ensures { result ≡ parsed.entry }
-    {
-        Condition { parsed }
-    }
-
     /// Returns the text without an outer `cfg( )`. Spans are ranges of its bytes.
     pub fn original(&self) -> &'a str
         ensures { result.now ≡ self.now }
     {
-        self.parsed.original()
+        self.original
+    }
+
+    /// Returns the nodes of the tree, in source order. There are no more nodes than bytes. The text
+    /// can be cut at their spans, which are those of its tokens, one behind another.
+    pub fn nodes(&self) -> &'a [ExprNode]
+        ensures nodes { (one : HasOneTree self.now)
+            × (map (node_at self.now) result.now ≡ prefix one.tree) }
+        ensures few { length result.now ≤ length self.now }
+        ensures cuts { AllByRecursion (NodeHasCut self.now) result.now }
+        ensures read { AreRead self.now (map inner_node result.now) }
+    {
+        self.nodes
+    }
+
+    /// Returns the places of the predicates among the nodes, in the order in which they are asked.
+    pub fn places(&self) -> &'a [usize]
+        ensures { (one : HasOneTree self.now) × (result.now ≡ places 0 one.tree) }
+    {
+        self.places
     }
 
     /// Returns the predicates in the order in which they are asked, as `Expression::predicates`
@@ -54,7 +78,7 @@ impl<'a> Condition<'a> {
     pub fn predicates(&self) -> Predicates<'a>
         ensures { AsksInOrder self.now result }
     {
-        self.parsed.predicates()
+        Predicates::new(self.original, self.nodes, self.places)
     }
 
     /// Evaluates the condition over what `ep` answers, as `Expression::eval` does.
@@ -71,7 +95,7 @@ impl<'a> Condition<'a> {
         requires { MayEvaluate EP.FnMut self.now ep.old }
         ensures { EvaluatesTo T.Logic EP.FnMut self.now ep.old ep.new result }
     {
-        evaluating::eval(alloc, &self.parsed, ep)
+        evaluating::eval(alloc, self, ep)
     }
 
     /// Decides the condition as `Expression::decide` does, and replaces `decision`. New fillings
@@ -93,7 +117,7 @@ impl<'a> Condition<'a> {
         ensures decision { OnOk result (Decides self.now answers.now decision.new) }
         ensures refused { OnErr result (held decision.new ≡ held decision.old) }
     {
-        filling::decide(alloc, &self.parsed, answers, decision)
+        filling::decide(alloc, self, answers, decision)
     }
 
     /// Returns the two fillings of `decide`, as `Expression::polar_fillings` does.
@@ -136,7 +160,7 @@ impl<'a> Condition<'a> {
         ensures short { length self.now ≤ 32 → IsOk result }
     {
         prove!(are_disjoint(answers));
-        evaluating::eval_over_answers(alloc, &self.parsed, answers)
+        evaluating::eval_over_answers(alloc, self, answers)
     }
 
     /// Compiles the condition to steps, as `Expression::steps` does.
@@ -147,7 +171,7 @@ impl<'a> Condition<'a> {
     pub fn steps<A: SmallAllocator>(&self, alloc: A) -> Result<Vec<Step, A>, AllocError>
         ensures { IfOk result (λ steps. AreSteps self.now steps.items) }
     {
-        steps::steps_of(alloc, &self.parsed)
+        steps::steps_of(alloc, self)
     }
 }
 
@@ -162,14 +186,16 @@ impl fmt::Debug for Condition<'_> {
 /// for one that needs more room than any before, and once after the first text that has a node.
 #[derive(Drop)]
 pub struct ConditionReader<'a, A: SmallAllocator = Global> {
-    texts: TextReader<'a, A>,
+    alloc: A,
+    parser: Parser<'a, A>,
 }
 
 impl<'a, A: SmallAllocator> ConditionReader<'a, A> {
     /// Makes a reader. Takes no memory.
     pub fn new(alloc: A) -> Self {
         ConditionReader {
-            texts: TextReader::new(alloc),
+            alloc,
+            parser: Parser::new(alloc, 0),
         }
     }
 
@@ -184,7 +210,16 @@ impl<'a, A: SmallAllocator> ConditionReader<'a, A> {
     pub fn read(&mut self, original: &'a str) -> Result<Condition<'_>, Failure<A>>
         ensures { Answers (strip original.now) result }
     {
-        Ok(Condition::new(self.texts.read(original)?))
+        let lexer = Lexer::new(self.alloc, original);
+        let text = lexer.original();
+        self.parser.restart(text.len())?;
+        self.parser.read_all(self.alloc, lexer)?;
+        let parser = &self.parser;
+        Ok(Condition {
+            original: text,
+            nodes: parser.nodes(),
+            places: parser.places(),
+        })
     }
 }
 

@@ -9,9 +9,9 @@
 ghost use Rattle.std.specs.Prelude.{◌≡◌, ◌<◌, ◌≤◌, ◌+◌, ◌∷◌, ℕ, List, IfOk, OnErr, IsOk};
 ghost use Rattle.std.specs.Prelude.{length, map, set, get_or, take, drop};
 ghost use Rattle.cfgx_grammar.specs.Answer.{HasOneTree};
-ghost use Rattle.cfgx_grammar.specs.Fold.{from_last, literal_value, tree_fold};
-ghost use Rattle.cfgx_grammar.specs.Given.{AreAnswersTo};
-ghost use Rattle.cfgx_parser.specs.Predicate.{question_of};
+ghost use Rattle.cfg_expr.specs.Fold.{from_last, literal_value, tree_fold};
+ghost use Rattle.cfg_expr.specs.Given.{AreAnswersTo};
+ghost use Rattle.cfg_expr.specs.Predicate.{question_of};
 ghost use Rattle.cfgx_grammar.specs.Question.{Question};
 ghost use Rattle.cfgx_grammar.specs.Tree.{Tree, asked};
 ghost use Rattle.cfgx_parser.specs.nodes.Prefix.{places, prefix};
@@ -24,11 +24,9 @@ ghost use Rattle.cfg_expr.specs.nodes.Reading.{put, top_value, value_in, value_o
 ghost use Rattle.cfg_expr.specs.nodes.Reading.{without};
 ghost use Rattle.cfg_expr.specs.declared.expr.evaluating.Slot.TheVariants as slot;
 
-use super::Func;
+use super::{Condition, Func, Predicate};
 use crate::memory::SmallAllocator;
 use cfgx_parser::nodes::ExprNode;
-use cfgx_parser::parsed::ParsedRef;
-use cfgx_parser::predicates::Predicate;
 use cfgx_syntax::logic::Logic;
 use smallvec::SmallVec;
 use std::alloc::{AllocError, Allocator};
@@ -167,7 +165,7 @@ impl<T: Logic> Stack<'_, T> {
     }
 
     /// Pops the top entry, and returns its value. Returns `T::top()` if the stack is empty, which
-    /// it never is for a parsed condition.
+    /// it never is for a condition.
     fn pop(&mut self) -> T
         requires { self.old.begin ≤ length self.old.slots.now }
         ensures value { result ≡ top_value T.Logic (entries self.old) }
@@ -281,18 +279,18 @@ where
     ep(&predicate)
 }
 
-/// Asks `ep` each predicate, in the order of `parsed.predicates()`, and puts each answer into the
+/// Asks `ep` each predicate, in the order of `condition.predicates()`, and puts each answer into the
 /// slot of its node.
-fn ask_each<EP, T>(parsed: &ParsedRef<'_>, slots: &mut [Slot<T>], ep: &mut EP)
+fn ask_each<EP, T>(condition: &Condition<'_>, slots: &mut [Slot<T>], ep: &mut EP)
 where
     EP: FnMut(&Predicate<'_>) -> T,
     T: Logic,
-    requires { MayEvaluate EP.FnMut parsed.now ep.old }
-    ensures { (one : HasOneTree parsed.now)
+    requires { MayEvaluate EP.FnMut condition.now ep.old }
+    ensures { (one : HasOneTree condition.now)
         × AnswersPut EP.FnMut one.tree ep.old slots.old ep.new slots.new }
 {
-    let mut places = parsed.places().iter();
-    for predicate in parsed.predicates() {
+    let mut places = condition.places().iter();
+    for predicate in condition.predicates() {
         let answer = ask(predicate, ep);
         // There are as many places as predicates.
         let Some(place) = places.next() else {
@@ -314,21 +312,21 @@ fn put_each<T: Logic + Copy>(places: &[usize], answers: &[T], slots: &mut [Slot<
 /// Returns the value of the condition, and asks `ep` for the answer to each predicate.
 ///
 /// Returns an error if `alloc` refuses memory for the slots. `ep` is as it was then.
-pub(crate) fn eval<EP, T, A>(alloc: A, parsed: &ParsedRef<'_>, ep: &mut EP) -> Result<T, AllocError>
+pub(crate) fn eval<EP, T, A>(alloc: A, condition: &Condition<'_>, ep: &mut EP) -> Result<T, AllocError>
 where
     EP: FnMut(&Predicate<'_>) -> T,
     T: Logic,
     A: SmallAllocator,
-    requires { MayEvaluate EP.FnMut parsed.now ep.old }
+    requires { MayEvaluate EP.FnMut condition.now ep.old }
     ensures value { IfOk result (λ value.
-        Evaluates T.Logic EP.FnMut parsed.now ep.old value ep.new) }
+        Evaluates T.Logic EP.FnMut condition.now ep.old value ep.new) }
     ensures refused { OnErr result (ep.new ≡ ep.old) }
-    ensures short { length parsed.now ≤ 32 → IsOk result }
+    ensures short { length condition.now ≤ 32 → IsOk result }
 {
-    let nodes = parsed.nodes();
+    let nodes = condition.nodes();
     let mut slots = empty_slots(&alloc, nodes.len())?;
     let slots = slots.as_mut_slice();
-    ask_each(parsed, slots, ep);
+    ask_each(condition, slots, ep);
     Ok(eval_nodes(nodes, slots))
 }
 
@@ -338,21 +336,21 @@ where
 /// Returns an error if `alloc` refuses memory for the slots.
 pub(crate) fn eval_over_answers<T, A>(
     alloc: A,
-    parsed: &ParsedRef<'_>,
+    condition: &Condition<'_>,
     answers: &[T],
 ) -> Result<T, AllocError>
 where
     T: Logic + Copy,
     A: SmallAllocator,
-    requires { AreAnswersTo answers.now parsed.now }
-    ensures one { HasOneTree parsed.now }
-    ensures value { IfOk result (λ value. (one : HasOneTree parsed.now)
+    requires { AreAnswersTo answers.now condition.now }
+    ensures one { HasOneTree condition.now }
+    ensures value { IfOk result (λ value. (one : HasOneTree condition.now)
         × (value ≡ tree_fold T.Logic one.tree answers.now)) }
-    ensures short { length parsed.now ≤ 32 → IsOk result }
+    ensures short { length condition.now ≤ 32 → IsOk result }
 {
-    let nodes = parsed.nodes();
+    let nodes = condition.nodes();
     let mut slots = empty_slots(&alloc, nodes.len())?;
     let slots = slots.as_mut_slice();
-    put_each(parsed.places(), answers, slots);
+    put_each(condition.places(), answers, slots);
     Ok(eval_nodes(nodes, slots))
 }

@@ -16,16 +16,15 @@
 //! 33 entries inline, so up to 33 nodes take no memory.
 ghost use Rattle.std.specs.Prelude.{◌≡◌, ◌≤◌, ◌++◌, ◌∷◌, true, false, length, map};
 ghost use Rattle.std.specs.Prelude.{replicate, reverse, List, OnErr, OnOk, vec_capacity};
-ghost use Rattle.cfgx_grammar.specs.Given.{AreAnswersTo};
+ghost use Rattle.cfg_expr.specs.Given.{AreAnswersTo};
 ghost use Rattle.cfgx_grammar.specs.Answer.{HasOneTree};
 ghost use Rattle.cfgx_parser.specs.nodes.Shape.{Shape, shape};
 ghost use Rattle.cfg_expr.specs.Deciding.{HoldsFillings, IsDecision, held};
 ghost use Rattle.cfg_expr.specs.nodes.Parity.{arity, filled_at, pass};
 
-use super::{Decision, Func, evaluating};
+use super::{Condition, Decision, Func, evaluating};
 use crate::memory::SmallAllocator;
 use cfgx_parser::nodes::ExprNode;
-use cfgx_parser::parsed::ParsedRef;
 use smallvec::SmallVec;
 use std::alloc::{AllocError, Allocator};
 
@@ -169,22 +168,22 @@ fn set_unknown<A: SmallAllocator>(
 /// Returns an error if `alloc` refuses memory. `decision` then keeps what it holds.
 pub(crate) fn decide<A: SmallAllocator>(
     alloc: A,
-    parsed: &ParsedRef<'_>,
+    condition: &Condition<'_>,
     answers: &[Option<bool>],
     decision: &mut Decision<A>,
 ) -> Result<(), AllocError>
-    requires { AreAnswersTo answers.now parsed.now }
-    ensures one { HasOneTree parsed.now }
-    ensures decision { OnOk result ((one : HasOneTree parsed.now)
+    requires { AreAnswersTo answers.now condition.now }
+    ensures one { HasOneTree condition.now }
+    ensures decision { OnOk result ((one : HasOneTree condition.now)
         × IsDecision one.tree answers.now decision.new) }
     ensures refused { OnErr result (held decision.new ≡ held decision.old) }
 {
-    if let Some(value) = evaluating::eval_over_answers(alloc, parsed, answers)? {
+    if let Some(value) = evaluating::eval_over_answers(alloc, condition, answers)? {
         *decision = Decision::Known(value);
         return Ok(());
     }
     let mut ahead = SmallVec::new(&alloc);
     let mut odds = SmallVec::new(&alloc);
-    push_odds(parsed.nodes(), &mut ahead, &mut odds)?;
-    set_unknown(alloc, decision, odds.as_slice(), parsed.places(), answers)
+    push_odds(condition.nodes(), &mut ahead, &mut odds)?;
+    set_unknown(alloc, decision, odds.as_slice(), condition.places(), answers)
 }

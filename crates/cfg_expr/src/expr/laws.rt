@@ -3,15 +3,21 @@
 ghost use Rattle.std.specs.Prelude.{◌≡◌, ℕ, ◌<◌, ◌++◌, ◌∷◌, [], Bool, List, length, map};
 ghost use Rattle.std.specs.List.{AllByRecursion};
 ghost use Rattle.cfgx_syntax.specs.Kleene.{lane};
-ghost use Rattle.cfgx_grammar.specs.Filling.{three_valued};
-ghost use Rattle.cfgx_grammar.specs.Fold.{answered, tree_fold, list_value, tree_value, values_of};
-ghost use Rattle.cfgx_grammar.specs.Homomorphism.{IsHomomorphism, Passes, is_disjoint, lane_valued};
+ghost use Rattle.cfg_expr.specs.Filling.{three_valued};
+ghost use Rattle.cfg_expr.specs.Fold.{answered, tree_fold, list_value, tree_value, values_of};
+ghost use Rattle.cfg_expr.specs.Homomorphism.{IsHomomorphism, Passes, is_disjoint, lane_valued};
 ghost use Rattle.cfgx_grammar.specs.Question.{Question};
-ghost use Rattle.cfgx_grammar.specs.Tree.{ListFunction, Tree, Trees, arranged, asked};
+ghost use Rattle.cfgx_grammar.specs.Tree.{ListFunction, Tree, Trees, arranged, asked, asked_each};
 ghost use Rattle.cfg_expr.specs.Steps.{run_steps, steps_of};
 ghost use Rattle.cfg_expr.specs.declared.expr.steps.Step.{Step};
 
 use super::Logic;
+
+/// A function asks what its members ask, one after another as they are arranged.
+pub fn asks_as_arranged()
+    ensures { (function : ListFunction) (trees : Trees Question)
+        → asked (Tree.list function trees) ≡ asked_each (arranged trees) }
+{}
 
 /// The value of a list is the `list_value` of the values of its arranged members: `all` joins them
 /// from the last back by `and` to `top`, and `any` by `or` to `bottom`.

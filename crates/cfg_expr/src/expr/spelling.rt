@@ -4,13 +4,13 @@ ghost use Rattle.std.specs.Io.KnownBytes.{Keeps};
 ghost use Rattle.std.specs.Fmt.{decimal};
 ghost use Rattle.cfgx_targets.specs.Endian.{endian_text};
 ghost use Rattle.cfgx_targets.specs.HasAtomic.{atomic_text};
-ghost use Rattle.cfgx_parser.specs.Predicate.{question_of, target_of};
+ghost use Rattle.cfg_expr.specs.Predicate.{question_of, target_of};
 ghost use Rattle.cfgx_grammar.specs.WellFormed.{IsAlone, IsWellFormed};
 ghost use Rattle.cfgx_grammar.specs.Spelling.{spelling, target_spelling, key_and_value};
 ghost use Rattle.cfg_expr.specs.Writing.{Takes, Writes};
 ghost use Rattle.cfg_expr.specs.spelling.ValueBytes.{value_bytes};
 
-use cfgx_parser::predicates::{Predicate, TargetPredicate};
+use super::{Predicate, TargetPredicate};
 use cfgx_targets::atomic::HasAtomic;
 use cfgx_targets::endian::Endian;
 use std::alloc::Allocator;

@@ -9,7 +9,7 @@ ghost use Rattle.std.specs.Prelude.{count_by, drop, length, map};
 ghost use Rattle.std.specs.Cmp.Rules.{comparing};
 ghost use Rattle.std.proofs.Common.{rules};
 ghost use Rattle.smallvec.specs.SmallVec.{HasRoomFor};
-ghost use Rattle.cfgx_grammar.specs.Fold.{first_or, from_last};
+ghost use Rattle.cfg_expr.specs.Fold.{first_or, from_last};
 ghost use Rattle.cfgx_grammar.specs.Question.{Question};
 ghost use Rattle.cfgx_grammar.specs.Tree.{Tree, Trees};
 ghost use Rattle.cfgx_parser.specs.nodes.Prefix.{node_at, prefix, prefix_each};
@@ -22,11 +22,10 @@ ghost use Rattle.cfg_expr.specs.nodes.StepKinds.{kinds_after};
 ghost use Rattle.cfg_expr.specs.nodes.StepValues.{Expands, is_of, node_len, node_step};
 ghost use Rattle.cfg_expr.specs.nodes.StepValues.{nodes_in, trees_by, values};
 
-use super::Func;
+use super::{Condition, Func};
 use super::evaluating::{Connective, Kind, literal_value};
 use crate::memory::SmallAllocator;
 use cfgx_parser::nodes::ExprNode;
-use cfgx_parser::parsed::ParsedRef;
 use cfgx_syntax::logic::Logic;
 use smallvec::SmallVec;
 use std::alloc::AllocError;
@@ -392,13 +391,13 @@ fn push_step<'a, A: SmallAllocator>(
 /// Returns an error if `alloc` refuses memory.
 pub fn steps_of<A: SmallAllocator>(
     alloc: A,
-    parsed: &ParsedRef<'_>,
+    condition: &Condition<'_>,
 ) -> Result<Vec<Step, A>, AllocError>
-    ensures { IfOk result (λ steps. AreSteps parsed.now steps.items) }
+    ensures { IfOk result (λ steps. AreSteps condition.now steps.items) }
 {
-    let mut steps = Vec::with_capacity(alloc, parsed.nodes().len())?;
+    let mut steps = Vec::with_capacity(alloc, condition.nodes().len())?;
     let mut trees = Vec::new(alloc);
-    trees.push(parsed.nodes())?;
+    trees.push(condition.nodes())?;
     while let Some(tree) = trees.pop() {
         push_step(tree, &mut trees, &mut steps)?;
     }

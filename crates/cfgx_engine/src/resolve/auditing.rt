@@ -6,7 +6,7 @@ ghost use Rattle.std.specs.Prelude.{◌≡◌, ◌≤◌, length, IfOk, OnOk};
 ghost use Rattle.std.specs.List.{AllZip};
 ghost use Rattle.cfgx_grammar.specs.Answer.{HasOneTree};
 ghost use Rattle.cfgx_grammar.specs.Tree.{asked};
-ghost use Rattle.cfgx_parser.specs.Predicate.{question_of};
+ghost use Rattle.cfg_expr.specs.Predicate.{question_of};
 ghost use Rattle.cfgx_engine.specs.Verdicts.{answer_by};
 ghost use Rattle.cfgx_engine.specs.internal.InLanes.{AddsEach, InLanes, lane_values, TellsValue};
 

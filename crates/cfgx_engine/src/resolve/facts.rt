@@ -4,7 +4,7 @@ ghost use Rattle.std.specs.Cmp.Rules.{comparing};
 ghost use Rattle.std.proofs.Common.{rules};
 ghost use Rattle.cfgx_syntax.specs.Lexer.{item_of};
 ghost use Rattle.cfgx_syntax.specs.Stripping.{strip};
-ghost use Rattle.cfgx_parser.specs.Predicate.{question_of};
+ghost use Rattle.cfg_expr.specs.Predicate.{question_of};
 ghost use Rattle.cfgx_engine.specs.Facts.{IsAnswer, IsFlag, IsNamed, IsRustcFact, Names};
 ghost use Rattle.cfgx_engine.specs.Facts.{ReadsFacts, fact_text, otherwise_eq, unnamed_answer};
 ghost use Rattle.cfgx_engine.specs.internal.KeysAndValues.{AreLast, IsKey, IsKeyAt, TakesNext};

@@ -1,6 +1,6 @@
 //! The kinds of predicates.
 ghost use Rattle.std.specs.Prelude.{◌≡◌};
-ghost use Rattle.cfgx_parser.specs.Predicate.{question_of, target_of};
+ghost use Rattle.cfg_expr.specs.Predicate.{question_of, target_of};
 ghost use Rattle.cfgx_engine.specs.internal.Kinds.{kind_of_question, kind_of_target, TellsKind};
 
 use cfg_expr::expr::TargetPredicate;

@@ -1,7 +1,7 @@
 //! What `==` and the order of functions and predicates tell a caller.
 ghost use Rattle.std.specs.Prelude.{◌≡◌, ◌↔◌, IsTrue};
 ghost use Rattle.cfgx_parser.specs.Order.{func_cmp};
-ghost use Rattle.cfgx_parser.specs.Predicate.{question_of, target_of};
+ghost use Rattle.cfg_expr.specs.Predicate.{question_of, target_of};
 
 use cfg_expr::expr::Func;
 use cfg_expr::{Predicate, TargetPredicate};

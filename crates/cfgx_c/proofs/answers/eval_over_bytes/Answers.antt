@@ -1,7 +1,9 @@
 -- Each call takes one answer, and there are as many as the text's one tree asks for.
 use Rattle.std.proofs.Common.{◌∙◌, ap, length, refl, rules}
 use Rattle.cfgx_grammar.proofs.Answering.{only_tree}
-use Rattle.cfgx_grammar.specs.{Filling.three_valued, Fold.tree_fold, Tree.asked}
+use Rattle.cfg_expr.specs.Filling.{three_valued}
+use Rattle.cfg_expr.specs.Fold.{tree_fold}
+use Rattle.cfgx_grammar.specs.Tree.{asked}
 use Rattle.cfgx_c.proofs.Taken.{Calls-taken}
 use Rattle.cfgx_c.proofs.answers.eval_over_bytes.Goals as goal
 

@@ -1,7 +1,7 @@
 -- The bytes that were written are the spelling.
 use Rattle.std.proofs.Common.{◌++◌, ◌∙◌, ap, subst, sym}
 use Rattle.cfgx_grammar.specs.{WellFormed.IsAlone, Spelling.spelling}
-use Rattle.cfgx_parser.specs.Predicate.{question_of}
+use Rattle.cfg_expr.specs.Predicate.{question_of}
 use Rattle.cfgx_examples.proofs.respelling.read_again.Goals as goal
 
 pub read_alone-requires : goal.read_alone-requires

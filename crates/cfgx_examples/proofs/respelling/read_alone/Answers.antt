@@ -1,5 +1,5 @@
 -- The text has one tree, so it has no fault.
-use Rattle.cfgx_parser.specs.Predicate.{question_of}
+use Rattle.cfg_expr.specs.Predicate.{question_of}
 use Rattle.cfgx_examples.proofs.Respelt.{read-alone}
 use Rattle.cfgx_examples.proofs.respelling.read_alone.Goals as goal
 

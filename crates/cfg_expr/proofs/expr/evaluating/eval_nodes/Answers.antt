@@ -1,7 +1,7 @@
 -- One node more is read, and at the end the value is on top.
 use Rattle.std.proofs.Common.{◌≡◌, ◌+◌, ◌-◌, ◌<◌, ◌∙◌, [], ap, arith, length, map}
 use Rattle.std.proofs.lemmas.List.{get_or-map, length-map}
-use Rattle.cfgx_grammar.specs.Fold.{answered}
+use Rattle.cfg_expr.specs.Fold.{answered}
 use Rattle.cfgx_parser.specs.nodes.Shape.{Shape, shape}
 use Rattle.cfg_expr.specs.declared.expr.evaluating.Slot.TheVariants as slot
 use Rattle.cfg_expr.specs.nodes.Reading.{top_value, read}

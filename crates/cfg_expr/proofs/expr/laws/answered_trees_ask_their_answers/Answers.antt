@@ -1,4 +1,4 @@
-use Rattle.cfgx_grammar.proofs.Dealing.{asked-answered}
+use Rattle.cfg_expr.proofs.Dealing.{asked-answered}
 use Rattle.cfg_expr.proofs.expr.laws.answered_trees_ask_their_answers.Goals as goal
 
 pub returns : goal.returns

@@ -1,4 +1,5 @@
-use Rattle.cfgx_grammar.{specs.Homomorphism.Passes, proofs.MappedValues.tree_fold-mapped}
+use Rattle.cfg_expr.specs.Homomorphism.{Passes}
+use Rattle.cfg_expr.proofs.MappedValues.{tree_fold-mapped}
 use Rattle.cfg_expr.proofs.expr.laws.homomorphisms_keep_values.Goals as goal
 
 pub returns : goal.returns

@@ -1,5 +1,6 @@
 use Rattle.std.proofs.Common.{ap}
-use Rattle.cfgx_grammar.{specs.Fold.list_value, proofs.Arranging.values_of-arranged}
+use Rattle.cfg_expr.specs.Fold.{list_value}
+use Rattle.cfg_expr.proofs.Arranging.{values_of-arranged}
 use Rattle.cfg_expr.proofs.expr.laws.lists_are_joined_as_arranged.Goals as goal
 
 pub returns : goal.returns

@@ -1,6 +1,8 @@
 -- Every tree with these steps asks as many answers, and its value is what running them leaves.
 use Rattle.std.proofs.Common.{◌≡◌, ◌∙◌, ap, arith, count_by, length}
-use Rattle.cfgx_grammar.specs.{Question.Question, Tree.Tree, Tree.asked, Fold.first_or}
+use Rattle.cfgx_grammar.specs.Question.{Question}
+use Rattle.cfgx_grammar.specs.Tree.{Tree, asked}
+use Rattle.cfg_expr.specs.Fold.{first_or}
 use Rattle.cfg_expr.specs.Steps.{HasSteps, last_values, run_steps}
 use Rattle.cfg_expr.specs.nodes.{StepKinds.is_ask, StepValues.values}
 use Rattle.cfg_expr.proofs.stepped.{Asks.asks-tree, Values.run-all}

@@ -1,6 +1,6 @@
 -- The values from the place on are joined.
 use Rattle.std.proofs.Common.{◌≡◌, drop}
-use Rattle.cfgx_grammar.specs.Fold.{from_last}
+use Rattle.cfg_expr.specs.Fold.{from_last}
 use Rattle.cfg_expr.specs.nodes.{Reading.identity_of, Reading.join_of, StepValues.values}
 use Rattle.cfg_expr.proofs.expr.steps.join_all.Given as goal
 

@@ -1,7 +1,7 @@
 -- The last slots have the last values.
 use Rattle.std.proofs.Common.{◌∙◌, ap, arith, drop}
 use Rattle.std.proofs.lemmas.List.{take_rest}
-use Rattle.cfgx_grammar.specs.Fold.{from_last}
+use Rattle.cfg_expr.specs.Fold.{from_last}
 use Rattle.cfg_expr.specs.nodes.{Reading.identity_of, Reading.join_of, StepValues.values}
 use Rattle.cfg_expr.proofs.stepped.Slots.{last-mapped}
 use Rattle.cfg_expr.proofs.expr.steps.pop_joined.Goals as goal

@@ -13,7 +13,7 @@ loop-tree-init g c =
     record {
       one = found.0;
       left = tree ∷ [];
-      trees_are = ap (nodes_in c.args.parsed.now) (c.in_ok-push.ensures.items
+      trees_are = ap (nodes_in c.args.condition.now) (c.in_ok-push.ensures.items
           ∙ ap (λ l. l ++ c.nodes-2.result ∷ []) c.new-trees.ensures.items)
           ∙ ap (λ l. l ∷ []) found.1;
       makes = ap (λ l. flat_map steps_of (tree ∷ []) ++ reverse l) c.in_ok-steps.ensures.items
@@ -21,12 +21,12 @@ loop-tree-init g c =
     }
 
 pub loop-tree-smaller : goal.loop-tree-smaller
-loop-tree-smaller g c = fewer-nodes c.args.parsed.now c.in-Some.tree c.loop-tree.invariant
-    c.in-Some.ensures.items (c.in_ok-push_step.ensures c.args.parsed.now)
+loop-tree-smaller g c = fewer-nodes c.args.condition.now c.in-Some.tree c.loop-tree.invariant
+    c.in-Some.ensures.items (c.in_ok-push_step.ensures c.args.condition.now)
 
 pub loop-tree-preserved : goal.loop-tree-preserved
-loop-tree-preserved g c = makes-next c.args.parsed.now c.in-Some.tree c.loop-tree.invariant
-    c.in-Some.ensures.items (c.in_ok-push_step.ensures c.args.parsed.now)
+loop-tree-preserved g c = makes-next c.args.condition.now c.in-Some.tree c.loop-tree.invariant
+    c.in-Some.ensures.items (c.in_ok-push_step.ensures c.args.condition.now)
 
 pub returns : goal.returns
 returns g c =
@@ -34,6 +34,6 @@ returns g c =
     let none = nil_from_length trees.items (sym trees.ok.0 ∙ c.in_default.ensures.cases.0) in (
       c.loop-tree.invariant.one,
       c.reverse.ensures.items
-          ∙ all-made c.args.parsed.now trees.items c.loop-tree.steps.items
+          ∙ all-made c.args.condition.now trees.items c.loop-tree.steps.items
           c.loop-tree.invariant none,
     )

@@ -4,7 +4,7 @@ use Rattle.cfg_expr.specs.nodes.StepValues.{Makes}
 use Rattle.cfg_expr.proofs.expr.steps.steps_of.Given as goal
 
 abbrev pub invariant-loop-tree : goal.invariant-loop-tree
-invariant-loop-tree g l = Makes l.parsed l.trees.items l.steps.items
+invariant-loop-tree g l = Makes l.condition l.trees.items l.steps.items
 
 abbrev pub decreases-loop-tree : goal.decreases-loop-tree
 decreases-loop-tree g l = length (flat_map (λ tree. tree.now) l.trees.items)

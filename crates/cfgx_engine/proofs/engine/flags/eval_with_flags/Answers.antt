@@ -2,7 +2,7 @@
 use Rattle.std.proofs.Common.{◌≡◌, ℕ, List, ◌∷◌, map, ap, refl, rules, Ok, Err}
 use Rattle.std.proofs.{lemmas.Option.IfSome_then, lemmas.Result.err_from_is_err_and}
 use Rattle.cfg_expr.proofs.Chains.{Calls-AllZip}
-use Rattle.cfgx_parser.specs.Predicate.{question_of}
+use Rattle.cfg_expr.specs.Predicate.{question_of}
 use Rattle.cfgx_engine.specs.Facts.{IsAnswer, IsFlag, ReadsFacts, texts_of}
 use Rattle.cfgx_engine.specs.declared.resolve.facts.Otherwise.TheVariants as otherwise
 use Rattle.cfgx_engine.specs.declared.resolve.facts.FactsError.{FactsError}

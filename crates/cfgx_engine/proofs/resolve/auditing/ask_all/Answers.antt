@@ -1,7 +1,7 @@
 -- The next question is answered. In the end none is left.
 use Rattle.std.proofs.Common.{◌∙◌, ◌++◌, ◌∷◌, [], append_assoc, append-nil}
 use Rattle.std.proofs.lemmas.Slice.Zip.{all_zipped_more}
-use Rattle.cfgx_parser.specs.Predicate.{question_of}
+use Rattle.cfg_expr.specs.Predicate.{question_of}
 use Rattle.cfgx_engine.proofs.resolve.auditing.ask_all.Goals as goal
 
 pub loop-predicate-preserved : goal.loop-predicate-preserved

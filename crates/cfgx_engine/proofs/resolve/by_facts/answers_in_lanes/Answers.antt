@@ -1,5 +1,5 @@
 -- The answer that is added is that of the last target that is left. In the end none is left.
-use Rattle.cfgx_parser.specs.Predicate.{question_of}
+use Rattle.cfg_expr.specs.Predicate.{question_of}
 use Rattle.cfgx_engine.specs.Facts.{FactTexts, IsAnswer}
 use Rattle.cfgx_engine.proofs.LaneAnswers.{Put-end, Put-fit, Put-more, Put-none}
 use Rattle.cfgx_engine.proofs.resolve.by_facts.answers_in_lanes.Goals as goal

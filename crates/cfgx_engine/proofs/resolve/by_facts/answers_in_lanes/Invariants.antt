@@ -1,6 +1,6 @@
 -- The planes have the answers of the targets after those that are left.
 use Rattle.std.proofs.Common.{length}
-use Rattle.cfgx_parser.specs.Predicate.{question_of}
+use Rattle.cfg_expr.specs.Predicate.{question_of}
 use Rattle.cfgx_engine.specs.{Facts.IsAnswer, internal.InLanes.as_planes}
 use Rattle.cfgx_engine.proofs.LaneAnswers.{Put}
 use Rattle.cfgx_engine.proofs.resolve.by_facts.answers_in_lanes.Given as goal

@@ -1,5 +1,5 @@
 use Rattle.std.proofs.{Common.refl, Common.sym, lemmas.List.take_all, lemmas.List.Elements.All-more}
-use Rattle.cfgx_parser.specs.Predicate.{question_of}
+use Rattle.cfg_expr.specs.Predicate.{question_of}
 use Rattle.cfgx_engine.specs.Facts.{Names}
 use Rattle.cfgx_engine.proofs.resolve.facts.is_named.Goals as goal
 

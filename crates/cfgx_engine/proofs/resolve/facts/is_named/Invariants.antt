@@ -1,5 +1,5 @@
 use Rattle.std.{proofs.Common.take, specs.List.All}
-use Rattle.cfgx_parser.specs.Predicate.{question_of}
+use Rattle.cfg_expr.specs.Predicate.{question_of}
 use Rattle.cfgx_engine.specs.Facts.{Names}
 use Rattle.cfgx_engine.proofs.resolve.facts.is_named.Given as goal
 

@@ -1,11 +1,13 @@
 -- The text has one tree, which is exact over its answers.
 use Rattle.std.proofs.{Common.◌∙◌, Common.ap, Common.length, lemmas.Result.on_ok_weaker}
-use Rattle.cfgx_grammar.{specs.Tree.asked, proofs.{Answering.only_tree, Exactness.IsExact-fold}}
+use Rattle.cfgx_grammar.specs.Tree.{asked}
+use Rattle.cfgx_grammar.proofs.Answering.{only_tree}
+use Rattle.cfg_expr.proofs.Exactness.{IsExact-fold}
 use Rattle.cfg_expr.proofs.expr.condition.Condition.decide.Goals as goal
 
 pub returns-clause-exact : goal.returns-clause-exact
 returns-clause-exact g c =
-    let one = rw c.self.view_is at c.decide.ensures.one in (one, IsExact-fold one.tree)
+    let one = c.decide.ensures.one in (one, IsExact-fold one.tree)
 
 pub returns-clause-decision : goal.returns-clause-decision
 returns-clause-decision g c =
@@ -18,4 +20,4 @@ returns-clause-decision g c =
         exact = IsExact-fold decided.0.tree c.args.answers.now
             (given.2 ∙ ap (λ tree. length (asked tree)) same);
       },
-    )) (rw c.self.view_is at c.decide.ensures.decision)
+    )) c.decide.ensures.decision

@@ -1,21 +1,21 @@
 -- The text has one tree, whose value is kept by each lane.
-use Rattle.std.proofs.{Common.◌∙◌, Common.ap, Common.sym, lemmas.Result.IfOk-weaker}
+use Rattle.std.proofs.{Common.◌∙◌, Common.ap, lemmas.Result.IfOk-weaker}
 use Rattle.cfgx_syntax.specs.Kleene.{lane}
-use Rattle.cfgx_grammar.proofs.MappedValues.{IsByLane-fold}
+use Rattle.cfg_expr.proofs.MappedValues.{IsByLane-fold}
 use Rattle.cfg_expr.proofs.expr.condition.Condition.eval_lanes.Goals as goal
 
 pub returns-clause-lanes : goal.returns-clause-lanes
 returns-clause-lanes g c =
-    let one = rw c.self.view_is at c.eval_over_answers.ensures.one in
+    let one = c.eval_over_answers.ensures.one in
     (one, λ given disjoint many. IsByLane-fold one.tree given disjoint)
 
 pub returns-clause-value : goal.returns-clause-value
 returns-clause-value g c =
-    rw (sym c.self.view_is) (IfOk-weaker c.eval_over_answers.result _ _
+    IfOk-weaker c.eval_over_answers.result _ _
     (λ value found. (
       found.0,
       found.1,
       λ i below. ap (lane i) found.1
           ∙ IsByLane-fold found.0.tree c.args.answers.now c.are_disjoint.ensures.disjoint i below,
     ))
-    c.eval_over_answers.ensures.value)
+    c.eval_over_answers.ensures.value

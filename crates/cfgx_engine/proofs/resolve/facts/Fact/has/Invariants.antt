@@ -1,5 +1,5 @@
 use Rattle.std.{proofs.Common.◌↔◌, specs.List.Contains}
-use Rattle.cfgx_parser.specs.Predicate.{question_of}
+use Rattle.cfg_expr.specs.Predicate.{question_of}
 use Rattle.cfgx_engine.proofs.resolve.facts.Fact.has.Given as goal
 
 -- the predicate is among those to come exactly if it is among all

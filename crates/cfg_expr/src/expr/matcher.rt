@@ -1,0 +1,149 @@
+//! Whether a target meets a predicate.
+ghost use Rattle.std.specs.Prelude.{◌≡◌, ◌+◌, ◌*◌, ◌<◌, ◌≤◌, ◌^◌, IfOk, length, map};
+ghost use Rattle.std.specs.Prelude.{if◌then◌else◌};
+ghost use Rattle.std.specs.List.{slice_get};
+ghost use Rattle.cfgx_syntax.specs.Kleene.{EachLane};
+ghost use Rattle.cfg_expr.specs.Matching.{has_text, meets};
+ghost use Rattle.cfg_expr.specs.Predicate.{target_of};
+
+use super::TargetPredicate;
+use cfgx_fields::Field;
+use cfgx_syntax::logic::Kleene64;
+use cfgx_targets::info::TargetInfo;
+use std::alloc::{AllocError, Allocator};
+
+/// A target of which predicates are asked. A caller's own type may be one.
+pub trait TargetMatcher {
+    ghost use Rattle.std.specs.Prelude.{Bool};
+    ghost use Rattle.cfgx_grammar.specs.Question.{TargetQuestion};
+
+    /// The answer to a predicate, which depends on the two values alone.
+    ghost answer: { Self → TargetQuestion → Bool };
+
+    /// Whether the predicate `tp` is true of this target.
+    fn matches(&self, tp: &TargetPredicate<'_>) -> bool
+        ensures { result ≡ answer self.now (target_of tp.now) };
+}
+
+/// A missing field is read as `""` for the binary interface and the environment, `none` for the
+/// operating system, and `unknown` for the vendor.
+impl<A: Allocator> TargetMatcher for TargetInfo<'_, A> {
+    ghost answer = { meets };
+
+    fn matches(&self, tp: &TargetPredicate<'_>) -> bool
+        ensures { result ≡ meets self.now (target_of tp.now) }
+    {
+        use TargetPredicate::*;
+        match tp {
+            Abi(abi) => has_field(&self.abi, "", abi.as_str()),
+            Arch(arch) => self.arch.as_str() == arch.as_str(),
+            Endian(endian) => self.endian == *endian,
+            Env(env) => has_field(&self.env, "", env.as_str()),
+            Family(family) => self.families.contains(family),
+            HasAtomic(width) => self.has_atomics.contains(*width),
+            Os(os) => has_field(&self.os, "none", os.as_str()),
+            Panic(panic) => self.panic.as_str() == panic.as_str(),
+            PointerWidth(bits) => self.pointer_width == *bits,
+            Vendor(vendor) => has_field(&self.vendor, "unknown", vendor.as_str()),
+        }
+    }
+}
+
+// Whether `field` has the text `text`. A missing field has the text `missing`.
+fn has_field<K, A: Allocator>(field: &Option<Field<'_, K, A>>, missing: &str, text: &str) -> bool
+    ensures { result ≡ has_text field.now missing.now text.now }
+{
+    match field {
+        Some(field) => field.as_str() == text,
+        None => missing == text,
+    }
+}
+
+// Returns the plane with its lanes moved up by one, and `bit` as lane 0.
+fn with_lane_0(plane: u64, bit: bool) -> u64
+    requires { plane < 2 ^ 63 }
+    ensures { result ≡ (if bit then 1 else 0) + 2 * plane }
+{
+    2 * plane + u64::from(bit)
+}
+
+// Returns the answers of the rows: lane `i` is that of row `i`.
+fn answers_of<T: TargetMatcher>(predicate: &TargetPredicate<'_>, rows: &[T]) -> Kleene64
+    requires { length rows.now ≤ 64 }
+    ensures { EachLane result
+        (slice_get (map (λ row. T.answer row (target_of predicate.now)) rows.now)) }
+{
+    let (mut is_true, mut is_false) = (0, 0);
+    let mut left = rows;
+    while let Some((row, before)) = left.split_last() {
+        let answer = row.matches(predicate);
+        is_true = with_lane_0(is_true, answer);
+        is_false = with_lane_0(is_false, !answer);
+        left = before;
+    }
+    Kleene64::new(is_true, is_false)
+}
+
+impl<'a, A: Allocator> TargetPredicate<'a, A> {
+    /// Whether the predicate is true of `target`.
+    pub fn matches<T: TargetMatcher>(&self, target: &T) -> bool
+        ensures { result ≡ T.answer target.now (target_of self.now) }
+    {
+        target.matches(&self.borrowed())
+    }
+
+    /// Returns the answers of at most 64 targets: lane `i` is that of row `i`, and the lanes past
+    /// the rows are unknown. It takes no memory.
+    pub fn lanes<T: TargetMatcher>(&self, rows: &[T]) -> Kleene64
+        requires { length rows.now ≤ 64 }
+        ensures { EachLane result
+            (slice_get (map (λ row. T.answer row (target_of self.now)) rows.now)) }
+    {
+        answers_of(&self.borrowed(), rows)
+    }
+
+    // Returns the predicate with its text borrowed, so that a matcher does not depend on the
+    // allocator that may own the text.
+    fn borrowed(&self) -> TargetPredicate<'_>
+        ensures { target_of result ≡ target_of self.now }
+    {
+        use TargetPredicate::*;
+        match self {
+            Abi(abi) => Abi(Field::new_const(abi.as_str())),
+            Arch(arch) => Arch(Field::new_const(arch.as_str())),
+            Endian(endian) => Endian(*endian),
+            Env(env) => Env(Field::new_const(env.as_str())),
+            Family(family) => Family(Field::new_const(family.as_str())),
+            HasAtomic(width) => HasAtomic(*width),
+            Os(os) => Os(Field::new_const(os.as_str())),
+            Panic(panic) => Panic(Field::new_const(panic.as_str())),
+            PointerWidth(bits) => PointerWidth(*bits),
+            Vendor(vendor) => Vendor(Field::new_const(vendor.as_str())),
+        }
+    }
+
+    /// Returns an equal predicate. A borrowed text is borrowed again and takes no memory; an owned
+    /// one is copied into `alloc`.
+    ///
+    /// The error is that `alloc` refused the copy. This predicate stays as it was either way.
+    pub fn try_clone(&self, alloc: A) -> Result<Self, AllocError>
+        ensures { IfOk result (λ copy. copy ≡ self.now) }
+    {
+        match self {
+            TargetPredicate::Abi(abi) => Ok(TargetPredicate::Abi(abi.try_clone(alloc)?)),
+            TargetPredicate::Arch(arch) => Ok(TargetPredicate::Arch(arch.try_clone(alloc)?)),
+            TargetPredicate::Endian(endian) => Ok(TargetPredicate::Endian(*endian)),
+            TargetPredicate::Env(env) => Ok(TargetPredicate::Env(env.try_clone(alloc)?)),
+            TargetPredicate::Family(family) => {
+                Ok(TargetPredicate::Family(family.try_clone(alloc)?))
+            }
+            TargetPredicate::HasAtomic(width) => Ok(TargetPredicate::HasAtomic(*width)),
+            TargetPredicate::Os(os) => Ok(TargetPredicate::Os(os.try_clone(alloc)?)),
+            TargetPredicate::Panic(panic) => Ok(TargetPredicate::Panic(panic.try_clone(alloc)?)),
+            TargetPredicate::PointerWidth(bits) => Ok(TargetPredicate::PointerWidth(*bits)),
+            TargetPredicate::Vendor(vendor) => {
+                Ok(TargetPredicate::Vendor(vendor.try_clone(alloc)?))
+            }
+        }
+    }
+}

@@ -1,0 +1,255 @@
+//! The predicates of a condition, and the iterator over them.
+ghost use Rattle.std.specs.Prelude.{◌≡◌, ◌↔◌, IsTrue, length};
+ghost use Rattle.std.specs.Cmp.{partial_equiv_from_equiv};
+ghost use Rattle.std.specs.Cmp.Lexicographic.{lists_equiv, nat_list_eq_equiv};
+ghost use Rattle.std.specs.Cmp.{on_equiv};
+ghost use Rattle.std.specs.Ordering.{on};
+ghost use Rattle.cfg_expr.specs.Equality.{question_code, question_eq, target_code, target_eq};
+ghost use Rattle.cfg_expr.specs.Predicate.{question_of, target_of};
+ghost use Rattle.cfgx_parser.specs.nodes.Located.{HasCut, TargetHasCut, question_at};
+ghost use Rattle.cfgx_parser.specs.nodes.Located.{target_question_at};
+
+use cfgx_fields::{Abi, Arch, Env, Family, Os, Panic, Vendor};
+use cfgx_parser::nodes::{ExprNode, InnerPredicate, InnerTarget};
+use cfgx_targets::atomic::HasAtomic;
+use cfgx_targets::endian::Endian;
+use std::alloc::{Allocator, Global};
+use std::marker::Model;
+
+/// A predicate on the target that is compiled for.
+#[derive(Drop)]
+#[derive_where(Debug)]
+pub enum TargetPredicate<'a, A: Allocator = Global> {
+    /// `target_abi`
+    Abi(Abi<'a, A>),
+    /// `target_arch`
+    Arch(Arch<'a, A>),
+    /// `target_endian`
+    Endian(Endian),
+    /// `target_env`
+    Env(Env<'a, A>),
+    /// `target_family`, and the bare keys `unix` and `windows`
+    Family(Family<'a, A>),
+    /// `target_has_atomic`
+    HasAtomic(HasAtomic),
+    /// `target_os`
+    Os(Os<'a, A>),
+    /// `panic`
+    Panic(Panic<'a, A>),
+    /// `target_pointer_width`, in bits
+    PointerWidth(u8),
+    /// `target_vendor`
+    Vendor(Vendor<'a, A>),
+}
+
+/// A predicate of a condition. Its texts are those of the expression.
+#[derive(Drop)]
+#[derive_where(Debug)]
+pub enum Predicate<'a, A: Allocator = Global> {
+    /// A predicate on the target
+    Target(TargetPredicate<'a, A>),
+    /// `test`
+    Test,
+    /// `debug_assertions`
+    DebugAssertions,
+    /// `proc_macro`
+    ProcMacro,
+    /// `feature`, with the name of the feature, which may be empty
+    Feature(&'a str),
+    /// `target_feature`, with the name of the feature
+    TargetFeature(&'a str),
+    /// A bare key without a meaning of its own, such as `loom`
+    Flag(&'a str),
+    /// A key without a meaning of its own, with a value
+    KeyValue {
+        /// The key
+        key: &'a str,
+        /// The value, without its quotes; it may be empty
+        val: &'a str,
+    },
+}
+
+/// Two predicates on targets are equal if they are of one kind and have equal texts, borrowed or
+/// owned.
+impl<A: Allocator> PartialEq for TargetPredicate<'_, A> {
+    ghost eq = { on target_of target_eq };
+
+    ghost laws = { partial_equiv_from_equiv
+        (on_equiv target_of (on_equiv target_code nat_list_eq_equiv)) };
+
+    fn eq(&self, other: &Self) -> bool
+        ensures value { result ≡ target_eq (target_of self.now) (target_of other.now) }
+        ensures same { IsTrue result ↔ (target_of self.now ≡ target_of other.now) }
+    {
+        use TargetPredicate::*;
+        match (self, other) {
+            (Abi(one), Abi(other)) => one == other,
+            (Arch(one), Arch(other)) => one == other,
+            (Endian(one), Endian(other)) => one == other,
+            (Env(one), Env(other)) => one == other,
+            (Family(one), Family(other)) => one == other,
+            (HasAtomic(one), HasAtomic(other)) => one == other,
+            (Os(one), Os(other)) => one == other,
+            (Panic(one), Panic(other)) => one == other,
+            (PointerWidth(one), PointerWidth(other)) => one == other,
+            (Vendor(one), Vendor(other)) => one == other,
+            _ => false,
+        }
+    }
+}
+
+impl<A: Allocator> Eq for TargetPredicate<'_, A> {
+    ghost laws = { on_equiv target_of (on_equiv target_code nat_list_eq_equiv) };
+}
+
+/// Two predicates are equal if they are of one kind and have equal texts, wherever these lie.
+impl<A: Allocator> PartialEq for Predicate<'_, A> {
+    ghost eq = { on question_of question_eq };
+
+    ghost laws = { partial_equiv_from_equiv
+        (on_equiv question_of (on_equiv question_code (lists_equiv nat_list_eq_equiv))) };
+
+    fn eq(&self, other: &Self) -> bool
+        ensures value { result ≡ question_eq (question_of self.now) (question_of other.now) }
+        ensures same { IsTrue result ↔ (question_of self.now ≡ question_of other.now) }
+    {
+        use Predicate::*;
+        match (self, other) {
+            (Target(one), Target(other)) => one == other,
+            (Test, Test) => true,
+            (DebugAssertions, DebugAssertions) => true,
+            (ProcMacro, ProcMacro) => true,
+            (Feature(one), Feature(other)) => one == other,
+            (TargetFeature(one), TargetFeature(other)) => one == other,
+            (Flag(one), Flag(other)) => one == other,
+            (
+                KeyValue { key, val },
+                KeyValue {
+                    key: other_key,
+                    val: other_val,
+                },
+            ) => { key == other_key && val == other_val }
+            _ => false,
+        }
+    }
+}
+
+impl<A: Allocator> Eq for Predicate<'_, A> {
+    ghost laws = { on_equiv question_of
+        (on_equiv question_code (lists_equiv nat_list_eq_equiv)) };
+}
+
+impl<'a> TargetPredicate<'a> {
+    /// Returns the predicate of a node, with its text cut out of `text`, in which it stands.
+    fn of(node: &InnerTarget, text: &'a str) -> Self
+        requires { TargetHasCut text.now node.now }
+        ensures { target_of result ≡ target_question_at text.now node.now }
+    {
+        match node {
+            InnerTarget::Abi(span) => TargetPredicate::Abi(Abi::new_const(span.cut(text))),
+            InnerTarget::Arch(span) => TargetPredicate::Arch(Arch::new_const(span.cut(text))),
+            InnerTarget::Endian(endian) => TargetPredicate::Endian(*endian),
+            InnerTarget::Env(span) => TargetPredicate::Env(Env::new_const(span.cut(text))),
+            InnerTarget::Family(span) => TargetPredicate::Family(Family::new_const(span.cut(text))),
+            InnerTarget::HasAtomic(atomic) => TargetPredicate::HasAtomic(*atomic),
+            InnerTarget::Os(span) => TargetPredicate::Os(Os::new_const(span.cut(text))),
+            InnerTarget::Panic(span) => TargetPredicate::Panic(Panic::new_const(span.cut(text))),
+            InnerTarget::PointerWidth(width) => TargetPredicate::PointerWidth(*width),
+            InnerTarget::Vendor(span) => TargetPredicate::Vendor(Vendor::new_const(span.cut(text))),
+        }
+    }
+}
+
+impl<'a> Predicate<'a> {
+    /// Returns the predicate of a node, with its texts cut out of `text`, in which it stands.
+    #[inline(always)]
+    pub(super) fn of(node: &InnerPredicate, text: &'a str) -> Self
+        requires { HasCut text.now node.now }
+        ensures { question_of result ≡ question_at text.now node.now }
+    {
+        match node {
+            InnerPredicate::Target(target) => Predicate::Target(TargetPredicate::of(target, text)),
+            InnerPredicate::Test => Predicate::Test,
+            InnerPredicate::DebugAssertions => Predicate::DebugAssertions,
+            InnerPredicate::ProcMacro => Predicate::ProcMacro,
+            InnerPredicate::Feature(span) => Predicate::Feature(span.cut(text)),
+            InnerPredicate::TargetFeature(span) => Predicate::TargetFeature(span.cut(text)),
+            InnerPredicate::Other {
+                identifier,
+                value: None,
+            } => Predicate::Flag(identifier.cut(text)),
+            InnerPredicate::Other {
+                identifier,
+                value: Some(value),
+            } => Predicate::KeyValue {
+                key: identifier.cut(text),
+                val: value.cut(text),
+            },
+        }
+    }
+}
+
+/// The predicates of a condition, in the order in which they are asked.
+#[derive(Drop)]
+pub struct Predicates<'a> {
+    text: &'a str,
+    nodes: &'a [ExprNode],
+    /// The places of the predicates that are left
+    places: &'a [usize],
+}
+
+impl<'a> Model for Predicates<'a> {
+    ghost use Rattle.std.specs.Prelude.{List};
+    ghost use Rattle.cfgx_grammar.specs.Question.{Question};
+    ghost use Rattle.cfgx_parser.specs.nodes.KeepsTree.{questions_at, NamePredicates};
+
+    ghost Value = { List Question };
+
+    ghost view = { λ p. questions_at p.text.now p.nodes.now p.places.now };
+
+    ghost invariant = { λ p. NamePredicates p.text.now p.nodes.now p.places.now };
+}
+
+impl<'a> Predicates<'a> {
+    ghost use Rattle.cfgx_parser.specs.nodes.KeepsTree.{questions_at, NamePredicates};
+
+    /// Returns the iterator over the predicates at `places` among `nodes`, which are those of
+    /// `text`.
+    pub(super) fn new(text: &'a str, nodes: &'a [ExprNode], places: &'a [usize]) -> Self
+        requires { NamePredicates text.now nodes.now places.now }
+        ensures { result ≡ questions_at text.now nodes.now places.now }
+    {
+        Predicates {
+            text,
+            nodes,
+            places,
+        }
+    }
+
+    /// Returns the number of predicates that are left.
+    pub fn left(&self) -> usize
+        ensures { result ≡ length self.now }
+    {
+        self.places.len()
+    }
+}
+
+impl<'a> Iterator for Predicates<'a> {
+    type Item = Predicate<'a>;
+
+    ghost use Rattle.std.specs.Iterator.{YieldsFirstBy, item_count};
+
+    ghost next_gives = { YieldsFirstBy question_of (λ s. s) };
+
+    ghost remaining = { item_count (λ s. s) };
+
+    #[inline(always)]
+    fn next(&mut self) -> Option<Predicate<'a>> {
+        let (place, others) = self.places.split_first()?;
+        self.places = others;
+        match self.nodes.get(*place) {
+            Some(ExprNode::Predicate(node)) => Some(Predicate::of(node, self.text)),
+            _ => unreachable!(),
+        }
+    }
+}

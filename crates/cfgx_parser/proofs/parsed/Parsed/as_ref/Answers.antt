@@ -1,9 +1,0 @@
--- The nodes and the places fit in memory.
-use Rattle.cfgx_parser.proofs.Rooms.{arith, room}
-use Rattle.cfgx_parser.proofs.parsed.Parsed.as_ref.Goals as goal
-
-pub as_slice-requires : goal.as_slice-requires
-as_slice-requires g c = room _ _ _ g.met.A.SmallAllocator.small (omega arith)
-
-pub as_slice-requires-2 : goal.as_slice-requires-2
-as_slice-requires-2 g c = room _ _ _ g.met.A.SmallAllocator.small (omega arith)
