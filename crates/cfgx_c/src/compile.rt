@@ -9,21 +9,20 @@ ghost use Rattle.cfgx_c.specs.Steps.{Compiles, c_step};
 
 use crate::buffer::fill_both;
 use crate::predicates::{CfgxPredicate, predicates_of};
-use crate::reading::read_nodes;
+use crate::reading::read_condition;
 use crate::status::{DONE, OUT_OF_MEMORY};
 use crate::steps::{CfgxStep, c_steps};
-use cfg_expr::expr::steps_of;
-use cfgx_parser::parsed::{ParsedRef, TextReader};
+use cfg_expr::expr::{Condition, ConditionReader};
 use std::alloc::{AllocError, Global};
 
 /// Returns the steps of a condition as C sees them.
 ///
 /// The error is that `alloc` refused memory.
-fn compiled(alloc: Global, parsed: &ParsedRef<'_>) -> Result<Vec<CfgxStep>, AllocError>
-    ensures { IfOk result (λ list. (one : HasOneTree parsed.now)
+fn compiled(alloc: Global, condition: &Condition<'_>) -> Result<Vec<CfgxStep>, AllocError>
+    ensures { IfOk result (λ list. (one : HasOneTree condition.now)
         × (list.items ≡ map c_step (steps_of one.tree))) }
 {
-    let steps = steps_of(alloc, parsed)?;
+    let steps = condition.steps(alloc)?;
     c_steps(alloc, steps.as_slice())
 }
 
@@ -52,15 +51,15 @@ pub extern "C" fn cfgx_compile(
 {
     *steps_needed = 0;
     *predicates_needed = 0;
-    let mut reader = TextReader::new(alloc);
-    let parsed = match read_nodes(&mut reader, text) {
-        Ok(parsed) => parsed,
+    let mut reader = ConditionReader::new(alloc);
+    let condition = match read_condition(&mut reader, text) {
+        Ok(condition) => condition,
         Err(status) => return status,
     };
-    let Ok(step_list) = compiled(alloc, &parsed) else {
+    let Ok(step_list) = compiled(alloc, &condition) else {
         return OUT_OF_MEMORY;
     };
-    let Ok(list) = predicates_of(alloc, text, &parsed) else {
+    let Ok(list) = predicates_of(alloc, text, &condition) else {
         return OUT_OF_MEMORY;
     };
     *steps_needed = step_list.len();

@@ -15,10 +15,10 @@ ghost use Rattle.cfgx_c.specs.declared.predicates.CfgxPredicate.{CfgxPredicate};
 
 use crate::buffer::fill;
 use crate::fault::strip_offset;
-use crate::reading::read_nodes;
+use crate::reading::read_condition;
 use crate::status::{DONE, OUT_OF_MEMORY};
+use cfg_expr::expr::{Condition, ConditionReader};
 use cfgx_parser::nodes::{ExprNode, InnerPredicate, InnerTarget, Span};
-use cfgx_parser::parsed::{ParsedRef, TextReader};
 use cfgx_targets::atomic::HasAtomic;
 use cfgx_targets::endian::Endian;
 use std::alloc::{AllocError, Global};
@@ -188,22 +188,22 @@ fn predicate_at(nodes: &[ExprNode], place: usize) -> Option<InnerPredicate>
     }
 }
 
-/// Returns the predicates of `text`, as which `parsed` was read, in the order in which they are
+/// Returns the predicates of `text`, as which `condition` was read, in the order in which they are
 /// asked.
 ///
 /// The error is that `alloc` refused the list.
 pub(crate) fn predicates_of(
     alloc: Global,
     text: &[u8],
-    parsed: &ParsedRef<'_>,
+    condition: &Condition<'_>,
 ) -> Result<Vec<CfgxPredicate>, AllocError>
-    requires { parsed.now ≡ strip text.now }
+    requires { condition.now ≡ strip text.now }
     ensures { IfOk result (λ list. ListsPredicates text.now list.items) }
 {
-    let offset = strip_offset(text, parsed.original());
-    let nodes = parsed.nodes();
-    let mut list = Vec::with_capacity(alloc, parsed.places().len())?;
-    for place in parsed.places() {
+    let offset = strip_offset(text, condition.original());
+    let nodes = condition.nodes();
+    let mut list = Vec::with_capacity(alloc, condition.places().len())?;
+    for place in condition.places() {
         if let Some(predicate) = predicate_at(nodes, *place) {
             list.push(c_predicate(predicate, offset))?;
         }
@@ -231,12 +231,12 @@ pub extern "C" fn cfgx_predicates(
     ensures status { (result ≤ not_utf8) × (result ≢ wrong_use) }
 {
     *needed = 0;
-    let mut reader = TextReader::new(alloc);
-    let parsed = match read_nodes(&mut reader, text) {
-        Ok(parsed) => parsed,
+    let mut reader = ConditionReader::new(alloc);
+    let condition = match read_condition(&mut reader, text) {
+        Ok(condition) => condition,
         Err(status) => return status,
     };
-    let Ok(list) = predicates_of(alloc, text, &parsed) else {
+    let Ok(list) = predicates_of(alloc, text, &condition) else {
         return OUT_OF_MEMORY;
     };
     *needed = fill(predicates, list.as_slice());

@@ -17,7 +17,6 @@ use crate::status::{FAULTY, FAULTY_FACT, MISCOUNTED, NOT_UTF8, OUT_OF_MEMORY};
 use cfg_expr::error::Failure;
 use cfg_expr::expr::{Condition, ConditionReader};
 use cfgx_engine::resolve::{Facts, FactsError};
-use cfgx_parser::parsed::{ParsedRef, TextReader};
 use std::alloc::{AllocError, AllocFailed, Global};
 
 /// Why texts and facts give no result.
@@ -111,21 +110,21 @@ pub(crate) fn read_text<'r, 'a>(
     }
 }
 
-/// Reads a text as the nodes of its tree.
+/// Reads the only text of a call.
 ///
 /// The error is the status of the call.
-pub(crate) fn read_nodes<'r, 'a>(
-    reader: &'r mut TextReader<'a, Global>,
+pub(crate) fn read_condition<'r, 'a>(
+    reader: &'r mut ConditionReader<'a>,
     text: &'a [u8],
-) -> Result<ParsedRef<'r>, u32>
-    ensures ok { IfOk result (λ parsed. (parsed ≡ strip text.now) × IsUtf8 text.now) }
+) -> Result<Condition<'r>, u32>
+    ensures ok { IfOk result (λ condition. (condition ≡ strip text.now) × IsUtf8 text.now) }
     ensures err { IfErr result (Refuses text.now) }
 {
     let Ok(text) = str::from_utf8(text) else {
         return Err(NOT_UTF8);
     };
     match reader.read(text) {
-        Ok(parsed) => Ok(parsed),
+        Ok(condition) => Ok(condition),
         Err(Failure::Parse(_)) => Err(FAULTY),
         Err(Failure::Memory(_)) => Err(OUT_OF_MEMORY),
     }

@@ -312,7 +312,11 @@ fn put_each<T: Logic + Copy>(places: &[usize], answers: &[T], slots: &mut [Slot<
 /// Returns the value of the condition, and asks `ep` for the answer to each predicate.
 ///
 /// Returns an error if `alloc` refuses memory for the slots. `ep` is as it was then.
-pub(crate) fn eval<EP, T, A>(alloc: A, condition: &Condition<'_>, ep: &mut EP) -> Result<T, AllocError>
+pub(crate) fn eval<EP, T, A>(
+    alloc: A,
+    condition: &Condition<'_>,
+    ep: &mut EP,
+) -> Result<T, AllocError>
 where
     EP: FnMut(&Predicate<'_>) -> T,
     T: Logic,

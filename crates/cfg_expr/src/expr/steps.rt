@@ -22,8 +22,8 @@ ghost use Rattle.cfg_expr.specs.nodes.StepKinds.{kinds_after};
 ghost use Rattle.cfg_expr.specs.nodes.StepValues.{Expands, is_of, node_len, node_step};
 ghost use Rattle.cfg_expr.specs.nodes.StepValues.{nodes_in, trees_by, values};
 
-use super::{Condition, Func};
 use super::evaluating::{Connective, Kind, literal_value};
+use super::{Condition, Func};
 use crate::memory::SmallAllocator;
 use cfgx_parser::nodes::ExprNode;
 use cfgx_syntax::logic::Logic;

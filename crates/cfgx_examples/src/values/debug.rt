@@ -4,7 +4,7 @@ use cfg_expr::Expression;
 use cfg_expr::error::Failure;
 use cfg_expr::expr::ConditionReader;
 use cfg_expr::targets::{TargetInfo, TargetTable};
-use cfgx_parser::parsed::{TextReader, parse};
+use cfgx_parser::parser::Parser;
 use cfgx_testing::checking::{check_all, is_ok_true, push_ok};
 use cfgx_testing::targets::bare;
 use cfgx_testing::triples::TRIPLES;
@@ -79,20 +79,11 @@ fn condition_is_shown(alloc: Global) -> Result<bool, Failure> {
     )
 }
 
-// Returns whether what the parser returns shows its stripped text.
-fn parsed_is_shown(alloc: Global) -> Result<bool, Failure> {
-    let parsed = parse(alloc, "cfg(all(unix, a))")?;
-    Ok(
-        shows(alloc, &parsed, &["Parsed", "all(unix, a)"])
-            && shows(alloc, &parsed.as_ref(), &["ParsedRef", "all(unix, a)"]),
-    )
-}
-
-// Returns whether a reader of conditions and one of texts show their names.
+// Returns whether a reader of conditions and a parser show their names.
 fn readers_are_shown(alloc: Global) -> bool {
     let conditions = ConditionReader::new(alloc);
-    let texts = TextReader::new(alloc);
-    shows(alloc, &conditions, &["ConditionReader"]) && shows(alloc, &texts, &["TextReader"])
+    let parser = Parser::new(alloc, 0);
+    shows(alloc, &conditions, &["ConditionReader"]) && shows(alloc, &parser, &["Parser"])
 }
 
 #[test]
@@ -105,10 +96,6 @@ fn debug_shows_names_and_contents(rt: HostRuntime) -> Result<(), &'static str> {
             is_ok_true(table_error_is_shown(alloc)),
         ),
         ("a condition", is_ok_true(condition_is_shown(alloc))),
-        (
-            "what the parser returns",
-            is_ok_true(parsed_is_shown(alloc)),
-        ),
         ("readers", readers_are_shown(alloc)),
     ])
 }

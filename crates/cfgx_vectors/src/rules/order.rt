@@ -3,7 +3,8 @@ use cfg_expr::error::Failure;
 use cfg_expr::expr::Predicates;
 use cfg_expr::{Expression, Predicate};
 use cfgx_parser::nodes::ExprNode;
-use cfgx_parser::parsed::parse;
+use cfgx_parser::parser::Parser;
+use cfgx_syntax::lexer::Lexer;
 use std::alloc::{AllocError, Global};
 
 // Returns the name of a flag, or nothing for another predicate.
@@ -86,7 +87,7 @@ fn lengths_and_places(
 /// Returns the nodes of `text`: the length of the tree at each node, and the places of the
 /// predicates.
 pub(super) fn nodes_text(alloc: Global, text: &str) -> Result<String, Failure> {
-    let parsed = parse(alloc, text)?;
-    let borrowed = parsed.as_ref();
-    Ok(lengths_and_places(alloc, borrowed.nodes(), borrowed.places())?)
+    let mut parser = Parser::new(alloc, text.len());
+    parser.read_all(alloc, Lexer::new(alloc, text))?;
+    Ok(lengths_and_places(alloc, parser.nodes(), parser.places())?)
 }
