@@ -3,9 +3,9 @@
 use Rattle.std.specs.Prelude.{ℕ, Bool, List, [], ◌∷◌, nat_eq}
 use Rattle.std.specs.Ordering.{on}
 use Rattle.std.specs.Cmp.Lexicographic.{pointwise}
-use Rattle.cfgx_targets.specs.Endian.{endian_rank}
-use Rattle.cfgx_targets.specs.declared.atomic.HasAtomic.{HasAtomic}
-use Rattle.cfgx_targets.specs.declared.atomic.HasAtomic.TheVariants.{IntegerSize, Pointer}
+use Rattle.cfgx_fields.specs.Endian.{endian_rank}
+use Rattle.cfgx_fields.specs.declared.atomic.HasAtomic.{HasAtomic}
+use Rattle.cfgx_fields.specs.declared.atomic.HasAtomic.TheVariants.{IntegerSize, Pointer}
 use Rattle.cfgx_grammar.specs.Question.{Question, TargetQuestion}
 
 abbrev pub atomic_code : HasAtomic → List ℕ

@@ -3,9 +3,9 @@
 -- Rust Reference's chapter on conditional compilation for what each key asks.
 use Rattle.std.specs.Prelude.{ℕ, Bool, true, false, List, Option, codes, unwrap_or, ◌==◌}
 use Rattle.std.specs.{List.list_any, Str.bytes_eq}
-use Rattle.cfgx_targets.specs.{declared.atomic.HasAtomic.HasAtomic, declared.endian.Endian.Endian}
-use Rattle.cfgx_targets.specs.declared.atomic.HasAtomic.TheVariants.{IntegerSize, Pointer}
-use Rattle.cfgx_targets.specs.declared.endian.Endian.TheVariants.{big, little}
+use Rattle.cfgx_fields.specs.{declared.atomic.HasAtomic.HasAtomic, declared.endian.Endian.Endian}
+use Rattle.cfgx_fields.specs.declared.atomic.HasAtomic.TheVariants.{IntegerSize, Pointer}
+use Rattle.cfgx_fields.specs.declared.endian.Endian.TheVariants.{big, little}
 use Rattle.cfgx_targets.specs.declared.info.TargetInfo.{TargetInfo}
 use Rattle.cfgx_grammar.specs.Question.{TargetQuestion}
 

@@ -1,4 +1,4 @@
 //! Faults of texts.
 
+pub use cfgx_fields::error::HasAtomicParseError;
 pub use cfgx_syntax::error::{Failure, ParseError, Reason};
-pub use cfgx_targets::error::HasAtomicParseError;

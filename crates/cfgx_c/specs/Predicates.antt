@@ -4,10 +4,10 @@ use Rattle.std.specs.Prelude.{◌≡◌, ◌≤◌, ◌+◌, ℕ, List, Option, 
 use Rattle.std.specs.Prelude.{option_map, slice_range}
 use Rattle.std.specs.List.{AllZip, filter_map}
 use Rattle.cfgx_syntax.specs.Stripping.{strip}
-use Rattle.cfgx_targets.specs.declared.atomic.HasAtomic.{HasAtomic}
-use Rattle.cfgx_targets.specs.declared.atomic.HasAtomic.TheVariants as atomic
-use Rattle.cfgx_targets.specs.declared.endian.Endian.{Endian}
-use Rattle.cfgx_targets.specs.declared.endian.Endian.TheVariants as endian
+use Rattle.cfgx_fields.specs.declared.atomic.HasAtomic.{HasAtomic}
+use Rattle.cfgx_fields.specs.declared.atomic.HasAtomic.TheVariants as atomic
+use Rattle.cfgx_fields.specs.declared.endian.Endian.{Endian}
+use Rattle.cfgx_fields.specs.declared.endian.Endian.TheVariants as endian
 use Rattle.cfgx_grammar.specs.Answer.{HasOneTree}
 use Rattle.cfgx_grammar.specs.Question.{Question, TargetQuestion}
 use Rattle.cfgx_grammar.specs.Tree.{Tree, asked}

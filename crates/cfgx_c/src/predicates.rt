@@ -19,8 +19,8 @@ use crate::reading::read_condition;
 use crate::status::{DONE, OUT_OF_MEMORY};
 use cfg_expr::expr::{Condition, ConditionReader};
 use cfgx_parser::nodes::{ExprNode, InnerPredicate, InnerTarget, Span};
-use cfgx_targets::atomic::HasAtomic;
-use cfgx_targets::endian::Endian;
+use cfgx_fields::atomic::HasAtomic;
+use cfgx_fields::endian::Endian;
 use std::alloc::{AllocError, Global};
 
 /// A predicate of a condition. Spans are in bytes of the text as it was passed.

@@ -1,12 +1,16 @@
-//! The field types of a target, with their named values.
+//! The field types of a target, with their named values, and how the values of its keys are read.
 //!
-//! Each field is a text with a type of its own, such as `Arch` or `Os`.
+//! Each field that is a text has a type of its own, such as `Arch` or `Os`.
 #![tactic(auto)]
 
 use std::alloc::Global;
 
+pub mod atomic;
 mod builtins;
+pub mod endian;
+pub mod error;
 mod field;
+pub mod reading;
 
 pub use field::Field;
 

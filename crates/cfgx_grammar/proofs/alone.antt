@@ -14,11 +14,11 @@ use Rattle.cfgx_grammar.specs.Tree.{Tree, Trees, is_function, is_leaf, asked, as
 use Rattle.cfgx_grammar.specs.Grammar.{commas, IsMember, IsList, HasTree, leaf_tokens}
 use Rattle.cfgx_grammar.specs.WellFormed.{IsWellFormed, CanBeQuoted, IsAlone}
 use Rattle.cfgx_syntax.specs.Error.{Cause, invalid_integer, invalid_has_atomic}
-use Rattle.cfgx_targets.specs.Endian.{endian_text, endian_named}
-use Rattle.cfgx_targets.specs.HasAtomic.{IsWidth, atomic_text, atomic_named}
-use Rattle.cfgx_targets.specs.{Number.read_below, declared.atomic.HasAtomic.HasAtomic}
-use Rattle.cfgx_targets.proofs.AtomicLemmas.{endian_named-text, atomic_named-text}
-use Rattle.cfgx_targets.proofs.NumberLemmas.{read_below-decimal}
+use Rattle.cfgx_fields.specs.Endian.{endian_text, endian_named}
+use Rattle.cfgx_fields.specs.HasAtomic.{IsWidth, atomic_text, atomic_named}
+use Rattle.cfgx_fields.specs.{Number.read_below, declared.atomic.HasAtomic.HasAtomic}
+use Rattle.cfgx_fields.proofs.AtomicLemmas.{endian_named-text, atomic_named-text}
+use Rattle.cfgx_fields.proofs.NumberLemmas.{read_below-decimal}
 use Rattle.cfgx_grammar.specs.Classification.{predicate, Class, class, bare, valued, if_read}
 use Rattle.cfgx_grammar.specs.Classification.{target_feature, Rule, by_name, key_rules}
 use Rattle.cfgx_grammar.specs.Classification.{target_rules, target_class, plain}

@@ -4,7 +4,7 @@ use Rattle.std.specs.Prelude.{ℕ, true, false, List, [], ◌∷◌, ◌^◌, co
 use Rattle.std.specs.Prelude.{None, if◌then◌else◌}
 use Rattle.std.specs.{Str.bytes_eq, List.starts_with}
 use Rattle.cfgx_syntax.specs.Error.{Cause, unexpected, invalid_integer, invalid_has_atomic}
-use Rattle.cfgx_targets.specs.{Endian.endian_named, HasAtomic.atomic_named, Number.read_below}
+use Rattle.cfgx_fields.specs.{Endian.endian_named, HasAtomic.atomic_named, Number.read_below}
 use Rattle.cfgx_grammar.specs.Question.{Leaf, Question, TargetQuestion}
 
 -- which part of a predicate is at fault

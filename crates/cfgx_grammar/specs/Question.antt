@@ -1,7 +1,7 @@
 -- A predicate as it is asked: what it says, without the addresses of its texts. The cases are those
 -- of `Predicate` and `TargetPredicate` in the crate cfg-expr.
 use Rattle.std.specs.Prelude.{ℕ, Bool, List}
-use Rattle.cfgx_targets.specs.{declared.endian.Endian.Endian, declared.atomic.HasAtomic.HasAtomic}
+use Rattle.cfgx_fields.specs.{declared.endian.Endian.Endian, declared.atomic.HasAtomic.HasAtomic}
 
 -- what a predicate asks of a target
 pub data TargetQuestion : Type 0 where

@@ -2,7 +2,7 @@
 -- value in quotes.
 use Rattle.std.specs.Prelude.{ℕ, List, ◌++◌, codes}
 use Rattle.std.specs.Fmt.{decimal}
-use Rattle.cfgx_targets.specs.{Endian.endian_text, HasAtomic.atomic_text}
+use Rattle.cfgx_fields.specs.{Endian.endian_text, HasAtomic.atomic_text}
 use Rattle.cfgx_grammar.specs.Question.{Question, TargetQuestion}
 
 abbrev pub key_and_value : List ℕ → List ℕ → List ℕ

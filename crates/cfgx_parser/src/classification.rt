@@ -7,8 +7,8 @@ ghost use Rattle.cfgx_parser.specs.parsing.Fields.{word_of, pending_of, class_re
 ghost use Rattle.cfgx_parser.specs.parsing.Fields.{located_bare, located_target, located_other};
 
 use crate::nodes::{ExprNode, InnerPredicate, InnerTarget, Span};
+use cfgx_fields::reading::{read_endian, read_has_atomic, read_u8};
 use cfgx_syntax::error::Reason;
-use cfgx_targets::reading::{read_endian, read_has_atomic, read_u8};
 
 /// A part of the text, and where it stands.
 #[derive(Clone, Copy)]

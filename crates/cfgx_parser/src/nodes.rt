@@ -2,9 +2,9 @@
 ghost use Rattle.std.specs.Prelude.{◌≡◌, ◌<◌, ◌≤◌, ◌-◌, ◌^◌, length, OnErr, OnOk, IfOk};
 
 use crate::function::Func;
+use cfgx_fields::atomic::HasAtomic;
+use cfgx_fields::endian::Endian;
 use cfgx_syntax::memory::SmallAllocator;
-use cfgx_targets::atomic::HasAtomic;
-use cfgx_targets::endian::Endian;
 use smallvec::SmallVec;
 use std::alloc::AllocError;
 use std::mem;

@@ -1,8 +1,8 @@
 -- The built-in targets, which are a choice of this repository.
 use Rattle.std.specs.Prelude.{ℕ, List, [], ◌∷◌, ◌++◌, codes, map, Option, Some, None}
-use Rattle.cfgx_targets.specs.declared.atomic.HasAtomic.{HasAtomic}
-use Rattle.cfgx_targets.specs.declared.atomic.HasAtomic.TheVariants.{IntegerSize, Pointer}
-use Rattle.cfgx_targets.specs.declared.endian.Endian.TheVariants.{little}
+use Rattle.cfgx_fields.specs.declared.atomic.HasAtomic.{HasAtomic}
+use Rattle.cfgx_fields.specs.declared.atomic.HasAtomic.TheVariants.{IntegerSize, Pointer}
+use Rattle.cfgx_fields.specs.declared.endian.Endian.TheVariants.{little}
 use Rattle.cfgx_targets.specs.declared.info.TargetInfo.{TargetInfo}
 
 -- the widths of `bits`, and then the width of a pointer

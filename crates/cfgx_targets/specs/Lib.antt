@@ -1,7 +1,4 @@
 pub mod Builtins
-pub mod Endian
-pub mod HasAtomic
-pub mod Number
 pub mod SortedList
 pub mod Table
 pub mod TargetInfo

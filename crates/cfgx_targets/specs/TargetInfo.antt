@@ -5,9 +5,9 @@ use Rattle.std.specs.Prelude.{ℕ, Bool, ◌&&◌, ◌==◌, List}
 use Rattle.std.specs.{declared.cmp.Ordering.Ordering, Ordering.nat_cmp, Ordering.ordering_then}
 use Rattle.std.specs.{Cmp.Lexicographic.slice_cmp, Cmp.Lexicographic.pointwise, Str.bytes_eq}
 use Rattle.std.specs.Option.{option_cmp, option_eq}
-use Rattle.cfgx_targets.specs.{declared.atomic.HasAtomic.HasAtomic, declared.endian.Endian.Endian}
-use Rattle.cfgx_targets.specs.{declared.info.TargetInfo.TargetInfo, Endian.endian_cmp}
-use Rattle.cfgx_targets.specs.{HasAtomic.atomic_cmp}
+use Rattle.cfgx_fields.specs.{declared.atomic.HasAtomic.HasAtomic, declared.endian.Endian.Endian}
+use Rattle.cfgx_fields.specs.{Endian.endian_cmp, HasAtomic.atomic_cmp}
+use Rattle.cfgx_targets.specs.declared.info.TargetInfo.{TargetInfo}
 
 -- whether all fields are equal, by the given tests of byte orders and of widths
 abbrev pub info_eq : (Endian → Endian → Bool) → (HasAtomic → HasAtomic → Bool)

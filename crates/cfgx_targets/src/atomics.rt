@@ -2,8 +2,8 @@
 
 ghost use Rattle.std.specs.Prelude.{◌≡◌, ◌↔◌, Contains, IfOk, IsSorted, IsTrue};
 
-use crate::atomic::HasAtomic;
 use crate::list::{Member, SortedList, are_sorted};
+use cfgx_fields::atomic::HasAtomic;
 use std::alloc::{AllocError, Allocator, Global};
 use std::borrow::CowSlice;
 
@@ -13,7 +13,7 @@ pub type HasAtomics<A = Global> = SortedList<'static, HasAtomic, A>;
 impl Member for HasAtomic {
     ghost use Rattle.std.proofs.Common.{rules};
     ghost use Rattle.std.specs.Cmp.Rules.{comparing};
-    ghost use Rattle.cfgx_targets.specs.HasAtomic.{atomic_text};
+    ghost use Rattle.cfgx_fields.specs.HasAtomic.{atomic_text};
 
     ghost text = { atomic_text };
 

@@ -3,11 +3,11 @@
 ghost use Rattle.std.specs.Prelude.{◌≡◌, ◌∷◌, ◌++◌, [], IfOk, OnOk, codes, option_copied};
 ghost use Rattle.cfgx_targets.specs.Builtins.{apple_row, builtin_rows, widths_and_pointer};
 
-use crate::atomic::HasAtomic;
-use crate::endian::Endian;
 use crate::info::TargetInfo;
 use crate::list::SortedList;
 use crate::table::TargetTable;
+use cfgx_fields::atomic::HasAtomic;
+use cfgx_fields::endian::Endian;
 use cfgx_fields::{Abi, Arch, Env, Family, Os, Panic, Triple, Vendor};
 use std::alloc::{AllocError, Allocator};
 

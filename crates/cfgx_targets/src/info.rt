@@ -3,8 +3,8 @@
 ghost use Rattle.std.specs.Prelude.{◌≡◌, IfOk};
 
 use crate::atomics::HasAtomics;
-use crate::endian::Endian;
 use crate::families::Families;
+use cfgx_fields::endian::Endian;
 use cfgx_fields::{Abi, Arch, Env, Field, Os, Panic, Triple, Vendor};
 use std::alloc::{AllocError, Allocator, Global};
 use std::hash::Hash;

@@ -4,7 +4,7 @@ use cfg_expr::targets::{
     Abi, Arch, Endian, Env, Families, HasAtomics, Os, Panic, TargetInfo, TargetTable, Triple,
     Vendor, get_builtin_target_by_triple,
 };
-use cfgx_targets::reading::{read_endian, read_u8};
+use cfgx_fields::reading::{read_endian, read_u8};
 use std::alloc::{AllocError, Global};
 
 /// Returns a row with `triple`, in which everything is missing that may be.

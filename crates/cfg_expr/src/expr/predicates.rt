@@ -11,8 +11,8 @@ ghost use Rattle.cfgx_parser.specs.nodes.Located.{target_question_at};
 
 use cfgx_fields::{Abi, Arch, Env, Family, Os, Panic, Vendor};
 use cfgx_parser::nodes::{ExprNode, InnerPredicate, InnerTarget};
-use cfgx_targets::atomic::HasAtomic;
-use cfgx_targets::endian::Endian;
+use cfgx_fields::atomic::HasAtomic;
+use cfgx_fields::endian::Endian;
 use std::alloc::{Allocator, Global};
 use std::marker::Model;
 

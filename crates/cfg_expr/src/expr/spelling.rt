@@ -2,8 +2,8 @@
 ghost use Rattle.std.specs.Prelude.{◌≡◌, ◌<◌, ◌++◌, codes, length, IfOk, IfErr};
 ghost use Rattle.std.specs.Io.KnownBytes.{Keeps};
 ghost use Rattle.std.specs.Fmt.{decimal};
-ghost use Rattle.cfgx_targets.specs.Endian.{endian_text};
-ghost use Rattle.cfgx_targets.specs.HasAtomic.{atomic_text};
+ghost use Rattle.cfgx_fields.specs.Endian.{endian_text};
+ghost use Rattle.cfgx_fields.specs.HasAtomic.{atomic_text};
 ghost use Rattle.cfg_expr.specs.Predicate.{question_of, target_of};
 ghost use Rattle.cfgx_grammar.specs.WellFormed.{IsAlone, IsWellFormed};
 ghost use Rattle.cfgx_grammar.specs.Spelling.{spelling, target_spelling, key_and_value};
@@ -11,8 +11,8 @@ ghost use Rattle.cfg_expr.specs.Writing.{Takes, Writes};
 ghost use Rattle.cfg_expr.specs.spelling.ValueBytes.{value_bytes};
 
 use super::{Predicate, TargetPredicate};
-use cfgx_targets::atomic::HasAtomic;
-use cfgx_targets::endian::Endian;
+use cfgx_fields::atomic::HasAtomic;
+use cfgx_fields::endian::Endian;
 use std::alloc::Allocator;
 use std::io::{self, ErrorKind, Write};
 

@@ -4,9 +4,9 @@ use Rattle.std.specs.{Prelude.Option, Bool.Decides, Option.option_eq}
 use Rattle.std.specs.Cmp.{IsEquivalence, decided, unsigned_Decides}
 use Rattle.std.specs.Cmp.Lexicographic.{bytes_decides, pointwise_decides}
 use Rattle.cfgx_targets.specs.{declared.info.TargetInfo.TargetInfo, TargetInfo.info_eq}
-use Rattle.cfgx_targets.specs.{declared.endian.Endian.Endian, declared.atomic.HasAtomic.HasAtomic}
-use Rattle.cfgx_targets.specs.contracts.endian.EndianPartialEq.TheImpl as endian_eq
-use Rattle.cfgx_targets.specs.contracts.atomic.HasAtomicPartialEq.TheImpl as atomic_eq
+use Rattle.cfgx_fields.specs.{declared.endian.Endian.Endian, declared.atomic.HasAtomic.HasAtomic}
+use Rattle.cfgx_fields.specs.contracts.endian.EndianPartialEq.TheImpl as endian_eq
+use Rattle.cfgx_fields.specs.contracts.atomic.HasAtomicPartialEq.TheImpl as atomic_eq
 
 endians-decide : (one other : Endian) → Decides ((endian_eq.ghosts).eq one other) (one ≡ other)
 endians-decide one other = grind arith

@@ -8,11 +8,11 @@ use Rattle.std.specs.Cmp.Lexicographic.{lists_ties, lists_total, nat_list_cmp_to
 use Rattle.std.specs.Cmp.Lexicographic.{texts_ties}
 use Rattle.cfgx_targets.specs.declared.info.TargetInfo.{TargetInfo}
 use Rattle.cfgx_targets.specs.TargetInfo.{info_cmp, info_eq, text_cmp}
-use Rattle.cfgx_targets.specs.HasAtomic.{atomic_cmp}
-use Rattle.cfgx_targets.specs.contracts.endian.EndianPartialEq.TheImpl as endian_eq
-use Rattle.cfgx_targets.specs.contracts.atomic.HasAtomicPartialEq.TheImpl as atomic_eq
-use Rattle.cfgx_targets.specs.laws.Orders.{atomic_cmp-total, atomic_eq-ties}
-use Rattle.cfgx_targets.specs.laws.Orders.{endian_cmp-total, endian_eq-ties}
+use Rattle.cfgx_fields.specs.HasAtomic.{atomic_cmp}
+use Rattle.cfgx_fields.specs.contracts.endian.EndianPartialEq.TheImpl as endian_eq
+use Rattle.cfgx_fields.specs.contracts.atomic.HasAtomicPartialEq.TheImpl as atomic_eq
+use Rattle.cfgx_fields.specs.laws.Orders.{atomic_cmp-total, atomic_eq-ties}
+use Rattle.cfgx_fields.specs.laws.Orders.{endian_cmp-total, endian_eq-ties}
 
 -- the order of optional values agrees with their equality, if that of values does
 options_ties : {X : Type 0} {E : X → X → Bool} (R : X → X → Ordering)

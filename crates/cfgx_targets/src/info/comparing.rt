@@ -7,8 +7,8 @@ ghost use Rattle.cfgx_targets.specs.laws.TargetEquality.{info_eq-equiv};
 ghost use Rattle.cfgx_targets.specs.laws.TargetOrder.{info_cmp-total, info_eq-ties};
 
 use super::TargetInfo;
-use crate::atomic::HasAtomic;
-use crate::endian::Endian;
+use cfgx_fields::atomic::HasAtomic;
+use cfgx_fields::endian::Endian;
 use std::alloc::Allocator;
 use std::cmp::Ordering;
 

@@ -4,8 +4,8 @@ use Rattle.std.specs.Prelude.{◌≡◌, ℕ, List, [], ◌∷◌, codes, Option
 use Rattle.std.specs.Prelude.{if◌then◌else◌}
 use Rattle.std.specs.{Str.bytes_eq, declared.cmp.Ordering.Ordering, Ordering.nat_cmp}
 use Rattle.cfgx_syntax.specs.{Error.unexpected, Error.cause_of, declared.error.Reason.Reason}
-use Rattle.cfgx_targets.specs.declared.endian.Endian.{Endian}
-use Rattle.cfgx_targets.specs.declared.endian.Endian.TheVariants.{big, little}
+use Rattle.cfgx_fields.specs.declared.endian.Endian.{Endian}
+use Rattle.cfgx_fields.specs.declared.endian.Endian.TheVariants.{big, little}
 
 -- the name of a byte order
 abbrev pub endian_text : Endian → List ℕ

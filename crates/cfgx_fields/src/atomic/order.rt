@@ -2,8 +2,8 @@
 ghost use Rattle.std.specs.Prelude.{◌≡◌, refl};
 ghost use Rattle.std.specs.Cmp.{partial_order_from_agreeing_total};
 ghost use Rattle.std.specs.Ordering.{as_partial_cmp};
-ghost use Rattle.cfgx_targets.specs.HasAtomic.{atomic_cmp};
-ghost use Rattle.cfgx_targets.specs.laws.Orders.{atomic_cmp-total, atomic_eq-ties};
+ghost use Rattle.cfgx_fields.specs.HasAtomic.{atomic_cmp};
+ghost use Rattle.cfgx_fields.specs.laws.Orders.{atomic_cmp-total, atomic_eq-ties};
 
 use super::HasAtomic;
 use std::cmp::Ordering;

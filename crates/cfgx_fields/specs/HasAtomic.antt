@@ -6,10 +6,10 @@ use Rattle.std.specs.Prelude.{if◌then◌else◌, option_map}
 use Rattle.std.specs.{Fmt.decimal, Option.option_or, Str.bytes_eq}
 use Rattle.std.specs.{declared.cmp.Ordering.Ordering, Ordering.nat_cmp}
 use Rattle.std.specs.declared.cmp.Ordering.TheVariants.{Less, Equal, Greater}
-use Rattle.cfgx_targets.specs.{Number.read_below, declared.atomic.HasAtomic.HasAtomic}
-use Rattle.cfgx_targets.specs.declared.atomic.HasAtomicFailure.{HasAtomicFailure}
-use Rattle.cfgx_targets.specs.declared.atomic.HasAtomicFailure.TheVariants.{Parse, Memory}
-use Rattle.cfgx_targets.specs.declared.atomic.HasAtomic.TheVariants.{IntegerSize, Pointer}
+use Rattle.cfgx_fields.specs.{Number.read_below, declared.atomic.HasAtomic.HasAtomic}
+use Rattle.cfgx_fields.specs.declared.atomic.HasAtomicFailure.{HasAtomicFailure}
+use Rattle.cfgx_fields.specs.declared.atomic.HasAtomicFailure.TheVariants.{Parse, Memory}
+use Rattle.cfgx_fields.specs.declared.atomic.HasAtomic.TheVariants.{IntegerSize, Pointer}
 
 -- a number of bits in decimal, or `ptr`
 abbrev pub atomic_text : HasAtomic → List ℕ

@@ -1,11 +1,11 @@
 -- What a width of atomics or a byte order prints reads as the same value.
 use Rattle.std.{proofs.Common.{◌≡◌, refl, ℕ, List, arith}, specs.Prelude.{Some, Result, Ok}}
-use Rattle.cfgx_targets.specs.Endian.{endian_named, endian_text}
-use Rattle.cfgx_targets.specs.HasAtomic.{IsWidth, ReadsAtomic, atomic_named, atomic_text}
-use Rattle.cfgx_targets.specs.{declared.atomic.HasAtomic.HasAtomic, declared.endian.Endian.Endian}
-use Rattle.cfgx_targets.specs.{declared.atomic.HasAtomicFailure.HasAtomicFailure, Number.read_below}
-use Rattle.cfgx_targets.specs.declared.endian.Endian.TheVariants.{big, little}
-use Rattle.cfgx_targets.proofs.NumberLemmas.{read_below-decimal}
+use Rattle.cfgx_fields.specs.Endian.{endian_named, endian_text}
+use Rattle.cfgx_fields.specs.HasAtomic.{IsWidth, ReadsAtomic, atomic_named, atomic_text}
+use Rattle.cfgx_fields.specs.{declared.atomic.HasAtomic.HasAtomic, declared.endian.Endian.Endian}
+use Rattle.cfgx_fields.specs.{declared.atomic.HasAtomicFailure.HasAtomicFailure, Number.read_below}
+use Rattle.cfgx_fields.specs.declared.endian.Endian.TheVariants.{big, little}
+use Rattle.cfgx_fields.proofs.NumberLemmas.{read_below-decimal}
 
 -- the text of a byte order names it
 pub endian_named-text : (endian : Endian) → endian_named (endian_text endian) ≡ Some endian

@@ -6,7 +6,7 @@ use Rattle.std.proofs.lemmas.Fmt.{decimal_is_IsNumeral, decimal_nonempty, digits
 use Rattle.std.specs.{Prelude.Some, Prelude.None, Prelude.Result, Prelude.cond, Bool.Decides}
 use Rattle.std.specs.{Result.OkIff, Result.result_ok, Fmt.decimal, Str.all_ascii_digits}
 use Rattle.std.specs.Str.Parse.{IsNumeral, ParsesUnsigned, digits_value, without_leading_plus}
-use Rattle.cfgx_targets.specs.Number.{is_numeral, read_below}
+use Rattle.cfgx_fields.specs.Number.{is_numeral, read_below}
 
 -- std's numerals are ASCII digits
 digits_model : IsNumeralModel (λ ds. all_ascii_digits ds ≡ true) (digits_value 10)

@@ -1,9 +1,9 @@
 //! Readers of the values of target keys. They allocate nothing.
 
 ghost use Rattle.std.specs.Prelude.{◌≡◌, ◌^◌};
-ghost use Rattle.cfgx_targets.specs.Endian.{endian_named};
-ghost use Rattle.cfgx_targets.specs.HasAtomic.{atomic_named};
-ghost use Rattle.cfgx_targets.specs.Number.{read_below};
+ghost use Rattle.cfgx_fields.specs.Endian.{endian_named};
+ghost use Rattle.cfgx_fields.specs.HasAtomic.{atomic_named};
+ghost use Rattle.cfgx_fields.specs.Number.{read_below};
 
 use crate::atomic::HasAtomic;
 use crate::endian::Endian;

@@ -1,6 +1,6 @@
 use Rattle.std.proofs.Common.{◌∙◌}
-use Rattle.cfgx_targets.proofs.NumberLemmas.{result_ok-parse}
-use Rattle.cfgx_targets.proofs.reading.read_u16.Goals as goal
+use Rattle.cfgx_fields.proofs.NumberLemmas.{result_ok-parse}
+use Rattle.cfgx_fields.proofs.reading.read_u16.Goals as goal
 
 pub returns : goal.returns
 returns c = c.ok.ensures.value ∙ result_ok-parse 16 c.args.text.now _ c.parse.ensures.value.0

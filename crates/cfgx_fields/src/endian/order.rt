@@ -2,8 +2,8 @@
 ghost use Rattle.std.specs.Prelude.{◌≡◌, refl};
 ghost use Rattle.std.specs.Cmp.{partial_order_from_agreeing_total};
 ghost use Rattle.std.specs.Ordering.{as_partial_cmp};
-ghost use Rattle.cfgx_targets.specs.Endian.{endian_cmp};
-ghost use Rattle.cfgx_targets.specs.laws.Orders.{endian_cmp-total, endian_eq-ties};
+ghost use Rattle.cfgx_fields.specs.Endian.{endian_cmp};
+ghost use Rattle.cfgx_fields.specs.laws.Orders.{endian_cmp-total, endian_eq-ties};
 
 use super::Endian;
 use std::cmp::Ordering;

@@ -1,7 +1,7 @@
 -- Worked examples of `read_below`: texts that write a number, and texts that write none.
 use Rattle.std.proofs.Common.{◌≡◌, ◌^◌, refl}
 use Rattle.std.specs.Prelude.{Some, None, codes}
-use Rattle.cfgx_targets.specs.Number.{read_below}
+use Rattle.cfgx_fields.specs.Number.{read_below}
 
 record NumbersAreRead : Type 0 where
   zero : read_below (2 ^ 8) (codes "0") ≡ Some 0

@@ -32,7 +32,7 @@ impl<A: Allocator> PartialEq for HasAtomicFailure<A> {
     ghost use Rattle.std.specs.{Cmp.on_per, Cmp.partial_equiv_from_equiv, Ordering.on};
     ghost use Rattle.std.specs.{Cmp.Lexicographic.options_equiv, Option.option_eq};
     ghost use Rattle.std.specs.Cmp.Lexicographic.{nat_list_eq_equiv, pointwise};
-    ghost use Rattle.cfgx_targets.specs.HasAtomic.{refused_text};
+    ghost use Rattle.cfgx_fields.specs.HasAtomic.{refused_text};
 
     ghost eq = { on refused_text (option_eq (pointwise nat_eq)) };
 
@@ -55,14 +55,14 @@ impl<A: Allocator> PartialEq for HasAtomicFailure<A> {
 impl<A: Allocator> Eq for HasAtomicFailure<A> {
     ghost use Rattle.std.specs.{Cmp.on_equiv, Cmp.Lexicographic.options_equiv};
     ghost use Rattle.std.specs.Cmp.Lexicographic.{nat_list_eq_equiv};
-    ghost use Rattle.cfgx_targets.specs.HasAtomic.{refused_text};
+    ghost use Rattle.cfgx_fields.specs.HasAtomic.{refused_text};
 
     ghost laws = { on_equiv refused_text (options_equiv nat_list_eq_equiv) };
 }
 
 impl<A: Allocator> From<HasAtomicParseError<A>> for HasAtomicFailure<A> {
     ghost use Rattle.std.specs.Prelude.{◌≡◌};
-    ghost use Rattle.cfgx_targets.specs.declared.atomic.HasAtomicFailure.TheVariants.{Parse};
+    ghost use Rattle.cfgx_fields.specs.declared.atomic.HasAtomicFailure.TheVariants.{Parse};
 
     ghost from_gives = { λ error failure. failure ≡ Parse error };
 
@@ -73,7 +73,7 @@ impl<A: Allocator> From<HasAtomicParseError<A>> for HasAtomicFailure<A> {
 
 impl<A: Allocator> From<AllocError> for HasAtomicFailure<A> {
     ghost use Rattle.std.specs.Prelude.{◌≡◌};
-    ghost use Rattle.cfgx_targets.specs.declared.atomic.HasAtomicFailure.TheVariants.{Memory};
+    ghost use Rattle.cfgx_fields.specs.declared.atomic.HasAtomicFailure.TheVariants.{Memory};
 
     ghost from_gives = { λ error failure. failure ≡ Memory error };
 
@@ -84,7 +84,7 @@ impl<A: Allocator> From<AllocError> for HasAtomicFailure<A> {
 
 impl HasAtomic {
     ghost use Rattle.std.specs.Prelude.{◌≡◌, Ok};
-    ghost use Rattle.cfgx_targets.specs.HasAtomic.{IsWidth, ReadsAtomic, atomic_text};
+    ghost use Rattle.cfgx_fields.specs.HasAtomic.{IsWidth, ReadsAtomic, atomic_text};
 
     /// Reads a number of bits, at most 65535, or `ptr`. It reads what `Display` prints.
     ///
@@ -104,7 +104,7 @@ impl HasAtomic {
 
 impl fmt::Display for HasAtomic {
     ghost use Rattle.std.specs.Prelude.{Some};
-    ghost use Rattle.cfgx_targets.specs.HasAtomic.{atomic_text};
+    ghost use Rattle.cfgx_fields.specs.HasAtomic.{atomic_text};
 
     ghost output = { λ width. Some (atomic_text width) };
 

@@ -1,6 +1,6 @@
 use Rattle.std.proofs.Common.{rules, Ok, Err}
-use Rattle.cfgx_targets.{specs.HasAtomic.ReadsAtomic, proofs.AtomicLemmas.ReadsAtomic-text}
-use Rattle.cfgx_targets.proofs.atomic.HasAtomic.read.Goals as goal
+use Rattle.cfgx_fields.{specs.HasAtomic.ReadsAtomic, proofs.AtomicLemmas.ReadsAtomic-text}
+use Rattle.cfgx_fields.proofs.atomic.HasAtomic.read.Goals as goal
 
 pub returns-in-Some-clause-printed : goal.returns-in-Some-clause-printed
 returns-in-Some-clause-printed g c =

@@ -3,12 +3,12 @@ use Rattle.std.proofs.Common.{◌≡◌, refl}
 use Rattle.std.specs.Ordering.{eq_by_cmp, ordering_reverse}
 use Rattle.std.specs.Cmp.{IsTotalOrder, nat_cmp_total, on_total, unsigned_ties}
 use Rattle.std.specs.declared.cmp.Ordering.TheVariants.{Less, Equal}
-use Rattle.cfgx_targets.specs.{declared.endian.Endian.Endian, declared.atomic.HasAtomic.HasAtomic}
-use Rattle.cfgx_targets.specs.declared.endian.Endian.TheVariants.{big, little}
-use Rattle.cfgx_targets.specs.declared.atomic.HasAtomic.TheVariants.{IntegerSize, Pointer}
-use Rattle.cfgx_targets.specs.contracts.endian.EndianPartialEq.TheImpl as endian_eq
-use Rattle.cfgx_targets.specs.contracts.atomic.HasAtomicPartialEq.TheImpl as atomic_eq
-use Rattle.cfgx_targets.specs.{Endian.endian_cmp, Endian.endian_rank, HasAtomic.atomic_cmp}
+use Rattle.cfgx_fields.specs.{declared.endian.Endian.Endian, declared.atomic.HasAtomic.HasAtomic}
+use Rattle.cfgx_fields.specs.declared.endian.Endian.TheVariants.{big, little}
+use Rattle.cfgx_fields.specs.declared.atomic.HasAtomic.TheVariants.{IntegerSize, Pointer}
+use Rattle.cfgx_fields.specs.contracts.endian.EndianPartialEq.TheImpl as endian_eq
+use Rattle.cfgx_fields.specs.contracts.atomic.HasAtomicPartialEq.TheImpl as atomic_eq
+use Rattle.cfgx_fields.specs.{Endian.endian_cmp, Endian.endian_rank, HasAtomic.atomic_cmp}
 
 -- byte orders are equal exactly if neither is below the other
 pub endian_eq-ties : (one other : Endian)

@@ -18,7 +18,7 @@ pub enum Endian {
 
 /// Reads `big` or `little`, letter for letter. The error of any other text has both names.
 impl FromStr for Endian {
-    ghost use Rattle.cfgx_targets.specs.Endian.{ReadsEndian};
+    ghost use Rattle.cfgx_fields.specs.Endian.{ReadsEndian};
 
     type Err = Reason;
 

@@ -1,0 +1,3 @@
+pub mod AtomicLemmas
+pub mod NumberExamples
+pub mod NumberLemmas

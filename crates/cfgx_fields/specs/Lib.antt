@@ -1,0 +1,4 @@
+pub mod Endian
+pub mod HasAtomic
+pub mod Number
+pub mod laws
