@@ -185,11 +185,6 @@ pub(crate) fn decide<A: SmallAllocator>(
     let mut ahead = SmallVec::new(&alloc);
     let mut odds = SmallVec::new(&alloc);
     push_odds(condition.nodes(), &mut ahead, &mut odds)?;
-    set_unknown(
-        alloc,
-        decision,
-        odds.as_slice(),
-        condition.places(),
-        answers,
-    )
+    let places = condition.places();
+    set_unknown(alloc, decision, odds.as_slice(), places, answers)
 }

@@ -9,10 +9,10 @@ ghost use Rattle.cfg_expr.specs.Predicate.{question_of, target_of};
 ghost use Rattle.cfgx_parser.specs.nodes.Located.{HasCut, TargetHasCut, question_at};
 ghost use Rattle.cfgx_parser.specs.nodes.Located.{target_question_at};
 
-use cfgx_fields::{Abi, Arch, Env, Family, Os, Panic, Vendor};
-use cfgx_parser::nodes::{ExprNode, InnerPredicate, InnerTarget};
 use cfgx_fields::atomic::HasAtomic;
 use cfgx_fields::endian::Endian;
+use cfgx_fields::{Abi, Arch, Env, Family, Os, Panic, Vendor};
+use cfgx_parser::nodes::{ExprNode, InnerPredicate, InnerTarget};
 use std::alloc::{Allocator, Global};
 use std::marker::Model;
 
