@@ -8,7 +8,7 @@ use Rattle.cfg_expr.proofs.expr.filling.decide.Goals as goal
 
 pub set_unknown-requires : goal.set_unknown-requires
 set_unknown-requires g c =
-    let found = c.places.ensures in
+    let found = c.places-places.ensures in
     ap length found.1 ∙ length-places found.0.tree
     ∙ ap (λ tree. length (asked tree)) (sym (only_tree found.0 c.requires.0 c.requires.1))
     ∙ sym c.requires.2
@@ -20,9 +20,9 @@ returns-in-Some-clause-decision g c =
 pub returns-clause-decision : goal.returns-clause-decision
 returns-clause-decision g c =
     let one = c.in_ok-value.ensures.value.0 in
-    let asks = c.places.ensures in
+    let asks = c.places-places.ensures in
     let is = λ (fill : Bool). polar-kept c.nodes.result.now one.tree
-    (shapes-kept c.nodes.result.now c.nodes.ensures.nodes one) _ c.places.result.now
+    (shapes-kept c.nodes.result.now c.nodes.ensures.nodes one) _ c.places-places.result.now
     c.args.answers.now fill
     (asks.1 ∙ ap (places 0) (only_tree one asks.0.tree asks.0.reads.has))
     (c.as_slice.ensures
